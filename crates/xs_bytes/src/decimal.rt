@@ -1,0 +1,43 @@
+//! Decimal numbers in text.
+ghost use Rattle.std.specs.Prelude.{◌≡◌, ◌++◌, OnOk, OnErr, decimal};
+ghost use Rattle.xs_bytes.specs.Number.{number_of, natural_of};
+
+use itoa::Buffer;
+use std::alloc::AllocError;
+
+/// The number that a text of decimal digits spells, where it is below 2^64. Leading zeros are
+/// accepted. None for any other text, the empty one included.
+pub fn number(text: &[u8]) -> Option<u64>
+    ensures { result ≡ number_of text.now }
+{
+    if text.is_empty() {
+        return None;
+    }
+    let mut value = 0u64;
+    for byte in text {
+        if *byte < b'0' || b'9' < *byte {
+            return None;
+        }
+        value = value.checked_mul(10)?.checked_add(u64::from(*byte - b'0'))?;
+    }
+    Some(value)
+}
+
+/// The number below 2^64 that a text spells as a number is printed: without leading zeros.
+pub fn natural(text: &[u8]) -> Option<u64>
+    ensures { result ≡ natural_of text.now }
+{
+    match text {
+        [b'0', _, ..] => None,
+        _ => number(text),
+    }
+}
+
+/// Appends a number in decimal. `out` is unchanged on refusal.
+pub fn push_decimal(out: &mut Vec<u8>, value: u64) -> Result<(), AllocError>
+    ensures ok { OnOk result (out.new.items ≡ out.old.items ++ decimal value) }
+    ensures err { OnErr result (out.new.items ≡ out.old.items) }
+{
+    let mut buffer = Buffer::new();
+    out.extend_from_slice(buffer.format(value).as_bytes())
+}
