@@ -1,0 +1,164 @@
+//! Entry ids (Redis Streams, "Entry IDs"): milliseconds and a sequence, in this order.
+ghost use Rattle.std.specs.Prelude.{◌≡◌, ◌<◌, ◌==◌, ◌++◌, IfSome, OnOk, OnErr, length, take, vec_len, position};
+ghost use Rattle.xs_stream.specs.Id.{next_id, previous_id, id_number, parse_id, printed};
+
+use std::alloc::AllocError;
+use std::marker::Model;
+use xs_bytes::{number, push_decimal};
+
+/// The id of an entry. Ids are ordered by milliseconds, then by sequence.
+#[derive(Clone, Copy, Debug, PartialEq, Eq, PartialOrd, Ord)]
+pub struct Id {
+    /// Milliseconds, as a moment has them.
+    pub ms: u64,
+    /// The place among the ids of one millisecond.
+    pub seq: u64,
+}
+
+impl Id {
+    /// The least id, `0-0`: the top of a new stream, and never an entry's.
+    pub const ZERO: Id = Id { ms: 0, seq: 0 };
+
+    /// The greatest id. It has no successor.
+    pub const GREATEST: Id = Id {
+        ms: u64::MAX,
+        seq: u64::MAX,
+    };
+
+    /// The least id above this one, or None at the greatest.
+    pub fn next(self) -> Option<Id>
+        ensures { result ≡ next_id self }
+    {
+        if self.seq < u64::MAX {
+            return Some(Id {
+                ms: self.ms,
+                seq: self.seq + 1,
+            });
+        }
+        if self.ms < u64::MAX {
+            return Some(Id {
+                ms: self.ms + 1,
+                seq: 0,
+            });
+        }
+        None
+    }
+
+    /// The greatest id below this one, or None at `0-0`.
+    pub fn previous(self) -> Option<Id>
+        ensures { result ≡ previous_id self }
+    {
+        if self.seq > 0 {
+            return Some(Id {
+                ms: self.ms,
+                seq: self.seq - 1,
+            });
+        }
+        if self.ms > 0 {
+            return Some(Id {
+                ms: self.ms - 1,
+                seq: u64::MAX,
+            });
+        }
+        None
+    }
+
+    /// Reads `ms-seq`, or `ms` alone, whose sequence is then `missing_seq`. Each number has one to
+    /// twenty digits, and leading zeros are accepted. None for any other text.
+    pub fn parse(text: &[u8], missing_seq: u64) -> Option<Id>
+        ensures { result ≡ parse_id text.now missing_seq }
+    {
+        match dash_in(text) {
+            None => parse_number(text).map(|ms| Id {
+                ms,
+                seq: missing_seq,
+            }),
+            Some(dash) => {
+                let ms = parse_number(&text[..dash])?;
+                let seq = parse_number(&text[dash + 1..])?;
+                Some(Id { ms, seq })
+            }
+        }
+    }
+
+    /// Appends the printed id, `ms-seq`. `out` is unchanged on refusal.
+    pub fn write(&self, out: &mut Vec<u8>) -> Result<(), AllocError>
+        ensures ok { OnOk result (out.new.items ≡ out.old.items ++ printed self.now) }
+        ensures err { OnErr result (out.new.items ≡ out.old.items) }
+    {
+        let before = out.len();
+        match self.write_parts(out) {
+            Ok(()) => Ok(()),
+            Err(error) => {
+                out.truncate(before);
+                Err(error)
+            }
+        }
+    }
+
+    /// As `write`, but a refusal may leave a part behind.
+    fn write_parts(&self, out: &mut Vec<u8>) -> Result<(), AllocError>
+        ensures ok { OnOk result (out.new.items ≡ out.old.items ++ printed self.now) }
+        ensures err { OnErr result (take (vec_len out.old) out.new.items ≡ out.old.items) }
+    {
+        push_decimal(out, self.ms)?;
+        out.push(b'-')?;
+        push_decimal(out, self.seq)
+    }
+}
+
+/// Where the first dash stands.
+fn dash_in(text: &[u8]) -> Option<usize>
+    ensures place { result ≡ position (λ byte. byte == 45) text.now }
+    ensures inside { IfSome result (λ dash. dash < length text.now) }
+{
+    text.iter().position(|byte| *byte == b'-')
+}
+
+/// One number of an id: one to twenty digits, below 2^64.
+fn parse_number(text: &[u8]) -> Option<u64>
+    ensures { result ≡ id_number text.now }
+{
+    if text.len() > 20 {
+        return None;
+    }
+    number(text)
+}
+
+/// A list of ids, in the order in which they stand. A contract sees it as that list.
+#[derive(Debug, Drop)]
+pub struct Ids {
+    items: Vec<Id>,
+}
+
+impl Model for Ids {
+    ghost use Rattle.std.specs.Prelude.{List};
+    ghost use Rattle.xs_stream.specs.declared.id.Id.{Id};
+
+    ghost Value = { List Id };
+
+    ghost view = { λ ids. ids.items.items };
+}
+
+impl Ids {
+    /// The list of these ids. It takes no memory.
+    pub fn new(items: Vec<Id>) -> Self
+        ensures { result ≡ items.items }
+    {
+        Self { items }
+    }
+
+    /// Gives the ids back. It takes no memory.
+    pub fn into_vec(self) -> Vec<Id>
+        ensures { result.items ≡ self }
+    {
+        let Self { items } = self;
+        items
+    }
+
+    pub fn as_slice(&self) -> &[Id]
+        ensures { result.now ≡ self.now }
+    {
+        self.items.as_slice()
+    }
+}

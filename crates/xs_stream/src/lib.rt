@@ -1,0 +1,20 @@
+//! Streams of Redis: entry ids, moments, ranges, fields, and the stream itself with exact trimming.
+//! The rules are those of the Redis 7.0 documentation, "Redis Streams", and of the pages of XADD,
+//! XDEL, XTRIM, XRANGE and XREVRANGE.
+#![tactic(auto)]
+
+pub mod add;
+pub mod field;
+pub mod id;
+pub mod moment;
+pub mod range;
+pub mod stream;
+pub mod trim;
+
+pub use add::{AddError, AddId};
+pub use field::{Field, Fields};
+pub use id::{Id, Ids};
+pub use moment::Moment;
+pub use range::Range;
+pub use stream::Stream;
+pub use trim::Trim;

@@ -1,0 +1,253 @@
+//! A stream: its top id and its entries, in the order of their ids.
+ghost use Rattle.std.specs.Prelude.{◌≡◌, ◌↔◌, ◌+◌, ◌-◌, ◌++◌, ◌∷◌, [], false, Ok, Err, IfOk, OnErr, IsErrOf, length, filter, take, drop, reverse};
+ghost use Rattle.std.specs.Option.{option_map};
+ghost use Rattle.xs_stream.specs.Id.{zero_id, is_below};
+ghost use Rattle.xs_stream.specs.Range.{is_within};
+ghost use Rattle.xs_stream.specs.Assigned.{assigned};
+ghost use Rattle.xs_stream.specs.Kept.{IsLawful, Ascends, ids_of, fields_at, without, trimmed, ids_within, limited};
+
+use crate::add::{AddError, AddId};
+use crate::field::{Field, Fields};
+use crate::id::{Id, Ids};
+use crate::moment::Moment;
+use crate::range::Range;
+use crate::trim::Trim;
+use std::alloc::{AllocError, Global};
+use std::collections::BTreeMap;
+use std::marker::Model;
+use std::ops::Bound;
+
+/// A stream of entries. A contract sees its top id and the list of its entries.
+#[derive(Drop)]
+pub struct Stream {
+    top: Id,
+    entries: BTreeMap<Id, Fields>,
+}
+
+impl Model for Stream {
+    ghost use Rattle.xs_stream.specs.Kept.{Kept, IsLawful};
+
+    ghost Value = { Kept };
+
+    ghost view = { λ s. record { top = s.top; entries = s.entries.entries } };
+
+    ghost invariant = { λ s. IsLawful (record { top = s.top; entries = s.entries.entries }) };
+}
+
+impl Stream {
+    /// An empty stream, whose top is `0-0`. It takes no memory.
+    pub fn new(alloc: Global) -> Self
+        ensures { result ≡ record { top = zero_id; entries = [] } }
+    {
+        Self {
+            top: Id::ZERO,
+            entries: BTreeMap::new(alloc),
+        }
+    }
+
+    /// What holds of every stream: the ids ascend, and none is above the top.
+    pub fn lawful(&self)
+        ensures { IsLawful self.now }
+    {
+        let _ = &self.top;
+    }
+
+    /// The greatest id ever added, or `0-0`. Deletions and trims leave it.
+    pub fn top(&self) -> Id
+        ensures { result ≡ self.now.top }
+    {
+        self.top
+    }
+
+    /// How many entries there are.
+    pub fn len(&self) -> usize
+        ensures { result ≡ length self.now.entries }
+    {
+        self.entries.len()
+    }
+
+    /// The fields of an entry.
+    pub fn get(&self, id: Id) -> Option<&[Field]>
+        ensures { option_map (λ f. f.now) result ≡ fields_at self.now.entries id }
+    {
+        match self.entries.get(&id) {
+            Some(fields) => Some(fields.as_slice()),
+            None => None,
+        }
+    }
+
+    /// The id that an addition would get now (XADD).
+    pub fn assign(&self, now: Moment, id: AddId) -> Result<Id, AddError>
+        ensures { result ≡ assigned now self.now.top id }
+    {
+        assigned_id(now, self.top, id)
+    }
+
+    /// Adds an entry above all that were ever added (XADD). The stream is unchanged on each error.
+    pub fn add(&mut self, now: Moment, id: AddId, fields: Fields) -> Result<Id, AddError>
+        ensures ok { IfOk result (λ given. (assigned now self.old.top id ≡ Ok given)
+            × (self.new ≡ record { top = given; entries = self.old.entries ++ (given, fields) ∷ [] })) }
+        ensures small { IsErrOf result AddError.Small ↔ (assigned now self.old.top id ≡ Err AddError.Small) }
+        ensures exhausted { IsErrOf result AddError.Exhausted ↔ (assigned now self.old.top id ≡ Err AddError.Exhausted) }
+        ensures err { OnErr result (self.new ≡ self.old) }
+    {
+        let given = self.assign(now, id)?;
+        match self.entries.insert(given, fields) {
+            Ok(_) => {
+                self.top = given;
+                Ok(given)
+            }
+            Err(_) => Err(AddError::Memory),
+        }
+    }
+
+    /// Removes the entries with these ids, and says how many there were (XDEL).
+    pub fn delete(&mut self, ids: &[Id]) -> u64
+        ensures entries { self.new ≡ record self.old { entries = without ids.now self.old.entries } }
+        ensures count { result + length self.new.entries ≡ length self.old.entries }
+    {
+        let before = self.entries.len();
+        remove_all(&mut self.entries, ids);
+        (before - self.entries.len()) as u64
+    }
+
+    /// Trims exactly, and says how many entries went (XTRIM).
+    pub fn trim(&mut self, trim: Trim) -> u64
+        ensures entries { self.new ≡ record self.old { entries = trimmed trim self.old.entries } }
+        ensures count { result + length self.new.entries ≡ length self.old.entries }
+    {
+        let surplus = match trim {
+            Trim::MaxLen(most) => surplus(&self.entries, most),
+            Trim::MinId(low) => count_below(&self.entries, low),
+        };
+        drop_first(&mut self.entries, surplus);
+        surplus as u64
+    }
+
+    /// The ids of a range, from its low end up or from its high end down, at most `limit` of them.
+    pub fn range(&self, alloc: Global, range: Range, limit: Option<u64>, reversed: bool) -> Result<Ids, AllocError>
+        ensures { IfOk result (λ ids. ids ≡ limited limit (ids_within range reversed self.now.entries)) }
+    {
+        if range.high < range.low {
+            return Ok(Ids::new(Vec::new(alloc)));
+        }
+        let most = limit.unwrap_or(u64::MAX);
+        let ids = if reversed {
+            ids_down(alloc, &self.entries, range, most)?
+        } else {
+            ids_up(alloc, &self.entries, range, most)?
+        };
+        Ok(Ids::new(ids))
+    }
+}
+
+type Entries = BTreeMap<Id, Fields>;
+
+/// How many entries there are beyond the most that may stay.
+fn surplus(entries: &Entries, most: u64) -> usize
+    ensures { result ≡ length entries.now.entries - most }
+{
+    let len = entries.len();
+    if (len as u64) < most {
+        return 0;
+    }
+    len - most as usize
+}
+
+/// How many entries have ids below this one.
+fn count_below(entries: &Entries, low: Id) -> usize
+    ensures { result ≡ length (filter (λ e. is_below e.0 low) entries.now.entries) }
+{
+    let mut count = 0;
+    let below = entries.range((Bound::Unbounded, Bound::Excluded(low)));
+    for (_id, _) in below {
+        count += 1;
+    }
+    count
+}
+
+/// Removes the entries with these ids.
+fn remove_all(entries: &mut Entries, ids: &[Id])
+    requires { Ascends (ids_of entries.old.entries) }
+    ensures { entries.new.entries ≡ without ids.now entries.old.entries }
+{
+    for id in ids {
+        let _ = entries.remove(id);
+    }
+}
+
+/// Removes the first entries.
+fn drop_first(entries: &mut Entries, count: usize)
+    ensures { entries.new.entries ≡ drop count entries.old.entries }
+{
+    for _ in 0..count {
+        let _ = entries.pop_first();
+    }
+}
+
+/// The ids of a range that isn't empty, from its low end up, at most this many.
+fn ids_up(alloc: Global, entries: &Entries, range: Range, most: u64) -> Result<Vec<Id>, AllocError>
+    requires { is_below range.high range.low ≡ false }
+    ensures { IfOk result (λ ids. ids.items ≡ take most (filter (is_within range) (ids_of entries.now.entries))) }
+{
+    let mut ids = Vec::new(alloc);
+    let bounds = (Bound::Included(range.low), Bound::Included(range.high));
+    let within = entries.range(bounds);
+    for (id, _) in within {
+        if ids.len() as u64 >= most {
+            break;
+        }
+        ids.push(*id)?;
+    }
+    Ok(ids)
+}
+
+/// The ids of a range that isn't empty, from its high end down, at most this many.
+fn ids_down(alloc: Global, entries: &Entries, range: Range, most: u64) -> Result<Vec<Id>, AllocError>
+    requires { is_below range.high range.low ≡ false }
+    ensures { IfOk result (λ ids. ids.items ≡ take most (reverse (filter (is_within range) (ids_of entries.now.entries)))) }
+{
+    let mut ids = Vec::new(alloc);
+    let bounds = (Bound::Included(range.low), Bound::Included(range.high));
+    let within = entries.range(bounds);
+    for (id, _) in within.rev() {
+        if ids.len() as u64 >= most {
+            break;
+        }
+        ids.push(*id)?;
+    }
+    Ok(ids)
+}
+
+/// The id that an addition gets in a stream with this top.
+fn assigned_id(now: Moment, top: Id, id: AddId) -> Result<Id, AddError>
+    ensures { result ≡ assigned now top id }
+{
+    let Some(after) = top.next() else {
+        return Err(AddError::Exhausted);
+    };
+    match id {
+        AddId::Auto => {
+            let ms = now.get();
+            if top.ms < ms {
+                return Ok(Id { ms, seq: 0 });
+            }
+            Ok(after)
+        }
+        AddId::AutoSeq(ms) => {
+            if top.ms < ms {
+                return Ok(Id { ms, seq: 0 });
+            }
+            if ms == top.ms && after.ms == ms {
+                return Ok(after);
+            }
+            Err(AddError::Small)
+        }
+        AddId::Exact(id) => {
+            if top < id {
+                return Ok(id);
+            }
+            Err(AddError::Small)
+        }
+    }
+}
