@@ -1,0 +1,147 @@
+//! The commands of the server. What each does is told on its page of the Redis documentation.
+use xs_bytes::Bytes;
+use xs_group::ClaimRule;
+use xs_stream::{AddId, Fields, Id, Ids, Range, Trim};
+
+use crate::names::Names;
+use crate::reads::Reads;
+
+/// A command. Keys, names and values are byte strings, and may be empty.
+#[derive(Debug, Drop)]
+pub enum Command {
+    /// PING, with the message that is sent back.
+    Ping(Option<Bytes>),
+    /// QUIT.
+    Quit,
+    /// XADD.
+    Add(AddCommand),
+    /// XDEL.
+    Delete { key: Bytes, ids: Ids },
+    /// XTRIM.
+    TrimTo { key: Bytes, trim: Trim },
+    /// XLEN.
+    Len { key: Bytes },
+    /// XRANGE and XREVRANGE.
+    Scan(ScanCommand),
+    /// XGROUP CREATE.
+    GroupCreate(GroupCreateCommand),
+    /// XGROUP DESTROY.
+    GroupDestroy { key: Bytes, group: Bytes },
+    /// XGROUP CREATECONSUMER.
+    ConsumerCreate {
+        key: Bytes,
+        group: Bytes,
+        consumer: Bytes,
+    },
+    /// XGROUP DELCONSUMER.
+    ConsumerDelete {
+        key: Bytes,
+        group: Bytes,
+        consumer: Bytes,
+    },
+    /// XREADGROUP.
+    ReadGroup(ReadGroupCommand),
+    /// XACK.
+    Ack { key: Bytes, group: Bytes, ids: Ids },
+    /// XPENDING, the short form.
+    Pending { key: Bytes, group: Bytes },
+    /// XPENDING, the long form.
+    PendingRows(PendingRowsCommand),
+    /// XCLAIM.
+    Claim(ClaimCommand),
+    /// XAUTOCLAIM.
+    AutoClaim(AutoClaimCommand),
+    /// DEL.
+    DropKeys { keys: Names },
+}
+
+/// What XADD asks for.
+#[derive(Debug, Drop)]
+pub struct AddCommand {
+    pub key: Bytes,
+    /// A missing key is made. It is false with NOMKSTREAM.
+    pub make: bool,
+    /// The stream is trimmed to it once the entry is added.
+    pub trim: Option<Trim>,
+    pub id: AddId,
+    pub fields: Fields,
+}
+
+/// What XRANGE and XREVRANGE ask for.
+#[derive(Debug, Drop)]
+pub struct ScanCommand {
+    pub key: Bytes,
+    pub range: Range,
+    /// At most so many entries.
+    pub limit: Option<u64>,
+    /// The greatest id comes first.
+    pub reversed: bool,
+}
+
+/// Where a new group starts to read: behind this id.
+#[derive(Clone, Copy, Debug, PartialEq, Eq)]
+pub enum GroupStart {
+    /// `$`: the top of the stream.
+    Top,
+    At(Id),
+}
+
+/// What XGROUP CREATE asks for.
+#[derive(Debug, Drop)]
+pub struct GroupCreateCommand {
+    pub key: Bytes,
+    pub group: Bytes,
+    pub start: GroupStart,
+    /// A missing key is made, as MKSTREAM asks.
+    pub make: bool,
+}
+
+/// What XREADGROUP asks for.
+#[derive(Debug, Drop)]
+pub struct ReadGroupCommand {
+    pub group: Bytes,
+    pub consumer: Bytes,
+    /// At most so many entries of each stream.
+    pub limit: Option<u64>,
+    /// What is delivered doesn't become pending.
+    pub noack: bool,
+    pub reads: Reads,
+}
+
+/// What the long form of XPENDING asks for.
+#[derive(Debug, Drop)]
+pub struct PendingRowsCommand {
+    pub key: Bytes,
+    pub group: Bytes,
+    /// The least idle time in milliseconds.
+    pub min_idle: u64,
+    pub range: Range,
+    /// At most so many rows.
+    pub limit: u64,
+    /// The rows of this consumer alone.
+    pub consumer: Option<Bytes>,
+}
+
+/// What XCLAIM asks for.
+#[derive(Debug, Drop)]
+pub struct ClaimCommand {
+    pub key: Bytes,
+    pub group: Bytes,
+    pub consumer: Bytes,
+    pub rule: ClaimRule,
+    /// As they were written, repeated ones included.
+    pub ids: Ids,
+}
+
+/// What XAUTOCLAIM asks for.
+#[derive(Debug, Drop)]
+pub struct AutoClaimCommand {
+    pub key: Bytes,
+    pub group: Bytes,
+    pub consumer: Bytes,
+    pub rule: ClaimRule,
+    /// The least id that is scanned.
+    pub start: Id,
+    /// At most so many entries are claimed or found deleted.
+    pub limit: u64,
+}

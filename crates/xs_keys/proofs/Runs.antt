@@ -1,0 +1,44 @@
+-- A run so far, and one event more.
+use Rattle.std.proofs.Common.{◌≡◌, ◌⊎◌, ℕ, List, [], ◌∷◌, ◌++◌, inl, inr, sym, subst, refl, append_assoc}
+use Rattle.std.proofs.lemmas.List.{append-nil}
+use Rattle.xs_resp.specs.declared.reply.Reply.{Reply}
+use Rattle.xs_command.specs.declared.command.Command.{Command}
+use Rattle.xs_keys.specs.Content.{Content, IsContent, after}
+use Rattle.xs_keys.specs.Step.{Step}
+use Rattle.xs_keys.specs.Run.{Answers, RunsOn}
+use Rattle.xs_keys.proofs.Contents.{content-step}
+
+-- from this past on, the answers so far are good, whatever good answers to the rest of the events follow
+abbrev pub SoFar : List (ℕ × Command) → List (ℕ × Command) → List Reply → List (ℕ × Command) → List (ℕ × Command) → Type 0
+SoFar past events replies mid rest = (answers : List Reply) (last : List (ℕ × Command)) → Answers mid rest answers last → Answers past events (replies ++ answers) last
+
+-- over any history that left the old content
+abbrev pub RunsSoFar : Content → List (ℕ × Command) → List Reply → Content → List (ℕ × Command) → Type 0
+RunsSoFar old events replies now rest =
+    (past : List (ℕ × Command)) → IsContent old past → (mid : List (ℕ × Command)) × IsContent now mid × SoFar past events replies mid rest
+
+pub runs-none : (old : Content) (events : List (ℕ × Command)) → RunsSoFar old events [] old events
+runs-none old events = λ past is. (past, is, λ answers last done. done)
+
+-- how a step goes on with a history
+one_more : (mid : List (ℕ × Command)) (e : ℕ × Command) (reply : Reply) (now next : Content) → IsContent now mid → Step now e.0 e.1 reply next
+    → (more : List (ℕ × Command)) × IsContent next more × ((rest : List (ℕ × Command)) (answers : List Reply) (last : List (ℕ × Command)) → Answers more rest answers last → Answers mid (e ∷ rest) (reply ∷ answers) last)
+one_more mid e reply now next is (inl applied) =
+    (e ∷ mid, subst (λ c. IsContent c (e ∷ mid)) (sym applied.content_is) (content-step mid now e.0 e.1 is),
+      λ rest answers last done. inl (now, is, applied.answer_is, done))
+one_more mid e reply now next is (inr (inl refused)) =
+    (mid, subst (λ c. IsContent c mid) (sym refused.content_is) is, λ rest answers last done. inr (inl (refused.takes, refused.answer_is), done))
+one_more mid e reply now next is (inr (inr unserved)) =
+    (mid, subst (λ c. IsContent c mid) (sym unserved.content_is) is, λ rest answers last done. inr (inr (unserved.unserved, unserved.answer_is), done))
+
+pub runs-more : (old : Content) (events : List (ℕ × Command)) (replies : List Reply) (now next : Content) (e : ℕ × Command) (rest : List (ℕ × Command)) (reply : Reply)
+    → RunsSoFar old events replies now (e ∷ rest) → Step now e.0 e.1 reply next → RunsSoFar old events (replies ++ reply ∷ []) next rest
+runs-more old events replies now next e rest reply so_far step = λ past is.
+    let here = so_far past is in
+    let more = one_more here.0 e reply now next here.1 step in
+    (more.0, more.1, λ answers last done. rw append_assoc (here.2 (reply ∷ answers) last (more.2 rest answers last done)))
+
+pub runs-all : (old : Content) (events : List (ℕ × Command)) (replies : List Reply) (new : Content) → RunsSoFar old events replies new [] → RunsOn old events replies new
+runs-all old events replies new so_far = λ past is.
+    let here = so_far past is in
+    (here.0, rw append-nil at (here.2 [] here.0 refl), here.1)

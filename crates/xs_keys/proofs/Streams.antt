@@ -1,0 +1,170 @@
+-- A stream by looking back, and a stream step by step: they are the same.
+use Rattle.std.proofs.Common.{◌≡◌, ℕ, Bool, true, false, not, cond, ◌&&◌, ◌||◌, List, [], ◌∷◌, ◌++◌, map, filter, Option, Some, None, Result, Ok, Err, is_ok, sym, ap, ◌∙◌, refl, arith, subst, append_assoc}
+use Rattle.std.proofs.lemmas.Bool.{false≢true}
+use Rattle.std.proofs.lemmas.List.{append-nil}
+use Rattle.xs_stream.specs.declared.id.Id.{Id}
+use Rattle.xs_stream.specs.declared.field.Field.{Field}
+use Rattle.xs_stream.specs.declared.trim.Trim.{Trim}
+use Rattle.xs_stream.specs.declared.add.AddError.{AddError}
+use Rattle.xs_stream.specs.declared.add.AddId.{AddId}
+use Rattle.xs_stream.specs.Id.{is_below, is_same, has_id, zero_id}
+use Rattle.xs_stream.specs.Trim.{is_trimmed}
+use Rattle.xs_stream.specs.Assigned.{assigned}
+use Rattle.xs_stream.specs.Kept.{Kept, ids_of, Ascends, AllUpTo, AllAbove, trimmed, without}
+use Rattle.xs_stream.proofs.Order.{is_same-refl, below-irrefl, below-not_same, below-not_back, up_to-below, not_above-trans}
+use Rattle.xs_stream.proofs.Assigning.{assigned-above}
+use Rattle.xs_stream.proofs.Entries.{ids_of-append, ascends-push, ascends-filter, up_to-filter, filter-filter}
+use Rattle.xs_keys.specs.Life.{Change, added, deleted, trimmed_to}
+use Rattle.xs_keys.specs.Given.{greatest, top_of, entry_of, gives, given_in, top, trims, drops, stands, live, stream_of}
+use Rattle.xs_keys.specs.Content.{new_stream, trimmed_if, stream_with, stream_after}
+
+greatest-append : (a : Id) (xs ys : List Id) → greatest a (xs ++ ys) ≡ greatest (greatest a xs) ys
+greatest-append a [] ys = refl
+greatest-append a (x ∷ xs) ys = greatest-append (cond (is_below a x) x a) xs ys
+
+-- it is none below the one that it began with
+greatest-up : (a : Id) (xs : List Id) → is_below (greatest a xs) a ≡ false
+greatest-up a [] = below-irrefl a
+greatest-up a (x ∷ xs) = by (greatest-up x xs) (greatest-up a xs) (is_below a x) refl where
+  by : is_below (greatest x xs) x ≡ false → is_below (greatest a xs) a ≡ false → (t : Bool) → is_below a x ≡ t → is_below (greatest (cond t x a) xs) a ≡ false
+  by from_x from_a true h = not_above-trans (greatest x xs) x a from_x (below-not_back a x h)
+  by from_x from_a false h = from_a
+
+-- none of them is above it
+pub up_to-greatest : (a : Id) (xs : List Id) → AllUpTo (greatest a xs) xs
+up_to-greatest a [] = tt
+up_to-greatest a (x ∷ xs) = (by (is_below a x) refl, up_to-greatest (cond (is_below a x) x a) xs) where
+  by : (t : Bool) → is_below a x ≡ t → is_below (greatest (cond t x a) xs) x ≡ false
+  by true h = greatest-up x xs
+  by false h = not_above-trans (greatest a xs) a x (greatest-up a xs) h
+
+pub up_to-top : (changes : List Change) → AllUpTo (top changes) (ids_of (given_in changes))
+up_to-top changes = up_to-greatest zero_id (ids_of (given_in changes))
+
+-- ---- ids ascend
+
+-- what a result gives to a list that ascends up to the top
+ascends-entry : (given : List (Id × List Field)) (t : Id) (r : Result Id AddError) (fields : List Field) → ((id : Id) → r ≡ Ok id → is_below t id ≡ true)
+    → Ascends (ids_of given) → AllUpTo t (ids_of given) → Ascends (ids_of (given ++ entry_of r fields))
+ascends-entry given t (Ok id) fields above a up = rw (ids_of-append given ((id, fields) ∷ [])) (ascends-push (ids_of given) t id a up (above id refl))
+ascends-entry given t (Err e) fields above a up = rw (append-nil given) a
+
+ascends-gives : (given : List (Id × List Field)) (t : Id) (change : Change) → Ascends (ids_of given) → AllUpTo t (ids_of given) → Ascends (ids_of (given ++ gives change t))
+ascends-gives given t (added now id fields trim) a up = ascends-entry given t (assigned now t id) fields (λ x e. assigned-above now t id x e) a up
+ascends-gives given t (deleted ids) a up = rw (append-nil given) a
+ascends-gives given t (trimmed_to trim) a up = rw (append-nil given) a
+
+pub ascends-given : (changes : List Change) → Ascends (ids_of (given_in changes))
+ascends-given [] = tt
+ascends-given (change ∷ past) = ascends-gives (given_in past) (top past) change (ascends-given past) (up_to-top past)
+
+pub ascends-live : (changes : List Change) → Ascends (ids_of (live changes))
+ascends-live changes = ascends-filter (λ e. stands changes e.0) (given_in changes) (ascends-given changes)
+
+pub up_to-live : (changes : List Change) → AllUpTo (top changes) (ids_of (live changes))
+up_to-live changes = up_to-filter (λ e. stands changes e.0) (top changes) (given_in changes) (up_to-top changes)
+
+-- ---- the step of the top
+
+top-entry : (given : List (Id × List Field)) (r : Result Id AddError) (fields : List Field) (trim : Option Trim) (entries : List (Id × List Field))
+    → ((id : Id) → r ≡ Ok id → is_below (top_of given) id ≡ true)
+    → top_of (given ++ entry_of r fields) ≡ (stream_with r fields trim (record { top = top_of given; entries = entries })).top
+top-entry given (Ok id) fields trim entries above =
+    ap (greatest zero_id) (ids_of-append given ((id, fields) ∷ [])) ∙ greatest-append zero_id (ids_of given) (id ∷ []) ∙ ap (λ b. cond b id (top_of given)) (above id refl)
+top-entry given (Err e) fields trim entries above = ap top_of (append-nil given)
+
+-- ---- the step of what is live
+
+-- a new id is none of those given before
+not_new : (t : Id) (r : Result Id AddError) (fields : List Field) (x : Id) → ((id : Id) → r ≡ Ok id → is_below t id ≡ true) → is_below t x ≡ false → has_id (ids_of (entry_of r fields)) x ≡ false
+not_new t (Ok id) fields x above up = rw (below-not_same x id (up_to-below t x id up (above id refl))) refl
+not_new t (Err e) fields x above up = refl
+
+gives-not_new : (change : Change) (t x : Id) → is_below t x ≡ false → has_id (ids_of (gives change t)) x ≡ false
+gives-not_new (added now id fields trim) t x up = not_new t (assigned now t id) fields x (λ y e. assigned-above now t id y e) up
+gives-not_new (deleted ids) t x up = refl
+gives-not_new (trimmed_to trim) t x up = refl
+
+-- a filter of entries up to t, by a test that differs at ids above t alone
+filter-up_to : (t : Id) (p q : Id → Bool) → ((x : Id) → is_below t x ≡ false → p x ≡ q x) → (es : List (Id × List Field)) → AllUpTo t (ids_of es) → filter (λ e. p e.0) es ≡ filter (λ e. q e.0) es
+filter-up_to t p q same [] up = refl
+filter-up_to t p q same (e ∷ es) up = rw (same e.0 up.0) (ap (λ rest. cond (q e.0) (e ∷ rest) rest) (filter-up_to t p q same es up.1))
+
+filter-append : (p : Id × List Field → Bool) (xs ys : List (Id × List Field)) → filter p (xs ++ ys) ≡ filter p xs ++ filter p ys
+filter-append p [] ys = refl
+filter-append p (x ∷ xs) ys = by (filter-append p xs ys) (p x) where
+  by : filter p (xs ++ ys) ≡ filter p xs ++ filter p ys → (t : Bool) → cond t (x ∷ filter p (xs ++ ys)) (filter p (xs ++ ys)) ≡ cond t (x ∷ filter p xs) (filter p xs) ++ filter p ys
+  by rest true = ap (λ left. x ∷ left) rest
+  by rest false = rest
+
+-- the new entry stands unless it is dropped at once
+entry-stands : (d : Id → Bool) (was : Id → Bool) (r : Result Id AddError) (fields : List Field)
+    → filter (λ e. cond (d e.0) false (cond (has_id (ids_of (entry_of r fields)) e.0) true (was e.0))) (entry_of r fields) ≡ filter (λ e. not (d e.0)) (entry_of r fields)
+entry-stands d was (Ok id) fields = rw (is_same-refl id) (by (d id)) where
+  by : (t : Bool) → cond {A = List (Id × List Field)} (cond t false true) ((id, fields) ∷ []) [] ≡ cond (not t) ((id, fields) ∷ []) []
+  by true = refl
+  by false = refl
+entry-stands d was (Err e) fields = refl
+
+gives-stands : (change : Change) (t : Id) (d was : Id → Bool)
+    → filter (λ e. cond (d e.0) false (cond (has_id (ids_of (gives change t)) e.0) true (was e.0))) (gives change t) ≡ filter (λ e. not (d e.0)) (gives change t)
+gives-stands (added now id fields trim) t d was = entry-stands d was (assigned now t id) fields
+gives-stands (deleted ids) t d was = refl
+gives-stands (trimmed_to trim) t d was = refl
+
+both_pass : (d s : Bool) → cond d false s ≡ (s && not d)
+both_pass true true = refl
+both_pass true false = refl
+both_pass false true = refl
+both_pass false false = refl
+
+-- after a change those live are what was live and what is new, without what the change drops
+pub live-step : (change : Change) (past : List Change)
+    → live (change ∷ past) ≡ filter (λ e. not (drops change (top past) (ids_of (live past ++ gives change (top past))) e.0)) (live past ++ gives change (top past))
+live-step change past =
+    filter-append (λ e. stands (change ∷ past) e.0) (given_in past) new
+    ∙ ap (λ old. old ++ filter (λ e. stands (change ∷ past) e.0) new) old_ones
+    ∙ ap (λ rest. filter kept (live past) ++ rest) (gives-stands change (top past) d (stands past))
+    ∙ sym (filter-append kept (live past) new)
+  where
+  new : List (Id × List Field)
+  new = gives change (top past)
+  d : Id → Bool
+  d = drops change (top past) (ids_of (live past ++ gives change (top past)))
+  kept : Id × List Field → Bool
+  kept = λ e. not (drops change (top past) (ids_of (live past ++ gives change (top past))) e.0)
+  old_ones : filter (λ e. stands (change ∷ past) e.0) (given_in past) ≡ filter kept (live past)
+  old_ones =
+      filter-up_to (top past) (stands (change ∷ past)) (λ x. stands past x && not (d x)) (λ x up. rw (gives-not_new change (top past) x up) (both_pass (d x) (stands past x)))
+        (given_in past) (up_to-top past)
+      ∙ sym (filter-filter (λ (e : Id × List Field). stands past e.0) kept (λ e. stands past e.0 && not (d e.0)) (λ e. refl) (given_in past))
+
+filter-all : (es : List (Id × List Field)) → filter (λ e. true) es ≡ es
+filter-all [] = refl
+filter-all (e ∷ es) = ap (λ rest. e ∷ rest) (filter-all es)
+
+-- ---- the step of the stream
+
+added-live : (r : Result Id AddError) (fields : List Field) (trim : Option Trim) (kept : Kept)
+    → filter (λ e. not (is_ok r && trims trim (ids_of (kept.entries ++ entry_of r fields)) e.0)) (kept.entries ++ entry_of r fields) ≡ (stream_with r fields trim kept).entries
+added-live (Ok id) fields None kept = filter-all (kept.entries ++ (id, fields) ∷ [])
+added-live (Ok id) fields (Some trim) kept = refl
+added-live (Err e) fields trim kept = filter-all (kept.entries ++ []) ∙ append-nil kept.entries
+
+live-after : (change : Change) (past : List Change)
+    → filter (λ e. not (drops change (top past) (ids_of (live past ++ gives change (top past))) e.0)) (live past ++ gives change (top past)) ≡ (stream_after change (stream_of past)).entries
+live-after (added now id fields trim) past = added-live (assigned now (top past) id) fields trim (stream_of past)
+live-after (deleted ids) past = rw (append-nil (live past)) refl
+live-after (trimmed_to trim) past = rw (append-nil (live past)) refl
+
+top-after : (change : Change) (past : List Change) → top (change ∷ past) ≡ (stream_after change (stream_of past)).top
+top-after (added now id fields trim) past = top-entry (given_in past) (assigned now (top past) id) fields trim (live past) (λ x e. assigned-above now (top past) id x e)
+top-after (deleted ids) past = ap top_of (append-nil (given_in past))
+top-after (trimmed_to trim) past = ap top_of (append-nil (given_in past))
+
+-- the stream after one more change is what the change makes of the stream
+pub stream-step : (change : Change) (past : List Change) → stream_of (change ∷ past) ≡ stream_after change (stream_of past)
+stream-step change past =
+    let t = top-after change past in
+    let l = live-step change past ∙ live-after change past in
+    λ i. record { top = t i; entries = l i }

@@ -1,0 +1,72 @@
+-- One call: a command is applied, or refused for want of memory, or not served yet.
+use Rattle.std.specs.Prelude.{◌≡◌, ℕ, Bool, true, false, ◌⊎◌, List, Option, Some, None, Result, Ok, Err, is_ok}
+use Rattle.xs_stream.specs.declared.id.Id.{Id}
+use Rattle.xs_stream.specs.declared.add.AddError.{AddError}
+use Rattle.xs_stream.specs.Id.{printed}
+use Rattle.xs_stream.specs.Assigned.{assigned}
+use Rattle.xs_stream.specs.Kept.{Kept}
+use Rattle.xs_resp.specs.declared.fault.Fault.TheVariants.{Memory, Unsupported}
+use Rattle.xs_resp.specs.declared.reply.Reply.{Reply}
+use Rattle.xs_resp.specs.declared.reply.Reply.TheVariants.{Error}
+use Rattle.xs_command.specs.declared.command.Command.{Command}
+use Rattle.xs_command.specs.declared.command.Command.TheVariants.{Ping, Quit, Add, Delete, TrimTo, Len, Scan, DropKeys}
+use Rattle.xs_command.specs.declared.command.AddCommand.{AddCommand}
+use Rattle.xs_keys.specs.Life.{added}
+use Rattle.xs_keys.specs.Content.{Content, after, stream_after}
+use Rattle.xs_keys.specs.Reply.{reply, assigned_reply}
+
+-- the commands that are served today; those of groups are not yet
+abbrev pub is_served : Command → Bool
+is_served (Ping message) = true
+is_served Quit = true
+is_served (Add add) = true
+is_served (Delete name ids) = true
+is_served (TrimTo name trim) = true
+is_served (Len name) = true
+is_served (Scan scan) = true
+is_served (DropKeys names) = true
+is_served _ = false
+
+-- the commands that may find no memory
+abbrev pub takes_memory : Command → Bool
+takes_memory (Ping (Some message)) = true
+takes_memory (Add add) = true
+takes_memory (Scan scan) = true
+takes_memory _ = false
+
+abbrev pub is_error : Reply → Bool
+is_error (Error fault) = true
+is_error _ = false
+
+-- the reply is the model's, and so is what is left
+pub record Applied (old : Content) (now : ℕ) (command : Command) (answer : Reply) (new : Content) : Type 0 where
+  pub served : is_served command ≡ true
+  pub answer_is : answer ≡ reply old now command
+  pub content_is : new ≡ after old now command
+
+-- memory ran out, where the command takes some and the model refuses nothing: nothing has changed
+pub record OutOfMemory (old : Content) (now : ℕ) (command : Command) (answer : Reply) (new : Content) : Type 0 where
+  pub takes : takes_memory command ≡ true
+  pub no_other : is_error (reply old now command) ≡ false
+  pub answer_is : answer ≡ Error Memory
+  pub content_is : new ≡ old
+
+-- the command isn't served yet: nothing has changed
+pub record Unserved (old : Content) (command : Command) (answer : Reply) (new : Content) : Type 0 where
+  pub unserved : is_served command ≡ false
+  pub answer_is : answer ≡ Error Unsupported
+  pub content_is : new ≡ old
+
+abbrev pub Step : Content → ℕ → Command → Reply → Content → Type 0
+Step old now command answer new = Applied old now command answer new ⊎ (OutOfMemory old now command answer new ⊎ Unserved old command answer new)
+
+-- an addition to a stream is the model's, or memory ran out where the model refuses nothing, and nothing has changed
+abbrev pub Adds : Kept → ℕ → AddCommand → Reply → Kept → Type 0
+Adds old now add answer new =
+    ((answer ≡ assigned_reply (assigned now old.top add.id)) × (new ≡ stream_after (added now add.id add.fields add.trim) old))
+    ⊎ ((is_ok (assigned now old.top add.id) ≡ true) × (answer ≡ Error Memory) × (new ≡ old))
+
+-- the printed id, where one is assigned
+abbrev pub text_of : Result Id AddError → Option (List ℕ)
+text_of (Ok id) = Some (printed id)
+text_of (Err refusal) = None

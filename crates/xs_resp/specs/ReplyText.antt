@@ -1,0 +1,42 @@
+-- The text of replies (RESP protocol specification, version 2).
+use Rattle.std.specs.Prelude.{◌≡◌, ℕ, ⊤, List, [], ◌∷◌, ◌++◌, length, take, codes, decimal, Result, Ok, Err}
+use Rattle.std.specs.declared.alloc.AllocError.{AllocError}
+use Rattle.std.specs.List.{flat_map}
+use Rattle.xs_resp.specs.declared.reply.Simple.{Simple}
+use Rattle.xs_resp.specs.declared.reply.Simple.TheVariants.{Okay, Pong}
+use Rattle.xs_resp.specs.declared.reply.Reply.{Reply}
+use Rattle.xs_resp.specs.FaultText.{fault_text}
+use Rattle.xs_resp.specs.Items.{Token, simple, error, int, bulk, null_bulk, array_of, null_array}
+use Rattle.xs_resp.specs.ReplyItems.{tokens_of}
+
+-- the end of a line, CR LF
+abbrev pub crlf : List ℕ
+crlf = 13 ∷ 10 ∷ []
+
+-- a marker, a number and the end of the line
+abbrev pub line : ℕ → ℕ → List ℕ
+line marker n = marker ∷ decimal n ++ crlf
+
+-- what a simple string says
+abbrev pub simple_text : Simple → List ℕ
+simple_text Okay = codes "OK"
+simple_text Pong = codes "PONG"
+
+-- the text of one part: the markers are + - : $ *
+abbrev pub token_text : Token → List ℕ
+token_text (simple s) = 43 ∷ simple_text s ++ crlf
+token_text (error f) = 45 ∷ fault_text f ++ crlf
+token_text (int n) = line 58 n
+token_text (bulk bytes) = line 36 (length bytes) ++ bytes ++ crlf
+token_text null_bulk = codes "$-1" ++ crlf
+token_text (array_of n) = line 42 n
+token_text null_array = codes "*-1" ++ crlf
+
+-- the text of a reply
+unfoldable pub text : Reply → List ℕ
+text reply = flat_map token_text (tokens_of reply)
+
+-- a call that appends this text, or is refused and leaves what stood before it
+abbrev pub Writes : Result ⊤ AllocError → List ℕ → List ℕ → List ℕ → Type 0
+Writes (Ok _) old new written = new ≡ old ++ written
+Writes (Err _) old new written = take (length old) new ≡ old
