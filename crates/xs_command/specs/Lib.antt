@@ -1,2 +1,17 @@
 pub mod Integer
+pub mod Words
+pub mod Options
+pub mod Name
+pub mod Syntax
+pub mod Trim
+pub mod AddId
+pub mod Fields
+pub mod Ping
+pub mod Xadd
+pub mod Xdel
+pub mod Xlen
+pub mod Xtrim
+pub mod Xrange
+pub mod Del
+pub mod Read
 pub mod WellFormed

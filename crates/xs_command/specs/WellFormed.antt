@@ -1,7 +1,6 @@
 -- What holds of each command that words give.
 use Rattle.std.specs.Prelude.{◌≢◌, ℕ, List, [], map, bytes_eq}
 use Rattle.std.specs.List.{IsDistinct}
-use Rattle.xs_stream.specs.declared.id.Id.{Id}
 use Rattle.xs_stream.specs.declared.add.AddId.{AddId}
 use Rattle.xs_stream.specs.declared.add.AddId.TheVariants.{Auto, AutoSeq, Exact}
 use Rattle.xs_stream.specs.Id.{zero_id}

@@ -1,10 +1,9 @@
 //! The commands of the server. What each does is told on its page of the Redis documentation.
+use crate::names::Names;
+use crate::reads::Reads;
 use xs_bytes::Bytes;
 use xs_group::ClaimRule;
 use xs_stream::{AddId, Fields, Id, Ids, Range, Trim};
-
-use crate::names::Names;
-use crate::reads::Reads;
 
 /// A command. Keys, names and values are byte strings, and may be empty.
 #[derive(Debug, Drop)]
@@ -16,17 +15,28 @@ pub enum Command {
     /// XADD.
     Add(AddCommand),
     /// XDEL.
-    Delete { key: Bytes, ids: Ids },
+    Delete {
+        key: Bytes,
+        ids: Ids,
+    },
     /// XTRIM.
-    TrimTo { key: Bytes, trim: Trim },
+    TrimTo {
+        key: Bytes,
+        trim: Trim,
+    },
     /// XLEN.
-    Len { key: Bytes },
+    Len {
+        key: Bytes,
+    },
     /// XRANGE and XREVRANGE.
     Scan(ScanCommand),
     /// XGROUP CREATE.
     GroupCreate(GroupCreateCommand),
     /// XGROUP DESTROY.
-    GroupDestroy { key: Bytes, group: Bytes },
+    GroupDestroy {
+        key: Bytes,
+        group: Bytes,
+    },
     /// XGROUP CREATECONSUMER.
     ConsumerCreate {
         key: Bytes,
@@ -42,9 +52,16 @@ pub enum Command {
     /// XREADGROUP.
     ReadGroup(ReadGroupCommand),
     /// XACK.
-    Ack { key: Bytes, group: Bytes, ids: Ids },
+    Ack {
+        key: Bytes,
+        group: Bytes,
+        ids: Ids,
+    },
     /// XPENDING, the short form.
-    Pending { key: Bytes, group: Bytes },
+    Pending {
+        key: Bytes,
+        group: Bytes,
+    },
     /// XPENDING, the long form.
     PendingRows(PendingRowsCommand),
     /// XCLAIM.
@@ -52,7 +69,9 @@ pub enum Command {
     /// XAUTOCLAIM.
     AutoClaim(AutoClaimCommand),
     /// DEL.
-    DropKeys { keys: Names },
+    DropKeys {
+        keys: Names,
+    },
 }
 
 /// What XADD asks for.

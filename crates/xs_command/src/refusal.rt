@@ -10,7 +10,7 @@ use xs_resp::Fault;
 #[derive(Clone, Copy, Debug, PartialEq, Eq, Error)]
 pub enum Refusal {
     /// The first fault of the words.
-    #[error("the words are no command: {0:?}")]
+    #[error("the words are no command: {0}")]
     Said(Fault),
     #[error("out of memory")]
     Memory,

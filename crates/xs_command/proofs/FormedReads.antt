@@ -1,0 +1,47 @@
+-- Each command that words give is well formed.
+use Rattle.std.proofs.Common.{◌≡◌, ℕ, ◌+◌, Bool, true, false, cond, List, length, Option, Some, None, Result, Ok, Err}
+use Rattle.std.specs.Prelude.{IfOk}
+use Rattle.xs_resp.specs.declared.fault.Fault.TheVariants.{Arity}
+use Rattle.xs_command.specs.declared.command.Command.{Command}
+use Rattle.xs_command.specs.declared.refusal.Refusal.{Refusal}
+use Rattle.xs_command.specs.declared.name.Name.{Name}
+use Rattle.xs_command.specs.declared.name.Name.TheVariants.{Ping, Quit, Xadd, Xdel, Xtrim, Xlen, Xrange, Xrevrange, Xgroup, Xreadgroup, Xack, Xpending, Xclaim, Xautoclaim, Del}
+use Rattle.xs_command.specs.Words.{Gives, word}
+use Rattle.xs_command.specs.WellFormed.{IsWellFormed}
+use Rattle.xs_command.specs.Name.{name_of, counts, fits}
+use Rattle.xs_command.specs.Read.{syntax, named, reads}
+use Rattle.xs_command.proofs.Formed.{Always, after_any, ping_formed, quit_formed, xadd_formed, xdel_formed, xtrim_formed, xlen_formed, xrange_formed, xrevrange_formed, del_formed}
+
+syntax_formed : (name : Name) → Always IsWellFormed (syntax name)
+syntax_formed Ping words y e = ping_formed words y e
+syntax_formed Quit words y e = quit_formed words y e
+syntax_formed Xadd words y e = xadd_formed words y e
+syntax_formed Xdel words y e = xdel_formed words y e
+syntax_formed Xtrim words y e = xtrim_formed words y e
+syntax_formed Xlen words y e = xlen_formed words y e
+syntax_formed Xrange words y e = xrange_formed words y e
+syntax_formed Xrevrange words y e = xrevrange_formed words y e
+syntax_formed Xgroup words y e = absurd cc
+syntax_formed Xreadgroup words y e = absurd cc
+syntax_formed Xack words y e = absurd cc
+syntax_formed Xpending words y e = absurd cc
+syntax_formed Xclaim words y e = absurd cc
+syntax_formed Xautoclaim words y e = absurd cc
+syntax_formed Del words y e = del_formed words y e
+
+counted : (name : Name) (b : Bool) (words : List (List ℕ)) (y : Command) → cond b (syntax name words) (Err Arity) ≡ Ok y → IsWellFormed y
+counted name true words y e = syntax_formed name words y e
+counted name false words y e = absurd cc
+
+named_formed : (name : Option Name) → Always IsWellFormed (named name)
+named_formed None words y e = absurd cc
+named_formed (Some name) words y e = counted name (fits (counts name) (length words + 1)) words y e
+
+reads_formed : Always IsWellFormed reads
+unfolding reads
+reads_formed = after_any IsWellFormed word _ (λ first. named_formed (name_of first))
+
+-- so a function that gives what is read gives a command that is well formed
+pub given_formed : (words : List (List ℕ)) (result : Result Command Refusal) → Gives result (reads words) → IfOk result IsWellFormed
+given_formed words (Ok command) h = reads_formed words command h
+given_formed words (Err refusal) h = tt

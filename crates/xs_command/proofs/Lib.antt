@@ -1,0 +1,6 @@
+pub mod OptionSteps
+pub mod NameByLength
+pub mod IdSteps
+pub mod FieldSteps
+pub mod Formed
+pub mod FormedReads

@@ -1,0 +1,37 @@
+-- The id of XADD.
+use Rattle.std.specs.Prelude.{ℕ, ◌-◌, List, length, take, drop, codes, bytes_eq, Option, Some, None, Result, Ok, Err, if◌then◌else◌}
+use Rattle.xs_stream.specs.declared.id.Id.{Id}
+use Rattle.xs_stream.specs.declared.add.AddId.{AddId}
+use Rattle.xs_stream.specs.declared.add.AddId.TheVariants as add
+use Rattle.xs_stream.specs.Id.{id_number, parse_id, is_same, zero_id}
+use Rattle.xs_resp.specs.declared.fault.Fault.{Fault}
+use Rattle.xs_resp.specs.declared.fault.Fault.TheVariants.{BadId, ZeroId}
+use Rattle.xs_command.specs.Words.{Part, ◌>>=◌, word}
+
+-- `ms-*`, by its number
+abbrev pub next_in : Option ℕ → Result AddId Fault
+next_in None = Err BadId
+next_in (Some ms) = Ok (add.AutoSeq ms)
+
+-- a written id
+abbrev pub written : Option Id → Result AddId Fault
+written None = Err BadId
+written (Some id) = if is_same id zero_id then Err ZeroId else Ok (add.Exact id)
+
+-- `*`, `ms-*`, `ms-seq` or `ms`; a missing sequence is 0
+abbrev pub add_id_of : List ℕ → Result AddId Fault
+add_id_of text =
+    if bytes_eq text (codes "*") then Ok add.Auto
+    else (if bytes_eq (drop (length text - 2) text) (codes "-*") then next_in (id_number (take (length text - 2) text))
+    else written (parse_id text 0))
+
+-- what a word means, or its fault
+abbrev pub meaning : {A : Type 0} → Result A Fault → Part A
+meaning (Ok x) words = Ok (x, words)
+meaning (Err fault) words = Err fault
+
+-- the next word, the id of an addition
+unfoldable pub add_id : Part AddId
+add_id = do
+  w ← word
+  meaning (add_id_of w)

@@ -1,0 +1,34 @@
+-- Options of a command, in any order; the last of a repeated one counts.
+use Rattle.std.specs.Prelude.{ℕ, zero, suc, List, [], ◌∷◌, length, Option, Some, None, Result, Ok, Err}
+use Rattle.xs_resp.specs.declared.fault.Fault.{Fault}
+use Rattle.xs_command.specs.Words.{Reads, Part}
+
+-- What an option of a name says, after the options before it: the new state and the words behind
+-- the option. No words: the name is no option.
+abbrev pub OptionOf : Type 0 → Type 0
+OptionOf S = S → List ℕ → Reads (S × Option (List (List ℕ)))
+
+-- an option that was read whole
+abbrev pub taken : {S : Type 0} → Result (S × List (List ℕ)) Fault → Result (S × Option (List (List ℕ))) Fault
+taken (Ok read) = Ok (read.0, Some read.1)
+taken (Err fault) = Err fault
+
+-- the option takes this part
+abbrev pub taking : {S : Type 0} → Part S → Reads (S × Option (List (List ℕ)))
+taking part words = taken (part words)
+
+-- what comes after a name was read as an option, or as none
+abbrev pub after : {S : Type 0} → Result (S × Option (List (List ℕ))) Fault → List (List ℕ) → (S → Part S) → Result (S × List (List ℕ)) Fault
+after (Err fault) words more = Err fault
+after (Ok (s, None)) words more = Ok (s, words)
+after (Ok (s, Some left)) words more = more s left
+
+-- as many options as there are, at most n
+unfoldable pub up_to : {S : Type 0} → ℕ → OptionOf S → S → Part S
+up_to zero option s words = Ok (s, words)
+up_to (suc n) option s [] = Ok (s, [])
+up_to (suc n) option s (name ∷ words) = after (option s name words) (name ∷ words) (λ t left. up_to n option t left)
+
+-- as many options as there are
+abbrev pub many : {S : Type 0} → OptionOf S → S → Part S
+many option s words = up_to (length words) option s words

@@ -1,0 +1,16 @@
+-- PING and QUIT.
+use Rattle.std.specs.Prelude.{[], ◌∷◌, Some, None, Ok}
+use Rattle.xs_resp.specs.declared.fault.Fault.TheVariants.{Syntax}
+use Rattle.xs_command.specs.declared.command.Command.{Command}
+use Rattle.xs_command.specs.declared.command.Command.TheVariants as command
+use Rattle.xs_command.specs.Words.{Reads}
+use Rattle.xs_command.specs.Syntax.{only}
+
+-- PING [message]
+unfoldable pub ping : Reads Command
+ping [] = Ok (command.Ping None)
+ping (message ∷ words) = only (command.Ping (Some message)) Syntax words
+
+-- QUIT; further words mean nothing
+unfoldable pub quit : Reads Command
+quit words = Ok command.Quit

@@ -1,0 +1,48 @@
+//! Options of a command: they stand in any order, and the last of a repeated one counts.
+ghost use Rattle.std.specs.Prelude.{◌≡◌, List, ℕ, Option, Result};
+ghost use Rattle.xs_resp.specs.declared.fault.Fault.{Fault};
+ghost use Rattle.xs_command.specs.Words.{Gives};
+ghost use Rattle.xs_command.specs.Options.{many};
+
+use crate::refusal::Refusal;
+use crate::words::{Word, Words};
+use std::alloc::Global;
+
+/// What the options of a command have said so far.
+pub(crate) trait Options: Sized + Drop {
+    ghost option: { Self → List ℕ → List (List ℕ) → Result (Self × Option (List (List ℕ))) Fault };
+
+    /// Reads an option of this name, whose further words come next. It gives the words behind the
+    /// option, or None where the name is no option.
+    fn option<'a>(
+        self,
+        alloc: Global,
+        name: Word<'a>,
+        words: Words<'a>,
+    ) -> Result<(Self, Option<Words<'a>>), Refusal>
+        ensures { Gives result (option self name.entry words.entry) };
+}
+
+/// Reads options as long as words are options.
+pub(crate) fn read_options<'a, S: Options>(
+    alloc: Global,
+    none: S,
+    words: Words<'a>,
+) -> Result<(S, Words<'a>), Refusal>
+    ensures { Gives result (many S.option none words.entry) }
+{
+    let mut state = none;
+    let mut left = words;
+    for _turn in 0..left.len() {
+        let Ok((name, rest)) = left.word() else {
+            return Ok((state, left));
+        };
+        let (read, behind) = state.option(alloc, name, rest)?;
+        let Some(behind) = behind else {
+            return Ok((read, left));
+        };
+        state = read;
+        left = behind;
+    }
+    Ok((state, left))
+}

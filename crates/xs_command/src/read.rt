@@ -1,0 +1,60 @@
+//! From words to a command.
+ghost use Rattle.std.specs.Prelude.{◌<◌, IfOk, length, map};
+ghost use Rattle.xs_command.specs.Words.{Gives};
+ghost use Rattle.xs_command.specs.WellFormed.{IsWellFormed};
+ghost use Rattle.xs_command.specs.Read.{reads, syntax};
+
+use crate::command::Command;
+use crate::name::Name;
+use crate::refusal::Refusal;
+use crate::words::Words;
+use crate::{del, ping, xadd, xdel, xlen, xrange, xtrim};
+use std::alloc::Global;
+use xs_resp::Fault;
+
+/// The command that the words of a request spell, or their first fault from left to right. Each
+/// word that the command keeps is copied. A refusal for memory says nothing of the words.
+pub fn read_command(alloc: Global, words: &[Vec<u8>]) -> Result<Command, Refusal>
+    requires { 0 < length words.now }
+    ensures exact { Gives result (reads (map (λ word. word.items) words.now)) }
+    ensures formed { IfOk result IsWellFormed }
+{
+    read_words(alloc, &Words::new(words))
+}
+
+/// As `read_command`, where no word gives a fault too.
+#[tactic(auto, unfolding(crate::specs::Read::reads))]
+fn read_words(alloc: Global, words: &Words<'_>) -> Result<Command, Refusal>
+    ensures { Gives result (reads words.now) }
+{
+    let (first, words) = words.word()?;
+    let Some(name) = Name::of(&first) else {
+        return Err(Refusal::Said(Fault::UnknownCommand));
+    };
+    if !name.allows(words.len() + 1) {
+        return Err(Refusal::Said(Fault::Arity));
+    }
+    read_named(alloc, name, &words)
+}
+
+/// The command of this name, whose further words these are.
+#[tactic(auto, unfolding(crate::specs::Ping::quit))]
+fn read_named(alloc: Global, name: Name, words: &Words<'_>) -> Result<Command, Refusal>
+    ensures { Gives result (syntax name words.now) }
+{
+    match name {
+        Name::Ping => ping::read(alloc, words),
+        Name::Quit => Ok(Command::Quit),
+        Name::Xadd => xadd::read(alloc, words),
+        Name::Xdel => xdel::read(alloc, words),
+        Name::Xtrim => xtrim::read(alloc, words),
+        Name::Xlen => xlen::read(alloc, words),
+        Name::Xrange => xrange::read(alloc, words),
+        Name::Xrevrange => xrange::read_reversed(alloc, words),
+        Name::Del => del::read(alloc, words),
+        Name::Xgroup | Name::Xreadgroup | Name::Xack | Name::Xpending | Name::Xclaim => {
+            Err(Refusal::Said(Fault::Unsupported))
+        }
+        Name::Xautoclaim => Err(Refusal::Said(Fault::Unsupported)),
+    }
+}

@@ -1,0 +1,4 @@
+mod describe;
+mod faults;
+mod served;
+mod text;

@@ -1,0 +1,121 @@
+//! The words of a request, read one after the other.
+ghost use Rattle.std.specs.Prelude.{◌≡◌, ◌<◌, ◌^◌, IfOk, length, map};
+ghost use Rattle.xs_command.specs.Words.{is_word, word, behind_sign};
+
+use crate::names::Names;
+use std::alloc::{AllocError, Global};
+use std::marker::Model;
+use xs_bytes::Bytes;
+use xs_resp::Fault;
+
+/// One word of a request. A contract sees it as the list of its bytes.
+#[derive(Drop)]
+pub(crate) struct Word<'a> {
+    text: &'a [u8],
+}
+
+impl<'a> Model for Word<'a> {
+    ghost use Rattle.std.specs.Prelude.{List, ℕ};
+
+    ghost Value = { List ℕ };
+
+    ghost view = { λ w. w.text.now };
+}
+
+impl<'a> Word<'a> {
+    pub(crate) fn as_slice(&self) -> &[u8]
+        ensures { result.now ≡ self.now }
+    {
+        self.text
+    }
+
+    /// Whether it is this name, in upper or lower case.
+    #[tactic(auto, unfolding(crate::specs::Words::is_word))]
+    pub(crate) fn is(&self, name: &[u8]) -> bool
+        ensures { result ≡ is_word name.now self.now }
+    {
+        self.text.eq_ignore_ascii_case(name)
+    }
+
+    /// A copy at its exact size.
+    pub(crate) fn copy(&self, alloc: Global) -> Result<Bytes, AllocError>
+        ensures { IfOk result (λ bytes. bytes ≡ self.now) }
+    {
+        Bytes::from_slice(alloc, self.text)
+    }
+}
+
+/// The words that are still to be read. A contract sees the list of them.
+#[derive(Drop)]
+pub(crate) struct Words<'a> {
+    rest: &'a [Vec<u8>],
+}
+
+impl<'a> Model for Words<'a> {
+    ghost use Rattle.std.specs.Prelude.{List, ℕ, map};
+
+    ghost Value = { List (List ℕ) };
+
+    ghost view = { λ w. map (λ v. v.items) w.rest.now };
+}
+
+impl<'a> Words<'a> {
+    pub(crate) fn new(rest: &'a [Vec<u8>]) -> Self
+        ensures { result ≡ map (λ v. v.items) rest.now }
+    {
+        Self { rest }
+    }
+
+    /// How many words are left.
+    pub(crate) fn len(&self) -> usize
+        ensures count { result ≡ length self.now }
+        ensures small { result < 2 ^ 63 }
+    {
+        self.rest.len()
+    }
+
+    /// The next word, and those behind it.
+    #[tactic(auto, unfolding(crate::specs::Words::word))]
+    pub(crate) fn word(&self) -> Result<(Word<'a>, Words<'a>), Fault>
+        ensures { result ≡ word self.now }
+    {
+        match self.rest.split_first() {
+            Some((first, rest)) => Ok((
+                Word {
+                    text: first.as_slice(),
+                },
+                Words { rest },
+            )),
+            None => Err(Fault::Syntax),
+        }
+    }
+
+    /// The words behind `=` or `~`, where they begin with one.
+    #[tactic(auto, unfolding(crate::specs::Words::behind_sign))]
+    pub(crate) fn behind_sign(self) -> Words<'a>
+        ensures { result ≡ behind_sign self.entry }
+    {
+        let Some((first, rest)) = self.rest.split_first() else {
+            return self;
+        };
+        let word = Word {
+            text: first.as_slice(),
+        };
+        if word.is(b"=") || word.is(b"~") {
+            return Words { rest };
+        }
+        self
+    }
+
+    /// All the words, copied.
+    pub(crate) fn names(&self, alloc: Global) -> Result<Names, AllocError>
+        ensures { IfOk result (λ names. names ≡ self.now) }
+    {
+        let rest = self.rest;
+        let mut items = Vec::with_capacity(alloc, rest.len())?;
+        for word in rest {
+            items.push(Bytes::from_slice(alloc, word.as_slice())?)?;
+        }
+        Ok(Names::new(items))
+    }
+}

@@ -1,0 +1,16 @@
+-- What readers and writers tell of themselves.
+use Rattle.std.specs.Prelude.{◌≡◌, ℕ, ◌+◌, ◌^◌, ◌-◌, Bool, true, false, ◌&&◌, ◌||◌, ◌==◌, nat_lt, min, List, length, take, Option, Result, Ok, Err, is_err, not}
+
+-- counts stop at the greatest 64-bit number
+abbrev pub capped : ℕ → ℕ
+capped n = min n 18446744073709551615
+
+-- a read of nothing into a slice that isn't empty
+abbrev pub is_end : {E : Type 0} → Result ℕ E → List ℕ → Bool
+is_end (Ok n) into = n == 0 && nat_lt 0 (length into)
+is_end (Err e) into = false
+
+-- an error, or nothing taken of a slice that isn't empty
+abbrev pub is_failure : {E : Type 0} → Result ℕ E → List ℕ → Bool
+is_failure (Ok n) from = n == 0 && nat_lt 0 (length from)
+is_failure (Err e) from = true

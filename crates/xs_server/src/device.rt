@@ -1,0 +1,148 @@
+//! Readers and writers, and what contracts see of them: their bytes, where they tell them, how many calls
+//! they have answered, whether they have failed, and whether the end was met.
+ghost use Rattle.std.specs.Prelude.{◌≡◌, ℕ, ◌+◌, ◌≤◌, Bool, ◌||◌, List, Option, IfOk, length, is_err};
+ghost use Rattle.std.specs.Io.KnownBytes.{ReadConsumes, WriteAppends};
+ghost use Rattle.xs_server.specs.Device.{capped, is_end, is_failure};
+
+use std::io::{Read, Write};
+
+/// A read or a write didn't work. It says no more.
+#[derive(Clone, Copy, Debug, PartialEq, Eq)]
+pub struct Failed;
+
+/// A reader of bytes.
+pub trait Source {
+    /// The bytes that are left, where the reader tells them.
+    ghost rest: { Self → Option (List ℕ) };
+
+    /// How many calls it has answered. The count stops at the greatest 64-bit number.
+    ghost calls: { Self → ℕ };
+
+    /// It has answered an error.
+    ghost broken: { Self → Bool };
+
+    /// Its end was met: it gave no byte where there was room.
+    ghost ended: { Self → Bool };
+
+    /// Reads some bytes into the front of a slice, and says how many.
+    fn read(&mut self, into: &mut [u8]) -> Result<usize, Failed>
+        ensures bound { IfOk result (λ n. n ≤ length into.new) }
+        ensures bytes { ReadConsumes (rest self.old) (rest self.new) result into.new }
+        ensures counted { calls self.new ≡ capped (calls self.old + 1) }
+        ensures fault { broken self.new ≡ (broken self.old || is_err result) }
+        ensures end { ended self.new ≡ (ended self.old || is_end result into.old) };
+}
+
+/// A writer of bytes.
+pub trait Sink {
+    /// The bytes that it holds, where the writer tells them.
+    ghost held: { Self → Option (List ℕ) };
+
+    /// How many calls it has answered. The count stops at the greatest 64-bit number.
+    ghost calls: { Self → ℕ };
+
+    /// It has answered an error, or has taken none of some bytes.
+    ghost broken: { Self → Bool };
+
+    /// Takes some bytes from the front of a slice, and says how many.
+    fn write(&mut self, from: &[u8]) -> Result<usize, Failed>
+        ensures bound { IfOk result (λ n. n ≤ length from.now) }
+        ensures bytes { WriteAppends (held self.old) (held self.new) result from.now }
+        ensures counted { calls self.new ≡ capped (calls self.old + 1) }
+        ensures fault { broken self.new ≡ (broken self.old || is_failure result from.now) };
+}
+
+/// A reader made of one of `std`.
+#[derive(Drop)]
+pub struct FromRead<R: Read + Drop> {
+    inner: R,
+    calls: u64,
+    broken: bool,
+    ended: bool,
+}
+
+impl<R: Read + Drop> FromRead<R> {
+    /// The reader, before its first call. It takes no memory.
+    pub fn new(inner: R) -> Self
+        ensures calls { result.calls ≡ 0 }
+    {
+        Self {
+            inner,
+            calls: 0,
+            broken: false,
+            ended: false,
+        }
+    }
+}
+
+impl<R: Read + Drop> Source for FromRead<R> {
+    ghost rest = { λ s. R.remaining s.inner };
+
+    ghost calls = { λ s. s.calls };
+
+    ghost broken = { λ s. s.broken };
+
+    ghost ended = { λ s. s.ended };
+
+    fn read(&mut self, into: &mut [u8]) -> Result<usize, Failed> {
+        self.calls = self.calls.saturating_add(1);
+        let room = !into.is_empty();
+        match self.inner.read(into) {
+            Ok(count) => {
+                if count == 0 && room {
+                    self.ended = true;
+                }
+                Ok(count)
+            }
+            Err(_) => {
+                self.broken = true;
+                Err(Failed)
+            }
+        }
+    }
+}
+
+/// A writer made of one of `std`.
+#[derive(Drop)]
+pub struct ToWrite<W: Write + Drop> {
+    inner: W,
+    calls: u64,
+    broken: bool,
+}
+
+impl<W: Write + Drop> ToWrite<W> {
+    /// The writer, before its first call. It takes no memory.
+    pub fn new(inner: W) -> Self
+        ensures calls { result.calls ≡ 0 }
+    {
+        Self {
+            inner,
+            calls: 0,
+            broken: false,
+        }
+    }
+}
+
+impl<W: Write + Drop> Sink for ToWrite<W> {
+    ghost held = { λ s. W.contents s.inner };
+
+    ghost calls = { λ s. s.calls };
+
+    ghost broken = { λ s. s.broken };
+
+    fn write(&mut self, from: &[u8]) -> Result<usize, Failed> {
+        self.calls = self.calls.saturating_add(1);
+        match self.inner.write(from) {
+            Ok(count) => {
+                if count == 0 && !from.is_empty() {
+                    self.broken = true;
+                }
+                Ok(count)
+            }
+            Err(_) => {
+                self.broken = true;
+                Err(Failed)
+            }
+        }
+    }
+}
