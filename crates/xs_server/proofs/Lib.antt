@@ -1,1 +1,3 @@
 pub mod LineEnds
+pub mod ScriptLines
+pub mod Sessions

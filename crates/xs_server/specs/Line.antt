@@ -1,5 +1,5 @@
 -- The lines of a script, and what a line says: a moment, a client's name, and the words of a request.
-use Rattle.std.specs.Prelude.{ℕ, ◌^◌, Bool, ◌&&◌, ◌==◌, List, [], ◌∷◌, length, nat_le, nat_lt, Option, Some, None, option_and_then, if◌then◌else◌}
+use Rattle.std.specs.Prelude.{ℕ, ◌^◌, Bool, ◌==◌, List, [], ◌∷◌, length, nat_le, nat_lt, Option, Some, None, option_and_then, if◌then◌else◌}
 use Rattle.std.specs.Option.{option_map}
 use Rattle.std.specs.List.{list_all}
 use Rattle.xs_bytes.specs.Number.{natural_of}
@@ -23,12 +23,21 @@ abbrev pub parts_of : List ℕ → List (List ℕ)
 parts_of [] = [] ∷ []
 parts_of (byte ∷ bytes) = if byte == 32 then [] ∷ parts_of bytes else onto_first byte (parts_of bytes)
 
--- the most bytes that a line has
-abbrev pub line_limit : ℕ
-line_limit = 1048576
+-- the parts of what stands behind a space, where there is one
+abbrev pub parts_behind : Option (List ℕ) → List (List ℕ)
+parts_behind None = []
+parts_behind (Some rest) = parts_of rest
 
 abbrev pub has_bytes : List ℕ → Bool
 has_bytes part = nat_lt 0 (length part)
+
+-- parts that all have bytes
+abbrev pub full_parts : List (List ℕ) → Option (List (List ℕ))
+full_parts parts = if list_all has_bytes parts then Some parts else None
+
+-- the most bytes that a line has
+abbrev pub line_limit : ℕ
+line_limit = 1048576
 
 -- a moment below 2^63, without leading zeros
 abbrev pub moment_of : List ℕ → Option ℕ
@@ -43,4 +52,4 @@ request_of (moment ∷ name ∷ word ∷ words) = option_map (λ now. (now, word
 
 -- the moment and the words of a script line; none where it is no script line
 abbrev pub line_of : List ℕ → Option (ℕ × List (List ℕ))
-line_of line = if nat_le (length line) line_limit && list_all has_bytes (parts_of line) then request_of (parts_of line) else None
+line_of line = if nat_le (length line) line_limit then option_and_then request_of (full_parts (parts_of line)) else None

@@ -1,0 +1,167 @@
+-- Sessions: one line more, and replies that are sent.
+use Rattle.std.proofs.Common.{◌≡◌, ◌⊎◌, ℕ, ◌+◌, ◌<◌, ◌≤◌, Bool, true, false, List, [], ◌∷◌, ◌++◌, length, Option, Some, None, Result, Ok, Err, inl, inr, sym, ap, ◌∙◌, subst, refl, append_assoc, arith, IsSomeAnd, MatchResult, length-append}
+use Rattle.std.proofs.lemmas.List.{append-nil}
+use Rattle.xs_resp.specs.declared.fault.Fault.{Fault}
+use Rattle.xs_resp.specs.declared.fault.Fault.TheVariants.{Memory}
+use Rattle.xs_resp.specs.declared.reply.Reply.{Reply}
+use Rattle.xs_resp.specs.declared.reply.Reply.TheVariants.{Error}
+use Rattle.xs_resp.specs.ReplyText.{text}
+use Rattle.xs_command.specs.declared.command.Command.{Command}
+use Rattle.xs_command.specs.Read.{reads}
+use Rattle.xs_keys.specs.Content.{Content, IsContent, after}
+use Rattle.xs_keys.specs.Step.{Step}
+use Rattle.xs_keys.proofs.Contents.{content-step}
+use Rattle.xs_server.specs.Device.{capped}
+use Rattle.xs_server.specs.Line.{line_of, script_lines, is_line_end, line_limit}
+use Rattle.xs_server.specs.Script.{Follows, Answered, Script}
+use Rattle.xs_server.specs.Serving.{Serves}
+use Rattle.xs_server.specs.declared.session.Session.{Session}
+use Rattle.xs_server.specs.declared.script_fault.ScriptFault.{ScriptFault}
+use Rattle.xs_server.specs.declared.script_fault.ScriptFault.TheVariants.{Line, Read, Write}
+use Rattle.xs_server.specs.declared.script_fault.ScriptFault.TheVariants as script_fault
+use Rattle.xs_server.specs.Session.{Stands, Sent, PartSent, Sends, SendsAll, ServesNext, HasWriteCause, EndsBy, IsRead}
+use Rattle.xs_server.specs.declared.taken.LineFault.TheVariants.{Long}
+use Rattle.xs_server.specs.Taking.{FailsLine}
+use Rattle.xs_server.proofs.ScriptLines.{lines-begun, long-line, read-lines}
+use Rattle.std.specs.List.{list_any}
+
+-- how a step of the keyspace goes on with a history
+step-follows : (past : List (ℕ × Command)) (old new : Content) (now : ℕ) (command : Command) (answer : Reply) → IsContent old past → Step old now command answer new
+    → (next : List (ℕ × Command)) × IsContent new next × Follows past now command answer next
+step-follows past old new now command answer is (inl applied) =
+    ((now, command) ∷ past, subst (λ c. IsContent c ((now, command) ∷ past)) (sym applied.content_is) (content-step past old now command is), inl (old, is, applied.answer_is, refl))
+step-follows past old new now command answer is (inr (inl refused)) =
+    (past, subst (λ c. IsContent c past) (sym refused.content_is) is, inr (inl (refused.takes, refused.answer_is), refl))
+step-follows past old new now command answer is (inr (inr unserved)) =
+    (past, subst (λ c. IsContent c past) (sym unserved.content_is) is, inr (inr (unserved.unserved, unserved.answer_is), refl))
+
+said-follows : (past : List (ℕ × Command)) (old new : Content) (now : ℕ) (read : Result Command Fault) (answer : Reply) → IsContent old past
+    → MatchResult read (λ command. Step old now command answer new) (λ fault. (answer ≡ Error fault) × (new ≡ old))
+    → (next : List (ℕ × Command)) × IsContent new next × MatchResult read (λ command. Follows past now command answer next) (λ fault. (answer ≡ Error fault) × (next ≡ past))
+said-follows past old new now (Ok command) answer is step = step-follows past old new now command answer is step
+said-follows past old new now (Err fault) answer is same = (past, subst (λ c. IsContent c past) (sym same.1) is, (same.0, refl))
+
+pub serves-answered : (past : List (ℕ × Command)) (old new : Content) (now : ℕ) (words : List (List ℕ)) (answer : Reply) → IsContent old past → Serves old now words answer new
+    → (next : List (ℕ × Command)) × IsContent new next × Answered past now words answer next
+serves-answered past old new now words answer is (inl said) =
+    let next = said-follows past old new now (reads words) answer is said in
+    (next.0, next.1, inl next.2)
+serves-answered past old new now words answer is (inr refused) = (past, subst (λ c. IsContent c past) (sym refused.1) is, inr (refused.0, refl))
+
+-- one line more
+pub script-more : (past : List (ℕ × Command)) (lines : List (List ℕ)) (line : List ℕ) (out : List ℕ) (mid next : List (ℕ × Command)) (answer : Reply)
+    → Script past lines out mid → IsSomeAnd (line_of line) (λ request. Answered mid request.0 request.1 answer next) → Script past (lines ++ line ∷ []) (out ++ text answer) next
+script-more past [] line out mid next answer so_far answered =
+    (answer, next, [], subst (λ p. IsSomeAnd (line_of line) (λ request. Answered p request.0 request.1 answer next)) so_far.1 answered,
+      ap (λ o. o ++ text answer) so_far.0 ∙ sym (append-nil (text answer)), (refl, refl))
+script-more past (first ∷ lines) line out mid next answer (reply, then, more, said, is, rest) answered =
+    (reply, then, more ++ text answer, said, ap (λ o. o ++ text answer) is ∙ append_assoc (text reply) more (text answer), script-more then lines line more mid next answer rest answered)
+
+line-answered : (past : List (ℕ × Command)) (old new : Content) (read : Option (ℕ × List (List ℕ))) (answer : Reply) → IsContent old past
+    → IsSomeAnd read (λ request. Serves old request.0 request.1 answer new)
+    → (next : List (ℕ × Command)) × IsContent new next × IsSomeAnd read (λ request. Answered past request.0 request.1 answer next)
+line-answered past old new (Some request) answer is serves = serves-answered past old new request.0 request.1 answer is serves
+line-answered past old new None answer is serves = absurd serves
+
+-- a served line
+pub served-line : (lines : List (List ℕ)) (line out : List ℕ) (past : List (ℕ × Command)) (old new : Content) (answer : Reply) → IsContent old past
+    → Script [] lines out past → IsSomeAnd (line_of line) (λ request. Serves old request.0 request.1 answer new)
+    → (next : List (ℕ × Command)) × Script [] (lines ++ line ∷ []) (out ++ text answer) next × IsContent new next
+served-line lines line out past old new answer is so_far serves =
+    let next = line-answered past old new (line_of line) answer is serves in
+    (next.0, script-more [] lines line out past next.0 answer so_far next.2, next.1)
+
+-- ---- counts
+
+pub capped-more : (n : ℕ) (lines : List (List ℕ)) (line : List ℕ) → n ≡ capped (length lines) → capped (n + 1) ≡ capped (length (lines ++ line ∷ []))
+capped-more n lines line e = let len = length-append lines (line ∷ []) in omega arith
+
+pub capped-sent : (n m : ℕ) (sent part : List ℕ) → n ≡ capped (length sent) → m ≡ capped (n + length part) → m ≡ capped (length (sent ++ part))
+capped-sent n m sent part e f = let len = length-append sent part in omega arith
+
+-- ---- replies that are sent
+
+pub sent-after : (lines : List (List ℕ)) (sent part rest out : List ℕ) (n m : ℕ) (past : List (ℕ × Command)) → Script [] lines (sent ++ out) past
+    → n ≡ capped (length sent) → m ≡ capped (n + length part) → out ≡ part ++ rest → rest ≡ [] → Sent lines (sent ++ part) m
+sent-after lines sent part rest out n m past script counted more is none =
+    (past, subst (λ o. Script [] lines (sent ++ o) past) (is ∙ ap (λ r. part ++ r) none ∙ append-nil part) script, capped-sent n m sent part counted more)
+
+pub part-after : (lines : List (List ℕ)) (sent part rest out : List ℕ) (n m : ℕ) (past : List (ℕ × Command)) → Script [] lines (sent ++ out) past
+    → n ≡ capped (length sent) → m ≡ capped (n + length part) → out ≡ part ++ rest → PartSent lines (sent ++ part) m
+part-after lines sent part rest out n m past script counted more is =
+    (sent ++ out, rest, past, script, ap (λ o. sent ++ o) is ∙ sym (append_assoc sent part rest), capped-sent n m sent part counted more)
+
+pub capped-next : (n m : ℕ) (lines : List (List ℕ)) → n ≡ capped (length lines) → m ≡ capped (n + 1) → m ≡ capped (length lines + 1)
+capped-next n m lines e f = omega arith
+
+-- a writer that fails ends the script
+pub failed-send : (fault : ScriptFault) (lines : List (List ℕ)) (line sent part rest out : List ℕ) (n m : ℕ) (past : List (ℕ × Command)) (session : Session) (broken : Bool)
+    → Script [] lines (sent ++ out) past → n ≡ capped (length sent) → m ≡ capped (n + length part) → out ≡ part ++ rest → SendsAll (Err fault) rest m broken
+    → ServesNext (Err fault) lines line (sent ++ part) session broken
+failed-send (Write told) lines line sent part rest out n m past session broken script counted more is all =
+    (inl (part-after lines sent part rest out n told past script counted (all.0 ∙ more) is), all.1)
+failed-send (Line number written) lines line sent part rest out n m past session broken script counted more is all = absurd all
+failed-send (Read written) lines line sent part rest out n m past session broken script counted more is all = absurd all
+failed-send (script_fault.Memory written) lines line sent part rest out n m past session broken script counted more is all = absurd all
+
+-- what is sent changes the session no further
+pub stands-after : (lines : List (List ℕ)) (sent part rest : List ℕ) (old new : Session) → Stands lines sent old → new ≡ record old { out = new.out; written = new.written }
+    → old.out.items ≡ part ++ rest → rest ≡ [] → new.out.items ≡ [] → new.written ≡ capped (old.written + length part) → Stands lines (sent ++ part) new
+stands-after lines sent part rest old new stands same is none empty counted =
+    let out = ap (λ o. sent ++ o) (is ∙ ap (λ r. part ++ r) none ∙ append-nil part) ∙ sym (append-nil (sent ++ part)) ∙ ap (λ o. (sent ++ part) ++ o) (sym empty) in
+    (stands.0, subst (λ o. Script [] lines o stands.0) out stands.1, subst (λ k. IsContent k stands.0) (sym (ap (λ s. s.keyspace) same)) stands.2,
+      ap (λ s. s.number) same ∙ stands.3, capped-sent old.written new.written sent part stands.4 counted)
+
+-- a line was served, and then the replies were sent
+pub served-sent : (result : Result (Unit {0}) ScriptFault) (lines : List (List ℕ)) (line sent part : List ℕ) (old new : Session) (broken : Bool) → Stands (lines ++ line ∷ []) sent old
+    → new ≡ record old { out = new.out; written = new.written } → Sends result old new part broken → ServesNext result lines line (sent ++ part) new broken
+served-sent (Ok done) lines line sent part old new broken stands same sends = stands-after (lines ++ line ∷ []) sent part sends.0 old new stands same sends.1 sends.4 sends.2 sends.3
+served-sent (Err (Write told)) lines line sent part old new broken stands same sends =
+    (inr (part-after (lines ++ line ∷ []) sent part sends.0 old.out.items old.written told stands.0 stands.1 stands.4 (sends.4.0 ∙ sends.3) sends.1), sends.4.1)
+served-sent (Err (Line number written)) lines line sent part old new broken stands same sends = absurd sends.4
+served-sent (Err (Read written)) lines line sent part old new broken stands same sends = absurd sends.4
+served-sent (Err (script_fault.Memory written)) lines line sent part old new broken stands same sends = absurd sends.4
+
+pub send-cause : (A : Type 0) (fault : ScriptFault) (rest : List ℕ) (m : ℕ) (broken : Bool) → SendsAll (Err fault) rest m broken → HasWriteCause {A = A} (Err fault) broken
+send-cause A (Write told) rest m broken all = all.1
+send-cause A (Line number written) rest m broken all = tt
+send-cause A (Read written) rest m broken all = absurd all
+send-cause A (script_fault.Memory written) rest m broken all = tt
+
+-- ---- how a script ends
+
+pub fault-ends : (fault : ScriptFault) (lines : List (List ℕ)) (line : List ℕ) (behind : List (List ℕ)) (read sent : List ℕ) (session : Session) (broken : Bool)
+    → script_lines read ≡ lines ++ line ∷ behind → ServesNext (Err fault) lines line sent session broken → EndsBy fault read sent
+fault-ends (Line number written) lines line behind read sent session broken e next = (lines, line, behind, e, next.0, next.1, next.2)
+fault-ends (Read written) lines line behind read sent session broken e next = absurd next
+fault-ends (Write written) lines line behind read sent session broken e (inl part, cause) = (lines, line ∷ behind, e, part)
+fault-ends (Write written) lines line behind read sent session broken e (inr part, cause) = (lines ++ line ∷ [], behind, e ∙ sym (append_assoc lines (line ∷ []) behind), part)
+fault-ends (script_fault.Memory written) lines line behind read sent session broken e next = (lines, line ∷ behind, e, next)
+
+-- all lines are answered, and nothing is held
+pub all-sent : (lines : List (List ℕ)) (read sent : List ℕ) (session : Session) → Stands lines sent session → session.out.items ≡ [] → script_lines read ≡ lines → Sent (script_lines read) sent session.written
+all-sent lines read sent session stands empty e =
+    (stands.0, subst (λ ls. Script [] ls sent stands.0) (sym e) (subst (λ o. Script [] lines o stands.0) (ap (λ o. sent ++ o) empty ∙ append-nil sent) stands.1), stands.4)
+
+-- the line in hand is too long
+long-ends : (line more : List ℕ) (lines : List (List ℕ)) (read : List ℕ) (sent : List ℕ) (number written : ℕ) → list_any is_line_end line ≡ false → line_limit < length line
+    → script_lines read ≡ lines ++ script_lines (line ++ more) → number ≡ capped (length lines + 1) → Sent lines sent written → EndsBy (Line number written) read sent
+long-ends [] more lines read sent number written none long e counted all = absurd (omega arith)
+long-ends (b ∷ line) more lines read sent number written none long e counted all =
+    let begun = lines-begun b line more none in
+    (lines, begun.0, begun.1, e ∙ ap (λ ls. lines ++ ls) begun.2, long-line begun.0 (omega (arith, begun.3)), counted, all)
+
+pub gives-up-long : (lines : List (List ℕ)) (read sent unused : List ℕ) (number written : ℕ) → IsRead read lines unused → FailsLine Long unused
+    → number ≡ capped (length lines + 1) → Sent lines sent written → EndsBy (Line number written) read sent
+gives-up-long lines read sent unused number written is (line, more, split, none, long) counted all =
+    long-ends line more lines read sent number written none long (read-lines read lines unused is ∙ ap (λ u. lines ++ script_lines u) split) counted all
+
+-- a writer that fails while the line in hand can't be taken
+pub gives-up-write : (fault : ScriptFault) (lines : List (List ℕ)) (read sent part rest out unused : List ℕ) (n m : ℕ) (past : List (ℕ × Command)) (broken : Bool)
+    → Script [] lines (sent ++ out) past → n ≡ capped (length sent) → m ≡ capped (n + length part) → out ≡ part ++ rest → SendsAll (Err fault) rest m broken
+    → IsRead read lines unused → EndsBy fault read (sent ++ part)
+gives-up-write (Write told) lines read sent part rest out unused n m past broken script counted more is all read_is =
+    (lines, script_lines unused, read-lines read lines unused read_is, part-after lines sent part rest out n told past script counted (all.0 ∙ more) is)
+gives-up-write (Line number written) lines read sent part rest out unused n m past broken script counted more is all read_is = absurd all
+gives-up-write (Read written) lines read sent part rest out unused n m past broken script counted more is all read_is = absurd all
+gives-up-write (script_fault.Memory written) lines read sent part rest out unused n m past broken script counted more is all read_is = absurd all

@@ -1,0 +1,42 @@
+-- What a script writes: the replies to its lines, in order.
+use Rattle.std.specs.Prelude.{◌≡◌, ℕ, ◌+◌, ◌<◌, true, false, ◌⊎◌, List, [], ◌∷◌, ◌++◌, length, Some, None, MatchResult, IsSomeAnd}
+use Rattle.std.specs.List.{flat_map, list_any}
+use Rattle.xs_resp.specs.declared.fault.Fault.TheVariants.{Memory, Unsupported}
+use Rattle.xs_resp.specs.declared.reply.Reply.{Reply}
+use Rattle.xs_resp.specs.declared.reply.Reply.TheVariants.{Error}
+use Rattle.xs_resp.specs.ReplyText.{text}
+use Rattle.xs_command.specs.declared.command.Command.{Command}
+use Rattle.xs_command.specs.Read.{reads}
+use Rattle.xs_keys.specs.Content.{Content, IsContent}
+use Rattle.xs_keys.specs.Reply.{reply}
+use Rattle.xs_keys.specs.Step.{Step, is_served, takes_memory}
+use Rattle.xs_server.specs.Line.{is_line_end, script_lines, line_of}
+
+-- the answer to a command over a history, and the history that follows: the model's reply, and the event is
+-- added; or memory ran out, or the command isn't served yet, and it isn't
+abbrev pub Follows : List (ℕ × Command) → ℕ → Command → Reply → List (ℕ × Command) → Type 0
+Follows past now command answer next =
+    ((content : Content) × IsContent content past × (answer ≡ reply content now command) × (next ≡ (now, command) ∷ past))
+    ⊎ ((((takes_memory command ≡ true) × (answer ≡ Error Memory)) ⊎ ((is_served command ≡ false) × (answer ≡ Error Unsupported))) × (next ≡ past))
+
+-- the answer to the words of a request: that of their command, or their first fault; or memory ran out
+abbrev pub Answered : List (ℕ × Command) → ℕ → List (List ℕ) → Reply → List (ℕ × Command) → Type 0
+Answered past now words answer next =
+    MatchResult (reads words) (λ command. Follows past now command answer next) (λ fault. (answer ≡ Error fault) × (next ≡ past))
+    ⊎ ((answer ≡ Error Memory) × (next ≡ past))
+
+-- over a history, these script lines may be answered by this text, and leave that history
+abbrev pub Script : List (ℕ × Command) → List (List ℕ) → List ℕ → List (ℕ × Command) → Type 0
+Script past [] out last = (out ≡ []) × (last ≡ past)
+Script past (line ∷ lines) out last =
+    (answer : Reply) × (next : List (ℕ × Command)) × (more : List ℕ)
+    × IsSomeAnd (line_of line) (λ request. Answered past request.0 request.1 answer next) × (out ≡ text answer ++ more) × Script next lines more last
+
+-- a line with its end
+abbrev pub with_end : List ℕ → List ℕ
+with_end line = line ++ 10 ∷ []
+
+-- no line holds a line end
+abbrev pub AreLines : List (List ℕ) → Type 0
+AreLines [] = Unit {0}
+AreLines (line ∷ lines) = (list_any is_line_end line ≡ false) × AreLines lines

@@ -1,7 +1,0 @@
-//! The server's way from bytes to bytes.
-#![tactic(auto)]
-
-mod chunk;
-pub mod device;
-mod lines;
-mod taken;

@@ -1,0 +1,44 @@
+//! A server of Redis Streams over RESP2. Its command `script` reads a script on standard input and writes the
+//! replies on standard output.
+#![tactic(auto)]
+
+mod chunk;
+mod command_line;
+mod device;
+mod lines;
+mod parts;
+mod report;
+mod run;
+mod script;
+mod script_fault;
+mod sending;
+mod serving;
+mod session;
+mod taken;
+
+use command_line::{Asked, read_words};
+use device::{FromRead, ToWrite};
+use report::{report_memory, report_script};
+use run::run_script;
+use std::process::ExitCode;
+
+fn main(rt: HostRuntime) -> ExitCode {
+    let mut errors = ToWrite::new(rt.stderr());
+    let asked = match std::env::args(&rt) {
+        Ok(words) => read_words(&rt, words),
+        Err(_) => Asked::Memory,
+    };
+    let status = match asked {
+        Asked::Script => {
+            let mut reader = FromRead::new(rt.stdin());
+            let mut writer = ToWrite::new(rt.stdout());
+            match run_script(rt.alloc(), &mut reader, &mut writer) {
+                Ok(_) => 0,
+                Err(fault) => report_script(&mut errors, &fault),
+            }
+        }
+        Asked::Nothing => 2,
+        Asked::Memory => report_memory(&mut errors),
+    };
+    ExitCode::from(status)
+}

@@ -1,0 +1,158 @@
+//! Scripts: lines in, replies out.
+ghost use Rattle.std.specs.Prelude.{◌≡◌, ◌≢◌, ◌≤◌, ◌++◌, ◌∷◌, [], true, false, Ok, Err, IsErr, List, ℕ, length};
+ghost use Rattle.std.specs.Io.KnownBytes.{Appends};
+ghost use Rattle.xs_server.specs.Line.{line_limit, script_lines};
+ghost use Rattle.xs_server.specs.Taking.{FailsLine};
+ghost use Rattle.xs_server.specs.Session.{Stands, IsRead, Sends, ServesNext, Steps, HasWriteCause};
+
+use crate::device::Sink;
+use crate::script_fault::ScriptFault;
+use crate::sending::write_all;
+use crate::serving::{Unanswered, serve_line};
+use crate::session::Session;
+use crate::taken::LineFault;
+use std::alloc::Global;
+
+/// Sends the replies that are held. The session is otherwise as it was.
+fn send<W: Sink>(writer: &mut W, session: &mut Session) -> Result<(), ScriptFault>
+    ensures sends { (part : List ℕ) × Appends (W.held writer.old) (W.held writer.new) part × Sends result session.old session.new part (W.broken writer.new) }
+    ensures same { session.new ≡ record session.old { out = session.new.out; written = session.new.written } }
+{
+    let sent = write_all(writer, session.out.as_slice());
+    session.out.clear();
+    match sent {
+        Ok(count) => {
+            session.written = session.written.saturating_add(count as u64);
+            Ok(())
+        }
+        Err(count) => {
+            session.written = session.written.saturating_add(count as u64);
+            Err(ScriptFault::Write {
+                written: session.written,
+            })
+        }
+    }
+}
+
+/// Serves the line in hand. Where it isn't answered, the replies before it are sent.
+fn serve<W: Sink>(alloc: Global, writer: &mut W, session: &mut Session) -> Result<(), ScriptFault>
+    requires { length session.old.line.items ≤ line_limit }
+    ensures serves { (lines : List (List ℕ)) (sent : List ℕ) → Stands lines sent session.old →
+        (more : List ℕ) × Appends (W.held writer.old) (W.held writer.new) more
+        × ServesNext result lines session.old.line.items (sent ++ more) session.new (W.broken writer.new) }
+    ensures cause { HasWriteCause result (W.broken writer.new) }
+    ensures chunk { session.new.chunk ≡ session.old.chunk }
+    ensures left { session.new.left ≡ session.old.left }
+{
+    let line = session.line.as_slice();
+    let served = serve_line(alloc, &mut session.keyspace, line, &mut session.out);
+    let Err(unanswered) = served else {
+        session.number = session.number.saturating_add(1);
+        return Ok(());
+    };
+    match send(writer, session) {
+        Ok(()) => {}
+        Err(fault) => return Err(fault),
+    }
+    let written = session.written;
+    match unanswered {
+        Unanswered::NoLine => Err(ScriptFault::Line {
+            number: session.number.saturating_add(1),
+            written,
+        }),
+        Unanswered::Memory => Err(ScriptFault::Memory { written }),
+    }
+}
+
+/// Replies are sent on once there are so many bytes of them.
+const ENOUGH: usize = 65_536;
+
+/// Serves the line in hand, and sends the replies that are held where there are enough of them.
+fn serve_taken<W: Sink>(alloc: Global, writer: &mut W, session: &mut Session, enough: usize) -> Result<(), ScriptFault>
+    requires { length session.old.line.items ≤ line_limit }
+    ensures serves { (lines : List (List ℕ)) (sent : List ℕ) → Stands lines sent session.old →
+        (more : List ℕ) × Appends (W.held writer.old) (W.held writer.new) more
+        × ServesNext result lines session.old.line.items (sent ++ more) session.new (W.broken writer.new) }
+    ensures chunk { session.new.chunk ≡ session.old.chunk }
+    ensures left { session.new.left ≡ session.old.left }
+    ensures cause { HasWriteCause result (W.broken writer.new) }
+    ensures all { enough ≡ 0 → result ≡ Ok tt → session.new.out.items ≡ [] }
+{
+    match serve(alloc, writer, session) {
+        Ok(()) => {}
+        Err(fault) => return Err(fault),
+    }
+    if session.out.len() < enough {
+        return Ok(());
+    }
+    send(writer, session)
+}
+
+/// Serves the line in hand, which isn't the last one.
+pub fn serve_more<W: Sink>(alloc: Global, writer: &mut W, session: &mut Session) -> Result<bool, ScriptFault>
+    requires { length session.old.line.items ≤ line_limit }
+    ensures steps { (lines : List (List ℕ)) (read sent left : List ℕ) → Stands lines sent session.old → IsRead read (lines ++ session.old.line.items ∷ []) left → session.old.chunk ≡ left →
+        (more : List ℕ) × Appends (W.held writer.old) (W.held writer.new) more × Steps result lines read (sent ++ more) session.new }
+    ensures going { result ≢ Ok false }
+    ensures cause { HasWriteCause result (W.broken writer.new) }
+    ensures chunk { session.new.chunk ≡ session.old.chunk }
+    ensures left { session.new.left ≡ session.old.left }
+{
+    match serve_taken(alloc, writer, session, ENOUGH) {
+        Ok(()) => Ok(true),
+        Err(fault) => Err(fault),
+    }
+}
+
+/// Serves the line in hand, which is the last one, and sends what is held.
+pub fn serve_last<W: Sink>(alloc: Global, writer: &mut W, session: &mut Session) -> Result<bool, ScriptFault>
+    requires { length session.old.line.items ≤ line_limit }
+    ensures steps { (lines : List (List ℕ)) (read sent : List ℕ) → Stands lines sent session.old → script_lines read ≡ lines ++ session.old.line.items ∷ [] →
+        (more : List ℕ) × Appends (W.held writer.old) (W.held writer.new) more × Steps result lines read (sent ++ more) session.new }
+    ensures last { result ≢ Ok true }
+    ensures cause { HasWriteCause result (W.broken writer.new) }
+    ensures left { session.new.left ≡ session.old.left }
+{
+    match serve_taken(alloc, writer, session, 0) {
+        Ok(()) => Ok(false),
+        Err(fault) => Err(fault),
+    }
+}
+
+/// Sends what is held at the end of the input.
+pub fn finish<W: Sink>(writer: &mut W, session: &mut Session) -> Result<bool, ScriptFault>
+    ensures steps { (lines : List (List ℕ)) (read sent : List ℕ) → Stands lines sent session.old → script_lines read ≡ lines →
+        (more : List ℕ) × Appends (W.held writer.old) (W.held writer.new) more × Steps result lines read (sent ++ more) session.new }
+    ensures last { result ≢ Ok true }
+    ensures cause { HasWriteCause result (W.broken writer.new) }
+    ensures left { session.new.left ≡ session.old.left }
+{
+    match send(writer, session) {
+        Ok(()) => Ok(false),
+        Err(fault) => Err(fault),
+    }
+}
+
+/// Sends what is held, where the line in hand can't be taken.
+pub fn give_up<W: Sink>(writer: &mut W, session: &mut Session, fault: LineFault) -> Result<bool, ScriptFault>
+    ensures steps { (lines : List (List ℕ)) (read sent unused : List ℕ) → Stands lines sent session.old → IsRead read lines unused → FailsLine fault unused →
+        (more : List ℕ) × Appends (W.held writer.old) (W.held writer.new) more × Steps result lines read (sent ++ more) session.new }
+    ensures last { IsErr result }
+    ensures write { (written : ℕ) → result ≡ Err (ScriptFault.Write written) → W.broken writer.new ≡ true }
+    ensures read { (written : ℕ) → result ≡ Err (ScriptFault.Read written) → fault ≡ LineFault.Read }
+    ensures left { session.new.left ≡ session.old.left }
+{
+    match send(writer, session) {
+        Ok(()) => {}
+        Err(fault) => return Err(fault),
+    }
+    let written = session.written;
+    match fault {
+        LineFault::Long => Err(ScriptFault::Line {
+            number: session.number.saturating_add(1),
+            written,
+        }),
+        LineFault::Read => Err(ScriptFault::Read { written }),
+        LineFault::Memory => Err(ScriptFault::Memory { written }),
+    }
+}
