@@ -4,6 +4,5 @@
 pub mod bytes;
 pub mod decimal;
 
-
 pub use bytes::Bytes;
 pub use decimal::{natural, number, push_decimal};

@@ -3,4 +3,3 @@ pub mod Contents
 pub mod Maps
 pub mod Runs
 pub mod Streams
-

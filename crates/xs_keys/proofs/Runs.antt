@@ -23,9 +23,11 @@ runs-none old events = λ past is. (past, is, λ answers last done. done)
 -- how a step goes on with a history
 one_more : (mid : List (ℕ × Command)) (e : ℕ × Command) (reply : Reply) (now next : Content) → IsContent now mid → Step now e.0 e.1 reply next
     → (more : List (ℕ × Command)) × IsContent next more × ((rest : List (ℕ × Command)) (answers : List Reply) (last : List (ℕ × Command)) → Answers more rest answers last → Answers mid (e ∷ rest) (reply ∷ answers) last)
-one_more mid e reply now next is (inl applied) =
-    (e ∷ mid, subst (λ c. IsContent c (e ∷ mid)) (sym applied.content_is) (content-step mid now e.0 e.1 is),
-      λ rest answers last done. inl (now, is, applied.answer_is, done))
+one_more mid e reply now next is (inl applied) = (
+  e ∷ mid,
+  subst (λ c. IsContent c (e ∷ mid)) (sym applied.content_is) (content-step mid now e.0 e.1 is),
+  λ rest answers last done. inl (now, is, applied.answer_is, done),
+)
 one_more mid e reply now next is (inr (inl refused)) =
     (mid, subst (λ c. IsContent c mid) (sym refused.content_is) is, λ rest answers last done. inr (inl (refused.takes, refused.answer_is), done))
 one_more mid e reply now next is (inr (inr unserved)) =

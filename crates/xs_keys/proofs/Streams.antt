@@ -127,17 +127,20 @@ live-step change past =
     ∙ ap (λ rest. filter kept (live past) ++ rest) (gives-stands change (top past) d (stands past))
     ∙ sym (filter-append kept (live past) new)
   where
-  new : List (Id × List Field)
-  new = gives change (top past)
-  d : Id → Bool
-  d = drops change (top past) (ids_of (live past ++ gives change (top past)))
-  kept : Id × List Field → Bool
-  kept = λ e. not (drops change (top past) (ids_of (live past ++ gives change (top past))) e.0)
-  old_ones : filter (λ e. stands (change ∷ past) e.0) (given_in past) ≡ filter kept (live past)
-  old_ones =
-      filter-up_to (top past) (stands (change ∷ past)) (λ x. stands past x && not (d x)) (λ x up. rw (gives-not_new change (top past) x up) (both_pass (d x) (stands past x)))
+    new : List (Id × List Field)
+    new = gives change (top past)
+
+    d : Id → Bool
+    d = drops change (top past) (ids_of (live past ++ gives change (top past)))
+
+    kept : Id × List Field → Bool
+    kept = λ e. not (drops change (top past) (ids_of (live past ++ gives change (top past))) e.0)
+
+    old_ones : filter (λ e. stands (change ∷ past) e.0) (given_in past) ≡ filter kept (live past)
+    old_ones =
+        filter-up_to (top past) (stands (change ∷ past)) (λ x. stands past x && not (d x)) (λ x up. rw (gives-not_new change (top past) x up) (both_pass (d x) (stands past x)))
         (given_in past) (up_to-top past)
-      ∙ sym (filter-filter (λ (e : Id × List Field). stands past e.0) kept (λ e. stands past e.0 && not (d e.0)) (λ e. refl) (given_in past))
+        ∙ sym (filter-filter (λ (e : Id × List Field). stands past e.0) kept (λ e. stands past e.0 && not (d e.0)) (λ e. refl) (given_in past))
 
 filter-all : (es : List (Id × List Field)) → filter (λ e. true) es ≡ es
 filter-all [] = refl

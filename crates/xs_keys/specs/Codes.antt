@@ -17,7 +17,7 @@ coded_field =
 abbrev pub coded_kept : Coded Kept
 coded_kept =
     code_by (Id × List (Id × List Field)) (coded× coded_id (coded_list (coded× coded_id (coded_list coded_field))))
-      (λ k. (k.top, k.entries)) (λ p. record { top = p.0; entries = p.1 }) (λ _. refl)
+    (λ k. (k.top, k.entries)) (λ p. record { top = p.0; entries = p.1 }) (λ _. refl)
 
 abbrev pub coded_key : Coded Key
 coded_key = code_by Kept coded_kept (λ k. k.stream) (λ s. record { stream = s }) (λ _. refl)

@@ -22,7 +22,12 @@ use xs_stream::{AddError, Moment, Stream};
 
 /// Adds an entry to a stream and trims it then. The text of the id is made first, so that a refusal of
 /// memory leaves the stream as it was.
-fn try_add(alloc: Global, stream: &mut Stream, now: Moment, add: &AddCommand) -> Result<Bytes, AddError>
+fn try_add(
+    alloc: Global,
+    stream: &mut Stream,
+    now: Moment,
+    add: &AddCommand,
+) -> Result<Bytes, AddError>
     ensures ok { IfOk result (λ text. (text_of (assigned now stream.old.top add.now.id) ≡ Some text)
         × (stream.new ≡ stream_after (added now add.now.id add.now.fields add.now.trim) stream.old)) }
     ensures small { IsErrOf result AddError.Small → assigned now stream.old.top add.now.id ≡ Err AddError.Small }

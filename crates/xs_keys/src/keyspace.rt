@@ -5,10 +5,8 @@ ghost use Rattle.xs_command.specs.WellFormed.{IsAddId, IsWellFormed};
 ghost use Rattle.xs_keys.specs.Step.{Step};
 ghost use Rattle.xs_keys.specs.Run.{RunsOn};
 
-use crate::adding;
-use crate::changing;
 use crate::changing::Keys;
-use crate::showing;
+use crate::{adding, changing, showing};
 use std::alloc::{AllocError, Global};
 use std::collections::BTreeMap;
 use std::marker::Model;

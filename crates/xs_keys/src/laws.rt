@@ -17,12 +17,10 @@ pub fn step_law()
     ensures unique { (past : List (ℕ × Command)) (one other : Content) → IsContent one past → IsContent other past → one ≡ other }
     ensures lawful { (past : List (ℕ × Command)) (name : List ℕ) (changes : List Change) → key_life past name ≡ Some changes →
         Ascends (ids_of (live changes)) × AllUpTo (top changes) (ids_of (live changes)) }
-{
-}
+{}
 
 /// The ids given in the life of a key ascend, in any history.
 pub fn ids_ascend()
     ensures { (past : List (ℕ × Command)) (name : List ℕ) (changes : List Change) → key_life past name ≡ Some changes →
         Ascends (ids_of (given_in changes)) }
-{
-}
+{}

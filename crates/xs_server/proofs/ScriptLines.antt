@@ -74,10 +74,11 @@ are-more (first ∷ lines) line are h = (are.0, are-more lines line are.1 h)
 -- one line more is used
 pub read-line : (read : List ℕ) (lines : List (List ℕ)) (unused line left : List ℕ) → IsRead read lines unused → unused ≡ line ++ 10 ∷ left → list_any is_line_end line ≡ false
     → IsRead read (lines ++ line ∷ []) left
-read-line read lines unused line left is split h =
-    (is.0 ∙ ap (λ u. flat_map with_end lines ++ u) split ∙ ap (λ u. flat_map with_end lines ++ u) (sym (append_assoc line (10 ∷ []) left))
+read-line read lines unused line left is split h = (
+  is.0 ∙ ap (λ u. flat_map with_end lines ++ u) split ∙ ap (λ u. flat_map with_end lines ++ u) (sym (append_assoc line (10 ∷ []) left))
       ∙ sym (append_assoc (flat_map with_end lines) (with_end line) left) ∙ ap (λ f. f ++ left) (sym (flat-more lines line)),
-      are-more lines line is.1 h)
+  are-more lines line is.1 h,
+)
 
 -- a line past the limit is no script line
 pub long-line : (line : List ℕ) → line_limit < length line → line_of line ≡ None

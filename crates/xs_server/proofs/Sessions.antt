@@ -51,9 +51,14 @@ serves-answered past old new now words answer is (inr refused) = (past, subst (�
 -- one line more
 pub script-more : (past : List (ℕ × Command)) (lines : List (List ℕ)) (line : List ℕ) (out : List ℕ) (mid next : List (ℕ × Command)) (answer : Reply)
     → Script past lines out mid → IsSomeAnd (line_of line) (λ request. Answered mid request.0 request.1 answer next) → Script past (lines ++ line ∷ []) (out ++ text answer) next
-script-more past [] line out mid next answer so_far answered =
-    (answer, next, [], subst (λ p. IsSomeAnd (line_of line) (λ request. Answered p request.0 request.1 answer next)) so_far.1 answered,
-      ap (λ o. o ++ text answer) so_far.0 ∙ sym (append-nil (text answer)), (refl, refl))
+script-more past [] line out mid next answer so_far answered = (
+  answer,
+  next,
+  [],
+  subst (λ p. IsSomeAnd (line_of line) (λ request. Answered p request.0 request.1 answer next)) so_far.1 answered,
+  ap (λ o. o ++ text answer) so_far.0 ∙ sym (append-nil (text answer)),
+  (refl, refl),
+)
 script-more past (first ∷ lines) line out mid next answer (reply, then, more, said, is, rest) answered =
     (reply, then, more ++ text answer, said, ap (λ o. o ++ text answer) is ∙ append_assoc (text reply) more (text answer), script-more then lines line more mid next answer rest answered)
 
@@ -108,9 +113,13 @@ failed-send (script_fault.Memory written) lines line sent part rest out n m past
 pub stands-after : (lines : List (List ℕ)) (sent part rest : List ℕ) (old new : Session) → Stands lines sent old → new ≡ record old { out = new.out; written = new.written }
     → old.out.items ≡ part ++ rest → rest ≡ [] → new.out.items ≡ [] → new.written ≡ capped (old.written + length part) → Stands lines (sent ++ part) new
 stands-after lines sent part rest old new stands same is none empty counted =
-    let out = ap (λ o. sent ++ o) (is ∙ ap (λ r. part ++ r) none ∙ append-nil part) ∙ sym (append-nil (sent ++ part)) ∙ ap (λ o. (sent ++ part) ++ o) (sym empty) in
-    (stands.0, subst (λ o. Script [] lines o stands.0) out stands.1, subst (λ k. IsContent k stands.0) (sym (ap (λ s. s.keyspace) same)) stands.2,
-      ap (λ s. s.number) same ∙ stands.3, capped-sent old.written new.written sent part stands.4 counted)
+    let out = ap (λ o. sent ++ o) (is ∙ ap (λ r. part ++ r) none ∙ append-nil part) ∙ sym (append-nil (sent ++ part)) ∙ ap (λ o. (sent ++ part) ++ o) (sym empty) in (
+      stands.0,
+      subst (λ o. Script [] lines o stands.0) out stands.1,
+      subst (λ k. IsContent k stands.0) (sym (ap (λ s. s.keyspace) same)) stands.2,
+      ap (λ s. s.number) same ∙ stands.3,
+      capped-sent old.written new.written sent part stands.4 counted,
+    )
 
 -- a line was served, and then the replies were sent
 pub served-sent : (result : Result (Unit {0}) ScriptFault) (lines : List (List ℕ)) (line sent part : List ℕ) (old new : Session) (broken : Bool) → Stands (lines ++ line ∷ []) sent old

@@ -1,6 +1,6 @@
 //! The program's command line.
-use clap::error::{Error, ErrorKind};
 use clap::Command;
+use clap::error::{Error, ErrorKind};
 use std::alloc::{AllocError, Global};
 use std::env::Args;
 use std::io::Eprint;
@@ -18,8 +18,9 @@ pub enum Asked {
 
 /// What a parse says: nothing at all means that the words are a command of the program.
 fn parse(alloc: Global, words: &[String]) -> Result<(), Error> {
-    let script = Command::new(alloc, "script")
-        .about("Reads a script on standard input and writes the replies on standard output");
+    let script = Command::new(alloc, "script").about(
+        "Reads a script on standard input and writes the replies on standard output",
+    );
     let program = Command::new(alloc, "xs_server")
         .about("A server of Redis Streams")
         .subcommand_required(true)

@@ -45,7 +45,12 @@ fn take_part(chunk: &mut Chunk, line: &mut Vec<u8>) -> Result<bool, AllocError>
 
 /// Takes the next line from the chunk and the reader, which may be asked `left` times more. The line is
 /// that of the buffer where `Line` or `Last` is answered.
-pub fn take_line<R: Source>(reader: &mut R, left: &mut u64, chunk: &mut Chunk, line: &mut Vec<u8>) -> Result<Taken, LineFault>
+pub fn take_line<R: Source>(
+    reader: &mut R,
+    left: &mut u64,
+    chunk: &mut Chunk,
+    line: &mut Vec<u8>,
+) -> Result<Taken, LineFault>
     ensures bytes { (got : List ℕ) × Consumes (R.rest reader.old) (R.rest reader.new) got
         × MatchResult result (λ taken. TakesLine taken (chunk.old ++ got) line.new.items chunk.new) (λ fault. FailsLine fault (chunk.old ++ got)) }
     ensures end { IfOk result (λ taken. EndsInput taken (R.rest reader.new) (R.ended reader.new)) }

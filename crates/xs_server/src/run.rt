@@ -40,7 +40,12 @@ fn new_session(alloc: Global) -> Result<Session, AllocError>
 
 /// Takes and serves the next line. Answers whether there may be a further one; where there is none, all
 /// replies are sent.
-fn step<R: Source, W: Sink>(alloc: Global, reader: &mut R, writer: &mut W, session: &mut Session) -> Result<bool, ScriptFault>
+fn step<R: Source, W: Sink>(
+    alloc: Global,
+    reader: &mut R,
+    writer: &mut W,
+    session: &mut Session,
+) -> Result<bool, ScriptFault>
     ensures steps { (lines : List (List ℕ)) (read sent : List ℕ) → Stands lines sent session.old → IsRead read lines session.old.chunk →
         (got more : List ℕ) × Consumes (R.rest reader.old) (R.rest reader.new) got × Appends (W.held writer.old) (W.held writer.new) more
         × Steps result lines (read ++ got) (sent ++ more) session.new }
@@ -49,7 +54,12 @@ fn step<R: Source, W: Sink>(alloc: Global, reader: &mut R, writer: &mut W, sessi
     ensures counted { capped (R.calls reader.new + session.new.left) ≡ capped (R.calls reader.old + session.old.left) }
     ensures fuel { result ≡ Ok true → session.new.left * 65537 + length session.new.chunk < session.old.left * 65537 + length session.old.chunk }
 {
-    match take_line(reader, &mut session.left, &mut session.chunk, &mut session.line) {
+    match take_line(
+        reader,
+        &mut session.left,
+        &mut session.chunk,
+        &mut session.line,
+    ) {
         Ok(Taken::Line) => serve_more(alloc, writer, session),
         Ok(Taken::Last) => serve_last(alloc, writer, session),
         Ok(Taken::End) => finish(writer, session),
@@ -59,7 +69,11 @@ fn step<R: Source, W: Sink>(alloc: Global, reader: &mut R, writer: &mut W, sessi
 
 /// Runs a script: each line is a request at its moment, and its reply is written. The keyspace is empty at
 /// first. Answers how many bytes were written.
-pub fn run_script<R: Source, W: Sink>(alloc: Global, reader: &mut R, writer: &mut W) -> Result<u64, ScriptFault>
+pub fn run_script<R: Source, W: Sink>(
+    alloc: Global,
+    reader: &mut R,
+    writer: &mut W,
+) -> Result<u64, ScriptFault>
     ensures runs { (read sent : List ℕ) × Consumes (R.rest reader.old) (R.rest reader.new) read × Appends (W.held writer.old) (W.held writer.new) sent × Runs result read sent }
     ensures end { IfOk result (λ _. IsAtEnd (R.rest reader.new) × (R.ended reader.new ≡ true)) }
     ensures cause { RunsByCause result (R.broken reader.new) (W.broken writer.new) (R.calls reader.old) (R.calls reader.new) }

@@ -68,7 +68,12 @@ fn serve<W: Sink>(alloc: Global, writer: &mut W, session: &mut Session) -> Resul
 const ENOUGH: usize = 65_536;
 
 /// Serves the line in hand, and sends the replies that are held where there are enough of them.
-fn serve_taken<W: Sink>(alloc: Global, writer: &mut W, session: &mut Session, enough: usize) -> Result<(), ScriptFault>
+fn serve_taken<W: Sink>(
+    alloc: Global,
+    writer: &mut W,
+    session: &mut Session,
+    enough: usize,
+) -> Result<(), ScriptFault>
     requires { length session.old.line.items ≤ line_limit }
     ensures serves { (lines : List (List ℕ)) (sent : List ℕ) → Stands lines sent session.old →
         (more : List ℕ) × Appends (W.held writer.old) (W.held writer.new) more
@@ -89,7 +94,11 @@ fn serve_taken<W: Sink>(alloc: Global, writer: &mut W, session: &mut Session, en
 }
 
 /// Serves the line in hand, which isn't the last one.
-pub fn serve_more<W: Sink>(alloc: Global, writer: &mut W, session: &mut Session) -> Result<bool, ScriptFault>
+pub fn serve_more<W: Sink>(
+    alloc: Global,
+    writer: &mut W,
+    session: &mut Session,
+) -> Result<bool, ScriptFault>
     requires { length session.old.line.items ≤ line_limit }
     ensures steps { (lines : List (List ℕ)) (read sent left : List ℕ) → Stands lines sent session.old → IsRead read (lines ++ session.old.line.items ∷ []) left → session.old.chunk ≡ left →
         (more : List ℕ) × Appends (W.held writer.old) (W.held writer.new) more × Steps result lines read (sent ++ more) session.new }
@@ -105,7 +114,11 @@ pub fn serve_more<W: Sink>(alloc: Global, writer: &mut W, session: &mut Session)
 }
 
 /// Serves the line in hand, which is the last one, and sends what is held.
-pub fn serve_last<W: Sink>(alloc: Global, writer: &mut W, session: &mut Session) -> Result<bool, ScriptFault>
+pub fn serve_last<W: Sink>(
+    alloc: Global,
+    writer: &mut W,
+    session: &mut Session,
+) -> Result<bool, ScriptFault>
     requires { length session.old.line.items ≤ line_limit }
     ensures steps { (lines : List (List ℕ)) (read sent : List ℕ) → Stands lines sent session.old → script_lines read ≡ lines ++ session.old.line.items ∷ [] →
         (more : List ℕ) × Appends (W.held writer.old) (W.held writer.new) more × Steps result lines read (sent ++ more) session.new }
@@ -134,7 +147,11 @@ pub fn finish<W: Sink>(writer: &mut W, session: &mut Session) -> Result<bool, Sc
 }
 
 /// Sends what is held, where the line in hand can't be taken.
-pub fn give_up<W: Sink>(writer: &mut W, session: &mut Session, fault: LineFault) -> Result<bool, ScriptFault>
+pub fn give_up<W: Sink>(
+    writer: &mut W,
+    session: &mut Session,
+    fault: LineFault,
+) -> Result<bool, ScriptFault>
     ensures steps { (lines : List (List ℕ)) (read sent unused : List ℕ) → Stands lines sent session.old → IsRead read lines unused → FailsLine fault unused →
         (more : List ℕ) × Appends (W.held writer.old) (W.held writer.new) more × Steps result lines read (sent ++ more) session.new }
     ensures last { IsErr result }

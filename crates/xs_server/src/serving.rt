@@ -34,7 +34,12 @@ fn answer(alloc: Global, keyspace: &mut Keyspace, now: Moment, words: &[Vec<u8>]
 }
 
 /// Answers a script line, and appends the text of the reply. A line that isn't answered leaves `out` as it was.
-pub fn serve_line(alloc: Global, keyspace: &mut Keyspace, line: &[u8], out: &mut Vec<u8>) -> Result<(), Unanswered>
+pub fn serve_line(
+    alloc: Global,
+    keyspace: &mut Keyspace,
+    line: &[u8],
+    out: &mut Vec<u8>,
+) -> Result<(), Unanswered>
     requires { length line.now ≤ line_limit }
     ensures ok { IfOk result (λ _. (reply : Reply) × IsSomeAnd (line_of line.now) (λ request. Serves keyspace.old request.0 request.1 reply keyspace.new)
         × (out.new.items ≡ out.old.items ++ text reply)) }

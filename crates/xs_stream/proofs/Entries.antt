@@ -127,9 +127,9 @@ pub without-more : (ids : List Id) (id : Id) (es : List (Id × List Field)) → 
 without-more ids id es a =
     remove-filter id (without ids es) (ascends-filter (λ e. not (has_id ids e.0)) es a)
     ∙ filter-filter (λ (e : Id × List Field). not (has_id ids e.0)) (λ e. not (is_same id e.0)) (λ e. not (has_id (ids ++ id ∷ []) e.0))
-        (λ e. one_more e.0) es where
-  one_more : (x : Id) → not (has_id (ids ++ id ∷ []) x) ≡ (not (has_id ids x) && not (is_same id x))
-  one_more x = ap not (list_any-append (is_same x) ids (id ∷ [])) ∙ ap (λ b. not (has_id ids x || b)) (or-false (is_same x id) ∙ is_same-symm x id) ∙ or_not (has_id ids x) (is_same id x)
+    (λ e. one_more e.0) es where
+      one_more : (x : Id) → not (has_id (ids ++ id ∷ []) x) ≡ (not (has_id ids x) && not (is_same id x))
+      one_more x = ap not (list_any-append (is_same x) ids (id ∷ [])) ∙ ap (λ b. not (has_id ids x || b)) (or-false (is_same x id) ∙ is_same-symm x id) ∙ or_not (has_id ids x) (is_same id x)
 
 -- ---- a trim
 

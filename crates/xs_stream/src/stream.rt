@@ -125,7 +125,13 @@ impl Stream {
     }
 
     /// The ids of a range, from its low end up or from its high end down, at most `limit` of them.
-    pub fn range(&self, alloc: Global, range: Range, limit: Option<u64>, reversed: bool) -> Result<Ids, AllocError>
+    pub fn range(
+        &self,
+        alloc: Global,
+        range: Range,
+        limit: Option<u64>,
+        reversed: bool,
+    ) -> Result<Ids, AllocError>
         ensures { IfOk result (λ ids. ids ≡ limited limit (ids_within range reversed self.now.entries)) }
     {
         if range.high < range.low {
@@ -203,7 +209,12 @@ fn ids_up(alloc: Global, entries: &Entries, range: Range, most: u64) -> Result<V
 }
 
 /// The ids of a range that isn't empty, from its high end down, at most this many.
-fn ids_down(alloc: Global, entries: &Entries, range: Range, most: u64) -> Result<Vec<Id>, AllocError>
+fn ids_down(
+    alloc: Global,
+    entries: &Entries,
+    range: Range,
+    most: u64,
+) -> Result<Vec<Id>, AllocError>
     requires { is_below range.high range.low ≡ false }
     ensures { IfOk result (λ ids. ids.items ≡ take most (reverse (filter (is_within range) (ids_of entries.now.entries)))) }
 {

@@ -16,7 +16,11 @@ loop-name-preserved c =
     let removed = content-remove c.loop-name.keys c.remove.new.self name c.remove.ensures.updates in
     let done = rw next at c.loop-name.invariant in
     let there = ap is_some (get-content_of c.loop-name.keys name ∙ sym c.remove.ensures.value) ∙ sym c.is_some.ensures in
-    rw removed (done.0, elim c.if-is_some.branch [
-        then-is_some w ↦ let one = rw (there ∙ w.if-is_some.true) at done.1 in omega (arith, one, w.count-is)
-      | else-is_some w ↦ let none = rw (there ∙ w.if-is_some.false) at done.1 in omega (arith, none, w.count-is)
-    ], elim c.if-is_some.branch [ then-is_some w ↦ omega (arith, w.count-is) | else-is_some w ↦ omega (arith, w.count-is) ])
+    rw removed (
+      done.0,
+      elim c.if-is_some.branch [
+        | then-is_some w ↦ let one = rw (there ∙ w.if-is_some.true) at done.1 in omega (arith, one, w.count-is)
+        | else-is_some w ↦ let none = rw (there ∙ w.if-is_some.false) at done.1 in omega (arith, none, w.count-is)
+      ],
+      elim c.if-is_some.branch [ then-is_some w ↦ omega (arith, w.count-is) | else-is_some w ↦ omega (arith, w.count-is) ],
+    )

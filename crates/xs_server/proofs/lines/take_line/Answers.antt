@@ -21,9 +21,10 @@ parts-preserved g c =
     let filled = c.in-Ok-fill.ensures.bytes in
     let some : 0 < c.parts.left = omega arith in
     let joined : c.args.chunk.now ++ (got ++ new) ≡ c.take_part.new.line.items ++ new =
-        sym (append_assoc c.args.chunk.now got new) ∙ ap (λ l. l ++ new) (inv.0.2 ∙ sym part.1) in
-    ((got ++ new, Consumes-trans _ _ _ got new inv.0.1 filled.0, joined),
+    sym (append_assoc c.args.chunk.now got new) ∙ ap (λ l. l ++ new) (inv.0.2 ∙ sym part.1) in (
+      (got ++ new, Consumes-trans _ _ _ got new inv.0.1 filled.0, joined),
       ap (list_any is_line_end) part.1 ∙ list_any-append is_line_end line chunk ∙ ap (λ b. b || list_any is_line_end chunk) inv.1 ∙ part.2,
       omega (arith, c.if-len-gt-LINE_LIMIT.false, c.len.ensures),
       one_fewer (g.R.Source.calls c.parts.reader) _ c.parts.left some c.in-Ok-fill.ensures.counted ∙ inv.3,
-      omega (arith, inv.4, c.in-Ok-fill.ensures.small, filled.1))
+      omega (arith, inv.4, c.in-Ok-fill.ensures.small, filled.1),
+    )

@@ -13,9 +13,10 @@ lines-preserved g c =
     let inv = c.lines.invariant.0 in
     let next = c.in-Ok-true.ensures in
     let more = next.steps inv.0 inv.1 inv.2 inv.5 inv.6 in
-    let line = rw (c.in-Ok-true.field-0-test) at more.4 in
-    ((inv.0 ++ line.0 ∷ [], inv.1 ++ more.0, inv.2 ++ more.1, Consumes-trans _ _ _ inv.1 more.0 inv.3 more.2, Appends-trans _ _ _ inv.2 more.1 inv.4 more.3, line.2, line.1),
-      next.counted ∙ c.lines.invariant.1)
+    let line = rw (c.in-Ok-true.field-0-test) at more.4 in (
+      (inv.0 ++ line.0 ∷ [], inv.1 ++ more.0, inv.2 ++ more.1, Consumes-trans _ _ _ inv.1 more.0 inv.3 more.2, Appends-trans _ _ _ inv.2 more.1 inv.4 more.3, line.2, line.1),
+      next.counted ∙ c.lines.invariant.1,
+    )
 
 pub returns-in-Ok-false-clause-runs : goal.returns-in-Ok-false-clause-runs
 returns-in-Ok-false-clause-runs g c =

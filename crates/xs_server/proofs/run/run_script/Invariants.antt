@@ -8,7 +8,7 @@ use Rattle.xs_server.proofs.run.run_script.Given as goal
 abbrev pub invariant-lines : goal.invariant-lines
 invariant-lines g l =
     ((lines : List (List ℕ)) × (read sent : List ℕ) × Consumes (g.R.Source.rest l.initial.reader) (g.R.Source.rest l.reader) read
-      × Appends (g.W.Sink.held l.initial.writer) (g.W.Sink.held l.writer) sent × Stands lines sent l.session × IsRead read lines l.session.chunk)
+    × Appends (g.W.Sink.held l.initial.writer) (g.W.Sink.held l.writer) sent × Stands lines sent l.session × IsRead read lines l.session.chunk)
     × (capped (g.R.Source.calls l.reader + l.session.left) ≡ capped (g.R.Source.calls l.initial.reader + reads_limit))
 
 abbrev pub decreases-lines : goal.decreases-lines

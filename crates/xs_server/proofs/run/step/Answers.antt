@@ -18,7 +18,7 @@ returns-in-Ok-Last-clause-steps g c = λ lines read sent stands is.
     let taken = rw (c.in-Ok-Last.field-0-is) at bytes.2 in
     let chunk = c.args.session.now.chunk in
     let all = read-lines (read ++ bytes.0) lines (chunk ++ bytes.0) (read-more read lines chunk bytes.0 is)
-        ∙ ap (λ ls. lines ++ ls) (ap script_lines taken.0 ∙ lines-last c.take_line.new.line.items taken.2 taken.4) in
+    ∙ ap (λ ls. lines ++ ls) (ap script_lines taken.0 ∙ lines-last c.take_line.new.line.items taken.2 taken.4) in
     let served = c.serve_last.ensures.steps lines (read ++ bytes.0) sent stands all in
     (bytes.0, served.0, bytes.1, served.1, served.2)
 
@@ -28,7 +28,7 @@ returns-in-Ok-End-clause-steps g c = λ lines read sent stands is.
     let taken = rw (c.in-Ok-End.field-0-is) at bytes.2 in
     let chunk = c.args.session.now.chunk in
     let all = read-lines (read ++ bytes.0) lines (chunk ++ bytes.0) (read-more read lines chunk bytes.0 is)
-        ∙ ap (λ u. lines ++ script_lines u) taken.0 ∙ append-nil lines in
+    ∙ ap (λ u. lines ++ script_lines u) taken.0 ∙ append-nil lines in
     let served = c.finish.ensures.steps lines (read ++ bytes.0) sent stands all in
     (bytes.0, served.0, bytes.1, served.1, served.2)
 

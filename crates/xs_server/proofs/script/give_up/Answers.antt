@@ -17,21 +17,40 @@ returns-in-Long-clause-steps g c = λ lines read sent unused stands is fails.
     let session = c.args.session.now in
     let sends = c.in-Ok.ensures.sends in
     let number = c.saturating_add.ensures ∙ ap (λ n. capped (n + 1)) (ap (λ s. s.number) c.in-Ok.ensures.same) in
-    let long = rw (c.in-Long.is) at fails in
-    (sends.0, sends.1, gives-up-long lines read (sent ++ sends.0) unused _ c.send.new.session.written is long (capped-next session.number _ lines stands.3 number)
-      (sent-after lines sent sends.0 sends.2.0 session.out.items session.written c.send.new.session.written stands.0 stands.1 stands.4 sends.2.3 sends.2.1 sends.2.4))
+    let long = rw (c.in-Long.is) at fails in (
+      sends.0,
+      sends.1,
+      gives-up-long lines read (sent ++ sends.0) unused _ c.send.new.session.written is long (capped-next session.number _ lines stands.3 number)
+          (sent-after lines sent sends.0 sends.2.0 session.out.items session.written c.send.new.session.written stands.0 stands.1 stands.4 sends.2.3 sends.2.1 sends.2.4),
+    )
 
 pub returns-in-Read-clause-steps : goal.returns-in-Read-clause-steps
 returns-in-Read-clause-steps g c = λ lines read sent unused stands is fails.
     let session = c.args.session.now in
     let sends = c.in-Ok.ensures.sends in
-    let none = rw (c.in-Read.is) at fails in
-    (sends.0, sends.1, (lines, unused, is.0, is.1, none,
-      sent-after lines sent sends.0 sends.2.0 session.out.items session.written c.send.new.session.written stands.0 stands.1 stands.4 sends.2.3 sends.2.1 sends.2.4))
+    let none = rw (c.in-Read.is) at fails in (
+      sends.0,
+      sends.1,
+      (
+        lines,
+        unused,
+        is.0,
+        is.1,
+        none,
+        sent-after lines sent sends.0 sends.2.0 session.out.items session.written c.send.new.session.written stands.0 stands.1 stands.4 sends.2.3 sends.2.1 sends.2.4,
+      ),
+    )
 
 pub returns-in-Memory-clause-steps : goal.returns-in-Memory-clause-steps
 returns-in-Memory-clause-steps g c = λ lines read sent unused stands is fails.
     let session = c.args.session.now in
-    let sends = c.in-Ok.ensures.sends in
-    (sends.0, sends.1, (lines, script_lines unused, read-lines read lines unused is,
-      sent-after lines sent sends.0 sends.2.0 session.out.items session.written c.send.new.session.written stands.0 stands.1 stands.4 sends.2.3 sends.2.1 sends.2.4))
+    let sends = c.in-Ok.ensures.sends in (
+      sends.0,
+      sends.1,
+      (
+        lines,
+        script_lines unused,
+        read-lines read lines unused is,
+        sent-after lines sent sends.0 sends.2.0 session.out.items session.written c.send.new.session.written stands.0 stands.1 stands.4 sends.2.3 sends.2.1 sends.2.4,
+      ),
+    )

@@ -9,6 +9,14 @@ returns-in-Err-clause-sends g c =
     let count = c.in-Err.count in
     let err = rw (c.as_slice.ensures.value) at c.in-Err.ensures.err in
     let fits : count ≤ length out = omega (arith, err.0) in
-    let part = length-take-le count out fits in
-    (take count out, err.1, (drop count out, sym (take-append-drop count out), c.clear.ensures.items,
-      c.saturating_add-session-in-Err.ensures ∙ ap (λ n. capped (c.args.session.now.written + n)) (sym part), (refl, err.2)))
+    let part = length-take-le count out fits in (
+      take count out,
+      err.1,
+      (
+        drop count out,
+        sym (take-append-drop count out),
+        c.clear.ensures.items,
+        c.saturating_add-session-in-Err.ensures ∙ ap (λ n. capped (c.args.session.now.written + n)) (sym part),
+        (refl, err.2),
+      ),
+    )

@@ -20,9 +20,12 @@ pub returns-in-Err-send-clause-serves : goal.returns-in-Err-send-clause-serves
 returns-in-Err-send-clause-serves g c = λ lines sent stands.
     let session = c.args.session.now in
     let sends = c.in-Err-send.ensures.sends in
-    let script = rw (← c.in-Err.ensures.err) at stands.1 in
-    (sends.0, sends.1, failed-send c.in-Err-send.fault lines session.line.items sent sends.0 sends.2.0 c.serve_line-served.new.out.items session.written c.send.new.session.written
-      stands.0 c.send.new.session (g.W.Sink.broken c.send.new.writer) script stands.4 sends.2.3 sends.2.1 sends.2.4)
+    let script = rw (← c.in-Err.ensures.err) at stands.1 in (
+      sends.0,
+      sends.1,
+      failed-send c.in-Err-send.fault lines session.line.items sent sends.0 sends.2.0 c.serve_line-served.new.out.items session.written c.send.new.session.written
+          stands.0 c.send.new.session (g.W.Sink.broken c.send.new.writer) script stands.4 sends.2.3 sends.2.1 sends.2.4,
+    )
 
 pub returns-in-NoLine-clause-serves : goal.returns-in-NoLine-clause-serves
 returns-in-NoLine-clause-serves g c = λ lines sent stands.
@@ -30,9 +33,15 @@ returns-in-NoLine-clause-serves g c = λ lines sent stands.
     let sends = c.in-Ok.ensures.sends in
     let script = rw (← c.in-Err.ensures.err) at stands.1 in
     let none = c.in-Err.ensures.none (ap Err c.in-NoLine.is) in
-    let number = c.saturating_add.ensures ∙ ap (λ n. capped (n + 1)) (ap (λ s. s.number) c.in-Ok.ensures.same) in
-    (sends.0, sends.1, (rw (← c.as_slice-line.ensures.value) none, capped-next session.number _ lines stands.3 number,
-      sent-after lines sent sends.0 sends.2.0 c.serve_line-served.new.out.items session.written c.send.new.session.written stands.0 script stands.4 sends.2.3 sends.2.1 sends.2.4))
+    let number = c.saturating_add.ensures ∙ ap (λ n. capped (n + 1)) (ap (λ s. s.number) c.in-Ok.ensures.same) in (
+      sends.0,
+      sends.1,
+      (
+        rw (← c.as_slice-line.ensures.value) none,
+        capped-next session.number _ lines stands.3 number,
+        sent-after lines sent sends.0 sends.2.0 c.serve_line-served.new.out.items session.written c.send.new.session.written stands.0 script stands.4 sends.2.3 sends.2.1 sends.2.4,
+      ),
+    )
 
 pub returns-in-Memory-clause-serves : goal.returns-in-Memory-clause-serves
 returns-in-Memory-clause-serves g c = λ lines sent stands.

@@ -18,6 +18,7 @@ loop-sent-preserved g c =
     let left = length-drop sent bytes in
     let fits : length (drop sent bytes) ≤ length bytes - sent = omega arith in
     let wrote = rw (take_all (length bytes - sent) (drop sent bytes) fits) at c.in-Ok.ensures.bytes in
-    let bound = rw (take_all (length bytes - sent) (drop sent bytes) fits) at c.in-Ok.ensures.bound in
-    (rw (← take-more sent c.in-Ok.count bytes c.loop-sent.invariant.1) (Appends-trans _ _ _ (take sent bytes) (take c.in-Ok.count (drop sent bytes)) c.loop-sent.invariant.0 wrote),
-      omega (arith, bound, c.loop-sent.invariant.1))
+    let bound = rw (take_all (length bytes - sent) (drop sent bytes) fits) at c.in-Ok.ensures.bound in (
+      rw (← take-more sent c.in-Ok.count bytes c.loop-sent.invariant.1) (Appends-trans _ _ _ (take sent bytes) (take c.in-Ok.count (drop sent bytes)) c.loop-sent.invariant.0 wrote),
+      omega (arith, bound, c.loop-sent.invariant.1),
+    )

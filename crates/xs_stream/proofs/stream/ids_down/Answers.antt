@@ -18,6 +18,6 @@ pub returns : goal.returns
 returns c =
     let all = c.loop-id.invariant in
     taken c.loop-id.ids.items _ _ c.args.most all.0 all.1 (elim c.match-next.branch [
-        in-None w ↦ inl (ap (λ es. reverse (ids_of es)) w.in-None.ensures.steps.0)
+      | in-None w ↦ inl (ap (λ es. reverse (ids_of es)) w.in-None.ensures.steps.0)
       | in-Some+then-len-most w ↦ inr (omega arith)
     ])

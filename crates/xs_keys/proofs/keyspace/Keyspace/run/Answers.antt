@@ -20,9 +20,11 @@ loop-event-preserved c =
     let so_far = rw next at c.loop-event.invariant.0 in
     let ok : is_ok c.push.result ≡ true = c.push.ensures.succeeds (omega arith) in
     let items = rw ok at c.push.ensures.items in
-    let len = rw ok at c.push.ensures.len in
-    (rw items (runs-more c.args.self.now events c.loop-event.replies.items c.loop-event.self c.apply-reply.new.self e rest c.apply-reply.result so_far c.apply-reply.ensures),
-      omega (arith, len), omega (arith, c.push.ensures.capacity))
+    let len = rw ok at c.push.ensures.len in (
+      rw items (runs-more c.args.self.now events c.loop-event.replies.items c.loop-event.self c.apply-reply.new.self e rest c.apply-reply.result so_far c.apply-reply.ensures),
+      omega (arith, len),
+      omega (arith, c.push.ensures.capacity),
+    )
 
 pub returns-clause-run : goal.returns-clause-run
 returns-clause-run c =

@@ -15,4 +15,4 @@ returns-then-lt c =
     let above : is_below c.args.range.high c.args.range.low ≡ true = sym (partial-below _ _) ∙ sym (c.if-lt.ensures) in
     let none = within-none c.args.range above (ids_of c.args.self.now.entries) in
     c.new-then-lt.ensures ∙ c.new.ensures.items ∙ sym (ap (λ ids. limited c.args.limit (if c.args.reversed then reverse ids else ids)) none
-      ∙ ap (limited c.args.limit) (turned-none c.args.reversed) ∙ limited-none c.args.limit)
+    ∙ ap (limited c.args.limit) (turned-none c.args.reversed) ∙ limited-none c.args.limit)
