@@ -1,0 +1,18 @@
+.PHONY: run test compare
+
+PROGRAM = crates/xs_server/out/xs_server
+
+# Proves and builds the program, and runs the script of two additions.
+run:
+	@echo "Proving and building xs_server. The first time everything is proved, which takes a quarter of an hour."
+	@cd crates/xs_server && rt run -- script < stdin
+
+# Proves everything from nothing, tries the edits that have to fail, and runs the tests and the worked cases.
+test:
+	rt ci
+	test -x $(PROGRAM) || (cd crates/xs_server && rt run -- script < stdin)
+	python3 conformance/run.py $(PROGRAM) script
+
+# Asks a real Redis 7.0 the cases that are its own too. Debian: apt-get install redis-server
+compare:
+	python3 conformance/compare.py
