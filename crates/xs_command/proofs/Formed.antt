@@ -13,7 +13,7 @@ use Rattle.xs_command.specs.declared.command.Command.{Command}
 use Rattle.xs_command.specs.declared.command.Command.TheVariants as command
 use Rattle.xs_command.specs.declared.xadd.AddOptions.{AddOptions}
 use Rattle.xs_command.specs.WellFormed.{IsAddId, IsWellFormed}
-use Rattle.xs_command.specs.Words.{Reads, Part, ◌>>=◌, and_then, word, id, low, high}
+use Rattle.xs_command.specs.Words.{Reading, Part, ◌>>=◌, and_then, word, id, low, high}
 use Rattle.xs_command.specs.Options.{many}
 use Rattle.xs_command.specs.Syntax.{only, ids, leading_ids}
 use Rattle.xs_command.specs.Trim.{trim_option}
@@ -28,18 +28,18 @@ use Rattle.xs_command.specs.Xrange.{xrange, xrevrange, scan, scan_option, no_lim
 use Rattle.xs_command.specs.Del.{del}
 
 -- whatever is read has this property
-abbrev pub Always : {B : Type 0} → (B → Type 0) → Reads B → Type 0
+abbrev pub Always : {B : Type 0} → (B → Type 0) → Reading B → Type 0
 Always {B} P reads = (words : List (List ℕ)) (y : B) → reads words ≡ Ok y → P y
 
 -- the same at one list of words, by what the part before gave
-bound : {A B : Type 0} (Q : A → Type 0) (P : B → Type 0) (read : Result (A × List (List ℕ)) Fault) (next : A → Reads B) → ((x : A × List (List ℕ)) → read ≡ Ok x → Q x.0) → ((x : A) → Q x → Always P (next x)) → (y : B) → and_then read next ≡ Ok y → P y
+bound : {A B : Type 0} (Q : A → Type 0) (P : B → Type 0) (read : Result (A × List (List ℕ)) Fault) (next : A → Reading B) → ((x : A × List (List ℕ)) → read ≡ Ok x → Q x.0) → ((x : A) → Q x → Always P (next x)) → (y : B) → and_then read next ≡ Ok y → P y
 bound Q P (Ok x) next sure more y e = more x.0 (sure x refl) x.1 y e
 bound Q P (Err fault) next sure more y e = absurd cc
 
-pub after_sure : {A B : Type 0} (Q : A → Type 0) (P : B → Type 0) (part : Part A) (next : A → Reads B) → Always (λ (x : A × List (List ℕ)). Q x.0) part → ((x : A) → Q x → Always P (next x)) → Always P (part >>= next)
+pub after_sure : {A B : Type 0} (Q : A → Type 0) (P : B → Type 0) (part : Part A) (next : A → Reading B) → Always (λ (x : A × List (List ℕ)). Q x.0) part → ((x : A) → Q x → Always P (next x)) → Always P (part >>= next)
 after_sure Q P part next sure more words y e = bound Q P (part words) next (λ x h. sure words x h) more y e
 
-pub after_any : {A B : Type 0} (P : B → Type 0) (part : Part A) (next : A → Reads B) → ((x : A) → Always P (next x)) → Always P (part >>= next)
+pub after_any : {A B : Type 0} (P : B → Type 0) (part : Part A) (next : A → Reading B) → ((x : A) → Always P (next x)) → Always P (part >>= next)
 after_any P part next more = after_sure (λ x. Unit {0}) P part next (λ words x h. tt) (λ x h. more x)
 
 pub only_is : {A : Type 0} (P : A → Type 0) (x : A) (fault : Fault) → P x → Always P (only x fault)

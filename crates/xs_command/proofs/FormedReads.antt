@@ -11,6 +11,8 @@ use Rattle.xs_command.specs.WellFormed.{IsWellFormed}
 use Rattle.xs_command.specs.Name.{name_of, counts, fits}
 use Rattle.xs_command.specs.Read.{syntax, named, reads}
 use Rattle.xs_command.proofs.Formed.{Always, after_any, ping_formed, quit_formed, xadd_formed, xdel_formed, xtrim_formed, xlen_formed, xrange_formed, xrevrange_formed, del_formed}
+use Rattle.xs_command.proofs.FormedGroups.{xgroup_formed, xack_formed, xpending_formed, xclaim_formed, xautoclaim_formed}
+use Rattle.xs_command.proofs.FormedReadGroup.{xreadgroup_formed}
 
 syntax_formed : (name : Name) → Always IsWellFormed (syntax name)
 syntax_formed Ping words y e = ping_formed words y e
@@ -21,12 +23,12 @@ syntax_formed Xtrim words y e = xtrim_formed words y e
 syntax_formed Xlen words y e = xlen_formed words y e
 syntax_formed Xrange words y e = xrange_formed words y e
 syntax_formed Xrevrange words y e = xrevrange_formed words y e
-syntax_formed Xgroup words y e = absurd cc
-syntax_formed Xreadgroup words y e = absurd cc
-syntax_formed Xack words y e = absurd cc
-syntax_formed Xpending words y e = absurd cc
-syntax_formed Xclaim words y e = absurd cc
-syntax_formed Xautoclaim words y e = absurd cc
+syntax_formed Xgroup words y e = xgroup_formed words y e
+syntax_formed Xreadgroup words y e = xreadgroup_formed words y e
+syntax_formed Xack words y e = xack_formed words y e
+syntax_formed Xpending words y e = xpending_formed words y e
+syntax_formed Xclaim words y e = xclaim_formed words y e
+syntax_formed Xautoclaim words y e = xautoclaim_formed words y e
 syntax_formed Del words y e = del_formed words y e
 
 counted : (name : Name) (b : Bool) (words : List (List ℕ)) (y : Command) → cond b (syntax name words) (Err Arity) ≡ Ok y → IsWellFormed y

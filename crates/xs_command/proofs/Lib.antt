@@ -3,4 +3,9 @@ pub mod NameByLength
 pub mod IdSteps
 pub mod FieldSteps
 pub mod Formed
+pub mod FormedGroups
+pub mod FormedReadGroup
 pub mod FormedReads
+pub mod DistinctKeys
+pub mod StreamSteps
+pub mod SmallIntegers

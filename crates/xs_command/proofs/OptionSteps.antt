@@ -1,5 +1,5 @@
 -- Reading options one after the other, as a loop does.
-use Rattle.std.proofs.Common.{◌≡◌, ℕ, zero, suc, ◌-◌, ◌+◌, ◌≤◌, ◌<◌, List, [], ◌∷◌, Some, None, Result, Ok, Err, refl, sym, ap, ◌∙◌, arith}
+use Rattle.std.proofs.Common.{◌≡◌, Option, ℕ, zero, suc, ◌-◌, ◌+◌, ◌≤◌, ◌<◌, List, [], ◌∷◌, Some, None, Result, Ok, Err, refl, sym, ap, ◌∙◌, arith}
 use Rattle.xs_resp.specs.declared.fault.Fault.{Fault}
 use Rattle.xs_command.specs.declared.refusal.Refusal.{Refusal}
 use Rattle.xs_command.specs.declared.refusal.Refusal.TheVariants.{Said, Memory}
@@ -35,9 +35,13 @@ unfolding up_to
 is_done option n i s words le = let k : n - i ≡ 0 = omega arith in rw k refl
 
 -- the option was read, and more may come
-pub goes_on : {S : Type 0} (option : OptionOf S) (n i : ℕ) (s t : S) (words left : List (List ℕ)) (x : List ℕ × List (List ℕ)) (total : Result (S × List (List ℕ)) Fault) → i < n → word words ≡ Ok x → option s x.0 x.1 ≡ Ok (t, Some left) → up_to (n - i) option s words ≡ total → up_to (n - (i + 1)) option t left ≡ total
-goes_on option n i s t words left x total lt e o so_far = sym (one_turn option n i s words x lt e ∙ ap (λ r. after r words (λ t left. up_to (n - (i + 1)) option t left)) o) ∙ so_far
+pub goes_on : {S : Type 0} (option : OptionOf S) (n i : ℕ) (s t : S) (words left : List (List ℕ)) (behind : Option (List (List ℕ))) (x : List ℕ × List (List ℕ)) (total : Result (S × List (List ℕ)) Fault) → i < n → word words ≡ Ok x → option s x.0 x.1 ≡ Ok (t, behind) → behind ≡ Some left → up_to (n - i) option s words ≡ total → up_to (n - (i + 1)) option t left ≡ total
+goes_on option n i s t words left behind x total lt e o b so_far =
+    let turned = one_turn option n i s words x lt e ∙ ap (λ r. after r words (λ t left. up_to (n - (i + 1)) option t left)) (o ∙ ap (λ b. Ok (t, b)) b) in
+    sym turned ∙ so_far
 
 -- the word was no option
-pub stops : {S : Type 0} (option : OptionOf S) (n i : ℕ) (s t : S) (words : List (List ℕ)) (x : List ℕ × List (List ℕ)) (total : Result (S × List (List ℕ)) Fault) → i < n → word words ≡ Ok x → option s x.0 x.1 ≡ Ok (t, None) → up_to (n - i) option s words ≡ total → total ≡ Ok (t, words)
-stops option n i s t words x total lt e o so_far = sym so_far ∙ one_turn option n i s words x lt e ∙ ap (λ r. after r words (λ t left. up_to (n - (i + 1)) option t left)) o
+pub stops : {S : Type 0} (option : OptionOf S) (n i : ℕ) (s t : S) (words : List (List ℕ)) (behind : Option (List (List ℕ))) (x : List ℕ × List (List ℕ)) (total : Result (S × List (List ℕ)) Fault) → i < n → word words ≡ Ok x → option s x.0 x.1 ≡ Ok (t, behind) → behind ≡ None → up_to (n - i) option s words ≡ total → total ≡ Ok (t, words)
+stops option n i s t words behind x total lt e o b so_far =
+    let turned = one_turn option n i s words x lt e ∙ ap (λ r. after r words (λ t left. up_to (n - (i + 1)) option t left)) (o ∙ ap (λ b. Ok (t, b)) b) in
+    sym so_far ∙ turned

@@ -3,8 +3,8 @@ use Rattle.std.specs.Prelude.{length, nat_lt, Ok, Err, if◌then◌else◌}
 use Rattle.xs_resp.specs.declared.fault.Fault.TheVariants.{Syntax}
 use Rattle.xs_command.specs.declared.command.Command.{Command}
 use Rattle.xs_command.specs.declared.command.Command.TheVariants as command
-use Rattle.xs_command.specs.Words.{Reads}
+use Rattle.xs_command.specs.Words.{Reading}
 
 -- DEL key [key ..]
-unfoldable pub del : Reads Command
+unfoldable pub del : Reading Command
 del keys = if nat_lt 0 (length keys) then Ok (command.DropKeys keys) else Err Syntax

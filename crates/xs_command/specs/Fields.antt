@@ -2,7 +2,7 @@
 use Rattle.std.specs.Prelude.{ℕ, ◌%◌, ◌&&◌, ◌==◌, List, [], ◌∷◌, length, nat_lt, Ok, Err, if◌then◌else◌}
 use Rattle.xs_stream.specs.declared.field.Field.{Field}
 use Rattle.xs_resp.specs.declared.fault.Fault.TheVariants.{Arity}
-use Rattle.xs_command.specs.Words.{Reads, Part, ◌>>=◌, value, word}
+use Rattle.xs_command.specs.Words.{Reading, Part, ◌>>=◌, value, word}
 
 -- a name and its value
 unfoldable pub field : Part Field
@@ -18,5 +18,5 @@ pairs (name ∷ []) = []
 pairs (name ∷ text ∷ words) = record { name = name; value = text } ∷ pairs words
 
 -- all the words, one pair or more; their number is a matter of arity
-unfoldable pub fields : Reads (List Field)
+unfoldable pub fields : Reading (List Field)
 fields words = if nat_lt 0 (length words) && length words % 2 == 0 then Ok (pairs words) else Err Arity

@@ -12,6 +12,14 @@ pub mod Xdel
 pub mod Xlen
 pub mod Xtrim
 pub mod Xrange
+pub mod Xgroup
+pub mod Streams
+pub mod Xreadgroup
+pub mod Xack
+pub mod Xpending
+pub mod Xclaim
+pub mod Xautoclaim
 pub mod Del
 pub mod Read
+pub mod Examples
 pub mod WellFormed

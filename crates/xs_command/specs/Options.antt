@@ -1,12 +1,12 @@
 -- Options of a command, in any order; the last of a repeated one counts.
 use Rattle.std.specs.Prelude.{ℕ, zero, suc, List, [], ◌∷◌, length, Option, Some, None, Result, Ok, Err}
 use Rattle.xs_resp.specs.declared.fault.Fault.{Fault}
-use Rattle.xs_command.specs.Words.{Reads, Part}
+use Rattle.xs_command.specs.Words.{Reading, Part}
 
 -- What an option of a name says, after the options before it: the new state and the words behind
 -- the option. No words: the name is no option.
 abbrev pub OptionOf : Type 0 → Type 0
-OptionOf S = S → List ℕ → Reads (S × Option (List (List ℕ)))
+OptionOf S = S → List ℕ → Reading (S × Option (List (List ℕ)))
 
 -- an option that was read whole
 abbrev pub taken : {S : Type 0} → Result (S × List (List ℕ)) Fault → Result (S × Option (List (List ℕ))) Fault
@@ -14,7 +14,7 @@ taken (Ok read) = Ok (read.0, Some read.1)
 taken (Err fault) = Err fault
 
 -- the option takes this part
-abbrev pub taking : {S : Type 0} → Part S → Reads (S × Option (List (List ℕ)))
+abbrev pub taking : {S : Type 0} → Part S → Reading (S × Option (List (List ℕ)))
 taking part words = taken (part words)
 
 -- what comes after a name was read as an option, or as none

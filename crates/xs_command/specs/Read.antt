@@ -1,10 +1,10 @@
 -- What words say: a command, or the first fault from left to right.
 use Rattle.std.specs.Prelude.{◌+◌, length, Option, Some, None, Err, if◌then◌else◌}
-use Rattle.xs_resp.specs.declared.fault.Fault.TheVariants.{UnknownCommand, Arity, Unsupported}
+use Rattle.xs_resp.specs.declared.fault.Fault.TheVariants.{UnknownCommand, Arity}
 use Rattle.xs_command.specs.declared.command.Command.{Command}
 use Rattle.xs_command.specs.declared.name.Name.{Name}
 use Rattle.xs_command.specs.declared.name.Name.TheVariants.{Ping, Quit, Xadd, Xdel, Xtrim, Xlen, Xrange, Xrevrange, Xgroup, Xreadgroup, Xack, Xpending, Xclaim, Xautoclaim, Del}
-use Rattle.xs_command.specs.Words.{Reads, ◌>>=◌, word}
+use Rattle.xs_command.specs.Words.{Reading, ◌>>=◌, word}
 use Rattle.xs_command.specs.Name.{name_of, counts, fits}
 use Rattle.xs_command.specs.Ping.{ping, quit}
 use Rattle.xs_command.specs.Xadd.{xadd}
@@ -12,10 +12,16 @@ use Rattle.xs_command.specs.Xdel.{xdel}
 use Rattle.xs_command.specs.Xtrim.{xtrim}
 use Rattle.xs_command.specs.Xlen.{xlen}
 use Rattle.xs_command.specs.Xrange.{xrange, xrevrange}
+use Rattle.xs_command.specs.Xgroup.{xgroup}
+use Rattle.xs_command.specs.Xreadgroup.{xreadgroup}
+use Rattle.xs_command.specs.Xack.{xack}
+use Rattle.xs_command.specs.Xpending.{xpending}
+use Rattle.xs_command.specs.Xclaim.{xclaim}
+use Rattle.xs_command.specs.Xautoclaim.{xautoclaim}
 use Rattle.xs_command.specs.Del.{del}
 
 -- the syntax behind each name
-abbrev pub syntax : Name → Reads Command
+abbrev pub syntax : Name → Reading Command
 syntax Ping = ping
 syntax Quit = quit
 syntax Xadd = xadd
@@ -24,21 +30,21 @@ syntax Xtrim = xtrim
 syntax Xlen = xlen
 syntax Xrange = xrange
 syntax Xrevrange = xrevrange
-syntax Xgroup = λ words. Err Unsupported
-syntax Xreadgroup = λ words. Err Unsupported
-syntax Xack = λ words. Err Unsupported
-syntax Xpending = λ words. Err Unsupported
-syntax Xclaim = λ words. Err Unsupported
-syntax Xautoclaim = λ words. Err Unsupported
+syntax Xgroup = xgroup
+syntax Xreadgroup = xreadgroup
+syntax Xack = xack
+syntax Xpending = xpending
+syntax Xclaim = xclaim
+syntax Xautoclaim = xautoclaim
 syntax Del = del
 
 -- the words behind a name; their number comes first
-abbrev pub named : Option Name → Reads Command
+abbrev pub named : Option Name → Reading Command
 named None words = Err UnknownCommand
 named (Some name) words = if fits (counts name) (length words + 1) then syntax name words else Err Arity
 
 -- a name, and what stands behind it
-unfoldable pub reads : Reads Command
+unfoldable pub reads : Reading Command
 reads = do
   first ← word
   named (name_of first)

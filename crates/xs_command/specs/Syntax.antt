@@ -3,10 +3,10 @@ use Rattle.std.specs.Prelude.{ℕ, List, [], ◌∷◌, Option, Some, None, Ok, 
 use Rattle.xs_stream.specs.declared.id.Id.{Id}
 use Rattle.xs_stream.specs.Id.{parse_id}
 use Rattle.xs_resp.specs.declared.fault.Fault.{Fault}
-use Rattle.xs_command.specs.Words.{Reads, Part, ◌>>=◌, id}
+use Rattle.xs_command.specs.Words.{Reading, Part, ◌>>=◌, id}
 
 -- the value, where no word is left, and the fault otherwise
-unfoldable pub only : {A : Type 0} → A → Fault → Reads A
+unfoldable pub only : {A : Type 0} → A → Fault → Reading A
 only x fault [] = Ok x
 only x fault (w ∷ words) = Err fault
 

@@ -13,20 +13,20 @@ use Rattle.xs_command.specs.declared.integer.Integer.TheVariants.{Negative, Natu
 use Rattle.xs_command.specs.Integer.{integer_of}
 
 -- what words say: a value or a fault
-abbrev pub Reads : Type 0 → Type 0
-Reads A = List (List ℕ) → Result A Fault
+abbrev pub Reading : Type 0 → Type 0
+Reading A = List (List ℕ) → Result A Fault
 
 -- what the first of the words say: a value and the words behind it, or a fault
 abbrev pub Part : Type 0 → Type 0
-Part A = Reads (A × List (List ℕ))
+Part A = Reading (A × List (List ℕ))
 
 -- a part that was read, and what comes next
-abbrev pub and_then : {A B : Type 0} → Result (A × List (List ℕ)) Fault → (A → Reads B) → Result B Fault
+abbrev pub and_then : {A B : Type 0} → Result (A × List (List ℕ)) Fault → (A → Reading B) → Result B Fault
 and_then (Ok x) next = next x.0 x.1
 and_then (Err fault) next = Err fault
 
 infixl 10 ◌>>=◌
-abbrev pub ◌>>=◌ : {A B : Type 0} → Part A → (A → Reads B) → Reads B
+abbrev pub ◌>>=◌ : {A B : Type 0} → Part A → (A → Reading B) → Reading B
 (part >>= next) words = and_then (part words) next
 
 -- this value, and no word is read
@@ -38,7 +38,7 @@ abbrev pub or_fault : {A : Type 0} → Option A → Fault → Part A
 or_fault (Some x) fault words = Ok (x, words)
 or_fault None fault words = Err fault
 
--- What a function without memory for the copies says, unless memory ran out.
+-- a refusal says nothing where memory ran out, and else names the fault that is read
 abbrev pub Fails : {A : Type 0} → Refusal → Result A Fault → Type 0
 Fails Memory read = Unit {0}
 Fails (Said fault) read = read ≡ Err fault

@@ -7,7 +7,7 @@ use Rattle.xs_resp.specs.declared.fault.Fault.{Fault}
 use Rattle.xs_command.specs.declared.command.Command.{Command}
 use Rattle.xs_command.specs.declared.command.Command.TheVariants as command
 use Rattle.xs_command.specs.declared.xadd.AddOptions.{AddOptions}
-use Rattle.xs_command.specs.Words.{Reads, ◌>>=◌, word, is_word}
+use Rattle.xs_command.specs.Words.{Reading, ◌>>=◌, word, is_word}
 use Rattle.xs_command.specs.Options.{OptionOf, many}
 use Rattle.xs_command.specs.Trim.{trim_option}
 use Rattle.xs_command.specs.AddId.{add_id}
@@ -34,7 +34,7 @@ addition key options id (Ok fields) = Ok (command.Add (record { key = key; make 
 addition key options id (Err fault) = Err fault
 
 -- XADD key { NOMKSTREAM, trim } id field value [field value ..]
-unfoldable pub xadd : Reads Command
+unfoldable pub xadd : Reading Command
 xadd = do
   key ← word
   options ← many add_option no_options

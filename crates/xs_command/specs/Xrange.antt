@@ -6,7 +6,7 @@ use Rattle.xs_command.specs.declared.command.Command.{Command}
 use Rattle.xs_command.specs.declared.command.Command.TheVariants as command
 use Rattle.xs_command.specs.declared.xrange.ScanOptions.{ScanOptions}
 use Rattle.xs_command.specs.Integer.{at_least_zero}
-use Rattle.xs_command.specs.Words.{Reads, ◌>>=◌, value, is_word, word, integer, low, high}
+use Rattle.xs_command.specs.Words.{Reading, ◌>>=◌, value, is_word, word, integer, low, high}
 use Rattle.xs_command.specs.Options.{OptionOf, many, taking}
 use Rattle.xs_command.specs.Syntax.{only}
 
@@ -25,7 +25,7 @@ abbrev pub scan : List ℕ → Id → Id → ScanOptions → Bool → Command
 scan key low high options reversed = command.Scan (record { key = key; range = record { low = low; high = high }; limit = options.limit; reversed = reversed })
 
 -- XRANGE key low high { COUNT n }
-unfoldable pub xrange : Reads Command
+unfoldable pub xrange : Reading Command
 xrange = do
   key ← word
   low ← low
@@ -34,7 +34,7 @@ xrange = do
   only (scan key low high options false) Syntax
 
 -- XREVRANGE key high low { COUNT n }
-unfoldable pub xrevrange : Reads Command
+unfoldable pub xrevrange : Reading Command
 xrevrange = do
   key ← word
   high ← high

@@ -77,19 +77,24 @@ pub enum Command {
 /// What XADD asks for.
 #[derive(Debug, Drop)]
 pub struct AddCommand {
+    /// The key of the stream.
     pub key: Bytes,
     /// A missing key is made. It is false with NOMKSTREAM.
     pub make: bool,
     /// The stream is trimmed to it once the entry is added.
     pub trim: Option<Trim>,
+    /// The id that is asked for, never `0-0`.
     pub id: AddId,
+    /// One field or more.
     pub fields: Fields,
 }
 
 /// What XRANGE and XREVRANGE ask for.
 #[derive(Debug, Drop)]
 pub struct ScanCommand {
+    /// The key of the stream.
     pub key: Bytes,
+    /// The ids that are looked at.
     pub range: Range,
     /// At most so many entries.
     pub limit: Option<u64>,
@@ -102,14 +107,18 @@ pub struct ScanCommand {
 pub enum GroupStart {
     /// `$`: the top of the stream.
     Top,
+    /// A written id.
     At(Id),
 }
 
 /// What XGROUP CREATE asks for.
 #[derive(Debug, Drop)]
 pub struct GroupCreateCommand {
+    /// The key of the stream.
     pub key: Bytes,
+    /// The name of the group.
     pub group: Bytes,
+    /// Where the group starts to read.
     pub start: GroupStart,
     /// A missing key is made, as MKSTREAM asks.
     pub make: bool,
@@ -118,22 +127,28 @@ pub struct GroupCreateCommand {
 /// What XREADGROUP asks for.
 #[derive(Debug, Drop)]
 pub struct ReadGroupCommand {
+    /// The name of the group.
     pub group: Bytes,
+    /// The name of the consumer.
     pub consumer: Bytes,
     /// At most so many entries of each stream.
     pub limit: Option<u64>,
     /// What is delivered doesn't become pending.
     pub noack: bool,
+    /// One stream or more, each once.
     pub reads: Reads,
 }
 
 /// What the long form of XPENDING asks for.
 #[derive(Debug, Drop)]
 pub struct PendingRowsCommand {
+    /// The key of the stream.
     pub key: Bytes,
+    /// The name of the group.
     pub group: Bytes,
     /// The least idle time in milliseconds.
     pub min_idle: u64,
+    /// The ids that are looked at.
     pub range: Range,
     /// At most so many rows.
     pub limit: u64,
@@ -144,20 +159,28 @@ pub struct PendingRowsCommand {
 /// What XCLAIM asks for.
 #[derive(Debug, Drop)]
 pub struct ClaimCommand {
+    /// The key of the stream.
     pub key: Bytes,
+    /// The name of the group.
     pub group: Bytes,
+    /// The name of the consumer.
     pub consumer: Bytes,
+    /// Which entries are taken, and what becomes of them.
     pub rule: ClaimRule,
-    /// As they were written, repeated ones included.
+    /// One id or more, as they were written, repeated ones included.
     pub ids: Ids,
 }
 
 /// What XAUTOCLAIM asks for.
 #[derive(Debug, Drop)]
 pub struct AutoClaimCommand {
+    /// The key of the stream.
     pub key: Bytes,
+    /// The name of the group.
     pub group: Bytes,
+    /// The name of the consumer.
     pub consumer: Bytes,
+    /// Which entries are taken, and what becomes of them.
     pub rule: ClaimRule,
     /// The least id that is scanned.
     pub start: Id,

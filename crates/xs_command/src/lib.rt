@@ -5,6 +5,8 @@
 mod add_id;
 pub mod command;
 mod del;
+mod distinct;
+pub mod examples;
 mod fields;
 mod integer;
 mod name;
@@ -15,13 +17,20 @@ mod ping;
 mod read;
 pub mod reads;
 pub mod refusal;
+mod streams;
 mod syntax;
 mod trim;
 mod words;
+mod xack;
 mod xadd;
+mod xautoclaim;
+mod xclaim;
 mod xdel;
+mod xgroup;
 mod xlen;
+mod xpending;
 mod xrange;
+mod xreadgroup;
 mod xtrim;
 
 pub use command::{

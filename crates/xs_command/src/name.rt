@@ -1,5 +1,6 @@
 //! The names of the commands.
 ghost use Rattle.std.specs.Prelude.{◌≡◌, filter, length, ◌==◌};
+ghost use Rattle.xs_command.specs.Name.{fits};
 
 use crate::words::Word;
 
@@ -24,7 +25,7 @@ pub(crate) enum Name {
 }
 
 impl Name {
-    ghost use Rattle.xs_command.specs.Name.{names, among, name_of, has_another_length, counts, fits};
+    ghost use Rattle.xs_command.specs.Name.{names, among, name_of, has_another_length, counts};
 
     /// The command that a word names, in upper or lower case.
     pub(crate) fn of(word: &Word<'_>) -> Option<Self>
@@ -124,15 +125,15 @@ impl Name {
             Self::Del => (2, None),
         }
     }
+}
 
-    /// Whether the command may have so many words, its name included.
-    pub(crate) fn allows(self, count: usize) -> bool
-        ensures { result ≡ fits (counts self) count }
-    {
-        let (least, most) = self.counts();
-        match most {
-            Some(most) => least <= count && count <= most,
-            None => least <= count,
-        }
+/// Whether so many words are neither too few nor too many: at least the first number, and at most
+/// the second where there is one.
+pub(crate) fn allows(counts: (usize, Option<usize>), count: usize) -> bool
+    ensures { result ≡ fits counts count }
+{
+    match counts.1 {
+        Some(most) => counts.0 <= count && count <= most,
+        None => counts.0 <= count,
     }
 }

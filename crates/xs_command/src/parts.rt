@@ -1,5 +1,5 @@
 //! Numbers, ids and names in the words of a command.
-ghost use Rattle.std.specs.Prelude.{◌≡◌};
+ghost use Rattle.std.specs.Prelude.{◌≡◌, ◌<◌, ◌^◌, IfOk};
 ghost use Rattle.xs_command.specs.Words.{Gives, word, integer, natural, id, low, high};
 
 use crate::integer::Integer;
@@ -34,7 +34,8 @@ impl<'a> Words<'a> {
     /// The next word, an integer of at least 0.
     #[tactic(auto, unfolding(crate::specs::Words::natural))]
     pub(crate) fn natural(&self) -> Result<(u64, Words<'a>), Fault>
-        ensures { result ≡ natural self.now }
+        ensures value { result ≡ natural self.now }
+        ensures small { IfOk result (λ read. read.0 < 2 ^ 63) }
     {
         let (integer, words) = self.integer()?;
         match integer {

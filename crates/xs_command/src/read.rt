@@ -5,10 +5,13 @@ ghost use Rattle.xs_command.specs.WellFormed.{IsWellFormed};
 ghost use Rattle.xs_command.specs.Read.{reads, syntax};
 
 use crate::command::Command;
-use crate::name::Name;
+use crate::name::{Name, allows};
 use crate::refusal::Refusal;
 use crate::words::Words;
-use crate::{del, ping, xadd, xdel, xlen, xrange, xtrim};
+use crate::{
+    del, ping, xack, xadd, xautoclaim, xclaim, xdel, xgroup, xlen, xpending, xrange, xreadgroup,
+    xtrim,
+};
 use std::alloc::Global;
 use xs_resp::Fault;
 
@@ -31,7 +34,7 @@ fn read_words(alloc: Global, words: &Words<'_>) -> Result<Command, Refusal>
     let Some(name) = Name::of(&first) else {
         return Err(Refusal::Said(Fault::UnknownCommand));
     };
-    if !name.allows(words.len() + 1) {
+    if !allows(name.counts(), words.len() + 1) {
         return Err(Refusal::Said(Fault::Arity));
     }
     read_named(alloc, name, &words)
@@ -51,10 +54,12 @@ fn read_named(alloc: Global, name: Name, words: &Words<'_>) -> Result<Command, R
         Name::Xlen => xlen::read(alloc, words),
         Name::Xrange => xrange::read(alloc, words),
         Name::Xrevrange => xrange::read_reversed(alloc, words),
+        Name::Xgroup => xgroup::read(alloc, words),
+        Name::Xreadgroup => xreadgroup::read(alloc, words),
+        Name::Xack => xack::read(alloc, words),
+        Name::Xpending => xpending::read(alloc, words),
+        Name::Xclaim => xclaim::read(alloc, words),
+        Name::Xautoclaim => xautoclaim::read(alloc, words),
         Name::Del => del::read(alloc, words),
-        Name::Xgroup | Name::Xreadgroup | Name::Xack | Name::Xpending | Name::Xclaim => {
-            Err(Refusal::Said(Fault::Unsupported))
-        }
-        Name::Xautoclaim => Err(Refusal::Said(Fault::Unsupported)),
     }
 }

@@ -1,4 +1,6 @@
 mod describe;
 mod faults;
+mod group_faults;
+mod group_served;
 mod served;
 mod text;

@@ -1,7 +1,9 @@
 //! The words of a request, read one after the other.
-ghost use Rattle.std.specs.Prelude.{◌≡◌, ◌<◌, ◌^◌, IfOk, length, map};
+ghost use Rattle.std.specs.Prelude.{◌≡◌, ◌<◌, ◌≤◌, ◌^◌, IfOk, length, map, take, drop};
 ghost use Rattle.xs_command.specs.Words.{is_word, word, behind_sign};
+ghost use Rattle.xs_command.specs.Streams.{is_distinct};
 
+use crate::distinct::is_distinct;
 use crate::names::Names;
 use std::alloc::{AllocError, Global};
 use std::marker::Model;
@@ -117,5 +119,32 @@ impl<'a> Words<'a> {
             items.push(Bytes::from_slice(alloc, word.as_slice())?)?;
         }
         Ok(Names::new(items))
+    }
+
+    /// These words once more.
+    pub(crate) fn again(&self) -> Words<'a>
+        ensures { result ≡ self.now }
+    {
+        Words { rest: self.rest }
+    }
+
+    /// The first words, so many, and those behind them.
+    pub(crate) fn split_at(&self, at: usize) -> (Words<'a>, Words<'a>)
+        requires { at ≤ length self.now }
+        ensures front { result.0 ≡ take at self.now }
+        ensures back { result.1 ≡ drop at self.now }
+    {
+        let (front, back) = self.rest.split_at(at);
+        (Words { rest: front }, Words { rest: back })
+    }
+
+    /// Whether no word stands there a second time. A single word needs no memory.
+    pub(crate) fn is_distinct(&self, alloc: Global) -> Result<bool, AllocError>
+        ensures { IfOk result (λ answer. answer ≡ is_distinct self.now) }
+    {
+        if self.len() < 2 {
+            return Ok(true);
+        }
+        is_distinct(alloc, self.rest)
     }
 }

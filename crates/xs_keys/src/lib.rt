@@ -11,3 +11,6 @@ mod slot;
 
 pub use clock::Clock;
 pub use keyspace::Keyspace;
+
+#[cfg(test)]
+mod tests;

@@ -1,1 +1,13 @@
 pub mod Replying
+pub mod Reading
+pub mod Outcomes
+pub mod Keeping
+pub mod Progressing
+pub mod Copies
+pub mod Holding
+pub mod Numbers
+pub mod Headers
+pub mod SentWords
+pub mod Sequences
+pub mod Decisions
+pub mod Cutting

@@ -3,3 +3,15 @@ pub mod Items
 pub mod ItemsDepth
 pub mod ReplyItems
 pub mod ReplyText
+pub mod Outcome
+pub mod Part
+pub mod Header
+pub mod Reading
+pub mod Faulting
+pub mod Bytes
+pub mod Progress
+pub mod Held
+pub mod Line
+pub mod Grammar
+pub mod Pieces
+pub mod State

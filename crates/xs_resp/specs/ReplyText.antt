@@ -1,21 +1,14 @@
 -- The text of replies (RESP protocol specification, version 2).
-use Rattle.std.specs.Prelude.{◌≡◌, ℕ, ⊤, List, [], ◌∷◌, ◌++◌, length, take, codes, decimal, Result, Ok, Err}
+use Rattle.std.specs.Prelude.{◌≡◌, ℕ, ⊤, List, ◌∷◌, ◌++◌, length, take, codes, Result, Ok, Err}
 use Rattle.std.specs.declared.alloc.AllocError.{AllocError}
 use Rattle.std.specs.List.{flat_map}
 use Rattle.xs_resp.specs.declared.reply.Simple.{Simple}
 use Rattle.xs_resp.specs.declared.reply.Simple.TheVariants.{Okay, Pong}
 use Rattle.xs_resp.specs.declared.reply.Reply.{Reply}
 use Rattle.xs_resp.specs.FaultText.{fault_text}
+use Rattle.xs_resp.specs.Line.{crlf, line}
 use Rattle.xs_resp.specs.Items.{Token, simple, error, int, bulk, null_bulk, array_of, null_array}
 use Rattle.xs_resp.specs.ReplyItems.{tokens_of}
-
--- the end of a line, CR LF
-abbrev pub crlf : List ℕ
-crlf = 13 ∷ 10 ∷ []
-
--- a marker, a number and the end of the line
-abbrev pub line : ℕ → ℕ → List ℕ
-line marker n = marker ∷ decimal n ++ crlf
 
 -- what a simple string says
 abbrev pub simple_text : Simple → List ℕ

@@ -1,13 +1,72 @@
 //! Laws of the definitions that the contracts cite. Each is a function that does nothing.
-ghost use Rattle.std.specs.Prelude.{◌≡◌, ◌++◌, List, length};
-ghost use Rattle.std.specs.List.{flat_map};
+ghost use Rattle.std.specs.Prelude.{◌≡◌, ◌≤◌, ◌↔◌, ℕ, List, [], ◌++◌, length, take, Ok, Err, Some, None};
+ghost use Rattle.std.specs.List.{flat_map, concat};
 ghost use Rattle.xs_resp.specs.declared.reply.Reply.{Reply};
+ghost use Rattle.xs_resp.specs.declared.read_fault.Wrong.{Wrong};
 ghost use Rattle.xs_resp.specs.ReplyItems.{items_of};
-ghost use Rattle.xs_resp.specs.ReplyText.{text, line};
+ghost use Rattle.xs_resp.specs.ReplyText.{text};
+ghost use Rattle.xs_resp.specs.Line.{line};
+ghost use Rattle.xs_resp.specs.Outcome.{Keeps};
+ghost use Rattle.xs_resp.specs.Reading.{Found, request};
+ghost use Rattle.xs_resp.specs.Grammar.{Spells, FaultIn};
+ghost use Rattle.xs_resp.specs.Held.{Held};
+ghost use Rattle.xs_resp.specs.Pieces.{Reads, ReadsPieces};
 
 /// The text of an array is its header, and then the texts of its items.
-#[tactic(auto, unfolding(crate::specs::ReplyText::text))]
 pub fn array_text()
     ensures { (replies : List Reply) →
         text (Reply.Array (items_of replies)) ≡ line 42 (length replies) ++ flat_map text replies }
+{}
+
+/// A request is read exactly where it is spelled.
+pub fn request_is_spelled()
+    ensures { (bytes : List ℕ) (found : Found) →
+        (request bytes ≡ Ok (Some found))
+        ↔ ((found.end ≤ length bytes) × Spells (take found.end bytes) found.words) }
+{}
+
+/// A fault is answered exactly where it stands.
+pub fn fault_stands()
+    ensures { (bytes : List ℕ) (wrong : Wrong) →
+        (request bytes ≡ Err wrong) ↔ FaultIn bytes wrong }
+{}
+
+/// Nothing is answered exactly where no front of the bytes is a request and no fault stands.
+pub fn neither_stands()
+    ensures { (bytes : List ℕ) →
+        (request bytes ≡ Ok None)
+        ↔ (((end : ℕ) (words : List (List ℕ)) → Spells (take end bytes) words → ⊥)
+        × ((wrong : Wrong) → FaultIn bytes wrong → ⊥)) }
+{}
+
+/// No spelling is a proper prefix of another.
+pub fn spelling_begins_no_other()
+    ensures { (bytes others rest more : List ℕ) (words names : List (List ℕ)) →
+        Spells bytes words → Spells others names → bytes ++ rest ≡ others ++ more →
+        (bytes ≡ others) × (words ≡ names) }
+{}
+
+/// What is decided on some bytes, a request or a fault, stays so on every continuation.
+pub fn decision_stays()
+    ensures { (bytes more : List ℕ) → Keeps (request bytes) (request (bytes ++ more)) }
+{}
+
+/// However the bytes are cut into pieces, the requests that are read, and what is held behind
+/// them, are those of the bytes joined.
+pub fn pieces_are_joined()
+    ensures { (pieces : List (List ℕ)) (requests : List (List (List ℕ))) (held : Held) →
+        ReadsPieces (Ok []) pieces requests held → Reads (concat pieces) requests held }
+{}
+
+/// Some bytes read in one way only.
+pub fn reading_is_one()
+    ensures { (bytes : List ℕ) (requests others : List (List (List ℕ))) (held other : Held) →
+        Reads bytes requests held → Reads bytes others other →
+        (requests ≡ others) × (held ≡ other) }
+{}
+
+/// All bytes are read: as some requests, and what is held behind them.
+pub fn bytes_are_read()
+    ensures { (bytes : List ℕ) →
+        (requests : List (List (List ℕ))) × ((held : Held) × Reads bytes requests held) }
 {}

@@ -1,13 +1,21 @@
 //! RESP2, the protocol of Redis: replies as bytes, and requests out of bytes.
 #![tactic(auto)]
 
+mod copying;
 pub mod fault;
+mod header;
 pub mod laws;
+mod progress;
+pub mod read_fault;
 pub mod reply;
-#[cfg(test)]
-mod tests;
+pub mod requests;
+mod word;
+pub mod words;
 pub mod writing;
 
 pub use fault::Fault;
+pub use read_fault::{ReadFault, Wrong};
 pub use reply::{Replies, Reply, Simple};
+pub use requests::Requests;
+pub use words::Words;
 pub use writing::encode;

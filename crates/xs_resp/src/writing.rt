@@ -1,7 +1,8 @@
 //! Replies as bytes (RESP protocol specification, version 2).
 ghost use Rattle.std.specs.Prelude.{◌≡◌, ◌++◌, ◌∷◌, OnOk, OnErr, length};
 ghost use Rattle.std.specs.List.{flat_map};
-ghost use Rattle.xs_resp.specs.ReplyText.{text, token_text, line, simple_text, crlf, Writes};
+ghost use Rattle.xs_resp.specs.ReplyText.{text, token_text, simple_text, Writes};
+ghost use Rattle.xs_resp.specs.Line.{line, crlf};
 ghost use Rattle.xs_resp.specs.FaultText.{fault_text};
 
 use crate::fault::Fault;
@@ -85,3 +86,6 @@ fn write_fault(fault: Fault, out: &mut Vec<u8>) -> Result<(), AllocError>
     out.extend_from_slice(fault.text().as_bytes())?;
     out.extend_from_slice(b"\r\n")
 }
+
+#[cfg(test)]
+mod tests;

@@ -1,6 +1,6 @@
 //! Readers and writers, and what contracts see of them: their bytes, where they tell them, how many calls
 //! they have answered, whether they have failed, and whether the end was met.
-ghost use Rattle.std.specs.Prelude.{◌≡◌, ℕ, ◌+◌, ◌≤◌, Bool, ◌||◌, List, Option, IfOk, length, is_err};
+ghost use Rattle.std.specs.Prelude.{◌≡◌, ℕ, ◌+◌, ◌≤◌, Bool, false, ◌||◌, List, Option, IfOk, length, is_err};
 ghost use Rattle.std.specs.Io.KnownBytes.{ReadConsumes, WriteAppends};
 ghost use Rattle.xs_server.specs.Device.{capped, is_end, is_failure};
 
@@ -64,7 +64,10 @@ pub struct FromRead<R: Read + Drop> {
 impl<R: Read + Drop> FromRead<R> {
     /// The reader, before its first call. It takes no memory.
     pub fn new(inner: R) -> Self
-        ensures calls { result.calls ≡ 0 }
+        ensures rest { ⟦<FromRead<R> as Source>⟧.rest result ≡ R.remaining inner }
+        ensures calls { ⟦<FromRead<R> as Source>⟧.calls result ≡ 0 }
+        ensures broken { ⟦<FromRead<R> as Source>⟧.broken result ≡ false }
+        ensures ended { ⟦<FromRead<R> as Source>⟧.ended result ≡ false }
     {
         Self {
             inner,
@@ -113,7 +116,9 @@ pub struct ToWrite<W: Write + Drop> {
 impl<W: Write + Drop> ToWrite<W> {
     /// The writer, before its first call. It takes no memory.
     pub fn new(inner: W) -> Self
-        ensures calls { result.calls ≡ 0 }
+        ensures held { ⟦<ToWrite<W> as Sink>⟧.held result ≡ W.contents inner }
+        ensures calls { ⟦<ToWrite<W> as Sink>⟧.calls result ≡ 0 }
+        ensures broken { ⟦<ToWrite<W> as Sink>⟧.broken result ≡ false }
     {
         Self {
             inner,

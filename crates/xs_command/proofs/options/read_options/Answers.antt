@@ -1,4 +1,4 @@
-use Rattle.std.proofs.Common.{◌≡◌, ◌-◌, Ok, None, sym, ap, ◌∙◌}
+use Rattle.std.proofs.Common.{◌≡◌, ◌-◌, Ok, sym, ◌∙◌}
 use Rattle.std.proofs.lemmas.Result.{err_from_is_err_and}
 use Rattle.xs_command.specs.Words.{word}
 use Rattle.xs_command.specs.Options.{many}
@@ -18,13 +18,12 @@ returns-in_err-read g c =
 pub returns-in_default-behind : goal.returns-in_default-behind
 returns-in_default-behind g c =
     let next : word c.loop-turn.left ≡ Ok (c.in-Ok.name, c.in-Ok.rest) = cc in
-    let none : c.in_ok-read.behind ≡ None = c.in_default-behind.is in
-    stops g.S.Options.option c.len-turn-end.result c.loop-turn._turn c.loop-turn.state c.in_ok-read.read c.loop-turn.left (c.in-Ok.name, c.in-Ok.rest) (many g.S.Options.option c.args.none c.args.words) c.loop-turn-test.true next (c.in_ok-read.ensures ∙ ap (λ b. Ok (c.in_ok-read.read, b)) none) c.loop-turn.invariant
+    stops g.S.Options.option c.len-turn-end.result c.loop-turn._turn c.loop-turn.state c.in_ok-read.read c.loop-turn.left c.in_ok-read.behind (c.in-Ok.name, c.in-Ok.rest) (many g.S.Options.option c.args.none c.args.words) c.loop-turn-test.true next c.in_ok-read.ensures c.in_default-behind.is c.loop-turn.invariant
 
 pub loop-turn-preserved : goal.loop-turn-preserved
 loop-turn-preserved g c =
     let next : word c.loop-turn.left ≡ Ok (c.in-Ok.name, c.in-Ok.rest) = cc in
-    goes_on g.S.Options.option c.len-turn-end.result c.loop-turn._turn c.loop-turn.state c.in_ok-read.read c.loop-turn.left c.in-Some.behind (c.in-Ok.name, c.in-Ok.rest) (many g.S.Options.option c.args.none c.args.words) c.loop-turn-test.true next (c.in_ok-read.ensures ∙ ap (λ b. Ok (c.in_ok-read.read, b)) c.in-Some.is) c.loop-turn.invariant
+    goes_on g.S.Options.option c.len-turn-end.result c.loop-turn._turn c.loop-turn.state c.in_ok-read.read c.loop-turn.left c.in-Some.behind c.in_ok-read.behind (c.in-Ok.name, c.in-Ok.rest) (many g.S.Options.option c.args.none c.args.words) c.loop-turn-test.true next c.in_ok-read.ensures c.in-Some.is c.loop-turn.invariant
 
 pub returns : goal.returns
 returns g c = sym c.loop-turn.invariant ∙ is_done g.S.Options.option c.len-turn-end.result c.loop-turn._turn c.loop-turn.state c.loop-turn.left c.loop-turn-test.false

@@ -3,7 +3,8 @@ use Rattle.std.specs.List.{flat_map}
 use Rattle.std.proofs.lemmas.Result.{err_from_is_err_and}
 use Rattle.xs_resp.specs.Items.{Items}
 use Rattle.xs_resp.specs.ReplyItems.{tokens_of}
-use Rattle.xs_resp.specs.ReplyText.{text, token_text, line}
+use Rattle.xs_resp.specs.ReplyText.{text, token_text}
+use Rattle.xs_resp.specs.Line.{line}
 use Rattle.xs_resp.proofs.Replying.{texts-more, tokens-of-item-le, front-kept, text-more}
 use Rattle.xs_resp.proofs.writing.+writing.Goals as goal
 

@@ -1,7 +1,8 @@
 use Rattle.std.proofs.Common.{◌≡◌, ◌++◌, length, ◌+◌, ◌*◌, take}
 use Rattle.std.specs.List.{flat_map}
 use Rattle.xs_resp.specs.ReplyItems.{tokens_of}
-use Rattle.xs_resp.specs.ReplyText.{token_text, line}
+use Rattle.xs_resp.specs.ReplyText.{token_text}
+use Rattle.xs_resp.specs.Line.{line}
 use Rattle.xs_resp.proofs.writing.+writing.Given as goal
 
 -- a reply has a part more than the items that it may hold

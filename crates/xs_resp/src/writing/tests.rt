@@ -1,4 +1,6 @@
 use super::*;
+use crate::fault::Fault;
+use crate::reply::{Replies, Simple};
 use std::alloc::{AllocError, Global};
 use std::test::Fail;
 use xs_bytes::Bytes;
@@ -121,19 +123,21 @@ fn gives_the_items_back(rt: HostRuntime) -> Result<(), Fail> {
     Ok(())
 }
 
-// Run with a refused allocation this meets the refusal of each growth of the text.
+// Run with refused allocations this meets the refusal of each growth of the text.
 #[test]
-fn a_refusal_leaves_the_text(rt: HostRuntime) -> Result<(), Fail> {
+fn a_refusal_leaves_the_text(rt: HostRuntime) {
     let alloc = rt.alloc();
-    let reply = history(alloc)?;
-    let mut out = Vec::from_slice(alloc, b"+OK\r\n")?;
+    let (Ok(reply), Ok(mut out)) = (history(alloc), Vec::from_slice(alloc, b"+OK\r\n")) else {
+        return;
+    };
     if encode(&reply, &mut out).is_err() {
         assert_eq!(rt; out.as_slice(), b"+OK\r\n".as_slice());
-        encode(&reply, &mut out)?;
+        if encode(&reply, &mut out).is_err() {
+            return;
+        }
     }
     assert_eq!(rt;
         out.as_slice(),
         b"+OK\r\n*2\r\n*2\r\n$3\r\n1-0\r\n*-1\r\n*2\r\n$7\r\n1000-12\r\n*2\r\n$1\r\nf\r\n$0\r\n\r\n".as_slice()
     );
-    Ok(())
 }

@@ -1,0 +1,35 @@
+-- What a reader of requests holds, and what its calls do.
+use Rattle.std.specs.Prelude.{◌≡◌, ℕ, ◌==◌, Bool, false, not, List, ◌++◌, length, drop, Option, Some, None, Result, Ok, Err, ◌⊎◌}
+use Rattle.xs_resp.specs.declared.read_fault.Wrong.{Wrong}
+use Rattle.xs_resp.specs.declared.read_fault.ReadFault.{ReadFault}
+use Rattle.xs_resp.specs.declared.read_fault.ReadFault.TheVariants.{Memory}
+use Rattle.xs_resp.specs.Outcome.{Outcome}
+use Rattle.xs_resp.specs.Faulting.{fault_of}
+use Rattle.xs_resp.specs.Reading.{Found, request}
+
+-- the bytes that a reader holds, or the fault with which it has failed
+abbrev pub Held : Type 0
+Held = Result (List ℕ) Wrong
+
+-- a piece more
+abbrev pub fed : Held → List ℕ → Held
+fed (Ok bytes) piece = Ok (bytes ++ piece)
+fed (Err wrong) piece = Err wrong
+
+-- whether bytes are held
+abbrev pub is_partial : Held → Bool
+is_partial (Ok bytes) = not (length bytes == 0)
+is_partial (Err wrong) = false
+
+-- the next request of bytes: its words, and the bytes behind it; or want of memory, unchanged;
+-- nothing yet, unchanged; or a fault, which is held from then on
+abbrev pub NextOf : List ℕ → Outcome Found → Result (Option (List (List ℕ))) ReadFault → Held → Type 0
+NextOf bytes (Ok (Some found)) result new =
+    ((result ≡ Ok (Some found.words)) × (new ≡ Ok (drop found.end bytes))) ⊎ ((result ≡ Err Memory) × (new ≡ Ok bytes))
+NextOf bytes (Ok None) result new = (result ≡ Ok None) × (new ≡ Ok bytes)
+NextOf bytes (Err wrong) result new = (result ≡ Err (fault_of wrong)) × (new ≡ Err wrong)
+
+-- the next request of what is held: a failed reader answers its fault for good
+abbrev pub Next : Held → Result (Option (List (List ℕ))) ReadFault → Held → Type 0
+Next (Ok bytes) result new = NextOf bytes (request bytes) result new
+Next (Err wrong) result new = (result ≡ Err (fault_of wrong)) × (new ≡ Err wrong)

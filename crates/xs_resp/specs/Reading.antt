@@ -1,0 +1,49 @@
+-- How words and requests are read from the front of some bytes.
+use Rattle.std.specs.Prelude.{◌≡◌, ℕ, ◌+◌, ◌-◌, ◌==◌, List, [], ◌∷◌, ◌++◌, take, drop, zero, suc, Some, None, Ok, Err, if◌then◌else◌}
+use Rattle.xs_resp.specs.declared.header.Part.TheVariants.{Count, Size}
+use Rattle.xs_resp.specs.declared.word.Span.{Span}
+use Rattle.xs_resp.specs.declared.read_fault.Wrong.TheVariants.{Shape}
+use Rattle.xs_resp.specs.Outcome.{Outcome, ◌>>=◌}
+use Rattle.xs_resp.specs.Header.{header}
+
+-- words, and the index behind them
+pub record Found : Type 0 where
+  pub words : List (List ℕ)
+  pub end : ℕ
+
+-- the CR LF behind the bytes of a word, which stand between these indices
+abbrev pub closed : ℕ → ℕ → List ℕ → Outcome Span
+closed start end [] = Ok None
+closed start end (cr ∷ []) = if cr == 13 then Ok None else Err Shape
+closed start end (cr ∷ lf ∷ rest) = if cr == 13 then (if lf == 10 then Ok (Some (record { start = start; end = end })) else Err Shape) else Err Shape
+
+-- a header, that many bytes, and CR LF
+unfoldable pub word : List ℕ → Outcome Span
+word bytes = header Size bytes >>= λ h. closed h.end (h.end + h.number) (drop (h.end + h.number) bytes)
+
+-- the bytes of a word
+abbrev pub text_in : List ℕ → Span → List ℕ
+text_in bytes span = take (span.end - span.start) (drop span.start bytes)
+
+-- what is read behind these words, which end at this index
+abbrev pub after : List (List ℕ) → ℕ → Outcome Found → Outcome Found
+after words end rest = rest >>= λ found. Ok (Some (record { words = words ++ found.words; end = end + found.end }))
+
+-- this many words
+unfoldable pub words : ℕ → List ℕ → Outcome Found
+words zero bytes = Ok (Some (record { words = []; end = 0 }))
+words (suc n) bytes = word bytes >>= λ span. after (text_in bytes span ∷ []) (span.end + 2) (words n (drop (span.end + 2) bytes))
+
+-- a request: a header, and that many words
+unfoldable pub request : List ℕ → Outcome Found
+request bytes = header Count bytes >>= λ h. after [] h.end (words h.number (drop h.end bytes))
+
+-- something was read
+abbrev pub IsWhole : Outcome Found → Type 0
+IsWhole outcome = (found : Found) × (outcome ≡ Ok (Some found))
+
+-- these words were read
+abbrev pub HasWords : Outcome Found → List (List ℕ) → Type 0
+HasWords (Ok (Some found)) texts = texts ≡ found.words
+HasWords (Ok None) texts = ⊥
+HasWords (Err wrong) texts = ⊥

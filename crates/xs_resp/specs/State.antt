@@ -1,0 +1,18 @@
+-- What a reader knows of the bytes that it holds.
+use Rattle.std.specs.Prelude.{ℕ, List, Ok, Err}
+use Rattle.xs_resp.specs.declared.requests.State.{State}
+use Rattle.xs_resp.specs.declared.requests.State.TheVariants.{Between, Within, Failed}
+use Rattle.xs_resp.specs.Held.{Held}
+use Rattle.xs_resp.specs.Progress.{Follows}
+
+-- what is held, of these bytes in this state
+abbrev pub held_in : State → List ℕ → Held
+held_in Between bytes = Ok bytes
+held_in (Within progress) bytes = Ok bytes
+held_in (Failed wrong) bytes = Err wrong
+
+-- what is known of the bytes
+abbrev pub IsState : State → List ℕ → Type 0
+IsState Between bytes = Unit {0}
+IsState (Within progress) bytes = Follows bytes progress
+IsState (Failed wrong) bytes = Unit {0}

@@ -1,0 +1,138 @@
+//! The reader of requests, from bytes that come in pieces.
+ghost use Rattle.std.specs.Prelude.{◌≡◌, ◌≤◌, ◌-◌, length, drop, IsOk, IsErr, OnOk, OnErr, IfOk, Ok, Err};
+ghost use Rattle.xs_resp.specs.Held.{fed, is_partial, Next};
+
+use crate::copying::words_of;
+use crate::progress::{Progress, read_on};
+use crate::read_fault::{ReadFault, Wrong};
+use crate::word::rest_of;
+use crate::words::Words;
+use std::alloc::{AllocError, Global};
+use std::marker::Model;
+
+/// Where a reader stands.
+#[derive(Clone, Copy, Debug, PartialEq, Eq)]
+enum State {
+    /// At the front of a request.
+    Between,
+    /// Behind the header of a request.
+    Within(Progress),
+    /// At a fault, for good.
+    Failed(Wrong),
+}
+
+/// A reader of requests: bytes are fed to it in pieces, and whole requests are taken from it.
+/// A contract sees the bytes that it holds, or the fault with which it has failed.
+#[derive(Debug, Drop)]
+pub struct Requests {
+    alloc: Global,
+    bytes: Vec<u8>,
+    start: usize,
+    state: State,
+}
+
+impl Model for Requests {
+    ghost use Rattle.std.specs.Prelude.{◌≤◌, drop, length};
+    ghost use Rattle.xs_resp.specs.Held.{Held};
+
+    ghost Value = { Held };
+
+    ghost use Rattle.xs_resp.specs.State.{held_in, IsState};
+
+    ghost view = { λ r. held_in r.state (drop r.start r.bytes.items) };
+
+    ghost invariant = { λ r. (r.start ≤ length r.bytes.items) × IsState r.state (drop r.start r.bytes.items) };
+}
+
+impl Requests {
+    ghost use Rattle.std.specs.Prelude.{◌≡◌, [], OnOk, OnErr, IsOk, IsErr, Ok};
+    ghost use Rattle.xs_resp.specs.Held.{fed, is_partial, Next};
+
+    /// A reader that holds nothing.
+    pub fn new(alloc: Global) -> Self
+        ensures { result ≡ Ok [] }
+    {
+        Self {
+            alloc,
+            bytes: Vec::new(alloc),
+            start: 0,
+            state: State::Between,
+        }
+    }
+
+    /// Takes a piece in. A failed reader drops it, and takes no memory. Unchanged on refusal.
+    pub fn feed(&mut self, piece: &[u8]) -> Result<(), AllocError>
+        ensures ok { OnOk result (self.new ≡ fed self.old piece.now) }
+        ensures err { OnErr result (self.new ≡ self.old) }
+        ensures failed { IsErr self.old → IsOk result }
+    {
+        if let State::Failed(_) = self.state {
+            return Ok(());
+        }
+        let used = make_room(&mut self.bytes, self.start);
+        self.start -= used;
+        self.bytes.extend_from_slice(piece)
+    }
+
+    /// The words of the next request, which is taken out. None while it isn't whole.
+    /// It takes memory only where a request is whole.
+    ///
+    /// # Errors
+    /// `Memory`, and the reader is unchanged; else what is wrong with the bytes, for good.
+    pub fn next(&mut self) -> Result<Option<Words>, ReadFault>
+        ensures { Next self.old result self.new }
+    {
+        let progress = match self.state {
+            State::Between => None,
+            State::Within(progress) => Some(progress),
+            State::Failed(wrong) => return Err(ReadFault::from(wrong)),
+        };
+        let bytes = rest_of(self.bytes.as_slice(), self.start);
+        let reached = match read_on(bytes, progress) {
+            Ok(Some(progress)) => progress,
+            Ok(None) => return Ok(None),
+            Err(wrong) => {
+                self.state = State::Failed(wrong);
+                return Err(ReadFault::from(wrong));
+            }
+        };
+        self.state = State::Within(reached);
+        if reached.left > 0 {
+            return Ok(None);
+        }
+        let Ok(words) = words_of(self.alloc, rest_of(self.bytes.as_slice(), self.start)) else {
+            return Err(ReadFault::Memory);
+        };
+        self.start += reached.at;
+        self.state = State::Between;
+        Ok(Some(words))
+    }
+
+    /// Whether bytes are held. A failed reader holds none.
+    pub fn partial(&self) -> bool
+        ensures { result ≡ is_partial self.now }
+    {
+        match self.state {
+            State::Failed(_) => false,
+            State::Between | State::Within(_) => self.start < self.bytes.len(),
+        }
+    }
+}
+
+/// Moves the bytes from an index on to the front, where half of all is used up, and tells how
+/// many went.
+fn make_room(bytes: &mut Vec<u8>, start: usize) -> usize
+    requires { start ≤ length bytes.old.items }
+    ensures used { result ≤ start }
+    ensures within { start - result ≤ length bytes.new.items }
+    ensures rest { drop (start - result) bytes.new.items ≡ drop start bytes.old.items }
+{
+    if start < bytes.len() - start {
+        return 0;
+    }
+    drop(bytes.drain(..start));
+    start
+}
+
+#[cfg(test)]
+mod tests;

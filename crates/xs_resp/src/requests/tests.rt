@@ -1,0 +1,198 @@
+use super::*;
+use std::test::Fail;
+
+const REQUESTS: &[u8] = b"*1\r\n$4\r\nPING\r\n*0\r\n*-1\r\n*2\r\n$4\r\nping\r\n$2\r\nhi\r\n";
+
+const TOLD: &[u8] = b"PING \n\n\nping hi \n";
+
+/// Takes what the reader has: the words of a request in a line, each with a space behind it.
+fn tell(reader: &mut Requests, told: &mut Vec<u8>) -> Result<Option<ReadFault>, AllocError> {
+    for _ in 0..9 {
+        match reader.next() {
+            Ok(Some(words)) => {
+                for word in words.as_slice() {
+                    told.extend_from_slice(word.as_slice())?;
+                    told.push(b' ')?;
+                }
+                told.push(b'\n')?;
+            }
+            Ok(None) => return Ok(None),
+            Err(fault) => return Ok(Some(fault)),
+        }
+    }
+    Ok(None)
+}
+
+/// The fault of bytes that are fed whole, or byte by byte.
+fn fault_of(alloc: Global, bytes: &[u8], whole: bool) -> Result<Option<ReadFault>, AllocError> {
+    let mut reader = Requests::new(alloc);
+    let mut told = Vec::new(alloc);
+    if whole {
+        reader.feed(bytes)?;
+        return tell(&mut reader, &mut told);
+    }
+    for byte in bytes {
+        reader.feed(&[*byte])?;
+        let fault = tell(&mut reader, &mut told)?;
+        if fault.is_some() {
+            return Ok(fault);
+        }
+    }
+    Ok(None)
+}
+
+#[test]
+fn reads_requests_cut_anywhere(rt: HostRuntime) -> Result<(), Fail> {
+    let alloc = rt.alloc();
+    for cut in 0..REQUESTS.len() {
+        let (front, back) = REQUESTS.split_at(cut);
+        let mut reader = Requests::new(alloc);
+        let mut told = Vec::new(alloc);
+        for piece in [front, back] {
+            reader.feed(piece)?;
+            assert_eq!(rt; tell(&mut reader, &mut told)?, None);
+        }
+        assert_eq!(rt; told.as_slice(), TOLD, "cut at {cut}");
+        assert!(rt; !reader.partial());
+    }
+    Ok(())
+}
+
+#[test]
+fn reads_requests_byte_by_byte(rt: HostRuntime) -> Result<(), Fail> {
+    let alloc = rt.alloc();
+    let mut reader = Requests::new(alloc);
+    let mut told = Vec::new(alloc);
+    for byte in REQUESTS {
+        reader.feed(&[*byte])?;
+        assert_eq!(rt; tell(&mut reader, &mut told)?, None);
+    }
+    assert_eq!(rt; told.as_slice(), TOLD);
+    Ok(())
+}
+
+#[test]
+fn tells_each_fault(rt: HostRuntime) -> Result<(), Fail> {
+    let alloc = rt.alloc();
+    for (text, fault) in [
+        ("*1\r\n$03\r\nabc\r\n", ReadFault::Length),
+        ("*\r\n", ReadFault::Length),
+        ("*-2\r\n", ReadFault::Length),
+        ("*01\r\n", ReadFault::Length),
+        ("*1\r\n$-1\r\n", ReadFault::Length),
+        ("*1\r\n$-5\r\n", ReadFault::Length),
+        ("PING\r\n", ReadFault::Shape),
+        ("*1\r\n$4\r\nPINGx", ReadFault::Shape),
+        ("*1\r\n$1\r\na\rx", ReadFault::Shape),
+        ("*1\rx", ReadFault::Shape),
+        ("$1\r\n", ReadFault::Shape),
+        ("*1\r\n*1\r\n", ReadFault::Shape),
+        ("*1048577\r\n", ReadFault::Limit),
+        ("*1\r\n$536870913\r\n", ReadFault::Limit),
+        ("*111111111111111111111111111111", ReadFault::Limit),
+        ("*18446744073709551616\r\n", ReadFault::Limit),
+    ] {
+        assert_eq!(rt;
+            fault_of(alloc, text.as_bytes(), true)?,
+            Some(fault),
+            "{text}"
+        );
+        assert_eq!(rt;
+            fault_of(alloc, text.as_bytes(), false)?,
+            Some(fault),
+            "{text}"
+        );
+    }
+    Ok(())
+}
+
+#[test]
+fn waits_for_the_rest(rt: HostRuntime) -> Result<(), Fail> {
+    let alloc = rt.alloc();
+    for text in [
+        "*1\r\n$4\r\n",
+        "*1048576\r\n",
+        "*1\r\n$536870912\r\n",
+        "*11111111111111111111111111111",
+        "*1\r\n$4\r\nPING\r",
+    ] {
+        let mut reader = Requests::new(alloc);
+        reader.feed(text.as_bytes())?;
+        assert!(rt; matches!(reader.next(), Ok(None)), "{text}");
+        assert!(rt; reader.partial());
+    }
+    Ok(())
+}
+
+#[test]
+fn keeps_a_fault(rt: HostRuntime) -> Result<(), Fail> {
+    let alloc = rt.alloc();
+    let mut reader = Requests::new(alloc);
+    let mut told = Vec::new(alloc);
+    reader.feed(b"*1\r\n$4\r\nPING\r\nPING\r\n")?;
+    assert_eq!(rt; tell(&mut reader, &mut told)?, Some(ReadFault::Shape));
+    assert_eq!(rt; told.as_slice(), b"PING \n".as_slice());
+    reader.feed(b"*1\r\n$4\r\nPING\r\n")?;
+    assert_eq!(rt; tell(&mut reader, &mut told)?, Some(ReadFault::Shape));
+    assert_eq!(rt; told.as_slice(), b"PING \n".as_slice());
+    assert!(rt; !reader.partial());
+    Ok(())
+}
+
+#[test]
+fn prints_its_faults(rt: HostRuntime) -> Result<(), Fail> {
+    let alloc = rt.alloc();
+    for (fault, text) in [
+        (
+            ReadFault::Length,
+            "a number of words or a size of a word is no number",
+        ),
+        (ReadFault::Shape, "a marker or a line end is missing"),
+        (
+            ReadFault::Limit,
+            "a number of words, a size of a word or a header is above its limit",
+        ),
+        (ReadFault::Memory, "out of memory"),
+    ] {
+        assert_eq!(rt; format!(in alloc; "{fault}")?.as_bytes(), text.as_bytes());
+    }
+    Ok(())
+}
+
+// Run with refused allocations this meets the refusal of each growth of a reader.
+#[test]
+fn a_refusal_leaves_the_reader(rt: HostRuntime) {
+    let mut reader = Requests::new(rt.alloc());
+    if reader.feed(b"*2\r\n$4\r\nping\r\n").is_err() {
+        assert!(rt; !reader.partial());
+        return;
+    }
+    assert!(rt; matches!(reader.next(), Ok(None)));
+    if reader.feed(b"$2\r\nhi\r\n*0\r\n").is_err() {
+        assert!(rt; matches!(reader.next(), Ok(None)));
+        return;
+    }
+    for _ in 0..4 {
+        match reader.next() {
+            Ok(Some(words)) => {
+                assert_eq!(rt; words.len(), 2);
+                assert!(rt; reader.partial());
+                assert!(rt; !matches!(reader.next(), Ok(None)));
+                return;
+            }
+            Err(ReadFault::Memory) => assert!(rt; reader.partial()),
+            Ok(None) | Err(_) => assert!(rt; false),
+        }
+    }
+}
+
+// Run with its second allocation refused this shows that next asks for none.
+#[test]
+fn a_promised_length_takes_no_memory(rt: HostRuntime) {
+    for text in ["*1048576\r\n", "*1\r\n$536870912\r\n"] {
+        let mut reader = Requests::new(rt.alloc());
+        if reader.feed(text.as_bytes()).is_ok() {
+            assert!(rt; matches!(reader.next(), Ok(None)));
+        }
+    }
+}
