@@ -1,1 +1,6 @@
 pub mod Rule
+pub mod State
+pub mod Read
+pub mod Claims
+pub mod Changes
+pub mod Report

@@ -2,6 +2,12 @@
 //! Streams", and of the pages of the XGROUP commands, XREADGROUP, XACK, XPENDING, XCLAIM and XAUTOCLAIM.
 #![tactic(auto)]
 
+pub mod claim;
 pub mod claim_rule;
+pub mod delivery;
+pub mod report;
 
+pub use claim::{Claim, Scan};
 pub use claim_rule::{ClaimRule, ClaimTime};
+pub use delivery::{Delivery, DeliveryKind, DeliveryRow, DeliveryRows, Touch};
+pub use report::{GroupSummary, OwnerCount, OwnerCounts, PendingRow};

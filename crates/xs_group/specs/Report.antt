@@ -1,0 +1,51 @@
+-- What is pending. (Redis, XPENDING: "Summary form", "Extended form".)
+use Rattle.std.specs.Prelude.{ℕ, Bool, true, ◌&&◌, List, [], ◌∷◌, map, filter, take, length, nat_le, nat_lt, Option}
+use Rattle.std.specs.Prelude.{Some, None}
+use Rattle.xs_bytes.specs.SortedMap.{keys}
+use Rattle.xs_stream.specs.declared.id.Id.{Id}
+use Rattle.xs_stream.specs.declared.range.Range.{Range}
+use Rattle.xs_stream.specs.Range.{is_within}
+use Rattle.xs_group.specs.declared.report.OwnerCount.{OwnerCount}
+use Rattle.xs_group.specs.declared.report.GroupSummary.{GroupSummary}
+use Rattle.xs_group.specs.declared.report.PendingRow.{PendingRow}
+use Rattle.xs_group.specs.State.{Row, State, is_name, idle}
+use Rattle.xs_group.specs.Read.{owned}
+
+abbrev pub first_id : List (Id × Row) → Option Id
+first_id [] = None
+first_id (e ∷ es) = Some e.0
+
+abbrev pub last_id : List (Id × Row) → Option Id
+last_id [] = None
+last_id (e ∷ []) = Some e.0
+last_id (e ∷ f ∷ es) = last_id (f ∷ es)
+
+-- each of these consumers with the number of its rows
+abbrev pub counted : List (List ℕ) → List (Id × Row) → List OwnerCount
+counted names rows = map (λ name. record { consumer = name; count = length (owned name rows) }) names
+
+-- the summary: how many rows, the least and the greatest id, and the consumers that have rows,
+-- in the order of their bytes
+abbrev pub summary_of : State → GroupSummary
+summary_of group =
+    let rows = group.rows.entries in
+    record {
+      total = length rows;
+      least = first_id rows;
+      greatest = last_id rows;
+      owners = filter (λ owner. nat_lt 0 owner.count) (counted (keys group.consumers) rows);
+    }
+
+-- the row of one consumer, where one is named
+abbrev pub is_of : Option (List ℕ) → Row → Bool
+is_of None row = true
+is_of (Some consumer) row = is_name row.consumer consumer
+
+abbrev pub pending_row : ℕ → Id × Row → PendingRow
+pending_row now e = record { id = e.0; consumer = e.1.consumer; idle = idle now e.1.time; count = e.1.count }
+
+-- the first rows of a range that are idle for long enough, of one consumer where one is named
+abbrev pub pending_of : Range → ℕ → ℕ → ℕ → Option (List ℕ) → State → List PendingRow
+pending_of range min_idle now limit consumer group =
+    let is_asked = λ e. is_within range e.0 && (nat_le min_idle (idle now e.1.time) && is_of consumer e.1) in
+    take limit (map (pending_row now) (filter is_asked group.rows.entries))
