@@ -44,8 +44,12 @@ is_of (Some consumer) row = is_name row.consumer consumer
 abbrev pub pending_row : ℕ → Id × Row → PendingRow
 pending_row now e = record { id = e.0; consumer = e.1.consumer; idle = idle now e.1.time; count = e.1.count }
 
--- the first rows of a range that are idle for long enough, of one consumer where one is named
+-- a row in a range that is idle for long enough, of the consumer where one is named
+abbrev pub is_asked : Range → ℕ → ℕ → Option (List ℕ) → Id × Row → Bool
+is_asked range min_idle now consumer e =
+    is_within range e.0 && (nat_le min_idle (idle now e.1.time) && is_of consumer e.1)
+
+-- the first of these rows
 abbrev pub pending_of : Range → ℕ → ℕ → ℕ → Option (List ℕ) → State → List PendingRow
 pending_of range min_idle now limit consumer group =
-    let is_asked = λ e. is_within range e.0 && (nat_le min_idle (idle now e.1.time) && is_of consumer e.1) in
-    take limit (map (pending_row now) (filter is_asked group.rows.entries))
+    take limit (map (pending_row now) (filter (is_asked range min_idle now consumer) group.rows.entries))
