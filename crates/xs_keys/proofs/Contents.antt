@@ -1,106 +1,385 @@
 -- The content that a history leaves: the empty one, one event more, and that there is one.
-use Rattle.std.proofs.Common.{◌≡◌, ℕ, Bool, true, false, cond, ◌||◌, List, [], ◌∷◌, Option, Some, None, sym, ap, ◌∙◌, refl, subst}
+use Rattle.std.proofs.Common.{◌≡◌, ℕ, Bool, true, false, cond, ◌||◌, ◌&&◌, List, [], ◌∷◌, Option, Some, None, is_some, sym, ap, ◌∙◌, refl, subst}
 use Rattle.std.proofs.lemmas.Bool.{false≢true}
-use Rattle.std.specs.FinMap as map
 use Rattle.std.specs.Option.{option_map}
-use Rattle.std.specs.Ordering.{nat_cmp, eq_by_cmp, is_eq}
-use Rattle.std.specs.declared.cmp.Ordering.{Ordering}
-use Rattle.std.specs.declared.cmp.Ordering.TheVariants.{Less, Equal, Greater}
-use Rattle.std.specs.Cmp.{IsTotalOrder}
-use Rattle.std.specs.Cmp.Lexicographic.{slice_cmp, nat_list_cmp_total}
+use Rattle.std.specs.List.{list_all}
+use Rattle.xs_bytes.specs.SortedMap.{NameMap, empty, get, has_key, insert, remove}
+use Rattle.xs_bytes.proofs.SortedMaps.{get-empty, same_entries_map}
+use Rattle.std.specs.Ordering.{nat_cmp}
+use Rattle.std.specs.Cmp.Lexicographic.{slice_cmp}
+use Rattle.xs_stream.specs.declared.id.Id.{Id}
+use Rattle.xs_stream.specs.Kept.{Ascends, ids_of}
+use Rattle.xs_group.specs.State.{State, is_name}
+use Rattle.xs_group.specs.Changes.{new_group}
 use Rattle.xs_command.specs.declared.command.Command.{Command}
 use Rattle.xs_command.specs.declared.command.Command.TheVariants.{Ping, Quit, Add, Delete, TrimTo, Len, Scan, GroupCreate, GroupDestroy, ConsumerCreate, ConsumerDelete, ReadGroup, Ack, Pending, PendingRows, Claim, AutoClaim, DropKeys}
-use Rattle.xs_keys.specs.Life.{Change, added, deleted, trimmed_to, is_name, has_name, life_added, key_lived, key_life}
-use Rattle.xs_keys.specs.Given.{stream_of}
-use Rattle.xs_keys.specs.Content.{Key, Content, KeyHolds, IsContent, new_stream, stream_after, key_after, changed, with_addition, without_keys, after}
-use Rattle.xs_keys.proofs.Streams.{stream-step}
+use Rattle.xs_command.specs.declared.command.GroupCreateCommand.{GroupCreateCommand}
+use Rattle.xs_command.specs.declared.command.ReadGroupCommand.{ReadGroupCommand}
+use Rattle.xs_command.specs.declared.reads.ReadOne.{ReadOne}
+use Rattle.xs_keys.specs.Life.{Change, added, deleted, trimmed_to, has_name, life_added, life_made, key_life}
+use Rattle.xs_keys.specs.Given.{top}
+use Rattle.xs_keys.specs.Turn.{Ask, join, leave, ack, claim, auto_claim}
+use Rattle.xs_keys.specs.GroupLife.{GroupLife, present_in, start_of, life_opened, life_created, life_asked, read_ask, life_read, group_life}
+use Rattle.xs_keys.specs.Content.{Key, Content, IsGroup, GroupHolds, KeyHolds, IsContent}
+use Rattle.xs_keys.specs.After.{new_stream, new_key, stream_after, key_after, changed, with_addition, without_keys, group_after, with_group, asked_group, asked_key, asked, created, without_group, group_in, serves, read_each, after}
+use Rattle.xs_keys.proofs.Names.{is_name-eq, get-insert, get-remove, same_map, same_names}
+use Rattle.xs_keys.proofs.Streams.{stream-step, ascends-live}
+use Rattle.xs_keys.proofs.GroupSteps.{group-step, group-new}
 
-pub name_exact : map.IsAntisymmetric (slice_cmp nat_cmp)
-name_exact = map.slice_cmp-IsAntisymmetric map.nat_cmp-IsAntisymmetric
+-- groups by name, and their lives
+abbrev pub GroupsHold : NameMap State → (List ℕ → Option GroupLife) → Type 0
+GroupsHold groups lives = (group : List ℕ) → GroupHolds (get groups group) (lives group)
 
-equal_from : (r : Ordering) → is_eq r ≡ true → r ≡ Equal
-equal_from Less e = absurd (false≢true e)
-equal_from Equal e = refl
-equal_from Greater e = absurd (false≢true e)
+-- keys by name, with the lives of their streams and of their groups
+abbrev pub Holds : Content → (List ℕ → Option (List Change)) → (List ℕ → List ℕ → Option GroupLife) → Type 0
+Holds c streams lives = (q : List ℕ) → KeyHolds (get c q) (streams q) (lives q)
 
-pub is_name-eq : (a b : List ℕ) → is_name a b ≡ true → a ≡ b
-is_name-eq a b e = name_exact a b (equal_from _ e)
+pub no_life : (life : Option GroupLife) → GroupHolds None life → life ≡ None
+no_life None h = refl
+no_life (Some life) h = absurd h
 
-pub get-insert : (c : Content) (name : List ℕ) (key : Key) (q : List ℕ) → map.get (map.insert c name key) q ≡ cond (is_name q name) (Some key) (map.get c q)
-get-insert c name key q = map.get-insert nat_list_cmp_total c name key q
+no_groups : (lives : List ℕ → Option GroupLife) → ((g : List ℕ) → GroupHolds None (lives g)) → GroupsHold empty lives
+no_groups lives h = λ g. subst (λ s. GroupHolds s (lives g)) (sym (get-empty _ g)) (h g)
 
-pub get-remove : (c : Content) (name q : List ℕ) → map.get (map.remove c name) q ≡ cond (is_name q name) None (map.get c q)
-get-remove c name q = map.get-remove nat_list_cmp_total c name q
+-- ---- a change of the stream of a key
 
--- ---- one key
+holds-change : (change : Change) (key : Key) (changes : List Change) (lives : List ℕ → Option GroupLife)
+    → KeyHolds (Some key) (Some changes) lives → KeyHolds (Some (key_after change key)) (Some (change ∷ changes)) lives
+holds-change change key changes lives h = (sym (stream-step change changes ∙ ap (stream_after change) (sym h.0)), h.1)
 
--- a change of a key that its life says
-holds-change : (change : Change) (key : Key) (changes : List Change) → KeyHolds (Some key) (Some changes) → KeyHolds (Some (key_after change key)) (Some (change ∷ changes))
-holds-change change key changes h = sym (stream-step change changes ∙ ap (stream_after change) (sym h))
+holds-new : (change : Change) (lives : List ℕ → Option GroupLife) → ((g : List ℕ) → GroupHolds None (lives g))
+    → KeyHolds (Some (key_after change new_key)) (Some (change ∷ [])) lives
+holds-new change lives h = (sym (stream-step change []), no_groups lives h)
 
-holds-new : (change : Change) → KeyHolds (Some (key_after change (record { stream = new_stream }))) (Some (change ∷ []))
-holds-new change = sym (stream-step change [])
-
-holds-changed : (c : Content) (name : List ℕ) (change : Change) (key : Option Key) (life : Option (List Change)) (q : List ℕ)
-    → map.get c name ≡ key → KeyHolds key life → is_name q name ≡ true → KeyHolds (map.get (changed c name change key) q) (option_map (λ changes. change ∷ changes) life)
-holds-changed c name change None None q e h same = rw (is_name-eq q name same, e) tt
-holds-changed c name change (Some key) (Some changes) q e h same = rw (get-insert c name (key_after change key) q, same) (holds-change change key changes h)
-holds-changed c name change None (Some changes) q e h same = absurd h
-holds-changed c name change (Some key) None q e h same = absurd h
+holds-changed : (c : Content) (name : List ℕ) (change : Change) (key : Option Key) (life : Option (List Change)) (lives : List ℕ → Option GroupLife) (q : List ℕ)
+    → get c name ≡ key → KeyHolds key life lives → is_name q name ≡ true → KeyHolds (get (changed c name change key) q) (option_map (λ changes. change ∷ changes) life) lives
+holds-changed c name change None None lives q e h same = rw (is_name-eq q name same, e) h
+holds-changed c name change (Some key) (Some changes) lives q e h same = rw (get-insert c name (key_after change key) q, same) (holds-change change key changes lives h)
+holds-changed c name change None (Some changes) lives q e h same = absurd h
+holds-changed c name change (Some key) None lives q e h same = absurd h
 
 -- another key stays as it is
-changed-other : (c : Content) (name : List ℕ) (change : Change) (key : Option Key) (q : List ℕ) → is_name q name ≡ false → map.get (changed c name change key) q ≡ map.get c q
+changed-other : (c : Content) (name : List ℕ) (change : Change) (key : Option Key) (q : List ℕ) → is_name q name ≡ false → get (changed c name change key) q ≡ get c q
 changed-other c name change None q other = refl
 changed-other c name change (Some key) q other = rw (get-insert c name (key_after change key) q, other) refl
 
-holds-addition : (c : Content) (name : List ℕ) (change : Change) (make : Bool) (key : Option Key) (life : Option (List Change)) (q : List ℕ)
-    → map.get c name ≡ key → KeyHolds key life → is_name q name ≡ true → KeyHolds (map.get (with_addition c name change make key) q) (life_added change make life)
-holds-addition c name change true None None q e h same = rw (get-insert c name (key_after change (record { stream = new_stream })) q, same) (holds-new change)
-holds-addition c name change false None None q e h same = rw (is_name-eq q name same, e) tt
-holds-addition c name change make (Some key) (Some changes) q e h same = rw (get-insert c name (key_after change key) q, same) (holds-change change key changes h)
-holds-addition c name change make None (Some changes) q e h same = absurd h
-holds-addition c name change make (Some key) None q e h same = absurd h
+holds-addition : (c : Content) (name : List ℕ) (change : Change) (make : Bool) (key : Option Key) (life : Option (List Change)) (lives : List ℕ → Option GroupLife) (q : List ℕ)
+    → get c name ≡ key → KeyHolds key life lives → is_name q name ≡ true → KeyHolds (get (with_addition c name change make key) q) (life_added change make life) lives
+holds-addition c name change true None None lives q e h same = rw (get-insert c name (key_after change new_key) q, same) (holds-new change lives h)
+holds-addition c name change false None None lives q e h same = rw (is_name-eq q name same, e) h
+holds-addition c name change make (Some key) (Some changes) lives q e h same = rw (get-insert c name (key_after change key) q, same) (holds-change change key changes lives h)
+holds-addition c name change make None (Some changes) lives q e h same = absurd h
+holds-addition c name change make (Some key) None lives q e h same = absurd h
 
-addition-other : (c : Content) (name : List ℕ) (change : Change) (make : Bool) (key : Option Key) (q : List ℕ) → is_name q name ≡ false → map.get (with_addition c name change make key) q ≡ map.get c q
-addition-other c name change true None q other = rw (get-insert c name (key_after change (record { stream = new_stream })) q, other) refl
+addition-other : (c : Content) (name : List ℕ) (change : Change) (make : Bool) (key : Option Key) (q : List ℕ) → is_name q name ≡ false → get (with_addition c name change make key) q ≡ get c q
+addition-other c name change true None q other = rw (get-insert c name (key_after change new_key) q, other) refl
 addition-other c name change false None q other = refl
 addition-other c name change make (Some key) q other = rw (get-insert c name (key_after change key) q, other) refl
 
-pub get-without_keys : (names : List (List ℕ)) (c : Content) (q : List ℕ) → map.get (without_keys names c) q ≡ cond (has_name names q) None (map.get c q)
+pub get-without_keys : (names : List (List ℕ)) (c : Content) (q : List ℕ) → get (without_keys names c) q ≡ cond (has_name names q) None (get c q)
 get-without_keys [] c q = refl
-get-without_keys (name ∷ names) c q = get-without_keys names (map.remove c name) q ∙ ap (cond (has_name names q) None) (get-remove c name q) ∙ by (is_name q name) (has_name names q) where
-  by : (one others : Bool) → cond others None (cond one None (map.get c q)) ≡ cond (one || others) None (map.get c q)
+get-without_keys (name ∷ names) c q = get-without_keys names (remove c name) q ∙ ap (cond (has_name names q) None) (get-remove c name q) ∙ by (is_name q name) (has_name names q) where
+  by : (one others : Bool) → cond others None (cond one None (get c q)) ≡ cond (one || others) None (get c q)
   by true true = refl
   by true false = refl
   by false others = refl
 
-holds-dropped : (t : Bool) (key : Option Key) (life : Option (List Change)) → KeyHolds key life → KeyHolds (cond t None key) (cond t None life)
-holds-dropped true key life h = tt
-holds-dropped false key life h = h
+holds-dropped : (t : Bool) (key : Option Key) (life : Option (List Change)) (lives : List ℕ → Option GroupLife) → KeyHolds key life lives
+    → KeyHolds (cond t None key) (cond t None life) (λ g. cond t None (lives g))
+holds-dropped true key life lives h = λ g. tt
+holds-dropped false key life lives h = h
+
+-- ---- an ask of a group
+
+holds-asked : (g : State) (life : Option GroupLife) (now : ℕ) (present : List Id) → Ascends present → (ask : Ask) → GroupHolds (Some g) life
+    → GroupHolds (Some (group_after now present ask g)) (life_asked now present ask life)
+holds-asked g None now present asc ask h = absurd h
+holds-asked g (Some life) now present asc ask h = group-step life g h now present asc ask
+
+no_ask : (life : Option GroupLife) (now : ℕ) (present : List Id) (ask : Ask) → GroupHolds None life → GroupHolds None (life_asked now present ask life)
+no_ask None now present ask h = tt
+no_ask (Some life) now present ask h = absurd h
+
+-- where there is no such group, no group is changed
+unasked : (groups : NameMap State) (lives : List ℕ → Option GroupLife) (group : List ℕ) (now : ℕ) (present : List Id) (ask : Ask) → GroupsHold groups lives → get groups group ≡ None
+    → GroupsHold groups (λ g. cond (is_name g group) (life_asked now present ask (lives g)) (lives g))
+unasked groups lives group now present ask h none = λ g. by g (is_name g group) refl where
+  by : (g : List ℕ) (t : Bool) → is_name g group ≡ t → GroupHolds (get groups g) (cond t (life_asked now present ask (lives g)) (lives g))
+  by g true e =
+      let gone : get groups g ≡ None = ap (get groups) (is_name-eq g group e) ∙ none in
+      subst (λ s. GroupHolds s (life_asked now present ask (lives g))) (sym gone) (no_ask (lives g) now present ask (subst (λ s. GroupHolds s (lives g)) gone (h g)))
+  by g false e = h g
+
+asks-groups : (groups : NameMap State) (lives : List ℕ → Option GroupLife) (group : List ℕ) (s : State) (now : ℕ) (present : List Id) → Ascends present → (ask : Ask) → GroupsHold groups lives
+    → get groups group ≡ Some s → GroupsHold (insert groups group (group_after now present ask s)) (λ g. cond (is_name g group) (life_asked now present ask (lives g)) (lives g))
+asks-groups groups lives group s now present asc ask h is = λ g. subst (λ x. GroupHolds x (cond (is_name g group) (life_asked now present ask (lives g)) (lives g))) (sym (get-insert groups group (group_after now present ask s) g)) (by g (is_name g group) refl) where
+  by : (g : List ℕ) (t : Bool) → is_name g group ≡ t → GroupHolds (cond t (Some (group_after now present ask s)) (get groups g)) (cond t (life_asked now present ask (lives g)) (lives g))
+  by g true e = holds-asked s (lives g) now present asc ask (subst (λ x. GroupHolds x (lives g)) (ap (get groups) (is_name-eq g group e) ∙ is) (h g))
+  by g false e = h g
+
+-- the key of the group
+asks-key : (c : Content) (now : ℕ) (name group : List ℕ) (ask : Ask) (key : Key) (changes : List Change) (lives : List ℕ → Option GroupLife) (s : Option State) (q : List ℕ)
+    → get key.groups group ≡ s → get c name ≡ Some key → is_name q name ≡ true → KeyHolds (Some key) (Some changes) lives
+    → KeyHolds (get (asked_group c now name group ask key s) q) (Some changes) (λ g. cond (is_name g group) (life_asked now (ids_of key.stream.entries) ask (lives g)) (lives g))
+asks-key c now name group ask key changes lives None q none is same h =
+    rw (is_name-eq q name same, is) (h.0, unasked key.groups lives group now (ids_of key.stream.entries) ask h.1 none)
+asks-key c now name group ask key changes lives (Some s) q found is same h =
+    let asc : Ascends (ids_of key.stream.entries) = subst (λ k. Ascends (ids_of k.entries)) (sym h.0) (ascends-live changes) in
+    rw (get-insert c name (with_group key group (group_after now (ids_of key.stream.entries) ask s)) q, same)
+    (h.0, asks-groups key.groups lives group s now (ids_of key.stream.entries) asc ask h.1 found)
+
+asks-here : (c : Content) (now : ℕ) (name group : List ℕ) (ask : Ask) (key : Option Key) (stream : Option (List Change)) (lives : List ℕ → Option GroupLife) (q : List ℕ)
+    → get c name ≡ key → is_name q name ≡ true → KeyHolds key stream lives
+    → KeyHolds (get (asked_key c now name group ask key) q) stream (λ g. cond (is_name g group) (life_asked now (present_in stream) ask (lives g)) (lives g))
+asks-here c now name group ask None None lives q none same h = rw (is_name-eq q name same, none) (λ g. by g (is_name g group)) where
+  by : (g : List ℕ) (t : Bool) → GroupHolds None (cond t (life_asked now [] ask (lives g)) (lives g))
+  by g true = no_ask (lives g) now [] ask (h g)
+  by g false = h g
+asks-here c now name group ask (Some key) (Some changes) lives q is same h =
+    subst (λ k. KeyHolds (get (asked_key c now name group ask (Some key)) q) (Some changes) (λ g. cond (is_name g group) (life_asked now (ids_of k.entries) ask (lives g)) (lives g))) h.0
+    (asks-key c now name group ask key changes lives (get key.groups group) q refl is same h)
+asks-here c now name group ask None (Some changes) lives q is same h = absurd h
+asks-here c now name group ask (Some key) None lives q is same h = absurd h
+
+asked-other : (c : Content) (now : ℕ) (name group : List ℕ) (ask : Ask) (key : Option Key) (q : List ℕ) → is_name q name ≡ false → get (asked_key c now name group ask key) q ≡ get c q
+asked-other c now name group ask None q other = refl
+asked-other c now name group ask (Some key) q other = by (get key.groups group) where
+  by : (s : Option State) → get (asked_group c now name group ask key s) q ≡ get c q
+  by None = refl
+  by (Some s) = rw (get-insert c name (with_group key group (group_after now (ids_of key.stream.entries) ask s)) q, other) refl
+
+pub holds-ask : (c : Content) (streams : List ℕ → Option (List Change)) (lives : List ℕ → List ℕ → Option GroupLife) (now : ℕ) (name group : List ℕ) (ask : Ask)
+    → Holds c streams lives → Holds (asked c now name group ask) streams (λ q g. cond (is_name q name && is_name g group) (life_asked now (present_in (streams q)) ask (lives q g)) (lives q g))
+holds-ask c streams lives now name group ask h = λ q. by q (is_name q name) refl where
+  by : (q : List ℕ) (t : Bool) → is_name q name ≡ t
+      → KeyHolds (get (asked c now name group ask) q) (streams q) (λ g. cond (t && is_name g group) (life_asked now (present_in (streams q)) ask (lives q g)) (lives q g))
+  by q true e = asks-here c now name group ask (get c name) (streams q) (lives q) q refl e (subst (λ n. KeyHolds (get c n) (streams q) (lives q)) (is_name-eq q name e) (h q))
+  by q false e = subst (λ k. KeyHolds k (streams q) (lives q)) (sym (asked-other c now name group ask (get c name) q e)) (h q)
+
+-- ---- reads
+
+part-read : (one two : Bool) (a b : Option GroupLife) → cond (one && two) a b ≡ cond two (cond one a b) b
+part-read true true a b = refl
+part-read true false a b = refl
+part-read false true a b = refl
+part-read false false a b = refl
+
+read-lives : (t : Bool) (now : ℕ) (present : List Id) (read : ReadGroupCommand) (q : List ℕ) (more : List ReadOne) (here : Bool) (a b : Option GroupLife)
+    → cond t (life_read now present read q more (cond (here && t) a b)) (cond (here && t) a b) ≡ cond t (life_read now present read q more (cond here a b)) b
+read-lives true now present read q more true a b = refl
+read-lives true now present read q more false a b = refl
+read-lives false now present read q more true a b = refl
+read-lives false now present read q more false a b = refl
+
+holds-reads : (reads : List ReadOne) (c : Content) (streams : List ℕ → Option (List Change)) (lives : List ℕ → List ℕ → Option GroupLife) (now : ℕ) (read : ReadGroupCommand)
+    → Holds c streams lives → Holds (read_each c now read reads) streams (λ q g. cond (is_name g read.group) (life_read now (present_in (streams q)) read q reads (lives q g)) (lives q g))
+holds-reads [] c streams lives now read h = λ q. subst (KeyHolds (get c q) (streams q)) (λ i g. same (is_name g read.group) (lives q g) i) (h q) where
+  same : (t : Bool) (a : Option GroupLife) → a ≡ cond t a a
+  same true a = refl
+  same false a = refl
+holds-reads (one ∷ more) c streams lives now read h =
+    let next = holds-reads more (asked c now one.key read.group (read_ask read one.from)) streams _ now read (holds-ask c streams lives now one.key read.group (read_ask read one.from) h) in
+    λ q. subst (KeyHolds (get (read_each c now read (one ∷ more)) q) (streams q))
+    (λ i g. read-lives (is_name g read.group) now (present_in (streams q)) read q more (is_name q one.key)
+    (life_asked now (present_in (streams q)) (read_ask read one.from) (lives q g)) (lives q g) i)
+    (next q)
+
+group-known : (key : Option Key) (stream : Option (List Change)) (lives : List ℕ → Option GroupLife) (group : List ℕ) → KeyHolds key stream lives → is_some (group_in key group) ≡ is_some (lives group)
+group-known None None lives group h = ap is_some (sym (no_life (lives group) (h group)))
+group-known (Some key) (Some changes) lives group h = by (get key.groups group) (lives group) (h.1 group) where
+  by : (s : Option State) (l : Option GroupLife) → GroupHolds s l → is_some s ≡ is_some l
+  by None None h = refl
+  by (Some s) (Some l) h = refl
+  by None (Some l) h = absurd h
+  by (Some s) None h = absurd h
+group-known None (Some changes) lives group h = absurd h
+group-known (Some key) None lives group h = absurd h
+
+serves-known : (reads : List ReadOne) (c : Content) (past : List (ℕ × Command)) (group : List ℕ) → IsContent c past
+    → list_all (λ one. is_some (group_in (get c one.key) group)) reads ≡ list_all (λ one. is_some (group_life past one.key group)) reads
+serves-known [] c past group h = refl
+serves-known (one ∷ more) c past group h =
+    λ i. group-known (get c one.key) (key_life past one.key) (λ g. group_life past one.key g) group (h one.key) i && serves-known more c past group h i
+
+-- ---- a group that begins, and one that ends
+
+opened : (create : GroupCreateCommand) (changes : List Change) → life_opened create (Some changes) ≡ Some (record { start = start_of create.start (top changes); turns = [] })
+opened create changes = by create.make where
+  by : (t : Bool) → cond {A = Option GroupLife} t (Some (record { start = start_of create.start (top changes); turns = [] })) (Some (record { start = start_of create.start (top changes); turns = [] }))
+      ≡ Some (record { start = start_of create.start (top changes); turns = [] })
+  by true = refl
+  by false = refl
+
+-- a new group among others
+begins : (groups : NameMap State) (lives : List ℕ → Option GroupLife) (create : GroupCreateCommand) (stream : Option (List Change)) (start : Id) → GroupsHold groups lives
+    → get groups create.group ≡ None → life_opened create stream ≡ Some (record { start = start; turns = [] })
+    → GroupsHold (insert groups create.group (new_group start)) (λ g. cond (is_name g create.group) (life_created create stream (lives g)) (lives g))
+begins groups lives create stream start h none opens = λ g. subst (λ x. GroupHolds x (cond (is_name g create.group) (life_created create stream (lives g)) (lives g))) (sym (get-insert groups create.group (new_group start) g)) (by g (is_name g create.group) refl) where
+  by : (g : List ℕ) (t : Bool) → is_name g create.group ≡ t → GroupHolds (cond t (Some (new_group start)) (get groups g)) (cond t (life_created create stream (lives g)) (lives g))
+  by g true e =
+      let gone : lives g ≡ None = no_life (lives g) (subst (λ s. GroupHolds s (lives g)) (ap (get groups) (is_name-eq g create.group e) ∙ none) (h g)) in
+      subst (GroupHolds (Some (new_group start))) (sym (ap (life_created create stream) gone ∙ opens)) (group-new start)
+  by g false e = h g
+
+-- a group that is there already stays
+stays : (groups : NameMap State) (lives : List ℕ → Option GroupLife) (create : GroupCreateCommand) (stream : Option (List Change)) (s : State) → GroupsHold groups lives → get groups create.group ≡ Some s
+    → GroupsHold groups (λ g. cond (is_name g create.group) (life_created create stream (lives g)) (lives g))
+stays groups lives create stream s h is = λ g. by g (is_name g create.group) refl where
+  open_life : (x : Option State) (l : Option GroupLife) → is_some x ≡ true → GroupHolds x l → GroupHolds x (life_created create stream l)
+  open_life (Some s) (Some l) e h = h
+  open_life (Some s) None e h = absurd h
+  open_life None l e h = absurd (false≢true e)
+
+  by : (g : List ℕ) (t : Bool) → is_name g create.group ≡ t → GroupHolds (get groups g) (cond t (life_created create stream (lives g)) (lives g))
+  by g true e = open_life (get groups g) (lives g) (ap (λ n. is_some (get groups n)) (is_name-eq g create.group e) ∙ ap is_some is) (h g)
+  by g false e = h g
+
+not_created : (c : Content) (create : GroupCreateCommand) → create.make ≡ false → created c create None ≡ c
+not_created c create m = rw m refl
+
+makes : (c : Content) (create : GroupCreateCommand) → create.make ≡ true
+    → created c create None ≡ insert c create.key (with_group new_key create.group (new_group (start_of create.start new_stream.top)))
+makes c create m = rw m refl
+
+opens_new : (create : GroupCreateCommand) → create.make ≡ true → life_opened create None ≡ Some (record { start = start_of create.start new_stream.top; turns = [] })
+opens_new create m = rw m refl
+
+opens_none : (create : GroupCreateCommand) → create.make ≡ false → life_opened create None ≡ None
+opens_none create m = rw m refl
+
+same_made : (make : Bool) (changes : List Change) → cond make (life_made (Some changes)) (Some changes) ≡ Some changes
+same_made true changes = refl
+same_made false changes = refl
+
+creates-key : (c : Content) (create : GroupCreateCommand) (key : Key) (changes : List Change) (lives : List ℕ → Option GroupLife) (s : Option State) (q : List ℕ)
+    → get key.groups create.group ≡ s → get c create.key ≡ Some key → is_name q create.key ≡ true → KeyHolds (Some key) (Some changes) lives
+    → KeyHolds (get (cond (is_some s) c (insert c create.key (with_group key create.group (new_group (start_of create.start key.stream.top))))) q)
+    (Some changes) (λ g. cond (is_name g create.group) (life_created create (Some changes) (lives g)) (lives g))
+creates-key c create key changes lives (Some s) q found is same h = rw (is_name-eq q create.key same, is) (h.0, stays key.groups lives create (Some changes) s h.1 found)
+creates-key c create key changes lives None q none is same h =
+    rw (get-insert c create.key (with_group key create.group (new_group (start_of create.start key.stream.top))) q, same)
+    (h.0, begins key.groups lives create (Some changes) (start_of create.start key.stream.top) h.1 none (opened create changes ∙ ap (λ k. Some (record { start = start_of create.start k.top; turns = [] })) (sym h.0)))
+
+creates-here : (c : Content) (create : GroupCreateCommand) (make : Bool) → create.make ≡ make → (key : Option Key) (stream : Option (List Change)) (lives : List ℕ → Option GroupLife) (q : List ℕ)
+    → get c create.key ≡ key → is_name q create.key ≡ true → KeyHolds key stream lives
+    → KeyHolds (get (created c create key) q) (cond make (life_made stream) stream) (λ g. cond (is_name g create.group) (life_created create stream (lives g)) (lives g))
+creates-here c create true m None None lives q none same h =
+    subst (λ k. KeyHolds k (Some []) (λ g. cond (is_name g create.group) (life_created create None (lives g)) (lives g)))
+    (sym (ap (λ k. get k q) (makes c create m) ∙ get-insert c create.key (with_group new_key create.group (new_group (start_of create.start new_stream.top))) q
+    ∙ ap (λ b. cond b (Some (with_group new_key create.group (new_group (start_of create.start new_stream.top)))) (get c q)) same))
+    (refl, begins empty lives create None (start_of create.start new_stream.top) (no_groups lives h) (get-empty _ create.group) (opens_new create m))
+creates-here c create false m None None lives q none same h =
+    subst (λ k. KeyHolds k None (λ g. cond (is_name g create.group) (life_created create None (lives g)) (lives g)))
+    (sym (ap (λ k. get k q) (not_created c create m) ∙ ap (get c) (is_name-eq q create.key same) ∙ none)) (λ g. by g (is_name g create.group)) where
+      by : (g : List ℕ) (t : Bool) → GroupHolds None (cond t (life_created create None (lives g)) (lives g))
+      by g true = subst (GroupHolds None) (sym (ap (life_created create None) (no_life (lives g) (h g)) ∙ opens_none create m)) tt
+      by g false = h g
+creates-here c create make m (Some key) (Some changes) lives q is same h =
+    subst (λ stream. KeyHolds (get (created c create (Some key)) q) stream (λ g. cond (is_name g create.group) (life_created create (Some changes) (lives g)) (lives g))) (sym (same_made make changes))
+    (creates-key c create key changes lives (get key.groups create.group) q refl is same h)
+creates-here c create make m None (Some changes) lives q is same h = absurd h
+creates-here c create make m (Some key) None lives q is same h = absurd h
+
+created-other : (c : Content) (create : GroupCreateCommand) (make : Bool) → create.make ≡ make → (key : Option Key) (q : List ℕ) → is_name q create.key ≡ false → get (created c create key) q ≡ get c q
+created-other c create true m None q other = rw (m, get-insert c create.key (with_group new_key create.group (new_group (start_of create.start new_stream.top))) q, other) refl
+created-other c create false m None q other = rw m refl
+created-other c create make m (Some key) q other = by (has_key key.groups create.group) where
+  by : (t : Bool) → get (cond t c (insert c create.key (with_group key create.group (new_group (start_of create.start key.stream.top))))) q ≡ get c q
+  by true = refl
+  by false = rw (get-insert c create.key (with_group key create.group (new_group (start_of create.start key.stream.top))) q, other) refl
+
+ends : (groups : NameMap State) (lives : List ℕ → Option GroupLife) (group : List ℕ) → GroupsHold groups lives → GroupsHold (remove groups group) (λ g. cond (is_name g group) None (lives g))
+ends groups lives group h = λ g. subst (λ x. GroupHolds x (cond (is_name g group) None (lives g))) (sym (get-remove groups group g)) (by g (is_name g group)) where
+  by : (g : List ℕ) (t : Bool) → GroupHolds (cond t None (get groups g)) (cond t None (lives g))
+  by g true = tt
+  by g false = h g
+
+destroys-here : (c : Content) (name group : List ℕ) (key : Option Key) (stream : Option (List Change)) (lives : List ℕ → Option GroupLife) (q : List ℕ)
+    → get c name ≡ key → is_name q name ≡ true → KeyHolds key stream lives → KeyHolds (get (without_group c name group key) q) stream (λ g. cond (is_name g group) None (lives g))
+destroys-here c name group None None lives q none same h = rw (is_name-eq q name same, none) (λ g. by g (is_name g group)) where
+  by : (g : List ℕ) (t : Bool) → GroupHolds None (cond t None (lives g))
+  by g true = tt
+  by g false = h g
+destroys-here c name group (Some key) (Some changes) lives q is same h =
+    rw (get-insert c name (record { stream = key.stream; groups = remove key.groups group }) q, same) (h.0, ends key.groups lives group h.1)
+destroys-here c name group None (Some changes) lives q is same h = absurd h
+destroys-here c name group (Some key) None lives q is same h = absurd h
+
+destroyed-other : (c : Content) (name group : List ℕ) (key : Option Key) (q : List ℕ) → is_name q name ≡ false → get (without_group c name group key) q ≡ get c q
+destroyed-other c name group None q other = refl
+destroyed-other c name group (Some key) q other = rw (get-insert c name (record { stream = key.stream; groups = remove key.groups group }) q, other) refl
 
 -- ---- an event
 
 module _ (c : Content) (past : List (ℕ × Command)) (h : IsContent c past) (q : List ℕ) where
+  lives : List ℕ → Option GroupLife
+  lives g = group_life past q g
+
   -- what holds of a key holds of it under another name
-  at_name : (name : List ℕ) → is_name q name ≡ true → KeyHolds (map.get c name) (key_life past q)
-  at_name name same = subst (λ n. KeyHolds (map.get c n) (key_life past q)) (is_name-eq q name same) (h q)
+  at_name : (name : List ℕ) → is_name q name ≡ true → KeyHolds (get c name) (key_life past q) (λ g. group_life past q g)
+  at_name name same = subst (λ n. KeyHolds (get c n) (key_life past q) (λ g. group_life past q g)) (is_name-eq q name same) (h q)
 
   step-changed : (name : List ℕ) (change : Change)
-      → KeyHolds (map.get (changed c name change (map.get c name)) q) (cond (is_name q name) (option_map (λ changes. change ∷ changes) (key_life past q)) (key_life past q))
+      → KeyHolds (get (changed c name change (get c name)) q) (cond (is_name q name) (option_map (λ changes. change ∷ changes) (key_life past q)) (key_life past q)) (λ g. group_life past q g)
   step-changed name change = by (is_name q name) refl where
-    by : (t : Bool) → is_name q name ≡ t → KeyHolds (map.get (changed c name change (map.get c name)) q) (cond t (option_map (λ changes. change ∷ changes) (key_life past q)) (key_life past q))
-    by true e = holds-changed c name change (map.get c name) (key_life past q) q refl (at_name name e) e
-    by false e = rw (changed-other c name change (map.get c name) q e) (h q)
+    by : (t : Bool) → is_name q name ≡ t → KeyHolds (get (changed c name change (get c name)) q) (cond t (option_map (λ changes. change ∷ changes) (key_life past q)) (key_life past q)) (λ g. group_life past q g)
+    by true e = holds-changed c name change (get c name) (key_life past q) (λ g. group_life past q g) q refl (at_name name e) e
+    by false e = rw (changed-other c name change (get c name) q e) (h q)
 
   step-addition : (name : List ℕ) (change : Change) (make : Bool)
-      → KeyHolds (map.get (with_addition c name change make (map.get c name)) q) (cond (is_name q name) (life_added change make (key_life past q)) (key_life past q))
+      → KeyHolds (get (with_addition c name change make (get c name)) q) (cond (is_name q name) (life_added change make (key_life past q)) (key_life past q)) (λ g. group_life past q g)
   step-addition name change make = by (is_name q name) refl where
-    by : (t : Bool) → is_name q name ≡ t → KeyHolds (map.get (with_addition c name change make (map.get c name)) q) (cond t (life_added change make (key_life past q)) (key_life past q))
-    by true e = holds-addition c name change make (map.get c name) (key_life past q) q refl (at_name name e) e
-    by false e = rw (addition-other c name change make (map.get c name) q e) (h q)
+    by : (t : Bool) → is_name q name ≡ t → KeyHolds (get (with_addition c name change make (get c name)) q) (cond t (life_added change make (key_life past q)) (key_life past q)) (λ g. group_life past q g)
+    by true e = holds-addition c name change make (get c name) (key_life past q) (λ g. group_life past q g) q refl (at_name name e) e
+    by false e = rw (addition-other c name change make (get c name) q e) (h q)
 
-  step-dropped : (names : List (List ℕ)) → KeyHolds (map.get (without_keys names c) q) (cond (has_name names q) None (key_life past q))
-  step-dropped names = rw (get-without_keys names c q) (holds-dropped (has_name names q) (map.get c q) (key_life past q) (h q))
+  step-dropped : (names : List (List ℕ)) → KeyHolds (get (without_keys names c) q) (cond (has_name names q) None (key_life past q)) (λ g. cond (has_name names q) None (group_life past q g))
+  step-dropped names = rw (get-without_keys names c q) (holds-dropped (has_name names q) (get c q) (key_life past q) (λ g. group_life past q g) (h q))
+
+  step-created : (create : GroupCreateCommand)
+      → KeyHolds (get (created c create (get c create.key)) q) (cond (is_name q create.key && create.make) (life_made (key_life past q)) (key_life past q))
+      (λ g. cond (is_name q create.key && is_name g create.group) (life_created create (key_life past q) (group_life past q g)) (group_life past q g))
+  step-created create = by (is_name q create.key) refl where
+    by : (t : Bool) → is_name q create.key ≡ t → KeyHolds (get (created c create (get c create.key)) q) (cond (t && create.make) (life_made (key_life past q)) (key_life past q))
+        (λ g. cond (t && is_name g create.group) (life_created create (key_life past q) (group_life past q g)) (group_life past q g))
+    by true e = creates-here c create create.make refl (get c create.key) (key_life past q) (λ g. group_life past q g) q refl e (at_name create.key e)
+    by false e = subst (λ k. KeyHolds k (key_life past q) (λ g. group_life past q g)) (sym (created-other c create create.make refl (get c create.key) q e)) (h q)
+
+  step-destroyed : (name group : List ℕ)
+      → KeyHolds (get (without_group c name group (get c name)) q) (key_life past q) (λ g. cond (is_name q name && is_name g group) None (group_life past q g))
+  step-destroyed name group = by (is_name q name) refl where
+    by : (t : Bool) → is_name q name ≡ t → KeyHolds (get (without_group c name group (get c name)) q) (key_life past q) (λ g. cond (t && is_name g group) None (group_life past q g))
+    by true e = destroys-here c name group (get c name) (key_life past q) (λ g. group_life past q g) q refl e (at_name name e)
+    by false e = subst (λ k. KeyHolds k (key_life past q) (λ g. group_life past q g)) (sym (destroyed-other c name group (get c name) q e)) (h q)
+
+step-asked : (c : Content) (past : List (ℕ × Command)) (now : ℕ) (name group : List ℕ) (ask : Ask) → IsContent c past
+    → Holds (asked c now name group ask) (key_life past) (λ q g. cond (is_name q name && is_name g group) (life_asked now (present_in (key_life past q)) ask (group_life past q g)) (group_life past q g))
+step-asked c past now name group ask h = holds-ask c (key_life past) (λ q g. group_life past q g) now name group ask h
+
+step-read : (c : Content) (past : List (ℕ × Command)) (now : ℕ) (read : ReadGroupCommand) → IsContent c past
+    → Holds (cond (serves c read) (read_each c now read read.reads) c) (key_life past)
+    (λ q g. cond (is_name g read.group && list_all (λ one. is_some (group_life past one.key read.group)) read.reads) (life_read now (present_in (key_life past q)) read q read.reads (group_life past q g)) (group_life past q g))
+step-read c past now read h = by (serves c read) (serves-known read.reads c past read.group h) where
+  kept_lives : (q : List ℕ) → List ℕ → Bool → Option GroupLife
+  kept_lives q g t = cond (is_name g read.group && t) (life_read now (present_in (key_life past q)) read q read.reads (group_life past q g)) (group_life past q g)
+
+  whole : (a : Bool) (x y : Option GroupLife) → cond a x y ≡ cond (a && true) x y
+  whole true x y = refl
+  whole false x y = refl
+
+  none : (a : Bool) (x y : Option GroupLife) → y ≡ cond (a && false) x y
+  none true x y = refl
+  none false x y = refl
+
+  by : (t : Bool) → t ≡ list_all (λ one. is_some (group_life past one.key read.group)) read.reads → Holds (cond t (read_each c now read read.reads) c) (key_life past)
+      (λ q g. cond (is_name g read.group && list_all (λ one. is_some (group_life past one.key read.group)) read.reads) (life_read now (present_in (key_life past q)) read q read.reads (group_life past q g)) (group_life past q g))
+  by true e = subst (λ b. Holds (read_each c now read read.reads) (key_life past) (λ q g. cond (is_name g read.group && b) (life_read now (present_in (key_life past q)) read q read.reads (group_life past q g)) (group_life past q g))) e
+      (λ q. subst (KeyHolds (get (read_each c now read read.reads) q) (key_life past q))
+      (λ i g. whole (is_name g read.group) (life_read now (present_in (key_life past q)) read q read.reads (group_life past q g)) (group_life past q g) i)
+      (holds-reads read.reads c (key_life past) (λ q g. group_life past q g) now read h q))
+  by false e = subst (λ b. Holds c (key_life past) (λ q g. cond (is_name g read.group && b) (life_read now (present_in (key_life past q)) read q read.reads (group_life past q g)) (group_life past q g))) e
+      (λ q. subst (KeyHolds (get c q) (key_life past q))
+      (λ i g. none (is_name g read.group) (life_read now (present_in (key_life past q)) read q read.reads (group_life past q g)) (group_life past q g) i) (h q))
 
 -- one event more
 pub content-step : (past : List (ℕ × Command)) (c : Content) (now : ℕ) (command : Command) → IsContent c past → IsContent (after c now command) ((now, command) ∷ past)
@@ -112,35 +391,51 @@ content-step past c now (Ping message) h = h
 content-step past c now Quit h = h
 content-step past c now (Len name) h = h
 content-step past c now (Scan scan) h = h
-content-step past c now (GroupCreate create) h = h
-content-step past c now (GroupDestroy name group) h = h
-content-step past c now (ConsumerCreate name group consumer) h = h
-content-step past c now (ConsumerDelete name group consumer) h = h
-content-step past c now (ReadGroup read) h = h
-content-step past c now (Ack name group ids) h = h
+content-step past c now (GroupCreate create) h = λ q. step-created c past h q create
+content-step past c now (GroupDestroy name group) h = λ q. step-destroyed c past h q name group
+content-step past c now (ConsumerCreate name group consumer) h = step-asked c past now name group (join consumer) h
+content-step past c now (ConsumerDelete name group consumer) h = step-asked c past now name group (leave consumer) h
+content-step past c now (ReadGroup read) h = step-read c past now read h
+content-step past c now (Ack name group ids) h = step-asked c past now name group (ack ids) h
 content-step past c now (Pending name group) h = h
 content-step past c now (PendingRows pending) h = h
-content-step past c now (Claim claim) h = h
-content-step past c now (AutoClaim claim) h = h
+content-step past c now (Claim x) h = step-asked c past now x.key x.group (claim x.consumer x.rule x.ids) h
+content-step past c now (AutoClaim x) h = step-asked c past now x.key x.group (auto_claim x.consumer x.rule x.start x.limit) h
 
 -- no event
-pub content-none : IsContent map.empty []
-content-none = λ name. rw (map.get-empty (slice_cmp nat_cmp) name) tt
+pub content-none : IsContent empty []
+content-none = λ name. rw (get-empty (slice_cmp nat_cmp) name) (λ g. tt)
 
 -- ---- one content
 
-same_key : (a b : Key) → a.stream ≡ b.stream → a ≡ b
-same_key a b e = λ i. record { stream = e i }
+same_group : (a b : State) (life : GroupLife) → IsGroup a life → IsGroup b life → a ≡ b
+same_group a b life h k =
+    let cursors = h.cursor_is ∙ sym k.cursor_is in
+    let names = same_names a.consumers b.consumers (λ q. h.consumers_are q ∙ sym (k.consumers_are q)) in
+    let all = same_entries_map a.rows b.rows (h.rows_are ∙ sym k.rows_are) in
+    λ i. record { cursor = cursors i; consumers = names i; rows = all i }
 
-same_holds : (one other : Option Key) (life : Option (List Change)) → KeyHolds one life → KeyHolds other life → one ≡ other
-same_holds None None None h k = refl
-same_holds (Some a) (Some b) (Some changes) h k = ap Some (same_key a b (h ∙ sym k))
-same_holds None None (Some changes) h k = absurd h
-same_holds None (Some b) None h k = absurd k
-same_holds None (Some b) (Some changes) h k = absurd h
-same_holds (Some a) None None h k = absurd h
-same_holds (Some a) None (Some changes) h k = absurd k
-same_holds (Some a) (Some b) None h k = absurd h
+same_groups : (one other : Option State) (life : Option GroupLife) → GroupHolds one life → GroupHolds other life → one ≡ other
+same_groups None None life h k = refl
+same_groups (Some a) (Some b) (Some life) h k = ap Some (same_group a b life h k)
+same_groups None (Some b) None h k = absurd k
+same_groups None (Some b) (Some life) h k = absurd h
+same_groups (Some a) (Some b) None h k = absurd h
+same_groups (Some a) None None h k = absurd h
+same_groups (Some a) None (Some life) h k = absurd k
+
+same_key : (a b : Key) → a.stream ≡ b.stream → a.groups ≡ b.groups → a ≡ b
+same_key a b e f = λ i. record { stream = e i; groups = f i }
+
+same_holds : (one other : Option Key) (stream : Option (List Change)) (lives : List ℕ → Option GroupLife) → KeyHolds one stream lives → KeyHolds other stream lives → one ≡ other
+same_holds None None stream lives h k = refl
+same_holds (Some a) (Some b) (Some changes) lives h k =
+    ap Some (same_key a b (h.0 ∙ sym k.0) (same_map a.groups b.groups (λ g. same_groups (get a.groups g) (get b.groups g) (lives g) (h.1 g) (k.1 g))))
+same_holds None (Some b) None lives h k = absurd k
+same_holds None (Some b) (Some changes) lives h k = absurd h
+same_holds (Some a) (Some b) None lives h k = absurd h
+same_holds (Some a) None None lives h k = absurd h
+same_holds (Some a) None (Some changes) lives h k = absurd k
 
 pub content-unique : (past : List (ℕ × Command)) (one other : Content) → IsContent one past → IsContent other past → one ≡ other
-content-unique past one other h k = map.same_map nat_list_cmp_total name_exact one other (λ q. same_holds (map.get one q) (map.get other q) (key_life past q) (h q) (k q))
+content-unique past one other h k = same_map one other (λ q. same_holds (get one q) (get other q) (key_life past q) (λ g. group_life past q g) (h q) (k q))

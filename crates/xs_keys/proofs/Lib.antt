@@ -1,5 +1,9 @@
 pub mod Additions
 pub mod Contents
+pub mod GroupRows
+pub mod GroupSteps
+pub mod IdLists
 pub mod Maps
+pub mod Names
 pub mod Runs
 pub mod Streams

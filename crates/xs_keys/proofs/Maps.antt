@@ -1,39 +1,40 @@
 -- The map of keys as the code keeps it, and the content that it is seen as.
-use Rattle.std.proofs.Common.{◌≡◌, ℕ, Bool, true, false, cond, List, [], ◌∷◌, Option, Some, None, is_some, sym, ap, ◌∙◌, refl, BTreeMap}
-use Rattle.std.specs.FinMap as map
+use Rattle.std.proofs.Common.{◌≡◌, ℕ, cond, List, [], ◌∷◌, Some, None, sym, ap, ◌∙◌, refl, BTreeMap}
 use Rattle.std.specs.FinMap.Entries.{find}
+use Rattle.xs_bytes.specs.SortedMap.{get, insert, remove}
+use Rattle.xs_bytes.proofs.SortedMaps.{get-of_entries}
 use Rattle.std.specs.Map.{lookup}
 use Rattle.std.specs.BTreeMap as tree
 use Rattle.std.specs.BTreeMap.{UpdatesBy, is_at}
-use Rattle.std.specs.Ordering.{nat_cmp, eq_by_cmp}
+use Rattle.std.specs.Ordering.{nat_cmp}
 use Rattle.std.specs.Cmp.{eq_by_cmp_equiv}
 use Rattle.std.specs.Cmp.Lexicographic.{slice_cmp, nat_list_cmp_total}
-use Rattle.xs_keys.specs.Life.{is_name}
-use Rattle.xs_keys.specs.Content.{Key, Content}
+use Rattle.xs_group.specs.State.{is_name}
+use Rattle.xs_keys.specs.Content.{Key}
 use Rattle.xs_keys.specs.Codes.{content_of}
-use Rattle.xs_keys.proofs.Contents.{name_exact, get-insert, get-remove}
+use Rattle.xs_keys.proofs.Names.{same_map, get-insert, get-remove}
 
 find-lookup : (q : List ℕ) (es : List (List ℕ × Key)) → find (slice_cmp nat_cmp) q es ≡ lookup (is_at (slice_cmp nat_cmp q)) es
 find-lookup q [] = refl
 find-lookup q (e ∷ es) = ap (cond (is_name q e.0) (Some e.1)) (find-lookup q es)
 
 -- a key is found in the content as it is found in the map
-pub get-content_of : (m : BTreeMap (List ℕ) Key) (q : List ℕ) → map.get (content_of m.entries) q ≡ tree.get (slice_cmp nat_cmp) m q
-get-content_of m q = map.get-from_entries nat_list_cmp_total m.entries q ∙ find-lookup q m.entries
+pub get-content_of : (m : BTreeMap (List ℕ) Key) (q : List ℕ) → get (content_of m.entries) q ≡ tree.get (slice_cmp nat_cmp) m q
+get-content_of m q = get-of_entries nat_list_cmp_total m.entries q ∙ find-lookup q m.entries
 
 turned : (a b : List ℕ) → is_name a b ≡ is_name b a
 turned a b = (eq_by_cmp_equiv nat_list_cmp_total).symm a b
 
 -- a map with a new value at a key
 pub content-insert : (m n : BTreeMap (List ℕ) Key) (name : List ℕ) (key : Key) → UpdatesBy (slice_cmp nat_cmp) (slice_cmp nat_cmp name) m n (Some key)
-    → content_of n.entries ≡ map.insert (content_of m.entries) name key
-content-insert m n name key u = map.same_map nat_list_cmp_total name_exact _ _ (λ q.
+    → content_of n.entries ≡ insert (content_of m.entries) name key
+content-insert m n name key u = same_map _ _ (λ q.
     get-content_of n q ∙ u.0 q ∙ ap (λ b. cond b (Some key) (tree.get (slice_cmp nat_cmp) m q)) (turned name q)
     ∙ ap (cond (is_name q name) (Some key)) (sym (get-content_of m q)) ∙ sym (get-insert (content_of m.entries) name key q))
 
 -- a map without a key
 pub content-remove : (m n : BTreeMap (List ℕ) Key) (name : List ℕ) → UpdatesBy (slice_cmp nat_cmp) (slice_cmp nat_cmp name) m n None
-    → content_of n.entries ≡ map.remove (content_of m.entries) name
-content-remove m n name u = map.same_map nat_list_cmp_total name_exact _ _ (λ q.
+    → content_of n.entries ≡ remove (content_of m.entries) name
+content-remove m n name u = same_map _ _ (λ q.
     get-content_of n q ∙ u.0 q ∙ ap (λ b. cond b None (tree.get (slice_cmp nat_cmp) m q)) (turned name q)
     ∙ ap (cond (is_name q name) None) (sym (get-content_of m q)) ∙ sym (get-remove (content_of m.entries) name q))

@@ -1,24 +1,21 @@
 -- A stream by looking back, and a stream step by step: they are the same.
-use Rattle.std.proofs.Common.{◌≡◌, ℕ, Bool, true, false, not, cond, ◌&&◌, ◌||◌, List, [], ◌∷◌, ◌++◌, map, filter, Option, Some, None, Result, Ok, Err, is_ok, sym, ap, ◌∙◌, refl, arith, subst, append_assoc}
-use Rattle.std.proofs.lemmas.Bool.{false≢true}
+use Rattle.std.proofs.Common.{◌≡◌, Bool, true, false, not, cond, ◌&&◌, List, [], ◌∷◌, ◌++◌, filter, Option, Some, None, Result, Ok, Err, is_ok, sym, ap, ◌∙◌, refl}
 use Rattle.std.proofs.lemmas.List.{append-nil}
 use Rattle.xs_stream.specs.declared.id.Id.{Id}
 use Rattle.xs_stream.specs.declared.field.Field.{Field}
 use Rattle.xs_stream.specs.declared.trim.Trim.{Trim}
 use Rattle.xs_stream.specs.declared.add.AddError.{AddError}
-use Rattle.xs_stream.specs.declared.add.AddId.{AddId}
-use Rattle.xs_stream.specs.Id.{is_below, is_same, has_id, zero_id}
-use Rattle.xs_stream.specs.Trim.{is_trimmed}
+use Rattle.xs_stream.specs.Id.{is_below, has_id, zero_id}
 use Rattle.xs_stream.specs.Assigned.{assigned}
-use Rattle.xs_stream.specs.Kept.{Kept, ids_of, Ascends, AllUpTo, AllAbove, trimmed, without}
+use Rattle.xs_stream.specs.Kept.{Kept, ids_of, Ascends, AllUpTo}
 use Rattle.xs_stream.proofs.Order.{is_same-refl, below-irrefl, below-not_same, below-not_back, up_to-below, not_above-trans}
 use Rattle.xs_stream.proofs.Assigning.{assigned-above}
 use Rattle.xs_stream.proofs.Entries.{ids_of-append, ascends-push, ascends-filter, up_to-filter, filter-filter}
 use Rattle.xs_keys.specs.Life.{Change, added, deleted, trimmed_to}
 use Rattle.xs_keys.specs.Given.{greatest, top_of, entry_of, gives, given_in, top, trims, drops, stands, live, stream_of}
-use Rattle.xs_keys.specs.Content.{new_stream, trimmed_if, stream_with, stream_after}
+use Rattle.xs_keys.specs.After.{stream_with, stream_after}
 
-greatest-append : (a : Id) (xs ys : List Id) → greatest a (xs ++ ys) ≡ greatest (greatest a xs) ys
+pub greatest-append : (a : Id) (xs ys : List Id) → greatest a (xs ++ ys) ≡ greatest (greatest a xs) ys
 greatest-append a [] ys = refl
 greatest-append a (x ∷ xs) ys = greatest-append (cond (is_below a x) x a) xs ys
 

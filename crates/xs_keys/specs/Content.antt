@@ -1,81 +1,46 @@
--- The content of the keyspace, and what each command makes of it.
-use Rattle.std.specs.Prelude.{◌≡◌, ℕ, Bool, ◌++◌, List, [], ◌∷◌, Option, Some, None, Result, Ok, Err, if◌then◌else◌}
-use Rattle.std.specs.FinMap as map
-use Rattle.std.specs.Coded.{Coded, code_by, coded_list, coded_ℕ}
-use Rattle.std.specs.Ordering.{nat_cmp}
-use Rattle.std.specs.Cmp.Lexicographic.{slice_cmp}
-use Rattle.xs_stream.specs.declared.id.Id.{Id}
-use Rattle.xs_stream.specs.declared.field.Field.{Field}
-use Rattle.xs_stream.specs.declared.trim.Trim.{Trim}
-use Rattle.xs_stream.specs.declared.add.AddError.{AddError}
-use Rattle.xs_stream.specs.Id.{zero_id}
-use Rattle.xs_stream.specs.Assigned.{assigned}
-use Rattle.xs_stream.specs.Kept.{Kept, trimmed, without}
+-- The content of the keyspace, and how it is read off a history.
+use Rattle.std.specs.Prelude.{◌≡◌, ℕ, List, Option, Some, None}
+use Rattle.xs_bytes.specs.SortedMap.{NameMap, get}
+use Rattle.xs_stream.specs.Kept.{Kept}
+use Rattle.xs_group.specs.State.{State, has_name}
 use Rattle.xs_command.specs.declared.command.Command.{Command}
-use Rattle.xs_command.specs.declared.command.Command.TheVariants.{Add, Delete, TrimTo, DropKeys}
-use Rattle.xs_keys.specs.Life.{Change, added, deleted, trimmed_to, key_life}
+use Rattle.xs_keys.specs.Life.{Change, key_life}
 use Rattle.xs_keys.specs.Given.{stream_of}
+use Rattle.xs_keys.specs.Delivered.{cursor, is_consumer}
+use Rattle.xs_keys.specs.Holding.{rows}
+use Rattle.xs_keys.specs.GroupLife.{GroupLife, group_life}
 
--- what a key holds
+-- what a key holds: its stream, and its groups by name
 pub record Key : Type 0 where
   pub stream : Kept
+  pub groups : NameMap State
 
 -- what each key with an open life holds
 abbrev pub Content : Type 0
-Content = map.FinMap {K = List ℕ} (slice_cmp nat_cmp) Key
+Content = NameMap Key
 
--- a key holds what its life says, and is there exactly where its life is open
-abbrev pub KeyHolds : Option Key → Option (List Change) → Type 0
-KeyHolds None None = Unit {0}
-KeyHolds (Some key) (Some changes) = key.stream ≡ stream_of changes
-KeyHolds None (Some changes) = ⊥
-KeyHolds (Some key) None = ⊥
+-- a group's cursor, consumers and rows are those of its life
+pub record IsGroup (group : State) (life : GroupLife) : Type 0 where
+  pub cursor_is : group.cursor ≡ cursor life.start life.turns
+  pub consumers_are : (name : List ℕ) → has_name group.consumers name ≡ is_consumer life.turns name
+  pub rows_are : group.rows.entries ≡ rows life.start life.turns
+
+-- a group is there exactly where its life is open
+abbrev pub GroupHolds : Option State → Option GroupLife → Type 0
+GroupHolds None None = Unit {0}
+GroupHolds (Some group) (Some life) = IsGroup group life
+GroupHolds None (Some life) = ⊥
+GroupHolds (Some group) None = ⊥
+
+-- so is a key; without one there are no groups
+abbrev pub KeyHolds : Option Key → Option (List Change) → (List ℕ → Option GroupLife) → Type 0
+KeyHolds None None lives = (group : List ℕ) → GroupHolds None (lives group)
+KeyHolds (Some key) (Some changes) lives =
+    (key.stream ≡ stream_of changes) × ((group : List ℕ) → GroupHolds (get key.groups group) (lives group))
+KeyHolds None (Some changes) lives = ⊥
+KeyHolds (Some key) None lives = ⊥
 
 -- the content that a history leaves
 abbrev pub IsContent : Content → List (ℕ × Command) → Type 0
-IsContent content past = (name : List ℕ) → KeyHolds (map.get content name) (key_life past name)
-
--- a stream with the ids still to come
-abbrev pub new_stream : Kept
-new_stream = record { top = zero_id; entries = [] }
-
-abbrev pub trimmed_if : Option Trim → List (Id × List Field) → List (Id × List Field)
-trimmed_if None entries = entries
-trimmed_if (Some trim) entries = trimmed trim entries
-
--- an entry is added first, and then the stream is trimmed; a refused addition changes nothing
-abbrev pub stream_with : Result Id AddError → List Field → Option Trim → Kept → Kept
-stream_with (Ok id) fields trim kept = record { top = id; entries = trimmed_if trim (kept.entries ++ (id, fields) ∷ []) }
-stream_with (Err refusal) fields trim kept = kept
-
--- a stream after a change
-abbrev pub stream_after : Change → Kept → Kept
-stream_after (added now id fields trim) kept = stream_with (assigned now kept.top id) fields trim kept
-stream_after (deleted ids) kept = record { top = kept.top; entries = without ids kept.entries }
-stream_after (trimmed_to trim) kept = record { top = kept.top; entries = trimmed trim kept.entries }
-
-abbrev pub key_after : Change → Key → Key
-key_after change key = record { stream = stream_after change key.stream }
-
--- a change of a key that is there
-abbrev pub changed : Content → List ℕ → Change → Option Key → Content
-changed content name change None = content
-changed content name change (Some key) = map.insert content name (key_after change key)
-
--- an addition, which makes a missing key where it may
-abbrev pub with_addition : Content → List ℕ → Change → Bool → Option Key → Content
-with_addition content name change make None = if make then map.insert content name (key_after change (record { stream = new_stream })) else content
-with_addition content name change make (Some key) = map.insert content name (key_after change key)
-
--- without these keys
-abbrev pub without_keys : List (List ℕ) → Content → Content
-without_keys [] content = content
-without_keys (name ∷ names) content = without_keys names (map.remove content name)
-
--- the content after a command at a moment
-abbrev pub after : Content → ℕ → Command → Content
-after content now (Add add) = with_addition content add.key (added now add.id add.fields add.trim) add.make (map.get content add.key)
-after content now (Delete name ids) = changed content name (deleted ids) (map.get content name)
-after content now (TrimTo name trim) = changed content name (trimmed_to trim) (map.get content name)
-after content now (DropKeys keys) = without_keys keys content
-after content now _ = content
+IsContent content past =
+    (name : List ℕ) → KeyHolds (get content name) (key_life past name) (λ group. group_life past name group)

@@ -1,7 +1,15 @@
 pub mod Life
 pub mod Given
+pub mod Turn
+pub mod Delivered
+pub mod Holding
+pub mod Owner
+pub mod GroupLife
 pub mod Content
-pub mod Codes
+pub mod After
+pub mod Shape
+pub mod GroupReply
 pub mod Reply
 pub mod Step
 pub mod Run
+pub mod Codes

@@ -1,22 +1,18 @@
 -- Histories, and the lives of keys. A list of past events has the newest first.
-use Rattle.std.specs.Prelude.{ℕ, Bool, false, List, [], ◌∷◌, Option, Some, None, if◌then◌else◌}
+use Rattle.std.specs.Prelude.{ℕ, Bool, ◌&&◌, List, [], ◌∷◌, Option, Some, None, if◌then◌else◌}
 use Rattle.std.specs.Option.{option_map}
 use Rattle.std.specs.List.{list_any}
-use Rattle.std.specs.Ordering.{nat_cmp, eq_by_cmp}
-use Rattle.std.specs.Cmp.Lexicographic.{slice_cmp}
 use Rattle.xs_stream.specs.declared.id.Id.{Id}
 use Rattle.xs_stream.specs.declared.add.AddId.{AddId}
 use Rattle.xs_stream.specs.declared.trim.Trim.{Trim}
 use Rattle.xs_stream.specs.declared.field.Field.{Field}
+use Rattle.xs_group.specs.State.{is_name}
 use Rattle.xs_command.specs.declared.command.Command.{Command}
-use Rattle.xs_command.specs.declared.command.Command.TheVariants.{Add, Delete, TrimTo, DropKeys}
+use Rattle.xs_command.specs.declared.command.Command.TheVariants.{Add, Delete, TrimTo, GroupCreate, DropKeys}
 
--- keys are names; the order of names is that of their bytes
+-- keys, groups and consumers have names
 abbrev pub Name : Type 0
 Name = List ℕ
-
-abbrev pub is_name : List ℕ → List ℕ → Bool
-is_name a b = eq_by_cmp (slice_cmp nat_cmp) a b
 
 abbrev pub has_name : List (List ℕ) → List ℕ → Bool
 has_name names name = list_any (is_name name) names
@@ -36,11 +32,21 @@ abbrev pub life_added : Change → Bool → Option (List Change) → Option (Lis
 life_added change make None = if make then Some (change ∷ []) else None
 life_added change make (Some changes) = Some (change ∷ changes)
 
+-- so does a new group, which changes nothing of the stream
+abbrev pub life_made : Option (List Change) → Option (List Change)
+life_made None = Some []
+life_made (Some changes) = Some changes
+
 -- the life of a key after an event: its changes, newest first, or none where no life is open
 abbrev pub key_lived : ℕ → Command → List ℕ → Option (List Change) → Option (List Change)
-key_lived now (Add add) key life = if is_name key add.key then life_added (added now add.id add.fields add.trim) add.make life else life
-key_lived now (Delete name ids) key life = if is_name key name then option_map (λ changes. deleted ids ∷ changes) life else life
-key_lived now (TrimTo name trim) key life = if is_name key name then option_map (λ changes. trimmed_to trim ∷ changes) life else life
+key_lived now (Add add) key life =
+    if is_name key add.key then life_added (added now add.id add.fields add.trim) add.make life else life
+key_lived now (Delete name ids) key life =
+    if is_name key name then option_map (λ changes. deleted ids ∷ changes) life else life
+key_lived now (TrimTo name trim) key life =
+    if is_name key name then option_map (λ changes. trimmed_to trim ∷ changes) life else life
+key_lived now (GroupCreate create) key life =
+    if is_name key create.key && create.make then life_made life else life
 key_lived now (DropKeys keys) key life = if has_name keys key then None else life
 key_lived now _ key life = life
 

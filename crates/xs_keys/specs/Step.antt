@@ -9,10 +9,11 @@ use Rattle.xs_resp.specs.declared.fault.Fault.TheVariants.{Memory, Unsupported}
 use Rattle.xs_resp.specs.declared.reply.Reply.{Reply}
 use Rattle.xs_resp.specs.declared.reply.Reply.TheVariants.{Error}
 use Rattle.xs_command.specs.declared.command.Command.{Command}
-use Rattle.xs_command.specs.declared.command.Command.TheVariants.{Ping, Quit, Add, Delete, TrimTo, Len, Scan, DropKeys}
+use Rattle.xs_command.specs.declared.command.Command.TheVariants.{Ping, Quit, Add, Delete, TrimTo, Len, Scan, GroupCreate, ConsumerCreate, ReadGroup, Pending, PendingRows, Claim, AutoClaim, DropKeys}
 use Rattle.xs_command.specs.declared.command.AddCommand.{AddCommand}
 use Rattle.xs_keys.specs.Life.{added}
-use Rattle.xs_keys.specs.Content.{Content, after, stream_after}
+use Rattle.xs_keys.specs.Content.{Content}
+use Rattle.xs_keys.specs.After.{after, stream_after}
 use Rattle.xs_keys.specs.Reply.{reply, assigned_reply}
 
 -- the commands that are served today; those of groups are not yet
@@ -32,6 +33,13 @@ abbrev pub takes_memory : Command → Bool
 takes_memory (Ping (Some message)) = true
 takes_memory (Add add) = true
 takes_memory (Scan scan) = true
+takes_memory (GroupCreate create) = true
+takes_memory (ConsumerCreate key group consumer) = true
+takes_memory (ReadGroup read) = true
+takes_memory (Pending key group) = true
+takes_memory (PendingRows pending) = true
+takes_memory (Claim claim) = true
+takes_memory (AutoClaim claim) = true
 takes_memory _ = false
 
 abbrev pub is_error : Reply → Bool

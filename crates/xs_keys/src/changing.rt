@@ -1,8 +1,8 @@
 //! Commands that change the stream of a key, over the map of keys.
 ghost use Rattle.std.specs.Prelude.{◌≡◌};
-ghost use Rattle.std.specs.FinMap as map;
+ghost use Rattle.xs_bytes.specs.SortedMap as map;
 ghost use Rattle.xs_keys.specs.Life.{deleted, trimmed_to};
-ghost use Rattle.xs_keys.specs.Content.{changed, without_keys};
+ghost use Rattle.xs_keys.specs.After.{changed, without_keys};
 ghost use Rattle.xs_keys.specs.Codes.{content_of};
 ghost use Rattle.xs_keys.specs.Reply.{removed_by, len_of, existing};
 

@@ -1,6 +1,6 @@
 //! The keyspace.
 ghost use Rattle.std.specs.Prelude.{◌≡◌, IfOk, OnErr, All};
-ghost use Rattle.std.specs.FinMap as map;
+ghost use Rattle.xs_bytes.specs.SortedMap as map;
 ghost use Rattle.xs_command.specs.WellFormed.{IsAddId, IsWellFormed};
 ghost use Rattle.xs_keys.specs.Step.{Step};
 ghost use Rattle.xs_keys.specs.Run.{RunsOn};

@@ -1,11 +1,12 @@
 //! Laws of the model, which hold of every history.
 ghost use Rattle.std.specs.Prelude.{◌≡◌, ℕ, List, [], ◌∷◌, Some};
-ghost use Rattle.std.specs.FinMap as map;
+ghost use Rattle.xs_bytes.specs.SortedMap as map;
 ghost use Rattle.xs_command.specs.declared.command.Command.{Command};
 ghost use Rattle.xs_stream.specs.Kept.{Ascends, AllUpTo, ids_of};
 ghost use Rattle.xs_keys.specs.Life.{Change, key_life};
 ghost use Rattle.xs_keys.specs.Given.{given_in, live, top};
-ghost use Rattle.xs_keys.specs.Content.{Content, IsContent, after};
+ghost use Rattle.xs_keys.specs.Content.{Content, IsContent};
+ghost use Rattle.xs_keys.specs.After.{after};
 ghost use Rattle.xs_keys.specs.Run.{RunsOn};
 
 /// The empty history leaves the empty content; an event leads from the content of a history to the

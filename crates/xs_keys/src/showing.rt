@@ -1,12 +1,13 @@
 //! Entries as replies.
 ghost use Rattle.std.specs.Prelude.{◌≡◌, [], ◌∷◌, ◌⊎◌, IfOk, map};
 ghost use Rattle.std.specs.List.{flat_map};
-ghost use Rattle.std.specs.FinMap as finmap;
+ghost use Rattle.xs_bytes.specs.SortedMap as finmap;
 ghost use Rattle.xs_stream.specs.Id.{printed};
 ghost use Rattle.xs_stream.specs.Kept.{limited, ids_within};
 ghost use Rattle.xs_resp.specs.ReplyItems.{items_of};
 ghost use Rattle.xs_keys.specs.Codes.{content_of};
-ghost use Rattle.xs_keys.specs.Reply.{array, field_replies, entry_reply, scan_reply};
+ghost use Rattle.xs_keys.specs.Shape.{array, field_replies, entry_reply};
+ghost use Rattle.xs_keys.specs.Reply.{scan_reply};
 
 use crate::changing::Keys;
 use std::alloc::{AllocError, Global};

@@ -1,14 +1,13 @@
 -- Sessions: one line more, and replies that are sent.
-use Rattle.std.proofs.Common.{◌≡◌, ◌⊎◌, ℕ, ◌+◌, ◌<◌, ◌≤◌, Bool, true, false, List, [], ◌∷◌, ◌++◌, length, Option, Some, None, Result, Ok, Err, inl, inr, sym, ap, ◌∙◌, subst, refl, append_assoc, arith, IsSomeAnd, MatchResult, length-append}
+use Rattle.std.proofs.Common.{◌≡◌, ℕ, ◌+◌, ◌<◌, Bool, false, List, [], ◌∷◌, ◌++◌, length, Option, Some, None, Result, Ok, Err, inl, inr, sym, ap, ◌∙◌, subst, refl, append_assoc, arith, IsSomeAnd, MatchResult, length-append}
 use Rattle.std.proofs.lemmas.List.{append-nil}
 use Rattle.xs_resp.specs.declared.fault.Fault.{Fault}
-use Rattle.xs_resp.specs.declared.fault.Fault.TheVariants.{Memory}
 use Rattle.xs_resp.specs.declared.reply.Reply.{Reply}
 use Rattle.xs_resp.specs.declared.reply.Reply.TheVariants.{Error}
 use Rattle.xs_resp.specs.ReplyText.{text}
 use Rattle.xs_command.specs.declared.command.Command.{Command}
 use Rattle.xs_command.specs.Read.{reads}
-use Rattle.xs_keys.specs.Content.{Content, IsContent, after}
+use Rattle.xs_keys.specs.Content.{Content, IsContent}
 use Rattle.xs_keys.specs.Step.{Step}
 use Rattle.xs_keys.proofs.Contents.{content-step}
 use Rattle.xs_server.specs.Device.{capped}

@@ -1,5 +1,5 @@
 -- What readers and writers tell of themselves.
-use Rattle.std.specs.Prelude.{◌≡◌, ℕ, ◌+◌, ◌^◌, ◌-◌, Bool, true, false, ◌&&◌, ◌||◌, ◌==◌, nat_lt, min, List, length, take, Option, Result, Ok, Err, is_err, not}
+use Rattle.std.specs.Prelude.{ℕ, Bool, true, false, ◌&&◌, ◌==◌, nat_lt, min, List, length, Result, Ok, Err}
 
 -- counts stop at the greatest 64-bit number
 abbrev pub capped : ℕ → ℕ

@@ -1,6 +1,6 @@
 -- What a script writes: the replies to its lines, in order.
-use Rattle.std.specs.Prelude.{◌≡◌, ℕ, ◌+◌, ◌<◌, true, false, ◌⊎◌, List, [], ◌∷◌, ◌++◌, length, Some, None, MatchResult, IsSomeAnd}
-use Rattle.std.specs.List.{flat_map, list_any}
+use Rattle.std.specs.Prelude.{◌≡◌, ℕ, true, false, ◌⊎◌, List, [], ◌∷◌, ◌++◌, MatchResult, IsSomeAnd}
+use Rattle.std.specs.List.{list_any}
 use Rattle.xs_resp.specs.declared.fault.Fault.TheVariants.{Memory, Unsupported}
 use Rattle.xs_resp.specs.declared.reply.Reply.{Reply}
 use Rattle.xs_resp.specs.declared.reply.Reply.TheVariants.{Error}
@@ -9,8 +9,8 @@ use Rattle.xs_command.specs.declared.command.Command.{Command}
 use Rattle.xs_command.specs.Read.{reads}
 use Rattle.xs_keys.specs.Content.{Content, IsContent}
 use Rattle.xs_keys.specs.Reply.{reply}
-use Rattle.xs_keys.specs.Step.{Step, is_served, takes_memory}
-use Rattle.xs_server.specs.Line.{is_line_end, script_lines, line_of}
+use Rattle.xs_keys.specs.Step.{is_served, takes_memory}
+use Rattle.xs_server.specs.Line.{is_line_end, line_of}
 
 -- the answer to a command over a history, and the history that follows: the model's reply, and the event is
 -- added; or memory ran out, or the command isn't served yet, and it isn't

@@ -2,7 +2,7 @@
 use Rattle.std.specs.Prelude.{◌≡◌, ℕ, ◌+◌, true, false, ◌⊎◌, Bool, List, [], ◌∷◌, ◌++◌, length, None, Result, Ok, Err}
 use Rattle.std.specs.List.{flat_map, list_any}
 use Rattle.xs_command.specs.declared.command.Command.{Command}
-use Rattle.std.specs.FinMap as map
+use Rattle.xs_bytes.specs.SortedMap as map
 use Rattle.xs_keys.specs.Content.{IsContent}
 use Rattle.xs_server.specs.declared.session.Session.{Session}
 use Rattle.xs_server.specs.declared.script_fault.ScriptFault.{ScriptFault}

@@ -1,7 +1,7 @@
 //! A whole script.
 ghost use Rattle.std.specs.Prelude.{◌≡◌, ◌+◌, ◌*◌, ◌<◌, ◌++◌, [], true, false, List, ℕ, length, IfOk, Ok, Err};
 ghost use Rattle.std.specs.Io.KnownBytes.{Appends, Consumes, IsAtEnd};
-ghost use Rattle.std.specs.FinMap as map;
+ghost use Rattle.xs_bytes.specs.SortedMap as map;
 ghost use Rattle.xs_server.specs.Device.{capped};
 ghost use Rattle.xs_server.specs.Session.{Stands, IsRead, Steps, HasCause, Runs, RunsByCause, IsNew};
 

@@ -1,9 +1,5 @@
-use Rattle.std.proofs.Common.{◌≡◌, ◌+◌, ◌∷◌, drop, get_or, sym, ap, ◌∙◌, is_some, true, false, Bool, arith, cond}
-use Rattle.std.specs.FinMap as map
+use Rattle.std.proofs.Common.{◌+◌, ◌∷◌, drop, sym, ap, ◌∙◌, is_some, arith}
 use Rattle.std.proofs.lemmas.List.{drop_more}
-use Rattle.std.proofs.lemmas.Bool.Decides.{nat_tests}
-use Rattle.xs_keys.specs.Content.{without_keys}
-use Rattle.xs_keys.specs.Codes.{content_of}
 use Rattle.xs_keys.proofs.Maps.{get-content_of, content-remove}
 use Rattle.xs_keys.proofs.changing.drop_keys.Goals as goal
 use Rattle.xs_keys.proofs.changing.drop_keys.Goals.{then-is_some, else-is_some}

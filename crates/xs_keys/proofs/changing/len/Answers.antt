@@ -1,4 +1,4 @@
-use Rattle.std.proofs.Common.{◌≡◌, Some, sym, ap, ◌∙◌, refl}
+use Rattle.std.proofs.Common.{Some, sym, ap, ◌∙◌, refl}
 use Rattle.xs_keys.proofs.Maps.{get-content_of}
 use Rattle.xs_keys.proofs.changing.len.Goals as goal
 

@@ -1,4 +1,4 @@
-use Rattle.std.proofs.Common.{◌≡◌, Some, sym, ap, ◌∙◌, inl}
+use Rattle.std.proofs.Common.{Some, sym, ap, ◌∙◌, inl}
 use Rattle.xs_resp.specs.declared.reply.Reply.TheVariants.{Array}
 use Rattle.xs_resp.specs.ReplyItems.{items_of}
 use Rattle.xs_keys.proofs.Maps.{get-content_of}

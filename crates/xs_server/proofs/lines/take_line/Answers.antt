@@ -1,10 +1,9 @@
-use Rattle.std.proofs.Common.{◌≡◌, ℕ, ◌+◌, ◌-◌, ◌*◌, ◌<◌, ◌≤◌, ◌++◌, ◌||◌, List, length, false, sym, ap, ◌∙◌, append_assoc, arith}
+use Rattle.std.proofs.Common.{◌≡◌, ℕ, ◌+◌, ◌-◌, ◌<◌, ◌++◌, ◌||◌, sym, ap, ◌∙◌, append_assoc, arith}
 use Rattle.std.specs.List.{list_any}
 use Rattle.std.proofs.KnownBytes.{Consumes-trans}
 use Rattle.std.proofs.lemmas.List.Folds.{list_any-append}
 use Rattle.xs_server.specs.Device.{capped}
 use Rattle.xs_server.specs.Line.{is_line_end}
-use Rattle.xs_server.specs.Taking.{TakesPart}
 use Rattle.xs_server.proofs.lines.take_line.Goals as goal
 
 one_fewer : (calls next left : ℕ) → 0 < left → next ≡ capped (calls + 1) → capped (next + (left - 1)) ≡ capped (calls + left)

@@ -1,7 +1,7 @@
-use Rattle.std.proofs.Common.{◌≡◌, ◌∷◌, length, true, map, Some, sym, ap, ◌∙◌, arith}
+use Rattle.std.proofs.Common.{◌≡◌, ◌∷◌, true, map, sym, ap, ◌∙◌, arith}
 use Rattle.std.specs.Option.{option_map, option_copied}
 use Rattle.std.proofs.lemmas.Bool.Decides.{nat_tests}
-use Rattle.xs_server.specs.Line.{parts_of, parts_behind, has_bytes, full_parts, moment_of}
+use Rattle.xs_server.specs.Line.{parts_behind, has_bytes}
 use Rattle.xs_server.proofs.LineEnds.{line-read}
 use Rattle.xs_server.proofs.parts.read_line.Goals as goal
 

@@ -1,4 +1,4 @@
-use Rattle.std.proofs.Common.{◌≡◌, ◌++◌, ◌∷◌, [], ap, ◌∙◌, refl, append-nil}
+use Rattle.std.proofs.Common.{◌++◌, ap, ◌∙◌, refl, append-nil}
 use Rattle.xs_server.specs.Line.{script_lines}
 use Rattle.xs_server.proofs.ScriptLines.{read-more, read-line, read-lines, lines-last}
 use Rattle.xs_server.proofs.run.step.Goals as goal

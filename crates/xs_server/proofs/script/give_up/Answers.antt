@@ -1,6 +1,5 @@
-use Rattle.std.proofs.Common.{◌≡◌, ◌+◌, ◌++◌, ap, ◌∙◌, rules}
+use Rattle.std.proofs.Common.{◌+◌, ◌++◌, ap, ◌∙◌}
 use Rattle.xs_server.specs.Device.{capped}
-use Rattle.xs_server.specs.Taking.{FailsLine}
 use Rattle.xs_server.specs.Line.{script_lines}
 use Rattle.xs_server.proofs.ScriptLines.{read-lines}
 use Rattle.xs_server.proofs.Sessions.{sent-after, gives-up-long, gives-up-write, capped-next}

@@ -1,10 +1,7 @@
-use Rattle.std.proofs.Common.{◌≡◌, ℕ, ◌+◌, List, [], ◌∷◌, ◌++◌, length, None, Err, sym, ap, ◌∙◌, subst, append_assoc, append-nil}
+use Rattle.std.proofs.Common.{◌+◌, [], ◌++◌, Err, sym, ap, ◌∙◌, append_assoc, append-nil}
 use Rattle.std.proofs.KnownBytes.{Appends-nil}
 use Rattle.xs_resp.specs.ReplyText.{text}
-use Rattle.xs_command.specs.declared.command.Command.{Command}
 use Rattle.xs_server.specs.Device.{capped}
-use Rattle.xs_server.specs.Line.{line_of}
-use Rattle.xs_server.specs.Script.{Script}
 use Rattle.xs_server.proofs.Sessions.{served-line, capped-more, sent-after, failed-send, capped-next}
 use Rattle.xs_server.proofs.script.serve.Goals as goal
 

@@ -1,4 +1,4 @@
-use Rattle.std.proofs.Common.{refl, [], ap, ◌∙◌}
+use Rattle.std.proofs.Common.{refl, []}
 use Rattle.xs_server.proofs.Sessions.{fault-ends, all-sent}
 use Rattle.xs_server.proofs.script.serve_last.Goals as goal
 

@@ -1,4 +1,4 @@
-use Rattle.std.proofs.Common.{◌≡◌, ◌∷◌, ◌++◌, [], ◌∙◌, append_assoc}
+use Rattle.std.proofs.Common.{◌∷◌, ◌++◌, [], ◌∙◌, append_assoc}
 use Rattle.xs_server.specs.Line.{script_lines}
 use Rattle.xs_server.proofs.ScriptLines.{read-lines}
 use Rattle.xs_server.proofs.Sessions.{fault-ends}

@@ -1,4 +1,4 @@
-use Rattle.std.proofs.Common.{◌≡◌, ◌++◌, ◌∷◌, [], sym, append_assoc}
+use Rattle.std.proofs.Common.{◌++◌, append_assoc}
 use Rattle.std.proofs.KnownBytes.{Appends-trans}
 use Rattle.xs_server.proofs.Sessions.{served-sent}
 use Rattle.xs_server.proofs.script.serve_taken.Goals as goal
