@@ -34,7 +34,7 @@ cursor-step start t past = greatest-append start (delivered start past) (deliver
 
 -- ---- rows
 
-up_to-rows : (start : Id) (past : List Turn) → AllUpTo (cursor start past) (row_ids (rows start past))
+pub up_to-rows : (start : Id) (past : List Turn) → AllUpTo (cursor start past) (row_ids (rows start past))
 up_to-rows start past = up_to-among (cursor start past) (λ x. holding start past x) (delivered start past) (up_to-delivered start past)
 
 -- a turn that delivers nothing changes rows that are there

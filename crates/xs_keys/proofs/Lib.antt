@@ -1,9 +1,14 @@
 pub mod Additions
 pub mod Contents
+pub mod Deliveries
 pub mod GroupRows
 pub mod GroupSteps
+pub mod Histories
 pub mod IdLists
+pub mod Lawfulness
+pub mod Lives
 pub mod Maps
 pub mod Names
+pub mod Owners
 pub mod Runs
 pub mod Streams

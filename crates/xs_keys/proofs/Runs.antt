@@ -1,11 +1,17 @@
 -- A run so far, and one event more.
-use Rattle.std.proofs.Common.{ℕ, List, [], ◌∷◌, ◌++◌, inl, inr, sym, subst, refl, append_assoc}
+use Rattle.std.proofs.Common.{◌≡◌, ℕ, List, [], ◌∷◌, ◌++◌, Some, inl, inr, sym, subst, refl, append_assoc}
 use Rattle.std.proofs.lemmas.List.{append-nil}
 use Rattle.xs_resp.specs.declared.reply.Reply.{Reply}
 use Rattle.xs_command.specs.declared.command.Command.{Command}
 use Rattle.xs_keys.specs.Content.{Content, IsContent}
 use Rattle.xs_keys.specs.Step.{Step}
-use Rattle.xs_keys.specs.Run.{Answers, RunsOn}
+use Rattle.xs_keys.specs.Headline.{Answers, Headline, RunsOn}
+use Rattle.xs_keys.specs.Promise.{DeliversNew, HasOneOwner}
+use Rattle.xs_keys.specs.GroupLife.{GroupLife, group_life}
+use Rattle.xs_keys.proofs.Lawfulness.{content-lawful}
+use Rattle.xs_keys.proofs.Deliveries.{ascends-delivered, past-start, had-turn}
+use Rattle.xs_keys.proofs.Histories.{present-in-life}
+use Rattle.xs_keys.proofs.Owners.{owned-until-settled, changes-by-claims}
 use Rattle.xs_keys.proofs.Contents.{content-step}
 
 -- from this past on, the answers so far are good, whatever good answers to the rest of the events follow
@@ -40,7 +46,26 @@ runs-more old events replies now next e rest reply so_far step = λ past is.
     let more = one_more here.0 e reply now next here.1 step in
     (more.0, more.1, λ answers last done. rw append_assoc (here.2 (reply ∷ answers) last (more.2 rest answers last done)))
 
+delivers-new : (past : List (ℕ × Command)) (key group : List ℕ) (life : GroupLife) → group_life past key group ≡ Some life → DeliversNew life
+delivers-new past key group life e =
+    let asc = present-in-life past key group life e in
+    record {
+      ascend = ascends-delivered life.start life.turns asc;
+      past_start = past-start life.start life.turns;
+      at_their_turn = λ x low high. had-turn life.start life.turns x asc low high;
+    }
+
+has-one-owner : (life : GroupLife) → HasOneOwner life
+has-one-owner life = record { until_settled = owned-until-settled life.start life.turns; by_claims = changes-by-claims life.start life.turns }
+
+headline : (past events : List (ℕ × Command)) (replies : List Reply) (history : List (ℕ × Command)) → Answers past events replies history → Headline past events replies history
+headline past events replies history answers = record {
+  replies = answers;
+  deliveries = λ later earlier e key group life f. delivers-new earlier key group life f;
+  owners = λ later earlier e key group life f. has-one-owner life;
+}
+
 pub runs-all : (old : Content) (events : List (ℕ × Command)) (replies : List Reply) (new : Content) → RunsSoFar old events replies new [] → RunsOn old events replies new
 runs-all old events replies new so_far = λ past is.
     let here = so_far past is in
-    (here.0, rw append-nil at (here.2 [] here.0 refl), here.1)
+    (here.0, headline past events replies here.0 (rw append-nil at (here.2 [] here.0 refl)), here.1, content-lawful here.0 new here.1)

@@ -20,7 +20,7 @@ greatest-append a [] ys = refl
 greatest-append a (x ∷ xs) ys = greatest-append (cond (is_below a x) x a) xs ys
 
 -- it is none below the one that it began with
-greatest-up : (a : Id) (xs : List Id) → is_below (greatest a xs) a ≡ false
+pub greatest-up : (a : Id) (xs : List Id) → is_below (greatest a xs) a ≡ false
 greatest-up a [] = below-irrefl a
 greatest-up a (x ∷ xs) = by (greatest-up x xs) (greatest-up a xs) (is_below a x) refl where
   by : is_below (greatest x xs) x ≡ false → is_below (greatest a xs) a ≡ false → (t : Bool) → is_below a x ≡ t → is_below (greatest (cond t x a) xs) a ≡ false

@@ -11,5 +11,8 @@ pub mod Shape
 pub mod GroupReply
 pub mod Reply
 pub mod Step
-pub mod Run
+pub mod Lawful
+pub mod Promise
+pub mod Apart
+pub mod Headline
 pub mod Codes

@@ -1,27 +1,81 @@
-//! Laws of the model, which hold of every history.
-ghost use Rattle.std.specs.Prelude.{◌≡◌, ℕ, List, [], ◌∷◌, Some};
+//! Laws of the model. Each holds of every history, so of every part of one from its beginning on, and
+//! of lives that are over.
+ghost use Rattle.std.specs.Prelude.{◌≡◌, ◌⊎◌, ℕ, false, true, List, [], ◌∷◌, ◌++◌, None, Some};
+ghost use Rattle.std.specs.Option.{option_map};
 ghost use Rattle.xs_bytes.specs.SortedMap as map;
+ghost use Rattle.xs_stream.specs.declared.id.Id.{Id};
+ghost use Rattle.xs_stream.specs.Id.{is_below};
+ghost use Rattle.xs_stream.specs.Kept.{Ascends, AllAbove, AllUpTo, ids_of};
+ghost use Rattle.xs_group.specs.State.{is_name};
 ghost use Rattle.xs_command.specs.declared.command.Command.{Command};
-ghost use Rattle.xs_stream.specs.Kept.{Ascends, AllUpTo, ids_of};
+ghost use Rattle.xs_command.specs.WellFormed.{IsWellFormed};
 ghost use Rattle.xs_keys.specs.Life.{Change, key_life};
 ghost use Rattle.xs_keys.specs.Given.{given_in, live, top};
+ghost use Rattle.xs_keys.specs.Delivered.{delivered, cursor};
+ghost use Rattle.xs_keys.specs.Holding.{holding};
+ghost use Rattle.xs_keys.specs.Owner.{owner};
+ghost use Rattle.xs_keys.specs.GroupLife.{GroupLife, group_life, group_of};
 ghost use Rattle.xs_keys.specs.Content.{Content, IsContent};
 ghost use Rattle.xs_keys.specs.After.{after};
-ghost use Rattle.xs_keys.specs.Run.{RunsOn};
+ghost use Rattle.xs_keys.specs.Lawful.{IsLawfulContent};
+ghost use Rattle.xs_keys.specs.Promise.{HadItsTurn, OwnedUntilSettled, ChangesByClaims};
+ghost use Rattle.xs_keys.specs.Apart.{asks_new, delivered_by, GoesOn};
 
 /// The empty history leaves the empty content; an event leads from the content of a history to the
-/// content of the history followed by it; and a history has one content.
+/// content of the history followed by it; a history has one content; and that is lawful.
 pub fn step_law()
     ensures empty { IsContent map.empty [] }
     ensures step { (past : List (ℕ × Command)) (content : Content) (now : ℕ) (command : Command) →
         IsContent content past → IsContent (after content now command) ((now, command) ∷ past) }
     ensures unique { (past : List (ℕ × Command)) (one other : Content) → IsContent one past → IsContent other past → one ≡ other }
-    ensures lawful { (past : List (ℕ × Command)) (name : List ℕ) (changes : List Change) → key_life past name ≡ Some changes →
-        Ascends (ids_of (live changes)) × AllUpTo (top changes) (ids_of (live changes)) }
+    ensures lawful { (past : List (ℕ × Command)) (content : Content) → IsContent content past → IsLawfulContent content }
 {}
 
-/// The ids given in the life of a key ascend, in any history.
+/// The ids given in the life of a key ascend.
 pub fn ids_ascend()
     ensures { (past : List (ℕ × Command)) (name : List ℕ) (changes : List Change) → key_life past name ≡ Some changes →
         Ascends (ids_of (given_in changes)) }
+{}
+
+/// The ids delivered in the life of a group ascend over all its reads, and are past its start.
+pub fn deliveries_ascend()
+    ensures ascend { (past : List (ℕ × Command)) (key group : List ℕ) (life : GroupLife) → group_life past key group ≡ Some life →
+        Ascends (delivered life.start life.turns) }
+    ensures past_start { (past : List (ℕ × Command)) (key group : List ℕ) (life : GroupLife) → group_life past key group ≡ Some life →
+        AllAbove life.start (delivered life.start life.turns) }
+{}
+
+/// An id above the start and not above the cursor has had its turn, and was delivered exactly where it
+/// was in the stream then.
+pub fn delivered_exactly_where_live_at_its_turn()
+    ensures { (past : List (ℕ × Command)) (key group : List ℕ) (life : GroupLife) (x : Id) → group_life past key group ≡ Some life →
+        is_below life.start x ≡ true → is_below (cursor life.start life.turns) x ≡ false → HadItsTurn life.start life.turns x }
+{}
+
+/// After a delivery without NOACK an entry has an owner up to the first turn that settles it, and none
+/// after it; the owner changes only by a claim, and comes only by a delivery.
+pub fn one_owner_until_settled()
+    ensures until_settled { (past : List (ℕ × Command)) (key group : List ℕ) (life : GroupLife) → group_life past key group ≡ Some life →
+        OwnedUntilSettled life.start life.turns }
+    ensures by_claims { (past : List (ℕ × Command)) (key group : List ℕ) (life : GroupLife) → group_life past key group ≡ Some life →
+        ChangesByClaims life.start life.turns }
+{}
+
+/// An event delivers nothing of a life of a group where it is on another key or group, or where no life
+/// of the group is open: before its start, or after its end. What is delivered in a life is what its
+/// events deliver, one after the other, and nothing else.
+pub fn lives_are_apart()
+    ensures elsewhere { (past : List (ℕ × Command)) (command : Command) (key group : List ℕ) →
+        (is_name group (group_of command) ≡ false) ⊎ (asks_new command key ≡ false) → delivered_by past command key group ≡ [] }
+    ensures outside { (past : List (ℕ × Command)) (command : Command) (key group : List ℕ) →
+        group_life past key group ≡ None → delivered_by past command key group ≡ [] }
+    ensures goes_on { (past : List (ℕ × Command)) (now : ℕ) (command : Command) (key group : List ℕ) → IsWellFormed command →
+        GoesOn (group_life past key group) (delivered_by past command key group) (group_life ((now, command) ∷ past) key group) }
+{}
+
+/// The owner, searched for by looking back for the last turn that assigned the entry and for a later one
+/// that settled it, is the consumer of the row that the proofs go over.
+pub fn owner_is_of_the_row()
+    ensures { (past : List (ℕ × Command)) (key group : List ℕ) (life : GroupLife) (x : Id) → group_life past key group ≡ Some life →
+        owner life.start life.turns x ≡ option_map (λ row. row.consumer) (holding life.start life.turns x) }
 {}

@@ -1,5 +1,5 @@
 use Rattle.xs_keys.proofs.Contents.{content-none, content-step, content-unique}
-use Rattle.xs_keys.proofs.Streams.{ascends-live, up_to-live}
+use Rattle.xs_keys.proofs.Lawfulness.{content-lawful}
 use Rattle.xs_keys.proofs.laws.step_law.Goals as goal
 
 pub returns-clause-empty : goal.returns-clause-empty
@@ -12,4 +12,4 @@ pub returns-clause-unique : goal.returns-clause-unique
 returns-clause-unique c = content-unique
 
 pub returns-clause-lawful : goal.returns-clause-lawful
-returns-clause-lawful c = λ past name changes e. (ascends-live changes, up_to-live changes)
+returns-clause-lawful c = content-lawful

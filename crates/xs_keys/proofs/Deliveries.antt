@@ -1,0 +1,116 @@
+-- New deliveries of a life: they ascend, and are what was in the stream at its turn.
+use Rattle.std.proofs.Common.{◌≡◌, Bool, true, false, not, ◌&&◌, ◌||◌, List, [], ◌∷◌, sym, ap, ◌∙◌, refl}
+use Rattle.std.proofs.lemmas.Bool.{false≢true}
+use Rattle.xs_stream.specs.declared.id.Id.{Id}
+use Rattle.xs_stream.specs.Id.{is_below, has_id}
+use Rattle.xs_stream.specs.Kept.{Ascends, AllAbove}
+use Rattle.xs_keys.specs.Given.{greatest}
+use Rattle.xs_keys.specs.Turn.{Ask, Turn, read_new, read_own, ack, join, leave, claim, auto_claim, asked_new}
+use Rattle.xs_keys.specs.Delivered.{delivered, cursor, delivers_after}
+use Rattle.xs_keys.specs.Promise.{HadItsTurn}
+use Rattle.xs_keys.proofs.IdLists.{above-delivers, ascends-delivers, ascends-append, above-lower, not_above, has_id-append, delivers-up_to, above-append, not_among}
+use Rattle.xs_keys.proofs.Streams.{greatest-up}
+use Rattle.xs_keys.proofs.GroupSteps.{up_to-delivered, cursor-step}
+
+-- the ids in the stream at each turn ascend
+abbrev pub PresentAscends : List Turn → Type 0
+PresentAscends [] = Unit {0}
+PresentAscends (turn ∷ past) = Ascends turn.present × PresentAscends past
+
+above-asked : (ask : Ask) (present : List Id) (a : Id) → AllAbove a (asked_new ask present a)
+above-asked (read_new consumer limit noack) present a = above-delivers limit a present
+above-asked (read_own consumer limit from) present a = tt
+above-asked (ack ids) present a = tt
+above-asked (join consumer) present a = tt
+above-asked (leave consumer) present a = tt
+above-asked (claim consumer rule ids) present a = tt
+above-asked (auto_claim consumer rule start limit) present a = tt
+
+ascends-asked : (ask : Ask) (present : List Id) (a : Id) → Ascends present → Ascends (asked_new ask present a)
+ascends-asked (read_new consumer limit noack) present a h = ascends-delivers limit a present h
+ascends-asked (read_own consumer limit from) present a h = tt
+ascends-asked (ack ids) present a h = tt
+ascends-asked (join consumer) present a h = tt
+ascends-asked (leave consumer) present a h = tt
+ascends-asked (claim consumer rule ids) present a h = tt
+ascends-asked (auto_claim consumer rule start limit) present a h = tt
+
+-- what a turn delivers is above the cursor
+pub above-after : (start : Id) (past : List Turn) (turn : Turn) → AllAbove (cursor start past) (delivers_after start past turn)
+above-after start past turn = above-asked turn.ask turn.present (cursor start past)
+
+pub start-up : (start : Id) (past : List Turn) → is_below (cursor start past) start ≡ false
+start-up start past = greatest-up start (delivered start past)
+
+-- deliveries ascend
+pub ascends-delivered : (start : Id) (turns : List Turn) → PresentAscends turns → Ascends (delivered start turns)
+ascends-delivered start [] h = tt
+ascends-delivered start (turn ∷ past) h =
+    ascends-append (cursor start past) (delivered start past) (delivers_after start past turn) (ascends-delivered start past h.1) (up_to-delivered start past)
+    (ascends-asked turn.ask turn.present (cursor start past) h.0) (above-after start past turn)
+
+-- and are past the start
+pub past-start : (start : Id) (turns : List Turn) → AllAbove start (delivered start turns)
+past-start start [] = tt
+past-start start (turn ∷ past) =
+    above-append start (delivered start past) (delivers_after start past turn) (past-start start past)
+    (above-lower start (cursor start past) (delivers_after start past turn) (start-up start past) (above-after start past turn))
+
+-- ---- their turn
+
+-- an id that the cursor passes at a turn is delivered exactly where it is in the stream
+exactly-at : (ask : Ask) (present : List Id) (a x : Id) → Ascends present → is_below a x ≡ true → is_below (greatest a (asked_new ask present a)) x ≡ false
+    → has_id (asked_new ask present a) x ≡ has_id present x
+exactly-at (read_new consumer limit noack) present a x asc low high = delivers-up_to limit present a x asc low high
+exactly-at (read_own consumer limit from) present a x asc low high = absurd (false≢true (sym high ∙ low))
+exactly-at (ack ids) present a x asc low high = absurd (false≢true (sym high ∙ low))
+exactly-at (join consumer) present a x asc low high = absurd (false≢true (sym high ∙ low))
+exactly-at (leave consumer) present a x asc low high = absurd (false≢true (sym high ∙ low))
+exactly-at (claim consumer rule ids) present a x asc low high = absurd (false≢true (sym high ∙ low))
+exactly-at (auto_claim consumer rule start limit) present a x asc low high = absurd (false≢true (sym high ∙ low))
+
+both_turns : (a b : Bool) → a ≡ true → b ≡ false → (a && not b) ≡ true
+both_turns a b p q = rw (p, q) refl
+
+-- the cursor passes each id between the start and itself at one of the turns
+pub had-turn : (start : Id) (turns : List Turn) (x : Id) → PresentAscends turns → is_below start x ≡ true → is_below (cursor start turns) x ≡ false → HadItsTurn start turns x
+had-turn start [] x h low high = absurd (false≢true (sym high ∙ low))
+had-turn start (turn ∷ past) x h low high = by (is_below (cursor start past) x) refl (λ up. had-turn start past x h.1 low up) where
+  new : List Id
+  new = delivers_after start past turn
+
+  -- an id up to the cursor before isn't delivered anew
+  not_new : is_below (cursor start past) x ≡ false → has_id new x ≡ false
+  not_new up = not_above (cursor start past) x new up (above-after start past turn)
+
+  or-none : (a b : Bool) → b ≡ false → (a || b) ≡ a
+  or-none true b e = refl
+  or-none false b e = e
+
+  none-or : (a b : Bool) → a ≡ false → (a || b) ≡ b
+  none-or a b e = rw e refl
+
+  -- an id above the cursor before was not delivered before
+  not_old : is_below (cursor start past) x ≡ true → has_id (delivered start past) x ≡ false
+  not_old e = not_among (cursor start past) (delivered start past) x e (up_to-delivered start past)
+
+  by : (t : Bool) → is_below (cursor start past) x ≡ t → (is_below (cursor start past) x ≡ false → HadItsTurn start past x) → HadItsTurn start (turn ∷ past) x
+  by true e before = record {
+    later = [];
+    turn = turn;
+    earlier = past;
+    among = refl;
+    theirs = both_turns (is_below (cursor start past) x) (is_below (cursor start (turn ∷ past)) x) e high;
+    exactly = has_id-append (delivered start past) new x ∙ none-or _ (has_id new x) (not_old e)
+        ∙ exactly-at turn.ask turn.present (cursor start past) x h.0 e (ap (λ c. is_below c x) (sym (cursor-step start turn past)) ∙ high);
+  }
+  by false e before =
+      let had = before e in
+      record {
+        later = turn ∷ had.later;
+        turn = had.turn;
+        earlier = had.earlier;
+        among = ap (λ ts. turn ∷ ts) had.among;
+        theirs = had.theirs;
+        exactly = has_id-append (delivered start past) new x ∙ or-none _ (has_id new x) (not_new e) ∙ had.exactly;
+      }

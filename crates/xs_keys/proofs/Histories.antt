@@ -1,0 +1,89 @@
+-- What holds of the lives of a history: the ids in the stream ascend at each turn.
+use Rattle.std.proofs.Common.{◌≡◌, ℕ, Bool, true, false, cond, ◌&&◌, List, [], ◌∷◌, Option, Some, None, is_some, subst, refl}
+use Rattle.std.specs.List.{list_all}
+use Rattle.xs_stream.specs.declared.id.Id.{Id}
+use Rattle.xs_stream.specs.Kept.{Ascends}
+use Rattle.xs_group.specs.State.{is_name}
+use Rattle.xs_command.specs.declared.command.Command.{Command}
+use Rattle.xs_command.specs.declared.command.Command.TheVariants.{Ping, Quit, Add, Delete, TrimTo, Len, Scan, GroupCreate, GroupDestroy, ConsumerCreate, ConsumerDelete, ReadGroup, Ack, Pending, PendingRows, Claim, AutoClaim, DropKeys}
+use Rattle.xs_command.specs.declared.command.GroupCreateCommand.{GroupCreateCommand}
+use Rattle.xs_command.specs.declared.command.ReadGroupCommand.{ReadGroupCommand}
+use Rattle.xs_command.specs.declared.reads.ReadOne.{ReadOne}
+use Rattle.xs_keys.specs.Life.{Change, has_name, key_life}
+use Rattle.xs_keys.specs.Turn.{Ask, join, leave, ack, claim, auto_claim}
+use Rattle.xs_keys.specs.GroupLife.{GroupLife, present_in, life_opened, life_created, life_asked, read_ask, life_read, group_lived, reads_of, group_of, group_life}
+use Rattle.xs_keys.proofs.Streams.{ascends-live}
+use Rattle.xs_keys.proofs.Deliveries.{PresentAscends}
+
+-- a life whose turns meet ids that ascend, or none
+abbrev pub MeetsAscending : Option GroupLife → Type 0
+MeetsAscending None = Unit {0}
+MeetsAscending (Some life) = PresentAscends life.turns
+
+present-ascends : (stream : Option (List Change)) → Ascends (present_in stream)
+present-ascends None = tt
+present-ascends (Some changes) = ascends-live changes
+
+meets-asked : (now : ℕ) (present : List Id) (ask : Ask) (life : Option GroupLife) → Ascends present → MeetsAscending life → MeetsAscending (life_asked now present ask life)
+meets-asked now present ask None asc h = tt
+meets-asked now present ask (Some life) asc h = (asc, h)
+
+meets-read : (now : ℕ) (present : List Id) (read : ReadGroupCommand) (key : List ℕ) (reads : List ReadOne) (life : Option GroupLife) → Ascends present → MeetsAscending life
+    → MeetsAscending (life_read now present read key reads life)
+meets-read now present read key [] life asc h = h
+meets-read now present read key (one ∷ more) life asc h =
+    meets-read now present read key more (cond (is_name key one.key) (life_asked now present (read_ask read one.from) life) life) asc (by (is_name key one.key))
+  where
+    by : (t : Bool) → MeetsAscending (cond t (life_asked now present (read_ask read one.from) life) life)
+    by true = meets-asked now present (read_ask read one.from) life asc h
+    by false = h
+
+meets-opened : (make : Bool) (create : GroupCreateCommand) → create.make ≡ make → (stream : Option (List Change)) → MeetsAscending (life_opened create stream)
+meets-opened true create m stream = rw m tt
+meets-opened false create m None = rw m tt
+meets-opened false create m (Some changes) = rw m tt
+
+meets-created : (create : GroupCreateCommand) (stream : Option (List Change)) (life : Option GroupLife) → MeetsAscending life → MeetsAscending (life_created create stream life)
+meets-created create stream None h = meets-opened create.make create refl stream
+meets-created create stream (Some life) h = h
+
+either : (t : Bool) (one other : Option GroupLife) → MeetsAscending one → MeetsAscending other → MeetsAscending (cond t one other)
+either true one other h k = h
+either false one other h k = k
+
+meets-lived : (now : ℕ) (command : Command) (key group : List ℕ) (served : Bool) (stream : Option (List Change)) (life : Option GroupLife) → MeetsAscending life
+    → MeetsAscending (group_lived now command key group served stream life)
+meets-lived now (GroupCreate create) key group served stream life h = either (is_name key create.key && is_name group create.group) (life_created create stream life) life (meets-created create stream life h) h
+meets-lived now (GroupDestroy k g) key group served stream life h = either (is_name key k && is_name group g) None life tt h
+meets-lived now (ConsumerCreate k g consumer) key group served stream life h =
+    either (is_name key k && is_name group g) (life_asked now (present_in stream) (join consumer) life) life (meets-asked now (present_in stream) (join consumer) life (present-ascends stream) h) h
+meets-lived now (ConsumerDelete k g consumer) key group served stream life h =
+    either (is_name key k && is_name group g) (life_asked now (present_in stream) (leave consumer) life) life (meets-asked now (present_in stream) (leave consumer) life (present-ascends stream) h) h
+meets-lived now (ReadGroup read) key group served stream life h =
+    either (is_name group read.group && served) (life_read now (present_in stream) read key read.reads life) life (meets-read now (present_in stream) read key read.reads life (present-ascends stream) h) h
+meets-lived now (Ack k g ids) key group served stream life h =
+    either (is_name key k && is_name group g) (life_asked now (present_in stream) (ack ids) life) life (meets-asked now (present_in stream) (ack ids) life (present-ascends stream) h) h
+meets-lived now (Claim c) key group served stream life h =
+    either (is_name key c.key && is_name group c.group) (life_asked now (present_in stream) (claim c.consumer c.rule c.ids) life) life
+    (meets-asked now (present_in stream) (claim c.consumer c.rule c.ids) life (present-ascends stream) h) h
+meets-lived now (AutoClaim c) key group served stream life h =
+    either (is_name key c.key && is_name group c.group) (life_asked now (present_in stream) (auto_claim c.consumer c.rule c.start c.limit) life) life
+    (meets-asked now (present_in stream) (auto_claim c.consumer c.rule c.start c.limit) life (present-ascends stream) h) h
+meets-lived now (DropKeys keys) key group served stream life h = either (has_name keys key) None life tt h
+meets-lived now (Ping message) key group served stream life h = h
+meets-lived now Quit key group served stream life h = h
+meets-lived now (Add add) key group served stream life h = h
+meets-lived now (Delete name ids) key group served stream life h = h
+meets-lived now (TrimTo name trim) key group served stream life h = h
+meets-lived now (Len name) key group served stream life h = h
+meets-lived now (Scan scan) key group served stream life h = h
+meets-lived now (Pending k g) key group served stream life h = h
+meets-lived now (PendingRows p) key group served stream life h = h
+
+pub meets-life : (past : List (ℕ × Command)) (key group : List ℕ) → MeetsAscending (group_life past key group)
+meets-life [] key group = tt
+meets-life (e ∷ past) key group =
+    meets-lived e.0 e.1 key group (list_all (λ one. is_some (group_life past one.key (group_of e.1))) (reads_of e.1)) (key_life past key) (group_life past key group) (meets-life past key group)
+
+pub present-in-life : (past : List (ℕ × Command)) (key group : List ℕ) (life : GroupLife) → group_life past key group ≡ Some life → PresentAscends life.turns
+present-in-life past key group life e = subst MeetsAscending e (meets-life past key group)

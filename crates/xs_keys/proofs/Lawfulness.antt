@@ -1,0 +1,149 @@
+-- Every content of a history is lawful.
+use Rattle.std.proofs.Common.{◌≡◌, ℕ, Bool, true, false, cond, List, [], ◌∷◌, Option, Some, None, is_some, option_and_then, ◌&&◌, sym, ap, subst, ◌∙◌, refl}
+use Rattle.std.proofs.lemmas.Bool.{false≢true}
+use Rattle.xs_bytes.specs.Each.{kept}
+use Rattle.xs_bytes.specs.SortedMap.{get}
+use Rattle.xs_stream.specs.declared.id.Id.{Id}
+use Rattle.xs_stream.specs.Id.{has_id}
+use Rattle.xs_stream.specs.Kept.{Ascends, AllAbove, AllUpTo}
+use Rattle.xs_group.specs.State.{Row, State, is_name}
+use Rattle.xs_command.specs.declared.command.Command.{Command}
+use Rattle.xs_keys.specs.Life.{Change, key_life}
+use Rattle.xs_keys.specs.Given.{stream_of}
+use Rattle.xs_keys.specs.Turn.{Ask, Turn, read_new, read_own, ack, join, leave, claim, auto_claim}
+use Rattle.xs_keys.specs.Delivered.{delivered, cursor, is_consumer}
+use Rattle.xs_keys.specs.Holding.{asked_row, rows_among, holding, rows}
+use Rattle.xs_keys.specs.GroupLife.{GroupLife, group_life}
+use Rattle.xs_keys.specs.Content.{Key, Content, IsGroup, GroupHolds, KeyHolds, IsContent}
+use Rattle.xs_keys.specs.Lawful.{IsLawfulStream, IsLawfulGroup, IsLawfulKey, IsLawfulContent}
+use Rattle.xs_keys.proofs.Streams.{ascends-live, up_to-live}
+use Rattle.xs_keys.proofs.GroupRows.{row_ids}
+use Rattle.xs_keys.proofs.GroupSteps.{up_to-rows}
+use Rattle.xs_keys.proofs.Deliveries.{PresentAscends, ascends-delivered}
+use Rattle.xs_keys.proofs.Histories.{MeetsAscending, meets-life}
+use Rattle.xs_keys.proofs.Owners.{row-found}
+use Rattle.xs_keys.proofs.Names.{is_name-refl}
+use Rattle.xs_group.specs.Rule.{Rule}
+use Rattle.xs_group.specs.Read.{delivers, first_row, shown, again}
+use Rattle.xs_group.specs.Claims.{row_at, claim_of, scan_of, claimed_row}
+use Rattle.xs_group.specs.Changes.{unless_owned}
+
+above-among : (a : Id) (row_of : Id → Option Row) (xs : List Id) → AllAbove a xs → AllAbove a (row_ids (rows_among row_of xs))
+above-among a row_of [] h = tt
+above-among a row_of (x ∷ xs) h = by (row_of x) (above-among a row_of xs h.1) where
+  by : (r : Option Row) → AllAbove a (row_ids (rows_among row_of xs)) → AllAbove a (row_ids (kept x r (rows_among row_of xs)))
+  by None rest = rest
+  by (Some row) rest = (h.0, rest)
+
+ascends-among : (row_of : Id → Option Row) (xs : List Id) → Ascends xs → Ascends (row_ids (rows_among row_of xs))
+ascends-among row_of [] h = tt
+ascends-among row_of (x ∷ xs) h = by (row_of x) (ascends-among row_of xs h.1) where
+  by : (r : Option Row) → Ascends (row_ids (rows_among row_of xs)) → Ascends (row_ids (kept x r (rows_among row_of xs)))
+  by None rest = rest
+  by (Some row) rest = (above-among x row_of xs h.0, rest)
+
+-- ---- each row's consumer is one of the group's
+
+or_else : {A : Type 0} → Option A → A → A
+or_else None a = a
+or_else (Some b) a = b
+
+same_some : {A : Type 0} (a b : A) → Some a ≡ Some b → a ≡ b
+unfolding or_else
+same_some a b e = ap (λ o. or_else o a) e
+
+-- what was a consumer is one still, unless it is taken out
+still : (drops brings before : Bool) → drops ≡ false → before ≡ true → cond drops false (cond brings true before) ≡ true
+still drops true before d b = rw d refl
+still drops false before d b = rw d b
+
+-- what is brought in is one
+brought : (drops brings before : Bool) → drops ≡ false → brings ≡ true → cond drops false (cond brings true before) ≡ true
+brought drops brings before d b = rw (d, b) refl
+
+abbrev IsOfConsumers : List Turn → Option Row → Type 0
+IsOfConsumers past r = (row : Row) → r ≡ Some row → is_consumer past row.consumer ≡ true
+
+module _ (past : List Turn) (now : ℕ) (present : List Id) (a : Id) (es : List (Id × Row)) (x : Id) where
+  of-new : (consumer : List ℕ) (limit : Option ℕ) (noack d : Bool) (r : Option Row) → IsOfConsumers past r
+      → (row : Row) → cond d (cond noack None (Some (first_row consumer now))) r ≡ Some row
+      → cond (is_name row.consumer consumer) true (is_consumer past row.consumer) ≡ true
+  of-new consumer limit true true r h row e = absurd (false≢true (ap is_some e))
+  of-new consumer limit false true r h row e = ap (λ n. cond (is_name n consumer) true (is_consumer past n)) (sym (ap (λ o. o.consumer) (same_some (first_row consumer now) row e))) ∙ ap (λ b. cond b true (is_consumer past consumer)) (is_name-refl consumer)
+  of-new consumer limit noack false r h row e = still false (is_name row.consumer consumer) (is_consumer past row.consumer) refl (h row e)
+
+  of-own : (consumer : List ℕ) (b : Bool) (r : Option Row) → IsOfConsumers past r → (row : Row)
+      → option_and_then (λ o. cond b (Some (again now o)) (Some o)) r ≡ Some row → cond (is_name row.consumer consumer) true (is_consumer past row.consumer) ≡ true
+  of-own consumer b None h row e = absurd (false≢true (ap is_some e))
+  of-own consumer true (Some o) h row e =
+      still false (is_name row.consumer consumer) (is_consumer past row.consumer) refl (ap (is_consumer past) (sym (ap (λ p. p.consumer) (same_some (again now o) row e))) ∙ h o refl)
+  of-own consumer false (Some o) h row e = still false (is_name row.consumer consumer) (is_consumer past row.consumer) refl (h row e)
+
+  of-ack : (b : Bool) (r : Option Row) → IsOfConsumers past r → (row : Row) → option_and_then (λ o. cond b None (Some o)) r ≡ Some row → is_consumer past row.consumer ≡ true
+  of-ack b None h row e = absurd (false≢true (ap is_some e))
+  of-ack true (Some o) h row e = absurd (false≢true (ap is_some e))
+  of-ack false (Some o) h row e = h row e
+
+  of-leave : (consumer : List ℕ) (r : Option Row) → IsOfConsumers past r → (row : Row) → option_and_then (unless_owned consumer x) r ≡ Some row
+      → cond (is_name row.consumer consumer) false (is_consumer past row.consumer) ≡ true
+  of-leave consumer None h row e = absurd (false≢true (ap is_some e))
+  of-leave consumer (Some o) h row e = by (is_name o.consumer consumer) refl e where
+    by : (t : Bool) → is_name o.consumer consumer ≡ t → cond t None (Some o) ≡ Some row → cond (is_name row.consumer consumer) false (is_consumer past row.consumer) ≡ true
+    by true i f = absurd (false≢true (ap is_some f))
+    by false i f =
+        let same = ap (λ p. p.consumer) (same_some o row f) in
+        still (is_name row.consumer consumer) false (is_consumer past row.consumer) (ap (λ n. is_name n consumer) (sym same) ∙ i) (ap (is_consumer past) (sym same) ∙ h o refl)
+
+  of-claim : (consumer : List ℕ) (rule : Rule) (gone taken : Bool) (r : Option Row) → IsOfConsumers past r → (row : Row)
+      → option_and_then (λ o. cond gone None (cond taken (Some (claimed_row consumer now rule o)) (Some o))) r ≡ Some row
+      → cond (is_name row.consumer consumer) true (is_consumer past row.consumer) ≡ true
+  of-claim consumer rule gone taken None h row e = absurd (false≢true (ap is_some e))
+  of-claim consumer rule true taken (Some o) h row e = absurd (false≢true (ap is_some e))
+  of-claim consumer rule false true (Some o) h row e = ap (λ n. cond (is_name n consumer) true (is_consumer past n)) (sym (ap (λ p. p.consumer) (same_some (claimed_row consumer now rule o) row e))) ∙ ap (λ b. cond b true (is_consumer past consumer)) (is_name-refl consumer)
+  of-claim consumer rule false false (Some o) h row e = still false (is_name row.consumer consumer) (is_consumer past row.consumer) refl (h row e)
+
+  of-asked : (ask : Ask) (r : Option Row) → IsOfConsumers past r → IsOfConsumers (record { now = now; present = present; ask = ask } ∷ past) (asked_row ask now present a es x r)
+  of-asked (read_new consumer limit noack) r h = λ row e. of-new consumer limit noack (has_id (delivers limit a present) x) r h row e
+  of-asked (read_own consumer limit from) r h = λ row e. of-own consumer (has_id (shown consumer limit from es) x && has_id present x) r h row e
+  of-asked (ack ids) r h = λ row e. of-ack (has_id ids x) r h row e
+  of-asked (join consumer) r h = λ row e. still false (is_name row.consumer consumer) (is_consumer past row.consumer) refl (h row e)
+  of-asked (leave consumer) r h = λ row e. of-leave consumer r h row e
+  of-asked (claim consumer rule ids) r h = λ row e.
+      let c = claim_of es present now rule ids in of-claim consumer rule (has_id c.removed x) (has_id c.take x) r h row e
+  of-asked (auto_claim consumer rule start limit) r h = λ row e.
+      let c = (scan_of es present now rule start limit).claim in of-claim consumer rule (has_id c.removed x) (has_id c.take x) r h row e
+
+of-consumers : (start : Id) (turns : List Turn) (x : Id) → IsOfConsumers turns (holding start turns x)
+of-consumers start [] x = λ row e. absurd (false≢true (ap is_some e))
+of-consumers start (turn ∷ past) x =
+    of-asked past turn.now turn.present (cursor start past) (rows start past) x turn.ask (holding start past x) (of-consumers start past x)
+
+-- ---- groups, keys, contents
+
+lawful-group : (g : State) (life : GroupLife) → IsGroup g life → PresentAscends life.turns → IsLawfulGroup g
+unfolding get
+lawful-group g life h asc = record {
+  ascends = subst (λ es. Ascends (row_ids es)) (sym h.rows_are) (ascends-among (λ x. holding life.start life.turns x) (delivered life.start life.turns) (ascends-delivered life.start life.turns asc));
+  up_to_cursor = subst (λ es. AllUpTo g.cursor (row_ids es)) (sym h.rows_are) (subst (λ c. AllUpTo c (row_ids (rows life.start life.turns))) (sym h.cursor_is) (up_to-rows life.start life.turns));
+  of_consumers = λ x row e.
+      h.consumers_are row.consumer ∙ of-consumers life.start life.turns x row (sym (row-found life.start life.turns x) ∙ ap (λ es. row_at es x) (sym h.rows_are) ∙ e);
+}
+
+lawful-held : (s : Option State) (life : Option GroupLife) → GroupHolds s life → MeetsAscending life → (g : State) → s ≡ Some g → IsLawfulGroup g
+lawful-held (Some s) (Some life) h asc g e = subst IsLawfulGroup (same_some s g e) (lawful-group s life h asc)
+lawful-held None life h asc g e = absurd (false≢true (ap is_some e))
+lawful-held (Some s) None h asc g e = absurd h
+
+lawful-stream : (changes : List Change) → IsLawfulStream (stream_of changes)
+lawful-stream changes = record { ascends = ascends-live changes; up_to_top = up_to-live changes }
+
+lawful-key : (k : Option Key) (stream : Option (List Change)) (lives : List ℕ → Option GroupLife) → KeyHolds k stream lives → ((g : List ℕ) → MeetsAscending (lives g)) → (key : Key) → k ≡ Some key → IsLawfulKey key
+lawful-key None stream lives h asc key e = absurd (false≢true (ap is_some e))
+lawful-key (Some k) None lives h asc key e = absurd h
+lawful-key (Some k) (Some changes) lives h asc key e = subst IsLawfulKey (same_some k key e) (record {
+  stream = subst IsLawfulStream (sym h.0) (lawful-stream changes);
+  groups = λ name g f. lawful-held (get k.groups name) (lives name) (h.1 name) (asc name) g f;
+})
+
+pub content-lawful : (past : List (ℕ × Command)) (content : Content) → IsContent content past → IsLawfulContent content
+content-lawful past content h = λ name key e. lawful-key (get content name) (key_life past name) (λ g. group_life past name g) (h name) (λ g. meets-life past name g) key e

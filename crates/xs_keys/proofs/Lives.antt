@@ -1,0 +1,192 @@
+-- What each event delivers of a life, and that no other event does.
+use Rattle.std.proofs.Common.{◌≡◌, ◌⊎◌, inl, inr, ℕ, Bool, true, false, cond, ◌&&◌, ◌||◌, List, [], ◌∷◌, ◌++◌, Option, Some, None, is_some, bytes_eq, sym, ap, subst, ◌∙◌, refl}
+use Rattle.std.proofs.lemmas.Bool.{false≢true}
+use Rattle.std.proofs.lemmas.List.{append-nil}
+use Rattle.std.proofs.lemmas.Slice.Eq.{bytes_eq-Decides}
+use Rattle.std.specs.List.{list_all, list_any, IsDistinct, AllByRecursion}
+use Rattle.xs_stream.specs.declared.id.Id.{Id}
+use Rattle.xs_group.specs.State.{is_name}
+use Rattle.xs_group.specs.Read.{delivers}
+use Rattle.xs_command.specs.WellFormed.{IsWellFormed, keys_of}
+use Rattle.xs_command.specs.declared.command.Command.{Command}
+use Rattle.xs_command.specs.declared.command.Command.TheVariants.{Ping, Quit, Add, Delete, TrimTo, Len, Scan, GroupCreate, GroupDestroy, ConsumerCreate, ConsumerDelete, ReadGroup, Ack, Pending, PendingRows, Claim, AutoClaim, DropKeys}
+use Rattle.xs_command.specs.declared.command.GroupCreateCommand.{GroupCreateCommand}
+use Rattle.xs_command.specs.declared.command.ReadGroupCommand.{ReadGroupCommand}
+use Rattle.xs_command.specs.declared.reads.ReadOne.{ReadOne}
+use Rattle.xs_command.specs.declared.reads.ReadFrom.{ReadFrom}
+use Rattle.xs_command.specs.declared.reads.ReadFrom.TheVariants.{New, After}
+use Rattle.xs_keys.specs.Life.{Change, has_name, key_life}
+use Rattle.xs_keys.specs.Turn.{Ask, join, leave, ack, claim, auto_claim, asked_new}
+use Rattle.xs_keys.specs.Delivered.{delivered, cursor}
+use Rattle.xs_keys.specs.GroupLife.{GroupLife, present_in, life_opened, life_created, life_asked, read_ask, life_read, group_of, group_life}
+use Rattle.xs_keys.specs.Apart.{is_new, asks_new, acts, delivered_in, delivered_by, GoesOn}
+use Rattle.xs_keys.proofs.Names.{is_name-eq}
+
+-- ---- events that deliver nothing
+
+stays : (life : Option GroupLife) → GoesOn life [] life
+stays None = refl
+stays (Some life) = (refl, sym (append-nil (delivered life.start life.turns)))
+
+either : (t : Bool) (before one other : Option GroupLife) → GoesOn before [] one → GoesOn before [] other → GoesOn before [] (cond t one other)
+either true before one other h k = h
+either false before one other h k = k
+
+ended : (life : Option GroupLife) → GoesOn life [] None
+ended None = refl
+ended (Some life) = refl
+
+-- an ask that delivers nothing
+asks-none : (now : ℕ) (present : List Id) (ask : Ask) (life : Option GroupLife) → ((a : Id) → asked_new ask present a ≡ []) → GoesOn life [] (life_asked now present ask life)
+asks-none now present ask None none = refl
+asks-none now present ask (Some life) none = (refl, ap (λ new. delivered life.start life.turns ++ new) (none (cursor life.start life.turns)))
+
+opens : (make : Bool) (create : GroupCreateCommand) → create.make ≡ make → (stream : Option (List Change)) → GoesOn None [] (life_opened create stream)
+opens true create m stream = rw m (refl, refl)
+opens false create m None = rw m refl
+opens false create m (Some changes) = rw m (refl, refl)
+
+creates : (create : GroupCreateCommand) (stream : Option (List Change)) (life : Option GroupLife) → GoesOn life [] (life_created create stream life)
+creates create stream None = opens create.make create refl stream
+creates create stream (Some life) = stays (Some life)
+
+-- ---- reads
+
+no-life-read : (now : ℕ) (present : List Id) (read : ReadGroupCommand) (key : List ℕ) (reads : List ReadOne) → life_read now present read key reads None ≡ None
+no-life-read now present read key [] = refl
+no-life-read now present read key (one ∷ more) = by (is_name key one.key) (no-life-read now present read key more) where
+  by : (t : Bool) → life_read now present read key more None ≡ None → life_read now present read key more (cond t None None) ≡ None
+  by true e = e
+  by false e = e
+
+-- reads of other keys
+absent : List ℕ → List ReadOne → Bool
+absent key reads = list_any (λ one. is_name key one.key) reads
+
+not-read : (now : ℕ) (present : List Id) (read : ReadGroupCommand) (key : List ℕ) (reads : List ReadOne) (life : Option GroupLife) → absent key reads ≡ false → life_read now present read key reads life ≡ life
+unfolding absent
+not-read now present read key [] life e = refl
+not-read now present read key (one ∷ more) life e = by (is_name key one.key) e (λ f. not-read now present read key more life f) where
+  by : (t : Bool) → (t || list_any (λ o. is_name key o.key) more) ≡ false → (list_any (λ o. is_name key o.key) more ≡ false → life_read now present read key more life ≡ life)
+      → life_read now present read key more (cond t (life_asked now present (read_ask read one.from) life) life) ≡ life
+  by true f rest = absurd (false≢true (sym f))
+  by false f rest = rest f
+
+not-asked : (key : List ℕ) (reads : List ReadOne) → absent key reads ≡ false → list_any (λ one. is_name key one.key && is_new one.from) reads ≡ false
+unfolding absent
+not-asked key [] e = refl
+not-asked key (one ∷ more) e = by (is_name key one.key) e (λ f. not-asked key more f) where
+  by : (t : Bool) → (t || list_any (λ o. is_name key o.key) more) ≡ false → (list_any (λ o. is_name key o.key) more ≡ false → list_any (λ o. is_name key o.key && is_new o.from) more ≡ false)
+      → ((t && is_new one.from) || list_any (λ o. is_name key o.key && is_new o.from) more) ≡ false
+  by true f rest = absurd (false≢true (sym f))
+  by false f rest = rest f
+
+other-name : (key a k : List ℕ) → is_name key a ≡ true → bytes_eq a k ≡ false → is_name key k ≡ false
+other-name key a k same differs = by (is_name key k) refl where
+  by : (t : Bool) → is_name key k ≡ t → t ≡ false
+  by false e = refl
+  by true e = absurd (false≢true (sym differs ∙ (bytes_eq-Decides a k).1 (sym (is_name-eq key a same) ∙ is_name-eq key k e)))
+
+others-absent : (key a : List ℕ) (more : List ReadOne) → is_name key a ≡ true → AllByRecursion (λ y. bytes_eq a y ≡ false) (keys_of more) → absent key more ≡ false
+unfolding absent
+others-absent key a [] same h = refl
+others-absent key a (one ∷ more) same h = rw (other-name key a one.key same h.0) (others-absent key a more same h.1)
+
+-- the reads of a life that is open
+reads-on : (now : ℕ) (present : List Id) (read : ReadGroupCommand) (key : List ℕ) (reads : List ReadOne) (b : GroupLife) → IsDistinct bytes_eq (keys_of reads)
+    → GoesOn (Some b) (cond (list_any (λ one. is_name key one.key && is_new one.from) reads) (delivers read.limit (cursor b.start b.turns) present) []) (life_read now present read key reads (Some b))
+unfolding IsDistinct
+reads-on now present read key [] b distinct = (refl, sym (append-nil (delivered b.start b.turns)))
+reads-on now present read key (one ∷ more) b distinct = by (is_name key one.key) refl (reads-on now present read key more b distinct.1) where
+  here : (from : ReadFrom) → list_any (λ o. is_name key o.key && is_new o.from) more ≡ false
+      → GoesOn (Some b) (cond (is_new from || list_any (λ o. is_name key o.key && is_new o.from) more) (delivers read.limit (cursor b.start b.turns) present) []) (life_asked now present (read_ask read from) (Some b))
+  here New e = (refl, refl)
+  here (After id) e = rw e (refl, refl)
+
+  by : (t : Bool) → is_name key one.key ≡ t
+      → GoesOn (Some b) (cond (list_any (λ o. is_name key o.key && is_new o.from) more) (delivers read.limit (cursor b.start b.turns) present) []) (life_read now present read key more (Some b))
+      → GoesOn (Some b) (cond ((t && is_new one.from) || list_any (λ o. is_name key o.key && is_new o.from) more) (delivers read.limit (cursor b.start b.turns) present) [])
+      (life_read now present read key more (cond t (life_asked now present (read_ask read one.from) (Some b)) (Some b)))
+  by true e rest =
+      let gone = others-absent key one.key more e distinct.0 in
+      subst (GoesOn (Some b) _) (sym (not-read now present read key more (life_asked now present (read_ask read one.from) (Some b)) gone)) (here one.from (not-asked key more gone))
+  by false e rest = rest
+
+reads-life : (now : ℕ) (present : List Id) (read : ReadGroupCommand) (key : List ℕ) (life : Option GroupLife) → IsDistinct bytes_eq (keys_of read.reads)
+    → GoesOn life (cond (list_any (λ one. is_name key one.key && is_new one.from) read.reads) (delivered_in (ReadGroup read) present life) []) (life_read now present read key read.reads life)
+reads-life now present read key None distinct = subst (GoesOn None _) (sym (no-life-read now present read key read.reads)) (by (list_any (λ one. is_name key one.key && is_new one.from) read.reads)) where
+  by : (t : Bool) → cond {A = List Id} t [] [] ≡ []
+  by true = refl
+  by false = refl
+reads-life now present read key (Some b) distinct = reads-on now present read key read.reads b distinct
+
+reads-go-on : (now : ℕ) (present : List Id) (read : ReadGroupCommand) (key : List ℕ) (life : Option GroupLife) (acting : Bool) → IsDistinct bytes_eq (keys_of read.reads)
+    → GoesOn life (cond (list_any (λ one. is_name key one.key && is_new one.from) read.reads && acting) (delivered_in (ReadGroup read) present life) [])
+    (cond acting (life_read now present read key read.reads life) life)
+reads-go-on now present read key life true distinct =
+    subst (λ b. GoesOn life (cond b (delivered_in (ReadGroup read) present life) []) (life_read now present read key read.reads life)) (sym (and-true (list_any (λ one. is_name key one.key && is_new one.from) read.reads)))
+    (reads-life now present read key life distinct)
+  where
+    and-true : (b : Bool) → (b && true) ≡ b
+    and-true true = refl
+    and-true false = refl
+reads-go-on now present read key life false distinct =
+    subst (λ b. GoesOn life (cond b (delivered_in (ReadGroup read) present life) []) life) (sym (and-false (list_any (λ one. is_name key one.key && is_new one.from) read.reads))) (stays life)
+  where
+    and-false : (b : Bool) → (b && false) ≡ false
+    and-false true = refl
+    and-false false = refl
+
+-- ---- an event
+
+-- an ask of one group, which delivers nothing
+quiet : (past : List (ℕ × Command)) (now : ℕ) (key group k g : List ℕ) (ask : Ask) → ((a : Id) → asked_new ask (present_in (key_life past key)) a ≡ [])
+    → GoesOn (group_life past key group) [] (cond (is_name key k && is_name group g) (life_asked now (present_in (key_life past key)) ask (group_life past key group)) (group_life past key group))
+quiet past now key group k g ask none =
+    either (is_name key k && is_name group g) (group_life past key group) (life_asked now (present_in (key_life past key)) ask (group_life past key group)) (group_life past key group)
+    (asks-none now (present_in (key_life past key)) ask (group_life past key group) none) (stays (group_life past key group))
+
+pub goes-on : (past : List (ℕ × Command)) (now : ℕ) (command : Command) (key group : List ℕ) → IsWellFormed command
+    → GoesOn (group_life past key group) (delivered_by past command key group) (group_life ((now, command) ∷ past) key group)
+goes-on past now (GroupCreate create) key group formed =
+    either (is_name key create.key && is_name group create.group) (group_life past key group) (life_created create (key_life past key) (group_life past key group)) (group_life past key group)
+    (creates create (key_life past key) (group_life past key group)) (stays (group_life past key group))
+goes-on past now (GroupDestroy k g) key group formed =
+    either (is_name key k && is_name group g) (group_life past key group) None (group_life past key group) (ended (group_life past key group)) (stays (group_life past key group))
+goes-on past now (ConsumerCreate k g consumer) key group formed = quiet past now key group k g (join consumer) (λ a. refl)
+goes-on past now (ConsumerDelete k g consumer) key group formed = quiet past now key group k g (leave consumer) (λ a. refl)
+goes-on past now (ReadGroup read) key group formed =
+    reads-go-on now (present_in (key_life past key)) read key (group_life past key group)
+    (is_name group read.group && list_all (λ one. is_some (group_life past one.key read.group)) read.reads) formed.1
+goes-on past now (Ack k g ids) key group formed = quiet past now key group k g (ack ids) (λ a. refl)
+goes-on past now (Claim c) key group formed = quiet past now key group c.key c.group (claim c.consumer c.rule c.ids) (λ a. refl)
+goes-on past now (AutoClaim c) key group formed = quiet past now key group c.key c.group (auto_claim c.consumer c.rule c.start c.limit) (λ a. refl)
+goes-on past now (DropKeys keys) key group formed =
+    either (has_name keys key) (group_life past key group) None (group_life past key group) (ended (group_life past key group)) (stays (group_life past key group))
+goes-on past now (Ping message) key group formed = stays (group_life past key group)
+goes-on past now Quit key group formed = stays (group_life past key group)
+goes-on past now (Add add) key group formed = stays (group_life past key group)
+goes-on past now (Delete name ids) key group formed = stays (group_life past key group)
+goes-on past now (TrimTo name trim) key group formed = stays (group_life past key group)
+goes-on past now (Len name) key group formed = stays (group_life past key group)
+goes-on past now (Scan scan) key group formed = stays (group_life past key group)
+goes-on past now (Pending k g) key group formed = stays (group_life past key group)
+goes-on past now (PendingRows p) key group formed = stays (group_life past key group)
+
+-- without a life that is open nothing is delivered
+pub closed : (past : List (ℕ × Command)) (command : Command) (key group : List ℕ) → group_life past key group ≡ None → delivered_by past command key group ≡ []
+closed past command key group e =
+    ap (λ life. cond (asks_new command key && (is_name group (group_of command) && acts past command)) (delivered_in command (present_in (key_life past key)) life) []) e
+    ∙ by (asks_new command key && (is_name group (group_of command) && acts past command))
+  where
+    by : (t : Bool) → cond {A = List Id} t [] [] ≡ []
+    by true = refl
+    by false = refl
+
+-- nor by an event on another key or group
+pub elsewhere : (past : List (ℕ × Command)) (command : Command) (key group : List ℕ) → (is_name group (group_of command) ≡ false) ⊎ (asks_new command key ≡ false) → delivered_by past command key group ≡ []
+elsewhere past command key group (inl e) = rw e (by (asks_new command key)) where
+  by : (t : Bool) → cond {A = List Id} (t && false) (delivered_in command (present_in (key_life past key)) (group_life past key group)) [] ≡ []
+  by true = refl
+  by false = refl
+elsewhere past command key group (inr e) = rw e refl

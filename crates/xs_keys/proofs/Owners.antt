@@ -1,0 +1,461 @@
+-- The owner, by the last assigning turn and what settled since, is that of the row; and what one turn makes of it.
+use Rattle.std.proofs.Common.{◌≡◌, ℕ, Bool, true, false, not, cond, ◌&&◌, ◌||◌, ◌⊎◌, inl, inr, List, [], ◌∷◌, ◌++◌, Option, Some, None, option_and_then, option_map, is_some, sym, ap, subst, ◌∙◌, refl}
+use Rattle.std.proofs.lemmas.Bool.{false≢true}
+use Rattle.xs_bytes.specs.Each.{kept}
+use Rattle.xs_stream.specs.declared.id.Id.{Id}
+use Rattle.xs_stream.specs.Id.{is_below, is_same, has_id}
+use Rattle.xs_stream.proofs.Order.{is_same-eq}
+use Rattle.xs_group.specs.declared.claim.Claim.{Claim}
+use Rattle.xs_group.specs.Rule.{Rule}
+use Rattle.xs_group.specs.State.{Row, is_name}
+use Rattle.xs_group.specs.Read.{delivers, first_row, shown, again, reread}
+use Rattle.xs_group.specs.Claims.{row_at, is_idle, is_removed, is_taken, claim_among, firsts, claim_of, from_start, is_hit, scanned, scan_of, claimed, claimed_row}
+use Rattle.xs_group.specs.Changes.{unless_acked, unless_owned}
+use Rattle.xs_keys.specs.Turn.{Ask, Turn, read_new, read_own, ack, join, leave, claim, auto_claim, asked_new, asked_claim, consumer_of, keeps_pending, acks, drops_consumer}
+use Rattle.xs_keys.specs.Delivered.{delivered, cursor, delivers_after}
+use Rattle.xs_keys.specs.Holding.{asked_row, rows_among, holding, rows}
+use Rattle.xs_keys.specs.Owner.{assigns, last_assigned, removes, settles, is_settled, owner}
+use Rattle.xs_keys.specs.Promise.{delivers_pending, takes, OwnerAfter, NoOwnerAfter, settled_in, OwnedUntilSettled, ChangesByClaims}
+use Rattle.xs_keys.proofs.IdLists.{has_id-append, has_id-where, not_above, not_among}
+use Rattle.xs_keys.proofs.GroupSteps.{up_to-delivered}
+use Rattle.xs_keys.proofs.Deliveries.{above-after}
+
+-- ---- rows are found where they are held
+
+find-kept : (q x : Id) (r : Option Row) (es : List (Id × Row)) → is_same q x ≡ false → row_at (kept x r es) q ≡ row_at es q
+find-kept q x None es e = refl
+find-kept q x (Some row) es e = rw e refl
+
+find-here : (q x : Id) (r : Option Row) (es : List (Id × Row)) → is_same q x ≡ true → r ≡ None → row_at (kept x r es) q ≡ row_at es q
+find-here q x None es e n = refl
+find-here q x (Some row) es e n = absurd (subst (λ o. cond (is_some o) (Unit {0}) ⊥) n tt)
+
+find-among : (row_of : Id → Option Row) (ids : List Id) (q : Id) → row_at (rows_among row_of ids) q ≡ cond (has_id ids q) (row_of q) None
+find-among row_of [] q = refl
+find-among row_of (x ∷ xs) q = by (is_same q x) refl (row_of x) refl (find-among row_of xs q) where
+  again : (b : Bool) (r : Option Row) → r ≡ None → cond b r None ≡ None
+  again true r e = e
+  again false r e = refl
+
+  by : (t : Bool) → is_same q x ≡ t → (r : Option Row) → row_of x ≡ r → row_at (rows_among row_of xs) q ≡ cond (has_id xs q) (row_of q) None
+      → row_at (kept x r (rows_among row_of xs)) q ≡ cond (t || has_id xs q) (row_of q) None
+  by true e None f rest =
+      let none : row_of q ≡ None = ap row_of (is_same-eq q x e) ∙ f in
+      rest ∙ again (has_id xs q) (row_of q) none ∙ sym none
+  by true e (Some row) f rest = rw e (sym (ap row_of (is_same-eq q x e) ∙ f))
+  by false e r f rest = find-kept q x r (rows_among row_of xs) e ∙ rest
+
+-- ---- what has a row was delivered
+
+Delivered : Id → List Turn → Id → Option Row → Type 0
+Delivered start turns x r = is_some r ≡ true → has_id (delivered start turns) x ≡ true
+
+nothing : (f : Row → Option Row) (r : Option Row) → is_some (option_and_then f r) ≡ true → is_some r ≡ true
+nothing f None e = e
+nothing f (Some row) e = refl
+
+or-left : (a b : Bool) → a ≡ true → (a || b) ≡ true
+or-left a b e = rw e refl
+
+or-right : (a b : Bool) → b ≡ true → (a || b) ≡ true
+or-right true b e = refl
+or-right false b e = e
+
+asked-held : (ask : Ask) (now : ℕ) (present : List Id) (a : Id) (es : List (Id × Row)) (x : Id) (r : Option Row)
+    → is_some (asked_row ask now present a es x r) ≡ true → (has_id (asked_new ask present a) x ≡ true) ⊎ (is_some r ≡ true)
+asked-held (read_new consumer limit noack) now present a es x r e = by (has_id (delivers limit a present) x) e where
+  by : (t : Bool) → is_some (cond t (cond noack None (Some (first_row consumer now))) r) ≡ true → (t ≡ true) ⊎ (is_some r ≡ true)
+  by true e = inl refl
+  by false e = inr e
+asked-held (read_own consumer limit from) now present a es x r e = inr (nothing (reread now (shown consumer limit from es) present x) r e)
+asked-held (ack ids) now present a es x r e = inr (nothing (unless_acked ids x) r e)
+asked-held (join consumer) now present a es x r e = inr e
+asked-held (leave consumer) now present a es x r e = inr (nothing (unless_owned consumer x) r e)
+asked-held (claim consumer rule ids) now present a es x r e = inr (nothing (claimed consumer now rule (claim_of es present now rule ids) x) r e)
+asked-held (auto_claim consumer rule start limit) now present a es x r e = inr (nothing (claimed consumer now rule (scan_of es present now rule start limit).claim x) r e)
+
+pub held-delivered : (start : Id) (turns : List Turn) (x : Id) → is_some (holding start turns x) ≡ true → has_id (delivered start turns) x ≡ true
+held-delivered start [] x e = absurd (false≢true e)
+held-delivered start (turn ∷ past) x e =
+    has_id-append (delivered start past) (delivers_after start past turn) x
+    ∙ by (asked-held turn.ask turn.now turn.present (cursor start past) (rows start past) x (holding start past x) e) (held-delivered start past x)
+  where
+    by : (has_id (delivers_after start past turn) x ≡ true) ⊎ (is_some (holding start past x) ≡ true) → (is_some (holding start past x) ≡ true → has_id (delivered start past) x ≡ true)
+        → (has_id (delivered start past) x || has_id (delivers_after start past turn) x) ≡ true
+    by (inl new) before = or-right _ _ new
+    by (inr held) before = or-left _ _ (before held)
+
+-- what was delivered isn't delivered again
+pub not-again : (start : Id) (past : List Turn) (turn : Turn) (x : Id) → has_id (delivered start past) x ≡ true → has_id (delivers_after start past turn) x ≡ false
+not-again start past turn x d = by (is_below (cursor start past) x) refl where
+  by : (t : Bool) → is_below (cursor start past) x ≡ t → has_id (delivers_after start past turn) x ≡ false
+  by false up = not_above (cursor start past) x (delivers_after start past turn) up (above-after start past turn)
+  by true up = absurd (false≢true (sym (not_among (cursor start past) (delivered start past) x up (up_to-delivered start past)) ∙ d))
+
+-- what is delivered now had no row
+pub not-held : (start : Id) (past : List Turn) (turn : Turn) (x : Id) → has_id (delivers_after start past turn) x ≡ true → holding start past x ≡ None
+not-held start past turn x e = by (holding start past x) refl where
+  by : (r : Option Row) → holding start past x ≡ r → r ≡ None
+  by None f = refl
+  by (Some row) f = absurd (false≢true (sym (not-again start past turn x (held-delivered start past x (ap is_some f))) ∙ e))
+
+unheld : (start : Id) (turns : List Turn) (x : Id) → has_id (delivered start turns) x ≡ false → (r : Option Row) → holding start turns x ≡ r → None ≡ r
+unheld start turns x e None f = refl
+unheld start turns x e (Some row) f = absurd (false≢true (sym e ∙ held-delivered start turns x (ap is_some f)))
+
+pub row-found : (start : Id) (turns : List Turn) (x : Id) → row_at (rows start turns) x ≡ holding start turns x
+row-found start turns x = find-among (λ y. holding start turns y) (delivered start turns) x ∙ by (has_id (delivered start turns) x) refl where
+  by : (t : Bool) → has_id (delivered start turns) x ≡ t → cond t (holding start turns x) None ≡ holding start turns x
+  by true e = refl
+  by false e = unheld start turns x e (holding start turns x) refl
+
+-- ---- what a claim takes and removes
+
+has_id-claim : (es : List (Id × Row)) (present : List Id) (now : ℕ) (rule : Rule) (ids : List Id) (x : Id)
+    → (has_id (claim_among es present now rule ids).take x ≡ (is_taken es present now rule x && has_id ids x))
+    × (has_id (claim_among es present now rule ids).removed x ≡ (is_removed es present x && has_id ids x))
+has_id-claim es present now rule ids x = (has_id-where (is_taken es present now rule) ids x, has_id-where (is_removed es present) ids x)
+
+-- a list of claimed ids: taken ones have rows and aren't removed, removed ones have rows
+IsOver : List (Id × Row) → Id → Claim → Type 0
+IsOver es x c = has_id c.take x ≡ true → (is_some (row_at es x) ≡ true) × (has_id c.removed x ≡ false)
+
+taken-has : (now : ℕ) (rule : Rule) (r : Option Row) → is_idle now rule r ≡ true → is_some r ≡ true
+taken-has now rule None e = absurd (false≢true e)
+taken-has now rule (Some row) e = refl
+
+or-none : (a b : Bool) → b ≡ false → (a || b) ≡ a
+or-none true b e = refl
+or-none false b e = e
+
+none-or : (a b : Bool) → a ≡ false → (a || b) ≡ b
+none-or a b e = rw e refl
+
+or_else : {A : Type 0} → Option A → A → A
+or_else None a = a
+or_else (Some b) a = b
+
+and-first : (a b : Bool) → (a && b) ≡ true → a ≡ true
+and-first true b e = refl
+and-first false b e = e
+
+and-second : (a b : Bool) → (a && b) ≡ true → b ≡ true
+and-second true b e = e
+and-second false b e = absurd (false≢true e)
+
+over : (es : List (Id × Row)) (present : List Id) (now : ℕ) (rule : Rule) (ids : List Id) (x : Id) → IsOver es x (claim_among es present now rule ids)
+unfolding IsOver
+over es present now rule ids x e =
+    let taken = and-first (is_taken es present now rule x) (has_id ids x) (sym (has_id-claim es present now rule ids x).0 ∙ e) in
+    let idle = and-first (is_idle now rule (row_at es x)) (has_id present x) taken in
+    let here = and-second (is_idle now rule (row_at es x)) (has_id present x) taken in
+    (taken-has now rule (row_at es x) idle, (has_id-claim es present now rule ids x).1 ∙ rw here (gone (is_some (row_at es x)) (has_id ids x)))
+  where
+    gone : (a b : Bool) → ((a && false) && b) ≡ false
+    gone true b = refl
+    gone false b = refl
+
+asked-over : (ask : Ask) (now : ℕ) (present : List Id) (es : List (Id × Row)) (x : Id) → IsOver es x (asked_claim ask now present es)
+unfolding IsOver
+asked-over (read_new consumer limit noack) now present es x = λ e. absurd (false≢true e)
+asked-over (read_own consumer limit from) now present es x = λ e. absurd (false≢true e)
+asked-over (ack ids) now present es x = λ e. absurd (false≢true e)
+asked-over (join consumer) now present es x = λ e. absurd (false≢true e)
+asked-over (leave consumer) now present es x = λ e. absurd (false≢true e)
+asked-over (claim consumer rule ids) now present es x = over es present now rule (firsts ids) x
+asked-over (auto_claim consumer rule start limit) now present es x = over es present now rule (scanned (is_hit es present now rule) limit (from_start start es)) x
+
+claimed-over : (ask : Ask) (now : ℕ) (present : List Id) (es : List (Id × Row)) (x : Id) → has_id (asked_claim ask now present es).take x ≡ true
+    → (is_some (row_at es x) ≡ true) × (has_id (asked_claim ask now present es).removed x ≡ false)
+unfolding IsOver
+claimed-over ask now present es x e = asked-over ask now present es x e
+
+-- ---- one turn
+
+-- the owner that a row tells
+abbrev pub of_row : Option Row → Option (List ℕ)
+of_row r = option_map (λ row. row.consumer) r
+
+owner-by : (assigned settles settled : Bool) (asking last : Option (List ℕ))
+    → cond (cond assigned false (settles || settled)) None (cond assigned asking last) ≡ cond assigned asking (cond settles None (cond settled None last))
+owner-by true settles settled asking last = refl
+owner-by false true settled asking last = refl
+owner-by false false settled asking last = refl
+
+-- what a turn makes of the owner
+pub owner-step : (start : Id) (past : List Turn) (turn : Turn) (x : Id)
+    → owner start (turn ∷ past) x ≡ cond (assigns start past turn x) (consumer_of turn.ask) (cond (settles start past turn x) None (owner start past x))
+owner-step start past turn x = owner-by (assigns start past turn x) (settles start past turn x) (is_settled start past x) (consumer_of turn.ask) (last_assigned start past x)
+
+stays-settled : (s : Bool) → s ≡ false → (o : Option (List ℕ)) → cond s None o ≡ o
+stays-settled s e o = rw e refl
+
+-- a turn that isn't XGROUP DELCONSUMER removes none
+removes-none : (turn : Turn) → ((name : List ℕ) → drops_consumer turn.ask name ≡ false) → (last : Option (List ℕ)) → removes turn last ≡ false
+removes-none turn none None = refl
+removes-none turn none (Some name) = none name
+
+settles-none : (a b c : Bool) → a ≡ false → b ≡ false → c ≡ false → (a || (b || c)) ≡ false
+settles-none a b c p q r = rw (p, q, r) refl
+
+-- ---- the owner is that of the row
+
+module _ (start : Id) (past : List Turn) (now : ℕ) (present : List Id) (x : Id) (ih : owner start past x ≡ of_row (holding start past x)) where
+  t : Ask → Turn
+  t ask = record { now = now; present = present; ask = ask }
+
+  Agrees : Ask → Type 0
+  Agrees ask = owner start (t ask ∷ past) x ≡ of_row (holding start (t ask ∷ past) x)
+
+  -- nothing is assigned or settled, and the row's consumer stays
+  quiet : (ask : Ask) → assigns start past (t ask) x ≡ false → settles start past (t ask) x ≡ false → of_row (holding start past x) ≡ of_row (holding start (t ask ∷ past) x) → Agrees ask
+  unfolding Agrees
+  quiet ask a s same =
+      owner-step start past (t ask) x ∙ (λ i. cond (a i) (consumer_of (t ask).ask) (cond (s i) None (owner start past x))) ∙ ih ∙ same
+
+  agree-new : (consumer : List ℕ) (limit : Option ℕ) (noack : Bool) → Agrees (read_new consumer limit noack)
+  unfolding Agrees t
+  agree-new consumer limit noack =
+      owner-step start past (t (read_new consumer limit noack)) x
+      ∙ by noack (has_id (delivers limit (cursor start past) present) x) refl
+      (settles start past (t (read_new consumer limit noack)) x)
+      (settles-none false (removes (t (read_new consumer limit noack)) (last_assigned start past x)) false refl (removes-none (t (read_new consumer limit noack)) (λ _. refl) (last_assigned start past x)) refl)
+    where
+      by : (quietly d : Bool) → has_id (delivers limit (cursor start past) present) x ≡ d → (s : Bool) → s ≡ false
+          → cond ((not quietly && d) || false) (Some consumer) (cond s None (owner start past x)) ≡ of_row (cond d (cond quietly None (Some (first_row consumer now))) (holding start past x))
+      by true true e s f = stays-settled s f (owner start past x) ∙ ih ∙ ap of_row (not-held start past (t (read_new consumer limit noack)) x e)
+      by false true e s f = refl
+      by true false e s f = stays-settled s f (owner start past x) ∙ ih
+      by false false e s f = stays-settled s f (owner start past x) ∙ ih
+
+  agree-own : (consumer : List ℕ) (limit : Option ℕ) (from : Id) → Agrees (read_own consumer limit from)
+  unfolding t
+  agree-own consumer limit from =
+      quiet (read_own consumer limit from) refl
+      (settles-none false (removes (t (read_own consumer limit from)) (last_assigned start past x)) false refl (removes-none (t (read_own consumer limit from)) (λ _. refl) (last_assigned start past x)) refl)
+      (by (holding start past x) (has_id (shown consumer limit from (rows start past)) x && has_id present x))
+    where
+      by : (r : Option Row) (b : Bool) → of_row r ≡ of_row (option_and_then (λ row. cond b (Some (again now row)) (Some row)) r)
+      by None b = refl
+      by (Some row) true = refl
+      by (Some row) false = refl
+
+  agree-join : (consumer : List ℕ) → Agrees (join consumer)
+  unfolding t
+  agree-join consumer =
+      quiet (join consumer) refl (settles-none false (removes (t (join consumer)) (last_assigned start past x)) false refl (removes-none (t (join consumer)) (λ _. refl) (last_assigned start past x)) refl) refl
+
+  agree-ack : (ids : List Id) → Agrees (ack ids)
+  unfolding Agrees t
+  agree-ack ids =
+      owner-step start past (t (ack ids)) x
+      ∙ ap (λ b. cond {A = Option (List ℕ)} b None (owner start past x)) (or-none (has_id ids x) (removes (t (ack ids)) (last_assigned start past x) || false) (settles-none false _ false refl (removes-none (t (ack ids)) (λ _. refl) (last_assigned start past x)) refl))
+      ∙ ap (cond (has_id ids x) None) ih ∙ by (holding start past x) (has_id ids x)
+    where
+      by : (r : Option Row) (b : Bool) → cond b None (of_row r) ≡ of_row (option_and_then (λ row. cond b None (Some row)) r)
+      by None true = refl
+      by None false = refl
+      by (Some row) true = refl
+      by (Some row) false = refl
+
+  agree-leave : (consumer : List ℕ) → Agrees (leave consumer)
+  unfolding Agrees t or_else
+  agree-leave consumer =
+      owner-step start past (t (leave consumer)) x ∙ by (is_settled start past x) (last_assigned start past x) (holding start past x) ih
+    where
+      by : (settled : Bool) (last : Option (List ℕ)) (r : Option Row) → cond settled None last ≡ of_row r
+          → cond (removes (t (leave consumer)) last || false) None (cond settled None last) ≡ of_row (option_and_then (unless_owned consumer x) r)
+      by true last None e = both (removes (t (leave consumer)) last || false) where
+        both : (b : Bool) → cond {A = Option (List ℕ)} b None None ≡ None
+        both true = refl
+        both false = refl
+      by true last (Some row) e = absurd (false≢true (ap is_some e))
+      by false None None e = refl
+      by false None (Some row) e = absurd (false≢true (ap is_some e))
+      by false (Some name) None e = absurd (false≢true (sym (ap is_some e)))
+      by false (Some name) (Some row) e =
+          ap (λ n. cond (is_name n consumer || false) None (Some n)) (name_of e) ∙ owned (is_name row.consumer consumer)
+        where
+          name_of : Some name ≡ Some row.consumer → name ≡ row.consumer
+          name_of f = ap (λ o. or_else o name) f
+
+          owned : (b : Bool) → cond (b || false) None (Some row.consumer) ≡ of_row (cond b None (Some row))
+          owned true = refl
+          owned false = refl
+
+  -- a claim
+  agree-claims : (consumer : List ℕ) (rule : Rule) (c : Claim) → IsOver (rows start past) x c → (s : Bool) → s ≡ has_id c.removed x
+      → cond (has_id c.take x) (Some consumer) (cond s None (owner start past x)) ≡ of_row (option_and_then (claimed consumer now rule c x) (holding start past x))
+  unfolding IsOver
+  agree-claims consumer rule c over_rows s e = ap (λ b. cond (has_id c.take x) (Some consumer) (cond b None (owner start past x))) e ∙ ap (λ o. cond (has_id c.take x) (Some consumer) (cond (has_id c.removed x) None o)) ih
+      ∙ by (holding start past x) (has_id c.removed x) (has_id c.take x) (λ f. let is = over_rows f in (ap is_some (sym (row-found start past x)) ∙ is.0, is.1))
+    where
+      by : (r : Option Row) (gone taken : Bool) → (taken ≡ true → (is_some r ≡ true) × (gone ≡ false))
+          → cond taken (Some consumer) (cond gone None (of_row r)) ≡ of_row (option_and_then (λ row. cond gone None (cond taken (Some (claimed_row consumer now rule row)) (Some row))) r)
+      by None gone true h = absurd (false≢true (h refl).0)
+      by None true false h = refl
+      by None false false h = refl
+      by (Some row) true true h = absurd (false≢true (sym (h refl).1))
+      by (Some row) false true h = refl
+      by (Some row) true false h = refl
+      by (Some row) false false h = refl
+
+  agree-claim : (consumer : List ℕ) (rule : Rule) (ids : List Id) → Agrees (claim consumer rule ids)
+  unfolding Agrees t
+  agree-claim consumer rule ids =
+      owner-step start past (t (claim consumer rule ids)) x
+      ∙ agree-claims consumer rule (claim_of (rows start past) present now rule ids) (asked-over (claim consumer rule ids) now present (rows start past) x)
+      (settles start past (t (claim consumer rule ids)) x) (none-or (removes (t (claim consumer rule ids)) (last_assigned start past x)) _ (removes-none (t (claim consumer rule ids)) (λ _. refl) (last_assigned start past x)))
+
+  agree-auto_claim : (consumer : List ℕ) (rule : Rule) (from : Id) (limit : ℕ) → Agrees (auto_claim consumer rule from limit)
+  unfolding Agrees t
+  agree-auto_claim consumer rule from limit =
+      owner-step start past (t (auto_claim consumer rule from limit)) x
+      ∙ agree-claims consumer rule (scan_of (rows start past) present now rule from limit).claim (asked-over (auto_claim consumer rule from limit) now present (rows start past) x)
+      (settles start past (t (auto_claim consumer rule from limit)) x) (none-or (removes (t (auto_claim consumer rule from limit)) (last_assigned start past x)) _ (removes-none (t (auto_claim consumer rule from limit)) (λ _. refl) (last_assigned start past x)))
+
+agree-asked : (start : Id) (past : List Turn) (now : ℕ) (present : List Id) (ask : Ask) (x : Id) → owner start past x ≡ of_row (holding start past x)
+    → owner start (record { now = now; present = present; ask = ask } ∷ past) x ≡ of_row (holding start (record { now = now; present = present; ask = ask } ∷ past) x)
+unfolding Agrees t
+agree-asked start past now present (read_new consumer limit noack) x ih = agree-new start past now present x ih consumer limit noack
+agree-asked start past now present (read_own consumer limit from) x ih = agree-own start past now present x ih consumer limit from
+agree-asked start past now present (ack ids) x ih = agree-ack start past now present x ih ids
+agree-asked start past now present (join consumer) x ih = agree-join start past now present x ih consumer
+agree-asked start past now present (leave consumer) x ih = agree-leave start past now present x ih consumer
+agree-asked start past now present (claim consumer rule ids) x ih = agree-claim start past now present x ih consumer rule ids
+agree-asked start past now present (auto_claim consumer rule from limit) x ih = agree-auto_claim start past now present x ih consumer rule from limit
+
+-- the owner by looking back is that of the row
+pub owner-row : (start : Id) (turns : List Turn) (x : Id) → owner start turns x ≡ of_row (holding start turns x)
+owner-row start [] x = refl
+owner-row start (turn ∷ past) x = agree-asked start past turn.now turn.present turn.ask x (owner-row start past x)
+
+-- ---- the owner changes only by a claim
+
+-- a claim that takes an id settles nothing
+taken-unsettled : (ask : Ask) (now : ℕ) (present : List Id) (es : List (Id × Row)) (x : Id) (last : Option (List ℕ)) → has_id (asked_claim ask now present es).take x ≡ true
+    → (acks ask x || (removes (record { now = now; present = present; ask = ask }) last || has_id (asked_claim ask now present es).removed x)) ≡ false
+taken-unsettled (read_new consumer limit noack) now present es x last e = absurd (false≢true e)
+taken-unsettled (read_own consumer limit from) now present es x last e = absurd (false≢true e)
+taken-unsettled (ack ids) now present es x last e = absurd (false≢true e)
+taken-unsettled (join consumer) now present es x last e = absurd (false≢true e)
+taken-unsettled (leave consumer) now present es x last e = absurd (false≢true e)
+taken-unsettled (claim consumer rule ids) now present es x last e =
+    settles-none false _ _ refl (removes-none (record { now = now; present = present; ask = claim consumer rule ids }) (λ _. refl) last) (claimed-over (claim consumer rule ids) now present es x e).1
+taken-unsettled (auto_claim consumer rule from limit) now present es x last e =
+    settles-none false _ _ refl (removes-none (record { now = now; present = present; ask = auto_claim consumer rule from limit }) (λ _. refl) last) (claimed-over (auto_claim consumer rule from limit) now present es x e).1
+
+-- what is taken has an owner
+taken-owned : (start : Id) (past : List Turn) (turn : Turn) (x : Id) → takes start past turn x ≡ true → is_some (owner start past x) ≡ true
+taken-owned start past turn x e =
+    ap is_some (owner-row start past x) ∙ some-row (holding start past x)
+    ∙ ap is_some (sym (row-found start past x)) ∙ (claimed-over turn.ask turn.now turn.present (rows start past) x e).0
+  where
+    some-row : (r : Option Row) → is_some (of_row r) ≡ is_some r
+    some-row None = refl
+    some-row (Some row) = refl
+
+-- what has an owner was delivered
+owned-delivered : (start : Id) (past : List Turn) (x : Id) → is_some (owner start past x) ≡ true → has_id (delivered start past) x ≡ true
+owned-delivered start past x e = held-delivered start past x (some-row (holding start past x) (ap is_some (sym (owner-row start past x)) ∙ e)) where
+  some-row : (r : Option Row) → is_some (of_row r) ≡ true → is_some r ≡ true
+  some-row None f = f
+  some-row (Some row) f = refl
+
+-- what was delivered is assigned by claims alone
+assigned-again : (start : Id) (past : List Turn) (turn : Turn) (x : Id) → has_id (delivered start past) x ≡ true → assigns start past turn x ≡ takes start past turn x
+assigned-again start past turn x d = ap (λ b. (keeps_pending turn.ask && b) || takes start past turn x) (not-again start past turn x d) ∙ by (keeps_pending turn.ask) where
+  by : (k : Bool) → ((k && false) || takes start past turn x) ≡ takes start past turn x
+  by true = refl
+  by false = refl
+
+pub owner-after : (start : Id) (past : List Turn) (turn : Turn) (x : Id) (name : List ℕ) → owner start past x ≡ Some name → OwnerAfter start past turn x name
+owner-after start past turn x name e = by (takes start past turn x) refl (settles start past turn x) refl where
+  step : owner start (turn ∷ past) x ≡ cond (takes start past turn x) (consumer_of turn.ask) (cond (settles start past turn x) None (owner start past x))
+  step = owner-step start past turn x ∙ ap (λ b. cond b (consumer_of turn.ask) (cond (settles start past turn x) None (owner start past x))) (assigned-again start past turn x (owned-delivered start past x (ap is_some e)))
+
+  by : (taken : Bool) → takes start past turn x ≡ taken → (settled : Bool) → settles start past turn x ≡ settled → OwnerAfter start past turn x name
+  by true t settled s = inr (inr (t, step ∙ ap (λ b. cond b (consumer_of turn.ask) (cond (settles start past turn x) None (owner start past x))) t))
+  by false t true s = inr (inl (s, step ∙ (λ i. cond (t i) (consumer_of turn.ask) (cond (s i) None (owner start past x)))))
+  by false t false s = inl (step ∙ (λ i. cond (t i) (consumer_of turn.ask) (cond (s i) None (owner start past x))) ∙ e)
+
+pub no-owner-after : (start : Id) (past : List Turn) (turn : Turn) (x : Id) → owner start past x ≡ None → NoOwnerAfter start past turn x
+no-owner-after start past turn x e = by (delivers_pending start past turn x) refl (takes start past turn x) refl where
+  none : (s : Bool) → cond s None (owner start past x) ≡ None
+  none true = refl
+  none false = e
+
+  by : (new : Bool) → delivers_pending start past turn x ≡ new → (taken : Bool) → takes start past turn x ≡ taken → NoOwnerAfter start past turn x
+  by true d taken t = inr (d, owner-step start past turn x ∙ ap (λ b. cond (b || takes start past turn x) (consumer_of turn.ask) (cond (settles start past turn x) None (owner start past x))) d)
+  by false d true t = absurd (false≢true (sym (ap is_some e) ∙ taken-owned start past turn x t))
+  by false d false t =
+      inl (owner-step start past turn x ∙ (λ i. cond (d i || t i) (consumer_of turn.ask) (cond (settles start past turn x) None (owner start past x))) ∙ none (settles start past turn x))
+
+-- ---- one owner until settled
+
+pending-named : (ask : Ask) → keeps_pending ask ≡ true → is_some (consumer_of ask) ≡ true
+pending-named (read_new consumer limit noack) e = refl
+pending-named (read_own consumer limit from) e = refl
+pending-named (ack ids) e = e
+pending-named (join consumer) e = refl
+pending-named (leave consumer) e = refl
+pending-named (claim consumer rule ids) e = refl
+pending-named (auto_claim consumer rule from limit) e = refl
+
+claim-named : (ask : Ask) (now : ℕ) (present : List Id) (es : List (Id × Row)) (x : Id) → has_id (asked_claim ask now present es).take x ≡ true → is_some (consumer_of ask) ≡ true
+claim-named (read_new consumer limit noack) now present es x e = refl
+claim-named (read_own consumer limit from) now present es x e = refl
+claim-named (ack ids) now present es x e = absurd (false≢true e)
+claim-named (join consumer) now present es x e = refl
+claim-named (leave consumer) now present es x e = refl
+claim-named (claim consumer rule ids) now present es x e = refl
+claim-named (auto_claim consumer rule from limit) now present es x e = refl
+
+-- what was delivered stays so
+still-delivered : (start : Id) (later : List Turn) (before : List Turn) (x : Id) → has_id (delivered start before) x ≡ true → has_id (delivered start (later ++ before)) x ≡ true
+still-delivered start [] before x d = d
+still-delivered start (u ∷ later) before x d =
+    has_id-append (delivered start (later ++ before)) (delivers_after start (later ++ before) u) x ∙ or-left _ _ (still-delivered start later before x d)
+
+delivered-now : (start : Id) (past : List Turn) (turn : Turn) (x : Id) → delivers_pending start past turn x ≡ true → has_id (delivered start (turn ∷ past)) x ≡ true
+delivered-now start past turn x e =
+    has_id-append (delivered start past) (delivers_after start past turn) x ∙ or-right _ _ (and-second (keeps_pending turn.ask) _ e)
+
+pub until-settled : (start : Id) (later : List Turn) (turn : Turn) (earlier : List Turn) (x : Id) → delivers_pending start earlier turn x ≡ true
+    → is_some (owner start (later ++ turn ∷ earlier) x) ≡ not (settled_in start later (turn ∷ earlier) x)
+until-settled start [] turn earlier x e =
+    ap is_some (owner-step start earlier turn x ∙ ap (λ b. cond (b || takes start earlier turn x) (consumer_of turn.ask) (cond (settles start earlier turn x) None (owner start earlier x))) e)
+    ∙ pending-named turn.ask (and-first (keeps_pending turn.ask) _ e)
+until-settled start (u ∷ later) turn earlier x e = by (takes start past u x) refl (until-settled start later turn earlier x e) where
+  past : List Turn
+  past = later ++ turn ∷ earlier
+
+  step : owner start (u ∷ past) x ≡ cond (takes start past u x) (consumer_of u.ask) (cond (settles start past u x) None (owner start past x))
+  step = owner-step start past u x
+      ∙ ap (λ b. cond b (consumer_of u.ask) (cond (settles start past u x) None (owner start past x))) (assigned-again start past u x (still-delivered start later (turn ∷ earlier) x (delivered-now start earlier turn x e)))
+
+  kept_or_not : (s : Bool) (o : Option (List ℕ)) (b : Bool) → is_some o ≡ not b → is_some (cond s None o) ≡ not (s || b)
+  kept_or_not true o b h = refl
+  kept_or_not false o b h = h
+
+  unsettled : (b : Bool) → true ≡ not b → b ≡ false
+  unsettled true h = h
+  unsettled false h = refl
+
+  by : (taken : Bool) → takes start past u x ≡ taken → is_some (owner start past x) ≡ not (settled_in start later (turn ∷ earlier) x)
+      → is_some (owner start (u ∷ past) x) ≡ not (settles start past u x || settled_in start later (turn ∷ earlier) x)
+  by true t ih =
+      let free = taken-unsettled u.ask u.now u.present (rows start past) x (last_assigned start past x) t in
+      let none = unsettled (settled_in start later (turn ∷ earlier) x) (sym (taken-owned start past u x t) ∙ ih) in
+      ap is_some (step ∙ ap (λ b. cond b (consumer_of u.ask) (cond (settles start past u x) None (owner start past x))) t)
+      ∙ claim-named u.ask u.now u.present (rows start past) x t ∙ sym (λ i. not (free i || none i))
+  by false t ih =
+      ap is_some (step ∙ ap (λ b. cond b (consumer_of u.ask) (cond (settles start past u x) None (owner start past x))) t)
+      ∙ kept_or_not (settles start past u x) (owner start past x) (settled_in start later (turn ∷ earlier) x) ih
+
+pub owned-until-settled : (start : Id) (turns : List Turn) → OwnedUntilSettled start turns
+owned-until-settled start turns = λ later turn earlier x e d.
+    ap (λ ts. is_some (owner start ts x)) e ∙ until-settled start later turn earlier x d
+
+pub changes-by-claims : (start : Id) (turns : List Turn) → ChangesByClaims start turns
+changes-by-claims start turns = λ later turn earlier x e. (λ name o. owner-after start earlier turn x name o, λ o. no-owner-after start earlier turn x o)
