@@ -16,3 +16,5 @@ pub mod Promise
 pub mod Apart
 pub mod Headline
 pub mod Codes
+pub mod Played
+pub mod Examples

@@ -4,6 +4,7 @@
 mod adding;
 mod changing;
 pub mod clock;
+pub mod examples;
 pub mod keyspace;
 pub mod laws;
 mod showing;

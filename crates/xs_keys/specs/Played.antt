@@ -1,0 +1,68 @@
+-- Lines of words at their moments, and the replies to them, one after the other from the empty keyspace.
+use Rattle.std.specs.Prelude.{◌≡◌, ℕ, List, [], ◌∷◌, map, codes, decimal, Result, Ok, Err}
+use Rattle.xs_bytes.specs.SortedMap.{empty}
+use Rattle.xs_resp.specs.declared.fault.Fault.{Fault}
+use Rattle.xs_resp.specs.declared.reply.Reply.{Reply}
+use Rattle.xs_resp.specs.declared.reply.Reply.TheVariants.{Simple, Error, Int, Bulk, NullArray}
+use Rattle.xs_resp.specs.declared.reply.Simple.TheVariants.{Okay}
+use Rattle.xs_command.specs.declared.command.Command.{Command}
+use Rattle.xs_command.specs.Read.{reads}
+use Rattle.xs_command.specs.Examples.{line}
+use Rattle.xs_keys.specs.Content.{Content}
+use Rattle.xs_keys.specs.After.{after}
+use Rattle.xs_keys.specs.Shape.{array, id_reply}
+use Rattle.xs_keys.specs.Reply.{reply}
+
+-- a line of words at a moment, with its reply
+pub record Exchange : Type 0 where
+  pub now : ℕ
+  pub words : List ℕ
+  pub answer : Reply
+
+abbrev pub at : ℕ → List ℕ → Reply → Exchange
+at now words answer = record { now = now; words = words; answer = answer }
+
+-- the reply to what the words say, and the content after it
+abbrev pub answered : Content → ℕ → Result Command Fault → Reply × Content
+answered content now (Ok command) = (reply content now command, after content now command)
+answered content now (Err fault) = (Error fault, content)
+
+-- the replies from a content on
+abbrev pub replies_to : Content → List Exchange → List Reply
+replies_to content [] = []
+replies_to content (x ∷ xs) =
+    let one = answered content x.now (reads (line x.words)) in one.0 ∷ replies_to one.1 xs
+
+-- each line is answered so
+abbrev pub IsPlayed : List Exchange → Type 0
+IsPlayed exchanges = replies_to empty exchanges ≡ map (λ x. x.answer) exchanges
+
+-- ---- replies in short
+
+abbrev pub ok : Reply
+ok = Simple Okay
+
+abbrev pub name : List ℕ → Reply
+name bytes = Bulk bytes
+
+abbrev pub number : ℕ → Reply
+number n = Bulk (decimal n)
+
+abbrev pub id : ℕ → ℕ → Reply
+id ms seq = id_reply (record { ms = ms; seq = seq })
+
+-- an entry with the one field f of value v
+abbrev pub entry : ℕ → ℕ → Reply
+entry ms seq = array (id ms seq ∷ array (name (codes "f") ∷ name (codes "v") ∷ []) ∷ [])
+
+-- an entry that is no longer in the stream
+abbrev pub gone : ℕ → ℕ → Reply
+gone ms seq = array (id ms seq ∷ NullArray ∷ [])
+
+-- a stream with entries, in the reply to a read
+abbrev pub stream : List ℕ → List Reply → Reply
+stream key entries = array (name key ∷ array entries ∷ [])
+
+-- a pending entry
+abbrev pub row : Reply → List ℕ → ℕ → ℕ → Reply
+row id consumer idle count = array (id ∷ name consumer ∷ Int idle ∷ Int count ∷ [])
