@@ -1,7 +1,5 @@
--- What becomes of each entry of a list in the order of its keys; the order stays.
-use Rattle.std.specs.Prelude.{Bool, true, false, ◌&&◌, T, List, [], ◌∷◌, Option, Some, None}
-use Rattle.std.specs.FinMap.Entries.{below_all, is_sorted}
-use Rattle.std.specs.declared.cmp.Ordering.{Ordering}
+-- What becomes of each entry of a list of entries.
+use Rattle.std.specs.Prelude.{List, [], ◌∷◌, Option, Some, None}
 
 module _ {K X : Type 0} where
   -- a value, where one is left, before the other entries
@@ -13,30 +11,3 @@ module _ {K X : Type 0} where
   abbrev pub each : (K → X → Option X) → List (K × X) → List (K × X)
   each f [] = []
   each f (e ∷ es) = kept e.0 (f e.0 e.1) (each f es)
-
-both : (a b : Bool) → T a → T b → T (a && b)
-both true b p q = q
-both false b p q = p
-
-first : (a b : Bool) → T (a && b) → T a
-first true b p = tt
-first false b p = p
-
-second : (a b : Bool) → T (a && b) → T b
-second true b p = p
-second false b p = absurd p
-
-module _ {K X : Type 0} (R : K → K → Ordering) where
-  below-each : (f : K → X → Option X) (x : K) (es : List (K × X)) → T (below_all R x es) → T (below_all R x (each f es))
-  below-each f x [] h = tt
-  below-each f x (e ∷ es) h = by (f e.0 e.1) (below-each f x es (second _ _ h)) where
-    by : (v : Option X) → T (below_all R x (each f es)) → T (below_all R x (kept e.0 v (each f es)))
-    by None rest = rest
-    by (Some v) rest = both _ _ (first _ _ h) rest
-
-  pub is_sorted-each : (f : K → X → Option X) (es : List (K × X)) → T (is_sorted R es) → T (is_sorted R (each f es))
-  is_sorted-each f [] h = tt
-  is_sorted-each f (e ∷ es) h = by (f e.0 e.1) (is_sorted-each f es (second _ _ h)) where
-    by : (v : Option X) → T (is_sorted R (each f es)) → T (is_sorted R (kept e.0 v (each f es)))
-    by None rest = rest
-    by (Some v) rest = both _ _ (below-each f e.0 es (first _ _ h)) rest

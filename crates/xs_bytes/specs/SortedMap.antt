@@ -1,14 +1,12 @@
 -- A finite map as a value: its entries in the order of their keys. What a definition says of such a map computes.
-use Rattle.std.specs.Prelude.{◌≡◌, ℕ, Bool, true, false, not, T, List, [], ◌∷◌, map, Option, is_some}
-use Rattle.std.proofs.Common.{refl, sym, subst}
-use Rattle.std.proofs.Math.Dec.{T_prop}
-use Rattle.std.specs.Coded.{Coded, code_by, coded×, coded_list}
+use Rattle.std.specs.Prelude.{ℕ, Bool, not, T, List, [], ◌∷◌, map, Option, is_some}
 use Rattle.std.specs.FinMap.Entries.{find, put, where_key, is_sorted, is_sorted-put, is_sorted-where_key}
 use Rattle.std.specs.Ordering.{nat_cmp, eq_by_cmp}
 use Rattle.std.specs.Cmp.{IsTotalOrder}
 use Rattle.std.specs.Cmp.Lexicographic.{slice_cmp, nat_list_cmp_total}
 use Rattle.std.specs.declared.cmp.Ordering.{Ordering}
-use Rattle.xs_bytes.specs.Each.{each, is_sorted-each}
+use Rattle.xs_bytes.specs.Each.{each}
+use Rattle.xs_bytes.specs.Sorting.{is_sorted-each}
 
 -- the entries, whose keys strictly rise
 pub record SortedMap {K : Type 0} (R : K → K → Ordering) (X : Type 0) : Type 0 where
@@ -35,7 +33,9 @@ module _ {K X : Type 0} {R : K → K → Ordering} where
 
   -- without a key
   unfoldable pub remove : SortedMap R X → K → SortedMap R X
-  remove m k = record { entries = where_key R (λ x. not (eq_by_cmp R k x)) m.entries; sorted = is_sorted-where_key R (λ x. not (eq_by_cmp R k x)) m.entries m.sorted }
+  remove m k =
+      let other : K → Bool = λ x. not (eq_by_cmp R k x) in
+      record { entries = where_key R other m.entries; sorted = is_sorted-where_key R other m.entries m.sorted }
 
   -- with what becomes of each value by its key; an entry goes where nothing does
   unfoldable pub change : (K → X → Option X) → SortedMap R X → SortedMap R X
@@ -55,16 +55,3 @@ insert m name x = insert_by nat_list_cmp_total m name x
 
 abbrev pub from_entries : {X : Type 0} → List (List ℕ × X) → NameMap X
 from_entries entries = of_entries nat_list_cmp_total entries
-
--- the entries, where their keys rise
-abbrev pub checked : {K X : Type 0} {R : K → K → Ordering} (es : List (K × X)) (b : Bool) → is_sorted R es ≡ b → SortedMap R X
-checked es true e = record { entries = es; sorted = subst T (sym e) tt }
-checked es false e = empty
-
-pub back : {K X : Type 0} {R : K → K → Ordering} (m : SortedMap R X) (b : Bool) (e : is_sorted R m.entries ≡ b) → checked m.entries b e ≡ m
-back {R = R} m true e = λ i. record { entries = m.entries; sorted = T_prop (is_sorted R m.entries) (subst T (sym e) tt) m.sorted i }
-back m false e = absurd (subst T e m.sorted)
-
--- a code, by which a proof tells maps apart
-abbrev pub coded_map : {K X : Type 0} {R : K → K → Ordering} → Coded K → Coded X → Coded (SortedMap R X)
-coded_map {K} {X} {R} k x = code_by (List (K × X)) (coded_list (coded× k x)) (λ m. m.entries) (λ es. checked es (is_sorted R es) refl) (λ m. back m (is_sorted R m.entries) refl)

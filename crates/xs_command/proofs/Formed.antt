@@ -6,7 +6,8 @@ use Rattle.xs_stream.specs.declared.add.AddId.{AddId}
 use Rattle.xs_stream.specs.declared.add.AddId.TheVariants as add
 use Rattle.xs_stream.specs.declared.field.Field.{Field}
 use Rattle.xs_stream.specs.declared.trim.Trim.{Trim}
-use Rattle.xs_stream.specs.Id.{is_same, zero_id, parse_id, id_number}
+use Rattle.xs_stream.specs.Id.{is_same, zero_id}
+use Rattle.xs_stream.specs.IdText.{parse_id, id_number}
 use Rattle.xs_resp.specs.declared.fault.Fault.{Fault}
 use Rattle.xs_resp.specs.declared.fault.Fault.TheVariants.{Syntax, BadId, Arity, ZeroId}
 use Rattle.xs_command.specs.declared.command.Command.{Command}

@@ -3,7 +3,8 @@ use Rattle.std.specs.Prelude.{ℕ, ◌-◌, List, length, take, drop, codes, byt
 use Rattle.xs_stream.specs.declared.id.Id.{Id}
 use Rattle.xs_stream.specs.declared.add.AddId.{AddId}
 use Rattle.xs_stream.specs.declared.add.AddId.TheVariants as add
-use Rattle.xs_stream.specs.Id.{id_number, parse_id, is_same, zero_id}
+use Rattle.xs_stream.specs.Id.{is_same, zero_id}
+use Rattle.xs_stream.specs.IdText.{id_number, parse_id}
 use Rattle.xs_resp.specs.declared.fault.Fault.{Fault}
 use Rattle.xs_resp.specs.declared.fault.Fault.TheVariants.{BadId, ZeroId}
 use Rattle.xs_command.specs.Words.{Part, ◌>>=◌, word}

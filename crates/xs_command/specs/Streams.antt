@@ -2,7 +2,7 @@
 use Rattle.std.specs.Prelude.{ℕ, ◌/◌, ◌%◌, ◌&&◌, ◌==◌, not, Bool, true, List, [], ◌∷◌, length, take, drop, nat_lt, bytes_eq, codes, Option, Some, Result, Ok, Err, if◌then◌else◌}
 use Rattle.std.specs.List.{list_any}
 use Rattle.std.specs.Option.{option_map}
-use Rattle.xs_stream.specs.Id.{parse_id}
+use Rattle.xs_stream.specs.IdText.{parse_id}
 use Rattle.xs_resp.specs.declared.fault.Fault.{Fault}
 use Rattle.xs_resp.specs.declared.fault.Fault.TheVariants.{Syntax, BadId, Unsupported}
 use Rattle.xs_command.specs.declared.reads.ReadFrom.{ReadFrom}

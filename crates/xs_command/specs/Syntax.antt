@@ -1,7 +1,7 @@
 -- What several commands' syntax is made of, beside words and options.
 use Rattle.std.specs.Prelude.{ℕ, List, [], ◌∷◌, Option, Some, None, Ok, Err}
 use Rattle.xs_stream.specs.declared.id.Id.{Id}
-use Rattle.xs_stream.specs.Id.{parse_id}
+use Rattle.xs_stream.specs.IdText.{parse_id}
 use Rattle.xs_resp.specs.declared.fault.Fault.{Fault}
 use Rattle.xs_command.specs.Words.{Reading, Part, ◌>>=◌, id}
 

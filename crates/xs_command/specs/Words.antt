@@ -2,8 +2,8 @@
 use Rattle.std.specs.Prelude.{◌≡◌, ℕ, Bool, ◌||◌, List, [], ◌∷◌, codes, if◌then◌else◌, Option, Some, None, Result, Ok, Err}
 use Rattle.std.specs.Str.{str_eq_ignore_ascii_case}
 use Rattle.xs_stream.specs.declared.id.Id.{Id}
-use Rattle.xs_stream.specs.Id.{parse_id}
-use Rattle.xs_stream.specs.Range.{low_end, high_end}
+use Rattle.xs_stream.specs.IdText.{parse_id}
+use Rattle.xs_stream.specs.RangeText.{low_end, high_end}
 use Rattle.xs_resp.specs.declared.fault.Fault.{Fault}
 use Rattle.xs_resp.specs.declared.fault.Fault.TheVariants.{Syntax, NotInteger, BadId}
 use Rattle.xs_command.specs.declared.refusal.Refusal.{Refusal}

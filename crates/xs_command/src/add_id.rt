@@ -1,6 +1,6 @@
 //! The id of XADD.
 ghost use Rattle.std.specs.Prelude.{◌≡◌};
-ghost use Rattle.xs_stream.specs.Id.{id_number};
+ghost use Rattle.xs_stream.specs.IdText.{id_number};
 ghost use Rattle.xs_command.specs.Words.{Gives};
 ghost use Rattle.xs_command.specs.AddId.{add_id_of, add_id};
 

@@ -19,7 +19,8 @@ use Rattle.xs_keys.specs.Content.{Key}
 use Rattle.xs_keys.specs.After.{new_stream, stream_after}
 use Rattle.xs_keys.specs.Codes.{content_of}
 use Rattle.xs_keys.specs.Reply.{assigned_reply}
-use Rattle.xs_keys.specs.Step.{Step, Adds, text_of, is_error}
+use Rattle.xs_keys.specs.Step.{Step, is_error}
+use Rattle.xs_keys.specs.Adding.{Adds, text_of}
 use Rattle.xs_keys.proofs.Names.{insert-same}
 use Rattle.xs_keys.proofs.Maps.{content-insert}
 

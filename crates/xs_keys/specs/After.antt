@@ -13,11 +13,9 @@ use Rattle.xs_group.specs.State.{State, joined}
 use Rattle.xs_group.specs.Read.{delivered_to, reread_by}
 use Rattle.xs_group.specs.Claims.{claim_of, scan_of, settled_by}
 use Rattle.xs_group.specs.Changes.{new_group, acked, without_consumer}
-use Rattle.xs_command.specs.declared.command.Command.{Command}
-use Rattle.xs_command.specs.declared.command.Command.TheVariants.{Add, Delete, TrimTo, GroupCreate, GroupDestroy, ConsumerCreate, ConsumerDelete, ReadGroup, Ack, Claim, AutoClaim, DropKeys}
-use Rattle.xs_command.specs.declared.command.GroupCreateCommand.{GroupCreateCommand}
-use Rattle.xs_command.specs.declared.command.ReadGroupCommand.{ReadGroupCommand}
-use Rattle.xs_command.specs.declared.reads.ReadOne.{ReadOne}
+use Rattle.xs_keys.specs.Ground.{Command, Add, Delete, TrimTo, GroupCreate, GroupDestroy, ConsumerCreate}
+use Rattle.xs_keys.specs.Ground.{ConsumerDelete, ReadGroup, Ack, Claim, AutoClaim, DropKeys, GroupCreateCommand}
+use Rattle.xs_keys.specs.Ground.{ReadGroupCommand, ReadOne}
 use Rattle.xs_keys.specs.Life.{Change, added, deleted, trimmed_to}
 use Rattle.xs_keys.specs.Turn.{Ask, read_new, read_own, ack, join, leave, claim, auto_claim}
 use Rattle.xs_keys.specs.GroupLife.{start_of, read_ask}
@@ -98,7 +96,8 @@ asked content now name group_name ask = asked_key content now name group_name as
 -- a new group, unless there is one; a missing key is made where the command says so
 abbrev pub created : Content → GroupCreateCommand → Option Key → Content
 created content create None =
-    if create.make then insert content create.key (with_group new_key create.group (new_group (start_of create.start new_stream.top)))
+    if create.make
+    then insert content create.key (with_group new_key create.group (new_group (start_of create.start new_stream.top)))
     else content
 created content create (Some key) =
     if has_key key.groups create.group then content
@@ -113,6 +112,11 @@ without_group content name group_name (Some key) =
 abbrev pub group_in : Option Key → List ℕ → Option State
 group_in None group_name = None
 group_in (Some key) group_name = get key.groups group_name
+
+-- the entries of a key
+abbrev pub entries_in : Option Key → List (Id × List Field)
+entries_in None = []
+entries_in (Some key) = key.stream.entries
 
 -- each key and group that a read names is there
 abbrev pub serves : Content → ReadGroupCommand → Bool

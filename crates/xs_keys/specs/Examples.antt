@@ -1,7 +1,7 @@
 -- What clients see, as the Redis documentation of streams and of each command tells it: computed examples.
 use Rattle.std.specs.Prelude.{[], ◌∷◌, codes}
-use Rattle.xs_resp.specs.declared.fault.Fault.TheVariants.{Arity, BadId, Busy, Exhausted, NoGroup, NoKey, NotInteger, SmallId, Syntax, UnknownCommand, Unsupported, ZeroId}
-use Rattle.xs_resp.specs.declared.reply.Reply.TheVariants.{Error, Int, NullBulk, NullArray}
+use Rattle.xs_keys.specs.Ground.{Arity, BadId, Busy, Exhausted, NoGroup, NoKey, NotInteger, SmallId, Syntax}
+use Rattle.xs_keys.specs.Ground.{UnknownCommand, Unsupported, ZeroId, Error, Int, NullBulk, NullArray}
 use Rattle.xs_keys.specs.Shape.{array}
 use Rattle.xs_keys.specs.Played.{IsPlayed, at, ok, name, number, id, entry, gone, stream, row}
 
@@ -238,6 +238,14 @@ pub record Claims : Type 0 where
       at 230 (codes "XPENDING s g - + 10") (array (row (id 1 0) (codes "c") 0 4 ∷ [])) ∷
       at 230 (codes "XCLAIM z g c 0 1-0") (Error NoGroup) ∷
       at 230 (codes "XAUTOCLAIM s z c 0 0") (Error NoGroup) ∷
+      [])
+  -- a scan begins at its start
+  pub a_scan_begins_at_its_start : IsPlayed (
+      at 1 (codes "XADD s 1-0 f v") (id 1 0) ∷
+      at 1 (codes "XADD s 2-0 f v") (id 2 0) ∷
+      at 1 (codes "XGROUP CREATE s g 0") ok ∷
+      at 100 (codes "XREADGROUP GROUP g c STREAMS s >") (array (stream (codes "s") (entry 1 0 ∷ entry 2 0 ∷ []) ∷ [])) ∷
+      at 110 (codes "XAUTOCLAIM s g d 10 2-0") (array (id 0 0 ∷ array (entry 2 0 ∷ []) ∷ array [] ∷ [])) ∷
       [])
 
 pub record Lives : Type 0 where

@@ -6,15 +6,9 @@ use Rattle.xs_stream.specs.declared.id.Id.{Id}
 use Rattle.xs_stream.specs.Id.{zero_id}
 use Rattle.xs_stream.specs.Kept.{ids_of}
 use Rattle.xs_group.specs.State.{is_name}
-use Rattle.xs_command.specs.declared.command.Command.{Command}
-use Rattle.xs_command.specs.declared.command.Command.TheVariants.{GroupCreate, GroupDestroy, ConsumerCreate, ConsumerDelete, ReadGroup, Ack, Claim, AutoClaim, DropKeys}
-use Rattle.xs_command.specs.declared.command.GroupStart.{GroupStart}
-use Rattle.xs_command.specs.declared.command.GroupStart.TheVariants.{Top, At}
-use Rattle.xs_command.specs.declared.command.GroupCreateCommand.{GroupCreateCommand}
-use Rattle.xs_command.specs.declared.command.ReadGroupCommand.{ReadGroupCommand}
-use Rattle.xs_command.specs.declared.reads.ReadOne.{ReadOne}
-use Rattle.xs_command.specs.declared.reads.ReadFrom.{ReadFrom}
-use Rattle.xs_command.specs.declared.reads.ReadFrom.TheVariants.{New, After}
+use Rattle.xs_keys.specs.Ground.{Command, GroupCreate, GroupDestroy, ConsumerCreate, ConsumerDelete, ReadGroup, Ack}
+use Rattle.xs_keys.specs.Ground.{Claim, AutoClaim, DropKeys, GroupStart, Top, At, GroupCreateCommand, ReadGroupCommand}
+use Rattle.xs_keys.specs.Ground.{ReadOne, ReadFrom, New, After}
 use Rattle.xs_keys.specs.Life.{Change, has_name, key_life}
 use Rattle.xs_keys.specs.Given.{live, top}
 use Rattle.xs_keys.specs.Turn.{Ask, Turn, read_new, read_own, ack, join, leave, claim, auto_claim}
@@ -53,7 +47,8 @@ life_created create stream (Some life) = Some life
 -- one turn more
 abbrev pub life_asked : ℕ → List Id → Ask → Option GroupLife → Option GroupLife
 life_asked now present ask life =
-    option_map (λ l. record { start = l.start; turns = record { now = now; present = present; ask = ask } ∷ l.turns }) life
+    let turn : Turn = record { now = now; present = present; ask = ask } in
+    option_map (λ l. record { start = l.start; turns = turn ∷ l.turns }) life
 
 -- what a read asks of one stream
 abbrev pub read_ask : ReadGroupCommand → ReadFrom → Ask
@@ -64,10 +59,12 @@ read_ask read (After id) = read_own read.consumer read.limit id
 abbrev pub life_read : ℕ → List Id → ReadGroupCommand → List ℕ → List ReadOne → Option GroupLife → Option GroupLife
 life_read now present read key [] life = life
 life_read now present read key (one ∷ more) life =
-    life_read now present read key more (if is_name key one.key then life_asked now present (read_ask read one.from) life else life)
+    let next = if is_name key one.key then life_asked now present (read_ask read one.from) life else life in
+    life_read now present read key more next
 
--- the life of a group after an event, from the lives of its key and its own before, and whether a read is served whole
-abbrev pub group_lived : ℕ → Command → List ℕ → List ℕ → Bool → Option (List Change) → Option GroupLife → Option GroupLife
+-- the life of a group after an event, from whether a read is served whole, and the lives of its key and its own before
+abbrev pub group_lived :
+    ℕ → Command → List ℕ → List ℕ → Bool → Option (List Change) → Option GroupLife → Option GroupLife
 group_lived now (GroupCreate create) key group served stream life =
     if is_name key create.key && is_name group create.group then life_created create stream life else life
 group_lived now (GroupDestroy k g) key group served stream life =
@@ -81,11 +78,11 @@ group_lived now (ReadGroup read) key group served stream life =
 group_lived now (Ack k g ids) key group served stream life =
     if is_name key k && is_name group g then life_asked now (present_in stream) (ack ids) life else life
 group_lived now (Claim c) key group served stream life =
-    if is_name key c.key && is_name group c.group then life_asked now (present_in stream) (claim c.consumer c.rule c.ids) life
-    else life
+    if is_name key c.key && is_name group c.group
+    then life_asked now (present_in stream) (claim c.consumer c.rule c.ids) life else life
 group_lived now (AutoClaim c) key group served stream life =
-    if is_name key c.key && is_name group c.group then life_asked now (present_in stream) (auto_claim c.consumer c.rule c.start c.limit) life
-    else life
+    if is_name key c.key && is_name group c.group
+    then life_asked now (present_in stream) (auto_claim c.consumer c.rule c.start c.limit) life else life
 group_lived now (DropKeys keys) key group served stream life = if has_name keys key then None else life
 group_lived now _ key group served stream life = life
 

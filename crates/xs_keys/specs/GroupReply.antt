@@ -1,13 +1,13 @@
 -- The replies to the commands of groups. (The pages of the commands, "RESP2 Reply".)
-use Rattle.std.specs.Prelude.{ℕ, ◌-◌, Bool, List, [], ◌∷◌, ◌++◌, map, length, decimal, Option, Some, None, if◌then◌else◌}
+use Rattle.std.specs.Prelude.{ℕ, ◌-◌, Bool, List, [], ◌∷◌, ◌++◌, map, length, decimal, Option, Some, None}
+use Rattle.std.specs.Prelude.{if◌then◌else◌}
 use Rattle.xs_bytes.specs.SortedMap.{get, has_key}
 use Rattle.xs_stream.specs.declared.id.Id.{Id}
 use Rattle.xs_stream.specs.declared.field.Field.{Field}
 use Rattle.xs_stream.specs.Kept.{ids_of}
-use Rattle.xs_resp.specs.declared.fault.Fault.TheVariants.{NoKey, NoGroup, Busy}
-use Rattle.xs_resp.specs.declared.reply.Reply.{Reply}
-use Rattle.xs_resp.specs.declared.reply.Reply.TheVariants.{Simple, Error, Int, Bulk, NullBulk, NullArray}
-use Rattle.xs_resp.specs.declared.reply.Simple.TheVariants.{Okay}
+use Rattle.xs_keys.specs.Ground.{NoKey, NoGroup, Busy, Reply, Simple, Error, Int, Bulk, NullBulk, NullArray, Okay}
+use Rattle.xs_keys.specs.Ground.{GroupCreateCommand, ReadGroupCommand, PendingRowsCommand, ClaimCommand}
+use Rattle.xs_keys.specs.Ground.{AutoClaimCommand, ReadOne, ReadFrom, New, After}
 use Rattle.xs_group.specs.declared.claim.Scan.{Scan}
 use Rattle.xs_group.specs.declared.report.OwnerCount.{OwnerCount}
 use Rattle.xs_group.specs.declared.report.GroupSummary.{GroupSummary}
@@ -17,17 +17,9 @@ use Rattle.xs_group.specs.Read.{delivers, shown}
 use Rattle.xs_group.specs.Claims.{claim_of, scan_of}
 use Rattle.xs_group.specs.Changes.{acked, owned_count}
 use Rattle.xs_group.specs.Report.{summary_of, pending_of}
-use Rattle.xs_command.specs.declared.command.GroupCreateCommand.{GroupCreateCommand}
-use Rattle.xs_command.specs.declared.command.ReadGroupCommand.{ReadGroupCommand}
-use Rattle.xs_command.specs.declared.command.PendingRowsCommand.{PendingRowsCommand}
-use Rattle.xs_command.specs.declared.command.ClaimCommand.{ClaimCommand}
-use Rattle.xs_command.specs.declared.command.AutoClaimCommand.{AutoClaimCommand}
-use Rattle.xs_command.specs.declared.reads.ReadOne.{ReadOne}
-use Rattle.xs_command.specs.declared.reads.ReadFrom.{ReadFrom}
-use Rattle.xs_command.specs.declared.reads.ReadFrom.TheVariants.{New, After}
 use Rattle.xs_keys.specs.Content.{Content, Key}
 use Rattle.xs_keys.specs.GroupLife.{read_ask}
-use Rattle.xs_keys.specs.After.{asked, serves}
+use Rattle.xs_keys.specs.After.{asked, serves, group_in, entries_in}
 use Rattle.xs_keys.specs.Shape.{array, id_reply, entries_reply, ids_reply}
 
 -- XGROUP CREATE: a missing key is an error unless it may be made, and so is a group that is there
@@ -40,23 +32,22 @@ abbrev pub destroyed_reply : List ℕ → Option Key → Reply
 destroyed_reply group None = Error NoKey
 destroyed_reply group (Some key) = Int (if has_key key.groups group then 1 else 0)
 
-abbrev pub join_count : List ℕ → Option State → Reply
-join_count consumer None = Error NoGroup
-join_count consumer (Some group) = Int (if has_name group.consumers consumer then 0 else 1)
+-- what a group says of a consumer; a missing key and a missing group are errors
+abbrev pub said_of_group : Option State → (State → Reply) → Reply
+said_of_group None said = Error NoGroup
+said_of_group (Some group) said = said group
+
+abbrev pub said_of : List ℕ → Option Key → (State → Reply) → Reply
+said_of group None said = Error NoKey
+said_of group (Some key) said = said_of_group (get key.groups group) said
 
 -- XGROUP CREATECONSUMER
 abbrev pub join_reply : List ℕ → List ℕ → Option Key → Reply
-join_reply consumer group None = Error NoKey
-join_reply consumer group (Some key) = join_count consumer (get key.groups group)
-
-abbrev pub leave_count : List ℕ → Option State → Reply
-leave_count consumer None = Error NoGroup
-leave_count consumer (Some group) = Int (owned_count consumer group)
+join_reply consumer group key = said_of group key (λ g. Int (if has_name g.consumers consumer then 0 else 1))
 
 -- XGROUP DELCONSUMER: how many entries it had pending
 abbrev pub leave_reply : List ℕ → List ℕ → Option Key → Reply
-leave_reply consumer group None = Error NoKey
-leave_reply consumer group (Some key) = leave_count consumer (get key.groups group)
+leave_reply consumer group key = said_of group key (λ g. Int (owned_count consumer g))
 
 -- XACK: how many of the ids were pending; none without a group
 abbrev pub ack_reply : List Id → Option State → ℕ
@@ -78,19 +69,17 @@ shown_by read key New entries group = new_part key entries (delivers read.limit 
 shown_by read key (After id) entries group =
     part key entries (shown read.consumer read.limit id group.rows.entries) ∷ []
 
-abbrev pub shown_in : ReadGroupCommand → ReadOne → Key → Option State → List Reply
-shown_in read one key None = []
-shown_in read one key (Some group) = shown_by read one.key one.from key.stream.entries group
-
-abbrev pub shown_at : ReadGroupCommand → ReadOne → Option Key → List Reply
-shown_at read one None = []
-shown_at read one (Some key) = shown_in read one key (get key.groups read.group)
+abbrev pub shown_in : ReadGroupCommand → ReadOne → List (Id × List Field) → Option State → List Reply
+shown_in read one entries None = []
+shown_in read one entries (Some group) = shown_by read one.key one.from entries group
 
 -- the streams of a read in the order written, each as the reads before it leave it
 abbrev pub parts : Content → ℕ → ReadGroupCommand → List ReadOne → List Reply
 parts content now read [] = []
 parts content now read (one ∷ more) =
-    shown_at read one (get content one.key) ++ parts (asked content now one.key read.group (read_ask read one.from)) now read more
+    let key = get content one.key in
+    shown_in read one (entries_in key) (group_in key read.group)
+    ++ parts (asked content now one.key read.group (read_ask read one.from)) now read more
 
 abbrev pub array_or_null : List Reply → Reply
 array_or_null [] = NullArray
@@ -98,7 +87,8 @@ array_or_null (r ∷ rs) = array (r ∷ rs)
 
 -- XREADGROUP
 abbrev pub read_reply : Content → ℕ → ReadGroupCommand → Reply
-read_reply content now read = if serves content read then array_or_null (parts content now read read.reads) else Error NoGroup
+read_reply content now read =
+    if serves content read then array_or_null (parts content now read read.reads) else Error NoGroup
 
 abbrev pub owner_reply : OwnerCount → Reply
 owner_reply owner = array (Bulk owner.consumer ∷ Bulk (decimal owner.count) ∷ [])
@@ -112,7 +102,8 @@ id_or_null (Some id) = id_reply id
 
 abbrev pub summary_reply : GroupSummary → Reply
 summary_reply summary =
-    array (Int summary.total ∷ id_or_null summary.least ∷ id_or_null summary.greatest ∷ owners_reply summary.owners ∷ [])
+    array
+    (Int summary.total ∷ id_or_null summary.least ∷ id_or_null summary.greatest ∷ owners_reply summary.owners ∷ [])
 
 -- XPENDING, the short form
 abbrev pub pending_reply : Option State → Reply
@@ -132,28 +123,18 @@ pending_rows_reply now p (Some group) =
 abbrev pub taken_reply : Bool → List (Id × List Field) → List Id → Reply
 taken_reply just_id entries ids = if just_id then ids_reply ids else entries_reply entries ids
 
-abbrev pub claim_in : ℕ → ClaimCommand → Key → Option State → Reply
-claim_in now c key None = Error NoGroup
-claim_in now c key (Some group) =
-    let entries = key.stream.entries in
-    taken_reply c.rule.just_id entries (claim_of group.rows.entries (ids_of entries) now c.rule c.ids).take
-
 -- XCLAIM
-abbrev pub claim_reply : ℕ → ClaimCommand → Option Key → Reply
-claim_reply now c None = Error NoGroup
-claim_reply now c (Some key) = claim_in now c key (get key.groups c.group)
+abbrev pub claim_reply : ℕ → ClaimCommand → List (Id × List Field) → Option State → Reply
+claim_reply now c entries None = Error NoGroup
+claim_reply now c entries (Some group) =
+    taken_reply c.rule.just_id entries (claim_of group.rows.entries (ids_of entries) now c.rule c.ids).take
 
 abbrev pub scan_shown : Bool → List (Id × List Field) → Scan → Reply
 scan_shown just_id entries scan =
     array (id_reply scan.cursor ∷ taken_reply just_id entries scan.claim.take ∷ ids_reply scan.claim.removed ∷ [])
 
-abbrev pub auto_claim_in : ℕ → AutoClaimCommand → Key → Option State → Reply
-auto_claim_in now c key None = Error NoGroup
-auto_claim_in now c key (Some group) =
-    let entries = key.stream.entries in
-    scan_shown c.rule.just_id entries (scan_of group.rows.entries (ids_of entries) now c.rule c.start c.limit)
-
 -- XAUTOCLAIM
-abbrev pub auto_claim_reply : ℕ → AutoClaimCommand → Option Key → Reply
-auto_claim_reply now c None = Error NoGroup
-auto_claim_reply now c (Some key) = auto_claim_in now c key (get key.groups c.group)
+abbrev pub auto_claim_reply : ℕ → AutoClaimCommand → List (Id × List Field) → Option State → Reply
+auto_claim_reply now c entries None = Error NoGroup
+auto_claim_reply now c entries (Some group) =
+    scan_shown c.rule.just_id entries (scan_of group.rows.entries (ids_of entries) now c.rule c.start c.limit)

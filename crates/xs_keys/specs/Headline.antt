@@ -1,9 +1,6 @@
 -- The headline, of a run of commands over a history.
 use Rattle.std.specs.Prelude.{◌≡◌, ℕ, true, false, List, [], ◌∷◌, ◌++◌, ◌⊎◌, Some}
-use Rattle.xs_resp.specs.declared.fault.Fault.TheVariants.{Memory, Unsupported}
-use Rattle.xs_resp.specs.declared.reply.Reply.{Reply}
-use Rattle.xs_resp.specs.declared.reply.Reply.TheVariants.{Error}
-use Rattle.xs_command.specs.declared.command.Command.{Command}
+use Rattle.xs_keys.specs.Ground.{Memory, Unsupported, Reply, Error, Command}
 use Rattle.xs_keys.specs.GroupLife.{GroupLife, group_life}
 use Rattle.xs_keys.specs.Content.{Content, IsContent}
 use Rattle.xs_keys.specs.Reply.{reply}
@@ -22,7 +19,8 @@ IsLeftOut command answer =
 abbrev pub Answers : List (ℕ × Command) → List (ℕ × Command) → List Reply → List (ℕ × Command) → Type 0
 Answers past [] [] last = last ≡ past
 Answers past (e ∷ events) (answer ∷ answers) last =
-    ((content : Content) × IsContent content past × (answer ≡ reply content e.0 e.1) × Answers (e ∷ past) events answers last)
+    ((content : Content) × IsContent content past × (answer ≡ reply content e.0 e.1)
+    × Answers (e ∷ past) events answers last)
     ⊎ (IsLeftOut e.1 answer × Answers past events answers last)
 Answers past [] (answer ∷ answers) last = ⊥
 Answers past (e ∷ events) [] last = ⊥
@@ -33,10 +31,11 @@ OfEachGroup history Holds =
     (later earlier : List (ℕ × Command)) → history ≡ later ++ earlier
     → (key group : List ℕ) (life : GroupLife) → group_life earlier key group ≡ Some life → Holds life
 
--- every reply is the model's; each group's new deliveries are, in id order and each once, the entries past its start
--- that were in the stream when their turn came; and each entry delivered without NOACK is pending with exactly one
--- consumer until it is settled
-pub record Headline (past events : List (ℕ × Command)) (answers : List Reply) (history : List (ℕ × Command)) : Type 0 where
+-- every reply is the model's; each group's new deliveries are, in id order and each once, the entries past
+-- its start that were in the stream when their turn came; and each entry delivered without NOACK is pending
+-- with exactly one consumer until it is settled
+pub record Headline
+    (past events : List (ℕ × Command)) (answers : List Reply) (history : List (ℕ × Command)) : Type 0 where
   pub replies : Answers past events answers history
   pub deliveries : OfEachGroup history DeliversNew
   pub owners : OfEachGroup history HasOneOwner
@@ -46,4 +45,5 @@ pub record Headline (past events : List (ℕ × Command)) (answers : List Reply)
 abbrev pub RunsOn : Content → List (ℕ × Command) → List Reply → Content → Type 0
 RunsOn old events answers new =
     (past : List (ℕ × Command)) → IsContent old past
-    → (history : List (ℕ × Command)) × Headline past events answers history × IsContent new history × IsLawfulContent new
+    → (history : List (ℕ × Command))
+    × Headline past events answers history × IsContent new history × IsLawfulContent new

@@ -37,7 +37,8 @@ rows_among row_of (x ∷ xs) = kept x (row_of x) (rows_among row_of xs)
 abbrev pub holding : Id → List Turn → Id → Option Row
 holding start [] x = None
 holding start (turn ∷ past) x =
-    turned turn (cursor start past) (rows_among (λ y. holding start past y) (delivered start past)) x (holding start past x)
+    let before = rows_among (λ y. holding start past y) (delivered start past) in
+    turned turn (cursor start past) before x (holding start past x)
 
 -- all rows, in the order of their ids
 abbrev pub rows : Id → List Turn → List (Id × Row)

@@ -1,3 +1,4 @@
+pub mod Ground
 pub mod Life
 pub mod Given
 pub mod Turn
@@ -15,6 +16,7 @@ pub mod Lawful
 pub mod Promise
 pub mod Apart
 pub mod Headline
+pub mod Adding
 pub mod Codes
 pub mod Played
 pub mod Examples

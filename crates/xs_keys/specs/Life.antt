@@ -7,8 +7,7 @@ use Rattle.xs_stream.specs.declared.add.AddId.{AddId}
 use Rattle.xs_stream.specs.declared.trim.Trim.{Trim}
 use Rattle.xs_stream.specs.declared.field.Field.{Field}
 use Rattle.xs_group.specs.State.{is_name}
-use Rattle.xs_command.specs.declared.command.Command.{Command}
-use Rattle.xs_command.specs.declared.command.Command.TheVariants.{Add, Delete, TrimTo, GroupCreate, DropKeys}
+use Rattle.xs_keys.specs.Ground.{Command, Add, Delete, TrimTo, GroupCreate, DropKeys}
 
 -- keys, groups and consumers have names
 abbrev pub Name : Type 0

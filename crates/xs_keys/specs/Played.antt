@@ -1,11 +1,7 @@
 -- Lines of words at their moments, and the replies to them, one after the other from the empty keyspace.
 use Rattle.std.specs.Prelude.{◌≡◌, ℕ, List, [], ◌∷◌, map, codes, decimal, Result, Ok, Err}
 use Rattle.xs_bytes.specs.SortedMap.{empty}
-use Rattle.xs_resp.specs.declared.fault.Fault.{Fault}
-use Rattle.xs_resp.specs.declared.reply.Reply.{Reply}
-use Rattle.xs_resp.specs.declared.reply.Reply.TheVariants.{Simple, Error, Int, Bulk, NullArray}
-use Rattle.xs_resp.specs.declared.reply.Simple.TheVariants.{Okay}
-use Rattle.xs_command.specs.declared.command.Command.{Command}
+use Rattle.xs_keys.specs.Ground.{Fault, Reply, Simple, Error, Int, Bulk, NullArray, Okay, Command}
 use Rattle.xs_command.specs.Read.{reads}
 use Rattle.xs_command.specs.Examples.{line}
 use Rattle.xs_keys.specs.Content.{Content}

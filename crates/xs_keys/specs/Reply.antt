@@ -7,20 +7,16 @@ use Rattle.xs_stream.specs.declared.add.AddError.TheVariants.{Small}
 use Rattle.xs_stream.specs.declared.add.AddError.TheVariants as add_error
 use Rattle.xs_stream.specs.Assigned.{assigned}
 use Rattle.xs_stream.specs.Kept.{ids_within, limited}
-use Rattle.xs_resp.specs.declared.fault.Fault.{Fault}
-use Rattle.xs_resp.specs.declared.fault.Fault.TheVariants.{SmallId, Exhausted, Memory}
-use Rattle.xs_resp.specs.declared.reply.Reply.{Reply}
-use Rattle.xs_resp.specs.declared.reply.Reply.TheVariants.{Simple, Error, Int, Bulk, NullBulk}
-use Rattle.xs_resp.specs.declared.reply.Simple.TheVariants.{Okay, Pong}
-use Rattle.xs_command.specs.declared.command.Command.{Command}
-use Rattle.xs_command.specs.declared.command.Command.TheVariants.{Ping, Quit, Add, Delete, TrimTo, Len, Scan, GroupCreate, GroupDestroy, ConsumerCreate, ConsumerDelete, ReadGroup, Ack, Pending, PendingRows, Claim, AutoClaim, DropKeys}
-use Rattle.xs_command.specs.declared.command.AddCommand.{AddCommand}
-use Rattle.xs_command.specs.declared.command.ScanCommand.{ScanCommand}
+use Rattle.xs_keys.specs.Ground.{Fault, SmallId, Exhausted, Memory, Reply, Simple, Error, Int, Bulk, NullBulk, Okay}
+use Rattle.xs_keys.specs.Ground.{Pong, Command, Ping, Quit, Add, Delete, TrimTo, Len, Scan, GroupCreate, GroupDestroy}
+use Rattle.xs_keys.specs.Ground.{ConsumerCreate, ConsumerDelete, ReadGroup, Ack, Pending, PendingRows, Claim, AutoClaim}
+use Rattle.xs_keys.specs.Ground.{DropKeys, AddCommand, ScanCommand}
 use Rattle.xs_keys.specs.Life.{Change, deleted, trimmed_to}
 use Rattle.xs_keys.specs.Content.{Content, Key}
-use Rattle.xs_keys.specs.After.{new_stream, stream_after, group_in}
+use Rattle.xs_keys.specs.After.{new_stream, stream_after, group_in, entries_in}
 use Rattle.xs_keys.specs.Shape.{array, id_reply, entries_reply}
-use Rattle.xs_keys.specs.GroupReply.{created_reply, destroyed_reply, join_reply, leave_reply, read_reply, ack_reply, pending_reply, pending_rows_reply, claim_reply, auto_claim_reply}
+use Rattle.xs_keys.specs.GroupReply.{created_reply, destroyed_reply, join_reply, leave_reply, read_reply, ack_reply}
+use Rattle.xs_keys.specs.GroupReply.{pending_reply, pending_rows_reply, claim_reply, auto_claim_reply}
 
 abbrev pub ping_reply : Option (List ℕ) → Reply
 ping_reply None = Simple Pong
@@ -80,5 +76,7 @@ reply content now (ReadGroup read) = read_reply content now read
 reply content now (Ack name group ids) = Int (ack_reply ids (group_in (get content name) group))
 reply content now (Pending name group) = pending_reply (group_in (get content name) group)
 reply content now (PendingRows p) = pending_rows_reply now p (group_in (get content p.key) p.group)
-reply content now (Claim c) = claim_reply now c (get content c.key)
-reply content now (AutoClaim c) = auto_claim_reply now c (get content c.key)
+reply content now (Claim c) =
+    let key = get content c.key in claim_reply now c (entries_in key) (group_in key c.group)
+reply content now (AutoClaim c) =
+    let key = get content c.key in auto_claim_reply now c (entries_in key) (group_in key c.group)

@@ -5,9 +5,7 @@ use Rattle.xs_stream.specs.declared.id.Id.{Id}
 use Rattle.xs_stream.specs.declared.field.Field.{Field}
 use Rattle.xs_stream.specs.Id.{printed}
 use Rattle.xs_stream.specs.Kept.{fields_at}
-use Rattle.xs_resp.specs.declared.reply.Reply.{Reply}
-use Rattle.xs_resp.specs.declared.reply.Reply.TheVariants.{Bulk, Array, NullArray}
-use Rattle.xs_resp.specs.ReplyItems.{items_of}
+use Rattle.xs_keys.specs.Ground.{Reply, Bulk, Array, NullArray, items_of}
 
 -- an array of these replies
 abbrev pub array : List Reply → Reply

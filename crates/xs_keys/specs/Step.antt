@@ -5,12 +5,9 @@ use Rattle.xs_stream.specs.declared.add.AddError.{AddError}
 use Rattle.xs_stream.specs.Id.{printed}
 use Rattle.xs_stream.specs.Assigned.{assigned}
 use Rattle.xs_stream.specs.Kept.{Kept}
-use Rattle.xs_resp.specs.declared.fault.Fault.TheVariants.{Memory, Unsupported}
-use Rattle.xs_resp.specs.declared.reply.Reply.{Reply}
-use Rattle.xs_resp.specs.declared.reply.Reply.TheVariants.{Error}
-use Rattle.xs_command.specs.declared.command.Command.{Command}
-use Rattle.xs_command.specs.declared.command.Command.TheVariants.{Ping, Quit, Add, Delete, TrimTo, Len, Scan, GroupCreate, ConsumerCreate, ReadGroup, Pending, PendingRows, Claim, AutoClaim, DropKeys}
-use Rattle.xs_command.specs.declared.command.AddCommand.{AddCommand}
+use Rattle.xs_keys.specs.Ground.{Memory, Unsupported, Reply, Error, Command, Ping, Quit, Add, Delete, TrimTo, Len, Scan}
+use Rattle.xs_keys.specs.Ground.{GroupCreate, ConsumerCreate, ReadGroup, Pending, PendingRows, Claim, AutoClaim}
+use Rattle.xs_keys.specs.Ground.{DropKeys, AddCommand}
 use Rattle.xs_keys.specs.Life.{added}
 use Rattle.xs_keys.specs.Content.{Content}
 use Rattle.xs_keys.specs.After.{after, stream_after}
@@ -66,15 +63,6 @@ pub record Unserved (old : Content) (command : Command) (answer : Reply) (new : 
   pub content_is : new ≡ old
 
 abbrev pub Step : Content → ℕ → Command → Reply → Content → Type 0
-Step old now command answer new = Applied old now command answer new ⊎ (OutOfMemory old now command answer new ⊎ Unserved old command answer new)
-
--- an addition to a stream is the model's, or memory ran out where the model refuses nothing, and nothing has changed
-abbrev pub Adds : Kept → ℕ → AddCommand → Reply → Kept → Type 0
-Adds old now add answer new =
-    ((answer ≡ assigned_reply (assigned now old.top add.id)) × (new ≡ stream_after (added now add.id add.fields add.trim) old))
-    ⊎ ((is_ok (assigned now old.top add.id) ≡ true) × (answer ≡ Error Memory) × (new ≡ old))
-
--- the printed id, where one is assigned
-abbrev pub text_of : Result Id AddError → Option (List ℕ)
-text_of (Ok id) = Some (printed id)
-text_of (Err refusal) = None
+Step old now command answer new =
+    Applied old now command answer new
+    ⊎ (OutOfMemory old now command answer new ⊎ Unserved old command answer new)

@@ -6,10 +6,11 @@ ghost use Rattle.xs_stream.specs.Assigned.{assigned};
 ghost use Rattle.xs_command.specs.WellFormed.{IsAddId};
 ghost use Rattle.xs_keys.specs.Life.{added};
 ghost use Rattle.xs_keys.specs.After.{stream_after};
-ghost use Rattle.xs_keys.specs.Step.{text_of};
+ghost use Rattle.xs_keys.specs.Adding.{text_of};
 ghost use Rattle.xs_keys.specs.Codes.{content_of};
 ghost use Rattle.xs_keys.specs.Reply.{fault_of};
-ghost use Rattle.xs_keys.specs.Step.{Step, Adds};
+ghost use Rattle.xs_keys.specs.Step.{Step};
+ghost use Rattle.xs_keys.specs.Adding.{Adds};
 
 use crate::changing::Keys;
 use crate::showing::id_text;

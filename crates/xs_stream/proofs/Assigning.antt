@@ -1,14 +1,12 @@
 -- An assigned id is above the top.
-use Rattle.std.proofs.Common.{◌≡◌, ℕ, ◌+◌, ◌<◌, Bool, true, false, cond, leb, ltb, eqb, Ok, Err, Result, Ordering, sym, ap, ◌∙◌, refl, arith, subst}
-use Rattle.std.proofs.lemmas.Bool.{false≢true}
+use Rattle.std.proofs.Common.{◌≡◌, ℕ, ◌+◌, ◌<◌, Bool, true, false, cond, ltb, eqb, Ok, Err, Result, refl, arith, subst}
 use Rattle.std.proofs.lemmas.Bool.Decides.{nat_tests}
-use Rattle.std.specs.Ordering.{nat_cmp, is_lt, ordering_then}
 use Rattle.xs_stream.specs.declared.id.Id.{Id}
 use Rattle.xs_stream.specs.declared.add.AddId.{AddId}
 use Rattle.xs_stream.specs.declared.add.AddId.TheVariants.{Auto, AutoSeq, Exact}
 use Rattle.xs_stream.specs.declared.add.AddError.{AddError}
 use Rattle.xs_stream.specs.declared.add.AddError.TheVariants.{Small, Exhausted}
-use Rattle.xs_stream.specs.Id.{id_cmp, is_below, is_same, last, greatest_id}
+use Rattle.xs_stream.specs.Id.{is_below, is_same, last, greatest_id}
 use Rattle.xs_stream.specs.Assigned.{assigned, assigned_above, successor}
 
 -- later milliseconds are above

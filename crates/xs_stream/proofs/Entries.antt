@@ -1,5 +1,5 @@
 -- Lists of entries in the order of their ids: what an addition, a deletion and a trim do to them.
-use Rattle.std.proofs.Common.{◌≡◌, ℕ, ◌+◌, ◌-◌, ◌<◌, ◌≤◌, suc, Bool, true, false, not, ◌&&◌, ◌||◌, cond, List, [], ◌∷◌, ◌++◌, map, length, filter, drop, take, reverse, ◌⊎◌, inl, inr, zero, leb, Option, Some, None, IsSome, IfSome, IfNone, ◌↔◌, Ordering, sym, ap, ◌∙◌, refl, arith, subst}
+use Rattle.std.proofs.Common.{◌≡◌, ℕ, ◌-◌, ◌<◌, ◌≤◌, suc, Bool, true, false, not, ◌&&◌, ◌||◌, cond, List, [], ◌∷◌, ◌++◌, length, filter, drop, take, reverse, ◌⊎◌, inl, inr, zero, leb, Option, Some, None, IsSome, IfSome, IfNone, ◌↔◌, sym, ap, ◌∙◌, refl, arith, subst}
 use Rattle.std.proofs.lemmas.Bool.{false≢true}
 use Rattle.std.proofs.lemmas.Bool.Decides.{nat_tests}
 use Rattle.std.proofs.lemmas.List.Folds.{list_any-append}
@@ -7,20 +7,18 @@ use Rattle.std.proofs.Math.Bool.{or-false}
 use Rattle.std.proofs.Math.Seq.{drop-nil, take-append_seam}
 use Rattle.std.proofs.lemmas.List.{take_all, append-nil, reverse-append}
 use Rattle.std.specs.Map.{remove_entry}
-use Rattle.std.specs.BTreeMap.{insert_entry, is_at}
+use Rattle.std.specs.BTreeMap.{insert_entry}
 use Rattle.std.specs.BTreeMap.Range.{range_contains, entries_between}
 use Rattle.std.specs.declared.ops.Bound.TheVariants.{Included, Excluded, Unbounded}
 use Rattle.xs_stream.specs.declared.range.Range.{Range}
 use Rattle.xs_stream.specs.Range.{is_within}
-use Rattle.std.specs.declared.cmp.Ordering.TheVariants.{Less, Equal, Greater}
 use Rattle.xs_stream.specs.declared.id.Id.{Id}
 use Rattle.xs_stream.specs.declared.field.Field.{Field}
-use Rattle.xs_stream.specs.declared.trim.Trim.{Trim}
 use Rattle.xs_stream.specs.declared.trim.Trim.TheVariants.{MaxLen, MinId}
 use Rattle.xs_stream.specs.Id.{id_cmp, is_below, is_same, has_id}
-use Rattle.xs_stream.specs.Trim.{count_above, is_trimmed}
+use Rattle.xs_stream.specs.Trim.{count_above}
 use Rattle.xs_stream.specs.Kept.{Kept, IsLawful, ids_of, AllIds, IsId, AllAbove, Ascends, AllUpTo, without, trimmed, limited}
-use Rattle.xs_stream.proofs.Order.{ids_total, is_same-eq, is_same-symm, below-not_same, below-not_back, below-irrefl, up_to-below, above-greater, not_below-above, le-not_below, not_le-below, below-not_below}
+use Rattle.xs_stream.proofs.Order.{is_same-eq, is_same-symm, below-not_same, below-not_back, below-irrefl, up_to-below, above-greater, not_below-above, le-not_below, not_le-below, below-not_below}
 
 -- ---- an addition
 

@@ -9,7 +9,8 @@ use Rattle.xs_stream.specs.Id.{is_below, is_same, last, greatest_id}
 
 -- the successor of an id that isn't the greatest
 abbrev pub successor : Id → Id
-successor id = if nat_lt id.seq last then record { ms = id.ms; seq = id.seq + 1 } else record { ms = id.ms + 1; seq = 0 }
+successor id =
+    if nat_lt id.seq last then record { ms = id.ms; seq = id.seq + 1 } else record { ms = id.ms + 1; seq = 0 }
 
 -- what a stream with room gives, by its top
 abbrev pub assigned_above : ℕ → Id → AddId → Result Id AddError

@@ -1,5 +1,6 @@
 -- What a stream keeps, and what trims, deletions and ranges leave and show of it.
-use Rattle.std.specs.Prelude.{◌≡◌, ℕ, ◌<◌, ◌^◌, Bool, true, false, not, List, [], ◌∷◌, map, filter, reverse, take, Option, Some, None, if◌then◌else◌}
+use Rattle.std.specs.Prelude.{◌≡◌, ℕ, ◌<◌, ◌^◌, Bool, true, false, not, List, [], ◌∷◌, map, filter, reverse, take}
+use Rattle.std.specs.Prelude.{Option, Some, None, if◌then◌else◌}
 use Rattle.std.specs.Map.{lookup}
 use Rattle.xs_stream.specs.declared.id.Id.{Id}
 use Rattle.xs_stream.specs.declared.field.Field.{Field}
@@ -69,4 +70,6 @@ limited (Some n) ids = take n ids
 
 -- the ids within a range, in their order or from the greatest down
 abbrev pub ids_within : Range → Bool → List (Id × List Field) → List Id
-ids_within range reversed entries = let ids = filter (is_within range) (ids_of entries) in if reversed then reverse ids else ids
+ids_within range reversed entries =
+    let ids = filter (is_within range) (ids_of entries) in
+    if reversed then reverse ids else ids

@@ -1,6 +1,7 @@
 //! Entry ids (Redis Streams, "Entry IDs"): milliseconds and a sequence, in this order.
 ghost use Rattle.std.specs.Prelude.{◌≡◌, ◌<◌, ◌==◌, ◌++◌, IfSome, OnOk, OnErr, length, take, vec_len, position};
-ghost use Rattle.xs_stream.specs.Id.{next_id, previous_id, id_number, parse_id, printed};
+ghost use Rattle.xs_stream.specs.Id.{printed};
+ghost use Rattle.xs_stream.specs.IdText.{next_id, previous_id, id_number, parse_id};
 
 use std::alloc::AllocError;
 use std::marker::Model;

@@ -1,6 +1,6 @@
 //! Ranges of ids (Redis, XRANGE).
 ghost use Rattle.std.specs.Prelude.{◌≡◌};
-ghost use Rattle.xs_stream.specs.Range.{low_end, high_end, range_between};
+ghost use Rattle.xs_stream.specs.RangeText.{low_end, high_end, range_between};
 
 use crate::id::Id;
 

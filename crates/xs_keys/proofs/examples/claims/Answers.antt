@@ -30,4 +30,5 @@ returns c = record {
   claims_by_id = refl;
   claims_by_a_scan = refl;
   time_and_count_of_a_claim = refl;
+  a_scan_begins_at_its_start = refl;
 }

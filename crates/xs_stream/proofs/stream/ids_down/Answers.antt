@@ -1,4 +1,4 @@
-use Rattle.std.proofs.Common.{◌≡◌, [], ◌∷◌, ap, sym, ◌∙◌, reverse, arith, append_assoc, inl, inr, length, rules}
+use Rattle.std.proofs.Common.{ap, ◌∙◌, reverse, arith, append_assoc, inl, inr}
 use Rattle.xs_stream.specs.Kept.{ids_of}
 use Rattle.xs_stream.proofs.Entries.{ids_of-within, reverse-ids, taken}
 use Rattle.xs_stream.proofs.stream.ids_down.Goals as goal

@@ -1,5 +1,4 @@
-use Rattle.std.proofs.Common.{◌≡◌, ◌++◌, ◌∷◌, [], Ok, true, rules, arith, refl}
-use Rattle.xs_stream.specs.Id.{is_below}
+use Rattle.std.proofs.Common.{◌≡◌, Ok, rules, arith, refl}
 use Rattle.xs_stream.specs.Kept.{IsId}
 use Rattle.xs_stream.specs.Assigned.{assigned}
 use Rattle.xs_stream.proofs.Assigning.{assigned-above}

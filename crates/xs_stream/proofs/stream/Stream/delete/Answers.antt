@@ -1,4 +1,4 @@
-use Rattle.std.proofs.Common.{◌≡◌, ◌≤◌, length, not, ap, arith}
+use Rattle.std.proofs.Common.{length, not, ap, arith}
 use Rattle.xs_stream.specs.Id.{has_id}
 use Rattle.xs_stream.proofs.Entries.{length-filter-le, lawful-filter}
 use Rattle.xs_stream.proofs.stream.Stream.delete.Goals as goal

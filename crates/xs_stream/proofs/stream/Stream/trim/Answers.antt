@@ -1,4 +1,4 @@
-use Rattle.std.proofs.Common.{◌≡◌, ◌+◌, ◌≤◌, ap, sym, ◌∙◌, refl, arith, drop, length, not}
+use Rattle.std.proofs.Common.{◌≡◌, ◌≤◌, ap, sym, ◌∙◌, refl, arith, length, not}
 use Rattle.std.proofs.lemmas.List.{length-drop}
 use Rattle.xs_stream.specs.Id.{is_below}
 use Rattle.xs_stream.specs.Trim.{is_trimmed}

@@ -1,0 +1,22 @@
+-- What the contracts of an addition say within the code.
+use Rattle.std.specs.Prelude.{◌≡◌, ℕ, true, List, ◌⊎◌, Option, Some, None, Result, Ok, Err, is_ok}
+use Rattle.xs_stream.specs.declared.id.Id.{Id}
+use Rattle.xs_stream.specs.declared.add.AddError.{AddError}
+use Rattle.xs_stream.specs.Id.{printed}
+use Rattle.xs_stream.specs.Assigned.{assigned}
+use Rattle.xs_stream.specs.Kept.{Kept}
+use Rattle.xs_keys.specs.Ground.{Reply, Error, Memory, AddCommand}
+use Rattle.xs_keys.specs.Life.{added}
+use Rattle.xs_keys.specs.After.{stream_after}
+use Rattle.xs_keys.specs.Reply.{assigned_reply}
+
+-- an addition to a stream is the model's, or memory ran out where the model refuses nothing, and nothing has changed
+abbrev pub Adds : Kept → ℕ → AddCommand → Reply → Kept → Type 0
+Adds old now add answer new =
+    ((answer ≡ assigned_reply (assigned now old.top add.id)) × (new ≡ stream_after (added now add.id add.fields add.trim) old))
+    ⊎ ((is_ok (assigned now old.top add.id) ≡ true) × (answer ≡ Error Memory) × (new ≡ old))
+
+-- the printed id, where one is assigned
+abbrev pub text_of : Result Id AddError → Option (List ℕ)
+text_of (Ok id) = Some (printed id)
+text_of (Err refusal) = None
