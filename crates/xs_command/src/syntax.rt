@@ -22,7 +22,7 @@ impl<'a> Words<'a> {
         }
     }
 
-    /// This id, and the ids that the words begin with.
+    /// This id, and the ids that the words begin with. The room for words that are none is given back.
     fn ids_behind(self, alloc: Global, first: Id) -> Result<(Ids, Words<'a>), AllocError>
         ensures { IfOk result (λ found. found ≡ (first ∷ (leading_ids self.entry).0, (leading_ids self.entry).1)) }
     {
@@ -31,6 +31,7 @@ impl<'a> Words<'a> {
         let mut left = self;
         for _turn in 0..left.len() {
             let Ok((id, behind)) = left.id() else {
+                items.shrink_to_fit();
                 return Ok((Ids::new(items), left));
             };
             items.push(id)?;

@@ -6,7 +6,7 @@ use Rattle.xs_command.proofs.words.Words.ids_behind.Goals as goal
 pub returns-in_default : goal.returns-in_default
 returns-in_default c =
     let none : id c.loop-turn.left ≡ Err c.in_default.field-0 = cc in
-    rw c.new.ensures (sym (stops_at c.loop-turn.items.items c.loop-turn.left c.in_default.field-0 none) ∙ c.loop-turn.invariant.0)
+    rw (c.new.ensures, c.shrink_to_fit.ensures.items) (sym (stops_at c.loop-turn.items.items c.loop-turn.left c.in_default.field-0 none) ∙ c.loop-turn.invariant.0)
 
 pub loop-turn-preserved : goal.loop-turn-preserved
 loop-turn-preserved c =
