@@ -1,11 +1,11 @@
-ghost use Rattle.std.specs.Prelude.{IfOk};
+ghost use Rattle.std.specs.Prelude.{IfOk, All};
 ghost use Rattle.xs_command.specs.WellFormed.{IsWellFormed};
 
 use super::*;
 use std::alloc::{AllocError, Global};
 use std::test::Fail;
-use xs_command::{Command, read_command};
-use xs_resp::{Fault, Reply, encode};
+use xs_command::{Command, Refusal, read_command};
+use xs_resp::{Fault, Reply, Simple, encode};
 use xs_stream::Moment;
 
 /// The events of a day, and the reply that the pages of the commands name for each.
@@ -35,7 +35,8 @@ const DAY: [(&str, &str); 14] = [
     ("XLEN s", ":0\r\n"),
 ];
 
-fn command(alloc: Global, line: &str) -> Result<Command, Fail>
+/// The command of a line that has words.
+fn read(alloc: Global, line: &str) -> Result<Command, Refusal>
     ensures { IfOk result (λ command. IsWellFormed command) }
 {
     let mut words = Vec::new(alloc);
@@ -44,23 +45,38 @@ fn command(alloc: Global, line: &str) -> Result<Command, Fail>
     }
     let words = words.as_slice();
     if words.is_empty() {
-        return Err(Fail::from("no words"));
+        return Err(Refusal::Memory);
     }
-    match read_command(alloc, words) {
+    read_command(alloc, words)
+}
+
+/// The same, read once more where memory was refused.
+fn command(alloc: Global, line: &str) -> Result<Command, Refusal>
+    ensures { IfOk result (λ command. IsWellFormed command) }
+{
+    match read(alloc, line) {
         Ok(command) => Ok(command),
-        Err(_) => Err(Fail::from("no command")),
+        Err(_) => read(alloc, line),
     }
 }
 
-fn text_of(alloc: Global, reply: &Reply) -> Result<Vec<u8>, AllocError> {
+fn new_text(alloc: Global, reply: &Reply) -> Result<Vec<u8>, AllocError> {
     let mut out = Vec::new(alloc);
     encode(reply, &mut out)?;
     Ok(out)
 }
 
-// Run with a refused allocation, a command that is answered OOM has changed nothing and can be given again.
+/// The text of a reply, made once more where memory was refused.
+fn text_of(alloc: Global, reply: &Reply) -> Result<Vec<u8>, AllocError> {
+    match new_text(alloc, reply) {
+        Ok(text) => Ok(text),
+        Err(AllocError) => new_text(alloc, reply),
+    }
+}
+
+// With any one allocation refused, a command that is answered OOM has changed nothing and can be given again.
 #[test]
-fn answers_with_memory(rt: HostRuntime) -> Result<(), Fail> {
+fn a_refused_command_changes_nothing(rt: HostRuntime) -> Result<(), Fail> {
     let alloc = rt.alloc();
     let now = Moment::new(1000).ok_or("a moment")?;
     let mut keyspace = Keyspace::new(alloc);
@@ -79,20 +95,118 @@ fn answers_with_memory(rt: HostRuntime) -> Result<(), Fail> {
     Ok(())
 }
 
+/// Runs events, once more where memory was refused: then nothing was applied.
+fn run_again(
+    keyspace: &mut Keyspace,
+    events: &[(Moment, Command)],
+) -> Result<Vec<Reply>, AllocError>
+    requires { All (λ event. IsWellFormed event.1) events.now }
+{
+    match keyspace.run(events) {
+        Ok(replies) => Ok(replies),
+        Err(AllocError) => keyspace.run(events),
+    }
+}
+
+fn new_texts(alloc: Global, replies: &[Reply]) -> Result<Vec<u8>, AllocError> {
+    let mut out = Vec::new(alloc);
+    for reply in replies {
+        encode(reply, &mut out)?;
+    }
+    Ok(out)
+}
+
+/// The texts of replies, made once more where memory was refused.
+fn texts_of(alloc: Global, replies: &[Reply]) -> Result<Vec<u8>, AllocError> {
+    match new_texts(alloc, replies) {
+        Ok(texts) => Ok(texts),
+        Err(AllocError) => new_texts(alloc, replies),
+    }
+}
+
+/// Runs an addition and the deletion of its stream, and gives the replies as one text.
+fn ran(alloc: Global, keyspace: &mut Keyspace, now: Moment) -> Result<Vec<u8>, Refusal> {
+    let events = [
+        (now, command(alloc, "XADD s * f v")?),
+        (now, command(alloc, "DEL s")?),
+    ];
+    let replies = run_again(keyspace, events.as_slice())?;
+    Ok(texts_of(alloc, replies.as_slice())?)
+}
+
+/// The replies where no memory was refused, and where it was to the first command.
+const ANSWERED: &str = "$6\r\n1000-0\r\n:1\r\n";
+
+const REFUSED: &str = "-OOM out of memory\r\n:0\r\n";
+
+// With any one allocation refused, a run that finds no memory has applied nothing. Within a run that goes on at
+// most one command is answered OOM, and changes nothing. The second run finds an empty keyspace.
 #[test]
-fn runs_with_memory(rt: HostRuntime) -> Result<(), Fail> {
+fn a_refused_run_applies_nothing(rt: HostRuntime) -> Result<(), Fail> {
     let alloc = rt.alloc();
     let now = Moment::new(1000).ok_or("a moment")?;
     let mut keyspace = Keyspace::new(alloc);
-    let events = [
-        (now, command(alloc, "XADD s * f v")?),
-        (now, command(alloc, "XLEN s")?),
-    ];
-    let replies = keyspace.run(events.as_slice())?;
-    let texts = ["$6\r\n1000-0\r\n", ":1\r\n"];
-    assert_eq!(rt; replies.len(), 2);
-    for (reply, text) in replies.iter().zip(texts) {
-        assert_eq!(rt; text_of(alloc, reply)?.as_slice(), text.as_bytes());
+    let first = ran(alloc, &mut keyspace, now)?;
+    let second = ran(alloc, &mut keyspace, now)?;
+    let is_first = first.as_slice() == ANSWERED.as_bytes();
+    let is_second = second.as_slice() == ANSWERED.as_bytes();
+    assert!(rt; is_first || first.as_slice() == REFUSED.as_bytes());
+    assert!(rt; is_second || second.as_slice() == REFUSED.as_bytes());
+    assert!(rt; is_first || is_second);
+    Ok(())
+}
+
+/// The reply to a line, where there is memory to read it.
+fn answer(alloc: Global, keyspace: &mut Keyspace, now: Moment, line: &str) -> Option<Reply> {
+    match read(alloc, line) {
+        Ok(command) => Some(keyspace.apply(now, &command)),
+        Err(_) => None,
     }
+}
+
+/// Commands that take no memory, and the number that each answers in turn on a stream of the entries 1-0 to 3-0.
+const WITHOUT_MEMORY: [(&str, u64); 8] = [
+    ("XLEN s", 3),
+    ("XDEL s 1-0 1-0 9-9", 1),
+    ("XTRIM s MAXLEN 1", 1),
+    ("XTRIM s MINID 2", 0),
+    ("XLEN s", 1),
+    ("XDEL t 1-0", 0),
+    ("DEL s s t", 1),
+    ("XLEN s", 0),
+];
+
+// With all allocations refused from any one on, each command that could be read answers as always.
+#[test]
+fn some_commands_take_no_memory(rt: HostRuntime) -> Result<(), Fail> {
+    let alloc = rt.alloc();
+    let now = Moment::new(1000).ok_or("a moment")?;
+    let mut keyspace = Keyspace::new(alloc);
+    for line in ["XADD s 1-0 f v", "XADD s 2-0 f v", "XADD s 3-0 f v"] {
+        let added = answer(alloc, &mut keyspace, now, line);
+        if !matches!(added, Some(Reply::Bulk(_))) {
+            return Ok(());
+        }
+    }
+    for (line, number) in WITHOUT_MEMORY {
+        let reply = answer(alloc, &mut keyspace, now, line);
+        assert!(rt;
+            reply.is_none() || matches!(reply, Some(Reply::Int(n)) if n == number),
+            "{line}"
+        );
+    }
+    Ok(())
+}
+
+// The same of the two that answer a text of their own.
+#[test]
+fn greetings_take_no_memory(rt: HostRuntime) -> Result<(), Fail> {
+    let alloc = rt.alloc();
+    let now = Moment::new(1000).ok_or("a moment")?;
+    let mut keyspace = Keyspace::new(alloc);
+    let reply = answer(alloc, &mut keyspace, now, "PING");
+    assert!(rt; matches!(reply, Some(Reply::Simple(Simple::Pong)) | None));
+    let reply = answer(alloc, &mut keyspace, now, "QUIT");
+    assert!(rt; matches!(reply, Some(Reply::Simple(Simple::Okay)) | None));
     Ok(())
 }

@@ -1,0 +1,90 @@
+#!/usr/bin/env python3
+"""Refuses the allocations of tests, one after the other.
+
+    refusals.py [CRATE ..]      the tests of these crates, or of all
+
+It builds the tests of a crate by `rt test`, and then runs its test program with refuse.c loaded into it (`cc` makes a
+library of that file). A test whose name says `a_refused` or `a_refusal` runs with its first allocation refused, then
+with its second, and so on, until a run asks for fewer; one whose name says `take_no_memory` or `takes_no_memory` with
+all refused from the first on, then from the second on, and so on. Each run has to pass.
+The last line is 'N passed, M failed', by runs; the status is 1 where M > 0 or nothing ran.
+"""
+import os
+import subprocess
+import sys
+import tempfile
+
+HERE = os.path.dirname(os.path.abspath(__file__))
+CRATES = os.path.join(os.path.dirname(HERE), "crates")
+MANY = 1_000_000_000
+
+
+def how_many(test):
+    """How many allocations are refused at once, or None where the test isn't for this."""
+    name = test.rsplit("::", 1)[-1]
+    if name.startswith(("a_refused", "a_refusal")):
+        return 1
+    if name.endswith(("take_no_memory", "takes_no_memory")):
+        return MANY
+    return None
+
+
+def run(program, test, library, told, first, count):
+    """Whether the test passes, and how many allocations it asked for."""
+    asked = {"LD_PRELOAD": library, "REFUSE_TOLD": told, "REFUSE_FROM": str(first), "REFUSE_TO": str(first + count - 1)}
+    if os.path.exists(told):
+        os.remove(told)
+    done = subprocess.run([program, test], env={**os.environ, **asked}, capture_output=True, timeout=60)
+    if done.returncode != 0 or not os.path.exists(told):
+        return False, 0
+    return True, int(open(told, encoding="ascii").read())
+
+
+def step(program, test, library, told):
+    """How many runs passed, and the numbers of the allocations at which one failed."""
+    count, passed, failed = how_many(test), 0, []
+    for first in range(1, MANY):
+        passes, asked = run(program, test, library, told, first, count)
+        if passes:
+            passed += 1
+        else:
+            failed.append(first)
+        if (passes and asked < first) or len(failed) > 20:
+            return passed, failed
+    return passed, failed
+
+
+def refuse(crate, library, told):
+    folder = os.path.join(CRATES, crate)
+    if subprocess.run(["rt", "test"], cwd=folder, stdout=subprocess.DEVNULL).returncode != 0:
+        print(f"{crate}: its tests don't pass with memory")
+        return 0, 1
+    program = os.path.join(folder, "out", f"{crate}_tests")
+    listed = subprocess.run([program, "--list"], capture_output=True, text=True, check=True).stdout.splitlines()
+    tests = [line.removesuffix(": test") for line in listed if line.endswith(": test")]
+    passed = failed = 0
+    for test in filter(how_many, tests):
+        good, bad = step(program, test, library, told)
+        passed, failed = passed + good, failed + len(bad)
+        print(f"{crate} {test}: {good} passed" + (f", failed where it refused {bad}" if bad else ""), flush=True)
+    return passed, failed
+
+
+def has_tests(crate):
+    source = os.path.join(CRATES, crate, "src")
+    return any("tests.rt" in names for _, _, names in os.walk(source))
+
+
+def main(asked):
+    crates = asked or sorted(filter(has_tests, os.listdir(CRATES)))
+    with tempfile.TemporaryDirectory() as folder:
+        library, told = os.path.join(folder, "refuse.so"), os.path.join(folder, "told")
+        subprocess.run(["cc", "-O2", "-shared", "-fPIC", "-o", library, os.path.join(HERE, "refuse.c")], check=True)
+        counts = [refuse(crate, library, told) for crate in crates]
+    passed, failed = (sum(count) for count in zip(*counts))
+    print(f"{passed} passed, {failed} failed")
+    return 1 if failed or not passed else 0
+
+
+if __name__ == "__main__":
+    sys.exit(main(sys.argv[1:]))
