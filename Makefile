@@ -1,4 +1,4 @@
-.PHONY: run test compare
+.PHONY: run test refusals compare
 
 PROGRAM = crates/xs_server/out/xs_server
 
@@ -12,6 +12,10 @@ test:
 	rt ci
 	test -x $(PROGRAM) || (cd crates/xs_server && rt run -- script < stdin)
 	python3 conformance/run.py $(PROGRAM) script
+
+# Runs the tests that say so with each allocation refused in turn. Needs cc.
+refusals:
+	python3 conformance/refusals.py
 
 # Asks a real Redis 7.0 the cases that are its own too. Debian: apt-get install redis-server
 compare:

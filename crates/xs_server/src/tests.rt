@@ -4,7 +4,7 @@ ghost use Rattle.std.specs.Prelude.{None};
 use super::*;
 use crate::device::{Failed, Sink, Source};
 use crate::script_fault::ScriptFault;
-use std::alloc::Global;
+use std::alloc::{AllocError, Global};
 use std::test::Fail;
 
 /// Gives a byte at a time, and fails at one of its calls, counted from 1.
@@ -139,6 +139,50 @@ fn tells_of_each_failed_write(rt: HostRuntime) -> Result<(), Fail> {
         assert_eq!(rt; ran, Err(ScriptFault::Write { written }), "write {at}");
         assert_eq!(rt; writer.bytes.len() as u64, written, "write {at}");
     }
+    Ok(())
+}
+
+/// A writer with room for two replies, made once more where memory was refused.
+fn roomy(alloc: Global) -> Result<Held, AllocError> {
+    let bytes = match Vec::with_capacity(alloc, 64) {
+        Ok(bytes) => bytes,
+        Err(AllocError) => Vec::with_capacity(alloc, 64)?,
+    };
+    let mut writer = Held::new(alloc, 0);
+    writer.bytes = bytes;
+    Ok(writer)
+}
+
+/// What two additions write where memory is refused to the first or to the second of them.
+const FIRST_REFUSED: &[u8] = b"-OOM out of memory\r\n$6\r\n1000-0\r\n";
+
+const SECOND_REFUSED: &[u8] = b"$6\r\n1000-0\r\n-OOM out of memory\r\n";
+
+/// Whether these are the bytes that a script of two additions writes, one allocation of which was refused.
+fn is_told(ran: Result<u64, ScriptFault>, bytes: &[u8]) -> bool {
+    match ran {
+        Ok(_) => bytes == TWO_IDS || bytes == FIRST_REFUSED || bytes == SECOND_REFUSED,
+        Err(ScriptFault::Memory { .. }) => bytes.is_empty() || bytes == &TWO_IDS[..12],
+        Err(_) => false,
+    }
+}
+
+// With any one allocation refused, a line is answered OOM or the script ends behind the replies to the lines
+// before, and the same script run again is answered.
+#[test]
+fn a_refused_script_is_run_again(rt: HostRuntime) -> Result<(), Fail> {
+    let alloc = rt.alloc();
+    let mut answered = false;
+    for _ in 0..2 {
+        let mut writer = roomy(alloc)?;
+        let ran = run_script(alloc, &mut Dribble::new(TWO_ADDITIONS, 0), &mut writer);
+        let bytes = writer.bytes.as_slice();
+        let count = bytes.len() as u64;
+        assert!(rt; is_told(ran, bytes));
+        assert!(rt; ran == Ok(count) || ran == Err(ScriptFault::Memory { written: count }));
+        answered = answered || bytes == TWO_IDS;
+    }
+    assert!(rt; answered);
     Ok(())
 }
 

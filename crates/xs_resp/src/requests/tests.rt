@@ -1,4 +1,5 @@
 use super::*;
+use std::process::Abort;
 use std::test::Fail;
 
 const REQUESTS: &[u8] = b"*1\r\n$4\r\nPING\r\n*0\r\n*-1\r\n*2\r\n$4\r\nping\r\n$2\r\nhi\r\n";
@@ -159,34 +160,62 @@ fn prints_its_faults(rt: HostRuntime) -> Result<(), Fail> {
     Ok(())
 }
 
-// Run with refused allocations this meets the refusal of each growth of a reader.
-#[test]
-fn a_refusal_leaves_the_reader(rt: HostRuntime) {
-    let mut reader = Requests::new(rt.alloc());
-    if reader.feed(b"*2\r\n$4\r\nping\r\n").is_err() {
-        assert!(rt; !reader.partial());
-        return;
-    }
-    assert!(rt; matches!(reader.next(), Ok(None)));
-    if reader.feed(b"$2\r\nhi\r\n*0\r\n").is_err() {
+/// Feeds a piece, once more where memory was refused. The request in hand isn't whole before.
+fn feed_again(rt: &impl Abort, reader: &mut Requests, piece: &[u8]) {
+    let held = reader.partial();
+    if reader.feed(piece).is_err() {
+        assert_eq!(rt; reader.partial(), held);
         assert!(rt; matches!(reader.next(), Ok(None)));
-        return;
-    }
-    for _ in 0..4 {
-        match reader.next() {
-            Ok(Some(words)) => {
-                assert_eq!(rt; words.len(), 2);
-                assert!(rt; reader.partial());
-                assert!(rt; !matches!(reader.next(), Ok(None)));
-                return;
-            }
-            Err(ReadFault::Memory) => assert!(rt; reader.partial()),
-            Ok(None) | Err(_) => assert!(rt; false),
-        }
+        assert!(rt; reader.feed(piece).is_ok());
     }
 }
 
-// Run with its second allocation refused this shows that next asks for none.
+/// Takes the next request, once more where memory was refused.
+fn next_again(reader: &mut Requests) -> Result<Option<Words>, ReadFault> {
+    match reader.next() {
+        Err(ReadFault::Memory) => reader.next(),
+        read => read,
+    }
+}
+
+// With any one allocation refused, a refused call leaves the reader, and the same call again answers.
+#[test]
+fn a_refusal_leaves_the_reader(rt: HostRuntime) -> Result<(), Fail> {
+    let mut reader = Requests::new(rt.alloc());
+    feed_again(&rt, &mut reader, b"*2\r\n$4\r\nping\r\n");
+    assert!(rt; matches!(reader.next(), Ok(None)));
+    feed_again(&rt, &mut reader, b"$2\r\nhi\r\n*0\r\n");
+    let words = next_again(&mut reader)?.ok_or("two words")?;
+    assert_eq!(rt; words.len(), 2);
+    for (word, text) in words.as_slice().iter().zip(["ping", "hi"]) {
+        assert_eq!(rt; word.as_slice(), text.as_bytes());
+    }
+    assert!(rt; reader.partial());
+    assert_eq!(rt; next_again(&mut reader)?.ok_or("no words")?.len(), 0);
+    assert!(rt; matches!(reader.next(), Ok(None)));
+    assert!(rt; !reader.partial());
+    Ok(())
+}
+
+// The same where the bytes come one by one.
+#[test]
+fn a_refusal_leaves_the_reader_of_single_bytes(rt: HostRuntime) -> Result<(), Fail> {
+    let mut reader = Requests::new(rt.alloc());
+    let (mut requests, mut words) = (0u64, 0);
+    for byte in REQUESTS {
+        feed_again(&rt, &mut reader, &[*byte]);
+        if let Some(read) = next_again(&mut reader)? {
+            requests = requests.saturating_add(1);
+            words = read.len().saturating_add(words);
+        }
+    }
+    assert_eq!(rt; requests, 4);
+    assert_eq!(rt; words, 3);
+    assert!(rt; !reader.partial());
+    Ok(())
+}
+
+// With all allocations refused from any one on, next asks for none where only a length is promised.
 #[test]
 fn a_promised_length_takes_no_memory(rt: HostRuntime) {
     for text in ["*1048576\r\n", "*1\r\n$536870912\r\n"] {
@@ -194,5 +223,16 @@ fn a_promised_length_takes_no_memory(rt: HostRuntime) {
         if reader.feed(text.as_bytes()).is_ok() {
             assert!(rt; matches!(reader.next(), Ok(None)));
         }
+    }
+}
+
+// The same of a reader that has failed.
+#[test]
+fn a_failed_reader_takes_no_memory(rt: HostRuntime) {
+    let mut reader = Requests::new(rt.alloc());
+    if reader.feed(b"PING\r\n").is_ok() {
+        assert!(rt; matches!(reader.next(), Err(ReadFault::Shape)));
+        assert!(rt; reader.feed(REQUESTS).is_ok());
+        assert!(rt; matches!(reader.next(), Err(ReadFault::Shape)));
     }
 }
