@@ -2,5 +2,6 @@ mod describe;
 mod faults;
 mod group_faults;
 mod group_served;
+mod refused;
 mod served;
 mod text;

@@ -21,6 +21,14 @@ pub(super) fn read(alloc: Global, line: &str) -> Result<Command, Refusal> {
     read_command(alloc, &words)
 }
 
+/// The same, read once more where memory was refused.
+pub(super) fn read_again(alloc: Global, line: &str) -> Result<Command, Refusal> {
+    match read(alloc, line) {
+        Err(Refusal::Memory) => read(alloc, line),
+        found => found,
+    }
+}
+
 /// The fault that a line reads as, where it does.
 pub(super) fn fault(alloc: Global, line: &str) -> Option<Fault> {
     match read(alloc, line) {
