@@ -4,3 +4,5 @@ pub mod Read
 pub mod Claims
 pub mod Changes
 pub mod Report
+pub mod Held
+pub mod Lawful

@@ -5,9 +5,15 @@
 pub mod claim;
 pub mod claim_rule;
 pub mod delivery;
+mod entry;
+pub mod group;
+mod name;
+mod owners;
+mod pending;
 pub mod report;
 
 pub use claim::{Claim, Scan};
 pub use claim_rule::{ClaimRule, ClaimTime};
 pub use delivery::{Delivery, DeliveryKind, DeliveryRow, DeliveryRows, Touch};
+pub use group::Group;
 pub use report::{GroupSummary, OwnerCount, OwnerCounts, PendingRow};

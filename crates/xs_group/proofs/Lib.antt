@@ -1,0 +1,5 @@
+pub mod ByConsumer
+pub mod Views
+pub mod Agreeing
+pub mod Ordered
+pub mod Leaving

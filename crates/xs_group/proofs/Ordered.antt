@@ -1,0 +1,132 @@
+-- Lists and maps in the order of their keys.
+use Rattle.std.proofs.Common.{◌≡◌, ℕ, Bool, true, false, cond, ◌&&◌, ◌||◌, List, [], ◌∷◌, filter, Option, Some, None, is_some, sym, ap, subst, ◌∙◌, refl, Ordering}
+use Rattle.std.proofs.Math.Dec.{T}
+use Rattle.std.specs.FinMap.Entries.{find, below_all, is_sorted, same_entries}
+use Rattle.std.specs.List.{AllByRecursion}
+use Rattle.std.specs.List.Sorted.{IsStrictlySortedBy}
+use Rattle.std.specs.Map.{keys_of}
+use Rattle.std.specs.BTreeMap.{IsOrdered}
+use Rattle.std.specs.Ordering.{is_lt, is_eq}
+use Rattle.std.specs.declared.cmp.Ordering.TheVariants.{Less}
+use Rattle.std.proofs.lemmas.Map.Keys.{sorted_head, sorted_tail}
+use Rattle.xs_bytes.specs.SortedMap.{get}
+use Rattle.xs_bytes.proofs.SortedMaps.{get-of_entries}
+use Rattle.xs_stream.specs.declared.id.Id.{Id}
+use Rattle.xs_stream.specs.Id.{id_cmp, is_same, has_id}
+use Rattle.xs_stream.proofs.Order.{same_id, is_same-eq}
+use Rattle.xs_group.specs.State.{Row, Rows, ids_total, is_name, rows_of}
+use Rattle.xs_group.specs.Read.{owned}
+use Rattle.xs_group.specs.Held.{is_owner}
+use Rattle.xs_group.proofs.Views.{RowMap}
+
+pub both : (a b : Bool) → T a → T b → T (a && b)
+both true b p q = q
+both false b p q = p
+
+pub first : (a b : Bool) → T (a && b) → T a
+first true b p = tt
+first false b p = p
+
+pub second : (a b : Bool) → T (a && b) → T b
+second true b p = p
+second false b p = absurd p
+
+module _ {K X : Type 0} (R : K → K → Ordering) where
+  below-from : (k : K) (es : List (K × X)) → AllByRecursion (λ y. R k y ≡ Less) (keys_of es) → T (below_all R k es)
+  below-from k [] a = tt
+  below-from k (e ∷ es) a = both _ _ (subst (λ r. T (is_lt r)) (sym a.0) tt) (below-from k es a.1)
+
+  pub is_sorted-from : (es : List (K × X)) → IsStrictlySortedBy R (keys_of es) → T (is_sorted R es)
+  is_sorted-from [] s = tt
+  is_sorted-from (e ∷ es) s = both _ _ (below-from e.0 es (sorted_head R e.0 (keys_of es) s)) (is_sorted-from es (sorted_tail R e.0 (keys_of es) s))
+
+  below-filter : (p : K × X → Bool) (k : K) (es : List (K × X)) → T (below_all R k es) → T (below_all R k (filter p es))
+  below-filter p k [] h = tt
+  below-filter p k (e ∷ es) h = by (p e) (below-filter p k es (second _ _ h)) where
+    by : (t : Bool) → T (below_all R k (filter p es)) → T (below_all R k (cond t (e ∷ filter p es) (filter p es)))
+    by true rest = both _ _ (first _ _ h) rest
+    by false rest = rest
+
+  pub is_sorted-filter : (p : K × X → Bool) (es : List (K × X)) → T (is_sorted R es) → T (is_sorted R (filter p es))
+  is_sorted-filter p [] h = tt
+  is_sorted-filter p (e ∷ es) h = by (p e) (is_sorted-filter p es (second _ _ h)) where
+    by : (t : Bool) → T (is_sorted R (filter p es)) → T (is_sorted R (cond t (e ∷ filter p es) (filter p es)))
+    by true rest = both _ _ (below-filter p e.0 es (first _ _ h)) rest
+    by false rest = rest
+
+-- ---- the entries of a map that is made of entries in order
+
+pub entries-rows_of : (m : RowMap) → IsOrdered id_cmp m → (rows_of m.entries).entries ≡ m.entries
+unfolding get
+entries-rows_of m o = same_entries id_cmp ids_total same_id (rows_of m.entries).entries m.entries (rows_of m.entries).sorted (is_sorted-from id_cmp m.entries o)
+    (λ q. get-of_entries ids_total m.entries q)
+
+-- ---- ids in order
+
+abbrev units : List Id → List (Id × Unit {0})
+units [] = []
+units (x ∷ xs) = (x, tt) ∷ units xs
+
+keys-units : (xs : List Id) → keys_of (units xs) ≡ xs
+keys-units [] = refl
+keys-units (x ∷ xs) = ap (λ rest. x ∷ rest) (keys-units xs)
+
+below-units : (k : Id) (es : List (Id × Row)) → below_all id_cmp k (units (keys_of es)) ≡ below_all id_cmp k es
+below-units k [] = refl
+below-units k (e ∷ es) = ap (λ b. is_lt (id_cmp k e.0) && b) (below-units k es)
+
+sorted-units : (es : List (Id × Row)) → is_sorted id_cmp (units (keys_of es)) ≡ is_sorted id_cmp es
+sorted-units [] = refl
+sorted-units (e ∷ es) = λ i. below-units e.0 es i && sorted-units es i
+
+some-unit : (a b : Option (Unit {0})) → is_some a ≡ is_some b → a ≡ b
+some-unit None None e = refl
+some-unit (Some x) (Some y) e = refl
+some-unit None (Some y) e = cc
+some-unit (Some x) None e = cc
+
+find-units : (q : Id) (xs : List Id) → is_some (find id_cmp q (units xs)) ≡ has_id xs q
+find-units q [] = refl
+find-units q (x ∷ xs) = by (is_same q x) (find-units q xs) where
+  by : (t : Bool) → is_some (find id_cmp q (units xs)) ≡ has_id xs q → is_some (cond t (Some tt) (find id_cmp q (units xs))) ≡ (t || has_id xs q)
+  by true e = refl
+  by false e = e
+
+-- ids in order are known by what they have
+pub same_ids : (xs : List Id) (es : List (Id × Row)) → IsStrictlySortedBy id_cmp xs → T (is_sorted id_cmp es) → ((q : Id) → has_id xs q ≡ has_id (keys_of es) q) → xs ≡ keys_of es
+same_ids xs es s t is =
+    sym (keys-units xs) ∙ ap keys_of (same_entries id_cmp ids_total same_id (units xs) (units (keys_of es))
+    (is_sorted-from id_cmp (units xs) (subst (IsStrictlySortedBy id_cmp) (sym (keys-units xs)) s)) (subst T (sym (sorted-units es)) t)
+    (λ q. some-unit _ _ (find-units q xs ∙ is q ∙ sym (find-units q (keys_of es))))) ∙ keys-units (keys_of es)
+
+find-below : (k : Id) (name : List ℕ) (es : List (Id × Row)) → T (below_all id_cmp k es) → has_id (keys_of (filter (λ e. is_name e.1.consumer name) es)) k ≡ false
+find-below k name [] h = refl
+find-below k name (e ∷ es) h = by (is_name e.1.consumer name) (find-below k name es (second _ _ h)) where
+  less : (o : Ordering) → T (is_lt o) → is_eq o ≡ false
+  less Less p = refl
+  less _ p = absurd p
+
+  by : (t : Bool) → has_id (keys_of (filter (λ e. is_name e.1.consumer name) es)) k ≡ false → has_id (keys_of (cond t (e ∷ filter (λ e. is_name e.1.consumer name) es) (filter (λ e. is_name e.1.consumer name) es))) k ≡ false
+  by true rest = ap (λ b. b || has_id (keys_of (filter (λ e. is_name e.1.consumer name) es)) k) (less _ (first _ _ h)) ∙ rest
+  by false rest = rest
+
+-- the consumer's ids among rows in order
+pub has_owned : (name : List ℕ) (q : Id) (es : List (Id × Row)) → T (is_sorted id_cmp es) → has_id (owned name es) q ≡ is_owner (find id_cmp q es) name
+has_owned name q [] h = refl
+has_owned name q (e ∷ es) h = by (is_same q e.0) (is_name e.1.consumer name) refl refl (has_owned name q es (second _ _ h)) where
+  by : (t u : Bool) → is_same q e.0 ≡ t → is_name e.1.consumer name ≡ u → has_id (owned name es) q ≡ is_owner (find id_cmp q es) name
+      → has_id (keys_of (cond u (e ∷ filter (λ e. is_name e.1.consumer name) es) (filter (λ e. is_name e.1.consumer name) es))) q ≡ is_owner (cond t (Some e.1) (find id_cmp q es)) name
+  by true true f g rest = ap (λ b. b || has_id (owned name es) q) f ∙ sym g
+  by true false f g rest = ap (has_id (owned name es)) (is_same-eq q e.0 f) ∙ find-below e.0 name es (first _ _ h) ∙ sym g
+  by false true f g rest = ap (λ b. b || has_id (owned name es) q) f ∙ rest
+  by false false f g rest = rest
+
+-- the ids of a consumer, as the index has them
+pub ids-owned : (ids : List Id) (rows : Rows) (name : List ℕ) → IsStrictlySortedBy id_cmp ids → ((x : Id) → has_id ids x ≡ is_owner (get rows x) name) → ids ≡ owned name rows.entries
+unfolding get
+ids-owned ids rows name s is = same_ids ids (filter (λ e. is_name e.1.consumer name) rows.entries) s
+    (is_sorted-filter id_cmp (λ e. is_name e.1.consumer name) rows.entries rows.sorted) (λ q. is q ∙ sym (has_owned name q rows.entries rows.sorted))
+
+pub sorted-none : IsStrictlySortedBy id_cmp []
+unfolding IsStrictlySortedBy
+sorted-none = tt

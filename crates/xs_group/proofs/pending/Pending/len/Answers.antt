@@ -1,0 +1,6 @@
+use Rattle.std.proofs.Common.{length, sym, ap, ◌∙◌}
+use Rattle.xs_group.proofs.pending.Pending.len.Goals as goal
+use Rattle.xs_group.proofs.Ordered.{entries-rows_of}
+
+pub returns : goal.returns
+returns c = rw (← c.self.view_is) (c.len.ensures.len ∙ sym (ap length (entries-rows_of c.self.inside.rows c.len.ensures.ordered)))

@@ -1,0 +1,8 @@
+use Rattle.std.proofs.Common.{◌≡◌, take}
+use Rattle.xs_bytes.specs.SortedMap.{change}
+use Rattle.xs_group.specs.Changes.{unless_acked}
+use Rattle.xs_group.proofs.pending.Pending.take_all.Given as goal
+
+-- the ids so far are out
+abbrev pub invariant-loop-id : goal.invariant-loop-id
+invariant-loop-id l = l.self ≡ record { consumers = l.fn.self.consumers; rows = change (unless_acked (take l.id-index l.ids)) l.fn.self.rows }

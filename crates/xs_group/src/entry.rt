@@ -1,0 +1,76 @@
+//! A pending entry.
+ghost use Rattle.std.specs.Prelude.{◌≡◌};
+ghost use Rattle.xs_group.specs.State.{raised};
+ghost use Rattle.xs_group.specs.Read.{first_row, again};
+
+use crate::delivery::Touch;
+use crate::name::Name;
+use std::marker::Model;
+use xs_bytes::Bytes;
+use xs_stream::Moment;
+
+/// The greatest count of deliveries.
+const GREATEST_COUNT: u64 = 9_223_372_036_854_775_807;
+
+/// One delivery more.
+pub(crate) fn raised(count: u64) -> u64
+    ensures { result ≡ raised count }
+{
+    if count < GREATEST_COUNT {
+        return count + 1;
+    }
+    GREATEST_COUNT
+}
+
+/// A pending entry: whose it is, when it was last delivered, and how often.
+#[derive(Drop)]
+pub(crate) struct Entry {
+    consumer: Name,
+    time: Moment,
+    count: u64,
+}
+
+impl Model for Entry {
+    ghost use Rattle.xs_group.specs.State.{Row};
+    ghost use Rattle.xs_group.specs.Held.{coded_row};
+
+    ghost Value = { Row };
+
+    ghost coded = { coded_row };
+
+    ghost view = { λ e. record { consumer = e.consumer; time = e.time; count = e.count } };
+}
+
+impl Entry {
+    pub(crate) fn new(consumer: Name, time: Moment, count: u64) -> Self
+        ensures { result ≡ record { consumer = consumer; time = time; count = count } }
+    {
+        Self {
+            consumer,
+            time,
+            count,
+        }
+    }
+
+    pub(crate) fn consumer(&self) -> &Bytes
+        ensures { result.now ≡ self.now.consumer }
+    {
+        self.consumer.text()
+    }
+
+    pub(crate) fn touch(&self) -> Touch
+        ensures { result ≡ record { time = self.now.time; count = self.now.count } }
+    {
+        Touch {
+            time: self.time,
+            count: self.count,
+        }
+    }
+
+    pub(crate) fn set_touch(&mut self, touch: Touch)
+        ensures { self.new ≡ record { consumer = self.old.consumer; time = touch.time; count = touch.count } }
+    {
+        self.time = touch.time;
+        self.count = touch.count;
+    }
+}

@@ -1,0 +1,93 @@
+//! A consumer group: its cursor, its consumers, and what is pending.
+ghost use Rattle.std.specs.Prelude.{◌≡◌, ◌+◌, not, length, IfOk, OnOk, OnErr};
+ghost use Rattle.xs_group.specs.State.{has_name, joined};
+ghost use Rattle.xs_group.specs.Changes.{new_group, acked, without_consumer, owned_count};
+ghost use Rattle.xs_group.specs.Lawful.{IsLawful};
+
+use crate::pending::Pending;
+use std::alloc::{AllocError, Global};
+use std::marker::Model;
+use xs_bytes::Bytes;
+use xs_stream::Id;
+
+/// A consumer group. A contract sees its cursor, its consumers and its pending rows. A call that is
+/// refused for want of memory leaves the group as it was.
+#[derive(Drop)]
+pub struct Group {
+    cursor: Id,
+    pending: Pending,
+}
+
+impl Model for Group {
+    ghost use Rattle.xs_group.specs.State.{State};
+    ghost use Rattle.xs_group.specs.Held.{coded_state};
+    ghost use Rattle.xs_group.specs.Lawful.{IsUpTo};
+
+    ghost Value = { State };
+
+    ghost coded = { coded_state };
+
+    ghost view = { λ g. record { cursor = g.cursor; consumers = g.pending.consumers; rows = g.pending.rows } };
+
+    ghost invariant = { λ g. IsUpTo g.cursor g.pending.rows };
+}
+
+impl Group {
+    /// A group that delivers the entries above this id. It takes no memory.
+    pub fn new(alloc: Global, start: Id) -> Self
+        ensures { result ≡ new_group start }
+    {
+        Self {
+            cursor: start,
+            pending: Pending::new(alloc),
+        }
+    }
+
+    /// What holds of every group: no row is above the cursor, and each row's consumer is there.
+    pub fn lawful(&self)
+        ensures { IsLawful self.now }
+    {
+        self.pending.lawful();
+    }
+
+    /// The last id delivered, or at first the id that the group began with.
+    pub fn cursor(&self) -> Id
+        ensures { result ≡ self.now.cursor }
+    {
+        self.cursor
+    }
+
+    pub fn has_consumer(&self, consumer: &Bytes) -> bool
+        ensures { result ≡ has_name self.now.consumers consumer.now }
+    {
+        self.pending.has_consumer(consumer)
+    }
+
+    /// Takes these ids out of what is pending, and says how many were (XACK). It takes no memory.
+    pub fn ack(&mut self, ids: &[Id]) -> u64
+        ensures rows { self.new ≡ acked ids.now self.old }
+        ensures count { result + length self.new.rows.entries ≡ length self.old.rows.entries }
+    {
+        let before = self.pending.len();
+        self.pending.take_all(ids);
+        (before - self.pending.len()) as u64
+    }
+
+    /// Makes a consumer, and says whether it is new (XGROUP CREATECONSUMER).
+    pub fn add_consumer(&mut self, alloc: Global, consumer: &Bytes) -> Result<bool, AllocError>
+        ensures made { IfOk result (λ made. made ≡ not (has_name self.old.consumers consumer.now)) }
+        ensures ok { OnOk result (self.new ≡ joined consumer.now self.old) }
+        ensures err { OnErr result (self.new ≡ self.old) }
+    {
+        self.pending.add_consumer(alloc, consumer)
+    }
+
+    /// Removes a consumer with its pending entries, and says how many there were (XGROUP
+    /// DELCONSUMER). It takes no memory.
+    pub fn remove_consumer(&mut self, consumer: &Bytes) -> u64
+        ensures rows { self.new ≡ without_consumer consumer.now self.old }
+        ensures count { result ≡ owned_count consumer.now self.old }
+    {
+        self.pending.remove_consumer(consumer)
+    }
+}
