@@ -232,6 +232,15 @@ between-below low x = not_le-below low x
 pub ids_of-within : (range : Range) (es : List (Id × List Field)) → ids_of (entries_between id_cmp (Included range.low) (Included range.high) es) ≡ filter (is_within range) (ids_of es)
 ids_of-within range es = ap ids_of (filter-ids (range_contains id_cmp (Included range.low) (Included range.high)) (is_within range) es (between-within range)) ∙ ids_of-filter (is_within range) es
 
+and_yes : (t : Bool) → (t && true) ≡ t
+and_yes true = refl
+and_yes false = refl
+
+-- the ids that a map's range has above a cursor
+pub ids_of-past : (cursor : Id) (es : List (Id × List Field)) → ids_of (entries_between id_cmp (Excluded cursor) Unbounded es) ≡ filter (λ x. is_below cursor x) (ids_of es)
+ids_of-past cursor es = ap ids_of (filter-ids (range_contains id_cmp (Excluded cursor) Unbounded) (λ x. is_below cursor x) es (λ x. and_yes (is_below cursor x)))
+    ∙ ids_of-filter (λ x. is_below cursor x) es
+
 -- a range whose low end is above its high end holds nothing
 not_within : (range : Range) → is_below range.high range.low ≡ true → (x : Id) → is_within range x ≡ false
 not_within range h x = by (is_below x range.low) refl where

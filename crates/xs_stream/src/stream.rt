@@ -145,6 +145,14 @@ impl Stream {
         };
         Ok(Ids::new(ids))
     }
+
+    /// The ids above a cursor, in their order, at most `limit` of them.
+    pub fn past(&self, alloc: Global, cursor: Id, limit: Option<u64>) -> Result<Ids, AllocError>
+        ensures { IfOk result (λ ids. ids ≡ limited limit (filter (λ x. is_below cursor x) (ids_of self.now.entries))) }
+    {
+        let ids = ids_past(alloc, &self.entries, cursor, limit.unwrap_or(u64::MAX))?;
+        Ok(Ids::new(ids))
+    }
 }
 
 type Entries = BTreeMap<Id, Fields>;
@@ -200,6 +208,21 @@ fn ids_up(alloc: Global, entries: &Entries, range: Range, most: u64) -> Result<V
     let bounds = (Bound::Included(range.low), Bound::Included(range.high));
     let within = entries.range(bounds);
     for (id, _) in within {
+        if ids.len() as u64 >= most {
+            break;
+        }
+        ids.push(*id)?;
+    }
+    Ok(ids)
+}
+
+/// The ids above a cursor, at most this many.
+fn ids_past(alloc: Global, entries: &Entries, cursor: Id, most: u64) -> Result<Vec<Id>, AllocError>
+    ensures { IfOk result (λ ids. ids.items ≡ take most (filter (λ x. is_below cursor x) (ids_of entries.now.entries))) }
+{
+    let mut ids = Vec::new(alloc);
+    let past = entries.range((Bound::Excluded(cursor), Bound::Unbounded));
+    for (id, _) in past {
         if ids.len() as u64 >= most {
             break;
         }
