@@ -3,3 +3,5 @@ pub mod Views
 pub mod Agreeing
 pub mod Ordered
 pub mod Leaving
+pub mod Putting
+pub mod Cursors

@@ -6,9 +6,9 @@ use Rattle.std.specs.BTreeMap.{is_at}
 use Rattle.std.specs.BTreeSet.{BTreeSet, contains}
 use Rattle.std.specs.Ordering.{nat_cmp}
 use Rattle.std.specs.Cmp.Lexicographic.{slice_cmp}
-use Rattle.xs_bytes.specs.SortedMap.{coded_map, from_entries, get}
+use Rattle.xs_bytes.specs.SortedMap.{coded_map, from_entries, get, has_key}
 use Rattle.xs_stream.specs.declared.id.Id.{Id}
-use Rattle.xs_stream.specs.Id.{id_cmp}
+use Rattle.xs_stream.specs.Id.{id_cmp, has_id}
 use Rattle.xs_group.specs.State.{Row, Rows, Names, State, is_name, has_name}
 
 pub record Held : Type 0 where
@@ -75,3 +75,7 @@ IsAgreed rows owners = (name : List ℕ) → (x : Id) → holds owners name x �
 -- each row's consumer is one of these
 abbrev pub IsNamed : Names → Rows → Type 0
 IsNamed names rows = (name : List ℕ) → (x : Id) → is_owner (get rows x) name ≡ true → has_name names name ≡ true
+
+-- none of these ids is pending
+abbrev pub AreFree : Rows → List Id → Type 0
+AreFree rows ids = (x : Id) → has_id ids x ≡ true → has_key rows x ≡ false

@@ -6,3 +6,4 @@ pub mod Changes
 pub mod Report
 pub mod Held
 pub mod Lawful
+pub mod Delivered

@@ -3,12 +3,17 @@ ghost use Rattle.std.specs.Prelude.{◌≡◌, ◌+◌, not, length, IfOk, OnOk,
 ghost use Rattle.xs_group.specs.State.{has_name, joined};
 ghost use Rattle.xs_group.specs.Changes.{new_group, acked, without_consumer, owned_count};
 ghost use Rattle.xs_group.specs.Lawful.{IsLawful};
+ghost use Rattle.xs_group.specs.Read.{delivered_to};
+ghost use Rattle.xs_group.specs.Delivered.{delivery_of, kind_of, received};
+ghost use Rattle.xs_stream.specs.Kept.{ids_of, AllAbove, Ascends};
 
+use crate::delivery::{Delivery, DeliveryKind, DeliveryRows};
 use crate::pending::Pending;
+use crate::reading;
 use std::alloc::{AllocError, Global};
 use std::marker::Model;
 use xs_bytes::Bytes;
-use xs_stream::Id;
+use xs_stream::{Id, Moment, Stream};
 
 /// A consumer group. A contract sees its cursor, its consumers and its pending rows. A call that is
 /// refused for want of memory leaves the group as it was.
@@ -90,4 +95,69 @@ impl Group {
     {
         self.pending.remove_consumer(consumer)
     }
+
+    /// Delivers the entries above the cursor to a consumer, who is there from then on (XREADGROUP with
+    /// `>`). With `noack` they don't become pending.
+    pub fn deliver(
+        &mut self,
+        alloc: Global,
+        stream: &Stream,
+        consumer: &Bytes,
+        now: Moment,
+        limit: Option<u64>,
+        noack: bool,
+    ) -> Result<Delivery, AllocError>
+        ensures answer { IfOk result (λ d. d ≡ delivery_of consumer.now limit noack (ids_of stream.now.entries) self.old) }
+        ensures ok { OnOk result (self.new ≡ delivered_to consumer.now now limit noack (ids_of stream.now.entries) self.old) }
+        ensures err { OnErr result (self.new ≡ self.old) }
+    {
+        stream.lawful();
+        let cursor_before = self.cursor;
+        let ids = stream.past(alloc, cursor_before, limit)?;
+        let rows = reading::new_rows(alloc, ids.as_slice())?;
+        let text = Bytes::from_slice(alloc, consumer.as_slice())?;
+        let created = self.receive(alloc, consumer, now, ids.as_slice(), noack)?;
+        Ok(Delivery {
+            consumer: text,
+            created,
+            cursor_before,
+            kind: kind_of(noack),
+            rows: DeliveryRows::new(rows),
+        })
+    }
+
+    /// Moves the cursor past these ids, and makes them pending unless `noack` is set.
+    fn receive(
+        &mut self,
+        alloc: Global,
+        consumer: &Bytes,
+        now: Moment,
+        ids: &[Id],
+        noack: bool,
+    ) -> Result<bool, AllocError>
+        requires above { AllAbove self.old.cursor ids.now }
+        requires ascends { Ascends ids.now }
+        ensures made { IfOk result (λ made. made ≡ not (has_name self.old.consumers consumer.now)) }
+        ensures ok { OnOk result (self.new ≡ received consumer.now now noack ids.now self.old) }
+        ensures err { OnErr result (self.new ≡ self.old) }
+    {
+        let last = reading::last_id(self.cursor, ids);
+        if noack {
+            let made = self.pending.add_consumer(alloc, consumer)?;
+            self.cursor = last;
+            return Ok(made);
+        }
+        let made = self.pending.deliver(alloc, consumer, now, ids)?;
+        self.cursor = last;
+        Ok(made)
+    }
+}
+
+fn kind_of(noack: bool) -> DeliveryKind
+    ensures { result ≡ kind_of noack }
+{
+    if noack {
+        return DeliveryKind::NoAck;
+    }
+    DeliveryKind::New
 }

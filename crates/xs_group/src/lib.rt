@@ -10,6 +10,7 @@ pub mod group;
 mod name;
 mod owners;
 mod pending;
+mod reading;
 pub mod report;
 
 pub use claim::{Claim, Scan};

@@ -5,9 +5,10 @@ ghost use Rattle.xs_bytes.specs.SortedMap.{empty, get, has_key, remove, change};
 ghost use Rattle.xs_stream.specs.declared.id.Id.{Id};
 ghost use Rattle.xs_stream.specs.Id.{id_cmp};
 ghost use Rattle.xs_group.specs.State.{has_name, with_name, put_row};
-ghost use Rattle.xs_group.specs.Read.{first_row, owned};
+ghost use Rattle.xs_stream.specs.Kept.{Ascends};
+ghost use Rattle.xs_group.specs.Read.{first_row, owned, with_rows};
 ghost use Rattle.xs_group.specs.Changes.{unless_acked, unless_owned};
-ghost use Rattle.xs_group.specs.Held.{IsNamed, row_in};
+ghost use Rattle.xs_group.specs.Held.{IsNamed, AreFree, row_in};
 
 use crate::entry::Entry;
 use crate::name::Name;
@@ -102,6 +103,58 @@ impl Pending {
         };
         owners::remove_id(&mut self.owners, entry.consumer(), id);
         true
+    }
+
+    /// Makes ids pending with a consumer, as delivered for the first time.
+    fn put_all(
+        &mut self,
+        alloc: Global,
+        name: &Bytes,
+        now: Moment,
+        ids: &[Id],
+    ) -> Result<(), AllocError>
+        requires there { has_name self.old.consumers name.now ≡ true }
+        requires free { AreFree self.old.rows ids.now }
+        requires ascends { Ascends ids.now }
+        ensures ok { OnOk result (self.new ≡ record self.old { rows = with_rows ids.now (first_row name.now now) self.old.rows }) }
+        ensures err { OnErr result (self.new ≡ self.old) }
+    {
+        let shared = Name::new(alloc, name)?;
+        for (i, id) in ids.iter().enumerate() {
+            let Ok(()) = self.put(&shared, *id, now) else {
+                self.take_all(&ids[..i]);
+                return Err(AllocError);
+            };
+        }
+        Ok(())
+    }
+
+    /// Makes ids pending with a consumer, who is there from then on, and says whether it is new.
+    pub(crate) fn deliver(
+        &mut self,
+        alloc: Global,
+        name: &Bytes,
+        now: Moment,
+        ids: &[Id],
+    ) -> Result<bool, AllocError>
+        requires free { AreFree self.old.rows ids.now }
+        requires ascends { Ascends ids.now }
+        ensures made { IfOk result (λ made. made ≡ not (has_name self.old.consumers name.now)) }
+        ensures ok { OnOk result (self.new ≡ record {
+          consumers = with_name self.old.consumers name.now;
+          rows = with_rows ids.now (first_row name.now now) self.old.rows;
+        }) }
+        ensures err { OnErr result (self.new ≡ self.old) }
+    {
+        self.lawful();
+        let made = self.add_consumer(alloc, name)?;
+        let Ok(()) = self.put_all(alloc, name, now, ids) else {
+            if made {
+                self.remove_consumer(name);
+            }
+            return Err(AllocError);
+        };
+        Ok(made)
     }
 
     /// Takes these ids out.

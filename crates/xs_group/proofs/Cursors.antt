@@ -1,0 +1,91 @@
+-- Ids above a cursor.
+use Rattle.std.proofs.Common.{◌≡◌, ℕ, suc, zero, Bool, true, false, cond, not, ◌&&◌, ◌||◌, List, [], ◌∷◌, ◌++◌, filter, take, Option, Some, None, is_some, sym, ap, ◌∙◌, refl}
+use Rattle.std.proofs.lemmas.Bool.{false≢true}
+use Rattle.xs_bytes.specs.SortedMap.{get, has_key}
+use Rattle.xs_stream.specs.declared.id.Id.{Id}
+use Rattle.xs_stream.specs.Id.{is_same, is_below, has_id}
+use Rattle.xs_stream.specs.Kept.{AllAbove, Ascends, limited}
+use Rattle.xs_stream.proofs.Order.{is_same-eq, below-not_back, below-irrefl, not_above-trans, below-trans}
+use Rattle.xs_group.specs.State.{Row, Rows}
+use Rattle.xs_group.specs.Read.{last_of, with_rows}
+use Rattle.xs_group.specs.Held.{AreFree}
+use Rattle.xs_group.specs.Lawful.{IsUpTo}
+use Rattle.xs_group.proofs.Putting.{get-with_rows}
+
+pub above-has : (c : Id) (ids : List Id) → AllAbove c ids → (x : Id) → has_id ids x ≡ true → is_below c x ≡ true
+above-has c [] a x e = absurd (false≢true e)
+above-has c (y ∷ ys) a x e = by (is_same x y) refl e (above-has c ys a.1 x) where
+  by : (t : Bool) → is_same x y ≡ t → (t || has_id ys x) ≡ true → (has_id ys x ≡ true → is_below c x ≡ true) → is_below c x ≡ true
+  by true f e rest = ap (is_below c) (is_same-eq x y f) ∙ a.0
+  by false f e rest = rest e
+
+pub free-above : (c : Id) (rows : Rows) (ids : List Id) → IsUpTo c rows → AllAbove c ids → AreFree rows ids
+free-above c rows ids up a x e = by (has_key rows x) refl where
+  by : (t : Bool) → has_key rows x ≡ t → has_key rows x ≡ false
+  by false f = f
+  by true f = absurd (false≢true (sym (up x f) ∙ above-has c ids a x e))
+
+last-not_below : (c : Id) (ids : List Id) → AllAbove c ids → Ascends ids → is_below (last_of c ids) c ≡ false
+last-not_below c [] a s = below-irrefl c
+last-not_below c (y ∷ ys) a s = not_above-trans (last_of y ys) y c (last-not_below y ys s.0 s.1) (below-not_back c y a.0)
+
+last-up_to : (c : Id) (ids : List Id) → AllAbove c ids → Ascends ids → (x : Id) → has_id ids x ≡ true → is_below (last_of c ids) x ≡ false
+last-up_to c [] a s x e = absurd (false≢true e)
+last-up_to c (y ∷ ys) a s x e = by (is_same x y) refl e (last-up_to y ys s.0 s.1 x) where
+  by : (t : Bool) → is_same x y ≡ t → (t || has_id ys x) ≡ true → (has_id ys x ≡ true → is_below (last_of y ys) x ≡ false) → is_below (last_of y ys) x ≡ false
+  by true f e rest = ap (is_below (last_of y ys)) (is_same-eq x y f) ∙ last-not_below y ys s.0 s.1
+  by false f e rest = rest e
+
+pub up_to-later : (c : Id) (ids : List Id) (rows : Rows) → IsUpTo c rows → AllAbove c ids → Ascends ids → IsUpTo (last_of c ids) rows
+up_to-later c ids rows up a s x e = not_above-trans (last_of c ids) c x (last-not_below c ids a s) (up x e)
+
+pub up_to-put : (c : Id) (ids : List Id) (row : Row) (rows : Rows) → IsUpTo c rows → AllAbove c ids → Ascends ids → IsUpTo (last_of c ids) (with_rows ids row rows)
+up_to-put c ids row rows up a s x e = by (has_id ids x) refl (sym (ap is_some (get-with_rows ids row rows x)) ∙ e) where
+  by : (t : Bool) → has_id ids x ≡ t → is_some (cond t (Some row) (get rows x)) ≡ true → is_below (last_of c ids) x ≡ false
+  by true f e = last-up_to c ids a s x f
+  by false f e = up_to-later c ids rows up a s x e
+
+pub last-more : (c : Id) (ids : List Id) (x : Id) → last_of c (ids ++ x ∷ []) ≡ x
+last-more c [] x = refl
+last-more c (y ∷ ys) x = last-more y ys x
+
+-- ---- the ids that are delivered
+
+above-filter : (c x : Id) (ids : List Id) → AllAbove x ids → AllAbove x (filter (λ y. is_below c y) ids)
+above-filter c x [] a = tt
+above-filter c x (y ∷ ys) a = by (is_below c y) (above-filter c x ys a.1) where
+  by : (t : Bool) → AllAbove x (filter (λ y. is_below c y) ys) → AllAbove x (cond t (y ∷ filter (λ y. is_below c y) ys) (filter (λ y. is_below c y) ys))
+  by true rest = (a.0, rest)
+  by false rest = rest
+
+ascends-filter : (c : Id) (ids : List Id) → Ascends ids → Ascends (filter (λ y. is_below c y) ids)
+ascends-filter c [] a = tt
+ascends-filter c (y ∷ ys) a = by (is_below c y) (ascends-filter c ys a.1) where
+  by : (t : Bool) → Ascends (filter (λ y. is_below c y) ys) → Ascends (cond t (y ∷ filter (λ y. is_below c y) ys) (filter (λ y. is_below c y) ys))
+  by true rest = (above-filter c y ys a.0, rest)
+  by false rest = rest
+
+filter-above : (c : Id) (ids : List Id) → AllAbove c (filter (λ y. is_below c y) ids)
+filter-above c [] = tt
+filter-above c (y ∷ ys) = by (is_below c y) refl (filter-above c ys) where
+  by : (t : Bool) → is_below c y ≡ t → AllAbove c (filter (λ y. is_below c y) ys) → AllAbove c (cond t (y ∷ filter (λ y. is_below c y) ys) (filter (λ y. is_below c y) ys))
+  by true e rest = (e, rest)
+  by false e rest = rest
+
+above-take : (x : Id) (n : ℕ) (ids : List Id) → AllAbove x ids → AllAbove x (take n ids)
+above-take x zero ids a = tt
+above-take x (suc n) [] a = tt
+above-take x (suc n) (y ∷ ys) a = (a.0, above-take x n ys a.1)
+
+ascends-take : (n : ℕ) (ids : List Id) → Ascends ids → Ascends (take n ids)
+ascends-take zero ids a = tt
+ascends-take (suc n) [] a = tt
+ascends-take (suc n) (y ∷ ys) a = (above-take y n ys a.0, ascends-take n ys a.1)
+
+pub delivers-above : (limit : Option ℕ) (c : Id) (ids : List Id) → AllAbove c (limited limit (filter (λ y. is_below c y) ids))
+delivers-above None c ids = filter-above c ids
+delivers-above (Some n) c ids = above-take c n (filter (λ y. is_below c y) ids) (filter-above c ids)
+
+pub delivers-ascend : (limit : Option ℕ) (c : Id) (ids : List Id) → Ascends ids → Ascends (limited limit (filter (λ y. is_below c y) ids))
+delivers-ascend None c ids a = ascends-filter c ids a
+delivers-ascend (Some n) c ids a = ascends-take n (filter (λ y. is_below c y) ids) (ascends-filter c ids a)

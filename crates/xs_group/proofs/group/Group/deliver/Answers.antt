@@ -1,0 +1,14 @@
+use Rattle.std.proofs.Common.{sym, ap, ◌∙◌, subst}
+use Rattle.xs_stream.specs.Kept.{AllAbove, Ascends, ids_of, limited}
+use Rattle.xs_group.proofs.group.Group.deliver.Goals as goal
+use Rattle.xs_group.proofs.Cursors.{delivers-above, delivers-ascend}
+
+pub receive-requires-clause-above : goal.receive-requires-clause-above
+receive-requires-clause-above c =
+    rw (← c.self.view_is) (subst (AllAbove c.self.inside.cursor) (sym (c.as_slice-3.ensures ∙ c.in_ok-ids.ensures))
+    (delivers-above c.args.limit c.self.inside.cursor (ids_of c.args.stream.now.entries)))
+
+pub receive-requires-clause-ascends : goal.receive-requires-clause-ascends
+receive-requires-clause-ascends c =
+    subst Ascends (sym (c.as_slice-3.ensures ∙ c.in_ok-ids.ensures))
+    (delivers-ascend c.args.limit c.self.inside.cursor (ids_of c.args.stream.now.entries) c.lawful.ensures.ascends)

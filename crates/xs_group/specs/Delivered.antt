@@ -1,0 +1,109 @@
+-- What a read of a group answers, and which read a delivery takes back.
+use Rattle.std.specs.Prelude.{◌≡◌, ℕ, Bool, true, false, not, ◌⊎◌, List, [], ◌∷◌, map, Option, Some, None, if◌then◌else◌}
+use Rattle.std.specs.Option.{option_map}
+use Rattle.xs_bytes.specs.SortedMap.{get, change}
+use Rattle.xs_stream.specs.declared.id.Id.{Id}
+use Rattle.xs_stream.specs.Id.{is_same, has_id}
+use Rattle.xs_group.specs.declared.delivery.Touch.{Touch}
+use Rattle.xs_group.specs.declared.delivery.DeliveryRow.{DeliveryRow}
+use Rattle.xs_group.specs.declared.delivery.DeliveryKind.{DeliveryKind}
+use Rattle.xs_group.specs.declared.delivery.DeliveryKind.TheVariants.{New, NoAck, History}
+use Rattle.xs_group.specs.declared.delivery.Delivery.{Delivery}
+use Rattle.xs_group.specs.State.{Row, Rows, State, has_name, with_name, raised}
+use Rattle.xs_group.specs.Read.{delivers, delivered_to, shown, reread_by, last_of, with_rows, first_row}
+use Rattle.xs_group.specs.Lawful.{IsLawful}
+
+-- an entry that is delivered for the first time
+abbrev pub new_row : Id → DeliveryRow
+new_row x = record { id = x; present = true; before = None }
+
+abbrev pub new_rows : List Id → List DeliveryRow
+new_rows ids = map new_row ids
+
+-- a group after a delivery of these ids
+abbrev pub received : List ℕ → ℕ → Bool → List Id → State → State
+received consumer now noack ids group =
+    record {
+      cursor = last_of group.cursor ids;
+      consumers = with_name group.consumers consumer;
+      rows = if noack then group.rows else with_rows ids (first_row consumer now) group.rows;
+    }
+
+abbrev pub kind_of : Bool → DeliveryKind
+kind_of noack = if noack then NoAck else New
+
+-- what a read of new entries answers
+abbrev pub delivery_of : List ℕ → Option ℕ → Bool → List Id → State → Delivery
+delivery_of consumer limit noack present group =
+    record {
+      consumer = consumer;
+      created = not (has_name group.consumers consumer);
+      cursor_before = group.cursor;
+      kind = kind_of noack;
+      rows = new_rows (delivers limit group.cursor present);
+    }
+
+abbrev pub touch_of : Option Row → Option Touch
+touch_of row = option_map (λ r. record { time = r.time; count = r.count }) row
+
+-- an entry of the consumer's own that is shown
+abbrev pub shown_row : Rows → List Id → Id → DeliveryRow
+shown_row rows present x = record { id = x; present = has_id present x; before = touch_of (get rows x) }
+
+abbrev pub shown_rows : Rows → List Id → List Id → List DeliveryRow
+shown_rows rows present ids = map (shown_row rows present) ids
+
+-- what a read of the consumer's own entries answers
+abbrev pub history_of : List ℕ → Option ℕ → Id → List Id → State → Delivery
+history_of consumer limit from present group =
+    record {
+      consumer = consumer;
+      created = not (has_name group.consumers consumer);
+      cursor_before = group.cursor;
+      kind = History;
+      rows = shown_rows group.rows present (shown consumer limit from group.rows.entries);
+    }
+
+-- a read of new entries made this group of the earlier one, and answered this delivery
+pub record IsDelivered (before after : State) (delivery : Delivery) : Type 0 where
+  pub now : ℕ
+  pub limit : Option ℕ
+  pub noack : Bool
+  pub ids : List Id
+  pub left : after ≡ delivered_to delivery.consumer now limit noack ids before
+  pub answered : delivery ≡ delivery_of delivery.consumer limit noack ids before
+
+-- so did a read of the consumer's own entries
+pub record IsReread (before after : State) (delivery : Delivery) : Type 0 where
+  pub now : ℕ
+  pub limit : Option ℕ
+  pub from : Id
+  pub ids : List Id
+  pub left : after ≡ reread_by delivery.consumer now limit from ids before
+  pub answered : delivery ≡ history_of delivery.consumer limit from ids before
+
+-- a read of a lawful group left this one, and answered this delivery
+abbrev pub IsMade : State → State → Delivery → Type 0
+IsMade before after delivery = IsLawful before × (IsDelivered before after delivery ⊎ IsReread before after delivery)
+
+-- ---- times and counts that are set
+
+-- the time and count that a row gets by a delivery at a moment, or gets back
+abbrev pub touch_set : Option ℕ → DeliveryRow → Option Touch
+touch_set (Some now) row = if row.present then option_map (λ t. record { time = now; count = raised t.count }) row.before else None
+touch_set None row = row.before
+
+abbrev pub with_touch : Touch → Row → Row
+with_touch touch row = record { consumer = row.consumer; time = touch.time; count = touch.count }
+
+abbrev pub touched_at : Id → Touch → Id → Row → Option Row
+touched_at id touch x row = if is_same x id then Some (with_touch touch row) else Some row
+
+abbrev pub set_one : Id → Option Touch → Rows → Rows
+set_one id None rows = rows
+set_one id (Some touch) rows = change (touched_at id touch) rows
+
+-- each of these rows set
+abbrev pub set_rows : Option ℕ → List DeliveryRow → Rows → Rows
+set_rows now [] rows = rows
+set_rows now (r ∷ rs) rows = set_rows now rs (set_one r.id (touch_set now r) rows)

@@ -1,0 +1,66 @@
+//! What a read of a group is made of.
+ghost use Rattle.std.specs.Prelude.{◌≡◌, IfOk, take, filter};
+ghost use Rattle.xs_stream.specs.Id.{has_id, is_below};
+ghost use Rattle.xs_stream.specs.Kept.{ids_of};
+ghost use Rattle.xs_group.specs.Read.{last_of};
+ghost use Rattle.xs_group.specs.Delivered.{new_rows};
+
+use crate::delivery::DeliveryRow;
+use std::alloc::{AllocError, Global};
+use std::collections::BTreeSet;
+use std::ops::Bound;
+use xs_stream::{Id, Stream};
+
+/// The last of these ids, or the one before them.
+pub(crate) fn last_id(before: Id, ids: &[Id]) -> Id
+    ensures { result ≡ last_of before ids.now }
+{
+    let mut last = before;
+    for id in ids {
+        last = *id;
+    }
+    last
+}
+
+/// The rows of entries that are delivered for the first time.
+pub(crate) fn new_rows(alloc: Global, ids: &[Id]) -> Result<Vec<DeliveryRow>, AllocError>
+    ensures { IfOk result (λ rows. rows.items ≡ new_rows ids.now) }
+{
+    let mut rows = Vec::with_capacity(alloc, ids.len())?;
+    for id in ids {
+        let row = DeliveryRow {
+            id: *id,
+            present: true,
+            before: None,
+        };
+        rows.push(row)?;
+    }
+    Ok(rows)
+}
+
+/// The entry is in the stream.
+pub(crate) fn is_present(stream: &Stream, id: Id) -> bool
+    ensures { result ≡ has_id (ids_of stream.now.entries) id }
+{
+    stream.get(id).is_some()
+}
+
+/// The ids of a set above this one, in their order, at most this many.
+pub(crate) fn ids_above(
+    alloc: Global,
+    ids: &BTreeSet<Id>,
+    from: Id,
+    most: u64,
+) -> Result<Vec<Id>, AllocError>
+    ensures { IfOk result (λ above. above.items ≡ take most (filter (λ x. is_below from x) ids.now.keys)) }
+{
+    let mut above = Vec::new(alloc);
+    let past = ids.range((Bound::Excluded(from), Bound::Unbounded));
+    for id in past {
+        if above.len() as u64 >= most {
+            break;
+        }
+        above.push(*id)?;
+    }
+    Ok(above)
+}
