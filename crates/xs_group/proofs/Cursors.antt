@@ -1,11 +1,11 @@
 -- Ids above a cursor.
-use Rattle.std.proofs.Common.{◌≡◌, ℕ, suc, zero, Bool, true, false, cond, not, ◌&&◌, ◌||◌, List, [], ◌∷◌, ◌++◌, filter, take, Option, Some, None, is_some, sym, ap, ◌∙◌, refl}
+use Rattle.std.proofs.Common.{◌≡◌, ℕ, suc, zero, Bool, true, false, cond, ◌||◌, List, [], ◌∷◌, ◌++◌, filter, take, Option, Some, None, is_some, sym, ap, ◌∙◌, refl}
 use Rattle.std.proofs.lemmas.Bool.{false≢true}
 use Rattle.xs_bytes.specs.SortedMap.{get, has_key}
 use Rattle.xs_stream.specs.declared.id.Id.{Id}
 use Rattle.xs_stream.specs.Id.{is_same, is_below, has_id}
 use Rattle.xs_stream.specs.Kept.{AllAbove, Ascends, limited}
-use Rattle.xs_stream.proofs.Order.{is_same-eq, below-not_back, below-irrefl, not_above-trans, below-trans}
+use Rattle.xs_stream.proofs.Order.{is_same-eq, below-not_back, below-irrefl, not_above-trans}
 use Rattle.xs_group.specs.State.{Row, Rows}
 use Rattle.xs_group.specs.Read.{last_of, with_rows}
 use Rattle.xs_group.specs.Held.{AreFree}

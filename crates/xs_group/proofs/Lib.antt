@@ -5,3 +5,8 @@ pub mod Ordered
 pub mod Leaving
 pub mod Putting
 pub mod Cursors
+pub mod Touching
+pub mod OwnIds
+pub mod Undoing
+pub mod Choosing
+pub mod Scanning

@@ -1,13 +1,13 @@
 -- Rows that are put.
-use Rattle.std.proofs.Common.{◌≡◌, ℕ, ◌<◌, ◌+◌, suc, zero, Bool, true, false, cond, not, ◌&&◌, ◌||◌, List, [], ◌∷◌, ◌++◌, length, take, get_or, Option, Some, None, is_some, option_and_then, sym, ap, ◌∙◌, refl, arith}
+use Rattle.std.proofs.Common.{◌≡◌, ℕ, ◌<◌, suc, zero, Bool, true, false, cond, not, ◌||◌, List, [], ◌∷◌, ◌++◌, length, take, get_or, Option, Some, None, is_some, option_and_then, sym, ap, ◌∙◌, refl, arith}
 use Rattle.std.proofs.lemmas.Bool.{false≢true}
-use Rattle.std.specs.Cmp.Lexicographic.{slice_cmp, nat_list_cmp_total}
+use Rattle.std.specs.Cmp.Lexicographic.{nat_list_cmp_total}
 use Rattle.xs_bytes.specs.SortedMap.{get, has_key, remove, change}
 use Rattle.xs_bytes.proofs.SortedMaps.{get-insert_by, get-remove}
 use Rattle.xs_stream.specs.declared.id.Id.{Id}
-use Rattle.xs_stream.specs.Id.{is_same, is_below, has_id}
+use Rattle.xs_stream.specs.Id.{is_same, has_id}
 use Rattle.xs_stream.specs.Kept.{AllAbove, Ascends}
-use Rattle.xs_stream.proofs.Order.{is_same-eq, is_same-symm, is_same-refl, below-not_same}
+use Rattle.xs_stream.proofs.Order.{is_same-symm, is_same-refl, below-not_same}
 use Rattle.xs_group.specs.State.{Row, Rows, Names, ids_total, is_name, put_row, has_name, with_name}
 use Rattle.xs_group.specs.Read.{with_rows}
 use Rattle.xs_group.specs.Changes.{unless_acked, unless_owned}

@@ -1,7 +1,7 @@
 -- What a read of a group answers, and which read a delivery takes back.
-use Rattle.std.specs.Prelude.{◌≡◌, ℕ, Bool, true, false, not, ◌⊎◌, List, [], ◌∷◌, map, Option, Some, None, if◌then◌else◌}
+use Rattle.std.specs.Prelude.{◌≡◌, ℕ, Bool, true, not, ◌⊎◌, List, [], ◌∷◌, map, Option, Some, None, if◌then◌else◌}
 use Rattle.std.specs.Option.{option_map}
-use Rattle.xs_bytes.specs.SortedMap.{get, change}
+use Rattle.xs_bytes.specs.SortedMap.{get, change, remove}
 use Rattle.xs_stream.specs.declared.id.Id.{Id}
 use Rattle.xs_stream.specs.Id.{is_same, has_id}
 use Rattle.xs_group.specs.declared.delivery.Touch.{Touch}
@@ -11,6 +11,8 @@ use Rattle.xs_group.specs.declared.delivery.DeliveryKind.TheVariants.{New, NoAck
 use Rattle.xs_group.specs.declared.delivery.Delivery.{Delivery}
 use Rattle.xs_group.specs.State.{Row, Rows, State, has_name, with_name, raised}
 use Rattle.xs_group.specs.Read.{delivers, delivered_to, shown, reread_by, last_of, with_rows, first_row}
+use Rattle.xs_group.specs.Changes.{unless_acked, unless_owned}
+use Rattle.xs_group.specs.Held.{Held}
 use Rattle.xs_group.specs.Lawful.{IsLawful}
 
 -- an entry that is delivered for the first time
@@ -107,3 +109,21 @@ set_one id (Some touch) rows = change (touched_at id touch) rows
 abbrev pub set_rows : Option ℕ → List DeliveryRow → Rows → Rows
 set_rows now [] rows = rows
 set_rows now (r ∷ rs) rows = set_rows now rs (set_one r.id (touch_set now r) rows)
+
+abbrev pub row_ids : List DeliveryRow → List Id
+row_ids rows = map (λ r. r.id) rows
+
+-- rows without what a read did to them
+abbrev pub taken_back : DeliveryKind → List DeliveryRow → Rows → Rows
+taken_back New rows held = change (unless_acked (row_ids rows)) held
+taken_back NoAck rows held = held
+taken_back History rows held = set_rows None rows held
+
+-- without the consumer, where the read made it
+abbrev pub without_made : Bool → List ℕ → Held → Held
+without_made created consumer held =
+    if created then record { consumers = remove held.consumers consumer; rows = change (unless_owned consumer) held.rows } else held
+
+abbrev pub unmade : Delivery → Held → Held
+unmade delivery held =
+    without_made delivery.created delivery.consumer (record { consumers = held.consumers; rows = taken_back delivery.kind delivery.rows held.rows })

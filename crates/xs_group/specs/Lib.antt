@@ -7,3 +7,4 @@ pub mod Report
 pub mod Held
 pub mod Lawful
 pub mod Delivered
+pub mod Verdict

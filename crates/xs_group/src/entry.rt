@@ -1,8 +1,9 @@
 //! A pending entry.
 ghost use Rattle.std.specs.Prelude.{◌≡◌};
-ghost use Rattle.xs_group.specs.State.{raised};
-ghost use Rattle.xs_group.specs.Read.{first_row, again};
+ghost use Rattle.xs_group.specs.State.{raised, idle};
+ghost use Rattle.xs_group.specs.Claims.{claimed_row, claim_time, claim_count};
 
+use crate::claim_rule::{ClaimRule, ClaimTime};
 use crate::delivery::Touch;
 use crate::name::Name;
 use std::marker::Model;
@@ -73,4 +74,49 @@ impl Entry {
         self.time = touch.time;
         self.count = touch.count;
     }
+
+    /// For how many milliseconds the entry has been with its consumer.
+    pub(crate) fn idle(&self, now: Moment) -> u64
+        ensures { result ≡ idle now self.now.time }
+    {
+        now.get().saturating_sub(self.time.get())
+    }
+
+    /// What a claim makes of the entry.
+    pub(crate) fn claim(&mut self, consumer: Name, now: Moment, rule: &ClaimRule)
+        ensures { self.new ≡ claimed_row consumer now rule.now self.old }
+    {
+        self.consumer = consumer;
+        self.time = claim_time(rule.when, now);
+        self.count = claim_count(rule.retry, rule.just_id, self.count);
+    }
+}
+
+/// The time that a claimed entry gets.
+fn claim_time(when: ClaimTime, now: Moment) -> Moment
+    ensures { result ≡ claim_time when now }
+{
+    match when {
+        ClaimTime::Now => now,
+        ClaimTime::Idle(millis) => { Moment::new(now.get().saturating_sub(millis)).unwrap_or(now) }
+        ClaimTime::At(millis) => {
+            if now.get() <= millis {
+                return now;
+            }
+            Moment::new(millis).unwrap_or(now)
+        }
+    }
+}
+
+/// The count that a claimed entry gets.
+fn claim_count(retry: Option<u64>, just_id: bool, count: u64) -> u64
+    ensures { result ≡ claim_count retry just_id count }
+{
+    if let Some(retry) = retry {
+        return retry;
+    }
+    if just_id {
+        return count;
+    }
+    raised(count)
 }

@@ -1,15 +1,18 @@
 //! A consumer group: its cursor, its consumers, and what is pending.
 ghost use Rattle.std.specs.Prelude.{◌≡◌, ◌+◌, not, length, IfOk, OnOk, OnErr};
-ghost use Rattle.xs_group.specs.State.{has_name, joined};
+ghost use Rattle.xs_group.specs.State.{State, has_name, joined};
 ghost use Rattle.xs_group.specs.Changes.{new_group, acked, without_consumer, owned_count};
 ghost use Rattle.xs_group.specs.Lawful.{IsLawful};
-ghost use Rattle.xs_group.specs.Read.{delivered_to};
-ghost use Rattle.xs_group.specs.Delivered.{delivery_of, kind_of, received};
+ghost use Rattle.xs_group.specs.Claims.{claim_of, scan_of};
+ghost use Rattle.xs_group.specs.Read.{delivered_to, reread_by};
+ghost use Rattle.xs_group.specs.Delivered.{delivery_of, history_of, kind_of, received, IsMade};
 ghost use Rattle.xs_stream.specs.Kept.{ids_of, AllAbove, Ascends};
 
+use crate::claim::{Claim, Scan};
+use crate::claim_rule::ClaimRule;
 use crate::delivery::{Delivery, DeliveryKind, DeliveryRows};
 use crate::pending::Pending;
-use crate::reading;
+use crate::{claiming, reading};
 use std::alloc::{AllocError, Global};
 use std::marker::Model;
 use xs_bytes::Bytes;
@@ -124,6 +127,79 @@ impl Group {
             kind: kind_of(noack),
             rows: DeliveryRows::new(rows),
         })
+    }
+
+    /// Shows a consumer its own pending entries above an id, and delivers those that are in the stream
+    /// once more (XREADGROUP with an id). The consumer is there from then on.
+    pub fn history(
+        &mut self,
+        alloc: Global,
+        stream: &Stream,
+        consumer: &Bytes,
+        now: Moment,
+        from: Id,
+        limit: Option<u64>,
+    ) -> Result<Delivery, AllocError>
+        ensures answer { IfOk result (λ d. d ≡ history_of consumer.now limit from (ids_of stream.now.entries) self.old) }
+        ensures ok { OnOk result (self.new ≡ reread_by consumer.now now limit from (ids_of stream.now.entries) self.old) }
+        ensures err { OnErr result (self.new ≡ self.old) }
+    {
+        let cursor_before = self.cursor;
+        let ids = self.pending.shown(alloc, consumer, from, limit)?;
+        let rows = self.pending.shown_rows(alloc, stream, ids.as_slice())?;
+        let text = Bytes::from_slice(alloc, consumer.as_slice())?;
+        let created = self.pending.add_consumer(alloc, consumer)?;
+        self.pending.set_touches(&Some(now), rows.as_slice());
+        Ok(Delivery {
+            consumer: text,
+            created,
+            cursor_before,
+            kind: DeliveryKind::History,
+            rows: DeliveryRows::new(rows),
+        })
+    }
+
+    /// Takes back the read that answered this delivery, where it was the last call that changed the
+    /// group: cursor, consumers and rows are what they were before it. It takes no memory.
+    pub fn undo(&mut self, delivery: Delivery)
+        requires { (before : State) × IsMade before self.old delivery }
+        ensures { (before : State) → IsMade before self.old delivery → self.new ≡ before }
+    {
+        self.pending.undo(&delivery);
+        self.cursor = delivery.cursor_before;
+    }
+
+    /// What a claim of these ids takes and removes (XCLAIM). It changes nothing.
+    pub fn find_claim(
+        &self,
+        alloc: Global,
+        stream: &Stream,
+        now: Moment,
+        rule: &ClaimRule,
+        ids: &[Id],
+    ) -> Result<Claim, AllocError>
+        ensures { IfOk result (λ claim. claim ≡ claim_of self.now.rows.entries (ids_of stream.now.entries) now rule.now ids.now) }
+    {
+        let firsts = claiming::firsts(alloc, ids)?;
+        self.pending
+            .claim_among(alloc, stream, now, rule, firsts.as_slice())
+    }
+
+    /// What a claim of the pending entries from a start upwards takes and removes, and where the next
+    /// one goes on (XAUTOCLAIM). It looks at the ids until it has met `limit` of them to take or remove,
+    /// or 10 times `limit` in all. It changes nothing.
+    pub fn scan(
+        &self,
+        alloc: Global,
+        stream: &Stream,
+        now: Moment,
+        rule: &ClaimRule,
+        start: Id,
+        limit: u64,
+    ) -> Result<Scan, AllocError>
+        ensures { IfOk result (λ scan. scan ≡ scan_of self.now.rows.entries (ids_of stream.now.entries) now rule.now start limit) }
+    {
+        self.pending.scan(alloc, stream, now, rule, start, limit)
     }
 
     /// Moves the cursor past these ids, and makes them pending unless `noack` is set.

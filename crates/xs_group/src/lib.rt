@@ -4,6 +4,7 @@
 
 pub mod claim;
 pub mod claim_rule;
+mod claiming;
 pub mod delivery;
 mod entry;
 pub mod group;
@@ -12,6 +13,7 @@ mod owners;
 mod pending;
 mod reading;
 pub mod report;
+mod verdict;
 
 pub use claim::{Claim, Scan};
 pub use claim_rule::{ClaimRule, ClaimTime};

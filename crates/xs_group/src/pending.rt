@@ -1,23 +1,33 @@
 //! The consumers and the pending entries, in two indexes: by id, and by consumer.
-ghost use Rattle.std.specs.Prelude.{◌≡◌, ◌+◌, not, length, true, false, None, IfOk, OnOk, OnErr, if◌then◌else◌};
+ghost use Rattle.std.specs.Prelude.{◌≡◌, ◌+◌, not, length, true, false, None, Some, IfOk, OnOk, OnErr, if◌then◌else◌};
 ghost use Rattle.std.specs.BTreeSet.{contains};
 ghost use Rattle.xs_bytes.specs.SortedMap.{empty, get, has_key, remove, change};
 ghost use Rattle.xs_stream.specs.declared.id.Id.{Id};
-ghost use Rattle.xs_stream.specs.Id.{id_cmp};
+ghost use Rattle.xs_stream.specs.Id.{id_cmp, has_id};
+ghost use Rattle.std.specs.BTreeMap.{IsOrdered};
+ghost use Rattle.xs_group.specs.Claims.{claim_among, scan_of};
+ghost use Rattle.xs_group.specs.Verdict.{verdict_of};
 ghost use Rattle.xs_group.specs.State.{has_name, with_name, put_row};
-ghost use Rattle.xs_stream.specs.Kept.{Ascends};
-ghost use Rattle.xs_group.specs.Read.{first_row, owned, with_rows};
+ghost use Rattle.xs_stream.specs.Kept.{Ascends, ids_of};
+ghost use Rattle.xs_group.specs.Read.{first_row, owned, with_rows, shown};
+ghost use Rattle.xs_group.specs.Delivered.{touch_of, shown_rows, set_one, set_rows, touch_set, row_ids, taken_back, unmade};
 ghost use Rattle.xs_group.specs.Changes.{unless_acked, unless_owned};
 ghost use Rattle.xs_group.specs.Held.{IsNamed, AreFree, row_in};
 
-use crate::entry::Entry;
+use crate::claim::{Claim, Scan};
+use crate::claim_rule::ClaimRule;
+use crate::delivery::{Delivery, DeliveryKind, DeliveryRow, Touch};
+use crate::entry::{Entry, raised};
 use crate::name::Name;
 use crate::owners::{self, Owners};
+use crate::verdict::{Found, Verdict};
+use crate::{claiming, reading};
 use std::alloc::{AllocError, Global};
 use std::collections::{BTreeMap, BTreeSet};
 use std::marker::Model;
+use std::ops::Bound;
 use xs_bytes::Bytes;
-use xs_stream::{Id, Moment};
+use xs_stream::{Id, Ids, Moment, Stream};
 
 /// The pending entries by id.
 pub(crate) type Rows = BTreeMap<Id, Entry>;
@@ -157,6 +167,159 @@ impl Pending {
         Ok(made)
     }
 
+    /// The consumer's ids above this one, at most `limit` of them.
+    pub(crate) fn shown(
+        &self,
+        alloc: Global,
+        name: &Bytes,
+        from: Id,
+        limit: Option<u64>,
+    ) -> Result<Ids, AllocError>
+        ensures { IfOk result (λ ids. ids ≡ shown name.now limit from self.now.rows.entries) }
+    {
+        let Some(ids) = self.owners.get(name) else {
+            return Ok(Ids::new(Vec::new(alloc)));
+        };
+        let _len = ids.len();
+        reading::limited_above(alloc, ids, from, limit)
+    }
+
+    /// When an entry was last delivered, and how often.
+    fn touch_at(&self, id: Id) -> Option<Touch>
+        ensures { result ≡ touch_of (get self.now.rows id) }
+    {
+        match self.rows.get(&id) {
+            Some(entry) => Some(entry.touch()),
+            None => None,
+        }
+    }
+
+    /// The rows of entries that are shown.
+    pub(crate) fn shown_rows(
+        &self,
+        alloc: Global,
+        stream: &Stream,
+        ids: &[Id],
+    ) -> Result<Vec<DeliveryRow>, AllocError>
+        ensures { IfOk result (λ rows. rows.items ≡ shown_rows self.now.rows (ids_of stream.now.entries) ids.now) }
+    {
+        let mut rows = Vec::with_capacity(alloc, ids.len())?;
+        for id in ids {
+            let row = DeliveryRow {
+                id: *id,
+                present: reading::is_present(stream, *id),
+                before: self.touch_at(*id),
+            };
+            rows.push(row)?;
+        }
+        Ok(rows)
+    }
+
+    /// Sets the time and the count of an entry.
+    fn set_touch(&mut self, id: Id, touch: Touch)
+        ensures { self.new ≡ record self.old { rows = set_one id (Some touch) self.old.rows } }
+    {
+        let Some(entry) = self.rows.get_mut(&id) else {
+            return;
+        };
+        entry.set_touch(touch);
+    }
+
+    /// Sets the time and the count of one entry: those of a delivery at a moment, or else those before it.
+    fn set_row(&mut self, now: &Option<Moment>, row: &DeliveryRow)
+        ensures { self.new ≡ record self.old { rows = set_one row.now.id (touch_set now.now row.now) self.old.rows } }
+    {
+        let Some(touch) = touch_set(now, row) else {
+            return;
+        };
+        self.set_touch(row.id, touch);
+    }
+
+    /// Sets the times and the counts of entries: those of a delivery at a moment, or else those before it.
+    pub(crate) fn set_touches(&mut self, now: &Option<Moment>, rows: &[DeliveryRow])
+        ensures { self.new ≡ record self.old { rows = set_rows now.now rows.now self.old.rows } }
+    {
+        for row in rows {
+            self.set_row(now, row);
+        }
+    }
+
+    /// Takes the ids of these rows out.
+    pub(crate) fn take_rows(&mut self, rows: &[DeliveryRow])
+        ensures { self.new ≡ record self.old { rows = change (unless_acked (row_ids rows.now)) self.old.rows } }
+    {
+        for row in rows {
+            self.take(row.id);
+        }
+    }
+
+    /// Takes back what a read did to these rows.
+    fn take_back(&mut self, kind: DeliveryKind, rows: &[DeliveryRow])
+        ensures { self.new ≡ record self.old { rows = taken_back kind rows.now self.old.rows } }
+    {
+        match kind {
+            DeliveryKind::New => self.take_rows(rows),
+            DeliveryKind::NoAck => {}
+            DeliveryKind::History => self.set_touches(&None, rows),
+        }
+    }
+
+    /// Takes back what a read did to the consumers and the rows.
+    pub(crate) fn undo(&mut self, delivery: &Delivery)
+        ensures { self.new ≡ unmade delivery.now self.old }
+    {
+        self.take_back(delivery.kind, delivery.rows.as_slice());
+        if !delivery.created {
+            return;
+        }
+        self.remove_consumer(&delivery.consumer);
+    }
+
+    /// What a claim makes of an id.
+    fn verdict(&self, stream: &Stream, now: Moment, rule: &ClaimRule, id: Id) -> Verdict
+        ensures { result ≡ verdict_of (get self.now.rows id) (has_id (ids_of stream.now.entries) id) now rule.now }
+    {
+        match self.rows.get(&id) {
+            Some(entry) => claiming::judge(entry, stream, now, rule, id),
+            None => Verdict::Passed,
+        }
+    }
+
+    /// What a claim makes of these ids.
+    pub(crate) fn claim_among(
+        &self,
+        alloc: Global,
+        stream: &Stream,
+        now: Moment,
+        rule: &ClaimRule,
+        ids: &[Id],
+    ) -> Result<Claim, AllocError>
+        ensures { IfOk result (λ claim. claim ≡ claim_among self.now.rows.entries (ids_of stream.now.entries) now rule.now ids.now) }
+    {
+        let mut found = Found::new(alloc);
+        for id in ids {
+            let verdict = self.verdict(stream, now, rule, *id);
+            found.add(verdict, *id)?;
+        }
+        Ok(found.into_claim())
+    }
+
+    /// What a claim makes of the ids from a start upwards, until there are enough.
+    pub(crate) fn scan(
+        &self,
+        alloc: Global,
+        stream: &Stream,
+        now: Moment,
+        rule: &ClaimRule,
+        start: Id,
+        limit: u64,
+    ) -> Result<Scan, AllocError>
+        ensures { IfOk result (λ scan. scan ≡ scan_of self.now.rows.entries (ids_of stream.now.entries) now rule.now start limit) }
+    {
+        let _len = self.rows.len();
+        scan_rows(alloc, &self.rows, stream, now, rule, start, limit)
+    }
+
     /// Takes these ids out.
     pub(crate) fn take_all(&mut self, ids: &[Id])
         ensures { self.new ≡ record self.old { rows = change (unless_acked ids.now) self.old.rows } }
@@ -195,6 +358,60 @@ impl Pending {
     {
         let _ = &self.rows;
     }
+}
+
+/// The time and the count that a row gets by a delivery at a moment, or gets back.
+fn touch_set(now: &Option<Moment>, row: &DeliveryRow) -> Option<Touch>
+    ensures { result ≡ touch_set now.now row.now }
+{
+    let Some(now) = now else {
+        return row.before;
+    };
+    if !row.present {
+        return None;
+    }
+    match row.before {
+        Some(touch) => Some(Touch {
+            time: *now,
+            count: raised(touch.count),
+        }),
+        None => None,
+    }
+}
+
+/// What a claim makes of the rows from a start upwards, until there are enough.
+fn scan_rows(
+    alloc: Global,
+    rows: &Rows,
+    stream: &Stream,
+    now: Moment,
+    rule: &ClaimRule,
+    start: Id,
+    limit: u64,
+) -> Result<Scan, AllocError>
+    requires { IsOrdered id_cmp rows.now }
+    ensures { IfOk result (λ scan. scan ≡ scan_of rows.now.entries (ids_of stream.now.entries) now rule.now start limit) }
+{
+    let mut found = Found::new(alloc);
+    let mut hits = 0u64;
+    let mut seen = 0u64;
+    let past = rows.range((Bound::Included(start), Bound::Unbounded));
+    for (id, entry) in past {
+        if hits >= limit || seen / 10 >= limit {
+            return Ok(Scan {
+                cursor: *id,
+                claim: found.into_claim(),
+            });
+        }
+        let verdict = claiming::judge(entry, stream, now, rule, *id);
+        hits += verdict.hits();
+        seen += 1;
+        found.add(verdict, *id)?;
+    }
+    Ok(Scan {
+        cursor: Id::ZERO,
+        claim: found.into_claim(),
+    })
 }
 
 /// Takes the rows of these ids out.

@@ -1,7 +1,7 @@
 //! What a read of a group is made of.
 ghost use Rattle.std.specs.Prelude.{◌≡◌, IfOk, take, filter};
 ghost use Rattle.xs_stream.specs.Id.{has_id, is_below};
-ghost use Rattle.xs_stream.specs.Kept.{ids_of};
+ghost use Rattle.xs_stream.specs.Kept.{ids_of, limited};
 ghost use Rattle.xs_group.specs.Read.{last_of};
 ghost use Rattle.xs_group.specs.Delivered.{new_rows};
 
@@ -9,7 +9,7 @@ use crate::delivery::DeliveryRow;
 use std::alloc::{AllocError, Global};
 use std::collections::BTreeSet;
 use std::ops::Bound;
-use xs_stream::{Id, Stream};
+use xs_stream::{Id, Ids, Stream};
 
 /// The last of these ids, or the one before them.
 pub(crate) fn last_id(before: Id, ids: &[Id]) -> Id
@@ -45,13 +45,21 @@ pub(crate) fn is_present(stream: &Stream, id: Id) -> bool
     stream.get(id).is_some()
 }
 
-/// The ids of a set above this one, in their order, at most this many.
-pub(crate) fn ids_above(
+/// The ids of a set above this one, in their order, at most `limit` of them.
+pub(crate) fn limited_above(
     alloc: Global,
     ids: &BTreeSet<Id>,
     from: Id,
-    most: u64,
-) -> Result<Vec<Id>, AllocError>
+    limit: Option<u64>,
+) -> Result<Ids, AllocError>
+    ensures { IfOk result (λ above. above ≡ limited limit (filter (λ x. is_below from x) ids.now.keys)) }
+{
+    let above = ids_above(alloc, ids, from, limit.unwrap_or(u64::MAX))?;
+    Ok(Ids::new(above))
+}
+
+/// The ids of a set above this one, in their order, at most this many.
+fn ids_above(alloc: Global, ids: &BTreeSet<Id>, from: Id, most: u64) -> Result<Vec<Id>, AllocError>
     ensures { IfOk result (λ above. above.items ≡ take most (filter (λ x. is_below from x) ids.now.keys)) }
 {
     let mut above = Vec::new(alloc);

@@ -1,0 +1,67 @@
+-- A read that is taken back.
+use Rattle.std.proofs.Common.{◌≡◌, ℕ, Bool, true, false, cond, not, inl, inr, List, [], ◌∷◌, sym, ap, ◌∙◌, refl}
+use Rattle.xs_bytes.specs.SortedMap.{change}
+use Rattle.xs_stream.specs.declared.id.Id.{Id}
+use Rattle.xs_group.specs.declared.delivery.Delivery.{Delivery}
+use Rattle.xs_group.specs.State.{Rows, State, has_name, with_name}
+use Rattle.xs_group.specs.Read.{delivers, first_row, with_rows, shown}
+use Rattle.xs_group.specs.Changes.{unless_acked}
+use Rattle.xs_group.specs.Held.{Held, IsNamed, AreFree}
+use Rattle.xs_group.specs.Lawful.{IsLawful}
+use Rattle.xs_group.specs.Delivered.{new_rows, kind_of, taken_back, without_made, unmade, row_ids, IsDelivered, IsReread, IsMade}
+use Rattle.xs_group.proofs.Agreeing.{name-again}
+use Rattle.xs_group.proofs.Putting.{held-back, out-again}
+use Rattle.xs_group.proofs.Cursors.{free-above, delivers-above}
+use Rattle.xs_group.proofs.Touching.{rows-unread}
+
+ids-new_rows : (ids : List Id) → row_ids (new_rows ids) ≡ ids
+ids-new_rows [] = refl
+ids-new_rows (x ∷ xs) = ap (λ rest. x ∷ rest) (ids-new_rows xs)
+
+-- the consumer goes where it was made
+without-made : (held : Held) (name : List ℕ) → IsNamed held.consumers held.rows
+    → without_made (not (has_name held.consumers name)) name (record { consumers = with_name held.consumers name; rows = held.rows }) ≡ held
+without-made held name named = by (has_name held.consumers name) refl where
+  by : (t : Bool) → has_name held.consumers name ≡ t → without_made (not t) name (record { consumers = with_name held.consumers name; rows = held.rows }) ≡ held
+  by true e = ap (λ names. record { consumers = names; rows = held.rows }) (name-again held.consumers name e)
+  by false e = held-back held name named (sym (ap not e))
+
+-- a group with the consumers and the rows that an undoing leaves
+abbrev pub undone : Delivery → State → State
+undone d group =
+    let held = unmade d (record { consumers = group.consumers; rows = group.rows }) in
+    record { cursor = d.cursor_before; consumers = held.consumers; rows = held.rows }
+
+abbrev state_of : Id → Held → State
+state_of cursor held = record { cursor = cursor; consumers = held.consumers; rows = held.rows }
+
+module _ (before : State) (law : IsLawful before) where
+  back : (d : Delivery) (after : State) (rows : Rows) → d.created ≡ not (has_name before.consumers d.consumer) → d.cursor_before ≡ before.cursor
+      → after.consumers ≡ with_name before.consumers d.consumer → taken_back d.kind d.rows after.rows ≡ before.rows → undone d after ≡ before
+  back d after rows made cursor names back_rows =
+      let h : unmade d (record { consumers = after.consumers; rows = after.rows }) ≡ record { consumers = before.consumers; rows = before.rows } =
+      (λ i. without_made (made i) d.consumer (record { consumers = names i; rows = back_rows i }))
+      ∙ without-made (record { consumers = before.consumers; rows = before.rows }) d.consumer law.named in
+      λ i. state_of (cursor i) (h i)
+
+  undelivered : (after : State) (d : Delivery) → IsDelivered before after d → undone d after ≡ before
+  undelivered after d w =
+      let ids = delivers w.limit before.cursor w.ids in
+      let free = free-above before.cursor before.rows ids law.up_to (delivers-above w.limit before.cursor w.ids) in
+      back d after before.rows (ap (λ (k : Delivery). k.created) w.answered) (ap (λ (k : Delivery). k.cursor_before) w.answered) (ap (λ (g : State). g.consumers) w.left)
+      ((λ i. taken_back (w.answered i).kind (w.answered i).rows (w.left i).rows) ∙ by ids free w.noack) where
+        by : (ids : List Id) → AreFree before.rows ids → (noack : Bool)
+            → taken_back (kind_of noack) (new_rows ids) (cond noack before.rows (with_rows ids (first_row d.consumer w.now) before.rows)) ≡ before.rows
+        by ids free true = refl
+        by ids free false = ap (λ k. change (unless_acked k) (with_rows ids (first_row d.consumer w.now) before.rows)) (ids-new_rows ids)
+            ∙ out-again ids (first_row d.consumer w.now) before.rows free
+
+  unreread : (after : State) (d : Delivery) → IsReread before after d → undone d after ≡ before
+  unreread after d w =
+      back d after before.rows (ap (λ (k : Delivery). k.created) w.answered) (ap (λ (k : Delivery). k.cursor_before) w.answered) (ap (λ (g : State). g.consumers) w.left)
+      ((λ i. taken_back (w.answered i).kind (w.answered i).rows (w.left i).rows)
+      ∙ rows-unread w.now w.ids (shown d.consumer w.limit w.from before.rows.entries) before.rows)
+
+pub undone-before : (before after : State) (d : Delivery) → IsMade before after d → undone d after ≡ before
+undone-before before after d (law, inl w) = undelivered before law after d w
+undone-before before after d (law, inr w) = unreread before law after d w

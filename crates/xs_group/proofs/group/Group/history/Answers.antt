@@ -1,0 +1,30 @@
+use Rattle.std.proofs.Common.{Some, ap, ◌∙◌}
+use Rattle.xs_stream.specs.Kept.{ids_of}
+use Rattle.xs_group.specs.State.{with_name}
+use Rattle.xs_group.specs.Read.{shown, reread}
+use Rattle.xs_group.specs.Delivered.{set_rows, shown_rows}
+use Rattle.xs_group.proofs.group.Group.history.Goals as goal
+use Rattle.xs_group.proofs.Leaving.{up_to-change}
+use Rattle.xs_group.proofs.Touching.{rows-reread}
+
+pub returns-clause-ok : goal.returns-clause-ok
+returns-clause-ok c =
+    let held = c.self.inside.pending in
+    let present = ids_of c.args.stream.now.entries in
+    let ids = shown c.args.consumer.now c.args.limit c.args.from held.rows.entries in
+    let rows = c.in_ok-rows.ensures ∙ ap (shown_rows held.rows present) (c.as_slice.ensures ∙ c.in_ok-ids.ensures) in
+    let is = c.set_touches.ensures ∙ ap (λ h. record { consumers = h.consumers; rows = set_rows (Some c.args.now) c.as_slice-3.result.now h.rows }) c.in_ok-created.ensures.ok
+    ∙ ap (λ rs. record { consumers = with_name held.consumers c.args.consumer.now; rows = set_rows (Some c.args.now) rs held.rows }) (c.as_slice-3.ensures.value ∙ rows)
+    ∙ ap (λ r. record { consumers = with_name held.consumers c.args.consumer.now; rows = r }) (rows-reread c.args.now present ids held.rows) in
+    rw (← c.self.view_is) (ap (λ h. record { cursor = c.self.inside.cursor; consumers = h.consumers; rows = h.rows }) is)
+
+pub invariant_of-self-2 : goal.invariant_of-self-2
+invariant_of-self-2 c =
+    let held = c.self.inside.pending in
+    let present = ids_of c.args.stream.now.entries in
+    let ids = shown c.args.consumer.now c.args.limit c.args.from held.rows.entries in
+    let rows = c.in_ok-rows.ensures ∙ ap (shown_rows held.rows present) (c.as_slice.ensures ∙ c.in_ok-ids.ensures) in
+    let is = c.set_touches.ensures ∙ ap (λ h. record { consumers = h.consumers; rows = set_rows (Some c.args.now) c.as_slice-3.result.now h.rows }) c.in_ok-created.ensures.ok
+    ∙ ap (λ rs. record { consumers = with_name held.consumers c.args.consumer.now; rows = set_rows (Some c.args.now) rs held.rows }) (c.as_slice-3.ensures.value ∙ rows)
+    ∙ ap (λ r. record { consumers = with_name held.consumers c.args.consumer.now; rows = r }) (rows-reread c.args.now present ids held.rows) in
+    rw is (up_to-change (reread c.args.now ids present) c.self.inside.cursor held.rows c.self.invariant)

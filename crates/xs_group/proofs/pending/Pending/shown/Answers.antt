@@ -1,0 +1,18 @@
+use Rattle.std.proofs.Common.{◌≡◌, filter, sym, ap, ◌∙◌, subst, IfOk}
+use Rattle.xs_stream.specs.Id.{is_below}
+use Rattle.xs_stream.specs.Kept.{limited}
+use Rattle.xs_stream.proofs.Entries.{limited-none}
+use Rattle.xs_group.proofs.pending.Pending.shown.Goals as goal
+use Rattle.xs_group.proofs.OwnIds.{owned-none, owned-some}
+
+pub returns-in_default : goal.returns-in_default
+returns-in_default c =
+    rw (← c.self.view_is) (c.new-in_default.ensures ∙ c.new.ensures.items ∙ sym (limited-none c.args.limit)
+    ∙ ap (λ ids. limited c.args.limit (filter (λ x. is_below c.args.from x) ids))
+    (owned-none c.self.inside.rows.entries c.self.inside.owners.entries c.args.name.now c.self.invariant c.in_default.ensures.value))
+
+pub returns : goal.returns
+returns c =
+    rw (← c.self.view_is) (subst (λ own. IfOk c.limited_above.result (λ ids. ids ≡ limited c.args.limit (filter (λ x. is_below c.args.from x) own)))
+    (owned-some c.self.inside.rows.entries c.self.inside.owners.entries c.args.name.now c.in-Some.ids.now c.self.invariant c.in-Some.ensures.value c.len-len.ensures.ordered)
+    c.limited_above.ensures)

@@ -1,0 +1,8 @@
+use Rattle.std.proofs.Common.{◌≡◌, take}
+use Rattle.xs_stream.specs.Kept.{ids_of}
+use Rattle.xs_group.specs.Delivered.{shown_rows}
+use Rattle.xs_group.proofs.pending.Pending.shown_rows.Given as goal
+
+-- the rows so far
+abbrev pub invariant-loop-id : goal.invariant-loop-id
+invariant-loop-id l = l.rows.items ≡ shown_rows l.self.rows (ids_of l.stream.entries) (take l.id-index l.ids)

@@ -1,0 +1,22 @@
+use Rattle.std.proofs.Common.{take, sym, ap, ◌∙◌, ◌++◌, ◌∷◌, []}
+use Rattle.std.proofs.lemmas.List.{take_more}
+use Rattle.xs_bytes.specs.SortedMap.{change, remove}
+use Rattle.xs_group.specs.declared.delivery.DeliveryRow.{DeliveryRow}
+use Rattle.xs_group.specs.Changes.{unless_acked}
+use Rattle.xs_group.specs.Delivered.{row_ids}
+use Rattle.xs_group.proofs.pending.Pending.take_rows.Goals as goal
+use Rattle.xs_group.proofs.Leaving.{acked-none, acked-more}
+use Rattle.xs_group.proofs.Touching.{row_ids-append}
+
+pub loop-row-init : goal.loop-row-init
+loop-row-init c = ap (λ rows. record { consumers = c.args.self.now.consumers; rows = rows }) (sym (acked-none c.args.self.now.rows))
+
+pub loop-row-preserved : goal.loop-row-preserved
+loop-row-preserved c =
+    let row = c.row-item.result in
+    let done = take c.loop-row.row-index c.args.rows.now in
+    let next = take_more c.args.rows.now c.loop-row.row-index row c.loop-row-test.true ∙ ap (λ (r : DeliveryRow). done ++ r ∷ []) (sym c.row-item.is) in
+    c.take.ensures.rows ∙ ap (λ held. record { consumers = held.consumers; rows = remove held.rows row.id }) c.loop-row.invariant
+    ∙ ap (λ rows. record { consumers = c.args.self.now.consumers; rows = rows })
+    (acked-more (row_ids done) row.id c.args.self.now.rows ∙ ap (λ ids. change (unless_acked ids) c.args.self.now.rows)
+    (sym (row_ids-append done row) ∙ sym (ap row_ids next)))

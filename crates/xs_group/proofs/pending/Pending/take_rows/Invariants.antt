@@ -1,0 +1,9 @@
+use Rattle.std.proofs.Common.{◌≡◌, take}
+use Rattle.xs_bytes.specs.SortedMap.{change}
+use Rattle.xs_group.specs.Changes.{unless_acked}
+use Rattle.xs_group.specs.Delivered.{row_ids}
+use Rattle.xs_group.proofs.pending.Pending.take_rows.Given as goal
+
+-- the ids so far are out
+abbrev pub invariant-loop-row : goal.invariant-loop-row
+invariant-loop-row l = l.self ≡ record { consumers = l.fn.self.consumers; rows = change (unless_acked (row_ids (take l.row-index l.rows))) l.fn.self.rows }

@@ -1,0 +1,67 @@
+-- What a claim makes of one id, and the scanned part met one id after another.
+use Rattle.std.specs.Prelude.{◌≡◌, ℕ, ◌+◌, ◌*◌, Bool, true, false, ◌||◌, ◌⊎◌, List, [], ◌∷◌, ◌++◌, nat_le, Option, Some, None, if◌then◌else◌}
+use Rattle.xs_stream.specs.declared.id.Id.{Id}
+use Rattle.xs_stream.specs.Id.{has_id}
+use Rattle.xs_group.specs.declared.claim.Claim.{Claim}
+use Rattle.xs_group.specs.declared.verdict.Verdict.{Verdict}
+use Rattle.xs_group.specs.declared.verdict.Verdict.TheVariants.{Passed, Taken, Removed}
+use Rattle.xs_group.specs.Rule.{Rule}
+use Rattle.xs_group.specs.State.{Row, State}
+use Rattle.xs_group.specs.Claims.{is_idle, claim_of, scan_of, claimed_row}
+
+abbrev pub is_taken_by : Verdict → Bool
+is_taken_by Taken = true
+is_taken_by _ = false
+
+abbrev pub is_removed_by : Verdict → Bool
+is_removed_by Removed = true
+is_removed_by _ = false
+
+-- how many hits it is
+abbrev pub hits_of : Verdict → ℕ
+hits_of Passed = 0
+hits_of _ = 1
+
+-- the verdict on a row, or on an id that has none
+abbrev pub verdict_of : Option Row → Bool → ℕ → Rule → Verdict
+verdict_of None present now rule = Passed
+verdict_of (Some row) present now rule = if present then (if is_idle now rule (Some row) then Taken else Passed) else Removed
+
+abbrev pub with_taken : Verdict → List Id → Id → List Id
+with_taken verdict ids id = if is_taken_by verdict then ids ++ id ∷ [] else ids
+
+abbrev pub with_removed : Verdict → List Id → Id → List Id
+with_removed verdict ids id = if is_removed_by verdict then ids ++ id ∷ [] else ids
+
+-- the ids that are scanned after so many hits among so many ids
+abbrev pub scanned_after : (Id → Bool) → ℕ → ℕ → ℕ → List Id → List Id
+scanned_after hit limit hits seen [] = []
+scanned_after hit limit hits seen (x ∷ xs) =
+    if nat_le limit hits || nat_le (10 * limit) seen then []
+    else x ∷ scanned_after hit limit (hits + (if hit x then 1 else 0)) (seen + 1) xs
+
+-- what becomes of a row where these ids are taken
+abbrev pub moved : List ℕ → ℕ → Rule → List Id → Id → Row → Option Row
+moved consumer now rule ids x row = if has_id ids x then Some (claimed_row consumer now rule row) else Some row
+
+-- no id stands twice
+abbrev pub AreApart : List Id → Type 0
+AreApart [] = Unit {0}
+AreApart (x ∷ xs) = (has_id xs x ≡ false) × AreApart xs
+
+-- a claim that was found by ids
+pub record IsFound (group : State) (now : ℕ) (rule : Rule) (claim : Claim) : Type 0 where
+  pub present : List Id
+  pub ids : List Id
+  pub is : claim ≡ claim_of group.rows.entries present now rule ids
+
+-- a claim that was found by a scan
+pub record IsScanned (group : State) (now : ℕ) (rule : Rule) (claim : Claim) : Type 0 where
+  pub present : List Id
+  pub start : Id
+  pub limit : ℕ
+  pub is : claim ≡ (scan_of group.rows.entries present now rule start limit).claim
+
+-- a claim on a group as it stands
+abbrev pub IsClaimOn : State → ℕ → Rule → Claim → Type 0
+IsClaimOn group now rule claim = IsFound group now rule claim ⊎ IsScanned group now rule claim
