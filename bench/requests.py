@@ -4,7 +4,7 @@
     requests.py [--runs N]      needs the toolchain, cc and libhiredis-dev
 
 Each reads 1,000,000 additions with one value of 60 bytes out of memory, in pieces of 16 KiB, of 1 KiB and of 7 bytes.
-The program over the reader, bench/requests/main.rt, is a crate of a repository that is laid down for the time of the
+The program over the reader, bench/requests/main.rt.txt, is a crate of a repository that is laid down for the time of the
 run, with copies of the crates xs_bytes and xs_resp as they are built here. Processor time is what the kernel counts.
 """
 import argparse
@@ -32,7 +32,7 @@ def lay_down(folder):
         shutil.copytree(os.path.join(TOP, "crates", name), os.path.join(folder, "crates", name))
     source = os.path.join(folder, "crates", "bench_requests", "src")
     os.makedirs(source)
-    shutil.copy(os.path.join(HERE, "requests", "main.rt"), source)
+    shutil.copy(os.path.join(HERE, "requests", "main.rt.txt"), os.path.join(source, "main.rt"))
 
 
 def build_here(folder):

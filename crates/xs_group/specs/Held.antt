@@ -6,7 +6,8 @@ use Rattle.std.specs.BTreeMap.{is_at}
 use Rattle.std.specs.BTreeSet.{BTreeSet, contains}
 use Rattle.std.specs.Ordering.{nat_cmp}
 use Rattle.std.specs.Cmp.Lexicographic.{slice_cmp}
-use Rattle.xs_bytes.specs.SortedMap.{coded_map, from_entries, get, has_key}
+use Rattle.xs_bytes.specs.MapCode.{coded_map}
+use Rattle.xs_bytes.specs.SortedMap.{from_entries, get, has_key}
 use Rattle.xs_stream.specs.declared.id.Id.{Id}
 use Rattle.xs_stream.specs.Id.{id_cmp, has_id}
 use Rattle.xs_group.specs.State.{Row, Rows, Names, State, is_name, has_name}

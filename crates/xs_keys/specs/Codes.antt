@@ -3,14 +3,12 @@ use Rattle.std.specs.Prelude.{ℕ, List, refl}
 use Rattle.xs_bytes.specs.SortedMap.{NameMap, from_entries}
 use Rattle.xs_bytes.specs.MapCode.{coded_map}
 use Rattle.std.specs.Coded.{Coded, code_by, coded×, coded_list, coded_ℕ}
-use Rattle.xs_group.specs.State.{Row, Rows, Names, State}
+use Rattle.xs_group.specs.State.{State}
+use Rattle.xs_group.specs.Held.{coded_id, coded_state}
 use Rattle.xs_stream.specs.declared.id.Id.{Id}
 use Rattle.xs_stream.specs.declared.field.Field.{Field}
 use Rattle.xs_stream.specs.Kept.{Kept}
 use Rattle.xs_keys.specs.Content.{Key, Content}
-
-abbrev pub coded_id : Coded Id
-coded_id = code_by (ℕ × ℕ) (coded× coded_ℕ coded_ℕ) (λ i. (i.ms, i.seq)) (λ p. record { ms = p.0; seq = p.1 }) (λ _. refl)
 
 abbrev pub coded_field : Coded Field
 coded_field =
@@ -21,22 +19,9 @@ coded_kept =
     code_by (Id × List (Id × List Field)) (coded× coded_id (coded_list (coded× coded_id (coded_list coded_field))))
     (λ k. (k.top, k.entries)) (λ p. record { top = p.0; entries = p.1 }) (λ _. refl)
 
-abbrev pub coded_row : Coded Row
-coded_row =
-    code_by (List ℕ × (ℕ × ℕ)) (coded× (coded_list coded_ℕ) (coded× coded_ℕ coded_ℕ))
-    (λ r. (r.consumer, (r.time, r.count))) (λ p. record { consumer = p.0; time = p.1.0; count = p.1.1 }) (λ _. refl)
-
-abbrev pub coded_nothing : Coded (Unit {0})
-coded_nothing = code_by ℕ coded_ℕ (λ _. 0) (λ _. tt) (λ _. refl)
-
-abbrev pub coded_group : Coded State
-coded_group =
-    code_by (Id × (Names × Rows)) (coded× coded_id (coded× (coded_map (coded_list coded_ℕ) coded_nothing) (coded_map coded_id coded_row)))
-    (λ g. (g.cursor, (g.consumers, g.rows))) (λ p. record { cursor = p.0; consumers = p.1.0; rows = p.1.1 }) (λ _. refl)
-
 abbrev pub coded_key : Coded Key
 coded_key =
-    code_by (Kept × NameMap State) (coded× coded_kept (coded_map (coded_list coded_ℕ) coded_group))
+    code_by (Kept × NameMap State) (coded× coded_kept (coded_map (coded_list coded_ℕ) coded_state))
     (λ k. (k.stream, k.groups)) (λ p. record { stream = p.0; groups = p.1 }) (λ _. refl)
 
 abbrev pub coded_content : Coded Content

@@ -9,18 +9,11 @@ use Rattle.xs_stream.specs.declared.field.Field.{Field}
 use Rattle.xs_group.specs.State.{is_name}
 use Rattle.xs_keys.specs.Ground.{Command, Add, Delete, TrimTo, GroupCreate, DropKeys}
 
--- keys, groups and consumers have names
-abbrev pub Name : Type 0
-Name = List ℕ
-
+-- keys, groups and consumers have names, lists of bytes
 abbrev pub has_name : List (List ℕ) → List ℕ → Bool
 has_name names name = list_any (is_name name) names
 
--- a command at a moment
-abbrev pub Event : Type 0
-Event = ℕ × Command
-
--- what an event asks of the stream of a key: an addition at a moment, a deletion, a trim
+-- what an event, a command at a moment, asks of the stream of a key: an addition at a moment, a deletion, a trim
 pub data Change : Type 0 where
   added : ℕ → AddId → List Field → Option Trim → Change
   deleted : List Id → Change

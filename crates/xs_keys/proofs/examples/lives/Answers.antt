@@ -31,4 +31,5 @@ returns c = record {
   another_life_of_a_group = refl;
   a_key_s_life_ends = refl;
   a_key_goes_with_its_groups = refl;
+  a_group_stays = refl;
 }
