@@ -10,3 +10,5 @@ pub mod OwnIds
 pub mod Undoing
 pub mod Choosing
 pub mod Scanning
+pub mod Handing
+pub mod Settling

@@ -57,7 +57,7 @@ free-more ids i d row rows a free h =
     ap is_some (get-with_rows (take i ids) row rows (get_or ids i d) ∙ ap (λ b. cond b (Some row) (get rows (get_or ids i d))) (not_before ids i d a h))
     ∙ free (get_or ids i d) (is_among ids i d h)
 
-among-take : (ids : List Id) (i : ℕ) (q : Id) → has_id (take i ids) q ≡ true → has_id ids q ≡ true
+pub among-take : (ids : List Id) (i : ℕ) (q : Id) → has_id (take i ids) q ≡ true → has_id ids q ≡ true
 among-take [] zero q e = e
 among-take [] (suc i) q e = e
 among-take (x ∷ xs) zero q e = absurd (false≢true e)

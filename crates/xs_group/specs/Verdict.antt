@@ -1,12 +1,13 @@
 -- What a claim makes of one id, and the scanned part met one id after another.
-use Rattle.std.specs.Prelude.{◌≡◌, ℕ, ◌+◌, ◌*◌, Bool, true, false, ◌||◌, ◌⊎◌, List, [], ◌∷◌, ◌++◌, nat_le, Option, Some, None, if◌then◌else◌}
+use Rattle.std.specs.Prelude.{◌≡◌, ℕ, ◌+◌, ◌*◌, Bool, true, false, ◌||◌, ◌&&◌, ◌⊎◌, List, [], ◌∷◌, ◌++◌, nat_le, Option, Some, None, if◌then◌else◌}
 use Rattle.xs_stream.specs.declared.id.Id.{Id}
 use Rattle.xs_stream.specs.Id.{has_id}
 use Rattle.xs_group.specs.declared.claim.Claim.{Claim}
 use Rattle.xs_group.specs.declared.verdict.Verdict.{Verdict}
 use Rattle.xs_group.specs.declared.verdict.Verdict.TheVariants.{Passed, Taken, Removed}
 use Rattle.xs_group.specs.Rule.{Rule}
-use Rattle.xs_group.specs.State.{Row, State}
+use Rattle.xs_group.specs.State.{Row, State, is_name}
+use Rattle.xs_group.specs.Held.{Owners, holds, is_owner, row_in}
 use Rattle.xs_group.specs.Claims.{is_idle, claim_of, scan_of, claimed_row}
 
 abbrev pub is_taken_by : Verdict → Bool
@@ -65,3 +66,12 @@ pub record IsScanned (group : State) (now : ℕ) (rule : Rule) (claim : Claim) :
 -- a claim on a group as it stands
 abbrev pub IsClaimOn : State → ℕ → Rule → Claim → Type 0
 IsClaimOn group now rule claim = IsFound group now rule claim ⊎ IsScanned group now rule claim
+
+-- each of these ids is among those
+abbrev pub AreSomeOf : List Id → List Id → Type 0
+AreSomeOf done ids = (x : Id) → has_id done x ≡ true → has_id ids x ≡ true
+
+-- both indexes hold the same pairs, but for these ids, which the consumer has besides
+abbrev pub AreAgreedBut : List (Id × Row) → Owners → List ℕ → List Id → Type 0
+AreAgreedBut rows owners name ids =
+    (n : List ℕ) → (x : Id) → holds owners n x ≡ (is_owner (row_in rows x) n || (is_name n name && has_id ids x))

@@ -3,7 +3,8 @@ ghost use Rattle.std.specs.Prelude.{◌≡◌, ◌+◌, not, length, IfOk, OnOk,
 ghost use Rattle.xs_group.specs.State.{State, has_name, joined};
 ghost use Rattle.xs_group.specs.Changes.{new_group, acked, without_consumer, owned_count};
 ghost use Rattle.xs_group.specs.Lawful.{IsLawful};
-ghost use Rattle.xs_group.specs.Claims.{claim_of, scan_of};
+ghost use Rattle.xs_group.specs.Claims.{claim_of, scan_of, settled_by};
+ghost use Rattle.xs_group.specs.Verdict.{IsClaimOn};
 ghost use Rattle.xs_group.specs.Read.{delivered_to, reread_by};
 ghost use Rattle.xs_group.specs.Delivered.{delivery_of, history_of, kind_of, received, IsMade};
 ghost use Rattle.xs_stream.specs.Kept.{ids_of, AllAbove, Ascends};
@@ -200,6 +201,24 @@ impl Group {
         ensures { IfOk result (λ scan. scan ≡ scan_of self.now.rows.entries (ids_of stream.now.entries) now rule.now start limit) }
     {
         self.pending.scan(alloc, stream, now, rule, start, limit)
+    }
+
+    /// Carries out a claim that `find_claim` or `scan` found on this group as it stands, at the same
+    /// moment and by the same rule, for a consumer, who is there from then on.
+    pub fn settle(
+        &mut self,
+        alloc: Global,
+        consumer: &Bytes,
+        now: Moment,
+        rule: &ClaimRule,
+        claim: &Claim,
+    ) -> Result<(), AllocError>
+        requires { IsClaimOn self.old now rule.now claim.now }
+        ensures ok { OnOk result (self.new ≡ settled_by consumer.now now rule.now claim.now self.old) }
+        ensures err { OnErr result (self.new ≡ self.old) }
+    {
+        self.pending.settle(alloc, consumer, now, rule, claim)?;
+        Ok(())
     }
 
     /// Moves the cursor past these ids, and makes them pending unless `noack` is set.

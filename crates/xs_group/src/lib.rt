@@ -8,6 +8,7 @@ mod claiming;
 pub mod delivery;
 mod entry;
 pub mod group;
+mod moving;
 mod name;
 mod owners;
 mod pending;

@@ -5,8 +5,8 @@ ghost use Rattle.xs_bytes.specs.SortedMap.{empty, get, has_key, remove, change};
 ghost use Rattle.xs_stream.specs.declared.id.Id.{Id};
 ghost use Rattle.xs_stream.specs.Id.{id_cmp, has_id};
 ghost use Rattle.std.specs.BTreeMap.{IsOrdered};
-ghost use Rattle.xs_group.specs.Claims.{claim_among, scan_of};
-ghost use Rattle.xs_group.specs.Verdict.{verdict_of};
+ghost use Rattle.xs_group.specs.Claims.{claim_among, scan_of, claimed};
+ghost use Rattle.xs_group.specs.Verdict.{verdict_of, moved, AreApart};
 ghost use Rattle.xs_group.specs.State.{has_name, with_name, put_row};
 ghost use Rattle.xs_stream.specs.Kept.{Ascends, ids_of};
 ghost use Rattle.xs_group.specs.Read.{first_row, owned, with_rows, shown};
@@ -21,7 +21,7 @@ use crate::entry::{Entry, raised};
 use crate::name::Name;
 use crate::owners::{self, Owners};
 use crate::verdict::{Found, Verdict};
-use crate::{claiming, reading};
+use crate::{claiming, moving, reading};
 use std::alloc::{AllocError, Global};
 use std::collections::{BTreeMap, BTreeSet};
 use std::marker::Model;
@@ -318,6 +318,65 @@ impl Pending {
     {
         let _len = self.rows.len();
         scan_rows(alloc, &self.rows, stream, now, rule, start, limit)
+    }
+
+    /// Gives these entries to a consumer, as a claim does.
+    fn reassign(
+        &mut self,
+        alloc: Global,
+        name: &Bytes,
+        now: Moment,
+        rule: &ClaimRule,
+        ids: &[Id],
+    ) -> Result<(), AllocError>
+        requires there { has_name self.old.consumers name.now ≡ true }
+        requires apart { AreApart ids.now }
+        ensures ok { OnOk result (self.new ≡ record self.old { rows = change (moved name.now now rule.now ids.now) self.old.rows }) }
+        ensures err { OnErr result (self.new ≡ self.old) }
+    {
+        let names = moving::shares(alloc, name, ids)?;
+        let Ok(()) = moving::put_ids(&mut self.owners, name, ids) else {
+            moving::take_back(&self.rows, &mut self.owners, name, ids);
+            return Err(AllocError);
+        };
+        moving::move_rows(
+            &mut self.rows,
+            &mut self.owners,
+            name,
+            names,
+            now,
+            rule,
+            ids,
+        );
+        Ok(())
+    }
+
+    /// Carries a claim out for a consumer, who is there from then on.
+    pub(crate) fn settle(
+        &mut self,
+        alloc: Global,
+        name: &Bytes,
+        now: Moment,
+        rule: &ClaimRule,
+        claim: &Claim,
+    ) -> Result<(), AllocError>
+        requires { AreApart claim.now.take }
+        ensures ok { OnOk result (self.new ≡ record {
+          consumers = with_name self.old.consumers name.now;
+          rows = change (claimed name.now now rule.now claim.now) self.old.rows;
+        }) }
+        ensures err { OnErr result (self.new ≡ self.old) }
+    {
+        self.lawful();
+        let made = self.add_consumer(alloc, name)?;
+        let Ok(()) = self.reassign(alloc, name, now, rule, claim.take.as_slice()) else {
+            if made {
+                self.remove_consumer(name);
+            }
+            return Err(AllocError);
+        };
+        self.take_all(claim.removed.as_slice());
+        Ok(())
     }
 
     /// Takes these ids out.

@@ -1,0 +1,12 @@
+use Rattle.xs_group.specs.Claims.{claimed}
+use Rattle.xs_group.proofs.group.Group.settle.Goals as goal
+use Rattle.xs_group.proofs.Leaving.{up_to-change}
+use Rattle.xs_group.proofs.Settling.{apart-claim}
+
+pub settle-requires : goal.settle-requires
+settle-requires c = apart-claim c.args.self.now c.args.now c.args.rule.now c.args.claim.now c.requires
+
+pub invariant_of-self-2 : goal.invariant_of-self-2
+invariant_of-self-2 c =
+    rw c.in_ok-settle.ensures.ok
+    (up_to-change (claimed c.args.consumer.now c.args.now c.args.rule.now c.args.claim.now) c.self.inside.cursor c.self.inside.pending.rows c.self.invariant)

@@ -1,0 +1,25 @@
+use Rattle.std.proofs.Common.{◌≡◌, map, option_and_then, ◌∷◌, sym, ap, ◌∙◌, subst}
+use Rattle.std.specs.Vec.Iter.{into_iter_items}
+use Rattle.xs_stream.specs.declared.id.Id.{Id}
+use Rattle.xs_group.specs.Held.{row_in}
+use Rattle.xs_group.specs.Verdict.{moved, AreApart}
+use Rattle.xs_group.proofs.Handing.{rows-left, tails}
+use Rattle.xs_group.proofs.moving.move_rows.Goals as goal
+
+pub loop-share-preserved : goal.loop-share-preserved
+loop-share-preserved c =
+    let inv = c.loop-share.invariant in
+    let id = c.in-Some-split_first.id.now in
+    let rest = c.in-Some-split_first.rest.now in
+    let name = c.args.name.now in
+    let todo : c.loop-share.todo.now ≡ id ∷ rest = c.in-Some-split_first.ensures.cases.0 in
+    let apart = subst AreApart todo inv.apart in
+    let steps : into_iter_items c.loop-share.share-iterator ≡ c.in-Some.share ∷ into_iter_items c.next.new.self = c.in-Some.ensures.steps.0 in
+    record {
+      left = tails c.in-Some.share name (into_iter_items c.next.new.self) (map (λ (x : Id). name) rest) (sym steps ∙ inv.left ∙ ap (map (λ (x : Id). name)) todo);
+      apart = apart.1;
+      agreed = c.move_row.ensures.agreed;
+      rows = λ x. rows-left name c.args.now c.args.rule.now id rest x (row_in c.loop-share.rows.entries x) (row_in c.move_row.new.rows.entries x) apart.0 (c.move_row.ensures.rows x)
+          ∙ ap (λ ids. option_and_then (moved name c.args.now c.args.rule.now ids x) (row_in c.loop-share.rows.entries x)) (sym todo) ∙ inv.rows x;
+      names = λ n. c.move_row.ensures.names n ∙ inv.names n;
+    }

@@ -1,0 +1,14 @@
+use Rattle.std.proofs.Common.{ℕ, List, map, get_or, take, sym, ap, ◌∙◌, ◌++◌, ◌∷◌, []}
+use Rattle.std.proofs.lemmas.List.{take_more}
+use Rattle.xs_stream.specs.declared.id.Id.{Id}
+use Rattle.xs_group.proofs.moving.shares.Goals as goal
+use Rattle.xs_group.proofs.Handing.{names-more}
+
+pub loop-id-preserved : goal.loop-id-preserved
+loop-id-preserved c =
+    let next = take_more c.args.ids.now c.loop-id._id-index (record { ms = 0; seq = 0 }) c.loop-id-test.true in
+    let done = take c.loop-id._id-index c.args.ids.now in
+    let id = get_or c.args.ids.now c.loop-id._id-index (record { ms = 0; seq = 0 }) in
+    let name : Id → List ℕ = λ x. c.args.name.now in
+    c.in_ok-push.ensures.items ∙ ap (λ (n : List ℕ). c.loop-id.names.items ++ n ∷ []) (c.in_ok-share.ensures ∙ c.in_ok-shared.ensures)
+    ∙ ap (λ (names : List (List ℕ)). names ++ c.args.name.now ∷ []) c.loop-id.invariant ∙ sym (names-more c.args.name.now done id) ∙ ap (map name) (sym next)

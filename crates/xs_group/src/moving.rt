@@ -1,0 +1,152 @@
+//! Pending entries that go to another consumer.
+ghost use Rattle.std.specs.Prelude.{◌≡◌, ◌∷◌, [], ◌&&◌, ◌||◌, ℕ, List, Bool, Option, true, false, not, map, is_some, option_and_then, IfOk, if◌then◌else◌, OnOk, OnErr, IsSome};
+ghost use Rattle.xs_stream.specs.declared.id.Id.{Id};
+ghost use Rattle.xs_stream.specs.Id.{is_same, has_id};
+ghost use Rattle.xs_group.specs.State.{is_name};
+ghost use Rattle.xs_group.specs.Held.{holds, ids_at, is_owner, row_in, IsAgreed};
+ghost use Rattle.xs_group.specs.Verdict.{moved, AreApart, AreAgreedBut, AreSomeOf};
+
+use crate::claim_rule::ClaimRule;
+use crate::name::Name;
+use crate::owners::{self, Owners};
+use crate::pending::Rows;
+use std::alloc::{AllocError, Global};
+use xs_bytes::Bytes;
+use xs_stream::{Id, Moment};
+
+/// The same name.
+fn is_same_name(a: &Bytes, b: &Bytes) -> bool
+    ensures { result ≡ is_name a.now b.now }
+{
+    a.cmp(b).is_eq()
+}
+
+/// The name once for each of these ids.
+pub(crate) fn shares(alloc: Global, name: &Bytes, ids: &[Id]) -> Result<Vec<Name>, AllocError>
+    ensures { IfOk result (λ names. names.items ≡ map (λ x. name.now) ids.now) }
+{
+    let shared = Name::new(alloc, name)?;
+    let mut names = Vec::with_capacity(alloc, ids.len())?;
+    for _id in ids {
+        names.push(shared.share()?)?;
+    }
+    Ok(names)
+}
+
+/// Gives a consumer these ids, though their rows are still those of others.
+pub(crate) fn put_ids(owners: &mut Owners, name: &Bytes, ids: &[Id]) -> Result<(), AllocError>
+    requires { IsSome (ids_at owners.old.entries name.now) }
+    ensures names { (n : List ℕ) → is_some (ids_at owners.new.entries n) ≡ is_some (ids_at owners.old.entries n) }
+    ensures ok { OnOk result ((n : List ℕ) → (x : Id) → holds owners.new.entries n x
+        ≡ (holds owners.old.entries n x || (is_name n name.now && has_id ids.now x))) }
+    ensures err { OnErr result ((done : List Id) × AreSomeOf done ids.now
+        × ((n : List ℕ) → (x : Id) → holds owners.new.entries n x
+        ≡ (holds owners.old.entries n x || (is_name n name.now && has_id done x)))) }
+{
+    for id in ids {
+        let Ok(()) = owners::put_id(owners, name, *id) else {
+            return Err(AllocError);
+        };
+    }
+    Ok(())
+}
+
+/// The row of an id is this consumer's.
+fn is_row_of(rows: &Rows, name: &Bytes, id: Id) -> bool
+    ensures { result ≡ is_owner (row_in rows.now.entries id) name.now }
+{
+    match rows.get(&id) {
+        Some(entry) => is_same_name(entry.consumer(), name),
+        None => false,
+    }
+}
+
+/// Takes an id from a consumer, unless its row is that consumer's.
+fn take_back_one(rows: &Rows, owners: &mut Owners, name: &Bytes, id: Id)
+    ensures names { (n : List ℕ) → is_some (ids_at owners.new.entries n) ≡ is_some (ids_at owners.old.entries n) }
+    ensures ids { (n : List ℕ) → (x : Id) → holds owners.new.entries n x
+        ≡ (holds owners.old.entries n x && not (is_name n name.now && (is_same x id && not (is_owner (row_in rows.now.entries x) name.now)))) }
+{
+    if is_row_of(rows, name, id) {
+        return;
+    }
+    owners::remove_id(owners, name, id);
+}
+
+/// Takes ids from a consumer whose rows aren't that consumer's. It takes no memory.
+pub(crate) fn take_back(rows: &Rows, owners: &mut Owners, name: &Bytes, ids: &[Id])
+    requires { (done : List Id) × AreSomeOf done ids.now × AreAgreedBut rows.now.entries owners.old.entries name.now done }
+    ensures names { (n : List ℕ) → is_some (ids_at owners.new.entries n) ≡ is_some (ids_at owners.old.entries n) }
+    ensures agreed { IsAgreed rows.now.entries owners.new.entries }
+{
+    for id in ids {
+        take_back_one(rows, owners, name, *id);
+    }
+}
+
+/// Takes an id from the consumer whose it was, unless that is the one who gets it.
+fn leave_owner(owners: &mut Owners, old: &Bytes, name: &Bytes, id: Id)
+    ensures names { (n : List ℕ) → is_some (ids_at owners.new.entries n) ≡ is_some (ids_at owners.old.entries n) }
+    ensures ids { (n : List ℕ) → (x : Id) → holds owners.new.entries n x
+        ≡ (if is_name old.now name.now then holds owners.old.entries n x
+        else (holds owners.old.entries n x && not (is_name n old.now && is_same x id))) }
+{
+    if is_same_name(old, name) {
+        return;
+    }
+    owners::remove_id(owners, old, id);
+}
+
+/// Gives one row to a consumer that has its id already. Those of `rest` follow.
+fn move_row(
+    rows: &mut Rows,
+    owners: &mut Owners,
+    name: &Bytes,
+    share: Name,
+    now: Moment,
+    rule: &ClaimRule,
+    id: Id,
+    rest: &[Id],
+)
+    requires share { share ≡ name.now }
+    requires apart { has_id rest.now id ≡ false }
+    requires agreed { AreAgreedBut rows.old.entries owners.old.entries name.now (id ∷ rest.now) }
+    ensures rows { (x : Id) → row_in rows.new.entries x
+        ≡ (if is_same x id then option_and_then (moved name.now now rule.now (id ∷ []) x) (row_in rows.old.entries x) else row_in rows.old.entries x) }
+    ensures agreed { AreAgreedBut rows.new.entries owners.new.entries name.now rest.now }
+    ensures names { (n : List ℕ) → is_some (ids_at owners.new.entries n) ≡ is_some (ids_at owners.old.entries n) }
+{
+    let Some(entry) = rows.get_mut(&id) else {
+        owners::remove_id(owners, name, id);
+        return;
+    };
+    leave_owner(owners, entry.consumer(), name, id);
+    entry.claim(share, now, rule);
+}
+
+/// Gives rows to a consumer that has their ids already. It takes no memory.
+pub(crate) fn move_rows(
+    rows: &mut Rows,
+    owners: &mut Owners,
+    name: &Bytes,
+    names: Vec<Name>,
+    now: Moment,
+    rule: &ClaimRule,
+    ids: &[Id],
+)
+    requires names { names.items ≡ map (λ x. name.now) ids.now }
+    requires apart { AreApart ids.now }
+    requires agreed { AreAgreedBut rows.old.entries owners.old.entries name.now ids.now }
+    ensures rows { (x : Id) → row_in rows.new.entries x ≡ option_and_then (moved name.now now rule.now ids.now x) (row_in rows.old.entries x) }
+    ensures agreed { IsAgreed rows.new.entries owners.new.entries }
+    ensures names { (n : List ℕ) → is_some (ids_at owners.new.entries n) ≡ is_some (ids_at owners.old.entries n) }
+{
+    let mut todo = ids;
+    for share in names {
+        let Some((id, rest)) = todo.split_first() else {
+            return;
+        };
+        todo = rest;
+        move_row(rows, owners, name, share, now, rule, *id, rest);
+    }
+}
