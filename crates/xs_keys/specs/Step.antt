@@ -1,17 +1,11 @@
 -- One call: a command is applied, or refused for want of memory, or not served yet.
-use Rattle.std.specs.Prelude.{◌≡◌, ℕ, Bool, true, false, ◌⊎◌, List, Option, Some, None, Result, Ok, Err, is_ok}
-use Rattle.xs_stream.specs.declared.id.Id.{Id}
-use Rattle.xs_stream.specs.declared.add.AddError.{AddError}
-use Rattle.xs_stream.specs.Id.{printed}
-use Rattle.xs_stream.specs.Assigned.{assigned}
-use Rattle.xs_stream.specs.Kept.{Kept}
+use Rattle.std.specs.Prelude.{◌≡◌, ℕ, Bool, true, false, ◌⊎◌, Some}
 use Rattle.xs_keys.specs.Ground.{Memory, Unsupported, Reply, Error, Command, Ping, Quit, Add, Delete, TrimTo, Len, Scan}
 use Rattle.xs_keys.specs.Ground.{GroupCreate, ConsumerCreate, ReadGroup, Pending, PendingRows, Claim, AutoClaim}
-use Rattle.xs_keys.specs.Ground.{DropKeys, AddCommand}
-use Rattle.xs_keys.specs.Life.{added}
+use Rattle.xs_keys.specs.Ground.{DropKeys}
 use Rattle.xs_keys.specs.Content.{Content}
-use Rattle.xs_keys.specs.After.{after, stream_after}
-use Rattle.xs_keys.specs.Reply.{reply, assigned_reply}
+use Rattle.xs_keys.specs.After.{after}
+use Rattle.xs_keys.specs.Reply.{reply}
 
 -- the commands that are served today; those of groups are not yet
 abbrev pub is_served : Command → Bool
