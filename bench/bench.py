@@ -1,13 +1,16 @@
 #!/usr/bin/env python3
 """Measures the program beside a real Redis 7.0, in one run.
 
-    bench.py [--runs N] [--commands N] PROGRAM
+    bench.py [--runs N] [--commands N] [--only WORD] PROGRAM      needs redis-server and cc
 
-Each work is done in turn by `PROGRAM script` and by `redis-cli --pipe` with a redis-server of its own, which keeps
-nothing on disk. Processor time is that of both processes of Redis together; the peak is the server's. The machines
-are shared, so the ratio of the two is what counts. Of N runs the table has the middle one, the least and the greatest.
+Each work is done in turn by `PROGRAM script` and by a redis-server of its own, which keeps nothing on disk and is fed
+over a Unix socket by bench/feed.c. Processor time is that of PROGRAM and of redis-server, without the feeder's; the
+peak likewise. Where a work begins with a stream that is filled first, the filling is measured too, in the same run,
+and taken off the times. The machines are shared, so the ratio of the two is what counts. Of N runs the tables have
+the middle one, the least and the greatest.
 """
 import argparse
+import itertools
 import os
 import statistics
 import subprocess
@@ -32,16 +35,14 @@ def mix(count):
         yield "XTRIM s MAXLEN 1000"
 
 
-def bounded_additions(count, size):
-    """Additions to a stream of this size that keep 1000 entries, after those that fill it."""
-    yield from additions(size)
+def bounded_additions(count, size, most):
+    """Additions to a stream of this size that keep so many entries."""
     for k in range(size + 1, size + count + 1):
-        yield f"XADD s MAXLEN 1000 {k}-0 f {VALUE}"
+        yield f"XADD s MAXLEN {most} {k}-0 f {VALUE}"
 
 
 def ranges(count, size):
-    """Ranges of ten entries all over a stream of this size, after those that fill it."""
-    yield from additions(size)
+    """Ranges of ten entries all over a stream of this size."""
     for k in range(count):
         yield f"XRANGE s {1 + k * 7919 % size} + COUNT 10"
 
@@ -57,10 +58,13 @@ def write_script(path, commands):
 
 
 def write_requests(path, commands):
+    """How many there are."""
+    count = 0
     with open(path, "w", encoding="ascii", newline="") as out:
-        for command in commands:
+        for count, command in enumerate(commands, 1):
             words = command.split(" ")
             out.write(f"*{len(words)}\r\n" + "".join(f"${len(word)}\r\n{word}\r\n" for word in words))
+    return count
 
 
 def run_here(program, path):
@@ -87,7 +91,14 @@ def server_peak(pid):
     raise SystemExit("no peak of redis-server")
 
 
-def run_redis(path, folder):
+def build_feeder(folder):
+    program, source = os.path.join(folder, "feed"), os.path.join(os.path.dirname(os.path.abspath(__file__)), "feed.c")
+    subprocess.run(["cc", "-O2", "-o", program, source], check=True)
+    return program
+
+
+def run_redis(path, count, folder):
+    """Time, processor time and peak in bytes of the server, while it is fed these requests."""
     place = os.path.join(folder, "redis.sock")
     server = subprocess.Popen(
         ["redis-server", "--port", "0", "--unixsocket", place, "--save", "", "--appendonly", "no", "--dir", folder],
@@ -97,14 +108,11 @@ def run_redis(path, folder):
         while not os.path.exists(place):
             time.sleep(0.05)
         before, begin = server_used(server.pid), time.monotonic()
-        with open(path, "rb") as requests:
-            child = subprocess.Popen(
-                ["redis-cli", "-s", place, "--pipe"], stdin=requests, stdout=subprocess.DEVNULL
-            )
-            _, _, used = os.wait4(child.pid, 0)
-        child.returncode = 0
+        fed = subprocess.run([os.path.join(folder, "feed"), place, path, str(count)], capture_output=True, check=True)
         took = time.monotonic() - begin
-        return took, used.ru_utime + used.ru_stime + server_used(server.pid) - before, server_peak(server.pid)
+        if fed.stdout != b"0\n":
+            raise SystemExit(f"redis-server answered {fed.stdout} errors")
+        return took, server_used(server.pid) - before, server_peak(server.pid)
     finally:
         server.terminate()
         server.wait()
@@ -116,42 +124,76 @@ def spread(values, scale=1.0):
     return f"{statistics.median(values) / scale:.2f} ({min(values) / scale:.2f} to {max(values) / scale:.2f})"
 
 
-def measure(name, commands, runs, program, folder, beside):
-    script, requests = os.path.join(folder, "script"), os.path.join(folder, "requests")
-    write_script(script, commands())
-    rows = {"here": []}
-    if beside:
-        write_requests(requests, commands())
-        rows["Redis"] = []
+def ratios(ours, theirs):
+    return spread([one / other for one, other in zip(ours, theirs)])
+
+
+class Work:
+    """Commands, over a stream of so many entries, that are written for both."""
+
+    def __init__(self, folder, size, commands):
+        self.folder, self.size = folder, size
+        self.scripts, self.requests = [], []
+        parts = [lambda: additions(size)] if size else []
+        for number, part in enumerate([*parts, lambda: itertools.chain(additions(size), commands())]):
+            self.scripts.append(os.path.join(folder, f"script{number}"))
+            write_script(self.scripts[-1], part())
+            path = os.path.join(folder, f"requests{number}")
+            self.requests.append((path, write_requests(path, part())))
+
+    def run(self, runs):
+        """What the last of the runs takes, without what the filling before it takes."""
+        *filling, (took, used, peak) = runs
+        for one in filling:
+            took, used = took - one[0], used - one[1]
+        return took, used, peak
+
+    def here(self, program):
+        return self.run([run_here(program, path) for path in self.scripts])
+
+    def redis(self):
+        return self.run([run_redis(path, count, self.folder) for path, count in self.requests])
+
+
+def measure(name, size, commands, runs, program, folder, beside):
+    work, rows = Work(folder, size, commands), {"here": []}
     for _ in range(runs):
-        rows["here"].append(run_here(program, script))
+        rows["here"].append(work.here(program))
         if beside:
-            rows["Redis"].append(run_redis(requests, folder))
+            rows.setdefault("Redis", []).append(work.redis())
     for who, taken in rows.items():
         times, used, peaks = zip(*taken)
         print(f"| {name} | {who} | {spread(times)} | {spread(used)} | {spread(peaks, 2**20)} |", flush=True)
+    if beside:
+        (times, used, _), (other_times, other_used, _) = (zip(*rows[who]) for who in ("here", "Redis"))
+        ratio = f"{ratios(times, other_times)} | {ratios(used, other_used)}"
+        print(f"| {name} | here by Redis | {ratio} | |", flush=True)
+
+
+def works(count):
+    """Title, entries at first, commands, and whether Redis does it too."""
+    yield "additions", 0, lambda: additions(count), True
+    yield "a mix", 0, lambda: mix(count), True
+    for size in (10_000, 1_000_000):
+        yield f"MAXLEN 1000 after {size:,} entries", size, lambda: bounded_additions(count, size, 1000), True
+        yield f"MAXLEN {size:,} of {size:,} entries", size, lambda: bounded_additions(count, size, size), True
+        yield f"XRANGE COUNT 10 of {size:,} entries", size, lambda: ranges(count, size), True
+    yield "200 MB of PING", 0, lambda: pings(200_000_000 // len("1 a PING\n")), False
 
 
 def main():
     parser = argparse.ArgumentParser(description=__doc__, formatter_class=argparse.RawDescriptionHelpFormatter)
     parser.add_argument("--runs", type=int, default=5)
     parser.add_argument("--commands", type=int, default=1_000_000)
+    parser.add_argument("--only", default="", help="the works whose titles have this word")
     parser.add_argument("program")
     asked = parser.parse_args()
-    count = asked.commands
-    works = [
-        ("additions", lambda: additions(count), True),
-        ("a mix", lambda: mix(count), True),
-        ("bounded additions, 10,000 entries", lambda: bounded_additions(count // 10, 10_000), False),
-        ("bounded additions, 1,000,000 entries", lambda: bounded_additions(count // 10, 1_000_000), False),
-        ("ranges, 10,000 entries", lambda: ranges(count // 10, 10_000), False),
-        ("ranges, 1,000,000 entries", lambda: ranges(count // 10, 1_000_000), False),
-        ("200 MB of PING", lambda: pings(200_000_000 // len("1 a PING\n")), False),
-    ]
     print("| Work | Who | Time in s | Processor time in s | Peak in MiB |\n|---|---|---|---|---|", flush=True)
     with tempfile.TemporaryDirectory() as folder:
-        for name, commands, beside in works:
-            measure(name, commands, asked.runs, os.path.abspath(asked.program), folder, beside)
+        build_feeder(folder)
+        for name, size, commands, beside in works(asked.commands):
+            if asked.only in name:
+                measure(name, size, commands, asked.runs, os.path.abspath(asked.program), folder, beside)
 
 
 if __name__ == "__main__":
