@@ -12,3 +12,4 @@ pub mod Choosing
 pub mod Scanning
 pub mod Handing
 pub mod Settling
+pub mod Telling

@@ -8,3 +8,4 @@ pub mod Held
 pub mod Lawful
 pub mod Delivered
 pub mod Verdict
+pub mod Listing

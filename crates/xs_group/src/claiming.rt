@@ -1,17 +1,20 @@
 //! Which pending entries a claim takes.
-ghost use Rattle.std.specs.Prelude.{◌≡◌, IfOk};
-ghost use Rattle.xs_stream.specs.Id.{has_id};
+ghost use Rattle.std.specs.Prelude.{◌≡◌, Some, IfOk};
+ghost use Rattle.std.specs.BTreeMap.{IsOrdered};
+ghost use Rattle.xs_stream.specs.Id.{id_cmp, has_id};
 ghost use Rattle.xs_stream.specs.Kept.{ids_of};
-ghost use Rattle.xs_group.specs.Claims.{firsts};
+ghost use Rattle.xs_group.specs.Claims.{firsts, scan_of};
 ghost use Rattle.xs_group.specs.Verdict.{verdict_of};
-ghost use Rattle.std.specs.Prelude.{Some};
 
+use crate::claim::Scan;
 use crate::claim_rule::ClaimRule;
 use crate::entry::Entry;
+use crate::pending::Rows;
 use crate::reading;
-use crate::verdict::Verdict;
+use crate::verdict::{Found, Verdict};
 use std::alloc::{AllocError, Global};
 use std::collections::BTreeSet;
+use std::ops::Bound;
 use xs_stream::{Id, Moment, Stream};
 
 /// The verdict on a pending entry.
@@ -45,4 +48,39 @@ pub(crate) fn firsts(alloc: Global, ids: &[Id]) -> Result<Vec<Id>, AllocError>
         }
     }
     Ok(kept)
+}
+
+/// What a claim makes of the rows from a start upwards, until there are enough.
+pub(crate) fn scan_rows(
+    alloc: Global,
+    rows: &Rows,
+    stream: &Stream,
+    now: Moment,
+    rule: &ClaimRule,
+    start: Id,
+    limit: u64,
+) -> Result<Scan, AllocError>
+    requires { IsOrdered id_cmp rows.now }
+    ensures { IfOk result (λ scan. scan ≡ scan_of rows.now.entries (ids_of stream.now.entries) now rule.now start limit) }
+{
+    let mut found = Found::new(alloc);
+    let mut hits = 0u64;
+    let mut seen = 0u64;
+    let past = rows.range((Bound::Included(start), Bound::Unbounded));
+    for (id, entry) in past {
+        if hits >= limit || seen / 10 >= limit {
+            return Ok(Scan {
+                cursor: *id,
+                claim: found.into_claim(),
+            });
+        }
+        let verdict = judge(entry, stream, now, rule, *id);
+        hits += verdict.hits();
+        seen += 1;
+        found.add(verdict, *id)?;
+    }
+    Ok(Scan {
+        cursor: Id::ZERO,
+        claim: found.into_claim(),
+    })
 }

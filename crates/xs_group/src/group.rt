@@ -5,6 +5,8 @@ ghost use Rattle.xs_group.specs.Changes.{new_group, acked, without_consumer, own
 ghost use Rattle.xs_group.specs.Lawful.{IsLawful};
 ghost use Rattle.xs_group.specs.Claims.{claim_of, scan_of, settled_by};
 ghost use Rattle.xs_group.specs.Verdict.{IsClaimOn};
+ghost use Rattle.xs_group.specs.Report.{summary_of, pending_of};
+ghost use Rattle.std.specs.Option.{option_map};
 ghost use Rattle.xs_group.specs.Read.{delivered_to, reread_by};
 ghost use Rattle.xs_group.specs.Delivered.{delivery_of, history_of, kind_of, received, IsMade};
 ghost use Rattle.xs_stream.specs.Kept.{ids_of, AllAbove, Ascends};
@@ -13,11 +15,12 @@ use crate::claim::{Claim, Scan};
 use crate::claim_rule::ClaimRule;
 use crate::delivery::{Delivery, DeliveryKind, DeliveryRows};
 use crate::pending::Pending;
+use crate::report::{GroupSummary, PendingRow};
 use crate::{claiming, reading};
 use std::alloc::{AllocError, Global};
 use std::marker::Model;
 use xs_bytes::Bytes;
-use xs_stream::{Id, Moment, Stream};
+use xs_stream::{Id, Moment, Range, Stream};
 
 /// A consumer group. A contract sees its cursor, its consumers and its pending rows. A call that is
 /// refused for want of memory leaves the group as it was.
@@ -219,6 +222,39 @@ impl Group {
     {
         self.pending.settle(alloc, consumer, now, rule, claim)?;
         Ok(())
+    }
+
+    /// How many entries are pending, the least and the greatest of their ids, and whose they are
+    /// (XPENDING, short form).
+    pub fn summary(&self, alloc: Global) -> Result<GroupSummary, AllocError>
+        ensures { IfOk result (λ summary. summary ≡ summary_of self.now) }
+    {
+        self.pending.summary(alloc)
+    }
+
+    /// The pending entries of a range that have been with their consumer for the least idle time or
+    /// longer, of one consumer where one is named, at most `limit` of them (XPENDING, long form).
+    pub fn pending(
+        &self,
+        alloc: Global,
+        range: Range,
+        min_idle: u64,
+        now: Moment,
+        limit: u64,
+        consumer: Option<&Bytes>,
+    ) -> Result<Vec<PendingRow>, AllocError>
+        ensures { IfOk result (λ rows. rows.items ≡ pending_of range min_idle now limit (option_map (λ c. c.now) consumer.entry) self.now) }
+    {
+        let _cursor = &self.cursor;
+        if range.high < range.low {
+            return Ok(Vec::new(alloc));
+        }
+        match consumer {
+            Some(name) => self
+                .pending
+                .owned_within(alloc, range, min_idle, now, limit, name),
+            None => self.pending.all_within(alloc, range, min_idle, now, limit),
+        }
     }
 
     /// Moves the cursor past these ids, and makes them pending unless `noack` is set.

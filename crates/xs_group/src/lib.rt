@@ -14,6 +14,7 @@ mod owners;
 mod pending;
 mod reading;
 pub mod report;
+mod reporting;
 mod verdict;
 
 pub use claim::{Claim, Scan};

@@ -1,11 +1,12 @@
 //! The index by consumer: the ids of each consumer's pending entries.
-ghost use Rattle.std.specs.Prelude.{◌≡◌, ◌&&◌, ◌||◌, ℕ, List, not, is_some, OnOk, OnErr, IsSome, Some, None};
-ghost use Rattle.std.specs.Option.{option_map};
+ghost use Rattle.std.specs.Prelude.{◌≡◌, ◌&&◌, ◌||◌, ℕ, List, not, is_some, OnOk, OnErr, IsSome, None, if◌then◌else◌};
+ghost use Rattle.std.specs.BTreeSet.{contains};
 ghost use Rattle.xs_stream.specs.declared.id.Id.{Id};
-ghost use Rattle.xs_stream.specs.Id.{is_same};
+ghost use Rattle.xs_stream.specs.Id.{id_cmp, is_same};
 ghost use Rattle.xs_group.specs.State.{is_name};
-ghost use Rattle.xs_group.specs.Held.{holds, ids_at};
+ghost use Rattle.xs_group.specs.Held.{holds, ids_at, row_in};
 
+use crate::pending::Rows;
 use std::alloc::AllocError;
 use std::collections::{BTreeMap, BTreeSet};
 use xs_bytes::Bytes;
@@ -39,5 +40,14 @@ pub(crate) fn remove_id(owners: &mut Owners, name: &Bytes, id: Id)
 {
     if let Some(ids) = owners.get_mut(name) {
         let _ = ids.remove(&id);
+    }
+}
+
+/// Takes the rows of these ids out.
+pub(crate) fn remove_rows(rows: &mut Rows, ids: &BTreeSet<Id>)
+    ensures { (x : Id) → row_in rows.new.entries x ≡ (if contains id_cmp ids.now x then None else row_in rows.old.entries x) }
+{
+    for id in ids {
+        let _ = rows.remove(id);
     }
 }

@@ -1,10 +1,9 @@
 //! The consumers and the pending entries, in two indexes: by id, and by consumer.
-ghost use Rattle.std.specs.Prelude.{◌≡◌, ◌+◌, not, length, true, false, None, Some, IfOk, OnOk, OnErr, if◌then◌else◌};
-ghost use Rattle.std.specs.BTreeSet.{contains};
+ghost use Rattle.std.specs.Prelude.{◌≡◌, ◌+◌, not, length, true, false, None, Some, IfOk, OnOk, OnErr};
 ghost use Rattle.xs_bytes.specs.SortedMap.{empty, get, has_key, remove, change};
-ghost use Rattle.xs_stream.specs.declared.id.Id.{Id};
-ghost use Rattle.xs_stream.specs.Id.{id_cmp, has_id};
-ghost use Rattle.std.specs.BTreeMap.{IsOrdered};
+ghost use Rattle.xs_stream.specs.Id.{has_id, is_below, zero_id};
+ghost use Rattle.xs_group.specs.Report.{summary_of};
+ghost use Rattle.xs_group.specs.Listing.{rows_asked};
 ghost use Rattle.xs_group.specs.Claims.{claim_among, scan_of, claimed};
 ghost use Rattle.xs_group.specs.Verdict.{verdict_of, moved, AreApart};
 ghost use Rattle.xs_group.specs.State.{has_name, with_name, put_row};
@@ -12,22 +11,22 @@ ghost use Rattle.xs_stream.specs.Kept.{Ascends, ids_of};
 ghost use Rattle.xs_group.specs.Read.{first_row, owned, with_rows, shown};
 ghost use Rattle.xs_group.specs.Delivered.{touch_of, shown_rows, set_one, set_rows, touch_set, row_ids, taken_back, unmade};
 ghost use Rattle.xs_group.specs.Changes.{unless_acked, unless_owned};
-ghost use Rattle.xs_group.specs.Held.{IsNamed, AreFree, row_in};
+ghost use Rattle.xs_group.specs.Held.{IsNamed, AreFree};
 
 use crate::claim::{Claim, Scan};
 use crate::claim_rule::ClaimRule;
 use crate::delivery::{Delivery, DeliveryKind, DeliveryRow, Touch};
-use crate::entry::{Entry, raised};
+use crate::entry::Entry;
 use crate::name::Name;
 use crate::owners::{self, Owners};
+use crate::report::{GroupSummary, OwnerCounts, PendingRow};
 use crate::verdict::{Found, Verdict};
-use crate::{claiming, moving, reading};
+use crate::{claiming, moving, reading, reporting};
 use std::alloc::{AllocError, Global};
 use std::collections::{BTreeMap, BTreeSet};
 use std::marker::Model;
-use std::ops::Bound;
 use xs_bytes::Bytes;
-use xs_stream::{Id, Ids, Moment, Stream};
+use xs_stream::{Id, Ids, Moment, Range, Stream};
 
 /// The pending entries by id.
 pub(crate) type Rows = BTreeMap<Id, Entry>;
@@ -229,7 +228,7 @@ impl Pending {
     fn set_row(&mut self, now: &Option<Moment>, row: &DeliveryRow)
         ensures { self.new ≡ record self.old { rows = set_one row.now.id (touch_set now.now row.now) self.old.rows } }
     {
-        let Some(touch) = touch_set(now, row) else {
+        let Some(touch) = reading::touch_set(now, row) else {
             return;
         };
         self.set_touch(row.id, touch);
@@ -317,7 +316,7 @@ impl Pending {
         ensures { IfOk result (λ scan. scan ≡ scan_of self.now.rows.entries (ids_of stream.now.entries) now rule.now start limit) }
     {
         let _len = self.rows.len();
-        scan_rows(alloc, &self.rows, stream, now, rule, start, limit)
+        claiming::scan_rows(alloc, &self.rows, stream, now, rule, start, limit)
     }
 
     /// Gives these entries to a consumer, as a claim does.
@@ -379,6 +378,58 @@ impl Pending {
         Ok(())
     }
 
+    /// How many are pending, the least and the greatest id, and whose they are.
+    pub(crate) fn summary(&self, alloc: Global) -> Result<GroupSummary, AllocError>
+        ensures { IfOk result (λ summary. summary ≡ summary_of (record { cursor = zero_id; consumers = self.now.consumers; rows = self.now.rows })) }
+    {
+        let total = self.rows.len() as u64;
+        let _consumers = self.owners.len();
+        let owners = reporting::owner_counts(alloc, &self.rows, &self.owners)?;
+        Ok(GroupSummary {
+            total,
+            least: reporting::least(&self.rows),
+            greatest: reporting::greatest(&self.rows),
+            owners: OwnerCounts::new(owners),
+        })
+    }
+
+    /// The rows in a range that isn't empty that are idle for long enough, at most this many.
+    pub(crate) fn all_within(
+        &self,
+        alloc: Global,
+        range: Range,
+        min_idle: u64,
+        now: Moment,
+        limit: u64,
+    ) -> Result<Vec<PendingRow>, AllocError>
+        requires { is_below range.high range.low ≡ false }
+        ensures { IfOk result (λ found. found.items ≡ rows_asked range min_idle now limit None self.now.rows.entries) }
+    {
+        let _len = self.rows.len();
+        reporting::rows_within(alloc, &self.rows, range, min_idle, now, limit)
+    }
+
+    /// Those of one consumer.
+    pub(crate) fn owned_within(
+        &self,
+        alloc: Global,
+        range: Range,
+        min_idle: u64,
+        now: Moment,
+        limit: u64,
+        name: &Bytes,
+    ) -> Result<Vec<PendingRow>, AllocError>
+        requires { is_below range.high range.low ≡ false }
+        ensures { IfOk result (λ found. found.items ≡ rows_asked range min_idle now limit (Some name.now) self.now.rows.entries) }
+    {
+        let _len = self.rows.len();
+        let Some(ids) = self.owners.get(name) else {
+            return Ok(Vec::new(alloc));
+        };
+        let _count = ids.len();
+        reporting::rows_of_ids(alloc, &self.rows, ids, range, min_idle, now, limit)
+    }
+
     /// Takes these ids out.
     pub(crate) fn take_all(&mut self, ids: &[Id])
         ensures { self.new ≡ record self.old { rows = change (unless_acked ids.now) self.old.rows } }
@@ -400,7 +451,7 @@ impl Pending {
             return 0;
         };
         let count = ids.len();
-        remove_rows(&mut self.rows, &ids);
+        owners::remove_rows(&mut self.rows, &ids);
         count as u64
     }
 
@@ -416,68 +467,5 @@ impl Pending {
         ensures { IsNamed self.now.consumers self.now.rows }
     {
         let _ = &self.rows;
-    }
-}
-
-/// The time and the count that a row gets by a delivery at a moment, or gets back.
-fn touch_set(now: &Option<Moment>, row: &DeliveryRow) -> Option<Touch>
-    ensures { result ≡ touch_set now.now row.now }
-{
-    let Some(now) = now else {
-        return row.before;
-    };
-    if !row.present {
-        return None;
-    }
-    match row.before {
-        Some(touch) => Some(Touch {
-            time: *now,
-            count: raised(touch.count),
-        }),
-        None => None,
-    }
-}
-
-/// What a claim makes of the rows from a start upwards, until there are enough.
-fn scan_rows(
-    alloc: Global,
-    rows: &Rows,
-    stream: &Stream,
-    now: Moment,
-    rule: &ClaimRule,
-    start: Id,
-    limit: u64,
-) -> Result<Scan, AllocError>
-    requires { IsOrdered id_cmp rows.now }
-    ensures { IfOk result (λ scan. scan ≡ scan_of rows.now.entries (ids_of stream.now.entries) now rule.now start limit) }
-{
-    let mut found = Found::new(alloc);
-    let mut hits = 0u64;
-    let mut seen = 0u64;
-    let past = rows.range((Bound::Included(start), Bound::Unbounded));
-    for (id, entry) in past {
-        if hits >= limit || seen / 10 >= limit {
-            return Ok(Scan {
-                cursor: *id,
-                claim: found.into_claim(),
-            });
-        }
-        let verdict = claiming::judge(entry, stream, now, rule, *id);
-        hits += verdict.hits();
-        seen += 1;
-        found.add(verdict, *id)?;
-    }
-    Ok(Scan {
-        cursor: Id::ZERO,
-        claim: found.into_claim(),
-    })
-}
-
-/// Takes the rows of these ids out.
-fn remove_rows(rows: &mut Rows, ids: &BTreeSet<Id>)
-    ensures { (x : Id) → row_in rows.new.entries x ≡ (if contains id_cmp ids.now x then None else row_in rows.old.entries x) }
-{
-    for id in ids {
-        let _ = rows.remove(id);
     }
 }

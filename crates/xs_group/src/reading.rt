@@ -3,13 +3,14 @@ ghost use Rattle.std.specs.Prelude.{◌≡◌, IfOk, take, filter};
 ghost use Rattle.xs_stream.specs.Id.{has_id, is_below};
 ghost use Rattle.xs_stream.specs.Kept.{ids_of, limited};
 ghost use Rattle.xs_group.specs.Read.{last_of};
-ghost use Rattle.xs_group.specs.Delivered.{new_rows};
+ghost use Rattle.xs_group.specs.Delivered.{new_rows, touch_set};
 
-use crate::delivery::DeliveryRow;
+use crate::delivery::{DeliveryRow, Touch};
+use crate::entry::raised;
 use std::alloc::{AllocError, Global};
 use std::collections::BTreeSet;
 use std::ops::Bound;
-use xs_stream::{Id, Ids, Stream};
+use xs_stream::{Id, Ids, Moment, Stream};
 
 /// The last of these ids, or the one before them.
 pub(crate) fn last_id(before: Id, ids: &[Id]) -> Id
@@ -71,4 +72,23 @@ fn ids_above(alloc: Global, ids: &BTreeSet<Id>, from: Id, most: u64) -> Result<V
         above.push(*id)?;
     }
     Ok(above)
+}
+
+/// The time and the count that a row gets by a delivery at a moment, or gets back.
+pub(crate) fn touch_set(now: &Option<Moment>, row: &DeliveryRow) -> Option<Touch>
+    ensures { result ≡ touch_set now.now row.now }
+{
+    let Some(now) = now else {
+        return row.before;
+    };
+    if !row.present {
+        return None;
+    }
+    match row.before {
+        Some(touch) => Some(Touch {
+            time: *now,
+            count: raised(touch.count),
+        }),
+        None => None,
+    }
 }

@@ -2,7 +2,7 @@ use Rattle.std.proofs.Common.{◌≡◌, cond, None}
 use Rattle.xs_stream.specs.declared.id.Id.{Id}
 use Rattle.xs_stream.specs.Id.{has_id}
 use Rattle.xs_group.specs.Held.{row_in}
-use Rattle.xs_group.proofs.pending.remove_rows.Given as goal
+use Rattle.xs_group.proofs.owners.remove_rows.Given as goal
 
 -- without the ids still to come, what is left is what will be left
 abbrev pub invariant-loop-id : goal.invariant-loop-id

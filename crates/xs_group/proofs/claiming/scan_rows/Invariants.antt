@@ -3,7 +3,7 @@ use Rattle.xs_stream.specs.Kept.{ids_of}
 use Rattle.xs_group.specs.Claims.{is_taken, is_removed, is_hit, from_start, first_or_zero}
 use Rattle.xs_group.specs.Verdict.{scanned_after}
 use Rattle.xs_group.proofs.Scanning.{AreFound}
-use Rattle.xs_group.proofs.pending.scan_rows.Given as goal
+use Rattle.xs_group.proofs.claiming.scan_rows.Given as goal
 
 -- what is found, with what the rest will bring, is what there is to find
 abbrev pub invariant-loop-id : goal.invariant-loop-id

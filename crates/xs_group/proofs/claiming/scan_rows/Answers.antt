@@ -11,8 +11,8 @@ use Rattle.xs_group.specs.Verdict.{verdict_of, with_taken, with_removed, hits_of
 use Rattle.xs_group.proofs.Choosing.{taken-verdict, removed-verdict, hits-verdict, one_most}
 use Rattle.xs_group.proofs.Ordered.{is_sorted-from}
 use Rattle.xs_group.proofs.Scanning.{AreFound, found-all, found-filter, keys-between, scanned-on, scanned-enough, taken-on, removed-on, scan-ended}
-use Rattle.xs_group.proofs.pending.scan_rows.Goals as goal
-use Rattle.xs_group.proofs.pending.scan_rows.Goals.{then-hits-limit-via-then-hits-limit, then-hits-limit-via-else-hits-limit+then-seen-limit}
+use Rattle.xs_group.proofs.claiming.scan_rows.Goals as goal
+use Rattle.xs_group.proofs.claiming.scan_rows.Goals.{then-hits-limit-via-then-hits-limit, then-hits-limit-via-else-hits-limit+then-seen-limit}
 
 abbrev keys : List (Id × Row) → List Id
 keys es = map (λ e. e.0) es

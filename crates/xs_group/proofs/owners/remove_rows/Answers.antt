@@ -1,7 +1,7 @@
 use Rattle.std.proofs.Common.{sym, ap, ◌∙◌, None, cond}
 use Rattle.xs_stream.specs.Id.{has_id}
 use Rattle.xs_group.specs.Held.{row_in}
-use Rattle.xs_group.proofs.pending.remove_rows.Goals as goal
+use Rattle.xs_group.proofs.owners.remove_rows.Goals as goal
 use Rattle.xs_group.proofs.Leaving.{out-more}
 
 pub loop-id-preserved-in-Some : goal.loop-id-preserved-in-Some
