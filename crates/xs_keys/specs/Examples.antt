@@ -302,13 +302,13 @@ pub record Lives : Type 0 where
       [])
   -- a group that is there already stays as it is
   pub a_group_stays : IsPlayed (
-    at 1 (codes "XADD s 1-0 f v") (id 1 0) ∷
-    at 1 (codes "XGROUP CREATE s g 0") ok ∷
-    at 2 (codes "XREADGROUP GROUP g c STREAMS s >") (array (stream (codes "s") (entry 1 0 ∷ []) ∷ [])) ∷
-    at 3 (codes "XGROUP CREATE s g 0 MKSTREAM") (Error Busy) ∷
-    at 3 (codes "XREADGROUP GROUP g d STREAMS s >") NullArray ∷
-    at 3 (codes "XACK s g 1-0") (Int 1) ∷
-    [])
+      at 1 (codes "XADD s 1-0 f v") (id 1 0) ∷
+      at 1 (codes "XGROUP CREATE s g 0") ok ∷
+      at 2 (codes "XREADGROUP GROUP g c STREAMS s >") (array (stream (codes "s") (entry 1 0 ∷ []) ∷ [])) ∷
+      at 3 (codes "XGROUP CREATE s g 0 MKSTREAM") (Error Busy) ∷
+      at 3 (codes "XREADGROUP GROUP g d STREAMS s >") NullArray ∷
+      at 3 (codes "XACK s g 1-0") (Int 1) ∷
+      [])
 
 pub record Reads : Type 0 where
   -- delivery without pending
