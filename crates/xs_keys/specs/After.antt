@@ -1,21 +1,11 @@
 -- What each command makes of the content. (The pages of the commands.)
 use Rattle.std.specs.Prelude.{ℕ, Bool, List, [], ◌∷◌, ◌++◌, Option, Some, None, Result, Ok, Err, is_some, if◌then◌else◌}
 use Rattle.std.specs.List.{list_all}
-use Rattle.xs_bytes.specs.SortedMap.{empty, get, has_key, insert, remove}
-use Rattle.xs_stream.specs.declared.id.Id.{Id}
-use Rattle.xs_stream.specs.declared.field.Field.{Field}
-use Rattle.xs_stream.specs.declared.trim.Trim.{Trim}
-use Rattle.xs_stream.specs.declared.add.AddError.{AddError}
-use Rattle.xs_stream.specs.Id.{zero_id}
-use Rattle.xs_stream.specs.Assigned.{assigned}
-use Rattle.xs_stream.specs.Kept.{Kept, ids_of, trimmed, without}
-use Rattle.xs_group.specs.State.{State, joined}
-use Rattle.xs_group.specs.Read.{delivered_to, reread_by}
-use Rattle.xs_group.specs.Claims.{claim_of, scan_of, settled_by}
-use Rattle.xs_group.specs.Changes.{new_group, acked, without_consumer}
-use Rattle.xs_keys.specs.Ground.{Command, Add, Delete, TrimTo, GroupCreate, GroupDestroy, ConsumerCreate}
-use Rattle.xs_keys.specs.Ground.{ConsumerDelete, ReadGroup, Ack, Claim, AutoClaim, DropKeys, GroupCreateCommand}
-use Rattle.xs_keys.specs.Ground.{ReadGroupCommand, ReadOne}
+use Rattle.xs_keys.specs.Ground.{empty, get, has_key, insert, remove, Id, Field, Trim, AddError, zero_id, assigned}
+use Rattle.xs_keys.specs.Ground.{Kept, ids_of, trimmed, without, State, joined, delivered_to, reread_by, claim_of}
+use Rattle.xs_keys.specs.Ground.{scan_of, settled_by, new_group, acked, without_consumer, Command, Add, Delete, TrimTo}
+use Rattle.xs_keys.specs.Ground.{GroupCreate, GroupDestroy, ConsumerCreate, ConsumerDelete, ReadGroup, Ack, Claim}
+use Rattle.xs_keys.specs.Ground.{AutoClaim, DropKeys, GroupCreateCommand, ReadGroupCommand, ReadOne}
 use Rattle.xs_keys.specs.Life.{Change, added, deleted, trimmed_to}
 use Rattle.xs_keys.specs.Turn.{Ask, read_new, read_own, ack, join, leave, claim, auto_claim}
 use Rattle.xs_keys.specs.GroupLife.{start_of, read_ask}

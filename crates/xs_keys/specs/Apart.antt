@@ -2,10 +2,7 @@
 use Rattle.std.specs.Prelude.{◌≡◌, ℕ, Bool, true, false, ◌&&◌, List, [], ◌++◌, Option, Some, None, is_some}
 use Rattle.std.specs.Prelude.{if◌then◌else◌}
 use Rattle.std.specs.List.{list_all, list_any}
-use Rattle.xs_stream.specs.declared.id.Id.{Id}
-use Rattle.xs_group.specs.State.{is_name}
-use Rattle.xs_group.specs.Read.{delivers}
-use Rattle.xs_keys.specs.Ground.{Command, ReadGroup, ReadFrom, New, After}
+use Rattle.xs_keys.specs.Ground.{Id, is_name, delivers, Command, ReadGroup, ReadFrom, New, After}
 use Rattle.xs_keys.specs.Life.{key_life}
 use Rattle.xs_keys.specs.Delivered.{delivered, cursor}
 use Rattle.xs_keys.specs.GroupLife.{GroupLife, present_in, reads_of, group_of, group_life}

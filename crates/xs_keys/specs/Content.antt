@@ -1,9 +1,6 @@
 -- The content of the keyspace, and how it is read off a history.
 use Rattle.std.specs.Prelude.{◌≡◌, ℕ, List, Option, Some, None}
-use Rattle.xs_bytes.specs.SortedMap.{NameMap, get}
-use Rattle.xs_stream.specs.Kept.{Kept}
-use Rattle.xs_group.specs.State.{State, has_name}
-use Rattle.xs_keys.specs.Ground.{Command}
+use Rattle.xs_keys.specs.Ground.{NameMap, get, Kept, State, has_name, Command}
 use Rattle.xs_keys.specs.Life.{Change, key_life}
 use Rattle.xs_keys.specs.Given.{stream_of}
 use Rattle.xs_keys.specs.Delivered.{cursor, is_consumer}

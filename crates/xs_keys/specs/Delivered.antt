@@ -1,7 +1,6 @@
 -- A group by looking back over the turns of its life: what was delivered, and the cursor.
 use Rattle.std.specs.Prelude.{ℕ, Bool, true, false, not, ◌&&◌, List, [], ◌∷◌, ◌++◌, if◌then◌else◌}
-use Rattle.xs_stream.specs.declared.id.Id.{Id}
-use Rattle.xs_stream.specs.Id.{is_below}
+use Rattle.xs_keys.specs.Ground.{Id, is_below}
 use Rattle.xs_keys.specs.Given.{greatest}
 use Rattle.xs_keys.specs.Turn.{Turn, delivers_at, brings, drops_consumer}
 

@@ -1,14 +1,8 @@
 -- A stream, by looking back over the changes of its key's life: what was given, and what of it is live.
 use Rattle.std.specs.Prelude.{Bool, true, false, ◌&&◌, List, [], ◌∷◌, ◌++◌, filter, Option, Some, None, Result, Ok, Err}
 use Rattle.std.specs.Prelude.{is_ok, if◌then◌else◌}
-use Rattle.xs_stream.specs.declared.id.Id.{Id}
-use Rattle.xs_stream.specs.declared.field.Field.{Field}
-use Rattle.xs_stream.specs.declared.trim.Trim.{Trim}
-use Rattle.xs_stream.specs.declared.add.AddError.{AddError}
-use Rattle.xs_stream.specs.Id.{is_below, has_id, zero_id}
-use Rattle.xs_stream.specs.Trim.{is_trimmed}
-use Rattle.xs_stream.specs.Assigned.{assigned}
-use Rattle.xs_stream.specs.Kept.{Kept, ids_of}
+use Rattle.xs_keys.specs.Ground.{Id, Field, Trim, AddError, is_below, has_id, zero_id, is_trimmed, assigned, Kept}
+use Rattle.xs_keys.specs.Ground.{ids_of}
 use Rattle.xs_keys.specs.Life.{Change, added, deleted, trimmed_to}
 
 -- the greatest of an id and these

@@ -2,13 +2,9 @@
 use Rattle.std.specs.Prelude.{ℕ, Bool, ◌&&◌, List, [], ◌∷◌, Option, Some, None, is_some, if◌then◌else◌}
 use Rattle.std.specs.Option.{option_map}
 use Rattle.std.specs.List.{list_all}
-use Rattle.xs_stream.specs.declared.id.Id.{Id}
-use Rattle.xs_stream.specs.Id.{zero_id}
-use Rattle.xs_stream.specs.Kept.{ids_of}
-use Rattle.xs_group.specs.State.{is_name}
-use Rattle.xs_keys.specs.Ground.{Command, GroupCreate, GroupDestroy, ConsumerCreate, ConsumerDelete, ReadGroup, Ack}
-use Rattle.xs_keys.specs.Ground.{Claim, AutoClaim, DropKeys, GroupStart, Top, At, GroupCreateCommand, ReadGroupCommand}
-use Rattle.xs_keys.specs.Ground.{ReadOne, ReadFrom, New, After}
+use Rattle.xs_keys.specs.Ground.{Id, zero_id, ids_of, is_name, Command, GroupCreate, GroupDestroy, ConsumerCreate}
+use Rattle.xs_keys.specs.Ground.{ConsumerDelete, ReadGroup, Ack, Claim, AutoClaim, DropKeys, GroupStart, Top, At}
+use Rattle.xs_keys.specs.Ground.{GroupCreateCommand, ReadGroupCommand, ReadOne, ReadFrom, New, After}
 use Rattle.xs_keys.specs.Life.{Change, has_name, key_life}
 use Rattle.xs_keys.specs.Given.{live, top}
 use Rattle.xs_keys.specs.Turn.{Ask, Turn, read_new, read_own, ack, join, leave, claim, auto_claim}

@@ -1,22 +1,12 @@
 -- The replies to the commands of groups. (The pages of the commands, "RESP2 Reply".)
 use Rattle.std.specs.Prelude.{ℕ, ◌-◌, Bool, List, [], ◌∷◌, ◌++◌, map, length, decimal, Option, Some, None}
 use Rattle.std.specs.Prelude.{if◌then◌else◌}
-use Rattle.xs_bytes.specs.SortedMap.{get, has_key}
-use Rattle.xs_stream.specs.declared.id.Id.{Id}
-use Rattle.xs_stream.specs.declared.field.Field.{Field}
-use Rattle.xs_stream.specs.Kept.{ids_of}
-use Rattle.xs_keys.specs.Ground.{NoKey, NoGroup, Busy, Reply, Simple, Error, Int, Bulk, NullBulk, NullArray, Okay}
-use Rattle.xs_keys.specs.Ground.{GroupCreateCommand, ReadGroupCommand, PendingRowsCommand, ClaimCommand}
-use Rattle.xs_keys.specs.Ground.{AutoClaimCommand, ReadOne, ReadFrom, New, After}
+use Rattle.xs_keys.specs.Ground.{get, has_key, Id, Field, ids_of, NoKey, NoGroup, Busy, Reply, Simple, Error, Int, Bulk}
+use Rattle.xs_keys.specs.Ground.{NullBulk, NullArray, Okay, GroupCreateCommand, ReadGroupCommand, PendingRowsCommand}
+use Rattle.xs_keys.specs.Ground.{ClaimCommand, AutoClaimCommand, ReadOne, ReadFrom, New, After, OwnerCount}
+use Rattle.xs_keys.specs.Ground.{GroupSummary, PendingRow, State, has_name, delivers, shown, claim_of, scan_of, acked}
+use Rattle.xs_keys.specs.Ground.{owned_count, summary_of, pending_of}
 use Rattle.xs_group.specs.declared.claim.Scan.{Scan}
-use Rattle.xs_group.specs.declared.report.OwnerCount.{OwnerCount}
-use Rattle.xs_group.specs.declared.report.GroupSummary.{GroupSummary}
-use Rattle.xs_group.specs.declared.report.PendingRow.{PendingRow}
-use Rattle.xs_group.specs.State.{State, has_name}
-use Rattle.xs_group.specs.Read.{delivers, shown}
-use Rattle.xs_group.specs.Claims.{claim_of, scan_of}
-use Rattle.xs_group.specs.Changes.{acked, owned_count}
-use Rattle.xs_group.specs.Report.{summary_of, pending_of}
 use Rattle.xs_keys.specs.Content.{Content, Key}
 use Rattle.xs_keys.specs.GroupLife.{read_ask}
 use Rattle.xs_keys.specs.After.{asked, serves, group_in, entries_in}

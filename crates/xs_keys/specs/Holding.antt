@@ -1,12 +1,7 @@
 -- The row of an id, by looking back: the last turn that touched it says owner, time and count.
 use Rattle.std.specs.Prelude.{ℕ, List, [], ◌∷◌, Option, Some, None, option_and_then, if◌then◌else◌}
-use Rattle.xs_bytes.specs.Each.{kept}
-use Rattle.xs_stream.specs.declared.id.Id.{Id}
-use Rattle.xs_stream.specs.Id.{has_id}
-use Rattle.xs_group.specs.State.{Row}
-use Rattle.xs_group.specs.Read.{delivers, first_row, shown, reread}
-use Rattle.xs_group.specs.Claims.{claimed, claim_of, scan_of}
-use Rattle.xs_group.specs.Changes.{unless_acked, unless_owned}
+use Rattle.xs_keys.specs.Ground.{kept, Id, has_id, Row, delivers, first_row, shown, reread, claimed, claim_of, scan_of}
+use Rattle.xs_keys.specs.Ground.{unless_acked, unless_owned}
 use Rattle.xs_keys.specs.Turn.{Ask, Turn, read_new, read_own, ack, join, leave, claim, auto_claim}
 use Rattle.xs_keys.specs.Delivered.{delivered, cursor}
 

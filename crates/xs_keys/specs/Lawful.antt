@@ -1,9 +1,6 @@
 -- What holds of every content.
 use Rattle.std.specs.Prelude.{◌≡◌, ℕ, true, List, map, Some}
-use Rattle.xs_bytes.specs.SortedMap.{get}
-use Rattle.xs_stream.specs.declared.id.Id.{Id}
-use Rattle.xs_stream.specs.Kept.{Kept, Ascends, AllUpTo, ids_of}
-use Rattle.xs_group.specs.State.{Row, State, has_name}
+use Rattle.xs_keys.specs.Ground.{get, Id, Kept, Ascends, AllUpTo, ids_of, Row, State, has_name}
 use Rattle.xs_keys.specs.Content.{Key, Content}
 
 -- the ids in the stream ascend, and none is above the top

@@ -2,12 +2,7 @@
 use Rattle.std.specs.Prelude.{ℕ, Bool, ◌&&◌, List, [], ◌∷◌, Option, Some, None, if◌then◌else◌}
 use Rattle.std.specs.Option.{option_map}
 use Rattle.std.specs.List.{list_any}
-use Rattle.xs_stream.specs.declared.id.Id.{Id}
-use Rattle.xs_stream.specs.declared.add.AddId.{AddId}
-use Rattle.xs_stream.specs.declared.trim.Trim.{Trim}
-use Rattle.xs_stream.specs.declared.field.Field.{Field}
-use Rattle.xs_group.specs.State.{is_name}
-use Rattle.xs_keys.specs.Ground.{Command, Add, Delete, TrimTo, GroupCreate, DropKeys}
+use Rattle.xs_keys.specs.Ground.{Id, AddId, Trim, Field, is_name, Command, Add, Delete, TrimTo, GroupCreate, DropKeys}
 
 -- keys, groups and consumers have names, lists of bytes
 abbrev pub has_name : List (List ℕ) → List ℕ → Bool

@@ -1,7 +1,6 @@
 -- Who has an entry: what assigns it, what settles it, and its owner.
 use Rattle.std.specs.Prelude.{ℕ, Bool, false, ◌&&◌, ◌||◌, List, [], ◌∷◌, Option, Some, None, if◌then◌else◌}
-use Rattle.xs_stream.specs.declared.id.Id.{Id}
-use Rattle.xs_stream.specs.Id.{has_id}
+use Rattle.xs_keys.specs.Ground.{Id, has_id}
 use Rattle.xs_keys.specs.Turn.{Turn, claims_of, consumer_of, keeps_pending, acks, drops_consumer}
 use Rattle.xs_keys.specs.Delivered.{delivers_after}
 use Rattle.xs_keys.specs.Holding.{rows}

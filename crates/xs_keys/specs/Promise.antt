@@ -1,8 +1,6 @@
 -- What a life of a group promises: new deliveries, and one owner until an entry is settled.
 use Rattle.std.specs.Prelude.{◌≡◌, ℕ, Bool, true, false, not, ◌&&◌, ◌||◌, ◌⊎◌, List, [], ◌∷◌, ◌++◌, Some, None, is_some}
-use Rattle.xs_stream.specs.declared.id.Id.{Id}
-use Rattle.xs_stream.specs.Id.{is_below, has_id}
-use Rattle.xs_stream.specs.Kept.{Ascends, AllAbove}
+use Rattle.xs_keys.specs.Ground.{Id, is_below, has_id, Ascends, AllAbove}
 use Rattle.xs_keys.specs.Turn.{Turn, claims_of, consumer_of, keeps_pending}
 use Rattle.xs_keys.specs.Delivered.{delivered, cursor, delivers_after, is_their_turn}
 use Rattle.xs_keys.specs.Holding.{rows}

@@ -1,16 +1,11 @@
 -- The reply to each command, from the content that it meets. (The pages of the commands, "RESP2 Reply".)
 use Rattle.std.specs.Prelude.{ℕ, ◌+◌, ◌-◌, List, [], ◌∷◌, length, Option, Some, None, Result, Ok, Err, if◌then◌else◌}
-use Rattle.xs_bytes.specs.SortedMap.{get, has_key, remove}
-use Rattle.xs_stream.specs.declared.id.Id.{Id}
-use Rattle.xs_stream.specs.declared.add.AddError.{AddError}
-use Rattle.xs_stream.specs.declared.add.AddError.TheVariants.{Small}
-use Rattle.xs_stream.specs.declared.add.AddError.TheVariants as add_error
-use Rattle.xs_stream.specs.Assigned.{assigned}
-use Rattle.xs_stream.specs.Kept.{ids_within, limited}
-use Rattle.xs_keys.specs.Ground.{Fault, SmallId, Exhausted, Memory, Reply, Simple, Error, Int, Bulk, NullBulk, Okay}
-use Rattle.xs_keys.specs.Ground.{Pong, Command, Ping, Quit, Add, Delete, TrimTo, Len, Scan, GroupCreate, GroupDestroy}
+use Rattle.xs_keys.specs.Ground.{get, has_key, remove, Id, AddError, Small, assigned, ids_within, limited, Fault}
+use Rattle.xs_keys.specs.Ground.{SmallId, Exhausted, Memory, Reply, Simple, Error, Int, Bulk, NullBulk, Okay, Pong}
+use Rattle.xs_keys.specs.Ground.{Command, Ping, Quit, Add, Delete, TrimTo, Len, Scan, GroupCreate, GroupDestroy}
 use Rattle.xs_keys.specs.Ground.{ConsumerCreate, ConsumerDelete, ReadGroup, Ack, Pending, PendingRows, Claim, AutoClaim}
 use Rattle.xs_keys.specs.Ground.{DropKeys, AddCommand, ScanCommand}
+use Rattle.xs_stream.specs.declared.add.AddError.TheVariants as add_error
 use Rattle.xs_keys.specs.Life.{Change, deleted, trimmed_to}
 use Rattle.xs_keys.specs.Content.{Content, Key}
 use Rattle.xs_keys.specs.After.{new_stream, stream_after, group_in, entries_in}

@@ -1,11 +1,7 @@
 -- Shapes that replies have in common.
 use Rattle.std.specs.Prelude.{List, [], ◌∷◌, map, Option, Some, None}
 use Rattle.std.specs.List.{flat_map}
-use Rattle.xs_stream.specs.declared.id.Id.{Id}
-use Rattle.xs_stream.specs.declared.field.Field.{Field}
-use Rattle.xs_stream.specs.Id.{printed}
-use Rattle.xs_stream.specs.Kept.{fields_at}
-use Rattle.xs_keys.specs.Ground.{Reply, Bulk, Array, NullArray, items_of}
+use Rattle.xs_keys.specs.Ground.{Id, Field, printed, fields_at, Reply, Bulk, Array, NullArray, items_of}
 
 -- an array of these replies
 abbrev pub array : List Reply → Reply

@@ -1,12 +1,7 @@
 -- Turns of a group: what an event asks of it, at a moment, over the ids then in the stream.
 use Rattle.std.specs.Prelude.{ℕ, Bool, false, not, List, [], Option, Some, None}
-use Rattle.xs_stream.specs.declared.id.Id.{Id}
-use Rattle.xs_stream.specs.Id.{has_id}
+use Rattle.xs_keys.specs.Ground.{Id, has_id, Rule, Row, is_name, delivers, claim_of, scan_of}
 use Rattle.xs_group.specs.declared.claim.Claim.{Claim}
-use Rattle.xs_group.specs.Rule.{Rule}
-use Rattle.xs_group.specs.State.{Row, is_name}
-use Rattle.xs_group.specs.Read.{delivers}
-use Rattle.xs_group.specs.Claims.{claim_of, scan_of}
 
 -- what is asked; each but an acknowledgement names a consumer
 pub data Ask : Type 0 where
