@@ -1,3 +1,4 @@
+pub mod Reports
 pub mod LineEnds
 pub mod ScriptLines
 pub mod Sessions

@@ -1,5 +1,6 @@
 -- What the program says at its end.
-use Rattle.std.specs.Prelude.{ℕ}
+use Rattle.std.specs.Prelude.{◌≡◌, ℕ, ◌⊎◌, Bool, true, List, [], ◌∷◌, ◌++◌, codes, decimal, Option}
+use Rattle.std.specs.Io.KnownBytes.{Appends}
 use Rattle.xs_server.specs.declared.script_fault.ScriptFault.{ScriptFault}
 use Rattle.xs_server.specs.declared.script_fault.ScriptFault.TheVariants.{Line, Read, Write, Memory}
 
@@ -10,3 +11,22 @@ status_of (Line _ _) = 2
 status_of (Read _) = 1
 status_of (Write _) = 1
 status_of (Memory _) = 1
+
+-- the line of a line that is no script line
+abbrev pub line_text : ℕ → List ℕ
+line_text number = codes "xs_server: line " ++ decimal number ++ codes " is not a script line\n"
+
+-- the line of a want of memory
+abbrev pub memory_text : List ℕ
+memory_text = codes "xs_server: out of memory\n"
+
+-- the line of a script's fault
+abbrev pub fault_text : ScriptFault → List ℕ
+fault_text (Line number _) = line_text number
+fault_text (Read _) = codes "xs_server: reading failed\n"
+fault_text (Write _) = codes "xs_server: writing failed\n"
+fault_text (Memory _) = memory_text
+
+-- a writer takes this text, or a part of it where it fails
+abbrev pub Says : List ℕ → Option (List ℕ) → Option (List ℕ) → Bool → Type 0
+Says text old new broken = (part rest : List ℕ) × (text ≡ part ++ rest) × Appends old new part × ((rest ≡ []) ⊎ (broken ≡ true))

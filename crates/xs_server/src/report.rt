@@ -1,15 +1,29 @@
 //! What the program says on standard error, and its status.
-ghost use Rattle.std.specs.Prelude.{◌≡◌};
-ghost use Rattle.xs_server.specs.Report.{status_of};
+ghost use Rattle.std.specs.Prelude.{◌≡◌, true, false};
+ghost use Rattle.std.specs.Io.KnownBytes.{Appends};
+ghost use Rattle.xs_server.specs.Report.{status_of, fault_text, memory_text, line_text, Says};
 
 use crate::device::Sink;
 use crate::script_fault::ScriptFault;
 use crate::sending::write_all;
 use itoa::Buffer;
 
+/// Writes a text, up to a fault of the writer, and says whether it is whole.
+fn say<W: Sink>(errors: &mut W, text: &[u8]) -> bool
+    ensures said { Says text.now (W.held errors.old) (W.held errors.new) (W.broken errors.new) }
+    ensures whole { result ≡ true → Appends (W.held errors.old) (W.held errors.new) text.now }
+    ensures part { result ≡ false → W.broken errors.new ≡ true }
+{
+    match write_all(errors, text) {
+        Ok(_) => true,
+        Err(_) => false,
+    }
+}
+
 /// Writes the line of a script's fault, passes over a fault of the writer, and gives the status of the program.
 pub fn report_script<W: Sink>(errors: &mut W, fault: &ScriptFault) -> u8
-    ensures { result ≡ status_of fault.now }
+    ensures status { result ≡ status_of fault.now }
+    ensures said { Says (fault_text fault.now) (W.held errors.old) (W.held errors.new) (W.broken errors.new) }
 {
     match fault {
         ScriptFault::Line { number, .. } => {
@@ -17,11 +31,11 @@ pub fn report_script<W: Sink>(errors: &mut W, fault: &ScriptFault) -> u8
             2
         }
         ScriptFault::Read { .. } => {
-            let _ = write_all(errors, b"xs_server: reading failed\n");
+            say(errors, b"xs_server: reading failed\n");
             1
         }
         ScriptFault::Write { .. } => {
-            let _ = write_all(errors, b"xs_server: writing failed\n");
+            say(errors, b"xs_server: writing failed\n");
             1
         }
         ScriptFault::Memory { .. } => report_memory(errors),
@@ -30,19 +44,24 @@ pub fn report_script<W: Sink>(errors: &mut W, fault: &ScriptFault) -> u8
 
 /// Writes the line of a want of memory, and gives the status of the program.
 pub fn report_memory<W: Sink>(errors: &mut W) -> u8
-    ensures { result ≡ 1 }
+    ensures status { result ≡ 1 }
+    ensures said { Says memory_text (W.held errors.old) (W.held errors.new) (W.broken errors.new) }
 {
-    let _ = write_all(errors, b"xs_server: out of memory\n");
+    say(errors, b"xs_server: out of memory\n");
     1
 }
 
 /// Writes that a line is no script line, up to a fault of the writer.
-fn report_line<W: Sink>(errors: &mut W, number: u64) {
+fn report_line<W: Sink>(errors: &mut W, number: u64)
+    ensures { Says (line_text number) (W.held errors.old) (W.held errors.new) (W.broken errors.new) }
+{
     let mut digits = Buffer::new();
     let number = digits.format(number).as_bytes();
-    for part in [b"xs_server: line ", number, b" is not a script line\n"] {
-        if write_all(errors, part).is_err() {
-            return;
-        }
+    if !say(errors, b"xs_server: line ") {
+        return;
     }
+    if !say(errors, number) {
+        return;
+    }
+    say(errors, b" is not a script line\n");
 }
