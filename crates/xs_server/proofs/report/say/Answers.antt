@@ -1,4 +1,4 @@
-use Rattle.std.proofs.Common.{◌≡◌, ◌++◌, [], take, drop, sym, refl, inl, inr}
+use Rattle.std.proofs.Common.{[], take, drop, sym, refl, inl, inr}
 use Rattle.std.proofs.lemmas.List.{take-append-drop, append-nil}
 use Rattle.xs_server.proofs.report.say.Goals as goal
 
