@@ -1,14 +1,14 @@
 -- A read that is taken back.
-use Rattle.std.proofs.Common.{◌≡◌, ℕ, Bool, true, false, cond, not, inl, inr, List, [], ◌∷◌, sym, ap, ◌∙◌, refl}
+use Rattle.std.proofs.Common.{Option, ◌≡◌, ℕ, Bool, true, false, cond, not, inl, inr, List, [], ◌∷◌, sym, ap, ◌∙◌, refl}
 use Rattle.xs_bytes.specs.SortedMap.{change}
 use Rattle.xs_stream.specs.declared.id.Id.{Id}
 use Rattle.xs_group.specs.declared.delivery.Delivery.{Delivery}
 use Rattle.xs_group.specs.State.{Rows, State, has_name, with_name}
-use Rattle.xs_group.specs.Read.{delivers, first_row, with_rows, shown}
+use Rattle.xs_group.specs.Read.{delivers, first_row, with_rows, shown, delivered_to, reread_by}
 use Rattle.xs_group.specs.Changes.{unless_acked}
 use Rattle.xs_group.specs.Held.{Held, IsNamed, AreFree}
 use Rattle.xs_group.specs.Lawful.{IsLawful}
-use Rattle.xs_group.specs.Delivered.{new_rows, kind_of, taken_back, without_made, unmade, row_ids, IsDelivered, IsReread, IsMade}
+use Rattle.xs_group.specs.Delivered.{delivery_of, history_of, new_rows, kind_of, taken_back, without_made, unmade, row_ids, IsDelivered, IsReread, IsMade}
 use Rattle.xs_group.proofs.Agreeing.{name-again}
 use Rattle.xs_group.proofs.Putting.{held-back, out-again}
 use Rattle.xs_group.proofs.Cursors.{free-above, delivers-above}
@@ -65,3 +65,35 @@ module _ (before : State) (law : IsLawful before) where
 pub undone-before : (before after : State) (d : Delivery) → IsMade before after d → undone d after ≡ before
 undone-before before after d (law, inl w) = undelivered before law after d w
 undone-before before after d (law, inr w) = unreread before law after d w
+
+-- ---- what a read ensures is what its undoing asks for
+
+pub made-delivery : (before after : State) (d : Delivery) (consumer : List ℕ) (now : ℕ) (limit : Option ℕ) (noack : Bool) (ids : List Id) → IsLawful before
+    → after ≡ delivered_to consumer now limit noack ids before → d ≡ delivery_of consumer limit noack ids before → IsMade before after d
+made-delivery before after d consumer now limit noack ids law left answered =
+    let own : consumer ≡ d.consumer = sym (ap (λ (k : Delivery). k.consumer) answered) in (
+      law,
+      inl (record {
+        now = now;
+        limit = limit;
+        noack = noack;
+        ids = ids;
+        left = left ∙ ap (λ k. delivered_to k now limit noack ids before) own;
+        answered = answered ∙ ap (λ k. delivery_of k limit noack ids before) own;
+      }),
+    )
+
+pub made-history : (before after : State) (d : Delivery) (consumer : List ℕ) (now : ℕ) (limit : Option ℕ) (from : Id) (ids : List Id) → IsLawful before
+    → after ≡ reread_by consumer now limit from ids before → d ≡ history_of consumer limit from ids before → IsMade before after d
+made-history before after d consumer now limit from ids law left answered =
+    let own : consumer ≡ d.consumer = sym (ap (λ (k : Delivery). k.consumer) answered) in (
+      law,
+      inr (record {
+        now = now;
+        limit = limit;
+        from = from;
+        ids = ids;
+        left = left ∙ ap (λ k. reread_by k now limit from ids before) own;
+        answered = answered ∙ ap (λ k. history_of k limit from ids before) own;
+      }),
+    )

@@ -1,0 +1,86 @@
+//! Calls that stand one after another: a read that is taken back, and a claim that is found and carried out.
+ghost use Rattle.std.specs.Prelude.{◌≡◌, IfOk, OnErr};
+ghost use Rattle.xs_stream.specs.Kept.{ids_of};
+ghost use Rattle.xs_group.specs.Claims.{claim_of, scan_of, settled_by};
+
+use crate::claim::{Claim, Scan};
+use crate::claim_rule::ClaimRule;
+use crate::group::Group;
+use std::alloc::{AllocError, Global};
+use xs_bytes::Bytes;
+use xs_stream::{Id, Moment, Stream};
+
+/// Delivers new entries, and takes that back.
+pub fn deliver_and_undo(
+    group: &mut Group,
+    alloc: Global,
+    stream: &Stream,
+    consumer: &Bytes,
+    now: Moment,
+    limit: Option<u64>,
+    noack: bool,
+) -> Result<(), AllocError>
+    ensures { group.new ≡ group.old }
+{
+    group.lawful();
+    let delivery = group.deliver(alloc, stream, consumer, now, limit, noack)?;
+    group.undo(delivery);
+    Ok(())
+}
+
+/// Shows a consumer its own entries, and takes that back.
+pub fn history_and_undo(
+    group: &mut Group,
+    alloc: Global,
+    stream: &Stream,
+    consumer: &Bytes,
+    now: Moment,
+    from: Id,
+    limit: Option<u64>,
+) -> Result<(), AllocError>
+    ensures { group.new ≡ group.old }
+{
+    group.lawful();
+    let delivery = group.history(alloc, stream, consumer, now, from, limit)?;
+    group.undo(delivery);
+    Ok(())
+}
+
+/// Claims entries by their ids.
+pub fn claim_ids(
+    group: &mut Group,
+    alloc: Global,
+    stream: &Stream,
+    consumer: &Bytes,
+    now: Moment,
+    rule: &ClaimRule,
+    ids: &[Id],
+) -> Result<Claim, AllocError>
+    ensures claim { IfOk result (λ claim. claim ≡ claim_of group.old.rows.entries (ids_of stream.now.entries) now rule.now ids.now) }
+    ensures ok { IfOk result (λ claim. group.new ≡ settled_by consumer.now now rule.now claim group.old) }
+    ensures err { OnErr result (group.new ≡ group.old) }
+{
+    let claim = group.find_claim(alloc, stream, now, rule, ids)?;
+    group.settle(alloc, consumer, now, rule, &claim)?;
+    Ok(claim)
+}
+
+/// Claims entries from a start upwards.
+pub fn claim_from(
+    group: &mut Group,
+    alloc: Global,
+    stream: &Stream,
+    consumer: &Bytes,
+    now: Moment,
+    rule: &ClaimRule,
+    start: Id,
+    limit: u64,
+) -> Result<Scan, AllocError>
+    ensures scan { IfOk result (λ scan. scan ≡ scan_of group.old.rows.entries (ids_of stream.now.entries) now rule.now start limit) }
+    ensures ok { IfOk result (λ scan. group.new ≡ settled_by consumer.now now rule.now scan.claim group.old) }
+    ensures err { OnErr result (group.new ≡ group.old) }
+{
+    let scan = group.scan(alloc, stream, now, rule, start, limit)?;
+    group.settle(alloc, consumer, now, rule, &scan.claim)?;
+    Ok(scan)
+}
