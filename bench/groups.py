@@ -10,54 +10,27 @@ the stream is taken off the deliveries, and that of stream and deliveries off th
 """
 import argparse
 import os
-import shutil
 import statistics
 import subprocess
 import tempfile
 
-HERE = os.path.dirname(os.path.abspath(__file__))
-TOP = os.path.dirname(HERE)
+import laid_down
+
 BELOW = ("xs_bytes", "xs_stream", "xs_group")
 SIZES = (10_000, 100_000, 1_000_000)
 WORKS = ("fill", "ack", "claim", "scan", "summary", "rows", "owner", "remove")
 
 
-def lay_down(folder):
-    """A repository with the crates that the program uses, and the program."""
-    lines = open(os.path.join(TOP, "crates.txt"), encoding="utf-8").read().splitlines()
-    kept = [line for line in lines if line.split(":")[0] in BELOW]
-    with open(os.path.join(folder, "crates.txt"), "w", encoding="utf-8") as out:
-        out.write("\n".join([*kept, f"bench_groups: {' '.join(BELOW)}", ""]))
-    for name in BELOW:
-        shutil.copytree(os.path.join(TOP, "crates", name), os.path.join(folder, "crates", name))
-    source = os.path.join(folder, "crates", "bench_groups", "src")
-    os.makedirs(source)
-    shutil.copy(os.path.join(HERE, "groups", "main.rt.txt"), os.path.join(source, "main.rt"))
-
-
-def build_here(folder):
-    lay_down(folder)
-    crate = os.path.join(folder, "crates", "bench_groups")
-    subprocess.run(["git", "init", "-q"], cwd=folder, check=True)
-    subprocess.run(["rt", "run", "--", "10000", "stream"], cwd=crate, check=True, stdout=subprocess.DEVNULL)
-    return os.path.join(crate, "out", "bench_groups")
-
-
 def build_plain(folder):
     program = os.path.join(folder, "plain")
-    source = os.path.join(HERE, "groups", "plain.rs")
+    source = os.path.join(laid_down.HERE, "groups", "plain.rs")
     subprocess.run(["rustc", "-O", "-o", program, source], check=True)
     return program
 
 
 def run(program, size, work):
     """What it told, processor time in seconds, and the peak in KiB."""
-    child = subprocess.Popen([program, str(size), work], stdout=subprocess.PIPE, text=True)
-    told = child.stdout.read()
-    _, status, used = os.wait4(child.pid, 0)
-    child.returncode = os.waitstatus_to_exitcode(status)
-    if child.returncode != 0:
-        raise SystemExit(f"{program} {size} {work}: status {child.returncode}")
+    told, used = laid_down.run(program, str(size), work)
     return told, used.ru_utime + used.ru_stime, used.ru_maxrss
 
 
@@ -95,7 +68,10 @@ def main():
     parser.add_argument("--runs", type=int, default=5)
     runs = parser.parse_args().runs
     with tempfile.TemporaryDirectory() as folder:
-        programs = {"here": build_here(folder), "plain": build_plain(folder)}
+        programs = {
+            "here": laid_down.build(folder, "groups", BELOW, ["10000", "stream"]),
+            "plain": build_plain(folder),
+        }
         print("| Entries | Work | here, s | plain Rust, s | ratio | here, peak MiB | plain, peak MiB |")
         print("|---|---|---|---|---|---|---|")
         for size in SIZES:

@@ -9,55 +9,30 @@ run, with copies of the crates xs_bytes and xs_resp as they are built here. Proc
 """
 import argparse
 import os
-import shutil
 import statistics
 import subprocess
 import tempfile
 
-HERE = os.path.dirname(os.path.abspath(__file__))
-TOP = os.path.dirname(HERE)
+import laid_down
+
 BELOW = ("xs_bytes", "xs_resp")
 SIZES = (16384, 1024, 7)
 COUNT = 1_000_000
 TOLD = f"{COUNT} requests, {5 * COUNT} words\n"
 
 
-def lay_down(folder):
-    """A repository with the crates that the program uses, and the program."""
-    lines = open(os.path.join(TOP, "crates.txt"), encoding="utf-8").read().splitlines()
-    kept = [line for line in lines if line.split(":")[0] in BELOW]
-    with open(os.path.join(folder, "crates.txt"), "w", encoding="utf-8") as out:
-        out.write("\n".join([*kept, f"bench_requests: {' '.join(BELOW)}", ""]))
-    for name in BELOW:
-        shutil.copytree(os.path.join(TOP, "crates", name), os.path.join(folder, "crates", name))
-    source = os.path.join(folder, "crates", "bench_requests", "src")
-    os.makedirs(source)
-    shutil.copy(os.path.join(HERE, "requests", "main.rt.txt"), os.path.join(source, "main.rt"))
-
-
-def build_here(folder):
-    lay_down(folder)
-    crate = os.path.join(folder, "crates", "bench_requests")
-    subprocess.run(["git", "init", "-q"], cwd=folder, check=True)
-    subprocess.run(["rt", "run", "--", "16384"], cwd=crate, check=True, stdout=subprocess.DEVNULL)
-    return os.path.join(crate, "out", "bench_requests")
-
-
 def build_hiredis(folder):
     program = os.path.join(folder, "hiredis")
-    source = os.path.join(HERE, "requests", "hiredis.c")
+    source = os.path.join(laid_down.HERE, "requests", "hiredis.c")
     subprocess.run(["cc", "-O2", "-o", program, source, "-lhiredis"], check=True)
     return program
 
 
 def run(program, size):
     """Processor time in seconds."""
-    child = subprocess.Popen([program, str(size)], stdout=subprocess.PIPE, text=True)
-    told = child.stdout.read()
-    _, status, used = os.wait4(child.pid, 0)
-    child.returncode = os.waitstatus_to_exitcode(status)
-    if child.returncode != 0 or told != TOLD:
-        raise SystemExit(f"{program} {size} told {told!r}, status {child.returncode}")
+    told, used = laid_down.run(program, str(size))
+    if told != TOLD:
+        raise SystemExit(f"{program} {size} told {told!r}")
     return used.ru_utime + used.ru_stime
 
 
@@ -70,7 +45,10 @@ def main():
     parser.add_argument("--runs", type=int, default=5)
     runs = parser.parse_args().runs
     with tempfile.TemporaryDirectory() as folder:
-        programs = {"here": build_here(folder), "hiredis": build_hiredis(folder)}
+        programs = {
+            "here": laid_down.build(folder, "requests", BELOW, ["16384"]),
+            "hiredis": build_hiredis(folder),
+        }
         taken = {(who, size): [] for size in SIZES for who in programs}
         for _ in range(runs):
             for who, size in taken:

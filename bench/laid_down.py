@@ -1,0 +1,35 @@
+"""A repository that is laid down for the time of a measurement: copies of some crates, and a program over them."""
+import os
+import shutil
+import subprocess
+
+HERE = os.path.dirname(os.path.abspath(__file__))
+TOP = os.path.dirname(HERE)
+
+
+def build(folder, name, below, words):
+    """Lays down the crates below and the program NAME of bench/NAME/main.rt.txt, builds it by a run with these words,
+    and gives its path."""
+    lines = open(os.path.join(TOP, "crates.txt"), encoding="utf-8").read().splitlines()
+    kept = [line for line in lines if line.split(":")[0] in below]
+    with open(os.path.join(folder, "crates.txt"), "w", encoding="utf-8") as out:
+        out.write("\n".join([*kept, f"bench_{name}: {' '.join(below)}", ""]))
+    for crate in below:
+        shutil.copytree(os.path.join(TOP, "crates", crate), os.path.join(folder, "crates", crate))
+    crate = os.path.join(folder, "crates", f"bench_{name}")
+    os.makedirs(os.path.join(crate, "src"))
+    shutil.copy(os.path.join(HERE, name, "main.rt.txt"), os.path.join(crate, "src", "main.rt"))
+    subprocess.run(["git", "init", "-q"], cwd=folder, check=True)
+    subprocess.run(["rt", "run", "--", *words], cwd=crate, check=True, stdout=subprocess.DEVNULL)
+    return os.path.join(crate, "out", f"bench_{name}")
+
+
+def run(program, *words):
+    """What the program told, and what the kernel says that it used."""
+    child = subprocess.Popen([program, *words], stdout=subprocess.PIPE, text=True)
+    told = child.stdout.read()
+    _, status, used = os.wait4(child.pid, 0)
+    child.returncode = os.waitstatus_to_exitcode(status)
+    if child.returncode != 0:
+        raise SystemExit(f"{program} {' '.join(words)}: status {child.returncode}")
+    return told, used
