@@ -1,11 +1,12 @@
 //! A pending entry.
-ghost use Rattle.std.specs.Prelude.{◌≡◌};
+ghost use Rattle.std.specs.Prelude.{◌≡◌, IfOk};
 ghost use Rattle.xs_group.specs.State.{raised, idle};
 ghost use Rattle.xs_group.specs.Claims.{claimed_row, claim_time, claim_count};
 
 use crate::claim_rule::{ClaimRule, ClaimTime};
 use crate::delivery::Touch;
 use crate::name::Name;
+use std::alloc::AllocError;
 use std::marker::Model;
 use xs_bytes::Bytes;
 use xs_stream::Moment;
@@ -57,6 +58,13 @@ impl Entry {
         ensures { result.now ≡ self.now.consumer }
     {
         self.consumer.text()
+    }
+
+    /// The name of the consumer once more.
+    pub(crate) fn share_name(&self) -> Result<Name, AllocError>
+        ensures { IfOk result (λ name. name ≡ self.now.consumer) }
+    {
+        self.consumer.share()
     }
 
     pub(crate) fn touch(&self) -> Touch

@@ -1,5 +1,5 @@
 //! Pending entries that go to another consumer.
-ghost use Rattle.std.specs.Prelude.{◌≡◌, ◌∷◌, [], ◌&&◌, ◌||◌, ℕ, List, Bool, Option, true, false, not, map, is_some, option_and_then, IfOk, if◌then◌else◌, OnOk, OnErr, IsSome};
+ghost use Rattle.std.specs.Prelude.{◌≡◌, ◌∷◌, [], ◌&&◌, ◌||◌, ℕ, List, Bool, Option, true, false, not, map, is_some, option_and_then, IfOk, IfSome, if◌then◌else◌, OnOk, OnErr, IsSome};
 ghost use Rattle.xs_stream.specs.declared.id.Id.{Id};
 ghost use Rattle.xs_stream.specs.Id.{is_same, has_id};
 ghost use Rattle.xs_group.specs.State.{is_name};
@@ -7,6 +7,7 @@ ghost use Rattle.xs_group.specs.Held.{holds, ids_at, is_owner, row_in, IsAgreed}
 ghost use Rattle.xs_group.specs.Verdict.{moved, AreApart, AreAgreedBut, AreSomeOf};
 
 use crate::claim_rule::ClaimRule;
+use crate::entry::Entry;
 use crate::name::Name;
 use crate::owners::{self, Owners};
 use crate::pending::Rows;
@@ -21,14 +22,26 @@ fn is_same_name(a: &Bytes, b: &Bytes) -> bool
     a.cmp(b).is_eq()
 }
 
+/// A row of a consumer, where it has one.
+pub(crate) fn row_of<'a>(rows: &'a Rows, owners: &Owners, name: &Bytes) -> Option<&'a Entry>
+    ensures { IfSome result (λ entry. entry.now.consumer ≡ name.now) }
+{
+    let ids = owners.get(name)?;
+    let id = ids.first()?;
+    let entry = rows.get(id)?;
+    if !is_same_name(entry.consumer(), name) {
+        return None;
+    }
+    Some(entry)
+}
+
 /// The name once for each of these ids.
-pub(crate) fn shares(alloc: Global, name: &Bytes, ids: &[Id]) -> Result<Vec<Name>, AllocError>
+pub(crate) fn shares(alloc: Global, name: &Name, ids: &[Id]) -> Result<Vec<Name>, AllocError>
     ensures { IfOk result (λ names. names.items ≡ map (λ x. name.now) ids.now) }
 {
-    let shared = Name::new(alloc, name)?;
     let mut names = Vec::with_capacity(alloc, ids.len())?;
     for _id in ids {
-        names.push(shared.share()?)?;
+        names.push(name.share()?)?;
     }
     Ok(names)
 }

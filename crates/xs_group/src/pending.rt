@@ -114,6 +114,16 @@ impl Pending {
         true
     }
 
+    /// The name of a consumer, shared with a row of it where it has one.
+    fn shared_name(&self, alloc: Global, name: &Bytes) -> Result<Name, AllocError>
+        ensures { IfOk result (λ shared. shared ≡ name.now) }
+    {
+        match moving::row_of(&self.rows, &self.owners, name) {
+            Some(entry) => entry.share_name(),
+            None => Name::new(alloc, name),
+        }
+    }
+
     /// Makes ids pending with a consumer, as delivered for the first time.
     fn put_all(
         &mut self,
@@ -128,7 +138,7 @@ impl Pending {
         ensures ok { OnOk result (self.new ≡ record self.old { rows = with_rows ids.now (first_row name.now now) self.old.rows }) }
         ensures err { OnErr result (self.new ≡ self.old) }
     {
-        let shared = Name::new(alloc, name)?;
+        let shared = self.shared_name(alloc, name)?;
         for (i, id) in ids.iter().enumerate() {
             let Ok(()) = self.put(&shared, *id, now) else {
                 self.take_all(&ids[..i]);
@@ -333,7 +343,8 @@ impl Pending {
         ensures ok { OnOk result (self.new ≡ record self.old { rows = change (moved name.now now rule.now ids.now) self.old.rows }) }
         ensures err { OnErr result (self.new ≡ self.old) }
     {
-        let names = moving::shares(alloc, name, ids)?;
+        let shared = self.shared_name(alloc, name)?;
+        let names = moving::shares(alloc, &shared, ids)?;
         let Ok(()) = moving::put_ids(&mut self.owners, name, ids) else {
             moving::take_back(&self.rows, &mut self.owners, name, ids);
             return Err(AllocError);

@@ -10,5 +10,5 @@ loop-id-preserved c =
     let done = take c.loop-id._id-index c.args.ids.now in
     let id = get_or c.args.ids.now c.loop-id._id-index (record { ms = 0; seq = 0 }) in
     let name : Id → List ℕ = λ x. c.args.name.now in
-    c.in_ok-push.ensures.items ∙ ap (λ (n : List ℕ). c.loop-id.names.items ++ n ∷ []) (c.in_ok-share.ensures ∙ c.in_ok-shared.ensures)
+    c.in_ok-push.ensures.items ∙ ap (λ (n : List ℕ). c.loop-id.names.items ++ n ∷ []) c.in_ok-share.ensures
     ∙ ap (λ (names : List (List ℕ)). names ++ c.args.name.now ∷ []) c.loop-id.invariant ∙ sym (names-more c.args.name.now done id) ∙ ap (map name) (sym next)
