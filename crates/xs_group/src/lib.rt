@@ -23,3 +23,6 @@ pub use claim_rule::{ClaimRule, ClaimTime};
 pub use delivery::{Delivery, DeliveryKind, DeliveryRow, DeliveryRows, Touch};
 pub use group::Group;
 pub use report::{GroupSummary, OwnerCount, OwnerCounts, PendingRow};
+
+#[cfg(test)]
+mod tests;
