@@ -8,7 +8,6 @@ run, with copies of the crates xs_bytes, xs_stream and xs_group. Each work is do
 1,000,000 entries, until 1,000,000 rows were worked on in all. Processor time is what the kernel counts; that of making
 the stream is taken off the deliveries, and that of stream and deliveries off the other works.
 """
-import argparse
 import os
 import statistics
 import subprocess
@@ -64,9 +63,7 @@ def measure(programs, size, runs):
 
 
 def main():
-    parser = argparse.ArgumentParser(description=__doc__, formatter_class=argparse.RawDescriptionHelpFormatter)
-    parser.add_argument("--runs", type=int, default=5)
-    runs = parser.parse_args().runs
+    runs = laid_down.runs(__doc__)
     with tempfile.TemporaryDirectory() as folder:
         programs = {
             "here": laid_down.build(folder, "groups", BELOW, ["10000", "stream"]),

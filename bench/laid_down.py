@@ -1,4 +1,5 @@
 """A repository that is laid down for the time of a measurement: copies of some crates, and a program over them."""
+import argparse
 import os
 import shutil
 import subprocess
@@ -33,3 +34,10 @@ def run(program, *words):
     if child.returncode != 0:
         raise SystemExit(f"{program} {' '.join(words)}: status {child.returncode}")
     return told, used
+
+
+def runs(told):
+    """How many runs the command line asks for; the text is what it tells where it asks for help."""
+    parser = argparse.ArgumentParser(description=told, formatter_class=argparse.RawDescriptionHelpFormatter)
+    parser.add_argument("--runs", type=int, default=5)
+    return parser.parse_args().runs

@@ -7,7 +7,6 @@ Each reads 1,000,000 additions with one value of 60 bytes out of memory, in piec
 The program over the reader, bench/requests/main.rt.txt, is a crate of a repository that is laid down for the time of the
 run, with copies of the crates xs_bytes and xs_resp as they are built here. Processor time is what the kernel counts.
 """
-import argparse
 import os
 import statistics
 import subprocess
@@ -41,9 +40,7 @@ def spread(values):
 
 
 def main():
-    parser = argparse.ArgumentParser(description=__doc__, formatter_class=argparse.RawDescriptionHelpFormatter)
-    parser.add_argument("--runs", type=int, default=5)
-    runs = parser.parse_args().runs
+    runs = laid_down.runs(__doc__)
     with tempfile.TemporaryDirectory() as folder:
         programs = {
             "here": laid_down.build(folder, "requests", BELOW, ["16384"]),
