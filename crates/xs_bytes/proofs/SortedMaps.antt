@@ -8,7 +8,8 @@ use Rattle.std.specs.Cmp.{IsTotalOrder, eq_by_cmp_equiv}
 use Rattle.std.proofs.lemmas.Cmp.{alike_right}
 use Rattle.std.specs.declared.cmp.Ordering.TheVariants.{Less, Equal, Greater}
 use Rattle.xs_bytes.specs.Each.{kept, each}
-use Rattle.xs_bytes.specs.SortedMap.{SortedMap, empty, get, insert_by, remove, change, of_entries}
+use Rattle.xs_bytes.specs.SortedMap.{SortedMap, empty, get, insert_by, remove, change}
+use Rattle.xs_bytes.specs.MapOf.{of_entries}
 
 pub get-empty : {K X : Type 0} (R : K → K → Ordering) (q : K) → get (empty {X = X} {R = R}) q ≡ None
 unfolding get empty

@@ -1,5 +1,5 @@
 pub mod Number
 pub mod Each
-pub mod Sorting
 pub mod SortedMap
 pub mod MapCode
+pub mod MapOf

@@ -1,12 +1,11 @@
 -- A finite map as a value: its entries in the order of their keys. What a definition says of such a map computes.
-use Rattle.std.specs.Prelude.{ℕ, Bool, not, T, List, [], ◌∷◌, map, Option, is_some}
+use Rattle.std.specs.Prelude.{ℕ, Bool, not, T, List, [], map, Option, is_some}
 use Rattle.std.specs.FinMap.Entries.{find, put, where_key, is_sorted, is_sorted-put, is_sorted-where_key}
 use Rattle.std.specs.Ordering.{nat_cmp, eq_by_cmp}
 use Rattle.std.specs.Cmp.{IsTotalOrder}
 use Rattle.std.specs.Cmp.Lexicographic.{slice_cmp, nat_list_cmp_total}
 use Rattle.std.specs.declared.cmp.Ordering.{Ordering}
-use Rattle.xs_bytes.specs.Each.{each}
-use Rattle.xs_bytes.specs.Sorting.{is_sorted-each}
+use Rattle.xs_bytes.specs.Each.{each, is_sorted-each}
 
 -- the entries, whose keys strictly rise
 pub record SortedMap {K : Type 0} (R : K → K → Ordering) (X : Type 0) : Type 0 where
@@ -41,17 +40,9 @@ module _ {K X : Type 0} {R : K → K → Ordering} where
   unfoldable pub change : (K → X → Option X) → SortedMap R X → SortedMap R X
   change f m = record { entries = each f m.entries; sorted = is_sorted-each R f m.entries m.sorted }
 
-  -- of entries in any order; the first of two at one key stands
-  abbrev pub of_entries : IsTotalOrder R → List (K × X) → SortedMap R X
-  of_entries o [] = empty
-  of_entries o (e ∷ es) = insert_by o (of_entries o es) e.0 e.1
-
 -- a map by names, in the order of their bytes
 abbrev pub NameMap : Type 0 → Type 0
 NameMap X = SortedMap {K = List ℕ} (slice_cmp nat_cmp) X
 
 abbrev pub insert : {X : Type 0} → NameMap X → List ℕ → X → NameMap X
 insert m name x = insert_by nat_list_cmp_total m name x
-
-abbrev pub from_entries : {X : Type 0} → List (List ℕ × X) → NameMap X
-from_entries entries = of_entries nat_list_cmp_total entries

@@ -2,7 +2,7 @@
 use Rattle.std.specs.Prelude.{ℕ, true, false, codes, Some, None, Ok, Err, if◌then◌else◌}
 use Rattle.xs_group.specs.declared.claim_rule.ClaimTime.{ClaimTime}
 use Rattle.xs_group.specs.declared.claim_rule.ClaimTime.TheVariants as time
-use Rattle.xs_group.specs.Rule.{Rule}
+use Rattle.xs_group.specs.Claims.{Rule}
 use Rattle.xs_resp.specs.declared.fault.Fault.TheVariants.{Syntax, Unsupported}
 use Rattle.xs_command.specs.declared.command.Command.{Command}
 use Rattle.xs_command.specs.declared.command.Command.TheVariants as command

@@ -10,8 +10,8 @@ use Rattle.xs_bytes.proofs.SortedMaps.{get-insert_by}
 use Rattle.xs_stream.specs.declared.id.Id.{Id}
 use Rattle.xs_stream.specs.Id.{id_cmp, is_same}
 use Rattle.xs_stream.proofs.Order.{is_same-eq, is_same-symm}
-use Rattle.xs_group.specs.State.{Row, Rows, Names, is_name, with_name, has_name, rows_of}
-use Rattle.xs_group.specs.Held.{Held, Owners, names_of, ids_at, has_among, holds, is_owner, row_in, IsAgreed}
+use Rattle.xs_group.specs.State.{Row, Rows, Names, is_name, with_name, has_name}
+use Rattle.xs_group.specs.Held.{rows_of, Held, Owners, names_of, ids_at, has_among, holds, is_owner, row_in, IsAgreed}
 use Rattle.xs_group.proofs.ByConsumer.{Index, is_name-eq, is_name-symm}
 use Rattle.xs_group.proofs.Views.{RowMap, has_name-names_of, same_names, get-rows_of}
 

@@ -4,7 +4,7 @@ use Rattle.std.specs.BTreeMap as tree
 use Rattle.std.specs.BTreeMap.{UpdatesBy}
 use Rattle.std.specs.BTreeSet as set
 use Rattle.std.specs.BTreeSet.{BTreeSet}
-use Rattle.std.specs.Ordering.{nat_cmp}
+use Rattle.std.specs.Ordering.{nat_cmp, is_eq}
 use Rattle.std.specs.Cmp.{eq_by_cmp_equiv}
 use Rattle.std.specs.Cmp.Lexicographic.{slice_cmp, nat_list_cmp_total}
 use Rattle.std.proofs.lemmas.Cmp.{tied_itself}
@@ -14,7 +14,6 @@ use Rattle.xs_stream.specs.Id.{id_cmp, is_same}
 use Rattle.xs_stream.proofs.Order.{equal-from, is_same-symm}
 use Rattle.xs_group.specs.State.{is_name}
 use Rattle.xs_group.specs.Held.{ids_at, has_among, holds}
-use Rattle.std.specs.Ordering.{is_eq}
 use Rattle.std.specs.List.{list_any}
 
 pub is_name-eq : (a b : List ℕ) → is_name a b ≡ true → a ≡ b

@@ -6,8 +6,7 @@ use Rattle.xs_stream.specs.declared.id.Id.{Id}
 use Rattle.xs_stream.specs.Id.{is_same, is_below, has_id}
 use Rattle.xs_stream.specs.Kept.{AllAbove, Ascends, limited}
 use Rattle.xs_stream.proofs.Order.{is_same-eq, below-not_back, below-irrefl, not_above-trans}
-use Rattle.xs_group.specs.State.{Row, Rows}
-use Rattle.xs_group.specs.Read.{last_of, with_rows}
+use Rattle.xs_group.specs.State.{Row, Rows, last_of, with_rows}
 use Rattle.xs_group.specs.Held.{AreFree}
 use Rattle.xs_group.specs.Lawful.{IsUpTo}
 use Rattle.xs_group.proofs.Putting.{get-with_rows}

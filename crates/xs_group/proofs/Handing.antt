@@ -5,9 +5,8 @@ use Rattle.std.specs.BTreeMap.{UpdatesBy}
 use Rattle.xs_stream.specs.declared.id.Id.{Id}
 use Rattle.xs_stream.specs.Id.{id_cmp, is_same, has_id}
 use Rattle.xs_stream.proofs.Order.{is_same-eq, is_same-symm}
-use Rattle.xs_group.specs.Rule.{Rule}
+use Rattle.xs_group.specs.Claims.{Rule, claimed_row}
 use Rattle.xs_group.specs.State.{Row, is_name}
-use Rattle.xs_group.specs.Claims.{claimed_row}
 use Rattle.xs_group.specs.Held.{Owners, holds, is_owner, row_in, IsAgreed}
 use Rattle.xs_group.specs.Verdict.{moved, AreAgreedBut, AreSomeOf}
 use Rattle.xs_group.proofs.ByConsumer.{is_name-eq, is_name-symm}

@@ -11,9 +11,8 @@ use Rattle.xs_bytes.proofs.SortedMaps.{get-change, get-remove, get-empty}
 use Rattle.xs_stream.specs.declared.id.Id.{Id}
 use Rattle.xs_stream.specs.Id.{id_cmp, is_same, has_id}
 use Rattle.xs_stream.proofs.Order.{same_id, is_same-symm}
-use Rattle.xs_group.specs.State.{Row, Rows, ids_total, is_name, rows_of}
-use Rattle.xs_group.specs.Changes.{unless_acked, unless_owned}
-use Rattle.xs_group.specs.Held.{Owners, names_of, ids_at, has_among, holds, is_owner, row_in, IsAgreed, IsNamed}
+use Rattle.xs_group.specs.State.{Row, Rows, ids_total, is_name, unless_acked, unless_owned}
+use Rattle.xs_group.specs.Held.{rows_of, Owners, names_of, ids_at, has_among, holds, is_owner, row_in, IsAgreed, IsNamed}
 use Rattle.xs_group.specs.Lawful.{IsUpTo}
 use Rattle.xs_group.proofs.ByConsumer.{is_name-eq, is_name-symm}
 use Rattle.xs_group.proofs.Views.{same_rows, same_names, get-rows_of, has_name-names_of}

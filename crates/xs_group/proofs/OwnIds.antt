@@ -4,9 +4,8 @@ use Rattle.std.specs.BTreeSet.{BTreeSet}
 use Rattle.std.specs.List.Sorted.{IsStrictlySortedBy}
 use Rattle.xs_stream.specs.declared.id.Id.{Id}
 use Rattle.xs_stream.specs.Id.{id_cmp}
-use Rattle.xs_group.specs.State.{Row, rows_of}
-use Rattle.xs_group.specs.Read.{owned}
-use Rattle.xs_group.specs.Held.{Owners, ids_at, has_among, is_owner, IsAgreed}
+use Rattle.xs_group.specs.State.{Row, owned}
+use Rattle.xs_group.specs.Held.{rows_of, Owners, ids_at, has_among, is_owner, IsAgreed}
 use Rattle.xs_group.proofs.Views.{get-rows_of}
 use Rattle.xs_group.proofs.Ordered.{ids-owned, sorted-none}
 

@@ -8,10 +8,8 @@ use Rattle.xs_stream.specs.declared.id.Id.{Id}
 use Rattle.xs_stream.specs.Id.{is_same, has_id}
 use Rattle.xs_stream.specs.Kept.{AllAbove, Ascends}
 use Rattle.xs_stream.proofs.Order.{is_same-symm, is_same-refl, below-not_same}
-use Rattle.xs_group.specs.State.{Row, Rows, Names, ids_total, is_name, put_row, has_name, with_name}
-use Rattle.xs_group.specs.Read.{with_rows}
-use Rattle.xs_group.specs.Changes.{unless_acked, unless_owned}
-use Rattle.xs_group.specs.Held.{is_owner, AreFree, IsNamed, Held}
+use Rattle.xs_group.specs.State.{Row, Rows, Names, ids_total, is_name, has_name, with_name, with_rows, unless_acked, unless_owned}
+use Rattle.xs_group.specs.Held.{put_row, is_owner, AreFree, IsNamed, Held}
 use Rattle.xs_group.proofs.ByConsumer.{is_name-eq, is_name-refl}
 use Rattle.xs_group.proofs.Views.{same_rows, same_names}
 use Rattle.xs_group.proofs.Agreeing.{has_name-with_name}

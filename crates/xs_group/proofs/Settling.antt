@@ -10,11 +10,9 @@ use Rattle.xs_stream.specs.declared.id.Id.{Id}
 use Rattle.xs_stream.specs.Id.{id_cmp, is_same, is_below, has_id}
 use Rattle.xs_stream.proofs.Order.{is_same-symm}
 use Rattle.xs_group.specs.declared.claim.Claim.{Claim}
-use Rattle.xs_group.specs.Rule.{Rule}
-use Rattle.xs_group.specs.State.{Row, Rows, State, rows_of}
-use Rattle.xs_group.specs.Claims.{is_taken, is_hit, firsts, from_start, scanned, claimed, claimed_row}
-use Rattle.xs_group.specs.Changes.{unless_acked}
-use Rattle.xs_group.specs.Held.{row_in}
+use Rattle.xs_group.specs.Claims.{Rule, is_taken, is_hit, firsts, from_start, scanned, claimed, claimed_row}
+use Rattle.xs_group.specs.State.{Row, Rows, State, unless_acked}
+use Rattle.xs_group.specs.Held.{rows_of, row_in}
 use Rattle.xs_group.specs.Verdict.{moved, scanned_after, AreApart, IsClaimOn}
 use Rattle.xs_group.proofs.Ordered.{first, second}
 use Rattle.xs_group.proofs.Views.{same_rows, get-rows_of}

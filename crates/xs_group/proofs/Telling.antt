@@ -20,11 +20,10 @@ use Rattle.xs_bytes.proofs.SortedMaps.{get-of_entries}
 use Rattle.xs_stream.specs.declared.id.Id.{Id}
 use Rattle.xs_stream.specs.declared.range.Range.{Range}
 use Rattle.xs_stream.specs.Id.{id_cmp, is_below}
-use Rattle.xs_stream.specs.Range.{is_within}
+use Rattle.xs_stream.specs.Kept.{is_within}
 use Rattle.xs_stream.proofs.Entries.{between-within, filter-filter}
 use Rattle.xs_group.specs.declared.report.PendingRow.{PendingRow}
-use Rattle.xs_group.specs.State.{Row, Rows, is_name, idle}
-use Rattle.xs_group.specs.Read.{owned}
+use Rattle.xs_group.specs.State.{Row, Rows, is_name, idle, owned}
 use Rattle.xs_group.specs.Held.{Owners, names_of, ids_at, row_in}
 use Rattle.xs_group.specs.Report.{first_id, last_id, pending_row, is_of, is_asked}
 use Rattle.xs_group.specs.Listing.{is_told, with_row, rows_among}

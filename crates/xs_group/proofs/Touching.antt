@@ -7,10 +7,9 @@ use Rattle.xs_stream.specs.Id.{id_cmp, is_same, has_id}
 use Rattle.xs_stream.proofs.Order.{is_same-eq, is_same-symm}
 use Rattle.xs_group.specs.declared.delivery.Touch.{Touch}
 use Rattle.xs_group.specs.declared.delivery.DeliveryRow.{DeliveryRow}
-use Rattle.xs_group.specs.State.{Row, Rows, rows_of}
-use Rattle.xs_group.specs.Read.{again, reread}
+use Rattle.xs_group.specs.State.{Row, Rows, again, reread}
+use Rattle.xs_group.specs.Held.{rows_of, Owners, is_owner, row_in, IsAgreed}
 use Rattle.xs_group.specs.Delivered.{touch_of, shown_row, shown_rows, touch_set, with_touch, touched_at, set_one, set_rows, row_ids}
-use Rattle.xs_group.specs.Held.{Owners, is_owner, row_in, IsAgreed}
 use Rattle.xs_group.proofs.Views.{RowMap, get-rows_of, same_rows}
 use Rattle.xs_group.proofs.Leaving.{get-changed, change-nothing}
 

@@ -3,9 +3,7 @@ use Rattle.std.proofs.Common.{Option, ◌≡◌, ℕ, Bool, true, false, cond, n
 use Rattle.xs_bytes.specs.SortedMap.{change}
 use Rattle.xs_stream.specs.declared.id.Id.{Id}
 use Rattle.xs_group.specs.declared.delivery.Delivery.{Delivery}
-use Rattle.xs_group.specs.State.{Rows, State, has_name, with_name}
-use Rattle.xs_group.specs.Read.{delivers, first_row, with_rows, shown, delivered_to, reread_by}
-use Rattle.xs_group.specs.Changes.{unless_acked}
+use Rattle.xs_group.specs.State.{Rows, State, has_name, with_name, delivers, first_row, with_rows, shown, delivered_to, reread_by, unless_acked}
 use Rattle.xs_group.specs.Held.{Held, IsNamed, AreFree}
 use Rattle.xs_group.specs.Lawful.{IsLawful}
 use Rattle.xs_group.specs.Delivered.{delivery_of, history_of, new_rows, kind_of, taken_back, without_made, unmade, row_ids, IsDelivered, IsReread, IsMade}

@@ -11,8 +11,8 @@ use Rattle.xs_bytes.proofs.SortedMaps.{get-of_entries, get-insert_by, get-remove
 use Rattle.xs_stream.specs.declared.id.Id.{Id}
 use Rattle.xs_stream.specs.Id.{id_cmp, is_same}
 use Rattle.xs_stream.proofs.Order.{same_id, is_same-symm}
-use Rattle.xs_group.specs.State.{Row, Rows, Names, is_name, rows_of, put_row, has_name, ids_total}
-use Rattle.xs_group.specs.Held.{Owners, names_of, ids_at, row_in}
+use Rattle.xs_group.specs.State.{Row, Rows, Names, is_name, has_name, ids_total}
+use Rattle.xs_group.specs.Held.{put_row, rows_of, Owners, names_of, ids_at, row_in}
 
 pub find-lookup : {K X : Type 0} (R : K → K → Ordering) (q : K) (es : List (K × X)) → find R q es ≡ lookup (is_at (R q)) es
 find-lookup R q [] = refl

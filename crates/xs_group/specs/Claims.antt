@@ -9,8 +9,14 @@ use Rattle.xs_group.specs.declared.claim_rule.ClaimTime.{ClaimTime}
 use Rattle.xs_group.specs.declared.claim_rule.ClaimTime.TheVariants.{Now, Idle, At}
 use Rattle.xs_group.specs.declared.claim.Claim.{Claim}
 use Rattle.xs_group.specs.declared.claim.Scan.{Scan}
-use Rattle.xs_group.specs.Rule.{Rule}
 use Rattle.xs_group.specs.State.{Row, State, with_name, idle, raised}
+
+-- what a claim asks for: the least idle time, the time and the count that its rows get, and JUSTID
+pub record Rule : Type 0 where
+  pub min_idle : ℕ
+  pub when : ClaimTime
+  pub retry : Option ℕ
+  pub just_id : Bool
 
 -- the row of an id
 abbrev pub row_at : List (Id × Row) → Id → Option Row
@@ -94,11 +100,8 @@ claim_count None just_id count = if just_id then count else raised count
 
 abbrev pub claimed_row : List ℕ → ℕ → Rule → Row → Row
 claimed_row consumer now rule row =
-    record {
-      consumer = consumer;
-      time = claim_time rule.when now;
-      count = claim_count rule.retry rule.just_id row.count;
-    }
+    let count = claim_count rule.retry rule.just_id row.count in
+    record { consumer = consumer; time = claim_time rule.when now; count = count }
 
 -- what becomes of a row by a claim
 abbrev pub claimed : List ℕ → ℕ → Rule → Claim → Id → Row → Option Row
@@ -109,8 +112,5 @@ claimed consumer now rule claim x row =
 -- a group after a claim: the consumer is there, removed rows go, and taken rows are the consumer's
 abbrev pub settled_by : List ℕ → ℕ → Rule → Claim → State → State
 settled_by consumer now rule claim group =
-    record {
-      cursor = group.cursor;
-      consumers = with_name group.consumers consumer;
-      rows = change (claimed consumer now rule claim) group.rows;
-    }
+    let rows = change (claimed consumer now rule claim) group.rows in
+    record group { consumers = with_name group.consumers consumer; rows = rows }

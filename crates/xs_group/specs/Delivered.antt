@@ -10,8 +10,8 @@ use Rattle.xs_group.specs.declared.delivery.DeliveryKind.{DeliveryKind}
 use Rattle.xs_group.specs.declared.delivery.DeliveryKind.TheVariants.{New, NoAck, History}
 use Rattle.xs_group.specs.declared.delivery.Delivery.{Delivery}
 use Rattle.xs_group.specs.State.{Row, Rows, State, has_name, with_name, raised}
-use Rattle.xs_group.specs.Read.{delivers, delivered_to, shown, reread_by, last_of, with_rows, first_row}
-use Rattle.xs_group.specs.Changes.{unless_acked, unless_owned}
+use Rattle.xs_group.specs.State.{delivers, delivered_to, shown, reread_by, last_of, with_rows, first_row}
+use Rattle.xs_group.specs.State.{unless_acked, unless_owned}
 use Rattle.xs_group.specs.Held.{Held}
 use Rattle.xs_group.specs.Lawful.{IsLawful}
 

@@ -1,11 +1,9 @@
-pub mod Rule
 pub mod State
-pub mod Read
 pub mod Claims
-pub mod Changes
 pub mod Report
 pub mod Held
 pub mod Lawful
 pub mod Delivered
 pub mod Verdict
 pub mod Listing
+pub mod Count

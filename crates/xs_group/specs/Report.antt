@@ -4,12 +4,11 @@ use Rattle.std.specs.Prelude.{Some, None}
 use Rattle.xs_bytes.specs.SortedMap.{keys}
 use Rattle.xs_stream.specs.declared.id.Id.{Id}
 use Rattle.xs_stream.specs.declared.range.Range.{Range}
-use Rattle.xs_stream.specs.Range.{is_within}
+use Rattle.xs_stream.specs.Kept.{is_within}
 use Rattle.xs_group.specs.declared.report.OwnerCount.{OwnerCount}
 use Rattle.xs_group.specs.declared.report.GroupSummary.{GroupSummary}
 use Rattle.xs_group.specs.declared.report.PendingRow.{PendingRow}
-use Rattle.xs_group.specs.State.{Row, State, is_name, idle}
-use Rattle.xs_group.specs.Read.{owned}
+use Rattle.xs_group.specs.State.{Row, State, is_name, idle, owned}
 
 abbrev pub first_id : List (Id × Row) → Option Id
 first_id [] = None
@@ -24,17 +23,17 @@ last_id (e ∷ f ∷ es) = last_id (f ∷ es)
 abbrev pub counted : List (List ℕ) → List (Id × Row) → List OwnerCount
 counted names rows = map (λ name. record { consumer = name; count = length (owned name rows) }) names
 
+-- how many rows a consumer has
+abbrev pub owned_count : List ℕ → State → ℕ
+owned_count consumer group = length (owned consumer group.rows.entries)
+
 -- the summary: how many rows, the least and the greatest id, and the consumers that have rows,
 -- in the order of their bytes
 abbrev pub summary_of : State → GroupSummary
 summary_of group =
     let rows = group.rows.entries in
-    record {
-      total = length rows;
-      least = first_id rows;
-      greatest = last_id rows;
-      owners = filter (λ owner. nat_lt 0 owner.count) (counted (keys group.consumers) rows);
-    }
+    let owners = filter (λ owner. nat_lt 0 owner.count) (counted (keys group.consumers) rows) in
+    record { total = length rows; least = first_id rows; greatest = last_id rows; owners = owners }
 
 -- the row of one consumer, where one is named
 abbrev pub is_of : Option (List ℕ) → Row → Bool

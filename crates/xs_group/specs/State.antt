@@ -1,11 +1,14 @@
--- What a group is: a cursor, consumers, and pending rows. (Redis Streams, "Consumer groups".)
-use Rattle.std.specs.Prelude.{ℕ, ◌+◌, ◌-◌, Bool, List, nat_lt, if◌then◌else◌}
+-- What a group is: a cursor, consumers and pending rows; and what reads, acknowledgements and consumers make of it.
+-- (Redis Streams, "Consumer groups"; XREADGROUP; XACK; XGROUP CREATECONSUMER and DELCONSUMER.)
+use Rattle.std.specs.Prelude.{ℕ, ◌+◌, ◌-◌, Bool, List, Option, Some, None, nat_lt, if◌then◌else◌, ◌&&◌, [], ◌∷◌, map}
+use Rattle.std.specs.Prelude.{filter}
 use Rattle.std.specs.Ordering.{nat_cmp, eq_by_cmp}
 use Rattle.std.specs.Cmp.{IsTotalOrder, nat_cmp_total, on_total, then_total}
 use Rattle.std.specs.Cmp.Lexicographic.{slice_cmp}
-use Rattle.xs_bytes.specs.SortedMap.{SortedMap, NameMap, insert_by, insert, of_entries, has_key}
+use Rattle.xs_bytes.specs.SortedMap.{SortedMap, NameMap, empty, insert_by, insert, has_key, change, remove}
 use Rattle.xs_stream.specs.declared.id.Id.{Id}
-use Rattle.xs_stream.specs.Id.{id_cmp}
+use Rattle.xs_stream.specs.Id.{id_cmp, has_id, is_below}
+use Rattle.xs_stream.specs.Kept.{limited}
 
 -- a pending entry: whose it is, when it was last delivered, and how often
 pub record Row : Type 0 where
@@ -29,12 +32,6 @@ pub record State : Type 0 where
 abbrev pub ids_total : IsTotalOrder id_cmp
 ids_total = then_total (on_total (λ s. s.ms) nat_cmp_total) (on_total (λ s. s.seq) nat_cmp_total)
 
-abbrev pub put_row : Rows → Id → Row → Rows
-put_row rows id row = insert_by ids_total rows id row
-
-abbrev pub rows_of : List (Id × Row) → Rows
-rows_of entries = of_entries ids_total entries
-
 abbrev pub with_name : Names → List ℕ → Names
 with_name names name = insert names name tt
 
@@ -57,7 +54,73 @@ greatest_count = 9223372036854775807
 abbrev pub raised : ℕ → ℕ
 raised count = if nat_lt count greatest_count then count + 1 else greatest_count
 
+-- a new group
+abbrev pub new_group : Id → State
+new_group start = record { cursor = start; consumers = empty; rows = empty }
+
 -- the consumer is one of the group's from now on
 abbrev pub joined : List ℕ → State → State
-joined consumer group =
-    record { cursor = group.cursor; consumers = with_name group.consumers consumer; rows = group.rows }
+joined consumer group = record group { consumers = with_name group.consumers consumer }
+
+-- an acknowledged row goes
+abbrev pub unless_acked : List Id → Id → Row → Option Row
+unless_acked ids x row = if has_id ids x then None else Some row
+
+abbrev pub acked : List Id → State → State
+acked ids group = record group { rows = change (unless_acked ids) group.rows }
+
+-- a row of a removed consumer goes
+abbrev pub unless_owned : List ℕ → Id → Row → Option Row
+unless_owned consumer x row = if is_name row.consumer consumer then None else Some row
+
+abbrev pub without_consumer : List ℕ → State → State
+without_consumer consumer group =
+    record group { consumers = remove group.consumers consumer; rows = change (unless_owned consumer) group.rows }
+
+-- what `>` delivers: the first of the ids in the stream that are above the cursor
+abbrev pub delivers : Option ℕ → Id → List Id → List Id
+delivers limit cursor present = limited limit (filter (λ x. is_below cursor x) present)
+
+-- the last of these, or the first one where there is none
+abbrev pub last_of : Id → List Id → Id
+last_of a [] = a
+last_of a (x ∷ xs) = last_of x xs
+
+-- a first delivery
+abbrev pub first_row : List ℕ → ℕ → Row
+first_row consumer now = record { consumer = consumer; time = now; count = 1 }
+
+-- the same new row at each of these ids
+abbrev pub with_rows : List Id → Row → Rows → Rows
+with_rows [] row rows = rows
+with_rows (x ∷ xs) row rows = with_rows xs row (insert_by ids_total rows x row)
+
+-- a group after a delivery: the consumer is there, the cursor is the last id delivered,
+-- and without NOACK the ids are pending
+abbrev pub delivered_to : List ℕ → ℕ → Option ℕ → Bool → List Id → State → State
+delivered_to consumer now limit noack present group =
+    let ids = delivers limit group.cursor present in
+    let rows = if noack then group.rows else with_rows ids (first_row consumer now) group.rows in
+    record { cursor = last_of group.cursor ids; consumers = with_name group.consumers consumer; rows = rows }
+
+-- the ids of these rows that a consumer has
+abbrev pub owned : List ℕ → List (Id × Row) → List Id
+owned consumer rows = map (λ e. e.0) (filter (λ e. is_name e.1.consumer consumer) rows)
+
+-- the consumer's own pending ids above an id
+abbrev pub shown : List ℕ → Option ℕ → Id → List (Id × Row) → List Id
+shown consumer limit from rows = limited limit (filter (λ x. is_below from x) (owned consumer rows))
+
+-- a row that is delivered once more
+abbrev pub again : ℕ → Row → Row
+again now row = record { consumer = row.consumer; time = now; count = raised row.count }
+
+-- what becomes of a row where these ids are shown: it is delivered once more if its entry is in the stream
+abbrev pub reread : ℕ → List Id → List Id → Id → Row → Option Row
+reread now ids present x row = if has_id ids x && has_id present x then Some (again now row) else Some row
+
+-- a group after a read of a consumer's own entries
+abbrev pub reread_by : List ℕ → ℕ → Option ℕ → Id → List Id → State → State
+reread_by consumer now limit from present group =
+    let rows = change (reread now (shown consumer limit from group.rows.entries) present) group.rows in
+    record group { consumers = with_name group.consumers consumer; rows = rows }

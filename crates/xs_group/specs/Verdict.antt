@@ -5,10 +5,9 @@ use Rattle.xs_stream.specs.Id.{has_id}
 use Rattle.xs_group.specs.declared.claim.Claim.{Claim}
 use Rattle.xs_group.specs.declared.verdict.Verdict.{Verdict}
 use Rattle.xs_group.specs.declared.verdict.Verdict.TheVariants.{Passed, Taken, Removed}
-use Rattle.xs_group.specs.Rule.{Rule}
+use Rattle.xs_group.specs.Claims.{Rule, is_idle, claim_of, scan_of, claimed_row}
 use Rattle.xs_group.specs.State.{Row, State, is_name}
 use Rattle.xs_group.specs.Held.{Owners, holds, is_owner, row_in}
-use Rattle.xs_group.specs.Claims.{is_idle, claim_of, scan_of, claimed_row}
 
 abbrev pub is_taken_by : Verdict → Bool
 is_taken_by Taken = true

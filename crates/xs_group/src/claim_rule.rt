@@ -27,7 +27,8 @@ pub struct ClaimRule {
 }
 
 impl Model for ClaimRule {
-    ghost use Rattle.xs_group.specs.Rule.{Rule, IsCount};
+    ghost use Rattle.xs_group.specs.Claims.{Rule};
+    ghost use Rattle.xs_group.specs.Count.{IsCount};
 
     ghost Value = { Rule };
 

@@ -1,13 +1,11 @@
 //! A consumer group: its cursor, its consumers, and what is pending.
 ghost use Rattle.std.specs.Prelude.{◌≡◌, ◌+◌, not, length, IfOk, OnOk, OnErr};
-ghost use Rattle.xs_group.specs.State.{State, has_name, joined};
-ghost use Rattle.xs_group.specs.Changes.{new_group, acked, without_consumer, owned_count};
+ghost use Rattle.xs_group.specs.State.{State, has_name, joined, new_group, acked, without_consumer, delivered_to, reread_by};
+ghost use Rattle.xs_group.specs.Report.{owned_count, summary_of, pending_of};
 ghost use Rattle.xs_group.specs.Lawful.{IsLawful};
 ghost use Rattle.xs_group.specs.Claims.{claim_of, scan_of, settled_by};
 ghost use Rattle.xs_group.specs.Verdict.{IsClaimOn};
-ghost use Rattle.xs_group.specs.Report.{summary_of, pending_of};
 ghost use Rattle.std.specs.Option.{option_map};
-ghost use Rattle.xs_group.specs.Read.{delivered_to, reread_by};
 ghost use Rattle.xs_group.specs.Delivered.{delivery_of, history_of, kind_of, received, IsMade};
 ghost use Rattle.xs_stream.specs.Kept.{ids_of, AllAbove, Ascends};
 

@@ -6,12 +6,10 @@ ghost use Rattle.xs_group.specs.Report.{summary_of};
 ghost use Rattle.xs_group.specs.Listing.{rows_asked};
 ghost use Rattle.xs_group.specs.Claims.{claim_among, scan_of, claimed};
 ghost use Rattle.xs_group.specs.Verdict.{verdict_of, moved, AreApart};
-ghost use Rattle.xs_group.specs.State.{has_name, with_name, put_row};
+ghost use Rattle.xs_group.specs.State.{has_name, with_name, first_row, owned, with_rows, shown, unless_acked, unless_owned};
+ghost use Rattle.xs_group.specs.Held.{put_row, IsNamed, AreFree};
 ghost use Rattle.xs_stream.specs.Kept.{Ascends, ids_of};
-ghost use Rattle.xs_group.specs.Read.{first_row, owned, with_rows, shown};
 ghost use Rattle.xs_group.specs.Delivered.{touch_of, shown_rows, set_one, set_rows, touch_set, row_ids, taken_back, unmade};
-ghost use Rattle.xs_group.specs.Changes.{unless_acked, unless_owned};
-ghost use Rattle.xs_group.specs.Held.{IsNamed, AreFree};
 
 use crate::claim::{Claim, Scan};
 use crate::claim_rule::ClaimRule;
@@ -39,8 +37,7 @@ pub(crate) struct Pending {
 }
 
 impl Model for Pending {
-    ghost use Rattle.xs_group.specs.State.{rows_of};
-    ghost use Rattle.xs_group.specs.Held.{Held, coded_held, names_of, IsAgreed};
+    ghost use Rattle.xs_group.specs.Held.{rows_of, Held, coded_held, names_of, IsAgreed};
 
     ghost Value = { Held };
 

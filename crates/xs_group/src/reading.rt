@@ -2,7 +2,7 @@
 ghost use Rattle.std.specs.Prelude.{◌≡◌, IfOk, take, filter};
 ghost use Rattle.xs_stream.specs.Id.{has_id, is_below};
 ghost use Rattle.xs_stream.specs.Kept.{ids_of, limited};
-ghost use Rattle.xs_group.specs.Read.{last_of};
+ghost use Rattle.xs_group.specs.State.{last_of};
 ghost use Rattle.xs_group.specs.Delivered.{new_rows, touch_set};
 
 use crate::delivery::{DeliveryRow, Touch};

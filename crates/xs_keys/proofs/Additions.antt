@@ -8,18 +8,17 @@ use Rattle.std.specs.BTreeMap.{UpdatesBy}
 use Rattle.std.specs.Cmp.Lexicographic.{slice_cmp}
 use Rattle.xs_stream.specs.declared.id.Id.{Id}
 use Rattle.xs_stream.specs.declared.add.AddError.{AddError}
-use Rattle.xs_stream.specs.Assigned.{assigned}
+use Rattle.xs_stream.specs.Id.{assigned}
 use Rattle.xs_stream.specs.Kept.{Kept}
 use Rattle.xs_resp.specs.declared.reply.Reply.{Reply}
 use Rattle.xs_resp.specs.declared.reply.Reply.TheVariants.{Bulk}
 use Rattle.xs_command.specs.declared.command.AddCommand.{AddCommand}
 use Rattle.xs_command.specs.declared.command.Command.TheVariants.{Add}
 use Rattle.xs_keys.specs.Life.{added}
-use Rattle.xs_keys.specs.Content.{Key}
-use Rattle.xs_keys.specs.After.{new_stream, stream_after}
+use Rattle.xs_keys.specs.Content.{Key, new_key, stream_after}
 use Rattle.xs_keys.specs.Codes.{content_of}
 use Rattle.xs_keys.specs.Reply.{assigned_reply}
-use Rattle.xs_keys.specs.Step.{Step, is_error}
+use Rattle.xs_keys.specs.Headline.{Step, is_error}
 use Rattle.xs_keys.specs.Adding.{Adds, text_of}
 use Rattle.xs_keys.proofs.Names.{insert-same}
 use Rattle.xs_keys.proofs.Maps.{content-insert}
@@ -52,12 +51,12 @@ adds-step m n now add answer old new groups found written (inr refused) = inr (i
 -- so is an addition that makes the key
 pub new-step : (m n : BTreeMap (List ℕ) Key) (now : ℕ) (add : AddCommand) (text : List ℕ) (new : Kept) → add.make ≡ true
     → get (content_of m.entries) add.key ≡ None
-    → text_of (assigned now new_stream.top add.id) ≡ Some text
-    → new ≡ stream_after (added now add.id add.fields add.trim) new_stream
+    → text_of (assigned now new_key.stream.top add.id) ≡ Some text
+    → new ≡ stream_after (added now add.id add.fields add.trim) new_key.stream
     → UpdatesBy (slice_cmp nat_cmp) (slice_cmp nat_cmp add.key) m n (Some (record { stream = new; groups = empty }))
     → Step (content_of m.entries) now (Add add) (Bulk text) (content_of n.entries)
 new-step m n now add text new make missing printed is written = inl (record {
   served = refl;
-  answer_is = rw (missing, make) (bulk-of (assigned now new_stream.top add.id) text printed);
+  answer_is = rw (missing, make) (bulk-of (assigned now new_key.stream.top add.id) text printed);
   content_is = rw (missing, make, ← is) (content-insert m n add.key (record { stream = new; groups = empty }) written);
 })

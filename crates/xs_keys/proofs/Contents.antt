@@ -1,7 +1,7 @@
 -- The content that a history leaves: the empty one, one event more, and that there is one.
 use Rattle.std.proofs.Common.{◌≡◌, ℕ, Bool, true, false, cond, ◌||◌, ◌&&◌, List, [], ◌∷◌, Option, Some, None, is_some, sym, ap, ◌∙◌, refl, subst}
 use Rattle.std.proofs.lemmas.Bool.{false≢true}
-use Rattle.std.specs.Option.{option_map}
+use Rattle.std.specs.Option.{option_map, option_map_or}
 use Rattle.std.specs.List.{list_all}
 use Rattle.xs_bytes.specs.SortedMap.{NameMap, empty, get, has_key, insert, remove}
 use Rattle.xs_bytes.proofs.SortedMaps.{get-empty, same_entries_map}
@@ -9,19 +9,16 @@ use Rattle.std.specs.Ordering.{nat_cmp}
 use Rattle.std.specs.Cmp.Lexicographic.{slice_cmp}
 use Rattle.xs_stream.specs.declared.id.Id.{Id}
 use Rattle.xs_stream.specs.Kept.{Ascends, ids_of}
-use Rattle.xs_group.specs.State.{State, is_name}
-use Rattle.xs_group.specs.Changes.{new_group}
+use Rattle.xs_group.specs.State.{State, is_name, new_group}
 use Rattle.xs_command.specs.declared.command.Command.{Command}
 use Rattle.xs_command.specs.declared.command.Command.TheVariants.{Ping, Quit, Add, Delete, TrimTo, Len, Scan, GroupCreate, GroupDestroy, ConsumerCreate, ConsumerDelete, ReadGroup, Ack, Pending, PendingRows, Claim, AutoClaim, DropKeys}
 use Rattle.xs_command.specs.declared.command.GroupCreateCommand.{GroupCreateCommand}
 use Rattle.xs_command.specs.declared.command.ReadGroupCommand.{ReadGroupCommand}
 use Rattle.xs_command.specs.declared.reads.ReadOne.{ReadOne}
-use Rattle.xs_keys.specs.Life.{Change, added, deleted, trimmed_to, has_name, life_added, life_made, key_life}
-use Rattle.xs_keys.specs.Given.{top}
+use Rattle.xs_keys.specs.Life.{Change, added, deleted, trimmed_to, has_name, opened, key_life}
 use Rattle.xs_keys.specs.Turn.{Ask, join, leave, ack, claim, auto_claim}
 use Rattle.xs_keys.specs.GroupLife.{GroupLife, present_in, start_of, life_opened, life_created, life_asked, read_ask, life_read, group_life}
-use Rattle.xs_keys.specs.Content.{Key, Content, IsGroup, GroupHolds, KeyHolds, IsContent}
-use Rattle.xs_keys.specs.After.{new_stream, new_key, stream_after, key_after, changed, with_addition, without_keys, group_after, with_group, asked_group, asked_key, asked, created, without_group, group_in, serves, read_each, after}
+use Rattle.xs_keys.specs.Content.{Key, Content, IsGroup, GroupHolds, KeyHolds, IsContent, new_key, made, stream_after, key_after, changed, without_keys, group_after, with_group, asked, created, group_in, serves, read_each, after}
 use Rattle.xs_keys.proofs.Names.{is_name-eq, get-insert, get-remove, same_map, same_names}
 use Rattle.xs_keys.proofs.Streams.{stream-step, ascends-live}
 use Rattle.xs_keys.proofs.GroupSteps.{group-step, group-new}
@@ -64,17 +61,12 @@ changed-other c name change None q other = refl
 changed-other c name change (Some key) q other = rw (get-insert c name (key_after change key) q, other) refl
 
 holds-addition : (c : Content) (name : List ℕ) (change : Change) (make : Bool) (key : Option Key) (life : Option (List Change)) (lives : List ℕ → Option GroupLife) (q : List ℕ)
-    → get c name ≡ key → KeyHolds key life lives → is_name q name ≡ true → KeyHolds (get (with_addition c name change make key) q) (life_added change make life) lives
+    → get c name ≡ key → KeyHolds key life lives → is_name q name ≡ true → KeyHolds (get (changed c name change (made make key)) q) (option_map (λ changes. change ∷ changes) (opened make life)) lives
 holds-addition c name change true None None lives q e h same = rw (get-insert c name (key_after change new_key) q, same) (holds-new change lives h)
 holds-addition c name change false None None lives q e h same = rw (is_name-eq q name same, e) h
 holds-addition c name change make (Some key) (Some changes) lives q e h same = rw (get-insert c name (key_after change key) q, same) (holds-change change key changes lives h)
 holds-addition c name change make None (Some changes) lives q e h same = absurd h
 holds-addition c name change make (Some key) None lives q e h same = absurd h
-
-addition-other : (c : Content) (name : List ℕ) (change : Change) (make : Bool) (key : Option Key) (q : List ℕ) → is_name q name ≡ false → get (with_addition c name change make key) q ≡ get c q
-addition-other c name change true None q other = rw (get-insert c name (key_after change new_key) q, other) refl
-addition-other c name change false None q other = refl
-addition-other c name change make (Some key) q other = rw (get-insert c name (key_after change key) q, other) refl
 
 pub get-without_keys : (names : List (List ℕ)) (c : Content) (q : List ℕ) → get (without_keys names c) q ≡ cond (has_name names q) None (get c q)
 get-without_keys [] c q = refl
@@ -116,6 +108,13 @@ asks-groups groups lives group s now present asc ask h is = λ g. subst (λ x. G
   by : (g : List ℕ) (t : Bool) → is_name g group ≡ t → GroupHolds (cond t (Some (group_after now present ask s)) (get groups g)) (cond t (life_asked now present ask (lives g)) (lives g))
   by g true e = holds-asked s (lives g) now present asc ask (subst (λ x. GroupHolds x (lives g)) (ap (get groups) (is_name-eq g group e) ∙ is) (h g))
   by g false e = h g
+
+abbrev asked_group : Content → ℕ → List ℕ → List ℕ → Ask → Key → Option State → Content
+asked_group c now name group ask key s =
+    option_map_or (λ g. insert c name (with_group key group (group_after now (ids_of key.stream.entries) ask g))) s c
+
+abbrev asked_key : Content → ℕ → List ℕ → List ℕ → Ask → Option Key → Content
+asked_key c now name group ask key = option_map_or (λ k. asked_group c now name group ask k (get k.groups group)) key c
 
 -- the key of the group
 asks-key : (c : Content) (now : ℕ) (name group : List ℕ) (ask : Ask) (key : Key) (changes : List Change) (lives : List ℕ → Option GroupLife) (s : Option State) (q : List ℕ)
@@ -203,13 +202,6 @@ serves-known (one ∷ more) c past group h =
 
 -- ---- a group that begins, and one that ends
 
-opened : (create : GroupCreateCommand) (changes : List Change) → life_opened create (Some changes) ≡ Some (record { start = start_of create.start (top changes); turns = [] })
-opened create changes = by create.make where
-  by : (t : Bool) → cond {A = Option GroupLife} t (Some (record { start = start_of create.start (top changes); turns = [] })) (Some (record { start = start_of create.start (top changes); turns = [] }))
-      ≡ Some (record { start = start_of create.start (top changes); turns = [] })
-  by true = refl
-  by false = refl
-
 -- a new group among others
 begins : (groups : NameMap State) (lives : List ℕ → Option GroupLife) (create : GroupCreateCommand) (stream : Option (List Change)) (start : Id) → GroupsHold groups lives
     → get groups create.group ≡ None → life_opened create stream ≡ Some (record { start = start; turns = [] })
@@ -234,22 +226,16 @@ stays groups lives create stream s h is = λ g. by g (is_name g create.group) re
   by g true e = open_life (get groups g) (lives g) (ap (λ n. is_some (get groups n)) (is_name-eq g create.group e) ∙ ap is_some is) (h g)
   by g false e = h g
 
-not_created : (c : Content) (create : GroupCreateCommand) → create.make ≡ false → created c create None ≡ c
-not_created c create m = rw m refl
+makes : (c : Content) (create : GroupCreateCommand)
+    → created c create (Some new_key) ≡ insert c create.key (with_group new_key create.group (new_group (start_of create.start new_key.stream.top)))
+makes c create =
+    ap (λ s. cond (is_some s) c (insert c create.key (with_group new_key create.group (new_group (start_of create.start new_key.stream.top))))) (get-empty _ create.group)
 
-makes : (c : Content) (create : GroupCreateCommand) → create.make ≡ true
-    → created c create None ≡ insert c create.key (with_group new_key create.group (new_group (start_of create.start new_stream.top)))
-makes c create m = rw m refl
-
-opens_new : (create : GroupCreateCommand) → create.make ≡ true → life_opened create None ≡ Some (record { start = start_of create.start new_stream.top; turns = [] })
+opens_new : (create : GroupCreateCommand) → create.make ≡ true → life_opened create None ≡ Some (record { start = start_of create.start new_key.stream.top; turns = [] })
 opens_new create m = rw m refl
 
 opens_none : (create : GroupCreateCommand) → create.make ≡ false → life_opened create None ≡ None
 opens_none create m = rw m refl
-
-same_made : (make : Bool) (changes : List Change) → cond make (life_made (Some changes)) (Some changes) ≡ Some changes
-same_made true changes = refl
-same_made false changes = refl
 
 creates-key : (c : Content) (create : GroupCreateCommand) (key : Key) (changes : List Change) (lives : List ℕ → Option GroupLife) (s : Option State) (q : List ℕ)
     → get key.groups create.group ≡ s → get c create.key ≡ Some key → is_name q create.key ≡ true → KeyHolds (Some key) (Some changes) lives
@@ -258,35 +244,36 @@ creates-key : (c : Content) (create : GroupCreateCommand) (key : Key) (changes :
 creates-key c create key changes lives (Some s) q found is same h = rw (is_name-eq q create.key same, is) (h.0, stays key.groups lives create (Some changes) s h.1 found)
 creates-key c create key changes lives None q none is same h =
     rw (get-insert c create.key (with_group key create.group (new_group (start_of create.start key.stream.top))) q, same)
-    (h.0, begins key.groups lives create (Some changes) (start_of create.start key.stream.top) h.1 none (opened create changes ∙ ap (λ k. Some (record { start = start_of create.start k.top; turns = [] })) (sym h.0)))
+    (h.0, begins key.groups lives create (Some changes) (start_of create.start key.stream.top) h.1 none (ap (λ k. Some (record { start = start_of create.start k.top; turns = [] })) (sym h.0)))
 
 creates-here : (c : Content) (create : GroupCreateCommand) (make : Bool) → create.make ≡ make → (key : Option Key) (stream : Option (List Change)) (lives : List ℕ → Option GroupLife) (q : List ℕ)
     → get c create.key ≡ key → is_name q create.key ≡ true → KeyHolds key stream lives
-    → KeyHolds (get (created c create key) q) (cond make (life_made stream) stream) (λ g. cond (is_name g create.group) (life_created create stream (lives g)) (lives g))
+    → KeyHolds (get (created c create (made make key)) q) (opened make stream) (λ g. cond (is_name g create.group) (life_created create stream (lives g)) (lives g))
 creates-here c create true m None None lives q none same h =
     subst (λ k. KeyHolds k (Some []) (λ g. cond (is_name g create.group) (life_created create None (lives g)) (lives g)))
-    (sym (ap (λ k. get k q) (makes c create m) ∙ get-insert c create.key (with_group new_key create.group (new_group (start_of create.start new_stream.top))) q
-    ∙ ap (λ b. cond b (Some (with_group new_key create.group (new_group (start_of create.start new_stream.top)))) (get c q)) same))
-    (refl, begins empty lives create None (start_of create.start new_stream.top) (no_groups lives h) (get-empty _ create.group) (opens_new create m))
+    (sym (ap (λ k. get k q) (makes c create) ∙ get-insert c create.key (with_group new_key create.group (new_group (start_of create.start new_key.stream.top))) q
+    ∙ ap (λ b. cond b (Some (with_group new_key create.group (new_group (start_of create.start new_key.stream.top)))) (get c q)) same))
+    (refl, begins empty lives create None (start_of create.start new_key.stream.top) (no_groups lives h) (get-empty _ create.group) (opens_new create m))
 creates-here c create false m None None lives q none same h =
     subst (λ k. KeyHolds k None (λ g. cond (is_name g create.group) (life_created create None (lives g)) (lives g)))
-    (sym (ap (λ k. get k q) (not_created c create m) ∙ ap (get c) (is_name-eq q create.key same) ∙ none)) (λ g. by g (is_name g create.group)) where
+    (sym (ap (get c) (is_name-eq q create.key same) ∙ none)) (λ g. by g (is_name g create.group)) where
       by : (g : List ℕ) (t : Bool) → GroupHolds None (cond t (life_created create None (lives g)) (lives g))
       by g true = subst (GroupHolds None) (sym (ap (life_created create None) (no_life (lives g) (h g)) ∙ opens_none create m)) tt
       by g false = h g
 creates-here c create make m (Some key) (Some changes) lives q is same h =
-    subst (λ stream. KeyHolds (get (created c create (Some key)) q) stream (λ g. cond (is_name g create.group) (life_created create (Some changes) (lives g)) (lives g))) (sym (same_made make changes))
-    (creates-key c create key changes lives (get key.groups create.group) q refl is same h)
+    creates-key c create key changes lives (get key.groups create.group) q refl is same h
 creates-here c create make m None (Some changes) lives q is same h = absurd h
 creates-here c create make m (Some key) None lives q is same h = absurd h
 
-created-other : (c : Content) (create : GroupCreateCommand) (make : Bool) → create.make ≡ make → (key : Option Key) (q : List ℕ) → is_name q create.key ≡ false → get (created c create key) q ≡ get c q
-created-other c create true m None q other = rw (m, get-insert c create.key (with_group new_key create.group (new_group (start_of create.start new_stream.top))) q, other) refl
-created-other c create false m None q other = rw m refl
-created-other c create make m (Some key) q other = by (has_key key.groups create.group) where
+created-other : (c : Content) (create : GroupCreateCommand) (key : Option Key) (q : List ℕ) → is_name q create.key ≡ false → get (created c create key) q ≡ get c q
+created-other c create None q other = refl
+created-other c create (Some key) q other = by (has_key key.groups create.group) where
   by : (t : Bool) → get (cond t c (insert c create.key (with_group key create.group (new_group (start_of create.start key.stream.top))))) q ≡ get c q
   by true = refl
   by false = rw (get-insert c create.key (with_group key create.group (new_group (start_of create.start key.stream.top))) q, other) refl
+
+abbrev without_group : Content → List ℕ → List ℕ → Option Key → Content
+without_group c name group key = option_map_or (λ k. insert c name (record k { groups = remove k.groups group })) key c
 
 ends : (groups : NameMap State) (lives : List ℕ → Option GroupLife) (group : List ℕ) → GroupsHold groups lives → GroupsHold (remove groups group) (λ g. cond (is_name g group) None (lives g))
 ends groups lives group h = λ g. subst (λ x. GroupHolds x (cond (is_name g group) None (lives g))) (sym (get-remove groups group g)) (by g (is_name g group)) where
@@ -327,23 +314,23 @@ module _ (c : Content) (past : List (ℕ × Command)) (h : IsContent c past) (q 
     by false e = rw (changed-other c name change (get c name) q e) (h q)
 
   step-addition : (name : List ℕ) (change : Change) (make : Bool)
-      → KeyHolds (get (with_addition c name change make (get c name)) q) (cond (is_name q name) (life_added change make (key_life past q)) (key_life past q)) (λ g. group_life past q g)
+      → KeyHolds (get (changed c name change (made make (get c name))) q) (cond (is_name q name) (option_map (λ changes. change ∷ changes) (opened make (key_life past q))) (key_life past q)) (λ g. group_life past q g)
   step-addition name change make = by (is_name q name) refl where
-    by : (t : Bool) → is_name q name ≡ t → KeyHolds (get (with_addition c name change make (get c name)) q) (cond t (life_added change make (key_life past q)) (key_life past q)) (λ g. group_life past q g)
+    by : (t : Bool) → is_name q name ≡ t → KeyHolds (get (changed c name change (made make (get c name))) q) (cond t (option_map (λ changes. change ∷ changes) (opened make (key_life past q))) (key_life past q)) (λ g. group_life past q g)
     by true e = holds-addition c name change make (get c name) (key_life past q) (λ g. group_life past q g) q refl (at_name name e) e
-    by false e = rw (addition-other c name change make (get c name) q e) (h q)
+    by false e = rw (changed-other c name change (made make (get c name)) q e) (h q)
 
   step-dropped : (names : List (List ℕ)) → KeyHolds (get (without_keys names c) q) (cond (has_name names q) None (key_life past q)) (λ g. cond (has_name names q) None (group_life past q g))
   step-dropped names = rw (get-without_keys names c q) (holds-dropped (has_name names q) (get c q) (key_life past q) (λ g. group_life past q g) (h q))
 
   step-created : (create : GroupCreateCommand)
-      → KeyHolds (get (created c create (get c create.key)) q) (cond (is_name q create.key && create.make) (life_made (key_life past q)) (key_life past q))
+      → KeyHolds (get (created c create (made create.make (get c create.key))) q) (cond (is_name q create.key) (opened create.make (key_life past q)) (key_life past q))
       (λ g. cond (is_name q create.key && is_name g create.group) (life_created create (key_life past q) (group_life past q g)) (group_life past q g))
   step-created create = by (is_name q create.key) refl where
-    by : (t : Bool) → is_name q create.key ≡ t → KeyHolds (get (created c create (get c create.key)) q) (cond (t && create.make) (life_made (key_life past q)) (key_life past q))
+    by : (t : Bool) → is_name q create.key ≡ t → KeyHolds (get (created c create (made create.make (get c create.key))) q) (cond t (opened create.make (key_life past q)) (key_life past q))
         (λ g. cond (t && is_name g create.group) (life_created create (key_life past q) (group_life past q g)) (group_life past q g))
     by true e = creates-here c create create.make refl (get c create.key) (key_life past q) (λ g. group_life past q g) q refl e (at_name create.key e)
-    by false e = subst (λ k. KeyHolds k (key_life past q) (λ g. group_life past q g)) (sym (created-other c create create.make refl (get c create.key) q e)) (h q)
+    by false e = subst (λ k. KeyHolds k (key_life past q) (λ g. group_life past q g)) (sym (created-other c create (made create.make (get c create.key)) q e)) (h q)
 
   step-destroyed : (name group : List ℕ)
       → KeyHolds (get (without_group c name group (get c name)) q) (key_life past q) (λ g. cond (is_name q name && is_name g group) None (group_life past q g))

@@ -4,10 +4,9 @@ use Rattle.std.proofs.lemmas.Bool.{false≢true}
 use Rattle.xs_stream.specs.declared.id.Id.{Id}
 use Rattle.xs_stream.specs.Id.{is_below, has_id}
 use Rattle.xs_stream.specs.Kept.{Ascends, AllAbove}
-use Rattle.xs_keys.specs.Given.{greatest}
-use Rattle.xs_keys.specs.Turn.{Ask, Turn, read_new, read_own, ack, join, leave, claim, auto_claim, asked_new}
-use Rattle.xs_keys.specs.Delivered.{delivered, cursor, delivers_after}
-use Rattle.xs_keys.specs.Promise.{HadItsTurn}
+use Rattle.xs_keys.specs.Life.{greatest}
+use Rattle.xs_keys.specs.Turn.{Ask, Turn, read_new, read_own, ack, join, leave, claim, auto_claim, asked_new, delivered, cursor, delivers_at}
+use Rattle.xs_keys.specs.Headline.{HadItsTurn}
 use Rattle.xs_keys.proofs.IdLists.{above-delivers, ascends-delivers, ascends-append, above-lower, not_above, has_id-append, delivers-up_to, above-append, not_among}
 use Rattle.xs_keys.proofs.Streams.{greatest-up}
 use Rattle.xs_keys.proofs.GroupSteps.{up_to-delivered, cursor-step}
@@ -36,7 +35,7 @@ ascends-asked (claim consumer rule ids) present a h = tt
 ascends-asked (auto_claim consumer rule start limit) present a h = tt
 
 -- what a turn delivers is above the cursor
-pub above-after : (start : Id) (past : List Turn) (turn : Turn) → AllAbove (cursor start past) (delivers_after start past turn)
+pub above-after : (start : Id) (past : List Turn) (turn : Turn) → AllAbove (cursor start past) (delivers_at turn (cursor start past))
 above-after start past turn = above-asked turn.ask turn.present (cursor start past)
 
 pub start-up : (start : Id) (past : List Turn) → is_below (cursor start past) start ≡ false
@@ -46,15 +45,15 @@ start-up start past = greatest-up start (delivered start past)
 pub ascends-delivered : (start : Id) (turns : List Turn) → PresentAscends turns → Ascends (delivered start turns)
 ascends-delivered start [] h = tt
 ascends-delivered start (turn ∷ past) h =
-    ascends-append (cursor start past) (delivered start past) (delivers_after start past turn) (ascends-delivered start past h.1) (up_to-delivered start past)
+    ascends-append (cursor start past) (delivered start past) (delivers_at turn (cursor start past)) (ascends-delivered start past h.1) (up_to-delivered start past)
     (ascends-asked turn.ask turn.present (cursor start past) h.0) (above-after start past turn)
 
 -- and are past the start
 pub past-start : (start : Id) (turns : List Turn) → AllAbove start (delivered start turns)
 past-start start [] = tt
 past-start start (turn ∷ past) =
-    above-append start (delivered start past) (delivers_after start past turn) (past-start start past)
-    (above-lower start (cursor start past) (delivers_after start past turn) (start-up start past) (above-after start past turn))
+    above-append start (delivered start past) (delivers_at turn (cursor start past)) (past-start start past)
+    (above-lower start (cursor start past) (delivers_at turn (cursor start past)) (start-up start past) (above-after start past turn))
 
 -- ---- their turn
 
@@ -77,7 +76,7 @@ pub had-turn : (start : Id) (turns : List Turn) (x : Id) → PresentAscends turn
 had-turn start [] x h low high = absurd (false≢true (sym high ∙ low))
 had-turn start (turn ∷ past) x h low high = by (is_below (cursor start past) x) refl (λ up. had-turn start past x h.1 low up) where
   new : List Id
-  new = delivers_after start past turn
+  new = delivers_at turn (cursor start past)
 
   -- an id up to the cursor before isn't delivered anew
   not_new : is_below (cursor start past) x ≡ false → has_id new x ≡ false

@@ -8,9 +8,9 @@ use Rattle.xs_stream.specs.declared.id.Id.{Id}
 use Rattle.xs_stream.specs.Id.{id_cmp, is_below, is_same, has_id}
 use Rattle.xs_stream.specs.Kept.{Ascends, AllAbove, AllUpTo}
 use Rattle.xs_stream.proofs.Order.{above-greater, up_to-below, below-not_back, below-irrefl, is_same-refl}
-use Rattle.xs_group.specs.State.{Row, Rows, put_row}
-use Rattle.xs_group.specs.Read.{with_rows}
-use Rattle.xs_keys.specs.Holding.{rows_among}
+use Rattle.xs_group.specs.State.{Row, Rows, with_rows}
+use Rattle.xs_group.specs.Held.{put_row}
+use Rattle.xs_keys.specs.Turn.{rows_among}
 use Rattle.xs_keys.proofs.IdLists.{up_to-append, up_to-raise}
 
 or-true : (b : Bool) → (b || true) ≡ true

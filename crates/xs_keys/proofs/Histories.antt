@@ -39,9 +39,9 @@ meets-read now present read key (one ∷ more) life asc h =
     by false = h
 
 meets-opened : (make : Bool) (create : GroupCreateCommand) → create.make ≡ make → (stream : Option (List Change)) → MeetsAscending (life_opened create stream)
-meets-opened true create m stream = rw m tt
+meets-opened make create m (Some changes) = tt
+meets-opened true create m None = rw m tt
 meets-opened false create m None = rw m tt
-meets-opened false create m (Some changes) = rw m tt
 
 meets-created : (create : GroupCreateCommand) (stream : Option (List Change)) (life : Option GroupLife) → MeetsAscending life → MeetsAscending (life_created create stream life)
 meets-created create stream None h = meets-opened create.make create refl stream

@@ -6,16 +6,12 @@ use Rattle.xs_bytes.specs.SortedMap.{get}
 use Rattle.xs_stream.specs.declared.id.Id.{Id}
 use Rattle.xs_stream.specs.Id.{has_id}
 use Rattle.xs_stream.specs.Kept.{Ascends, AllAbove, AllUpTo}
-use Rattle.xs_group.specs.State.{Row, State, is_name}
+use Rattle.xs_group.specs.State.{Row, State, is_name, delivers, first_row, shown, again, unless_owned}
 use Rattle.xs_command.specs.declared.command.Command.{Command}
-use Rattle.xs_keys.specs.Life.{Change, key_life}
-use Rattle.xs_keys.specs.Given.{stream_of}
-use Rattle.xs_keys.specs.Turn.{Ask, Turn, read_new, read_own, ack, join, leave, claim, auto_claim}
-use Rattle.xs_keys.specs.Delivered.{delivered, cursor, is_consumer}
-use Rattle.xs_keys.specs.Holding.{asked_row, rows_among, holding, rows}
+use Rattle.xs_keys.specs.Life.{Change, key_life, stream_of}
+use Rattle.xs_keys.specs.Turn.{Ask, Turn, read_new, read_own, ack, join, leave, claim, auto_claim, delivered, cursor, is_consumer, asked_row, rows_among, holding, rows}
 use Rattle.xs_keys.specs.GroupLife.{GroupLife, group_life}
-use Rattle.xs_keys.specs.Content.{Key, Content, IsGroup, GroupHolds, KeyHolds, IsContent}
-use Rattle.xs_keys.specs.Lawful.{IsLawfulStream, IsLawfulGroup, IsLawfulKey, IsLawfulContent}
+use Rattle.xs_keys.specs.Content.{Key, Content, IsGroup, GroupHolds, KeyHolds, IsContent, IsLawfulStream, IsLawfulGroup, IsLawfulKey, IsLawfulContent}
 use Rattle.xs_keys.proofs.Streams.{ascends-live, up_to-live}
 use Rattle.xs_keys.proofs.GroupRows.{row_ids}
 use Rattle.xs_keys.proofs.GroupSteps.{up_to-rows}
@@ -23,10 +19,7 @@ use Rattle.xs_keys.proofs.Deliveries.{PresentAscends, ascends-delivered}
 use Rattle.xs_keys.proofs.Histories.{MeetsAscending, meets-life}
 use Rattle.xs_keys.proofs.Owners.{row-found}
 use Rattle.xs_keys.proofs.Names.{is_name-refl}
-use Rattle.xs_group.specs.Rule.{Rule}
-use Rattle.xs_group.specs.Read.{delivers, first_row, shown, again}
-use Rattle.xs_group.specs.Claims.{row_at, claim_of, scan_of, claimed_row}
-use Rattle.xs_group.specs.Changes.{unless_owned}
+use Rattle.xs_group.specs.Claims.{Rule, row_at, claim_of, scan_of, claimed_row}
 
 above-among : (a : Id) (row_of : Id → Option Row) (xs : List Id) → AllAbove a xs → AllAbove a (row_ids (rows_among row_of xs))
 above-among a row_of [] h = tt

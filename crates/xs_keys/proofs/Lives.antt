@@ -4,9 +4,9 @@ use Rattle.std.proofs.lemmas.Bool.{false≢true}
 use Rattle.std.proofs.lemmas.List.{append-nil}
 use Rattle.std.proofs.lemmas.Slice.Eq.{bytes_eq-Decides}
 use Rattle.std.specs.List.{list_all, list_any, IsDistinct, AllByRecursion}
+use Rattle.std.specs.Option.{option_map_or}
 use Rattle.xs_stream.specs.declared.id.Id.{Id}
-use Rattle.xs_group.specs.State.{is_name}
-use Rattle.xs_group.specs.Read.{delivers}
+use Rattle.xs_group.specs.State.{is_name, delivers}
 use Rattle.xs_command.specs.WellFormed.{IsWellFormed, keys_of}
 use Rattle.xs_command.specs.declared.command.Command.{Command}
 use Rattle.xs_command.specs.declared.command.Command.TheVariants.{Ping, Quit, Add, Delete, TrimTo, Len, Scan, GroupCreate, GroupDestroy, ConsumerCreate, ConsumerDelete, ReadGroup, Ack, Pending, PendingRows, Claim, AutoClaim, DropKeys}
@@ -16,10 +16,8 @@ use Rattle.xs_command.specs.declared.reads.ReadOne.{ReadOne}
 use Rattle.xs_command.specs.declared.reads.ReadFrom.{ReadFrom}
 use Rattle.xs_command.specs.declared.reads.ReadFrom.TheVariants.{New, After}
 use Rattle.xs_keys.specs.Life.{Change, has_name, key_life}
-use Rattle.xs_keys.specs.Turn.{Ask, join, leave, ack, claim, auto_claim, asked_new}
-use Rattle.xs_keys.specs.Delivered.{delivered, cursor}
-use Rattle.xs_keys.specs.GroupLife.{GroupLife, present_in, life_opened, life_created, life_asked, read_ask, life_read, group_of, group_life}
-use Rattle.xs_keys.specs.Apart.{is_new, asks_new, acts, delivered_in, delivered_by, GoesOn}
+use Rattle.xs_keys.specs.Turn.{Ask, join, leave, ack, claim, auto_claim, asked_new, delivered, cursor}
+use Rattle.xs_keys.specs.GroupLife.{GroupLife, limit_of, present_in, life_opened, life_created, life_asked, read_ask, life_read, group_of, group_life, is_new, asks_new, acts, delivered_by, GoesOn}
 use Rattle.xs_keys.proofs.Names.{is_name-eq}
 
 -- ---- events that deliver nothing
@@ -42,9 +40,9 @@ asks-none now present ask None none = refl
 asks-none now present ask (Some life) none = (refl, ap (λ new. delivered life.start life.turns ++ new) (none (cursor life.start life.turns)))
 
 opens : (make : Bool) (create : GroupCreateCommand) → create.make ≡ make → (stream : Option (List Change)) → GoesOn None [] (life_opened create stream)
-opens true create m stream = rw m (refl, refl)
+opens make create m (Some changes) = (refl, refl)
+opens true create m None = rw m (refl, refl)
 opens false create m None = rw m refl
-opens false create m (Some changes) = rw m (refl, refl)
 
 creates : (create : GroupCreateCommand) (stream : Option (List Change)) (life : Option GroupLife) → GoesOn life [] (life_created create stream life)
 creates create stream None = opens create.make create refl stream
@@ -58,6 +56,9 @@ no-life-read now present read key (one ∷ more) = by (is_name key one.key) (no-
   by : (t : Bool) → life_read now present read key more None ≡ None → life_read now present read key more (cond t None None) ≡ None
   by true e = e
   by false e = e
+
+abbrev delivered_in : Command → List Id → Option GroupLife → List Id
+delivered_in command present life = option_map_or (λ l. delivers (limit_of command) (cursor l.start l.turns) present) life []
 
 -- reads of other keys
 absent : List ℕ → List ReadOne → Bool

@@ -6,16 +6,10 @@ use Rattle.xs_stream.specs.declared.id.Id.{Id}
 use Rattle.xs_stream.specs.Id.{is_below, is_same, has_id}
 use Rattle.xs_stream.proofs.Order.{is_same-eq}
 use Rattle.xs_group.specs.declared.claim.Claim.{Claim}
-use Rattle.xs_group.specs.Rule.{Rule}
-use Rattle.xs_group.specs.State.{Row, is_name}
-use Rattle.xs_group.specs.Read.{delivers, first_row, shown, again, reread}
-use Rattle.xs_group.specs.Claims.{row_at, is_idle, is_removed, is_taken, claim_among, firsts, claim_of, from_start, is_hit, scanned, scan_of, claimed, claimed_row}
-use Rattle.xs_group.specs.Changes.{unless_acked, unless_owned}
-use Rattle.xs_keys.specs.Turn.{Ask, Turn, read_new, read_own, ack, join, leave, claim, auto_claim, asked_new, asked_claim, consumer_of, keeps_pending, acks, drops_consumer}
-use Rattle.xs_keys.specs.Delivered.{delivered, cursor, delivers_after}
-use Rattle.xs_keys.specs.Holding.{asked_row, rows_among, holding, rows}
-use Rattle.xs_keys.specs.Owner.{assigns, last_assigned, removes, settles, is_settled, owner}
-use Rattle.xs_keys.specs.Promise.{delivers_pending, takes, OwnerAfter, NoOwnerAfter, settled_in, OwnedUntilSettled, ChangesByClaims}
+use Rattle.xs_group.specs.Claims.{Rule, row_at, is_idle, is_removed, is_taken, claim_among, firsts, claim_of, from_start, is_hit, scanned, scan_of, claimed, claimed_row}
+use Rattle.xs_group.specs.State.{Row, is_name, delivers, first_row, shown, again, reread, unless_acked, unless_owned}
+use Rattle.xs_keys.specs.Turn.{Ask, Turn, read_new, read_own, ack, join, leave, claim, auto_claim, asked_new, asked_claim, consumer_of, keeps_pending, acks, drops_consumer, delivered, cursor, delivers_at, asked_row, rows_among, holding, rows, delivers_pending, takes, assigns, last_assigned, removes, settles, is_settled, owner}
+use Rattle.xs_keys.specs.Headline.{OwnerAfter, NoOwnerAfter, settled_in, OwnedUntilSettled, ChangesByClaims}
 use Rattle.xs_keys.proofs.IdLists.{has_id-append, has_id-where, not_above, not_among}
 use Rattle.xs_keys.proofs.GroupSteps.{up_to-delivered}
 use Rattle.xs_keys.proofs.Deliveries.{above-after}
@@ -77,23 +71,23 @@ asked-held (auto_claim consumer rule start limit) now present a es x r e = inr (
 pub held-delivered : (start : Id) (turns : List Turn) (x : Id) → is_some (holding start turns x) ≡ true → has_id (delivered start turns) x ≡ true
 held-delivered start [] x e = absurd (false≢true e)
 held-delivered start (turn ∷ past) x e =
-    has_id-append (delivered start past) (delivers_after start past turn) x
+    has_id-append (delivered start past) (delivers_at turn (cursor start past)) x
     ∙ by (asked-held turn.ask turn.now turn.present (cursor start past) (rows start past) x (holding start past x) e) (held-delivered start past x)
   where
-    by : (has_id (delivers_after start past turn) x ≡ true) ⊎ (is_some (holding start past x) ≡ true) → (is_some (holding start past x) ≡ true → has_id (delivered start past) x ≡ true)
-        → (has_id (delivered start past) x || has_id (delivers_after start past turn) x) ≡ true
+    by : (has_id (delivers_at turn (cursor start past)) x ≡ true) ⊎ (is_some (holding start past x) ≡ true) → (is_some (holding start past x) ≡ true → has_id (delivered start past) x ≡ true)
+        → (has_id (delivered start past) x || has_id (delivers_at turn (cursor start past)) x) ≡ true
     by (inl new) before = or-right _ _ new
     by (inr held) before = or-left _ _ (before held)
 
 -- what was delivered isn't delivered again
-pub not-again : (start : Id) (past : List Turn) (turn : Turn) (x : Id) → has_id (delivered start past) x ≡ true → has_id (delivers_after start past turn) x ≡ false
+pub not-again : (start : Id) (past : List Turn) (turn : Turn) (x : Id) → has_id (delivered start past) x ≡ true → has_id (delivers_at turn (cursor start past)) x ≡ false
 not-again start past turn x d = by (is_below (cursor start past) x) refl where
-  by : (t : Bool) → is_below (cursor start past) x ≡ t → has_id (delivers_after start past turn) x ≡ false
-  by false up = not_above (cursor start past) x (delivers_after start past turn) up (above-after start past turn)
+  by : (t : Bool) → is_below (cursor start past) x ≡ t → has_id (delivers_at turn (cursor start past)) x ≡ false
+  by false up = not_above (cursor start past) x (delivers_at turn (cursor start past)) up (above-after start past turn)
   by true up = absurd (false≢true (sym (not_among (cursor start past) (delivered start past) x up (up_to-delivered start past)) ∙ d))
 
 -- what is delivered now had no row
-pub not-held : (start : Id) (past : List Turn) (turn : Turn) (x : Id) → has_id (delivers_after start past turn) x ≡ true → holding start past x ≡ None
+pub not-held : (start : Id) (past : List Turn) (turn : Turn) (x : Id) → has_id (delivers_at turn (cursor start past)) x ≡ true → holding start past x ≡ None
 not-held start past turn x e = by (holding start past x) refl where
   by : (r : Option Row) → holding start past x ≡ r → r ≡ None
   by None f = refl
@@ -415,11 +409,11 @@ claim-named (auto_claim consumer rule from limit) now present es x e = refl
 still-delivered : (start : Id) (later : List Turn) (before : List Turn) (x : Id) → has_id (delivered start before) x ≡ true → has_id (delivered start (later ++ before)) x ≡ true
 still-delivered start [] before x d = d
 still-delivered start (u ∷ later) before x d =
-    has_id-append (delivered start (later ++ before)) (delivers_after start (later ++ before) u) x ∙ or-left _ _ (still-delivered start later before x d)
+    has_id-append (delivered start (later ++ before)) (delivers_at u (cursor start (later ++ before))) x ∙ or-left _ _ (still-delivered start later before x d)
 
 delivered-now : (start : Id) (past : List Turn) (turn : Turn) (x : Id) → delivers_pending start past turn x ≡ true → has_id (delivered start (turn ∷ past)) x ≡ true
 delivered-now start past turn x e =
-    has_id-append (delivered start past) (delivers_after start past turn) x ∙ or-right _ _ (and-second (keeps_pending turn.ask) _ e)
+    has_id-append (delivered start past) (delivers_at turn (cursor start past)) x ∙ or-right _ _ (and-second (keeps_pending turn.ask) _ e)
 
 pub until-settled : (start : Id) (later : List Turn) (turn : Turn) (earlier : List Turn) (x : Id) → delivers_pending start earlier turn x ≡ true
     → is_some (owner start (later ++ turn ∷ earlier) x) ≡ not (settled_in start later (turn ∷ earlier) x)

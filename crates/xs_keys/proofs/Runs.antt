@@ -4,9 +4,7 @@ use Rattle.std.proofs.lemmas.List.{append-nil}
 use Rattle.xs_resp.specs.declared.reply.Reply.{Reply}
 use Rattle.xs_command.specs.declared.command.Command.{Command}
 use Rattle.xs_keys.specs.Content.{Content, IsContent}
-use Rattle.xs_keys.specs.Step.{Step}
-use Rattle.xs_keys.specs.Headline.{Answers, Headline, RunsOn}
-use Rattle.xs_keys.specs.Promise.{DeliversNew, HasOneOwner}
+use Rattle.xs_keys.specs.Headline.{Step, Answers, Headline, RunsOn, DeliversNew, HasOneOwner}
 use Rattle.xs_keys.specs.GroupLife.{GroupLife, group_life}
 use Rattle.xs_keys.proofs.Lawfulness.{content-lawful}
 use Rattle.xs_keys.proofs.Deliveries.{ascends-delivered, past-start, had-turn}

@@ -1,19 +1,18 @@
 -- A stream by looking back, and a stream step by step: they are the same.
 use Rattle.std.proofs.Common.{◌≡◌, Bool, true, false, not, cond, ◌&&◌, List, [], ◌∷◌, ◌++◌, filter, Option, Some, None, Result, Ok, Err, is_ok, sym, ap, ◌∙◌, refl}
 use Rattle.std.proofs.lemmas.List.{append-nil}
+use Rattle.std.specs.Option.{option_map_or}
 use Rattle.xs_stream.specs.declared.id.Id.{Id}
 use Rattle.xs_stream.specs.declared.field.Field.{Field}
 use Rattle.xs_stream.specs.declared.trim.Trim.{Trim}
 use Rattle.xs_stream.specs.declared.add.AddError.{AddError}
-use Rattle.xs_stream.specs.Id.{is_below, has_id, zero_id}
-use Rattle.xs_stream.specs.Assigned.{assigned}
-use Rattle.xs_stream.specs.Kept.{Kept, ids_of, Ascends, AllUpTo}
+use Rattle.xs_stream.specs.Id.{is_below, has_id, zero_id, assigned}
+use Rattle.xs_stream.specs.Kept.{is_trimmed, Kept, ids_of, Ascends, AllUpTo}
 use Rattle.xs_stream.proofs.Order.{is_same-refl, below-irrefl, below-not_same, below-not_back, up_to-below, not_above-trans}
 use Rattle.xs_stream.proofs.Assigning.{assigned-above}
 use Rattle.xs_stream.proofs.Entries.{ids_of-append, ascends-push, ascends-filter, up_to-filter, filter-filter}
-use Rattle.xs_keys.specs.Life.{Change, added, deleted, trimmed_to}
-use Rattle.xs_keys.specs.Given.{greatest, top_of, entry_of, gives, given_in, top, trims, drops, stands, live, stream_of}
-use Rattle.xs_keys.specs.After.{stream_with, stream_after}
+use Rattle.xs_keys.specs.Life.{Change, added, deleted, trimmed_to, greatest, top_of, entry_of, gives, given_in, top, drops, stands, live, stream_of}
+use Rattle.xs_keys.specs.Content.{stream_with, stream_after}
 
 pub greatest-append : (a : Id) (xs ys : List Id) → greatest a (xs ++ ys) ≡ greatest (greatest a xs) ys
 greatest-append a [] ys = refl
@@ -146,7 +145,7 @@ filter-all (e ∷ es) = ap (λ rest. e ∷ rest) (filter-all es)
 -- ---- the step of the stream
 
 added-live : (r : Result Id AddError) (fields : List Field) (trim : Option Trim) (kept : Kept)
-    → filter (λ e. not (is_ok r && trims trim (ids_of (kept.entries ++ entry_of r fields)) e.0)) (kept.entries ++ entry_of r fields) ≡ (stream_with r fields trim kept).entries
+    → filter (λ e. not (is_ok r && option_map_or (λ t. is_trimmed t (ids_of (kept.entries ++ entry_of r fields)) e.0) trim false)) (kept.entries ++ entry_of r fields) ≡ (stream_with r fields trim kept).entries
 added-live (Ok id) fields None kept = filter-all (kept.entries ++ (id, fields) ∷ [])
 added-live (Ok id) fields (Some trim) kept = refl
 added-live (Err e) fields trim kept = filter-all (kept.entries ++ []) ∙ append-nil kept.entries

@@ -2,12 +2,12 @@
 use Rattle.std.specs.Prelude.{◌≡◌, ℕ, true, List, ◌⊎◌, Option, Some, None, Result, Ok, Err, is_ok}
 use Rattle.xs_stream.specs.declared.id.Id.{Id}
 use Rattle.xs_stream.specs.declared.add.AddError.{AddError}
-use Rattle.xs_stream.specs.Id.{printed}
-use Rattle.xs_stream.specs.Assigned.{assigned}
+use Rattle.xs_stream.specs.Id.{printed, assigned}
 use Rattle.xs_stream.specs.Kept.{Kept}
-use Rattle.xs_keys.specs.Ground.{Reply, Error, Memory, AddCommand}
+use Rattle.xs_command.specs.declared.command.AddCommand.{AddCommand}
+use Rattle.xs_keys.specs.Ground.{Reply, Error, Memory}
 use Rattle.xs_keys.specs.Life.{added}
-use Rattle.xs_keys.specs.After.{stream_after}
+use Rattle.xs_keys.specs.Content.{stream_after}
 use Rattle.xs_keys.specs.Reply.{assigned_reply}
 
 -- an addition to a stream is the model's, or memory ran out where the model refuses nothing, and nothing has changed

@@ -1,6 +1,7 @@
 -- Codes of what a keyspace is seen as, by which a proof tells its values apart.
 use Rattle.std.specs.Prelude.{ℕ, List, refl}
-use Rattle.xs_bytes.specs.SortedMap.{NameMap, from_entries}
+use Rattle.xs_bytes.specs.SortedMap.{NameMap}
+use Rattle.xs_bytes.specs.MapOf.{from_entries}
 use Rattle.xs_bytes.specs.MapCode.{coded_map}
 use Rattle.std.specs.Coded.{Coded, code_by, coded×, coded_list, coded_ℕ}
 use Rattle.xs_group.specs.State.{State}

@@ -1,11 +1,15 @@
--- The content of the keyspace, and how it is read off a history.
-use Rattle.std.specs.Prelude.{◌≡◌, ℕ, List, Option, Some, None}
-use Rattle.xs_keys.specs.Ground.{NameMap, get, Kept, State, has_name, Command}
-use Rattle.xs_keys.specs.Life.{Change, key_life}
-use Rattle.xs_keys.specs.Given.{stream_of}
-use Rattle.xs_keys.specs.Delivered.{cursor, is_consumer}
-use Rattle.xs_keys.specs.Holding.{rows}
-use Rattle.xs_keys.specs.GroupLife.{GroupLife, group_life}
+-- The content of the keyspace: read off a history, what holds of it, and what each command makes of it.
+use Rattle.std.specs.Prelude.{◌≡◌, ℕ, true, List, map, Option, Some, None, Bool, [], ◌∷◌, ◌++◌, option_and_then, Result}
+use Rattle.std.specs.Prelude.{Ok, Err, is_some, if◌then◌else◌}
+use Rattle.xs_keys.specs.Ground.{list_all, option_or, option_map_or, NameMap, get, Id, Kept, Ascends, AllUpTo, ids_of}
+use Rattle.xs_keys.specs.Ground.{Row, State, has_name, Command, empty, has_key, insert, remove, Field, Trim, AddError}
+use Rattle.xs_keys.specs.Ground.{zero_id, assigned, trimmed, without, joined, delivered_to, reread_by, claim_of}
+use Rattle.xs_keys.specs.Ground.{scan_of, settled_by, new_group, acked, without_consumer, Add, Delete, TrimTo}
+use Rattle.xs_keys.specs.Ground.{GroupCreate, GroupDestroy, ConsumerCreate, ConsumerDelete, ReadGroup, Ack, Claim}
+use Rattle.xs_keys.specs.Ground.{AutoClaim, DropKeys, GroupCreateCommand, ReadGroupCommand, ReadOne}
+use Rattle.xs_keys.specs.Life.{Change, key_life, stream_of, added, deleted, trimmed_to}
+use Rattle.xs_keys.specs.Turn.{Ask, read_new, read_own, ack, join, leave, claim, auto_claim, cursor, is_consumer, rows}
+use Rattle.xs_keys.specs.GroupLife.{GroupLife, group_life, start_of, read_ask}
 
 -- what a key holds: its stream, and its groups by name
 pub record Key : Type 0 where
@@ -26,18 +30,133 @@ pub record IsGroup (group : State) (life : GroupLife) : Type 0 where
 abbrev pub GroupHolds : Option State → Option GroupLife → Type 0
 GroupHolds None None = Unit {0}
 GroupHolds (Some group) (Some life) = IsGroup group life
-GroupHolds None (Some life) = ⊥
-GroupHolds (Some group) None = ⊥
+GroupHolds _ _ = ⊥
 
 -- so is a key; without one there are no groups
 abbrev pub KeyHolds : Option Key → Option (List Change) → (List ℕ → Option GroupLife) → Type 0
 KeyHolds None None lives = (group : List ℕ) → GroupHolds None (lives group)
 KeyHolds (Some key) (Some changes) lives =
     (key.stream ≡ stream_of changes) × ((group : List ℕ) → GroupHolds (get key.groups group) (lives group))
-KeyHolds None (Some changes) lives = ⊥
-KeyHolds (Some key) None lives = ⊥
+KeyHolds _ _ lives = ⊥
 
 -- the content that a history leaves
 abbrev pub IsContent : Content → List (ℕ × Command) → Type 0
 IsContent content past =
     (name : List ℕ) → KeyHolds (get content name) (key_life past name) (λ group. group_life past name group)
+
+-- the ids in the stream ascend, and none is above the top
+pub record IsLawfulStream (stream : Kept) : Type 0 where
+  pub ascends : Ascends (ids_of stream.entries)
+  pub up_to_top : AllUpTo stream.top (ids_of stream.entries)
+
+-- the ids of the rows ascend, so each has one row; none is above the cursor;
+-- and each row's consumer is one of the group's
+pub record IsLawfulGroup (group : State) : Type 0 where
+  pub ascends : Ascends (map (λ e. e.0) group.rows.entries)
+  pub up_to_cursor : AllUpTo group.cursor (map (λ e. e.0) group.rows.entries)
+  pub of_consumers : (x : Id) (row : Row) → get group.rows x ≡ Some row → has_name group.consumers row.consumer ≡ true
+
+pub record IsLawfulKey (key : Key) : Type 0 where
+  pub stream : IsLawfulStream key.stream
+  pub groups : (name : List ℕ) (group : State) → get key.groups name ≡ Some group → IsLawfulGroup group
+
+abbrev pub IsLawfulContent : Content → Type 0
+IsLawfulContent content = (name : List ℕ) (key : Key) → get content name ≡ Some key → IsLawfulKey key
+
+-- a new key has an empty stream, and no groups
+abbrev pub new_key : Key
+new_key = record { stream = record { top = zero_id; entries = [] }; groups = empty }
+
+-- the key, made where it is missing and may be made
+abbrev pub made : Bool → Option Key → Option Key
+made make key = option_or key (if make then Some new_key else None)
+
+-- an entry is added first, and then the stream is trimmed; a refused addition changes nothing
+abbrev pub stream_with : Result Id AddError → List Field → Option Trim → Kept → Kept
+stream_with (Ok id) fields trim kept =
+    let entries = kept.entries ++ (id, fields) ∷ [] in
+    record { top = id; entries = option_map_or (λ t. trimmed t entries) trim entries }
+stream_with (Err refusal) fields trim kept = kept
+
+-- a stream after a change
+abbrev pub stream_after : Change → Kept → Kept
+stream_after (added now id fields trim) kept = stream_with (assigned now kept.top id) fields trim kept
+stream_after (deleted ids) kept = record kept { entries = without ids kept.entries }
+stream_after (trimmed_to trim) kept = record kept { entries = trimmed trim kept.entries }
+
+abbrev pub key_after : Change → Key → Key
+key_after change key = record key { stream = stream_after change key.stream }
+
+-- a change of a key that is there
+abbrev pub changed : Content → List ℕ → Change → Option Key → Content
+changed content name change key = option_map_or (λ k. insert content name (key_after change k)) key content
+
+-- without these keys
+abbrev pub without_keys : List (List ℕ) → Content → Content
+without_keys [] content = content
+without_keys (name ∷ names) content = without_keys names (remove content name)
+
+-- a group after an ask at a moment, over the ids in the stream
+abbrev pub group_after : ℕ → List Id → Ask → State → State
+group_after now present (read_new consumer limit noack) group = delivered_to consumer now limit noack present group
+group_after now present (read_own consumer limit from) group = reread_by consumer now limit from present group
+group_after now present (ack ids) group = acked ids group
+group_after now present (join consumer) group = joined consumer group
+group_after now present (leave consumer) group = without_consumer consumer group
+group_after now present (claim consumer rule ids) group =
+    settled_by consumer now rule (claim_of group.rows.entries present now rule ids) group
+group_after now present (auto_claim consumer rule start limit) group =
+    settled_by consumer now rule (scan_of group.rows.entries present now rule start limit).claim group
+
+-- a key with this group
+abbrev pub with_group : Key → List ℕ → State → Key
+with_group key name group = record key { groups = insert key.groups name group }
+
+-- an ask of a group of a key, where both are there
+abbrev pub asked : Content → ℕ → List ℕ → List ℕ → Ask → Content
+asked content now name group_name ask =
+    let with_asked : Key → State → Content = λ key group.
+    insert content name (with_group key group_name (group_after now (ids_of key.stream.entries) ask group)) in
+    option_map_or (λ key. option_map_or (with_asked key) (get key.groups group_name) content) (get content name) content
+
+-- a new group, unless there is one
+abbrev pub created : Content → GroupCreateCommand → Option Key → Content
+created content create None = content
+created content create (Some key) =
+    if has_key key.groups create.group then content
+    else insert content create.key (with_group key create.group (new_group (start_of create.start key.stream.top)))
+
+-- the group of a key, and the entries of a key
+abbrev pub group_in : Option Key → List ℕ → Option State
+group_in key group_name = option_and_then (λ k. get k.groups group_name) key
+
+abbrev pub entries_in : Option Key → List (Id × List Field)
+entries_in key = option_map_or (λ k. k.stream.entries) key []
+
+-- each key and group that a read names is there
+abbrev pub serves : Content → ReadGroupCommand → Bool
+serves content read = list_all (λ one. is_some (group_in (get content one.key) read.group)) read.reads
+
+-- the reads of a command, one after the other
+abbrev pub read_each : Content → ℕ → ReadGroupCommand → List ReadOne → Content
+read_each content now read [] = content
+read_each content now read (one ∷ more) =
+    read_each (asked content now one.key read.group (read_ask read one.from)) now read more
+
+-- the content after a command at a moment
+abbrev pub after : Content → ℕ → Command → Content
+after content now (Add add) =
+    changed content add.key (added now add.id add.fields add.trim) (made add.make (get content add.key))
+after content now (Delete name ids) = changed content name (deleted ids) (get content name)
+after content now (TrimTo name trim) = changed content name (trimmed_to trim) (get content name)
+after content now (GroupCreate create) = created content create (made create.make (get content create.key))
+after content now (GroupDestroy name group) =
+    option_map_or (λ k. insert content name (record k { groups = remove k.groups group })) (get content name) content
+after content now (ConsumerCreate name group consumer) = asked content now name group (join consumer)
+after content now (ConsumerDelete name group consumer) = asked content now name group (leave consumer)
+after content now (ReadGroup read) = if serves content read then read_each content now read read.reads else content
+after content now (Ack name group ids) = asked content now name group (ack ids)
+after content now (Claim c) = asked content now c.key c.group (claim c.consumer c.rule c.ids)
+after content now (AutoClaim c) = asked content now c.key c.group (auto_claim c.consumer c.rule c.start c.limit)
+after content now (DropKeys keys) = without_keys keys content
+after content now _ = content

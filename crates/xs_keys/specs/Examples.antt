@@ -1,8 +1,9 @@
 -- What clients see, as the Redis documentation of streams and of each command tells it: computed examples.
 use Rattle.std.specs.Prelude.{[], ◌∷◌, codes}
-use Rattle.xs_keys.specs.Ground.{Arity, BadId, Busy, Exhausted, NoGroup, NoKey, NotInteger, SmallId, Syntax}
-use Rattle.xs_keys.specs.Ground.{UnknownCommand, Unsupported, ZeroId, Error, Int, NullBulk, NullArray}
-use Rattle.xs_keys.specs.Shape.{array}
+use Rattle.xs_resp.specs.declared.fault.Fault.TheVariants.{Arity, BadId, Busy, Exhausted, NoGroup, NoKey, NotInteger}
+use Rattle.xs_resp.specs.declared.fault.Fault.TheVariants.{SmallId, Syntax, UnknownCommand, Unsupported, ZeroId}
+use Rattle.xs_keys.specs.Ground.{Error, Int, NullBulk, NullArray}
+use Rattle.xs_keys.specs.Reply.{array}
 use Rattle.xs_keys.specs.Played.{IsPlayed, at, ok, name, number, id, entry, gone, stream, row}
 
 pub record Streams : Type 0 where

@@ -1,13 +1,12 @@
--- The lives of groups.
-use Rattle.std.specs.Prelude.{ℕ, Bool, ◌&&◌, List, [], ◌∷◌, Option, Some, None, is_some, if◌then◌else◌}
-use Rattle.std.specs.Option.{option_map}
-use Rattle.std.specs.List.{list_all}
-use Rattle.xs_keys.specs.Ground.{Id, zero_id, ids_of, is_name, Command, GroupCreate, GroupDestroy, ConsumerCreate}
-use Rattle.xs_keys.specs.Ground.{ConsumerDelete, ReadGroup, Ack, Claim, AutoClaim, DropKeys, GroupStart, Top, At}
-use Rattle.xs_keys.specs.Ground.{GroupCreateCommand, ReadGroupCommand, ReadOne, ReadFrom, New, After}
-use Rattle.xs_keys.specs.Life.{Change, has_name, key_life}
-use Rattle.xs_keys.specs.Given.{live, top}
-use Rattle.xs_keys.specs.Turn.{Ask, Turn, read_new, read_own, ack, join, leave, claim, auto_claim}
+-- The lives of groups, and what an event delivers in a group, over the whole history.
+use Rattle.std.specs.Prelude.{◌≡◌, ℕ, Bool, true, false, ◌&&◌, List, [], ◌∷◌, ◌++◌, Option, Some, None, is_some}
+use Rattle.std.specs.Prelude.{if◌then◌else◌}
+use Rattle.xs_keys.specs.Ground.{option_map, option_map_or, option_or, list_all, list_any, Id, ids_of, is_name}
+use Rattle.xs_keys.specs.Ground.{delivers, Command, GroupCreate, GroupDestroy, ConsumerCreate, ConsumerDelete}
+use Rattle.xs_keys.specs.Ground.{ReadGroup, Ack, Claim, AutoClaim, DropKeys, GroupStart, Top, At, GroupCreateCommand}
+use Rattle.xs_keys.specs.Ground.{ReadGroupCommand, ReadOne, ReadFrom, New, After}
+use Rattle.xs_keys.specs.Life.{Change, has_name, opened, key_life, live, top}
+use Rattle.xs_keys.specs.Turn.{Ask, Turn, read_new, read_own, ack, join, leave, claim, auto_claim, delivered, cursor}
 
 -- a life of a group: the id behind which it starts, and its turns, newest first
 pub record GroupLife : Type 0 where
@@ -19,11 +18,6 @@ abbrev pub present_in : Option (List Change) → List Id
 present_in None = []
 present_in (Some changes) = ids_of (live changes)
 
--- the top of the stream, 0-0 for one that is still to come
-abbrev pub top_in : Option (List Change) → Id
-top_in None = zero_id
-top_in (Some changes) = top changes
-
 -- where a group starts: the written id, or the top
 abbrev pub start_of : GroupStart → Id → Id
 start_of Top top = top
@@ -32,13 +26,12 @@ start_of (At id) top = id
 -- a new life; a missing key must be made with it
 abbrev pub life_opened : GroupCreateCommand → Option (List Change) → Option GroupLife
 life_opened create stream =
-    if create.make then Some (record { start = start_of create.start (top_in stream); turns = [] })
-    else option_map (λ changes. record { start = start_of create.start (top changes); turns = [] }) stream
+    let begin : Id → GroupLife = λ id. record { start = start_of create.start id; turns = [] } in
+    option_map (λ changes. begin (top changes)) (opened create.make stream)
 
 -- a life that is open goes on
 abbrev pub life_created : GroupCreateCommand → Option (List Change) → Option GroupLife → Option GroupLife
-life_created create stream None = life_opened create stream
-life_created create stream (Some life) = Some life
+life_created create stream life = option_or life (life_opened create stream)
 
 -- one turn more
 abbrev pub life_asked : ℕ → List Id → Ask → Option GroupLife → Option GroupLife
@@ -97,3 +90,35 @@ group_life [] key group = None
 group_life (e ∷ past) key group =
     let served = list_all (λ one. is_some (group_life past one.key (group_of e.1))) (reads_of e.1) in
     group_lived e.0 e.1 key group served (key_life past key) (group_life past key group)
+
+abbrev pub is_new : ReadFrom → Bool
+is_new New = true
+is_new (After id) = false
+
+-- the event asks for new entries of the key
+abbrev pub asks_new : Command → List ℕ → Bool
+asks_new command key = list_any (λ one. is_name key one.key && is_new one.from) (reads_of command)
+
+-- it acts: each key and group that it reads is there
+abbrev pub acts : List (ℕ × Command) → Command → Bool
+acts past command = list_all (λ one. is_some (group_life past one.key (group_of command))) (reads_of command)
+
+abbrev pub limit_of : Command → Option ℕ
+limit_of (ReadGroup read) = read.limit
+limit_of _ = None
+
+-- what an event delivers in a group, meeting this past: the first of the ids in the stream that are above the cursor
+abbrev pub delivered_by : List (ℕ × Command) → Command → List ℕ → List ℕ → List Id
+delivered_by past command key group =
+    let present = present_in (key_life past key) in
+    let new : GroupLife → List Id = λ life. delivers (limit_of command) (cursor life.start life.turns) present in
+    if asks_new command key && (is_name group (group_of command) && acts past command)
+    then option_map_or new (group_life past key group) [] else []
+
+-- an event and the life of a group: the life goes on, with what the event delivers of it, and nothing else;
+-- or it begins, and the event delivers nothing; or there is none behind the event, and the event delivers nothing
+abbrev pub GoesOn : Option GroupLife → List Id → Option GroupLife → Type 0
+GoesOn (Some before) new (Some life) =
+    (life.start ≡ before.start) × (delivered life.start life.turns ≡ delivered before.start before.turns ++ new)
+GoesOn None new (Some life) = (life.turns ≡ []) × (new ≡ [])
+GoesOn before new None = new ≡ []

@@ -1,12 +1,121 @@
--- The headline, of a run of commands over a history.
-use Rattle.std.specs.Prelude.{◌≡◌, ℕ, true, false, List, [], ◌∷◌, ◌++◌, ◌⊎◌, Some}
-use Rattle.xs_keys.specs.Ground.{Memory, Unsupported, Reply, Error, Command}
-use Rattle.xs_keys.specs.GroupLife.{GroupLife, group_life}
-use Rattle.xs_keys.specs.Content.{Content, IsContent}
+-- One call: applied, or refused for want of memory, or not served yet. The headline, of a run of commands over a
+-- history; and what each life of a group promises: new deliveries, and one owner until an entry is settled.
+use Rattle.std.specs.Prelude.{◌≡◌, ℕ, Bool, true, false, ◌⊎◌, Some, not, ◌||◌, List, [], ◌∷◌, ◌++◌, None, is_some}
+use Rattle.xs_keys.specs.Ground.{Memory, Unsupported, Reply, Error, Command, Ping, Quit, Add, Delete, TrimTo, Len, Scan}
+use Rattle.xs_keys.specs.Ground.{GroupCreate, ConsumerCreate, ReadGroup, Pending, PendingRows, Claim, AutoClaim}
+use Rattle.xs_keys.specs.Ground.{DropKeys, Id, is_below, has_id, Ascends, AllAbove}
+use Rattle.xs_keys.specs.Content.{Content, IsContent, IsLawfulContent, after}
 use Rattle.xs_keys.specs.Reply.{reply}
-use Rattle.xs_keys.specs.Step.{is_served, takes_memory}
-use Rattle.xs_keys.specs.Lawful.{IsLawfulContent}
-use Rattle.xs_keys.specs.Promise.{DeliversNew, HasOneOwner}
+use Rattle.xs_keys.specs.Turn.{Turn, consumer_of, delivered, cursor, is_their_turn, delivers_pending, takes, settles}
+use Rattle.xs_keys.specs.Turn.{owner}
+use Rattle.xs_keys.specs.GroupLife.{GroupLife, group_life}
+
+-- the commands that are served today; those of groups are not yet
+abbrev pub is_served : Command → Bool
+is_served (Ping message) = true
+is_served Quit = true
+is_served (Add add) = true
+is_served (Delete name ids) = true
+is_served (TrimTo name trim) = true
+is_served (Len name) = true
+is_served (Scan scan) = true
+is_served (DropKeys names) = true
+is_served _ = false
+
+-- the commands that may find no memory
+abbrev pub takes_memory : Command → Bool
+takes_memory (Ping (Some message)) = true
+takes_memory (Add add) = true
+takes_memory (Scan scan) = true
+takes_memory (GroupCreate create) = true
+takes_memory (ConsumerCreate key group consumer) = true
+takes_memory (ReadGroup read) = true
+takes_memory (Pending key group) = true
+takes_memory (PendingRows pending) = true
+takes_memory (Claim claim) = true
+takes_memory (AutoClaim claim) = true
+takes_memory _ = false
+
+abbrev pub is_error : Reply → Bool
+is_error (Error fault) = true
+is_error _ = false
+
+-- the reply is the model's, and so is what is left
+pub record Applied (old : Content) (now : ℕ) (command : Command) (answer : Reply) (new : Content) : Type 0 where
+  pub served : is_served command ≡ true
+  pub answer_is : answer ≡ reply old now command
+  pub content_is : new ≡ after old now command
+
+-- memory ran out, where the command takes some and the model refuses nothing: nothing has changed
+pub record OutOfMemory (old : Content) (now : ℕ) (command : Command) (answer : Reply) (new : Content) : Type 0 where
+  pub takes : takes_memory command ≡ true
+  pub no_other : is_error (reply old now command) ≡ false
+  pub answer_is : answer ≡ Error Memory
+  pub content_is : new ≡ old
+
+-- the command isn't served yet: nothing has changed
+pub record Unserved (old : Content) (command : Command) (answer : Reply) (new : Content) : Type 0 where
+  pub unserved : is_served command ≡ false
+  pub answer_is : answer ≡ Error Unsupported
+  pub content_is : new ≡ old
+
+abbrev pub Step : Content → ℕ → Command → Reply → Content → Type 0
+Step old now command answer new =
+    Applied old now command answer new
+    ⊎ (OutOfMemory old now command answer new ⊎ Unserved old command answer new)
+
+-- one of the turns is their turn, and the id is delivered exactly where it is in the stream then
+pub record HadItsTurn (start : Id) (turns : List Turn) (x : Id) : Type 0 where
+  pub later : List Turn
+  pub turn : Turn
+  pub earlier : List Turn
+  pub among : turns ≡ later ++ turn ∷ earlier
+  pub theirs : is_their_turn start earlier turn x ≡ true
+  pub exactly : has_id (delivered start turns) x ≡ has_id turn.present x
+
+-- new deliveries: in id order and each once, past the start, and exactly the entries in the stream at their turn
+pub record DeliversNew (life : GroupLife) : Type 0 where
+  pub ascend : Ascends (delivered life.start life.turns)
+  pub past_start : AllAbove life.start (delivered life.start life.turns)
+  pub at_their_turn : (x : Id) → is_below life.start x ≡ true → is_below (cursor life.start life.turns) x ≡ false
+      → HadItsTurn life.start life.turns x
+
+-- one of these later turns settles it
+abbrev pub settled_in : Id → List Turn → List Turn → Id → Bool
+settled_in start [] before x = false
+settled_in start (turn ∷ later) before x = settles start (later ++ before) turn x || settled_in start later before x
+
+-- after a delivery without NOACK there is an owner exactly as long as nothing has settled the entry
+abbrev pub OwnedUntilSettled : Id → List Turn → Type 0
+OwnedUntilSettled start turns =
+    (later : List Turn) (turn : Turn) (earlier : List Turn) (x : Id) → turns ≡ later ++ turn ∷ earlier
+    → delivers_pending start earlier turn x ≡ true
+    → is_some (owner start turns x) ≡ not (settled_in start later (turn ∷ earlier) x)
+
+-- what one turn makes of an owner: it stays, or the turn settles the entry and there is none, or a claim takes it
+abbrev pub OwnerAfter : Id → List Turn → Turn → Id → List ℕ → Type 0
+OwnerAfter start past turn x name =
+    (owner start (turn ∷ past) x ≡ Some name)
+    ⊎ (((settles start past turn x ≡ true) × (owner start (turn ∷ past) x ≡ None))
+    ⊎ ((takes start past turn x ≡ true) × (owner start (turn ∷ past) x ≡ consumer_of turn.ask)))
+
+-- without an owner there is none, unless the turn delivers the entry
+abbrev pub NoOwnerAfter : Id → List Turn → Turn → Id → Type 0
+NoOwnerAfter start past turn x =
+    (owner start (turn ∷ past) x ≡ None)
+    ⊎ ((delivers_pending start past turn x ≡ true) × (owner start (turn ∷ past) x ≡ consumer_of turn.ask))
+
+-- the owner changes only by a claim, and comes only by a delivery
+abbrev pub ChangesByClaims : Id → List Turn → Type 0
+ChangesByClaims start turns =
+    (later : List Turn) (turn : Turn) (earlier : List Turn) (x : Id) → turns ≡ later ++ turn ∷ earlier
+    → ((name : List ℕ) → owner start earlier x ≡ Some name → OwnerAfter start earlier turn x name)
+    × (owner start earlier x ≡ None → NoOwnerAfter start earlier turn x)
+
+-- one owner until settled
+pub record HasOneOwner (life : GroupLife) : Type 0 where
+  pub until_settled : OwnedUntilSettled life.start life.turns
+  pub by_claims : ChangesByClaims life.start life.turns
 
 -- it was refused for want of memory, or isn't served yet: it is left out of the history
 abbrev pub IsLeftOut : Command → Reply → Type 0
@@ -22,8 +131,7 @@ Answers past (e ∷ events) (answer ∷ answers) last =
     ((content : Content) × IsContent content past × (answer ≡ reply content e.0 e.1)
     × Answers (e ∷ past) events answers last)
     ⊎ (IsLeftOut e.1 answer × Answers past events answers last)
-Answers past [] (answer ∷ answers) last = ⊥
-Answers past (e ∷ events) [] last = ⊥
+Answers past _ _ last = ⊥
 
 -- each group of a history, at each time of it: what holds of each of its lives
 abbrev pub OfEachGroup : List (ℕ × Command) → (GroupLife → Type 0) → Type 0

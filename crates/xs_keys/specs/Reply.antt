@@ -1,21 +1,43 @@
 -- The reply to each command, from the content that it meets. (The pages of the commands, "RESP2 Reply".)
-use Rattle.std.specs.Prelude.{ℕ, ◌+◌, ◌-◌, List, [], ◌∷◌, length, Option, Some, None, Result, Ok, Err, if◌then◌else◌}
-use Rattle.xs_keys.specs.Ground.{get, has_key, remove, Id, AddError, Small, assigned, ids_within, limited, Fault}
-use Rattle.xs_keys.specs.Ground.{SmallId, Exhausted, Memory, Reply, Simple, Error, Int, Bulk, NullBulk, Okay, Pong}
-use Rattle.xs_keys.specs.Ground.{Command, Ping, Quit, Add, Delete, TrimTo, Len, Scan, GroupCreate, GroupDestroy}
-use Rattle.xs_keys.specs.Ground.{ConsumerCreate, ConsumerDelete, ReadGroup, Ack, Pending, PendingRows, Claim, AutoClaim}
-use Rattle.xs_keys.specs.Ground.{DropKeys, AddCommand, ScanCommand}
+use Rattle.std.specs.Prelude.{ℕ, ◌+◌, ◌-◌, Bool, List, [], ◌∷◌, ◌++◌, map, length, decimal, Option, Result, Ok, Err}
+use Rattle.std.specs.Prelude.{if◌then◌else◌}
+use Rattle.xs_keys.specs.Ground.{flat_map, option_map_or, get, has_key, remove, Id, Field, AddError, printed, assigned}
+use Rattle.xs_keys.specs.Ground.{ids_of, fields_at, ids_within, limited, Fault, SmallId, Exhausted, Memory, NoKey}
+use Rattle.xs_keys.specs.Ground.{NoGroup, Busy, Reply, Simple, Error, Int, Bulk, NullBulk, Array, NullArray, Okay, Pong}
+use Rattle.xs_keys.specs.Ground.{items_of, Command, Ping, Quit, Add, Delete, TrimTo, Len, Scan, GroupCreate}
+use Rattle.xs_keys.specs.Ground.{GroupDestroy, ConsumerCreate, ConsumerDelete, ReadGroup, Ack, Pending, PendingRows}
+use Rattle.xs_keys.specs.Ground.{Claim, AutoClaim, DropKeys, ReadGroupCommand, ReadOne, ReadFrom, New, After}
+use Rattle.xs_keys.specs.Ground.{OwnerCount, GroupSummary, PendingRow, State, has_name, delivers, shown, claim_of}
+use Rattle.xs_keys.specs.Ground.{scan_of, acked, owned_count, summary_of, pending_of}
 use Rattle.xs_stream.specs.declared.add.AddError.TheVariants as add_error
+use Rattle.xs_group.specs.declared.claim.Scan as scans
 use Rattle.xs_keys.specs.Life.{Change, deleted, trimmed_to}
-use Rattle.xs_keys.specs.Content.{Content, Key}
-use Rattle.xs_keys.specs.After.{new_stream, stream_after, group_in, entries_in}
-use Rattle.xs_keys.specs.Shape.{array, id_reply, entries_reply}
-use Rattle.xs_keys.specs.GroupReply.{created_reply, destroyed_reply, join_reply, leave_reply, read_reply, ack_reply}
-use Rattle.xs_keys.specs.GroupReply.{pending_reply, pending_rows_reply, claim_reply, auto_claim_reply}
+use Rattle.xs_keys.specs.GroupLife.{read_ask}
+use Rattle.xs_keys.specs.Content.{Content, Key, stream_after, made, asked, serves, group_in, entries_in}
 
-abbrev pub ping_reply : Option (List ℕ) → Reply
-ping_reply None = Simple Pong
-ping_reply (Some message) = Bulk message
+-- an array of these replies
+abbrev pub array : List Reply → Reply
+array replies = Array (items_of replies)
+
+abbrev pub array_or_null : List Reply → Reply
+array_or_null [] = NullArray
+array_or_null (r ∷ rs) = array (r ∷ rs)
+
+abbrev pub id_reply : Id → Reply
+id_reply id = Bulk (printed id)
+
+-- the name and the value of a field in turn
+abbrev pub field_replies : Field → List Reply
+field_replies field = Bulk field.name ∷ Bulk field.value ∷ []
+
+-- an entry: its id and its fields; one that is no longer there has the null array
+abbrev pub entry_reply : List (Id × List Field) → Id → Reply
+entry_reply entries id =
+    let fields = option_map_or (λ fs. array (flat_map field_replies fs)) (fields_at entries id) NullArray in
+    array (id_reply id ∷ fields ∷ [])
+
+abbrev pub entries_reply : List (Id × List Field) → List Id → Reply
+entries_reply entries ids = array (map (entry_reply entries) ids)
 
 -- the error of a refused addition
 abbrev pub fault_of : AddError → Fault
@@ -23,55 +45,111 @@ fault_of add_error.Small = SmallId
 fault_of add_error.Exhausted = Exhausted
 fault_of add_error.Memory = Memory
 
+-- XADD: the id, or the error
 abbrev pub assigned_reply : Result Id AddError → Reply
 assigned_reply (Ok id) = id_reply id
 assigned_reply (Err refusal) = Error (fault_of refusal)
 
--- the id, the error, or the null bulk string where a missing key may not be made
-abbrev pub add_reply : ℕ → AddCommand → Option Key → Reply
-add_reply now add None = if add.make then assigned_reply (assigned now new_stream.top add.id) else NullBulk
-add_reply now add (Some key) = assigned_reply (assigned now key.stream.top add.id)
-
--- how many entries a change removes; a missing key has none
+-- XDEL and XTRIM: how many entries a change removes; a missing key has none
 abbrev pub removed_by : Change → Option Key → ℕ
-removed_by change None = 0
-removed_by change (Some key) = length key.stream.entries - length (stream_after change key.stream).entries
+removed_by change key =
+    option_map_or (λ k. length k.stream.entries - length (stream_after change k.stream).entries) key 0
 
-abbrev pub len_of : Option Key → ℕ
-len_of None = 0
-len_of (Some key) = length key.stream.entries
-
--- the entries of a range; a missing key has none
-abbrev pub scan_reply : ScanCommand → Option Key → Reply
-scan_reply scan None = array []
-scan_reply scan (Some key) =
-    let entries = key.stream.entries in
-    entries_reply entries (limited scan.limit (ids_within scan.range scan.reversed entries))
-
--- how many of these keys there are, each counted once
+-- DEL: how many of these keys there are, each counted once
 abbrev pub existing : List (List ℕ) → Content → ℕ
 existing [] content = 0
 existing (name ∷ names) content = (if has_key content name then 1 else 0) + existing names (remove content name)
 
+-- what is said of a group; a missing one is an error
+abbrev pub of_group : Option State → (State → Reply) → Reply
+of_group group said = option_map_or said group (Error NoGroup)
+
+-- XGROUP: what is said of a key; a missing one is an error
+abbrev pub of_key : Option Key → (Key → Reply) → Reply
+of_key key said = option_map_or said key (Error NoKey)
+
+-- a stream in the reply to a read: its key and its entries
+abbrev pub part : List ℕ → List (Id × List Field) → List Id → Reply
+part key entries ids = array (Bulk key ∷ entries_reply entries ids ∷ [])
+
+-- a stream with nothing new is left out
+abbrev pub new_part : List ℕ → List (Id × List Field) → List Id → List Reply
+new_part key entries [] = []
+new_part key entries (x ∷ xs) = part key entries (x ∷ xs) ∷ []
+
+-- what one read of a group shows
+abbrev pub shown_by : ReadGroupCommand → List ℕ → ReadFrom → List (Id × List Field) → State → List Reply
+shown_by read key New entries group = new_part key entries (delivers read.limit group.cursor (ids_of entries))
+shown_by read key (After id) entries group =
+    part key entries (shown read.consumer read.limit id group.rows.entries) ∷ []
+
+-- the streams of a read in the order written, each as the reads before it leave it
+abbrev pub parts : Content → ℕ → ReadGroupCommand → List ReadOne → List Reply
+parts content now read [] = []
+parts content now read (one ∷ more) =
+    let key = get content one.key in
+    option_map_or (shown_by read one.key one.from (entries_in key)) (group_in key read.group) []
+    ++ parts (asked content now one.key read.group (read_ask read one.from)) now read more
+
+-- XPENDING, the short form: each owner with its count is an array of two
+abbrev pub summary_reply : GroupSummary → Reply
+summary_reply summary =
+    let id : Option Id → Reply = λ x. option_map_or id_reply x NullBulk in
+    let owner : OwnerCount → Reply = λ o. array (Bulk o.consumer ∷ Bulk (decimal o.count) ∷ []) in
+    array (Int summary.total ∷ id summary.least ∷ id summary.greatest ∷ array_or_null (map owner summary.owners) ∷ [])
+
+-- XPENDING, a row of the long form
+abbrev pub row_reply : PendingRow → Reply
+row_reply row = array (id_reply row.id ∷ Bulk row.consumer ∷ Int row.idle ∷ Int row.count ∷ [])
+
+-- XCLAIM and XAUTOCLAIM: the entries that a claim took, or their ids alone
+abbrev pub taken_reply : Bool → List (Id × List Field) → List Id → Reply
+taken_reply just_id entries ids = if just_id then array (map id_reply ids) else entries_reply entries ids
+
+-- XAUTOCLAIM: where to go on, what was taken, and the ids that were removed
+abbrev pub scan_shown : Bool → List (Id × List Field) → scans.Scan → Reply
+scan_shown just_id entries s =
+    array (id_reply s.cursor ∷ taken_reply just_id entries s.claim.take ∷ array (map id_reply s.claim.removed) ∷ [])
+
 -- the reply to a command at a moment
 abbrev pub reply : Content → ℕ → Command → Reply
-reply content now (Ping message) = ping_reply message
+reply content now (Ping message) = option_map_or Bulk message (Simple Pong)
 reply content now Quit = Simple Okay
-reply content now (Add add) = add_reply now add (get content add.key)
+reply content now (Add add) =
+    let added : Key → Reply = λ k. assigned_reply (assigned now k.stream.top add.id) in
+    option_map_or added (made add.make (get content add.key)) NullBulk
 reply content now (Delete name ids) = Int (removed_by (deleted ids) (get content name))
 reply content now (TrimTo name trim) = Int (removed_by (trimmed_to trim) (get content name))
-reply content now (Len name) = Int (len_of (get content name))
-reply content now (Scan scan) = scan_reply scan (get content scan.key)
+reply content now (Len name) = Int (length (entries_in (get content name)))
+reply content now (Scan scan) =
+    let entries = entries_in (get content scan.key) in
+    entries_reply entries (limited scan.limit (ids_within scan.range scan.reversed entries))
 reply content now (DropKeys names) = Int (existing names content)
-reply content now (GroupCreate create) = created_reply create (get content create.key)
-reply content now (GroupDestroy name group) = destroyed_reply group (get content name)
-reply content now (ConsumerCreate name group consumer) = join_reply consumer group (get content name)
-reply content now (ConsumerDelete name group consumer) = leave_reply consumer group (get content name)
-reply content now (ReadGroup read) = read_reply content now read
-reply content now (Ack name group ids) = Int (ack_reply ids (group_in (get content name) group))
-reply content now (Pending name group) = pending_reply (group_in (get content name) group)
-reply content now (PendingRows p) = pending_rows_reply now p (group_in (get content p.key) p.group)
+reply content now (GroupCreate create) =
+    of_key (made create.make (get content create.key))
+    (λ k. if has_key k.groups create.group then Error Busy else Simple Okay)
+reply content now (GroupDestroy name group) =
+    of_key (get content name) (λ k. Int (if has_key k.groups group then 1 else 0))
+reply content now (ConsumerCreate name group consumer) =
+    of_key (get content name)
+    (λ k. of_group (get k.groups group) (λ g. Int (if has_name g.consumers consumer then 0 else 1)))
+reply content now (ConsumerDelete name group consumer) =
+    of_key (get content name) (λ k. of_group (get k.groups group) (λ g. Int (owned_count consumer g)))
+reply content now (ReadGroup read) =
+    if serves content read then array_or_null (parts content now read read.reads) else Error NoGroup
+reply content now (Ack name group ids) =
+    let group = group_in (get content name) group in
+    Int (option_map_or (λ g. length g.rows.entries - length (acked ids g).rows.entries) group 0)
+reply content now (Pending name group) =
+    of_group (group_in (get content name) group) (λ g. summary_reply (summary_of g))
+reply content now (PendingRows p) =
+    of_group (group_in (get content p.key) p.group)
+    (λ g. array (map row_reply (pending_of p.range p.min_idle now p.limit p.consumer g)))
 reply content now (Claim c) =
-    let key = get content c.key in claim_reply now c (entries_in key) (group_in key c.group)
+    let entries = entries_in (get content c.key) in
+    of_group (group_in (get content c.key) c.group)
+    (λ g. taken_reply c.rule.just_id entries (claim_of g.rows.entries (ids_of entries) now c.rule c.ids).take)
 reply content now (AutoClaim c) =
-    let key = get content c.key in auto_claim_reply now c (entries_in key) (group_in key c.group)
+    let entries = entries_in (get content c.key) in
+    of_group (group_in (get content c.key) c.group)
+    (λ g. scan_shown c.rule.just_id entries (scan_of g.rows.entries (ids_of entries) now c.rule c.start c.limit))

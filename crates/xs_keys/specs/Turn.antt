@@ -1,24 +1,21 @@
--- Turns of a group: what an event asks of it, at a moment, over the ids then in the stream.
-use Rattle.std.specs.Prelude.{ℕ, Bool, false, not, List, [], Option, Some, None}
-use Rattle.xs_keys.specs.Ground.{Id, has_id, Rule, Row, is_name, delivers, claim_of, scan_of}
+-- Turns of a group: what an event asks of it, at a moment, over the ids then in the stream; and the group by looking
+-- back over the turns of its life: deliveries, cursor, consumers, rows, and who has an entry.
+use Rattle.std.specs.Prelude.{ℕ, Bool, false, not, List, [], Option, Some, None, true, ◌&&◌, ◌||◌, ◌∷◌, ◌++◌}
+use Rattle.std.specs.Prelude.{option_and_then, if◌then◌else◌}
 use Rattle.xs_group.specs.declared.claim.Claim.{Claim}
+use Rattle.xs_keys.specs.Ground.{Id, has_id, Rule, Row, is_name, delivers, claim_of, scan_of, kept, is_below, first_row}
+use Rattle.xs_keys.specs.Ground.{shown, reread, claimed, unless_acked, unless_owned}
+use Rattle.xs_keys.specs.Life.{greatest}
 
 -- what is asked; each but an acknowledgement names a consumer
 pub data Ask : Type 0 where
-  -- XREADGROUP with `>`: at most so many, and whether with NOACK
-  read_new : List ℕ → Option ℕ → Bool → Ask
-  -- XREADGROUP with an id
-  read_own : List ℕ → Option ℕ → Id → Ask
-  -- XACK
-  ack : List Id → Ask
-  -- XGROUP CREATECONSUMER
-  join : List ℕ → Ask
-  -- XGROUP DELCONSUMER
-  leave : List ℕ → Ask
-  -- XCLAIM
-  claim : List ℕ → Rule → List Id → Ask
-  -- XAUTOCLAIM: from a start, at most so many
-  auto_claim : List ℕ → Rule → Id → ℕ → Ask
+  read_new : List ℕ → Option ℕ → Bool → Ask  -- XREADGROUP with `>`: at most so many, and whether with NOACK
+  read_own : List ℕ → Option ℕ → Id → Ask  -- XREADGROUP with an id: at most so many, past it
+  ack : List Id → Ask  -- XACK
+  join : List ℕ → Ask  -- XGROUP CREATECONSUMER
+  leave : List ℕ → Ask  -- XGROUP DELCONSUMER
+  claim : List ℕ → Rule → List Id → Ask  -- XCLAIM
+  auto_claim : List ℕ → Rule → Id → ℕ → Ask  -- XAUTOCLAIM: from a start, at most so many
 
 pub record Turn : Type 0 where
   pub now : ℕ
@@ -77,3 +74,92 @@ brings _ name = false
 abbrev pub drops_consumer : Ask → List ℕ → Bool
 drops_consumer (leave consumer) name = is_name name consumer
 drops_consumer _ name = false
+
+-- all ids delivered since the start, in the order of the reads
+abbrev pub delivered : Id → List Turn → List Id
+delivered start [] = []
+delivered start (turn ∷ past) =
+    delivered start past ++ delivers_at turn (greatest start (delivered start past))
+
+-- the greatest of the start and of all ids delivered
+abbrev pub cursor : Id → List Turn → Id
+cursor start past = greatest start (delivered start past)
+
+-- their turn: the cursor passes from below the id to it or above
+abbrev pub is_their_turn : Id → List Turn → Turn → Id → Bool
+is_their_turn start past turn x = is_below (cursor start past) x && not (is_below (cursor start (turn ∷ past)) x)
+
+-- a name is a consumer where it was brought in and not taken out later
+abbrev pub is_consumer : List Turn → List ℕ → Bool
+is_consumer [] name = false
+is_consumer (turn ∷ past) name =
+    if drops_consumer turn.ask name then false else (if brings turn.ask name then true else is_consumer past name)
+
+-- what an ask makes of the row of an id, over the rows and the cursor that it meets
+abbrev pub asked_row : Ask → ℕ → List Id → Id → List (Id × Row) → Id → Option Row → Option Row
+asked_row (read_new consumer limit noack) now present cursor rows x row =
+    if has_id (delivers limit cursor present) x then (if noack then None else Some (first_row consumer now)) else row
+asked_row (read_own consumer limit from) now present cursor rows x row =
+    option_and_then (reread now (shown consumer limit from rows) present x) row
+asked_row (ack ids) now present cursor rows x row = option_and_then (unless_acked ids x) row
+asked_row (join consumer) now present cursor rows x row = row
+asked_row (leave consumer) now present cursor rows x row = option_and_then (unless_owned consumer x) row
+asked_row (claim consumer rule ids) now present cursor rows x row =
+    option_and_then (claimed consumer now rule (claim_of rows present now rule ids) x) row
+asked_row (auto_claim consumer rule start limit) now present cursor rows x row =
+    option_and_then (claimed consumer now rule (scan_of rows present now rule start limit).claim x) row
+
+-- the rows of these ids, where they have one
+abbrev pub rows_among : (Id → Option Row) → List Id → List (Id × Row)
+rows_among row_of [] = []
+rows_among row_of (x ∷ xs) = kept x (row_of x) (rows_among row_of xs)
+
+-- the row of an id, where it has one
+abbrev pub holding : Id → List Turn → Id → Option Row
+holding start [] x = None
+holding start (turn ∷ past) x =
+    let before = rows_among (λ y. holding start past y) (delivered start past) in
+    asked_row turn.ask turn.now turn.present (cursor start past) before x (holding start past x)
+
+-- all rows, in the order of their ids
+abbrev pub rows : Id → List Turn → List (Id × Row)
+rows start past = rows_among (λ x. holding start past x) (delivered start past)
+
+-- the turn delivers it, and not with NOACK
+abbrev pub delivers_pending : Id → List Turn → Turn → Id → Bool
+delivers_pending start past turn x = keeps_pending turn.ask && has_id (delivers_at turn (cursor start past)) x
+
+-- a claim takes it
+abbrev pub takes : Id → List Turn → Turn → Id → Bool
+takes start past turn x = has_id (claims_of turn (rows start past)).take x
+
+-- it is delivered without NOACK, or taken by a claim
+abbrev pub assigns : Id → List Turn → Turn → Id → Bool
+assigns start past turn x = delivers_pending start past turn x || takes start past turn x
+
+-- the consumer to whom it was last assigned
+abbrev pub last_assigned : Id → List Turn → Id → Option (List ℕ)
+last_assigned start [] x = None
+last_assigned start (turn ∷ past) x =
+    if assigns start past turn x then consumer_of turn.ask else last_assigned start past x
+
+-- this consumer is removed
+abbrev pub removes : Turn → Option (List ℕ) → Bool
+removes turn None = false
+removes turn (Some consumer) = drops_consumer turn.ask consumer
+
+-- it is acknowledged, the consumer to whom it was last assigned is removed, or a claim removes it
+abbrev pub settles : Id → List Turn → Turn → Id → Bool
+settles start past turn x =
+    acks turn.ask x
+    || (removes turn (last_assigned start past x) || has_id (claims_of turn (rows start past)).removed x)
+
+-- a turn has settled it since it was last assigned
+abbrev pub is_settled : Id → List Turn → Id → Bool
+is_settled start [] x = false
+is_settled start (turn ∷ past) x =
+    if assigns start past turn x then false else settles start past turn x || is_settled start past x
+
+-- the consumer to whom it was last assigned, if nothing has settled it since
+abbrev pub owner : Id → List Turn → Id → Option (List ℕ)
+owner start past x = if is_settled start past x then None else last_assigned start past x

@@ -1,16 +1,14 @@
 //! XADD over the map of keys.
 ghost use Rattle.std.specs.Prelude.{◌≡◌, Some, Ok, Err, None, true, is_ok, IfOk, OnErr, IsErrOf};
 ghost use Rattle.xs_bytes.specs.SortedMap as map;
-ghost use Rattle.xs_stream.specs.Id.{printed};
-ghost use Rattle.xs_stream.specs.Assigned.{assigned};
+ghost use Rattle.xs_stream.specs.Id.{printed, assigned};
 ghost use Rattle.xs_command.specs.WellFormed.{IsAddId};
 ghost use Rattle.xs_keys.specs.Life.{added};
-ghost use Rattle.xs_keys.specs.After.{stream_after};
-ghost use Rattle.xs_keys.specs.Adding.{text_of};
+ghost use Rattle.xs_keys.specs.Content.{stream_after};
+ghost use Rattle.xs_keys.specs.Adding.{text_of, Adds};
 ghost use Rattle.xs_keys.specs.Codes.{content_of};
 ghost use Rattle.xs_keys.specs.Reply.{fault_of};
-ghost use Rattle.xs_keys.specs.Step.{Step};
-ghost use Rattle.xs_keys.specs.Adding.{Adds};
+ghost use Rattle.xs_keys.specs.Headline.{Step};
 
 use crate::changing::Keys;
 use crate::showing::id_text;

@@ -1,10 +1,10 @@
 //! Commands that change the stream of a key, over the map of keys.
-ghost use Rattle.std.specs.Prelude.{◌≡◌};
+ghost use Rattle.std.specs.Prelude.{◌≡◌, length};
 ghost use Rattle.xs_bytes.specs.SortedMap as map;
 ghost use Rattle.xs_keys.specs.Life.{deleted, trimmed_to};
-ghost use Rattle.xs_keys.specs.After.{changed, without_keys};
+ghost use Rattle.xs_keys.specs.Content.{changed, without_keys, entries_in};
 ghost use Rattle.xs_keys.specs.Codes.{content_of};
-ghost use Rattle.xs_keys.specs.Reply.{removed_by, len_of, existing};
+ghost use Rattle.xs_keys.specs.Reply.{removed_by, existing};
 
 use crate::slot::Slot;
 use std::collections::BTreeMap;
@@ -38,7 +38,7 @@ pub fn trim(keys: &mut Keys, key: &Bytes, trim: Trim) -> u64
 
 /// How many entries a key has (XLEN).
 pub fn len(keys: &Keys, key: &Bytes) -> u64
-    ensures { result ≡ len_of (map.get (content_of keys.now.entries) key.now) }
+    ensures { result ≡ length (entries_in (map.get (content_of keys.now.entries) key.now)) }
 {
     match keys.get(key) {
         None => 0,

@@ -2,8 +2,7 @@
 ghost use Rattle.std.specs.Prelude.{◌≡◌, IfOk, OnErr, All};
 ghost use Rattle.xs_bytes.specs.SortedMap as map;
 ghost use Rattle.xs_command.specs.WellFormed.{IsAddId, IsWellFormed};
-ghost use Rattle.xs_keys.specs.Step.{Step};
-ghost use Rattle.xs_keys.specs.Headline.{RunsOn};
+ghost use Rattle.xs_keys.specs.Headline.{Step, RunsOn};
 
 use crate::changing::Keys;
 use crate::{adding, changing, showing};

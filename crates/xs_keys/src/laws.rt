@@ -9,17 +9,11 @@ ghost use Rattle.xs_stream.specs.Kept.{Ascends, AllAbove, AllUpTo, ids_of};
 ghost use Rattle.xs_group.specs.State.{is_name};
 ghost use Rattle.xs_command.specs.declared.command.Command.{Command};
 ghost use Rattle.xs_command.specs.WellFormed.{IsWellFormed};
-ghost use Rattle.xs_keys.specs.Life.{Change, key_life};
-ghost use Rattle.xs_keys.specs.Given.{given_in, live, top};
-ghost use Rattle.xs_keys.specs.Delivered.{delivered, cursor};
-ghost use Rattle.xs_keys.specs.Holding.{holding};
-ghost use Rattle.xs_keys.specs.Owner.{owner};
-ghost use Rattle.xs_keys.specs.GroupLife.{GroupLife, group_life, group_of};
-ghost use Rattle.xs_keys.specs.Content.{Content, IsContent};
-ghost use Rattle.xs_keys.specs.After.{after};
-ghost use Rattle.xs_keys.specs.Lawful.{IsLawfulContent};
-ghost use Rattle.xs_keys.specs.Promise.{HadItsTurn, OwnedUntilSettled, ChangesByClaims};
-ghost use Rattle.xs_keys.specs.Apart.{asks_new, delivered_by, GoesOn};
+ghost use Rattle.xs_keys.specs.Life.{Change, key_life, given_in, live, top};
+ghost use Rattle.xs_keys.specs.Turn.{delivered, cursor, holding, owner};
+ghost use Rattle.xs_keys.specs.GroupLife.{GroupLife, group_life, group_of, asks_new, delivered_by, GoesOn};
+ghost use Rattle.xs_keys.specs.Content.{Content, IsContent, after, IsLawfulContent};
+ghost use Rattle.xs_keys.specs.Headline.{HadItsTurn, OwnedUntilSettled, ChangesByClaims};
 
 /// The empty history leaves the empty content; an event leads from the content of a history to the
 /// content of the history followed by it; a history has one content; and that is lawful.

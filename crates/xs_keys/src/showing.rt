@@ -6,8 +6,8 @@ ghost use Rattle.xs_stream.specs.Id.{printed};
 ghost use Rattle.xs_stream.specs.Kept.{limited, ids_within};
 ghost use Rattle.xs_resp.specs.ReplyItems.{items_of};
 ghost use Rattle.xs_keys.specs.Codes.{content_of};
-ghost use Rattle.xs_keys.specs.Shape.{array, field_replies, entry_reply};
-ghost use Rattle.xs_keys.specs.Reply.{scan_reply};
+ghost use Rattle.xs_keys.specs.Content.{entries_in};
+ghost use Rattle.xs_keys.specs.Reply.{array, field_replies, entry_reply, entries_reply};
 
 use crate::changing::Keys;
 use std::alloc::{AllocError, Global};
@@ -88,7 +88,8 @@ fn range_shown(alloc: Global, stream: &Stream, scan: &ScanCommand) -> Result<Rep
 
 /// The entries of a range of a key (XRANGE and XREVRANGE), or that memory ran out.
 pub fn scan(keys: &Keys, alloc: Global, scan: &ScanCommand) -> Reply
-    ensures { (result ≡ scan_reply scan.now (finmap.get (content_of keys.now.entries) scan.now.key)) ⊎ (result ≡ Reply.Error Fault.Memory) }
+    ensures { let entries = entries_in (finmap.get (content_of keys.now.entries) scan.now.key) in
+        (result ≡ entries_reply entries (limited scan.now.limit (ids_within scan.now.range scan.now.reversed entries))) ⊎ (result ≡ Reply.Error Fault.Memory) }
 {
     let Some(slot) = keys.get(&scan.key) else {
         return Reply::Array(Replies::new(Vec::new(alloc)));

@@ -9,7 +9,7 @@ use Rattle.xs_command.specs.declared.command.Command.{Command}
 use Rattle.xs_command.specs.Read.{reads}
 use Rattle.xs_keys.specs.Content.{Content, IsContent}
 use Rattle.xs_keys.specs.Reply.{reply}
-use Rattle.xs_keys.specs.Step.{is_served, takes_memory}
+use Rattle.xs_keys.specs.Headline.{is_served, takes_memory}
 use Rattle.xs_server.specs.Line.{is_line_end, line_of}
 
 -- the answer to a command over a history, and the history that follows: the model's reply, and the event is

@@ -5,7 +5,7 @@ use Rattle.xs_resp.specs.declared.reply.Reply.{Reply}
 use Rattle.xs_resp.specs.declared.reply.Reply.TheVariants.{Error}
 use Rattle.xs_command.specs.Read.{reads}
 use Rattle.xs_keys.specs.Content.{Content}
-use Rattle.xs_keys.specs.Step.{Step}
+use Rattle.xs_keys.specs.Headline.{Step}
 
 -- the words of a request are answered: their command is one step of the keyspace, their fault changes nothing,
 -- and neither does want of memory

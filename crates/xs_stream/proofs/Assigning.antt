@@ -6,8 +6,7 @@ use Rattle.xs_stream.specs.declared.add.AddId.{AddId}
 use Rattle.xs_stream.specs.declared.add.AddId.TheVariants.{Auto, AutoSeq, Exact}
 use Rattle.xs_stream.specs.declared.add.AddError.{AddError}
 use Rattle.xs_stream.specs.declared.add.AddError.TheVariants.{Small, Exhausted}
-use Rattle.xs_stream.specs.Id.{is_below, is_same, last, greatest_id}
-use Rattle.xs_stream.specs.Assigned.{assigned, assigned_above, successor}
+use Rattle.xs_stream.specs.Id.{is_below, is_same, last, greatest_id, assigned, assigned_above, successor}
 
 -- later milliseconds are above
 below-later : (m n s t : ℕ) → m < n → is_below (record { ms = m; seq = s }) (record { ms = n; seq = t }) ≡ true

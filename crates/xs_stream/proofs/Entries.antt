@@ -11,13 +11,12 @@ use Rattle.std.specs.BTreeMap.{insert_entry}
 use Rattle.std.specs.BTreeMap.Range.{range_contains, entries_between}
 use Rattle.std.specs.declared.ops.Bound.TheVariants.{Included, Excluded, Unbounded}
 use Rattle.xs_stream.specs.declared.range.Range.{Range}
-use Rattle.xs_stream.specs.Range.{is_within}
+use Rattle.xs_stream.specs.Kept.{is_within, count_above, Kept, ids_of, AllAbove, Ascends, AllUpTo, without, trimmed, limited}
 use Rattle.xs_stream.specs.declared.id.Id.{Id}
 use Rattle.xs_stream.specs.declared.field.Field.{Field}
 use Rattle.xs_stream.specs.declared.trim.Trim.TheVariants.{MaxLen, MinId}
 use Rattle.xs_stream.specs.Id.{id_cmp, is_below, is_same, has_id}
-use Rattle.xs_stream.specs.Trim.{count_above}
-use Rattle.xs_stream.specs.Kept.{Kept, IsLawful, ids_of, AllIds, IsId, AllAbove, Ascends, AllUpTo, without, trimmed, limited}
+use Rattle.xs_stream.specs.Lawful.{IsLawful, AllIds, IsId}
 use Rattle.xs_stream.proofs.Order.{is_same-eq, is_same-symm, below-not_same, below-not_back, below-irrefl, up_to-below, above-greater, not_below-above, le-not_below, not_le-below, below-not_below}
 
 -- ---- an addition

@@ -1,18 +1,13 @@
--- What a stream keeps, and what trims, deletions and ranges leave and show of it.
-use Rattle.std.specs.Prelude.{◌≡◌, ℕ, ◌<◌, ◌^◌, Bool, true, false, not, List, [], ◌∷◌, map, filter, reverse, take}
-use Rattle.std.specs.Prelude.{Option, Some, None, if◌then◌else◌}
+-- What a stream keeps, and what ranges, deletions and trims show and leave of it. (Redis, XRANGE, XDEL and XTRIM.)
+use Rattle.std.specs.Prelude.{◌≡◌, ℕ, Bool, true, false, ◌&&◌, not, List, [], ◌∷◌, map, filter, length, reverse, take}
+use Rattle.std.specs.Prelude.{nat_le, Option, Some, None, if◌then◌else◌}
 use Rattle.std.specs.Map.{lookup}
 use Rattle.xs_stream.specs.declared.id.Id.{Id}
 use Rattle.xs_stream.specs.declared.field.Field.{Field}
 use Rattle.xs_stream.specs.declared.range.Range.{Range}
 use Rattle.xs_stream.specs.declared.trim.Trim.{Trim}
+use Rattle.xs_stream.specs.declared.trim.Trim.TheVariants.{MaxLen, MinId}
 use Rattle.xs_stream.specs.Id.{is_below, is_same, has_id}
-use Rattle.xs_stream.specs.Range.{is_within}
-use Rattle.xs_stream.specs.Trim.{is_trimmed}
-
--- an id with its fields
-abbrev pub Entry : Type 0
-Entry = Id × List Field
 
 -- the greatest id ever added, and the entries in the order of their ids
 pub record Kept : Type 0 where
@@ -21,14 +16,6 @@ pub record Kept : Type 0 where
 
 abbrev pub ids_of : List (Id × List Field) → List Id
 ids_of entries = map (λ e. e.0) entries
-
--- both numbers are below 2^64
-abbrev pub IsId : Id → Type 0
-IsId id = (id.ms < 2 ^ 64) × (id.seq < 2 ^ 64)
-
-abbrev pub AllIds : List Id → Type 0
-AllIds [] = Unit {0}
-AllIds (x ∷ xs) = IsId x × AllIds xs
 
 -- x is below each of these
 abbrev pub AllAbove : Id → List Id → Type 0
@@ -45,13 +32,6 @@ abbrev pub AllUpTo : Id → List Id → Type 0
 AllUpTo top [] = Unit {0}
 AllUpTo top (x ∷ xs) = (is_below top x ≡ false) × AllUpTo top xs
 
--- the ids ascend, none is above the top, and all are ids
-pub record IsLawful (kept : Kept) : Type 0 where
-  pub ascends : Ascends (ids_of kept.entries)
-  pub up_to_top : AllUpTo kept.top (ids_of kept.entries)
-  pub top_is_id : IsId kept.top
-  pub ids : AllIds (ids_of kept.entries)
-
 -- the fields of an entry
 abbrev pub fields_at : List (Id × List Field) → Id → Option (List Field)
 fields_at entries id = lookup (is_same id) entries
@@ -60,9 +40,22 @@ fields_at entries id = lookup (is_same id) entries
 abbrev pub without : List Id → List (Id × List Field) → List (Id × List Field)
 without ids entries = filter (λ e. not (has_id ids e.0)) entries
 
+-- how many of these ids are above x
+abbrev pub count_above : Id → List Id → ℕ
+count_above x ids = length (filter (λ y. is_below x y) ids)
+
+-- MAXLEN n drops an id with n greater ones or more; MINID drops those below its own
+abbrev pub is_trimmed : Trim → List Id → Id → Bool
+is_trimmed (MaxLen n) ids x = nat_le n (count_above x ids)
+is_trimmed (MinId low) ids x = is_below x low
+
 -- the entries that a trim keeps
 abbrev pub trimmed : Trim → List (Id × List Field) → List (Id × List Field)
 trimmed trim entries = filter (λ e. not (is_trimmed trim (ids_of entries) e.0)) entries
+
+-- both ends belong to a range
+abbrev pub is_within : Range → Id → Bool
+is_within range id = not (is_below id range.low) && not (is_below range.high id)
 
 abbrev pub limited : Option ℕ → List Id → List Id
 limited None ids = ids

@@ -1,10 +1,9 @@
 //! A stream: its top id and its entries, in the order of their ids.
 ghost use Rattle.std.specs.Prelude.{◌≡◌, ◌↔◌, ◌+◌, ◌-◌, ◌++◌, ◌∷◌, [], false, Ok, Err, IfOk, OnErr, IsErrOf, length, filter, take, drop, reverse};
 ghost use Rattle.std.specs.Option.{option_map};
-ghost use Rattle.xs_stream.specs.Id.{zero_id, is_below};
-ghost use Rattle.xs_stream.specs.Range.{is_within};
-ghost use Rattle.xs_stream.specs.Assigned.{assigned};
-ghost use Rattle.xs_stream.specs.Kept.{IsLawful, Ascends, ids_of, fields_at, without, trimmed, ids_within, limited};
+ghost use Rattle.xs_stream.specs.Id.{zero_id, is_below, assigned};
+ghost use Rattle.xs_stream.specs.Kept.{is_within, Ascends, ids_of, fields_at, without, trimmed, ids_within, limited};
+ghost use Rattle.xs_stream.specs.Lawful.{IsLawful};
 
 use crate::add::{AddError, AddId};
 use crate::field::{Field, Fields};
@@ -25,7 +24,8 @@ pub struct Stream {
 }
 
 impl Model for Stream {
-    ghost use Rattle.xs_stream.specs.Kept.{Kept, IsLawful};
+    ghost use Rattle.xs_stream.specs.Kept.{Kept};
+    ghost use Rattle.xs_stream.specs.Lawful.{IsLawful};
 
     ghost Value = { Kept };
 

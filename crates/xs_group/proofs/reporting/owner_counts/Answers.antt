@@ -4,8 +4,8 @@ use Rattle.std.specs.BTreeSet.{BTreeSet}
 use Rattle.std.specs.Map.{keys_of}
 use Rattle.xs_stream.specs.declared.id.Id.{Id}
 use Rattle.xs_group.specs.declared.report.OwnerCount.{OwnerCount}
-use Rattle.xs_group.specs.State.{Row, rows_of}
-use Rattle.xs_group.specs.Read.{owned}
+use Rattle.xs_group.specs.State.{Row, owned}
+use Rattle.xs_group.specs.Held.{rows_of}
 use Rattle.xs_group.specs.Report.{counted}
 use Rattle.xs_group.proofs.OwnIds.{owned-some}
 use Rattle.xs_group.proofs.Telling.{AreHeld, held-all, keys-names_of}

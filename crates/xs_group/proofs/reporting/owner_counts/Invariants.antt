@@ -1,6 +1,6 @@
 use Rattle.std.proofs.Common.{◌≡◌, ◌++◌, filter, ltb}
 use Rattle.std.specs.Map.{keys_of}
-use Rattle.xs_group.specs.State.{rows_of}
+use Rattle.xs_group.specs.Held.{rows_of}
 use Rattle.xs_group.specs.Report.{counted}
 use Rattle.xs_group.proofs.Telling.{AreHeld}
 use Rattle.xs_group.proofs.reporting.owner_counts.Given as goal

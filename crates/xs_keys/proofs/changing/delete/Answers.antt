@@ -1,8 +1,7 @@
 use Rattle.std.proofs.Common.{◌≡◌, Some, None, length, is_some, sym, ap, ◌∙◌, refl, arith}
 use Rattle.xs_bytes.specs.SortedMap as map
 use Rattle.xs_keys.specs.Life.{deleted}
-use Rattle.xs_keys.specs.Content.{Key}
-use Rattle.xs_keys.specs.After.{key_after}
+use Rattle.xs_keys.specs.Content.{Key, key_after}
 use Rattle.xs_keys.specs.Codes.{content_of}
 use Rattle.xs_keys.proofs.Maps.{get-content_of, content-insert}
 use Rattle.xs_keys.proofs.changing.delete.Goals as goal

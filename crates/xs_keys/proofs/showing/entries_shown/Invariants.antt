@@ -1,5 +1,5 @@
 use Rattle.std.proofs.Common.{◌≡◌, take, map}
-use Rattle.xs_keys.specs.Shape.{entry_reply}
+use Rattle.xs_keys.specs.Reply.{entry_reply}
 use Rattle.xs_keys.proofs.showing.entries_shown.Given as goal
 
 -- the entries so far

@@ -1,6 +1,6 @@
 use Rattle.std.proofs.Common.{◌≡◌, take}
 use Rattle.std.specs.List.{flat_map}
-use Rattle.xs_keys.specs.Shape.{field_replies}
+use Rattle.xs_keys.specs.Reply.{field_replies}
 use Rattle.xs_keys.proofs.showing.fields_shown.Given as goal
 
 -- the fields so far

@@ -1,6 +1,5 @@
 use Rattle.std.proofs.Common.{◌≡◌, ◌≤◌, ◌++◌, filter, length, reverse}
-use Rattle.xs_stream.specs.Range.{is_within}
-use Rattle.xs_stream.specs.Kept.{ids_of}
+use Rattle.xs_stream.specs.Kept.{is_within, ids_of}
 use Rattle.xs_stream.proofs.stream.ids_down.Given as goal
 
 -- the ids so far and those to come are those of the range, from its end

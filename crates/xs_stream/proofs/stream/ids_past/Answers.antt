@@ -1,4 +1,4 @@
-use Rattle.std.proofs.Common.{◌≡◌, [], ◌∷◌, ap, sym, ◌∙◌, arith, append_assoc, inl, inr, length}
+use Rattle.std.proofs.Common.{ap, ◌∙◌, arith, append_assoc, inl, inr}
 use Rattle.xs_stream.specs.Kept.{ids_of}
 use Rattle.xs_stream.proofs.Entries.{ids_of-past, taken}
 use Rattle.xs_stream.proofs.stream.ids_past.Goals as goal

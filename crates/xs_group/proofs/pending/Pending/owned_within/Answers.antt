@@ -1,6 +1,6 @@
 use Rattle.std.proofs.Common.{◌≡◌, IfOk, [], filter, map, take, sym, ap, ◌∙◌, subst}
 use Rattle.xs_group.specs.Report.{pending_row}
-use Rattle.xs_group.specs.State.{rows_of}
+use Rattle.xs_group.specs.Held.{rows_of}
 use Rattle.xs_group.specs.Listing.{is_told, rows_among}
 use Rattle.xs_group.proofs.OwnIds.{owned-none, owned-some}
 use Rattle.xs_group.proofs.Ordered.{entries-rows_of}

@@ -1,9 +1,8 @@
 use Rattle.std.proofs.Common.{◌≡◌, ◌&&◌, ◌||◌, ℕ, List, sym, ap, ◌∙◌, is_some, None}
 use Rattle.xs_stream.specs.declared.id.Id.{Id}
 use Rattle.xs_stream.specs.Id.{is_same}
-use Rattle.xs_group.specs.Held.{ids_at, names_of, holds, row_in}
-use Rattle.xs_group.specs.State.{has_name, rows_of, is_name, put_row}
-use Rattle.xs_group.specs.Read.{first_row}
+use Rattle.xs_group.specs.Held.{ids_at, names_of, holds, row_in, put_row, rows_of}
+use Rattle.xs_group.specs.State.{has_name, is_name, first_row}
 use Rattle.xs_bytes.specs.SortedMap.{has_key}
 use Rattle.xs_group.proofs.pending.Pending.put.Goals as goal
 use Rattle.xs_group.proofs.pending.Pending.put.Goals.{In-Ok-insert}

@@ -1,9 +1,8 @@
 use Rattle.std.proofs.Common.{get_or, take, sym, ap, ◌∙◌}
 use Rattle.std.proofs.lemmas.List.{take_more}
 use Rattle.xs_bytes.specs.SortedMap.{change, has_key}
-use Rattle.xs_group.specs.State.{put_row}
-use Rattle.xs_group.specs.Read.{first_row, with_rows}
-use Rattle.xs_group.specs.Changes.{unless_acked}
+use Rattle.xs_group.specs.Held.{put_row}
+use Rattle.xs_group.specs.State.{first_row, with_rows, unless_acked}
 use Rattle.xs_group.proofs.pending.Pending.put_all.Goals as goal
 use Rattle.xs_group.proofs.Putting.{free-more, out-again, free-take, with_rows-more}
 

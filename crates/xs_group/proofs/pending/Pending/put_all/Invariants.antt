@@ -1,5 +1,5 @@
 use Rattle.std.proofs.Common.{◌≡◌, take}
-use Rattle.xs_group.specs.Read.{first_row, with_rows}
+use Rattle.xs_group.specs.State.{first_row, with_rows}
 use Rattle.xs_group.proofs.pending.Pending.put_all.Given as goal
 
 -- the ids so far are in

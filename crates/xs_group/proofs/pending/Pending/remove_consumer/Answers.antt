@@ -1,8 +1,7 @@
 use Rattle.std.proofs.Common.{[], Option, sym, ap, ◌∙◌, length}
 use Rattle.std.specs.BTreeSet.{BTreeSet}
 use Rattle.xs_stream.specs.declared.id.Id.{Id}
-use Rattle.xs_group.specs.State.{rows_of}
-use Rattle.xs_group.specs.Held.{names_of, is_owner, has_among}
+use Rattle.xs_group.specs.Held.{rows_of, names_of, is_owner, has_among}
 use Rattle.xs_group.proofs.pending.Pending.remove_consumer.Goals as goal
 use Rattle.xs_group.proofs.Views.{get-rows_of}
 use Rattle.xs_group.proofs.Ordered.{ids-owned, sorted-none}

@@ -1,6 +1,6 @@
 use Rattle.std.proofs.Common.{◌≡◌, Ok, rules, arith, refl}
-use Rattle.xs_stream.specs.Kept.{IsId}
-use Rattle.xs_stream.specs.Assigned.{assigned}
+use Rattle.xs_stream.specs.Lawful.{IsId}
+use Rattle.xs_stream.specs.Id.{assigned}
 use Rattle.xs_stream.proofs.Assigning.{assigned-above}
 use Rattle.xs_stream.proofs.Entries.{insert-last, lawful-push}
 use Rattle.xs_stream.proofs.stream.Stream.add.Goals as goal

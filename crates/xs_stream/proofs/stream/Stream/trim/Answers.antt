@@ -1,8 +1,7 @@
 use Rattle.std.proofs.Common.{◌≡◌, ◌≤◌, ap, sym, ◌∙◌, refl, arith, length, not}
 use Rattle.std.proofs.lemmas.List.{length-drop}
 use Rattle.xs_stream.specs.Id.{is_below}
-use Rattle.xs_stream.specs.Trim.{is_trimmed}
-use Rattle.xs_stream.specs.Kept.{ids_of, trimmed}
+use Rattle.xs_stream.specs.Kept.{is_trimmed, ids_of, trimmed}
 use Rattle.xs_stream.proofs.Entries.{trimmed-max_len, trimmed-min_id, lawful-filter, length-filter-le}
 use Rattle.xs_stream.proofs.stream.Stream.trim.Goals as goal
 use Rattle.xs_stream.proofs.stream.Stream.trim.Goals.{in-MaxLen, in-MinId}
