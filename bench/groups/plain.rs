@@ -142,8 +142,8 @@ fn once(stream: &BTreeMap<Id, Vec<u8>>, n: u64, work: &str) -> u64 {
             }
         }
         "owner" => {
-            for k in 0..n {
-                let told: Vec<(Id, Vec<u8>, u64, u64)> = group.owners[&name(7)].1.range((k + 1, 0)..).take(10)
+            for k in 0..n * 10 {
+                let told: Vec<(Id, Vec<u8>, u64, u64)> = group.owners[&name(7)].1.range((k % n + 1, 0)..).take(10)
                     .map(|id| (id, &group.rows[id])).map(|(id, row)| (*id, row.consumer.to_vec(), 1000 - row.time, row.count)).collect();
                 total += told.len() as u64;
             }
