@@ -6,7 +6,8 @@
 Each round has 400 commands of streams over two keys, from the empty keyspace on. Ids and bounds are small numbers and
 the greatest ones, so that they meet. The words are those of which this server and Redis say the same: no `*`, whose
 moment a script says itself, no `~`, and no COUNT below 1. A reply has to be that of Redis, byte by byte; an error has
-to be an error. The first ten that differ are shown. The last line is 'N passed, M failed', by commands; the status is 1 where M > 0.
+to be an error. The first ten that differ are shown. The last line is 'N passed, M failed', by commands; the status
+is 1 where M > 0.
 """
 import argparse
 import io
