@@ -135,12 +135,12 @@ fn a_refused_claim_leaves_time_and_count(rt: HostRuntime) -> Result<(), Fail> {
 #[test]
 fn a_refused_reading_is_taken_back(rt: HostRuntime) -> Result<(), Fail> {
     let steps = [
-        Step::DeliverUndone(b'c', 5, false),
+        Step::DeliverUndone(b'c', 5, false, 2),
         Step::Rows(5, &[]),
-        Step::DeliverUndone(b'c', 5, true),
+        Step::DeliverUndone(b'c', 5, true, 2),
         Step::Add(b'c', true),
         Step::Deliver(b'c', 5, None, false, &[1, 2], false),
-        Step::HistoryUndone(b'c', 9),
+        Step::HistoryUndone(b'c', 9, 2),
         Step::Rows(9, &[(1, b'c', 4, 1), (2, b'c', 4, 1)]),
         Step::History(b'c', 9, 0, None, &[(1, true), (2, true)]),
         Step::Rows(9, &[(1, b'c', 0, 2), (2, b'c', 0, 2)]),

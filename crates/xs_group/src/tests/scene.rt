@@ -19,10 +19,10 @@ pub(super) enum Step<'a> {
     Deliver(u8, u64, Option<u64>, bool, &'a [u64], bool),
     /// Shows own entries: consumer, now, from, limit; the ids, each in the stream or not.
     History(u8, u64, u64, Option<u64>, &'a [(u64, bool)]),
-    /// Delivers new entries, and takes that back.
-    DeliverUndone(u8, u64, bool),
-    /// Shows own entries, and takes that back.
-    HistoryUndone(u8, u64),
+    /// Delivers new entries, and takes that back: consumer, now, noack; how many there were.
+    DeliverUndone(u8, u64, bool, usize),
+    /// Shows own entries, and takes that back: consumer, now; how many there were.
+    HistoryUndone(u8, u64, usize),
     /// Acknowledges these ids; how many were pending.
     Ack(&'a [u64], u64),
     /// Makes a consumer; whether it is new.
@@ -180,7 +180,7 @@ impl Scene {
         consumer: u8,
         now: u64,
         noack: bool,
-    ) -> Result<bool, AllocError> {
+    ) -> Result<usize, AllocError> {
         let consumer = name(self.alloc, consumer)?;
         deliver_and_undo(
             &mut self.group,
@@ -190,11 +190,10 @@ impl Scene {
             at(now)?,
             None,
             noack,
-        )?;
-        Ok(true)
+        )
     }
 
-    pub(super) fn history_undone(&mut self, consumer: u8, now: u64) -> Result<bool, AllocError> {
+    pub(super) fn history_undone(&mut self, consumer: u8, now: u64) -> Result<usize, AllocError> {
         let consumer = name(self.alloc, consumer)?;
         history_and_undo(
             &mut self.group,
@@ -204,8 +203,7 @@ impl Scene {
             at(now)?,
             Id::ZERO,
             None,
-        )?;
-        Ok(true)
+        )
     }
 
     pub(super) fn claim(
@@ -315,10 +313,12 @@ impl Scene {
                 let read = self.history(*consumer, *now, *from, *limit)?;
                 Ok(are_shown(read.rows.as_slice(), rows))
             }
-            Step::DeliverUndone(consumer, now, noack) => self.deliver_undone(
-                *consumer, *now, *noack,
-            ),
-            Step::HistoryUndone(consumer, now) => self.history_undone(*consumer, *now),
+            Step::DeliverUndone(consumer, now, noack, count) => {
+                Ok(self.deliver_undone(*consumer, *now, *noack)? == *count)
+            }
+            Step::HistoryUndone(consumer, now, count) => {
+                Ok(self.history_undone(*consumer, *now)? == *count)
+            }
             Step::Ack(ids, count) => Ok(self.ack(ids)? == *count),
             Step::Add(consumer, made) => Ok(self.add(*consumer)? == *made),
             Step::Remove(consumer, count) => Ok(self.remove(*consumer)? == *count),
