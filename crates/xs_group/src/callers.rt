@@ -1,7 +1,8 @@
 //! Calls that stand one after another: a read that is taken back, and a claim that is found and carried out.
-ghost use Rattle.std.specs.Prelude.{◌≡◌, IfOk, OnErr};
+ghost use Rattle.std.specs.Prelude.{◌≡◌, length, IfOk, OnErr};
 ghost use Rattle.xs_stream.specs.Kept.{ids_of};
 ghost use Rattle.xs_group.specs.Claims.{claim_of, scan_of, settled_by};
+ghost use Rattle.xs_group.specs.Delivered.{delivery_of, history_of};
 
 use crate::claim::{Claim, Scan};
 use crate::claim_rule::ClaimRule;
@@ -10,7 +11,7 @@ use std::alloc::{AllocError, Global};
 use xs_bytes::Bytes;
 use xs_stream::{Id, Moment, Stream};
 
-/// Delivers new entries, and takes that back.
+/// Delivers new entries, takes that back, and says how many there were.
 pub fn deliver_and_undo(
     group: &mut Group,
     alloc: Global,
@@ -19,16 +20,18 @@ pub fn deliver_and_undo(
     now: Moment,
     limit: Option<u64>,
     noack: bool,
-) -> Result<(), AllocError>
-    ensures { group.new ≡ group.old }
+) -> Result<usize, AllocError>
+    ensures count { IfOk result (λ count. let d = delivery_of consumer.now limit noack (ids_of stream.now.entries) group.old in count ≡ length d.rows) }
+    ensures same { group.new ≡ group.old }
 {
     group.lawful();
     let delivery = group.deliver(alloc, stream, consumer, now, limit, noack)?;
+    let count = delivery.rows.as_slice().len();
     group.undo(delivery);
-    Ok(())
+    Ok(count)
 }
 
-/// Shows a consumer its own entries, and takes that back.
+/// Shows a consumer its own entries, takes that back, and says how many there were.
 pub fn history_and_undo(
     group: &mut Group,
     alloc: Global,
@@ -37,13 +40,15 @@ pub fn history_and_undo(
     now: Moment,
     from: Id,
     limit: Option<u64>,
-) -> Result<(), AllocError>
-    ensures { group.new ≡ group.old }
+) -> Result<usize, AllocError>
+    ensures count { IfOk result (λ count. let d = history_of consumer.now limit from (ids_of stream.now.entries) group.old in count ≡ length d.rows) }
+    ensures same { group.new ≡ group.old }
 {
     group.lawful();
     let delivery = group.history(alloc, stream, consumer, now, from, limit)?;
+    let count = delivery.rows.as_slice().len();
     group.undo(delivery);
-    Ok(())
+    Ok(count)
 }
 
 /// Claims entries by their ids.

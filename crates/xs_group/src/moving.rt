@@ -24,7 +24,8 @@ fn is_same_name(a: &Bytes, b: &Bytes) -> bool
 
 /// A row of a consumer, where it has one.
 pub(crate) fn row_of<'a>(rows: &'a Rows, owners: &Owners, name: &Bytes) -> Option<&'a Entry>
-    ensures { IfSome result (λ entry. entry.now.consumer ≡ name.now) }
+    ensures whose { IfSome result (λ entry. entry.now.consumer ≡ name.now) }
+    ensures found { IsAgreed rows.now.entries owners.now.entries → (x : Id) → is_owner (row_in rows.now.entries x) name.now ≡ true → IsSome result }
 {
     let ids = owners.get(name)?;
     let id = ids.first()?;

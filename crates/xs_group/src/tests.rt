@@ -6,12 +6,16 @@ use xs_stream::{Id, Range};
 
 mod scene;
 mod shown;
+mod without;
 
-use scene::{ALL, Scene, Step, at, filled, id, name, play};
+use scene::{ALL, Step, id, play};
+
+// A test named a_refused.. also runs with one of its allocations refused, each in turn. `play` then wants the group as
+// it was, and takes the step again.
 
 // A deleted entry is passed over at its turn.
 #[test]
-fn delivers_past_the_cursor(rt: HostRuntime) -> Result<(), Fail> {
+fn a_refused_delivery_leaves_the_cursor(rt: HostRuntime) -> Result<(), Fail> {
     let steps = [
         Step::Delete(2),
         Step::Deliver(b'c', 2, Some(1), false, &[1], true),
@@ -26,7 +30,7 @@ fn delivers_past_the_cursor(rt: HostRuntime) -> Result<(), Fail> {
 
 // A consumer's own pending entries, one of them deleted; another one has none.
 #[test]
-fn shows_own_entries(rt: HostRuntime) -> Result<(), Fail> {
+fn a_refused_history_leaves_times_and_counts(rt: HostRuntime) -> Result<(), Fail> {
     let steps = [
         Step::Deliver(b'c', 100, None, false, &[1, 2], true),
         Step::Delete(1),
@@ -41,7 +45,7 @@ fn shows_own_entries(rt: HostRuntime) -> Result<(), Fail> {
 
 // Acknowledged once; a consumer that is removed takes its entries along, and they don't come again.
 #[test]
-fn settles_entries(rt: HostRuntime) -> Result<(), Fail> {
+fn a_refused_consumer_is_made_again(rt: HostRuntime) -> Result<(), Fail> {
     let steps = [
         Step::Deliver(b'c', 2, None, false, &[1, 2, 3], true),
         Step::Ack(&[1, 1, 9], 1),
@@ -59,7 +63,7 @@ fn settles_entries(rt: HostRuntime) -> Result<(), Fail> {
 
 // Without acknowledgement nothing is pending, and the cursor moves all the same.
 #[test]
-fn delivers_without_pending(rt: HostRuntime) -> Result<(), Fail> {
+fn a_refused_delivery_without_pending_leaves_the_cursor(rt: HostRuntime) -> Result<(), Fail> {
     let steps = [
         Step::Deliver(b'c', 2, Some(1), true, &[1], true),
         Step::Rows(2, &[]),
@@ -71,7 +75,7 @@ fn delivers_without_pending(rt: HostRuntime) -> Result<(), Fail> {
 
 // Claims by id: equal idle is enough, an id counts once, a deleted entry goes.
 #[test]
-fn claims_by_id(rt: HostRuntime) -> Result<(), Fail> {
+fn a_refused_claim_leaves_owners(rt: HostRuntime) -> Result<(), Fail> {
     let steps = [
         Step::Deliver(b'c', 100, None, false, &[1, 2], true),
         Step::Claim(b'd', 149, 50, &[1], &[], &[]),
@@ -88,7 +92,7 @@ fn claims_by_id(rt: HostRuntime) -> Result<(), Fail> {
 
 // Claims by a scan: it stops at so many hits or ten times as many ids, and names the next id.
 #[test]
-fn claims_by_a_scan(rt: HostRuntime) -> Result<(), Fail> {
+fn a_refused_scan_leaves_owners(rt: HostRuntime) -> Result<(), Fail> {
     let next = Id { ms: 2, seq: 1 };
     let steps = [
         Step::Deliver(
@@ -110,7 +114,7 @@ fn claims_by_a_scan(rt: HostRuntime) -> Result<(), Fail> {
 
 // The time and the count of a claim. A count stops rising at its greatest.
 #[test]
-fn sets_time_and_count(rt: HostRuntime) -> Result<(), Fail> {
+fn a_refused_claim_leaves_time_and_count(rt: HostRuntime) -> Result<(), Fail> {
     let most = 9_223_372_036_854_775_807;
     let steps = [
         Step::Deliver(b'c', 100, None, false, &[1], true),
@@ -129,14 +133,14 @@ fn sets_time_and_count(rt: HostRuntime) -> Result<(), Fail> {
 
 // A read that is taken back can be made again, and answers the same.
 #[test]
-fn reads_again_after_an_undoing(rt: HostRuntime) -> Result<(), Fail> {
+fn a_refused_reading_is_taken_back(rt: HostRuntime) -> Result<(), Fail> {
     let steps = [
-        Step::DeliverUndone(b'c', 5, false),
+        Step::DeliverUndone(b'c', 5, false, 2),
         Step::Rows(5, &[]),
-        Step::DeliverUndone(b'c', 5, true),
+        Step::DeliverUndone(b'c', 5, true, 2),
         Step::Add(b'c', true),
         Step::Deliver(b'c', 5, None, false, &[1, 2], false),
-        Step::HistoryUndone(b'c', 9),
+        Step::HistoryUndone(b'c', 9, 2),
         Step::Rows(9, &[(1, b'c', 4, 1), (2, b'c', 4, 1)]),
         Step::History(b'c', 9, 0, None, &[(1, true), (2, true)]),
         Step::Rows(9, &[(1, b'c', 0, 2), (2, b'c', 0, 2)]),
@@ -144,90 +148,56 @@ fn reads_again_after_an_undoing(rt: HostRuntime) -> Result<(), Fail> {
     Ok(play(&rt, rt.alloc(), 2, 0, steps.as_slice())?)
 }
 
-/// The consumers of the short form, in the order in which they are told.
-fn are_owners(owners: &[OwnerCount], wanted: &[(u8, u64)]) -> bool {
-    let mut same = owners.len() == wanted.len();
-    for (owner, want) in owners.iter().zip(wanted) {
-        same = same && owner.consumer.as_slice() == [want.0].as_slice() && owner.count == want.1;
-    }
-    same
-}
+/// More entries than one node of a B-tree holds.
+const MANY: [u64; 16] = [1, 2, 3, 4, 5, 6, 7, 8, 9, 10, 11, 12, 13, 14, 15, 16];
 
-/// The short form of three entries: two of b, one of a. A third consumer has none.
-fn is_short_form(alloc: Global) -> Result<bool, AllocError> {
-    let mut scene = Scene {
-        alloc,
-        group: Group::new(alloc, Id::ZERO),
-        stream: filled(alloc, 3)?,
-    };
-    scene.deliver(b'b', 2, Some(2), false)?;
-    scene.deliver(b'a', 2, None, false)?;
-    scene.add(b'z')?;
-    let summary = scene.group.summary(alloc)?;
-    let ends = summary.least == Some(id(1)) && summary.greatest == Some(id(3));
-    let owners = are_owners(summary.owners.as_slice(), &[(b'a', 1), (b'b', 2)]);
-    Ok(summary.total == 3 && ends && owners)
+// What is refused in the midst of many entries leaves all of them, also those that were the consumer's before.
+#[test]
+fn a_refused_claim_of_many_leaves_owners(rt: HostRuntime) -> Result<(), Fail> {
+    let steps = [
+        Step::Deliver(b'd', 100, Some(3), false, &[1, 2, 3], true),
+        Step::Deliver(
+            b'c',
+            100,
+            None,
+            false,
+            &[4, 5, 6, 7, 8, 9, 10, 11, 12, 13, 14, 15, 16],
+            true,
+        ),
+        Step::Claim(b'd', 150, 50, MANY.as_slice(), MANY.as_slice(), &[]),
+        Step::Claim(b'e', 150, 0, MANY.as_slice(), MANY.as_slice(), &[]),
+        Step::Ack(MANY.as_slice(), 16),
+    ];
+    Ok(play(&rt, rt.alloc(), 16, 0, steps.as_slice())?)
 }
 
 // The short form names the consumers that have entries, in the order of their bytes.
 #[test]
-fn tells_the_short_form(rt: HostRuntime) -> Result<(), Fail> {
-    let told = match is_short_form(rt.alloc()) {
-        Ok(told) => told,
-        Err(AllocError) => is_short_form(rt.alloc())?,
-    };
-    assert!(rt; told);
-    Ok(())
+fn a_refused_short_form_is_told_again(rt: HostRuntime) -> Result<(), Fail> {
+    let steps = [
+        Step::Deliver(b'd', 2, Some(2), false, &[1, 2], true),
+        Step::Deliver(b'c', 2, None, false, &[3], true),
+        Step::Add(b'e', true),
+        Step::Short(3, 1, 3, &[(b'c', 1), (b'd', 2)]),
+    ];
+    Ok(play(&rt, rt.alloc(), 3, 0, steps.as_slice())?)
 }
 
-/// The ids of the long form at the moment 150, of three entries: two of b since 100, one of a since 140.
-fn long_form(
-    alloc: Global,
-    range: Range,
-    idle: u64,
-    limit: u64,
-    consumer: Option<u8>,
-) -> Result<u64, AllocError> {
-    let mut scene = Scene {
-        alloc,
-        group: Group::new(alloc, Id::ZERO),
-        stream: filled(alloc, 3)?,
-    };
-    scene.deliver(b'b', 100, Some(2), false)?;
-    scene.deliver(b'a', 140, None, false)?;
-    let consumer = match consumer {
-        Some(text) => Some(name(alloc, text)?),
-        None => None,
-    };
-    let rows = scene
-        .group
-        .pending(alloc, range, idle, at(150)?, limit, consumer.as_ref())?;
-    let mut told = 0u64;
-    for row in rows.as_slice() {
-        told = told.wrapping_mul(10).wrapping_add(row.id.ms);
-    }
-    Ok(told)
-}
-
-// The long form by range, idle time, count and consumer.
+// The long form by range, idle time, count and consumer, of three entries: two of d since 100, one of c since 140.
 #[test]
-fn tells_the_long_form(rt: HostRuntime) -> Result<(), Fail> {
+fn a_refused_long_form_is_told_again(rt: HostRuntime) -> Result<(), Fail> {
     let part = Range::parse(b"(1-0", b"2").ok_or("a range")?;
     let none = Range::parse(b"3", b"2").ok_or("a range")?;
-    for (range, idle, limit, consumer, want) in [
-        (ALL, 50, 10, None, 12),
-        (ALL, 0, 10, Some(b'a'), 3),
-        (ALL, 0, 10, Some(b'z'), 0),
-        (ALL, 0, 0, None, 0),
-        (ALL, 0, 2, None, 12),
-        (part, 0, 10, Some(b'b'), 2),
-        (none, 0, 10, None, 0),
-    ] {
-        let told = match long_form(rt.alloc(), range, idle, limit, consumer) {
-            Ok(told) => told,
-            Err(AllocError) => long_form(rt.alloc(), range, idle, limit, consumer)?,
-        };
-        assert_eq!(rt; told, want);
-    }
-    Ok(())
+    let steps = [
+        Step::Deliver(b'd', 100, Some(2), false, &[1, 2], true),
+        Step::Deliver(b'c', 140, None, false, &[3], true),
+        Step::Long(ALL, 50, 10, None, &[1, 2]),
+        Step::Long(ALL, 0, 10, Some(b'c'), &[3]),
+        Step::Long(ALL, 0, 10, Some(b'e'), &[]),
+        Step::Long(ALL, 0, 0, None, &[]),
+        Step::Long(ALL, 0, 2, None, &[1, 2]),
+        Step::Long(part, 0, 10, Some(b'd'), &[2]),
+        Step::Long(none, 0, 10, None, &[]),
+    ];
+    Ok(play(&rt, rt.alloc(), 3, 0, steps.as_slice())?)
 }

@@ -9,6 +9,9 @@ pub(super) const ALL: Range = Range {
     high: Id::GREATEST,
 };
 
+/// The consumers of every test.
+pub(super) const CONSUMERS: [u8; 3] = [b'c', b'd', b'e'];
+
 /// One call on a group, with what it must answer. Ids are told by their milliseconds.
 #[derive(Drop)]
 pub(super) enum Step<'a> {
@@ -16,10 +19,10 @@ pub(super) enum Step<'a> {
     Deliver(u8, u64, Option<u64>, bool, &'a [u64], bool),
     /// Shows own entries: consumer, now, from, limit; the ids, each in the stream or not.
     History(u8, u64, u64, Option<u64>, &'a [(u64, bool)]),
-    /// Delivers new entries, and takes that back.
-    DeliverUndone(u8, u64, bool),
-    /// Shows own entries, and takes that back.
-    HistoryUndone(u8, u64),
+    /// Delivers new entries, and takes that back: consumer, now, noack; how many there were.
+    DeliverUndone(u8, u64, bool, usize),
+    /// Shows own entries, and takes that back: consumer, now; how many there were.
+    HistoryUndone(u8, u64, usize),
     /// Acknowledges these ids; how many were pending.
     Ack(&'a [u64], u64),
     /// Makes a consumer; whether it is new.
@@ -36,6 +39,10 @@ pub(super) enum Step<'a> {
     Scan(u8, u64, Id, u64, u64, &'a [u64], &'a [u64]),
     /// What is pending at a moment: id, consumer, idle time, count.
     Rows(u64, &'a [(u64, u8, u64, u64)]),
+    /// The short form: how many, the least and the greatest id, and how many each consumer has.
+    Short(u64, u64, u64, &'a [(u8, u64)]),
+    /// The long form at the moment 150: range, least idle time, limit, consumer; the ids.
+    Long(Range, u64, u64, Option<u8>, &'a [u64]),
 }
 
 pub(super) fn id(ms: u64) -> Id {
@@ -113,6 +120,23 @@ pub(super) fn are_pending(rows: &[PendingRow], wanted: &[(u64, u8, u64, u64)]) -
     same
 }
 
+pub(super) fn are_told(rows: &[PendingRow], wanted: &[u64]) -> bool {
+    let mut same = rows.len() == wanted.len();
+    for (row, want) in rows.iter().zip(wanted) {
+        same = same && row.id == id(*want);
+    }
+    same
+}
+
+/// The consumers of the short form, in the order in which they are told.
+pub(super) fn are_owners(owners: &[OwnerCount], wanted: &[(u8, u64)]) -> bool {
+    let mut same = owners.len() == wanted.len();
+    for (owner, want) in owners.iter().zip(wanted) {
+        same = same && owner.consumer.as_slice() == [want.0].as_slice() && owner.count == want.1;
+    }
+    same
+}
+
 /// A group with its stream.
 #[derive(Drop)]
 pub(super) struct Scene {
@@ -156,7 +180,7 @@ impl Scene {
         consumer: u8,
         now: u64,
         noack: bool,
-    ) -> Result<bool, AllocError> {
+    ) -> Result<usize, AllocError> {
         let consumer = name(self.alloc, consumer)?;
         deliver_and_undo(
             &mut self.group,
@@ -166,11 +190,10 @@ impl Scene {
             at(now)?,
             None,
             noack,
-        )?;
-        Ok(true)
+        )
     }
 
-    pub(super) fn history_undone(&mut self, consumer: u8, now: u64) -> Result<bool, AllocError> {
+    pub(super) fn history_undone(&mut self, consumer: u8, now: u64) -> Result<usize, AllocError> {
         let consumer = name(self.alloc, consumer)?;
         history_and_undo(
             &mut self.group,
@@ -180,8 +203,7 @@ impl Scene {
             at(now)?,
             Id::ZERO,
             None,
-        )?;
-        Ok(true)
+        )
     }
 
     pub(super) fn claim(
@@ -249,6 +271,21 @@ impl Scene {
             .pending(self.alloc, ALL, 0, at(999)?, 100, consumer)
     }
 
+    /// The long form at the moment 150.
+    pub(super) fn told(
+        &self,
+        range: Range,
+        idle: u64,
+        limit: u64,
+        consumer: Option<u8>,
+    ) -> Result<Vec<PendingRow>, AllocError> {
+        let consumer = match consumer {
+            Some(text) => Some(name(self.alloc, text)?),
+            None => None,
+        };
+        self.group.pending(self.alloc, range, idle, at(150)?, limit, consumer.as_ref())
+    }
+
     /// Takes a step. With an allocation refused the group is what it was, and the step can be taken again.
     pub(super) fn take_again(
         &mut self,
@@ -276,10 +313,12 @@ impl Scene {
                 let read = self.history(*consumer, *now, *from, *limit)?;
                 Ok(are_shown(read.rows.as_slice(), rows))
             }
-            Step::DeliverUndone(consumer, now, noack) => self.deliver_undone(
-                *consumer, *now, *noack,
-            ),
-            Step::HistoryUndone(consumer, now) => self.history_undone(*consumer, *now),
+            Step::DeliverUndone(consumer, now, noack, count) => {
+                Ok(self.deliver_undone(*consumer, *now, *noack)? == *count)
+            }
+            Step::HistoryUndone(consumer, now, count) => {
+                Ok(self.history_undone(*consumer, *now)? == *count)
+            }
             Step::Ack(ids, count) => Ok(self.ack(ids)? == *count),
             Step::Add(consumer, made) => Ok(self.add(*consumer)? == *made),
             Step::Remove(consumer, count) => Ok(self.remove(*consumer)? == *count),
@@ -310,6 +349,17 @@ impl Scene {
                 Ok(same && scan.cursor == id(*cursor))
             }
             Step::Rows(now, wanted) => Ok(are_pending(self.rows(*now)?.as_slice(), wanted)),
+            Step::Short(total, least, greatest, wanted) => {
+                let summary = self.group.summary(self.alloc)?;
+                let ends = summary.least == Some(id(*least))
+                    && summary.greatest == Some(id(*greatest));
+                let owners = are_owners(summary.owners.as_slice(), wanted);
+                Ok(summary.total == *total && ends && owners)
+            }
+            Step::Long(range, idle, limit, consumer, wanted) => {
+                let rows = self.told(*range, *idle, *limit, *consumer)?;
+                Ok(are_told(rows.as_slice(), wanted))
+            }
         }
     }
 }

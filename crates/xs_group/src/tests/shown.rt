@@ -1,28 +1,36 @@
-use super::scene::Scene;
+use super::scene::{CONSUMERS, Scene, name};
 use super::*;
 
-/// What a caller sees of a group: its cursor, who is there, and what is pending in all and of each.
+/// What a caller sees of a consumer.
+#[derive(Drop)]
+struct Consumer {
+    there: bool,
+    rows: Vec<PendingRow>,
+}
+
+/// What a caller sees of a group: its cursor, the short form, and what is pending in all and of each consumer.
 #[derive(Drop)]
 pub(super) struct Shown {
     cursor: Id,
-    there: [bool; 2],
-    owners: Vec<OwnerCount>,
+    summary: GroupSummary,
     rows: Vec<PendingRow>,
-    of_c: Vec<PendingRow>,
-    of_d: Vec<PendingRow>,
+    consumers: Vec<Consumer>,
 }
 
 fn show(scene: &Scene) -> Result<Shown, AllocError> {
-    let c = name(scene.alloc, b'c')?;
-    let d = name(scene.alloc, b'd')?;
-    let summary = scene.group.summary(scene.alloc)?;
+    let mut consumers = Vec::new(scene.alloc);
+    for text in CONSUMERS {
+        let name = name(scene.alloc, text)?;
+        consumers.push(Consumer {
+            there: scene.group.has_consumer(&name),
+            rows: scene.rows_of(Some(&name))?,
+        })?;
+    }
     Ok(Shown {
         cursor: scene.group.cursor(),
-        there: [scene.group.has_consumer(&c), scene.group.has_consumer(&d)],
-        owners: summary.owners.into_vec(),
+        summary: scene.group.summary(scene.alloc)?,
         rows: scene.rows_of(None)?,
-        of_c: scene.rows_of(Some(&c))?,
-        of_d: scene.rows_of(Some(&d))?,
+        consumers,
     })
 }
 
@@ -43,19 +51,25 @@ fn are_same_rows(a: &[PendingRow], b: &[PendingRow]) -> bool {
     same
 }
 
-fn are_same_owners(a: &[OwnerCount], b: &[OwnerCount]) -> bool {
+fn are_same_consumers(a: &[Consumer], b: &[Consumer]) -> bool {
     let mut same = a.len() == b.len();
     for (x, y) in a.iter().zip(b) {
-        same = same && x.consumer.as_slice() == y.consumer.as_slice() && x.count == y.count;
+        let rows = are_same_rows(x.rows.as_slice(), y.rows.as_slice());
+        same = same && rows && x.there == y.there;
     }
     same
 }
 
+fn is_same_summary(a: &GroupSummary, b: &GroupSummary) -> bool {
+    let mut same = a.owners.as_slice().len() == b.owners.as_slice().len();
+    for (x, y) in a.owners.as_slice().iter().zip(b.owners.as_slice()) {
+        same = same && x.consumer.as_slice() == y.consumer.as_slice() && x.count == y.count;
+    }
+    same && a.total == b.total && a.least == b.least && a.greatest == b.greatest
+}
+
 pub(super) fn is_same(a: &Shown, b: &Shown) -> bool {
-    let who = a.cursor == b.cursor && a.there[0] == b.there[0] && a.there[1] == b.there[1];
     let all = are_same_rows(a.rows.as_slice(), b.rows.as_slice());
-    let each = are_same_rows(a.of_c.as_slice(), b.of_c.as_slice());
-    let other = are_same_rows(a.of_d.as_slice(), b.of_d.as_slice());
-    let owners = are_same_owners(a.owners.as_slice(), b.owners.as_slice());
-    who && all && each && other && owners
+    let each = are_same_consumers(a.consumers.as_slice(), b.consumers.as_slice());
+    all && each && a.cursor == b.cursor && is_same_summary(&a.summary, &b.summary)
 }

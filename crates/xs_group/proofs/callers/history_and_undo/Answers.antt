@@ -9,7 +9,7 @@ undo-requires c = (
       c.lawful.ensures c.in_ok-delivery.ensures.ok c.in_ok-delivery.ensures.answer,
 )
 
-pub returns : goal.returns
-returns c = c.undo.ensures c.args.group.now
+pub returns-clause-same : goal.returns-clause-same
+returns-clause-same c = c.undo.ensures c.args.group.now
     (made-history c.args.group.now c.history.new.self c.in_ok-delivery.delivery c.args.consumer.now c.args.now c.args.limit c.args.from (ids_of c.args.stream.now.entries)
     c.lawful.ensures c.in_ok-delivery.ensures.ok c.in_ok-delivery.ensures.answer)

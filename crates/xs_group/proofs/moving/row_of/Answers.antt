@@ -1,6 +1,22 @@
-use Rattle.std.proofs.Common.{sym, ◌∙◌}
+use Rattle.std.proofs.Common.{sym, ap, ◌∙◌}
+use Rattle.std.proofs.lemmas.Bool.{false≢true}
+use Rattle.xs_group.specs.State.{is_name}
+use Rattle.xs_group.specs.Held.{has_among, is_owner}
 use Rattle.xs_group.proofs.ByConsumer.{is_name-eq}
 use Rattle.xs_group.proofs.moving.row_of.Goals as goal
 
-pub returns : goal.returns
-returns c = sym c.consumer.ensures ∙ is_name-eq c.consumer.result.now c.args.name.now (sym c.if-not-is_same_name.ensures)
+pub returns-in_err-entry-clause-found : goal.returns-in_err-entry-clause-found
+returns-in_err-entry-clause-found c = λ agreed x e.
+    let id = c.in_ok-id.id.now in
+    let found = sym (agreed c.args.name.now id) ∙ ap (λ o. has_among o id) (sym c.in_ok-ids.ensures.value) ∙ c.in_ok-id.ensures.member in
+    absurd (false≢true (ap (λ o. is_owner o c.args.name.now) c.in_err-entry.ensures.value ∙ found))
+
+pub returns-then-not-is_same_name-clause-found : goal.returns-then-not-is_same_name-clause-found
+returns-then-not-is_same_name-clause-found c = λ agreed x e.
+    let id = c.in_ok-id.id.now in
+    let found = sym (agreed c.args.name.now id) ∙ ap (λ o. has_among o id) (sym c.in_ok-ids.ensures.value) ∙ c.in_ok-id.ensures.member in
+    c.if-not-is_same_name.ensures ∙ ap (λ k. is_name k c.args.name.now) c.consumer.ensures
+    ∙ ap (λ o. is_owner o c.args.name.now) c.in_ok-entry.ensures.value ∙ found
+
+pub returns-clause-whose : goal.returns-clause-whose
+returns-clause-whose c = sym c.consumer.ensures ∙ is_name-eq c.consumer.result.now c.args.name.now (sym c.if-not-is_same_name.ensures)
