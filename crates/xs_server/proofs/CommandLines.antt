@@ -118,7 +118,6 @@ leaf_words : (words : List Text) → level_fault leaf [] nothing_held words fals
 unfolding walk_fault
 leaf_words [] h = inl refl
 leaf_words (w ∷ more) h =
-    let end = (walk leaf.rules [] nothing_held (w ∷ more)).held in
     let walked_all = or_else-left (walk_fault leaf [] (walk_from nothing_held) (w ∷ more)) _ h in
     let turn = or_else-left (turn_fault leaf [] (walk_from nothing_held) w) (walk_fault leaf [] (walked leaf.rules [] (walk_from nothing_held) w) more) walked_all in
     let met = subcommand_or_other rules None idle 1 w nothing_held in
