@@ -5,3 +5,4 @@ pub mod Script
 pub mod Serving
 pub mod Session
 pub mod Report
+pub mod CommandLine

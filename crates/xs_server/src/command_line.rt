@@ -1,8 +1,11 @@
 //! The program's command line.
+ghost use Rattle.std.specs.Prelude.{◌≡◌, map, string_bytes, IfOk, IfErr};
+ghost use Rattle.clap.specs.Words.{kind_of};
+ghost use Rattle.xs_server.specs.CommandLine.{AsksScript};
+
 use clap::Command;
 use clap::error::{Error, ErrorKind};
-use std::alloc::{AllocError, Global};
-use std::env::Args;
+use std::alloc::Global;
 use std::io::Eprint;
 
 /// What the command line asks for.
@@ -17,7 +20,10 @@ pub enum Asked {
 }
 
 /// What a parse says: nothing at all means that the words are a command of the program.
-fn parse(alloc: Global, words: &[String]) -> Result<(), Error> {
+fn parse(alloc: Global, words: &[String]) -> Result<(), Error>
+    ensures ok { IfOk result (λ _. AsksScript (map (λ word. string_bytes word) words.now)) }
+    ensures err { AsksScript (map (λ word. string_bytes word) words.now) → IfErr result (λ error. kind_of error ≡ ErrorKind.OutOfMemory) }
+{
     let script = Command::new(alloc, "script").about(
         "Reads a script on standard input and writes the replies on standard output",
     );
@@ -25,17 +31,19 @@ fn parse(alloc: Global, words: &[String]) -> Result<(), Error> {
         .about("A server of Redis Streams")
         .subcommand_required(true)
         .subcommand(script)?;
-    program.try_get_matches_from(words)?;
-    Ok(())
+    match program.try_get_matches_from(words) {
+        Ok(_) => Ok(()),
+        Err(error) => Err(error),
+    }
 }
 
 /// Reads the words of a command line, the program's name first, and prints on standard error what is wrong with
 /// them.
-pub fn read_words(rt: &HostRuntime, words: Args) -> Asked {
-    let Ok(words) = words.collect::<Vec<String>>(rt.alloc()) else {
-        return Asked::Memory;
-    };
-    match parse(rt.alloc(), words.as_slice()) {
+pub fn read_words(rt: &HostRuntime, words: &[String]) -> Asked
+    ensures script { result ≡ Asked.Script → AsksScript (map (λ word. string_bytes word) words.now) }
+    ensures nothing { result ≡ Asked.Nothing → AsksScript (map (λ word. string_bytes word) words.now) → ⊥ }
+{
+    match parse(rt.alloc(), words) {
         Ok(()) => Asked::Script,
         Err(error) => match error.kind() {
             ErrorKind::OutOfMemory => Asked::Memory,

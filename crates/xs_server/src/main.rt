@@ -25,7 +25,10 @@ use std::process::ExitCode;
 fn main(rt: HostRuntime) -> ExitCode {
     let mut errors = ToWrite::new(rt.stderr());
     let asked = match std::env::args(&rt) {
-        Ok(words) => read_words(&rt, words),
+        Ok(words) => match words.collect::<Vec<String>>(rt.alloc()) {
+            Ok(words) => read_words(&rt, words.as_slice()),
+            Err(_) => Asked::Memory,
+        },
         Err(_) => Asked::Memory,
     };
     let status = match asked {

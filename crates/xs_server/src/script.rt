@@ -1,5 +1,5 @@
 //! Scripts: lines in, replies out.
-ghost use Rattle.std.specs.Prelude.{◌≡◌, ◌≢◌, ◌≤◌, ◌++◌, ◌∷◌, [], true, false, Ok, Err, IsErr, List, ℕ, length};
+ghost use Rattle.std.specs.Prelude.{◌≡◌, ◌≢◌, ◌⊎◌, ◌<◌, ◌≤◌, ◌++◌, ◌∷◌, [], true, false, Ok, Err, IsErr, List, ℕ, length};
 ghost use Rattle.std.specs.Io.KnownBytes.{Appends};
 ghost use Rattle.xs_server.specs.Line.{line_limit, script_lines};
 ghost use Rattle.xs_server.specs.Taking.{FailsLine};
@@ -40,6 +40,7 @@ fn serve<W: Sink>(alloc: Global, writer: &mut W, session: &mut Session) -> Resul
     ensures serves { (lines : List (List ℕ)) (sent : List ℕ) → Stands lines sent session.old →
         (more : List ℕ) × Appends (W.held writer.old) (W.held writer.new) more
         × ServesNext result lines session.old.line.items (sent ++ more) session.new (W.broken writer.new) }
+    ensures quiet { result ≡ Ok tt → writer.new ≡ writer.old }
     ensures cause { HasWriteCause result (W.broken writer.new) }
     ensures chunk { session.new.chunk ≡ session.old.chunk }
     ensures left { session.new.left ≡ session.old.left }
@@ -82,6 +83,8 @@ fn serve_taken<W: Sink>(
     ensures left { session.new.left ≡ session.old.left }
     ensures cause { HasWriteCause result (W.broken writer.new) }
     ensures all { enough ≡ 0 → result ≡ Ok tt → session.new.out.items ≡ [] }
+    ensures held { result ≡ Ok tt → ((length session.new.out.items < enough) × (writer.new ≡ writer.old))
+        ⊎ ((part : List ℕ) × Appends (W.held writer.old) (W.held writer.new) part × (enough ≤ length part) × (session.new.out.items ≡ [])) }
 {
     match serve(alloc, writer, session) {
         Ok(()) => {}
@@ -157,6 +160,7 @@ pub fn give_up<W: Sink>(
     ensures last { IsErr result }
     ensures write { (written : ℕ) → result ≡ Err (ScriptFault.Write written) → W.broken writer.new ≡ true }
     ensures read { (written : ℕ) → result ≡ Err (ScriptFault.Read written) → fault ≡ LineFault.Read }
+    ensures memory { (written : ℕ) → result ≡ Err (ScriptFault.Memory written) → fault ≡ LineFault.Memory }
     ensures left { session.new.left ≡ session.old.left }
 {
     match send(writer, session) {
