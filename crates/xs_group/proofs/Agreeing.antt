@@ -1,5 +1,5 @@
 -- The two indexes go on holding the same pairs.
-use Rattle.std.proofs.Common.{◌≡◌, ℕ, Bool, true, false, cond, not, ◌&&◌, ◌||◌, List, [], Option, Some, None, is_some, sym, ap, ◌∙◌, refl}
+use Rattle.std.proofs.Common.{◌≡◌, ℕ, Bool, true, false, cond, not, ◌&&◌, ◌||◌, List, [], Option, Some, None, is_some, Result, Ok, Err, OnErr, sym, ap, ◌∙◌, refl}
 use Rattle.std.specs.BTreeMap.{UpdatesBy}
 use Rattle.std.specs.BTreeSet.{BTreeSet}
 use Rattle.std.specs.Ordering.{nat_cmp}
@@ -13,7 +13,7 @@ use Rattle.xs_stream.proofs.Order.{is_same-eq, is_same-symm}
 use Rattle.xs_group.specs.State.{Row, Rows, Names, is_name, with_name, has_name}
 use Rattle.xs_group.specs.Held.{rows_of, Held, Owners, names_of, ids_at, has_among, holds, is_owner, row_in, IsAgreed}
 use Rattle.xs_group.proofs.ByConsumer.{Index, is_name-eq, is_name-symm}
-use Rattle.xs_group.proofs.Views.{RowMap, has_name-names_of, same_names, get-rows_of}
+use Rattle.xs_group.proofs.Views.{RowMap, has_name-names_of, same_names, names-same, get-rows_of}
 
 -- ---- a consumer more
 
@@ -50,48 +50,7 @@ name-again names name there = same_names _ _ (λ q. has_name-with_name names nam
   by q true t = sym (ap (has_name names) (is_name-eq q name t) ∙ there)
   by q false t = refl
 
--- ---- a row more, and a row less
-
-pub agreed-put : (m n : RowMap) (a b : Owners) (name : List ℕ) (id : Id) (row : Row) → IsAgreed m.entries a → row_in m.entries id ≡ None → row.consumer ≡ name
-    → ((q : List ℕ) → (x : Id) → holds b q x ≡ (holds a q x || (is_name q name && is_same x id)))
-    → UpdatesBy id_cmp (id_cmp id) m n (Some row) → IsAgreed n.entries b
-agreed-put m n a b name id row agreed none whose h u q x = h q x ∙ by (is_same id x) refl where
-  and_true : (c : Bool) → (c && true) ≡ c
-  and_true true = refl
-  and_true false = refl
-
-  and_false : (c d : Bool) → (c || (d && false)) ≡ c
-  and_false true d = refl
-  and_false false true = refl
-  and_false false false = refl
-
-  by : (t : Bool) → is_same id x ≡ t → (holds a q x || (is_name q name && is_same x id)) ≡ is_owner (row_in n.entries x) q
-  by true t =
-      let here : row_in m.entries x ≡ None = ap (row_in m.entries) (sym (is_same-eq id x t)) ∙ none in
-      ap (λ c. c || (is_name q name && is_same x id)) (agreed q x ∙ ap (λ o. is_owner o q) here) ∙ ap (λ c. is_name q name && c) (is_same-symm x id ∙ t)
-      ∙ and_true (is_name q name) ∙ is_name-symm q name ∙ ap (λ k. is_name k q) (sym whose) ∙ sym (ap (λ o. is_owner o q) (u.0 x ∙ ap (λ c. cond c (Some row) (row_in m.entries x)) t))
-  by false t = ap (λ c. holds a q x || (is_name q name && c)) (is_same-symm x id ∙ t) ∙ and_false (holds a q x) (is_name q name) ∙ agreed q x ∙ sym (ap (λ o. is_owner o q) (u.2 x t))
-
--- an id that is put and taken out again
-pub agreed-back : (rows : List (Id × Row)) (a b d : Owners) (name : List ℕ) (id : Id) → IsAgreed rows a → row_in rows id ≡ None
-    → ((q : List ℕ) → (x : Id) → holds b q x ≡ (holds a q x || (is_name q name && is_same x id)))
-    → ((q : List ℕ) → (x : Id) → holds d q x ≡ (holds b q x && not (is_name q name && is_same x id))) → IsAgreed rows d
-agreed-back rows a b d name id agreed none h k q x = k q x ∙ ap (λ c. c && not (is_name q name && is_same x id)) (h q x) ∙ by (is_same x id) refl where
-  undone : (c d : Bool) → ((c || (d && false)) && not (d && false)) ≡ c
-  undone true true = refl
-  undone true false = refl
-  undone false true = refl
-  undone false false = refl
-
-  nothing : (d : Bool) → ((false || (d && true)) && not (d && true)) ≡ false
-  nothing true = refl
-  nothing false = refl
-
-  by : (t : Bool) → is_same x id ≡ t → ((holds a q x || (is_name q name && t)) && not (is_name q name && t)) ≡ is_owner (row_in rows x) q
-  by true t =
-      let no : holds a q x ≡ false = agreed q x ∙ ap (λ o. is_owner o q) (ap (row_in rows) (is_same-eq x id t) ∙ none) in
-      ap (λ c. (c || (is_name q name && true)) && not (is_name q name && true)) no ∙ nothing (is_name q name) ∙ sym no ∙ agreed q x
-  by false t = undone (holds a q x) (is_name q name) ∙ agreed q x
+-- ---- a row less
 
 pub agreed-taken : (m n : RowMap) (a b : Owners) (id : Id) (row : Row) → IsAgreed m.entries a → row_in m.entries id ≡ Some row
     → ((q : List ℕ) → (x : Id) → holds b q x ≡ (holds a q x && not (is_name q row.consumer && is_same x id)))
@@ -126,3 +85,9 @@ held-again held name there = ap (λ names. record { consumers = names; rows = he
 
 pub held-by : (a b : Names) (p q : Rows) → a ≡ b → p ≡ q → ◌≡◌ {A = Held} (record { consumers = a; rows = p }) (record { consumers = b; rows = q })
 held-by a b p q e f = λ i. record { consumers = e i; rows = f i }
+
+-- where the same consumers are left, and the same rows
+pub refused-as : {T E : Type 0} (r : Result T E) (a b : Owners) (rows : Rows) (held : Held) → ((q : List ℕ) → is_some (ids_at a q) ≡ is_some (ids_at b q))
+    → ◌≡◌ {A = Held} (record { consumers = names_of b; rows = rows }) held → OnErr r (◌≡◌ {A = Held} (record { consumers = names_of a; rows = rows }) held)
+refused-as (Ok x) a b rows held names is = tt
+refused-as (Err e) a b rows held names is = held-by (names_of a) (names_of b) rows rows (names-same a b names) (λ i. rows) ∙ is

@@ -10,11 +10,10 @@ use Rattle.std.specs.Cmp.Lexicographic.{slice_cmp, nat_list_cmp_total}
 use Rattle.std.proofs.lemmas.Cmp.{tied_itself}
 use Rattle.std.proofs.lemmas.Map.Lookups.{exact_bytes}
 use Rattle.xs_stream.specs.declared.id.Id.{Id}
-use Rattle.xs_stream.specs.Id.{id_cmp, is_same}
+use Rattle.xs_stream.specs.Id.{id_cmp, is_same, has_id}
 use Rattle.xs_stream.proofs.Order.{equal-from, is_same-symm}
 use Rattle.xs_group.specs.State.{is_name}
 use Rattle.xs_group.specs.Held.{ids_at, has_among, holds}
-use Rattle.std.specs.List.{list_any}
 
 pub is_name-eq : (a b : List ℕ) → is_name a b ≡ true → a ≡ b
 is_name-eq a b e = exact_bytes a b (equal-from _ e)
@@ -40,6 +39,15 @@ and_turned true false = refl
 and_turned false true = refl
 and_turned false false = refl
 
+-- an id more in a set
+pub contains-more : (s w : BTreeSet Id) (id : Id) (a h : Bool) (x : Id) → set.Updates id_cmp s w id true → set.contains id_cmp s x ≡ (a || h)
+    → set.contains id_cmp w x ≡ (a || (h || is_same x id))
+contains-more s w id a h x v e = v.0 x ∙ or_turned (is_same id x) (set.contains id_cmp s x) ∙ ap (λ b. b || is_same id x) e
+    ∙ ap (λ b. (a || h) || b) (is_same-symm id x) ∙ by a h where
+      by : (a h : Bool) → ((a || h) || is_same x id) ≡ (a || (h || is_same x id))
+      by true h = refl
+      by false h = refl
+
 or_no : (b : Bool) → b ≡ (b || false)
 or_no true = refl
 or_no false = refl
@@ -59,15 +67,17 @@ module _ (m n : Index) (name : List ℕ) (s w : BTreeSet Id) (e : tree.get (slic
     by true t = ap is_some (u.0 q ∙ ap (λ b. cond b (Some w) (ids_at m.entries q)) t) ∙ sym (ap is_some (found q t))
     by false t = ap is_some (u.2 q t)
 
-  -- an id more in the set that is found, or an id less
-  pub holds-put : (id : Id) → set.Updates id_cmp s w id true → (q : List ℕ) (x : Id) → holds n.entries q x ≡ (holds m.entries q x || (is_name q name && is_same x id))
-  holds-put id v q x = by (is_name name q) refl where
-    by : (t : Bool) → is_name name q ≡ t → holds n.entries q x ≡ (holds m.entries q x || (is_name q name && is_same x id))
-    by true t = ap (λ o. has_among o x) (u.0 q ∙ ap (λ b. cond b (Some w) (ids_at m.entries q)) t) ∙ v.0 x ∙ or_turned (is_same id x) (set.contains id_cmp s x)
-        ∙ ap (λ b. b || is_same id x) (sym (ap (λ o. has_among o x) (found q t))) ∙ ap (λ b. holds m.entries q x || b) (is_same-symm id x)
-        ∙ ap (λ b. holds m.entries q x || (b && is_same x id)) (sym t ∙ is_name-symm name q)
-    by false t = ap (λ o. has_among o x) (u.2 q t) ∙ or_no (holds m.entries q x) ∙ ap (λ b. holds m.entries q x || (b && is_same x id)) (sym t ∙ is_name-symm name q)
+  -- ids more in the set that is found
+  pub holds-put : (ids : List Id) → ((x : Id) → set.contains id_cmp w x ≡ (set.contains id_cmp s x || has_id ids x)) → (q : List ℕ) (x : Id)
+      → holds n.entries q x ≡ (holds m.entries q x || (is_name q name && has_id ids x))
+  holds-put ids v q x = by (is_name name q) refl where
+    by : (t : Bool) → is_name name q ≡ t → holds n.entries q x ≡ (holds m.entries q x || (is_name q name && has_id ids x))
+    by true t = ap (λ o. has_among o x) (u.0 q ∙ ap (λ b. cond b (Some w) (ids_at m.entries q)) t) ∙ v x
+        ∙ ap (λ b. b || has_id ids x) (sym (ap (λ o. has_among o x) (found q t)))
+        ∙ ap (λ b. holds m.entries q x || (b && has_id ids x)) (sym t ∙ is_name-symm name q)
+    by false t = ap (λ o. has_among o x) (u.2 q t) ∙ or_no (holds m.entries q x) ∙ ap (λ b. holds m.entries q x || (b && has_id ids x)) (sym t ∙ is_name-symm name q)
 
+  -- an id less
   pub holds-removed : (id : Id) → set.UpdatesBy id_cmp (id_cmp id) s w false → (q : List ℕ) (x : Id) → holds n.entries q x ≡ (holds m.entries q x && not (is_name q name && is_same x id))
   holds-removed id v q x = by (is_name name q) refl where
     by : (t : Bool) → is_name name q ≡ t → holds n.entries q x ≡ (holds m.entries q x && not (is_name q name && is_same x id))
@@ -75,12 +85,6 @@ module _ (m n : Index) (name : List ℕ) (s w : BTreeSet Id) (e : tree.get (slic
         ∙ ap (λ b. b && not (is_same id x)) (sym (ap (λ o. has_among o x) (found q t))) ∙ ap (λ b. holds m.entries q x && not b) (is_same-symm id x)
         ∙ ap (λ b. holds m.entries q x && not (b && is_same x id)) (sym t ∙ is_name-symm name q)
     by false t = ap (λ o. has_among o x) (u.2 q t) ∙ and_yes (holds m.entries q x) ∙ ap (λ b. holds m.entries q x && not (b && is_same x id)) (sym t ∙ is_name-symm name q)
-
-  pub holds-same : w.keys ≡ s.keys → (q : List ℕ) (x : Id) → holds n.entries q x ≡ holds m.entries q x
-  holds-same v q x = by (is_name name q) refl where
-    by : (t : Bool) → is_name name q ≡ t → holds n.entries q x ≡ holds m.entries q x
-    by true t = ap (λ o. has_among o x) (u.0 q ∙ ap (λ b. cond b (Some w) (ids_at m.entries q)) t) ∙ ap (λ ks. list_any (is_same x) ks) v ∙ sym (ap (λ o. has_among o x) (found q t))
-    by false t = ap (λ o. has_among o x) (u.2 q t)
 
 -- a consumer that isn't there has nothing to lose
 pub holds-absent : (m n : Index) (name : List ℕ) → n ≡ m → tree.get (slice_cmp nat_cmp) m name ≡ None → (id : Id) (q : List ℕ) (x : Id)

@@ -15,11 +15,6 @@ use Rattle.xs_group.proofs.Putting.{among-take}
 
 -- ---- ids that a consumer gets before their rows
 
-pub or-more : (a s h t : Bool) → ((a || (s && h)) || (s && t)) ≡ (a || (s && (h || t)))
-or-more true s h t = refl
-or-more false true h t = refl
-or-more false false h t = refl
-
 pub or-none : (a s : Bool) → a ≡ (a || (s && false))
 or-none true s = refl
 or-none false true = refl

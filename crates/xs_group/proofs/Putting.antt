@@ -1,18 +1,20 @@
 -- Rows that are put.
-use Rattle.std.proofs.Common.{◌≡◌, ℕ, ◌<◌, suc, zero, Bool, true, false, cond, not, ◌||◌, List, [], ◌∷◌, ◌++◌, length, take, get_or, Option, Some, None, is_some, option_and_then, sym, ap, ◌∙◌, refl, arith}
+use Rattle.std.proofs.Common.{◌≡◌, ℕ, suc, zero, Bool, true, false, cond, not, ◌||◌, List, [], ◌∷◌, ◌++◌, take, Option, Some, None, is_some, option_and_then, ◌&&◌, sym, ap, ◌∙◌, refl}
 use Rattle.std.proofs.lemmas.Bool.{false≢true}
+use Rattle.std.specs.BTreeMap.{UpdatesBy}
 use Rattle.std.specs.Cmp.Lexicographic.{nat_list_cmp_total}
-use Rattle.xs_bytes.specs.SortedMap.{get, has_key, remove, change}
+use Rattle.xs_bytes.specs.SortedMap.{get, remove, change}
 use Rattle.xs_bytes.proofs.SortedMaps.{get-insert_by, get-remove}
 use Rattle.xs_stream.specs.declared.id.Id.{Id}
-use Rattle.xs_stream.specs.Id.{is_same, has_id}
-use Rattle.xs_stream.specs.Kept.{AllAbove, Ascends}
-use Rattle.xs_stream.proofs.Order.{is_same-symm, is_same-refl, below-not_same}
+use Rattle.xs_stream.specs.Id.{id_cmp, is_same, has_id}
+use Rattle.xs_stream.proofs.Order.{is_same-symm}
 use Rattle.xs_group.specs.State.{Row, Rows, Names, ids_total, is_name, has_name, with_name, with_rows, unless_acked, unless_owned}
-use Rattle.xs_group.specs.Held.{put_row, is_owner, AreFree, IsNamed, Held}
-use Rattle.xs_group.proofs.ByConsumer.{is_name-eq, is_name-refl}
-use Rattle.xs_group.proofs.Views.{same_rows, same_names}
-use Rattle.xs_group.proofs.Agreeing.{has_name-with_name}
+use Rattle.xs_group.specs.Held.{put_row, rows_of, row_in, Owners, is_owner, AreFree, IsAgreed, IsNamed, Held}
+use Rattle.xs_group.specs.Verdict.{AreAgreedBut}
+use Rattle.xs_group.proofs.ByConsumer.{is_name-eq, is_name-refl, is_name-symm}
+use Rattle.xs_group.proofs.Choosing.{has-more}
+use Rattle.xs_group.proofs.Views.{RowMap, same_rows, same_names, get-rows_of}
+use Rattle.xs_group.proofs.Agreeing.{has_name-with_name, none-from_free}
 use Rattle.xs_group.proofs.Leaving.{get-changed, change-nothing}
 
 cond_or : {A : Type 0} (a b : Bool) (x y : A) → cond a x (cond b x y) ≡ cond (b || a) x y
@@ -26,34 +28,48 @@ get-with_rows [] row rows q = refl
 get-with_rows (x ∷ xs) row rows q = get-with_rows xs row (put_row rows x row) q ∙ ap (cond (has_id xs q) (Some row)) (get-insert_by ids_total rows x row q)
     ∙ cond_or (has_id xs q) (is_same q x) (Some row) (get rows q)
 
-pub with_rows-more : (ids : List Id) (id : Id) (row : Row) (rows : Rows) → put_row (with_rows ids row rows) id row ≡ with_rows (ids ++ id ∷ []) row rows
-with_rows-more [] id row rows = refl
-with_rows-more (x ∷ xs) id row rows = with_rows-more xs id row (put_row rows x row)
+-- ---- one id after the other
 
-not_among : (x : Id) (xs : List Id) (i : ℕ) (d : Id) → AllAbove x xs → i < length xs → is_same (get_or xs i d) x ≡ false
-not_among x [] i d a h = absurd (omega arith)
-not_among x (y ∷ ys) zero d a h = is_same-symm y x ∙ below-not_same x y a.0
-not_among x (y ∷ ys) (suc i) d a h = not_among x ys i d a.1 (omega arith)
+pub row-put : (m n : RowMap) (id : Id) (v : Option Row) → UpdatesBy id_cmp (id_cmp id) m n v → (x : Id) → row_in n.entries x ≡ cond (is_same x id) v (row_in m.entries x)
+row-put m n id v u x = u.0 x ∙ ap (λ b. cond b v (row_in m.entries x)) (is_same-symm id x)
 
--- ids that ascend are not met twice
-pub not_before : (ids : List Id) (i : ℕ) (d : Id) → Ascends ids → i < length ids → has_id (take i ids) (get_or ids i d) ≡ false
-not_before [] i d a h = absurd (omega arith)
-not_before (x ∷ xs) zero d a h = refl
-not_before (x ∷ xs) (suc i) d a h = ap (λ b. b || has_id (take i xs) (get_or xs i d)) (not_among x xs i d a.0 (omega arith)) ∙ not_before xs i d a.1 (omega arith)
+pub rows-more : (done : List Id) (id x : Id) (v o p : Option Row) → p ≡ cond (has_id done x) v o → cond (is_same x id) v p ≡ cond (has_id (done ++ id ∷ []) x) v o
+rows-more done id x v o p e = ap (cond (is_same x id) v) e ∙ cond_or (is_same x id) (has_id done x) v o ∙ ap (λ b. cond b v o) (sym (has-more done id x))
 
-pub is_among : (ids : List Id) (i : ℕ) (d : Id) → i < length ids → has_id ids (get_or ids i d) ≡ true
-is_among [] i d h = absurd (omega arith)
-is_among (x ∷ xs) zero d h = ap (λ b. b || has_id xs x) (is_same-refl x)
-is_among (x ∷ xs) (suc i) d h = by (is_same (get_or xs i d) x) (is_among xs i d (omega arith)) where
-  by : (b : Bool) → has_id xs (get_or xs i d) ≡ true → (b || has_id xs (get_or xs i d)) ≡ true
-  by true e = refl
-  by false e = e
+-- ---- all of them
 
-pub free-more : (ids : List Id) (i : ℕ) (d : Id) (row : Row) (rows : Rows) → Ascends ids → AreFree rows ids → i < length ids
-    → has_key (with_rows (take i ids) row rows) (get_or ids i d) ≡ false
-free-more ids i d row rows a free h =
-    ap is_some (get-with_rows (take i ids) row rows (get_or ids i d) ∙ ap (λ b. cond b (Some row) (get rows (get_or ids i d))) (not_before ids i d a h))
-    ∙ free (get_or ids i d) (is_among ids i d h)
+-- the rows of ids that had none, once they are out again
+pub none-left : (rows : List (Id × Row)) (ids done : List Id) (row : Row) (x : Id) → AreFree (rows_of rows) ids → (has_id done x ≡ true → has_id ids x ≡ true)
+    → cond (has_id done x) None (cond (has_id done x) (Some row) (row_in rows x)) ≡ row_in rows x
+none-left rows ids done row x free some = by (has_id done x) some where
+  by : (t : Bool) → (t ≡ true → has_id ids x ≡ true) → cond t None (cond t (Some row) (row_in rows x)) ≡ row_in rows x
+  by true e = sym (none-from_free rows x (free x (e refl)))
+  by false e = refl
+
+pub rows-all : (m n : List (Id × Row)) (ids : List Id) (row : Row) → ((x : Id) → row_in n x ≡ cond (has_id ids x) (Some row) (row_in m x)) → rows_of n ≡ with_rows ids row (rows_of m)
+rows-all m n ids row is = same_rows _ _ (λ q. get-rows_of n q ∙ is q ∙ ap (cond (has_id ids q) (Some row)) (sym (get-rows_of m q)) ∙ sym (get-with_rows ids row (rows_of m) q))
+
+pub agreed-all : (m n : List (Id × Row)) (b : Owners) (name : List ℕ) (ids : List Id) (row : Row) → row.consumer ≡ name → AreFree (rows_of m) ids
+    → AreAgreedBut m b name ids → ((x : Id) → row_in n x ≡ cond (has_id ids x) (Some row) (row_in m x)) → IsAgreed n b
+agreed-all m n b name ids row whose free but is q x = but q x
+    ∙ by (has_id ids x) (λ e. none-from_free m x (free x e)) ∙ sym (ap (λ o. is_owner o q) (is x)) where
+      and_true : (c : Bool) → (c && true) ≡ c
+      and_true true = refl
+      and_true false = refl
+
+      none : (c d : Bool) → (c || (d && false)) ≡ c
+      none true d = refl
+      none false true = refl
+      none false false = refl
+
+      by : (t : Bool) → (t ≡ true → row_in m x ≡ None) → (is_owner (row_in m x) q || (is_name q name && t)) ≡ is_owner (cond t (Some row) (row_in m x)) q
+      by true e = ap (λ o. is_owner o q || (is_name q name && true)) (e refl) ∙ and_true (is_name q name) ∙ is_name-symm q name ∙ ap (λ k. is_name k q) (sym whose)
+      by false e = none (is_owner (row_in m x) q) (is_name q name)
+
+-- rows that are what they were
+pub agreed-but : (m n : List (Id × Row)) (b : Owners) (name : List ℕ) (ids : List Id) → AreAgreedBut m b name ids
+    → ((x : Id) → row_in n x ≡ row_in m x) → AreAgreedBut n b name ids
+agreed-but m n b name ids but is q x = but q x ∙ ap (λ o. is_owner o q || (is_name q name && has_id ids x)) (sym (is x))
 
 pub among-take : (ids : List Id) (i : ℕ) (q : Id) → has_id (take i ids) q ≡ true → has_id ids q ≡ true
 among-take [] zero q e = e
@@ -79,9 +95,6 @@ out-again ids row rows free = same_rows _ _ (λ q. get-changed (unless_acked ids
       by : (q : Id) (t : Bool) → has_id ids q ≡ t → option_and_then (λ r. cond (has_id ids q) None (Some r)) (cond t (Some row) (get rows q)) ≡ get rows q
       by q true e = ap (λ b. cond b None (Some row)) e ∙ sym (none_by (get rows q) (free q e))
       by q false e = ap (λ b. option_and_then (λ r. cond b None (Some r)) (get rows q)) e ∙ same_and (get rows q)
-
-pub free-take : (rows : Rows) (ids : List Id) (i : ℕ) → AreFree rows ids → AreFree rows (take i ids)
-free-take rows ids i free x e = free x (among-take ids i x e)
 
 -- ---- a consumer that is put and taken out again
 

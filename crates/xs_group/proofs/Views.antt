@@ -7,12 +7,12 @@ use Rattle.std.specs.Ordering.{nat_cmp, eq_by_cmp}
 use Rattle.std.specs.Cmp.Lexicographic.{slice_cmp, nat_list_cmp_total}
 use Rattle.std.proofs.lemmas.Map.Lookups.{exact_bytes}
 use Rattle.xs_bytes.specs.SortedMap.{get, remove}
-use Rattle.xs_bytes.proofs.SortedMaps.{get-of_entries, get-insert_by, get-remove, same_map}
+use Rattle.xs_bytes.proofs.SortedMaps.{get-of_entries, get-remove, same_map}
 use Rattle.xs_stream.specs.declared.id.Id.{Id}
 use Rattle.xs_stream.specs.Id.{id_cmp, is_same}
 use Rattle.xs_stream.proofs.Order.{same_id, is_same-symm}
 use Rattle.xs_group.specs.State.{Row, Rows, Names, is_name, has_name, ids_total}
-use Rattle.xs_group.specs.Held.{put_row, rows_of, Owners, names_of, ids_at, row_in}
+use Rattle.xs_group.specs.Held.{rows_of, Owners, names_of, ids_at, row_in}
 
 pub find-lookup : {K X : Type 0} (R : K → K → Ordering) (q : K) (es : List (K × X)) → find R q es ≡ lookup (is_at (R q)) es
 find-lookup R q [] = refl
@@ -65,10 +65,6 @@ rows-same a b is = same_rows (rows_of a) (rows_of b) (λ q. get-rows_of a q ∙ 
 
 abbrev pub RowMap : Type 0
 RowMap = BTreeMap Id Row
-
-pub rows-put : (m n : RowMap) (id : Id) (row : Row) → UpdatesBy id_cmp (id_cmp id) m n (Some row) → rows_of n.entries ≡ put_row (rows_of m.entries) id row
-rows-put m n id row u = same_rows _ _ (λ q. get-rows_of n.entries q ∙ u.0 q ∙ ap (λ b. cond b (Some row) (row_in m.entries q)) (is_same-symm id q)
-    ∙ ap (cond (is_same q id) (Some row)) (sym (get-rows_of m.entries q)) ∙ sym (get-insert_by ids_total (rows_of m.entries) id row q))
 
 pub rows-remove : (m n : RowMap) (id : Id) → UpdatesBy id_cmp (id_cmp id) m n None → rows_of n.entries ≡ remove (rows_of m.entries) id
 rows-remove m n id u = same_rows _ _ (λ q. get-rows_of n.entries q ∙ u.0 q ∙ ap (λ b. cond b None (row_in m.entries q)) (is_same-symm id q)

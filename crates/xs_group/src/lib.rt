@@ -2,6 +2,7 @@
 //! Streams", and of the pages of the XGROUP commands, XREADGROUP, XACK, XPENDING, XCLAIM and XAUTOCLAIM.
 #![tactic(auto)]
 
+mod arriving;
 pub mod callers;
 pub mod claim;
 pub mod claim_rule;

@@ -1,5 +1,5 @@
 //! Pending entries that go to another consumer.
-ghost use Rattle.std.specs.Prelude.{◌≡◌, ◌∷◌, [], ◌&&◌, ◌||◌, ℕ, List, Bool, Option, true, false, not, map, is_some, option_and_then, IfOk, IfSome, if◌then◌else◌, OnOk, OnErr, IsSome};
+ghost use Rattle.std.specs.Prelude.{◌≡◌, ◌∷◌, [], ◌&&◌, ℕ, List, Option, true, false, not, map, is_some, option_and_then, IfOk, IfSome, if◌then◌else◌, OnOk, OnErr, IsSome};
 ghost use Rattle.xs_stream.specs.declared.id.Id.{Id};
 ghost use Rattle.xs_stream.specs.Id.{is_same, has_id};
 ghost use Rattle.xs_group.specs.State.{is_name};
@@ -47,24 +47,6 @@ pub(crate) fn shares(alloc: Global, name: &Name, ids: &[Id]) -> Result<Vec<Name>
     Ok(names)
 }
 
-/// Gives a consumer these ids, though their rows are still those of others.
-pub(crate) fn put_ids(owners: &mut Owners, name: &Bytes, ids: &[Id]) -> Result<(), AllocError>
-    requires { IsSome (ids_at owners.old.entries name.now) }
-    ensures names { (n : List ℕ) → is_some (ids_at owners.new.entries n) ≡ is_some (ids_at owners.old.entries n) }
-    ensures ok { OnOk result ((n : List ℕ) → (x : Id) → holds owners.new.entries n x
-        ≡ (holds owners.old.entries n x || (is_name n name.now && has_id ids.now x))) }
-    ensures err { OnErr result ((done : List Id) × AreSomeOf done ids.now
-        × ((n : List ℕ) → (x : Id) → holds owners.new.entries n x
-        ≡ (holds owners.old.entries n x || (is_name n name.now && has_id done x)))) }
-{
-    for id in ids {
-        let Ok(()) = owners::put_id(owners, name, *id) else {
-            return Err(AllocError);
-        };
-    }
-    Ok(())
-}
-
 /// The row of an id is this consumer's.
 fn is_row_of(rows: &Rows, name: &Bytes, id: Id) -> bool
     ensures { result ≡ is_owner (row_in rows.now.entries id) name.now }
@@ -96,6 +78,26 @@ pub(crate) fn take_back(rows: &Rows, owners: &mut Owners, name: &Bytes, ids: &[I
     for id in ids {
         take_back_one(rows, owners, name, *id);
     }
+}
+
+/// Gives a consumer these ids, though their rows don't say so yet, or none of them.
+pub(crate) fn add_ids(
+    rows: &Rows,
+    owners: &mut Owners,
+    name: &Bytes,
+    ids: &[Id],
+) -> Result<(), AllocError>
+    requires there { IsSome (ids_at owners.old.entries name.now) }
+    requires agreed { IsAgreed rows.now.entries owners.old.entries }
+    ensures names { (n : List ℕ) → is_some (ids_at owners.new.entries n) ≡ is_some (ids_at owners.old.entries n) }
+    ensures ok { OnOk result (AreAgreedBut rows.now.entries owners.new.entries name.now ids.now) }
+    ensures err { OnErr result (IsAgreed rows.now.entries owners.new.entries) }
+{
+    let Ok(()) = owners::put_ids(owners, name, ids) else {
+        take_back(rows, owners, name, ids);
+        return Err(AllocError);
+    };
+    Ok(())
 }
 
 /// Takes an id from the consumer whose it was, unless that is the one who gets it.

@@ -2,9 +2,10 @@
 ghost use Rattle.std.specs.Prelude.{◌≡◌, ◌&&◌, ◌||◌, ℕ, List, not, is_some, OnOk, OnErr, IsSome, None, if◌then◌else◌};
 ghost use Rattle.std.specs.BTreeSet.{contains};
 ghost use Rattle.xs_stream.specs.declared.id.Id.{Id};
-ghost use Rattle.xs_stream.specs.Id.{id_cmp, is_same};
+ghost use Rattle.xs_stream.specs.Id.{id_cmp, is_same, has_id};
 ghost use Rattle.xs_group.specs.State.{is_name};
 ghost use Rattle.xs_group.specs.Held.{holds, ids_at, row_in};
+ghost use Rattle.xs_group.specs.Verdict.{AreSomeOf};
 
 use crate::pending::Rows;
 use std::alloc::AllocError;
@@ -15,21 +16,34 @@ use xs_stream::Id;
 /// The ids of each consumer's pending entries.
 pub(crate) type Owners = BTreeMap<Bytes, BTreeSet<Id>>;
 
-/// Gives a consumer one id more.
-pub(crate) fn put_id(owners: &mut Owners, name: &Bytes, id: Id) -> Result<(), AllocError>
+/// Puts these ids into a set, or, for want of memory, some of them.
+fn insert_ids(own: &mut BTreeSet<Id>, ids: &[Id]) -> Result<(), AllocError>
+    ensures ok { OnOk result ((x : Id) → contains id_cmp own.new x ≡ (contains id_cmp own.old x || has_id ids.now x)) }
+    ensures err { OnErr result ((done : List Id) × AreSomeOf done ids.now
+        × ((x : Id) → contains id_cmp own.new x ≡ (contains id_cmp own.old x || has_id done x))) }
+{
+    for id in ids {
+        let Ok(_) = own.insert(*id) else {
+            return Err(AllocError);
+        };
+    }
+    Ok(())
+}
+
+/// Gives a consumer these ids, or, for want of memory, some of them. Their rows don't say so yet.
+pub(crate) fn put_ids(owners: &mut Owners, name: &Bytes, ids: &[Id]) -> Result<(), AllocError>
     requires { IsSome (ids_at owners.old.entries name.now) }
     ensures names { (n : List ℕ) → is_some (ids_at owners.new.entries n) ≡ is_some (ids_at owners.old.entries n) }
     ensures ok { OnOk result ((n : List ℕ) → (x : Id) → holds owners.new.entries n x
-        ≡ (holds owners.old.entries n x || (is_name n name.now && is_same x id))) }
-    ensures err { OnErr result ((n : List ℕ) → (x : Id) → holds owners.new.entries n x ≡ holds owners.old.entries n x) }
+        ≡ (holds owners.old.entries n x || (is_name n name.now && has_id ids.now x))) }
+    ensures err { OnErr result ((done : List Id) × AreSomeOf done ids.now
+        × ((n : List ℕ) → (x : Id) → holds owners.new.entries n x
+        ≡ (holds owners.old.entries n x || (is_name n name.now && has_id done x)))) }
 {
-    let Some(ids) = owners.get_mut(name) else {
+    let Some(own) = owners.get_mut(name) else {
         return Ok(());
     };
-    match ids.insert(id) {
-        Ok(_) => Ok(()),
-        Err(_) => Err(AllocError),
-    }
+    insert_ids(own, ids)
 }
 
 /// Takes an id from a consumer.

@@ -1,14 +1,14 @@
 //! The consumers and the pending entries, in two indexes: by id, and by consumer.
-ghost use Rattle.std.specs.Prelude.{◌≡◌, ◌+◌, not, length, true, false, None, Some, IfOk, OnOk, OnErr};
-ghost use Rattle.xs_bytes.specs.SortedMap.{empty, get, has_key, remove, change};
+ghost use Rattle.std.specs.Prelude.{◌≡◌, not, length, true, false, None, Some, IfOk, OnOk, OnErr};
+ghost use Rattle.xs_bytes.specs.SortedMap.{empty, get, remove, change};
 ghost use Rattle.xs_stream.specs.Id.{has_id, is_below, zero_id};
 ghost use Rattle.xs_group.specs.Report.{summary_of};
 ghost use Rattle.xs_group.specs.Listing.{rows_asked};
 ghost use Rattle.xs_group.specs.Claims.{claim_among, scan_of, claimed};
 ghost use Rattle.xs_group.specs.Verdict.{verdict_of, moved, AreApart};
 ghost use Rattle.xs_group.specs.State.{has_name, with_name, first_row, owned, with_rows, shown, unless_acked, unless_owned};
-ghost use Rattle.xs_group.specs.Held.{put_row, IsNamed, AreFree};
-ghost use Rattle.xs_stream.specs.Kept.{Ascends, ids_of};
+ghost use Rattle.xs_group.specs.Held.{IsNamed, AreFree};
+ghost use Rattle.xs_stream.specs.Kept.{ids_of};
 ghost use Rattle.xs_group.specs.Delivered.{touch_of, shown_rows, set_one, set_rows, touch_set, row_ids, taken_back, unmade};
 
 use crate::claim::{Claim, Scan};
@@ -19,7 +19,7 @@ use crate::name::Name;
 use crate::owners::{self, Owners};
 use crate::report::{GroupSummary, OwnerCounts, PendingRow};
 use crate::verdict::{Found, Verdict};
-use crate::{claiming, moving, reading, reporting};
+use crate::{arriving, claiming, moving, reading, reporting};
 use std::alloc::{AllocError, Global};
 use std::collections::{BTreeMap, BTreeSet};
 use std::marker::Model;
@@ -81,34 +81,13 @@ impl Pending {
         }
     }
 
-    /// Makes an id pending with a consumer, as delivered for the first time.
-    pub(crate) fn put(&mut self, name: &Name, id: Id, time: Moment) -> Result<(), AllocError>
-        requires there { has_name self.old.consumers name.now ≡ true }
-        requires free { has_key self.old.rows id ≡ false }
-        ensures ok { OnOk result (self.new ≡ record self.old { rows = put_row self.old.rows id (first_row name.now time) }) }
-        ensures err { OnErr result (self.new ≡ self.old) }
+    /// Takes an id out.
+    fn take(&mut self, id: Id)
+        ensures { self.new ≡ record self.old { rows = remove self.old.rows id } }
     {
-        let consumer = name.share()?;
-        let Ok(()) = owners::put_id(&mut self.owners, name.text(), id) else {
-            return Err(AllocError);
-        };
-        let Ok(_) = self.rows.insert(id, Entry::new(consumer, time, 1)) else {
-            owners::remove_id(&mut self.owners, name.text(), id);
-            return Err(AllocError);
-        };
-        Ok(())
-    }
-
-    /// Takes an id out, and says whether it was pending.
-    pub(crate) fn take(&mut self, id: Id) -> bool
-        ensures rows { self.new ≡ record self.old { rows = remove self.old.rows id } }
-        ensures found { result ≡ has_key self.old.rows id }
-    {
-        let Some(entry) = self.rows.remove(&id) else {
-            return false;
-        };
-        owners::remove_id(&mut self.owners, entry.consumer(), id);
-        true
+        if let Some(entry) = self.rows.remove(&id) {
+            owners::remove_id(&mut self.owners, entry.consumer(), id);
+        }
     }
 
     /// The name of a consumer, shared with a row of it where it has one.
@@ -131,17 +110,15 @@ impl Pending {
     ) -> Result<(), AllocError>
         requires there { has_name self.old.consumers name.now ≡ true }
         requires free { AreFree self.old.rows ids.now }
-        requires ascends { Ascends ids.now }
         ensures ok { OnOk result (self.new ≡ record self.old { rows = with_rows ids.now (first_row name.now now) self.old.rows }) }
         ensures err { OnErr result (self.new ≡ self.old) }
     {
         let shared = self.shared_name(alloc, name)?;
-        for (i, id) in ids.iter().enumerate() {
-            let Ok(()) = self.put(&shared, *id, now) else {
-                self.take_all(&ids[..i]);
-                return Err(AllocError);
-            };
-        }
+        moving::add_ids(&self.rows, &mut self.owners, name, ids)?;
+        let Ok(()) = arriving::put_rows(&mut self.rows, &shared, now, ids) else {
+            moving::take_back(&self.rows, &mut self.owners, name, ids);
+            return Err(AllocError);
+        };
         Ok(())
     }
 
@@ -153,8 +130,7 @@ impl Pending {
         now: Moment,
         ids: &[Id],
     ) -> Result<bool, AllocError>
-        requires free { AreFree self.old.rows ids.now }
-        requires ascends { Ascends ids.now }
+        requires { AreFree self.old.rows ids.now }
         ensures made { IfOk result (λ made. made ≡ not (has_name self.old.consumers name.now)) }
         ensures ok { OnOk result (self.new ≡ record {
           consumers = with_name self.old.consumers name.now;
@@ -342,10 +318,7 @@ impl Pending {
     {
         let shared = self.shared_name(alloc, name)?;
         let names = moving::shares(alloc, &shared, ids)?;
-        let Ok(()) = moving::put_ids(&mut self.owners, name, ids) else {
-            moving::take_back(&self.rows, &mut self.owners, name, ids);
-            return Err(AllocError);
-        };
+        moving::add_ids(&self.rows, &mut self.owners, name, ids)?;
         moving::move_rows(
             &mut self.rows,
             &mut self.owners,

@@ -3,7 +3,7 @@ ghost use Rattle.std.specs.Prelude.{◌≡◌, false, IfOk};
 ghost use Rattle.std.specs.BTreeMap.{IsOrdered};
 ghost use Rattle.std.specs.Ordering.{nat_cmp};
 ghost use Rattle.std.specs.Cmp.Lexicographic.{slice_cmp};
-ghost use Rattle.xs_stream.specs.Id.{id_cmp, is_below};
+ghost use Rattle.xs_stream.specs.Id.{is_below};
 ghost use Rattle.xs_group.specs.Held.{rows_of, IsAgreed, names_of};
 ghost use Rattle.xs_group.specs.Report.{first_id, last_id, pending_row};
 ghost use Rattle.xs_group.specs.Listing.{owners_told, rows_told, rows_among};

@@ -10,8 +10,8 @@ invariant_of-self-then-noack c =
     rw (c.in_ok-made.ensures.ok, c.last_id-last.ensures)
     (up_to-later c.self.inside.cursor c.args.ids.now c.self.inside.pending.rows c.self.invariant above c.requires.ascends)
 
-pub deliver-requires-clause-free : goal.deliver-requires-clause-free
-deliver-requires-clause-free c =
+pub deliver-requires : goal.deliver-requires
+deliver-requires c =
     let above = subst (λ g. AllAbove g.cursor c.args.ids.now) (sym c.self.view_is) c.requires.above in
     free-above c.self.inside.cursor c.self.inside.pending.rows c.args.ids.now c.self.invariant above
 

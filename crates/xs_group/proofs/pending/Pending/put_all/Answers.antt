@@ -1,33 +1,54 @@
-use Rattle.std.proofs.Common.{get_or, take, sym, ap, ◌∙◌}
-use Rattle.std.proofs.lemmas.List.{take_more}
-use Rattle.xs_bytes.specs.SortedMap.{change, has_key}
-use Rattle.xs_group.specs.Held.{put_row}
-use Rattle.xs_group.specs.State.{first_row, with_rows, unless_acked}
+use Rattle.std.proofs.Common.{◌≡◌, cond, Some, sym, ap, ◌∙◌}
+use Rattle.xs_bytes.specs.SortedMap.{has_key}
+use Rattle.xs_stream.specs.Id.{has_id}
+use Rattle.xs_stream.specs.declared.id.Id.{Id}
+use Rattle.xs_group.specs.State.{has_name, first_row, with_rows}
+use Rattle.xs_group.specs.Held.{rows_of, names_of, row_in, AreFree}
 use Rattle.xs_group.proofs.pending.Pending.put_all.Goals as goal
-use Rattle.xs_group.proofs.Putting.{free-more, out-again, free-take, with_rows-more}
+use Rattle.xs_group.proofs.pending.Pending.put_all.Goals.{In-Ok}
+use Rattle.xs_group.proofs.Views.{has_name-names_of, names-same, rows-same}
+use Rattle.xs_group.proofs.Agreeing.{held-by, refused-as}
+use Rattle.xs_group.proofs.Putting.{agreed-all, agreed-but, rows-all}
 
-pub put-requires-clause-free : goal.put-requires-clause-free
-put-requires-clause-free c =
-    let ids = c.args.ids.now in
-    let id = get_or ids c.loop-i.i (record { ms = 0; seq = 0 }) in
-    ap (λ held. has_key held.rows id) c.loop-i.invariant
-    ∙ free-more ids c.loop-i.i (record { ms = 0; seq = 0 }) (first_row c.args.name.now c.args.now) c.args.self.now.rows c.requires.ascends c.requires.free c.loop-i-test.true
+pub add_ids-requires-clause-there : goal.add_ids-requires-clause-there
+add_ids-requires-clause-there c =
+    sym (has_name-names_of c.self.inside.owners.entries c.args.name.now) ∙ ap (λ held. has_name held.consumers c.args.name.now) c.self.view_is ∙ c.requires.there
+
+pub returns-in_err-add_ids-clause-err : goal.returns-in_err-add_ids-clause-err
+returns-in_err-add_ids-clause-err c = refused-as c.from_residual-in_err-add_ids.result c.add_ids.new.owners.entries c.self.inside.owners.entries
+    (rows_of c.self.inside.rows.entries) c.args.self.now c.add_ids.ensures.names c.self.view_is
+
+-- the rows are of this consumer, since the shared name is its name
+put_is : (c : In-Ok) (x : Id)
+    → row_in c.put_rows.new.rows.entries x ≡ cond (has_id c.args.ids.now x) (Some (first_row c.args.name.now c.args.now)) (row_in c.self.inside.rows.entries x)
+put_is c x = c.in-Ok.ensures.ok x ∙ ap (λ k. cond (has_id c.args.ids.now x) (Some (first_row k c.args.now)) (row_in c.self.inside.rows.entries x)) c.in_ok-shared.ensures
+
+free : (c : In-Ok) → AreFree (rows_of c.self.inside.rows.entries) c.args.ids.now
+free c x e = ap (λ held. has_key held.rows x) c.self.view_is ∙ c.requires.free x e
+
+pub invariant_of-self-in-Ok : goal.invariant_of-self-in-Ok
+invariant_of-self-in-Ok c =
+    agreed-all c.self.inside.rows.entries c.put_rows.new.rows.entries c.add_ids.new.owners.entries c.args.name.now c.args.ids.now
+    (first_row c.args.name.now c.args.now) (λ i. c.args.name.now) (free c) c.in_ok-add_ids.ensures.ok (put_is c)
+
+pub take_back-requires : goal.take_back-requires
+take_back-requires c = (
+  c.args.ids.now,
+  (λ x e. e),
+  agreed-but c.self.inside.rows.entries c.put_rows.new.rows.entries c.add_ids.new.owners.entries
+      c.args.name.now c.args.ids.now c.in_ok-add_ids.ensures.ok c.in_default.ensures.err,
+)
 
 pub returns-in_default-clause-err : goal.returns-in_default-clause-err
 returns-in_default-clause-err c =
-    let ids = take c.loop-i.i c.args.ids.now in
-    let rows = c.args.self.now.rows in
-    c.take_all.ensures ∙ ap (λ held. record { consumers = held.consumers; rows = change (unless_acked ids) held.rows }) (c.in_default.ensures.err ∙ c.loop-i.invariant)
-    ∙ ap (λ r. record { consumers = c.args.self.now.consumers; rows = r })
-    (out-again ids (first_row c.args.name.now c.args.now) rows (free-take rows c.args.ids.now c.loop-i.i c.requires.free))
+    held-by (names_of c.take_back.new.owners.entries) (names_of c.self.inside.owners.entries) (rows_of c.put_rows.new.rows.entries) (rows_of c.self.inside.rows.entries)
+    (names-same c.take_back.new.owners.entries c.add_ids.new.owners.entries c.take_back.ensures.names
+    ∙ names-same c.add_ids.new.owners.entries c.self.inside.owners.entries c.add_ids.ensures.names)
+    (rows-same c.put_rows.new.rows.entries c.self.inside.rows.entries c.in_default.ensures.err) ∙ c.self.view_is
 
-pub loop-i-preserved : goal.loop-i-preserved
-loop-i-preserved c =
-    let ids = c.args.ids.now in
-    let id = get_or ids c.loop-i.i (record { ms = 0; seq = 0 }) in
-    let row = first_row c.args.name.now c.args.now in
-    let next = take_more ids c.loop-i.i (record { ms = 0; seq = 0 }) c.loop-i-test.true in
-    c.in-Ok.ensures.ok ∙ ap (λ k. record { consumers = c.loop-i.self.consumers; rows = put_row c.loop-i.self.rows id (first_row k c.args.now) }) c.in_ok-shared.ensures
-    ∙ ap (λ held. record { consumers = held.consumers; rows = put_row held.rows id row }) c.loop-i.invariant
-    ∙ ap (λ rows. record { consumers = c.args.self.now.consumers; rows = rows })
-    (with_rows-more (take c.loop-i.i ids) id row c.args.self.now.rows ∙ ap (λ done. with_rows done row c.args.self.now.rows) (sym next))
+pub returns-clause-ok : goal.returns-clause-ok
+returns-clause-ok c =
+    rw (← c.self.view_is) (held-by (names_of c.add_ids.new.owners.entries) (names_of c.self.inside.owners.entries) (rows_of c.put_rows.new.rows.entries) _
+    (names-same c.add_ids.new.owners.entries c.self.inside.owners.entries c.add_ids.ensures.names)
+    (rows-all c.self.inside.rows.entries c.put_rows.new.rows.entries c.args.ids.now (first_row c.in_ok-shared.shared c.args.now) c.in-Ok.ensures.ok
+    ∙ ap (λ k. with_rows c.args.ids.now (first_row k c.args.now) (rows_of c.self.inside.rows.entries)) c.in_ok-shared.ensures))

@@ -3,22 +3,20 @@ use Rattle.xs_group.specs.State.{has_name}
 use Rattle.xs_group.specs.Held.{rows_of, names_of}
 use Rattle.xs_group.proofs.pending.Pending.reassign.Goals as goal
 use Rattle.xs_group.proofs.Views.{has_name-names_of, names-same}
-use Rattle.xs_group.proofs.Agreeing.{held-by}
+use Rattle.xs_group.proofs.Agreeing.{held-by, refused-as}
 use Rattle.xs_group.proofs.Settling.{rows-moved}
 
-pub put_ids-requires : goal.put_ids-requires
-put_ids-requires c =
+pub add_ids-requires-clause-there : goal.add_ids-requires-clause-there
+add_ids-requires-clause-there c =
     sym (has_name-names_of c.self.inside.owners.entries c.args.name.now) ∙ ap (λ held. has_name held.consumers c.args.name.now) c.self.view_is ∙ c.requires.there
 
-pub returns-in_default-clause-err : goal.returns-in_default-clause-err
-returns-in_default-clause-err c =
-    ap (λ names. record { consumers = names; rows = rows_of c.self.inside.rows.entries })
-    (names-same c.take_back.new.owners.entries c.put_ids.new.owners.entries c.take_back.ensures.names
-    ∙ names-same c.put_ids.new.owners.entries c.self.inside.owners.entries c.put_ids.ensures.names) ∙ c.self.view_is
+pub returns-in_err-add_ids-clause-err : goal.returns-in_err-add_ids-clause-err
+returns-in_err-add_ids-clause-err c = refused-as c.from_residual-in_err-add_ids.result c.add_ids.new.owners.entries c.self.inside.owners.entries
+    (rows_of c.self.inside.rows.entries) c.args.self.now c.add_ids.ensures.names c.self.view_is
 
 pub returns-clause-ok : goal.returns-clause-ok
 returns-clause-ok c =
     rw (← c.self.view_is) (held-by (names_of c.move_rows.new.owners.entries) (names_of c.self.inside.owners.entries) (rows_of c.move_rows.new.rows.entries) _
-    (names-same c.move_rows.new.owners.entries c.put_ids.new.owners.entries c.move_rows.ensures.names
-    ∙ names-same c.put_ids.new.owners.entries c.self.inside.owners.entries c.put_ids.ensures.names)
+    (names-same c.move_rows.new.owners.entries c.add_ids.new.owners.entries c.move_rows.ensures.names
+    ∙ names-same c.add_ids.new.owners.entries c.self.inside.owners.entries c.add_ids.ensures.names)
     (rows-moved c.self.inside.rows.entries c.move_rows.new.rows.entries c.args.name.now c.args.now c.args.rule.now c.args.ids.now c.move_rows.ensures.rows))

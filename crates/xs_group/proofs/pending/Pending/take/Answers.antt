@@ -1,25 +1,19 @@
-use Rattle.std.proofs.Common.{◌&&◌, sym, ap, ◌∙◌, not, is_some}
+use Rattle.std.proofs.Common.{◌&&◌, sym, ap, ◌∙◌, not}
 use Rattle.xs_stream.specs.Id.{is_same}
 use Rattle.xs_group.specs.Held.{names_of, holds}
 use Rattle.xs_group.specs.State.{is_name}
 use Rattle.xs_group.proofs.pending.Pending.take.Goals as goal
-use Rattle.xs_group.proofs.Views.{names-same, rows-remove, get-rows_of}
+use Rattle.xs_group.proofs.Views.{names-same, rows-remove}
 use Rattle.xs_group.proofs.Agreeing.{agreed-taken, held-by}
 
-pub returns-in_default-clause-rows : goal.returns-in_default-clause-rows
-returns-in_default-clause-rows c = rw (← c.self.view_is) (held-by (names_of c.self.inside.owners.entries) (names_of c.self.inside.owners.entries) _ _
+pub returns-in_default : goal.returns-in_default
+returns-in_default c = rw (← c.self.view_is) (held-by (names_of c.self.inside.owners.entries) (names_of c.self.inside.owners.entries) _ _
     (λ i. names_of c.self.inside.owners.entries) (rows-remove c.self.inside.rows c.remove.new.self c.args.id c.remove.ensures.updates))
 
-pub returns-in_default-clause-found : goal.returns-in_default-clause-found
-returns-in_default-clause-found c = rw (← c.self.view_is) (sym (ap is_some (get-rows_of c.self.inside.rows.entries c.args.id ∙ sym c.in_default.ensures.value)))
-
-pub invariant_of-self-2 : goal.invariant_of-self-2
-invariant_of-self-2 c = agreed-taken c.self.inside.rows c.remove.new.self c.self.inside.owners.entries c.remove_id.new.owners.entries c.args.id c.in-Some.entry c.self.invariant (sym c.in-Some.ensures.value)
+pub invariant_of-self : goal.invariant_of-self
+invariant_of-self c = agreed-taken c.self.inside.rows c.remove.new.self c.self.inside.owners.entries c.remove_id.new.owners.entries c.args.id c.in-Some.entry c.self.invariant (sym c.in-Some.ensures.value)
     (λ q x. c.remove_id.ensures.ids q x ∙ ap (λ k. holds c.self.inside.owners.entries q x && not (is_name q k && is_same x c.args.id)) c.consumer.ensures) c.remove.ensures.updates
 
-pub returns-clause-rows : goal.returns-clause-rows
-returns-clause-rows c = rw (← c.self.view_is) (held-by (names_of c.remove_id.new.owners.entries) (names_of c.self.inside.owners.entries) _ _
+pub returns-in-Some : goal.returns-in-Some
+returns-in-Some c = rw (← c.self.view_is) (held-by (names_of c.remove_id.new.owners.entries) (names_of c.self.inside.owners.entries) _ _
     (names-same c.remove_id.new.owners.entries c.self.inside.owners.entries c.remove_id.ensures.names) (rows-remove c.self.inside.rows c.remove.new.self c.args.id c.remove.ensures.updates))
-
-pub returns-clause-found : goal.returns-clause-found
-returns-clause-found c = rw (← c.self.view_is) (sym (ap is_some (get-rows_of c.self.inside.rows.entries c.args.id ∙ sym c.in-Some.ensures.value)))

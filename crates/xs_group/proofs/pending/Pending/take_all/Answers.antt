@@ -12,6 +12,6 @@ pub loop-id-preserved : goal.loop-id-preserved
 loop-id-preserved c =
     let next = take_more c.args.ids.now c.loop-id.id-index (record { ms = 0; seq = 0 }) c.loop-id-test.true in
     let id = get_or c.args.ids.now c.loop-id.id-index (record { ms = 0; seq = 0 }) in
-    c.take.ensures.rows ∙ ap (λ held. record { consumers = held.consumers; rows = remove held.rows id }) c.loop-id.invariant
+    c.take.ensures ∙ ap (λ held. record { consumers = held.consumers; rows = remove held.rows id }) c.loop-id.invariant
     ∙ ap (λ rows. record { consumers = c.args.self.now.consumers; rows = rows })
     (acked-more (take c.loop-id.id-index c.args.ids.now) id c.args.self.now.rows ∙ ap (λ ids. change (unless_acked ids) c.args.self.now.rows) (sym next))

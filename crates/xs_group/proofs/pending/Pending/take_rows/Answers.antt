@@ -16,7 +16,7 @@ loop-row-preserved c =
     let row = c.row-item.result in
     let done = take c.loop-row.row-index c.args.rows.now in
     let next = take_more c.args.rows.now c.loop-row.row-index row c.loop-row-test.true ∙ ap (λ (r : DeliveryRow). done ++ r ∷ []) (sym c.row-item.is) in
-    c.take.ensures.rows ∙ ap (λ held. record { consumers = held.consumers; rows = remove held.rows row.id }) c.loop-row.invariant
+    c.take.ensures ∙ ap (λ held. record { consumers = held.consumers; rows = remove held.rows row.id }) c.loop-row.invariant
     ∙ ap (λ rows. record { consumers = c.args.self.now.consumers; rows = rows })
     (acked-more (row_ids done) row.id c.args.self.now.rows ∙ ap (λ ids. change (unless_acked ids) c.args.self.now.rows)
     (sym (row_ids-append done row) ∙ sym (ap row_ids next)))
