@@ -104,6 +104,10 @@ fn once(stream: &BTreeMap<Id, Vec<u8>>, n: u64, work: &str) -> u64 {
     let mut total = 0;
     match work {
         "fill" => total = n,
+        "kept" => {
+            std::mem::forget(group);
+            return n;
+        }
         "ack" => {
             for k in 0..n {
                 total += group.ack(&[(k.wrapping_mul(7919) % n + 1, 0)]) as u64;
