@@ -1,16 +1,21 @@
 #!/usr/bin/env python3
 """Measures a consumer group beside a plain Rust program over the same two maps.
 
-    groups.py [--runs N]      needs the toolchain and rustc
+    groups.py [--runs N]        by processor time
+    groups.py --instructions    by instructions, which other work on the machine doesn't change; needs valgrind
 
-The program over the group, bench/groups/main.rt.txt, is a crate of a repository that is laid down for the time of the
-run, with copies of the crates xs_bytes, xs_stream and xs_group. Each work is done on groups of 10,000, 100,000 and
-1,000,000 entries, until 1,000,000 rows were worked on in all. Processor time is what the kernel counts; that of making
-the stream is taken off the deliveries, and that of stream and deliveries off the other works. A run does all works of
-both programs in turn. On a shared machine a program can take half as much again from one run to the next, so the
-least of all runs is told beside the middle one.
+It needs the toolchain and rustc. The program over the group, bench/groups/main.rt.txt, is a crate of a repository that
+is laid down for the time of the run, with copies of the crates xs_bytes, xs_stream and xs_group. Each work is done on
+groups of 10,000, 100,000 and 1,000,000 entries, until 1,000,000 rows were worked on in all. What making the stream
+takes is taken off the deliveries, and what stream and deliveries take off the other works; off removals what they take
+where the group is left in memory, since removals leave nothing to free.
+
+A run does all works of both programs in turn. On a shared machine a program can take half as much again from one run to
+the next, so the least of all runs is told beside the middle one.
 """
+import argparse
 import os
+import re
 import statistics
 import subprocess
 import tempfile
@@ -19,7 +24,10 @@ import laid_down
 
 BELOW = ("xs_bytes", "xs_stream", "xs_group")
 SIZES = (10_000, 100_000, 1_000_000)
-WORKS = ("fill", "ack", "claim", "scan", "summary", "rows", "owner", "remove")
+WORKS = ("stream", "fill", "kept", "ack", "claim", "scan", "summary", "rows", "owner", "remove")
+BASES = {"stream": None, "fill": "stream", "kept": "stream", "remove": "kept"}
+# ten times over, it would be counted for half an hour
+UNCOUNTED = {(100_000, "owner"), (1_000_000, "owner")}
 
 
 def build_plain(folder):
@@ -35,10 +43,17 @@ def run(program, size, work):
     return told, used.ru_utime + used.ru_stime, used.ru_maxrss
 
 
-def taken_off(times, work, middle):
-    """The time of the work itself, by this measure of the runs."""
-    base = {"stream": None, "fill": "stream"}.get(work, "fill")
-    return middle(times[work]) - (middle(times[base]) if base else 0)
+def count(program, size, work):
+    """How many instructions it takes."""
+    words = ["valgrind", "--tool=callgrind", "--callgrind-out-file=/dev/null", program, str(size), work]
+    told = subprocess.run(words, capture_output=True, text=True, check=True).stderr
+    return int(re.search(r"Collected : (\d+)", told).group(1))
+
+
+def taken_off(of_work, work):
+    """What the work itself takes, of what each work takes with all that comes before it."""
+    base = BASES.get(work, "fill")
+    return of_work[work] - (of_work[base] if base else 0)
 
 
 def ratio(here, plain):
@@ -46,11 +61,10 @@ def ratio(here, plain):
 
 
 def measure(programs, size, runs):
-    works = ("stream", *WORKS)
-    times = {who: {work: [] for work in works} for who in programs}
-    peaks = {who: {work: 0 for work in works} for who in programs}
+    times = {who: {work: [] for work in WORKS} for who in programs}
+    peaks = {who: {work: 0 for work in WORKS} for who in programs}
     for _ in range(runs):
-        for work in works:
+        for work in WORKS:
             told = {}
             for who, program in programs.items():
                 told[who], seconds, peak = run(program, size, work)
@@ -58,26 +72,48 @@ def measure(programs, size, runs):
                 peaks[who][work] = max(peaks[who][work], peak)
             if len(set(told.values())) != 1:
                 raise SystemExit(f"{size} {work} told {told}")
-    for work in works:
-        least = {who: taken_off(times[who], work, min) for who in programs}
-        middle = {who: taken_off(times[who], work, statistics.median) for who in programs}
-        print(f"| {size:,} | {work} | {least['here']:.2f}, {middle['here']:.2f} | {least['plain']:.2f}, {middle['plain']:.2f} "
-              f"| {ratio(least['here'], least['plain'])}, {ratio(middle['here'], middle['plain'])} "
+    least, middle = (
+        {who: {work: by(times[who][work]) for work in WORKS} for who in programs} for by in (min, statistics.median)
+    )
+    for work in WORKS:
+        (low, low_plain), (mid, mid_plain) = (
+            [taken_off(by[who], work) for who in ("here", "plain")] for by in (least, middle)
+        )
+        print(f"| {size:,} | {work} | {low:.2f}, {mid:.2f} | {low_plain:.2f}, {mid_plain:.2f} "
+              f"| {ratio(low, low_plain)}, {ratio(mid, mid_plain)} "
               f"| {peaks['here'][work] / 1024:.0f} | {peaks['plain'][work] / 1024:.0f} |", flush=True)
 
 
+def count_all(programs, size):
+    works = [work for work in WORKS if (size, work) not in UNCOUNTED]
+    taken = {who: {work: count(program, size, work) for work in works} for who, program in programs.items()}
+    for work in works:
+        here, plain = (taken_off(taken[who], work) / 1e6 for who in ("here", "plain"))
+        print(f"| {size:,} | {work} | {here:.0f} | {plain:.0f} | {ratio(here, plain)} |", flush=True)
+
+
 def main():
-    runs = laid_down.runs(__doc__)
+    parser = argparse.ArgumentParser(description=__doc__, formatter_class=argparse.RawDescriptionHelpFormatter)
+    parser.add_argument("--runs", type=int, default=8)
+    parser.add_argument("--instructions", action="store_true")
+    asked = parser.parse_args()
     with tempfile.TemporaryDirectory() as folder:
         programs = {
             "here": laid_down.build(folder, "groups", BELOW, ["10000", "stream"]),
             "plain": build_plain(folder),
         }
-        print("| Entries | Work | here, s: least, middle | plain Rust, s: least, middle | ratio: least, middle "
-              "| here, peak MiB | plain, peak MiB |")
-        print("|---|---|---|---|---|---|---|")
+        if asked.instructions:
+            print("| Entries | Work | here, millions | plain Rust, millions | ratio |")
+            print("|---|---|---|---|---|")
+        else:
+            print("| Entries | Work | here, s: least, middle | plain Rust, s: least, middle | ratio: least, middle "
+                  "| here, peak MiB | plain, peak MiB |")
+            print("|---|---|---|---|---|---|---|")
         for size in SIZES:
-            measure(programs, size, runs)
+            if asked.instructions:
+                count_all(programs, size)
+            else:
+                measure(programs, size, asked.runs)
 
 
 if __name__ == "__main__":
