@@ -7,6 +7,7 @@ use Rattle.std.specs.BTreeSet.{BTreeSet}
 use Rattle.std.specs.Ordering.{nat_cmp, is_eq}
 use Rattle.std.specs.Cmp.{eq_by_cmp_equiv}
 use Rattle.std.specs.Cmp.Lexicographic.{slice_cmp, nat_list_cmp_total}
+use Rattle.std.proofs.Math.Bool.{or_assoc}
 use Rattle.std.proofs.lemmas.Cmp.{tied_itself}
 use Rattle.std.proofs.lemmas.Map.Lookups.{exact_bytes}
 use Rattle.xs_stream.specs.declared.id.Id.{Id}
@@ -43,10 +44,7 @@ and_turned false false = refl
 pub contains-more : (s w : BTreeSet Id) (id : Id) (a h : Bool) (x : Id) → set.Updates id_cmp s w id true → set.contains id_cmp s x ≡ (a || h)
     → set.contains id_cmp w x ≡ (a || (h || is_same x id))
 contains-more s w id a h x v e = v.0 x ∙ or_turned (is_same id x) (set.contains id_cmp s x) ∙ ap (λ b. b || is_same id x) e
-    ∙ ap (λ b. (a || h) || b) (is_same-symm id x) ∙ by a h where
-      by : (a h : Bool) → ((a || h) || is_same x id) ≡ (a || (h || is_same x id))
-      by true h = refl
-      by false h = refl
+    ∙ ap (λ b. (a || h) || b) (is_same-symm id x) ∙ or_assoc a h (is_same x id)
 
 or_no : (b : Bool) → b ≡ (b || false)
 or_no true = refl

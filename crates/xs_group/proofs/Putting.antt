@@ -1,15 +1,16 @@
 -- Rows that are put.
 use Rattle.std.proofs.Common.{◌≡◌, ℕ, suc, zero, Bool, true, false, cond, not, ◌||◌, List, [], ◌∷◌, ◌++◌, take, Option, Some, None, is_some, option_and_then, ◌&&◌, sym, ap, ◌∙◌, refl}
 use Rattle.std.proofs.lemmas.Bool.{false≢true}
+use Rattle.std.proofs.Math.Bool.{and-true, and-false, or-false}
 use Rattle.std.specs.BTreeMap.{UpdatesBy}
 use Rattle.std.specs.Cmp.Lexicographic.{nat_list_cmp_total}
-use Rattle.xs_bytes.specs.SortedMap.{get, remove, change}
+use Rattle.xs_bytes.specs.SortedMap.{get, remove, change, insert_by}
 use Rattle.xs_bytes.proofs.SortedMaps.{get-insert_by, get-remove}
 use Rattle.xs_stream.specs.declared.id.Id.{Id}
 use Rattle.xs_stream.specs.Id.{id_cmp, is_same, has_id}
 use Rattle.xs_stream.proofs.Order.{is_same-symm}
 use Rattle.xs_group.specs.State.{Row, Rows, Names, ids_total, is_name, has_name, with_name, with_rows, unless_acked, unless_owned}
-use Rattle.xs_group.specs.Held.{put_row, rows_of, row_in, Owners, is_owner, AreFree, IsAgreed, IsNamed, Held}
+use Rattle.xs_group.specs.Held.{rows_of, row_in, Owners, is_owner, AreFree, IsAgreed, IsNamed, Held}
 use Rattle.xs_group.specs.Verdict.{AreAgreedBut}
 use Rattle.xs_group.proofs.ByConsumer.{is_name-eq, is_name-refl, is_name-symm}
 use Rattle.xs_group.proofs.Choosing.{has-more}
@@ -25,7 +26,7 @@ cond_or false false x y = refl
 
 pub get-with_rows : (ids : List Id) (row : Row) (rows : Rows) (q : Id) → get (with_rows ids row rows) q ≡ cond (has_id ids q) (Some row) (get rows q)
 get-with_rows [] row rows q = refl
-get-with_rows (x ∷ xs) row rows q = get-with_rows xs row (put_row rows x row) q ∙ ap (cond (has_id xs q) (Some row)) (get-insert_by ids_total rows x row q)
+get-with_rows (x ∷ xs) row rows q = get-with_rows xs row (insert_by ids_total rows x row) q ∙ ap (cond (has_id xs q) (Some row)) (get-insert_by ids_total rows x row q)
     ∙ cond_or (has_id xs q) (is_same q x) (Some row) (get rows q)
 
 -- ---- one id after the other
@@ -39,9 +40,9 @@ rows-more done id x v o p e = ap (cond (is_same x id) v) e ∙ cond_or (is_same 
 -- ---- all of them
 
 -- the rows of ids that had none, once they are out again
-pub none-left : (rows : List (Id × Row)) (ids done : List Id) (row : Row) (x : Id) → AreFree (rows_of rows) ids → (has_id done x ≡ true → has_id ids x ≡ true)
+pub none-again : (rows : List (Id × Row)) (ids done : List Id) (row : Row) (x : Id) → AreFree (rows_of rows) ids → (has_id done x ≡ true → has_id ids x ≡ true)
     → cond (has_id done x) None (cond (has_id done x) (Some row) (row_in rows x)) ≡ row_in rows x
-none-left rows ids done row x free some = by (has_id done x) some where
+none-again rows ids done row x free some = by (has_id done x) some where
   by : (t : Bool) → (t ≡ true → has_id ids x ≡ true) → cond t None (cond t (Some row) (row_in rows x)) ≡ row_in rows x
   by true e = sym (none-from_free rows x (free x (e refl)))
   by false e = refl
@@ -53,18 +54,9 @@ pub agreed-all : (m n : List (Id × Row)) (b : Owners) (name : List ℕ) (ids : 
     → AreAgreedBut m b name ids → ((x : Id) → row_in n x ≡ cond (has_id ids x) (Some row) (row_in m x)) → IsAgreed n b
 agreed-all m n b name ids row whose free but is q x = but q x
     ∙ by (has_id ids x) (λ e. none-from_free m x (free x e)) ∙ sym (ap (λ o. is_owner o q) (is x)) where
-      and_true : (c : Bool) → (c && true) ≡ c
-      and_true true = refl
-      and_true false = refl
-
-      none : (c d : Bool) → (c || (d && false)) ≡ c
-      none true d = refl
-      none false true = refl
-      none false false = refl
-
       by : (t : Bool) → (t ≡ true → row_in m x ≡ None) → (is_owner (row_in m x) q || (is_name q name && t)) ≡ is_owner (cond t (Some row) (row_in m x)) q
-      by true e = ap (λ o. is_owner o q || (is_name q name && true)) (e refl) ∙ and_true (is_name q name) ∙ is_name-symm q name ∙ ap (λ k. is_name k q) (sym whose)
-      by false e = none (is_owner (row_in m x) q) (is_name q name)
+      by true e = ap (λ o. is_owner o q || (is_name q name && true)) (e refl) ∙ and-true (is_name q name) ∙ is_name-symm q name ∙ ap (λ k. is_name k q) (sym whose)
+      by false e = ap (λ b. is_owner (row_in m x) q || b) (and-false (is_name q name)) ∙ or-false (is_owner (row_in m x) q)
 
 -- rows that are what they were
 pub agreed-but : (m n : List (Id × Row)) (b : Owners) (name : List ℕ) (ids : List Id) → AreAgreedBut m b name ids

@@ -8,13 +8,10 @@ use Rattle.std.specs.Ordering.{nat_cmp}
 use Rattle.std.specs.Cmp.Lexicographic.{slice_cmp}
 use Rattle.xs_bytes.specs.MapCode.{coded_map}
 use Rattle.xs_bytes.specs.MapOf.{of_entries, from_entries}
-use Rattle.xs_bytes.specs.SortedMap.{get, has_key, insert_by}
+use Rattle.xs_bytes.specs.SortedMap.{get, has_key}
 use Rattle.xs_stream.specs.declared.id.Id.{Id}
 use Rattle.xs_stream.specs.Id.{id_cmp, has_id}
 use Rattle.xs_group.specs.State.{Row, Rows, Names, State, ids_total, is_name, has_name}
-
-abbrev pub put_row : Rows → Id → Row → Rows
-put_row rows id row = insert_by ids_total rows id row
 
 abbrev pub rows_of : List (Id × Row) → Rows
 rows_of entries = of_entries ids_total entries

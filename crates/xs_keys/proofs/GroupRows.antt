@@ -8,8 +8,7 @@ use Rattle.xs_stream.specs.declared.id.Id.{Id}
 use Rattle.xs_stream.specs.Id.{id_cmp, is_below, is_same, has_id}
 use Rattle.xs_stream.specs.Kept.{Ascends, AllAbove, AllUpTo}
 use Rattle.xs_stream.proofs.Order.{above-greater, up_to-below, below-not_back, below-irrefl, is_same-refl}
-use Rattle.xs_group.specs.State.{Row, Rows, with_rows}
-use Rattle.xs_group.specs.Held.{put_row}
+use Rattle.xs_group.specs.State.{Row, Rows, ids_total, with_rows}
 use Rattle.xs_keys.specs.Turn.{rows_among}
 use Rattle.xs_keys.proofs.IdLists.{up_to-append, up_to-raise}
 
@@ -91,5 +90,5 @@ unfolding insert_by
 entries-with_rows [] row rows a up above asc = sym (append-nil rows.entries)
 entries-with_rows (x ∷ xs) row rows a up above asc =
     let put_in = put-last rows.entries a x row up above.0 in
-    entries-with_rows xs row (put_row rows x row) x (subst (λ es. AllUpTo x (row_ids es)) (sym put_in) (up_to-last rows.entries a x row up above.0)) asc.0 asc.1
+    entries-with_rows xs row (insert_by ids_total rows x row) x (subst (λ es. AllUpTo x (row_ids es)) (sym put_in) (up_to-last rows.entries a x row up above.0)) asc.0 asc.1
     ∙ ap (λ es. es ++ each_row row xs) put_in ∙ append_assoc rows.entries ((x, row) ∷ []) (each_row row xs)

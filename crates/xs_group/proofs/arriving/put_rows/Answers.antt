@@ -3,14 +3,14 @@ use Rattle.std.proofs.lemmas.List.{take_more}
 use Rattle.xs_stream.specs.Id.{has_id}
 use Rattle.xs_group.specs.State.{first_row}
 use Rattle.xs_group.specs.Held.{row_in}
-use Rattle.xs_group.proofs.Putting.{rows-more, none-left, among-take}
+use Rattle.xs_group.proofs.Putting.{rows-more, none-again, among-take}
 use Rattle.xs_group.proofs.arriving.put_rows.Goals as goal
 
 pub returns-in_default-clause-err : goal.returns-in_default-clause-err
 returns-in_default-clause-err c =
     let done = take c.loop-i.i c.args.ids.now in
     λ x. c.remove_rows.ensures x ∙ ap (cond (has_id done x) None) (ap (λ rows. row_in rows x) c.in_default.ensures.err ∙ c.loop-i.invariant x)
-    ∙ none-left c.args.rows.now.entries c.args.ids.now done (first_row c.args.name.now c.args.now) x c.requires (among-take c.args.ids.now c.loop-i.i x)
+    ∙ none-again c.args.rows.now.entries c.args.ids.now done (first_row c.args.name.now c.args.now) x c.requires (among-take c.args.ids.now c.loop-i.i x)
 
 pub loop-i-preserved : goal.loop-i-preserved
 loop-i-preserved c =
