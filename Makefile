@@ -4,7 +4,7 @@ PROGRAM = crates/xs_server/out/xs_server
 
 # Proves and builds the program, and runs the script of two additions.
 run:
-	@echo "Proving and building xs_server. The first time everything is proved, which takes a quarter of an hour."
+	@echo "Proving and building xs_server. The first time everything is proved, which can take a quarter of an hour."
 	@cd crates/xs_server && rt run -- script < stdin
 
 # Proves everything from nothing, tries the edits that have to fail, and runs the tests and the worked cases.
