@@ -37,26 +37,24 @@ pub adds-step : (m n : BTreeMap (List ℕ) Key) (now : ℕ) (add : AddCommand) (
     → UpdatesBy (slice_cmp nat_cmp) (slice_cmp nat_cmp add.key) m n (Some (record { stream = new; groups = groups }))
     → Adds old now add answer new → Step (content_of m.entries) now (Add add) answer (content_of n.entries)
 adds-step m n now add answer old new groups found written (inl done) = inl (record {
-  served = refl;
   answer_is = rw found done.0;
   content_is = rw (found, ← done.1) (content-insert m n add.key (record { stream = new; groups = groups }) written);
 })
-adds-step m n now add answer old new groups found written (inr refused) = inr (inl (record {
+adds-step m n now add answer old new groups found written (inr refused) = inr (record {
   takes = refl;
   no_other = rw found (no_error (assigned now old.top add.id) refused.0);
   answer_is = refused.1;
   content_is = content-insert m n add.key (record { stream = new; groups = groups }) written ∙ rw refused.2 (insert-same (content_of m.entries) add.key (record { stream = old; groups = groups }) found);
-}))
+})
 
 -- so is an addition that makes the key
-pub new-step : (m n : BTreeMap (List ℕ) Key) (now : ℕ) (add : AddCommand) (text : List ℕ) (new : Kept) → add.make ≡ true
+pub new-step : (m n : BTreeMap (List ℕ) Key) (now : ℕ) (add : AddCommand) (text : List ℕ) (new : Kept) (groups : NameMap State) → groups ≡ empty → add.make ≡ true
     → get (content_of m.entries) add.key ≡ None
     → text_of (assigned now new_key.stream.top add.id) ≡ Some text
     → new ≡ stream_after (added now add.id add.fields add.trim) new_key.stream
-    → UpdatesBy (slice_cmp nat_cmp) (slice_cmp nat_cmp add.key) m n (Some (record { stream = new; groups = empty }))
+    → UpdatesBy (slice_cmp nat_cmp) (slice_cmp nat_cmp add.key) m n (Some (record { stream = new; groups = groups }))
     → Step (content_of m.entries) now (Add add) (Bulk text) (content_of n.entries)
-new-step m n now add text new make missing printed is written = inl (record {
-  served = refl;
+new-step m n now add text new groups none make missing printed is written = inl (record {
   answer_is = rw (missing, make) (bulk-of (assigned now new_key.stream.top add.id) text printed);
-  content_is = rw (missing, make, ← is) (content-insert m n add.key (record { stream = new; groups = empty }) written);
+  content_is = rw (missing, make, ← is, ← none) (content-insert m n add.key (record { stream = new; groups = groups }) written);
 })

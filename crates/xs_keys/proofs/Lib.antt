@@ -1,6 +1,8 @@
 pub mod Additions
+pub mod AskSteps
 pub mod Contents
 pub mod Deliveries
+pub mod GroupMaking
 pub mod GroupRows
 pub mod GroupSteps
 pub mod Histories
@@ -10,5 +12,6 @@ pub mod Lives
 pub mod Maps
 pub mod Names
 pub mod Owners
+pub mod ReadSteps
 pub mod Runs
 pub mod Streams

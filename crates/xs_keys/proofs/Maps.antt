@@ -10,31 +10,32 @@ use Rattle.std.specs.Ordering.{nat_cmp}
 use Rattle.std.specs.Cmp.{eq_by_cmp_equiv}
 use Rattle.std.specs.Cmp.Lexicographic.{slice_cmp, nat_list_cmp_total}
 use Rattle.xs_group.specs.State.{is_name}
-use Rattle.xs_keys.specs.Content.{Key}
-use Rattle.xs_keys.specs.Codes.{content_of}
+use Rattle.xs_bytes.specs.MapOf.{from_entries}
 use Rattle.xs_keys.proofs.Names.{same_map, get-insert, get-remove}
 
-find-lookup : (q : List ℕ) (es : List (List ℕ × Key)) → find (slice_cmp nat_cmp) q es ≡ lookup (is_at (slice_cmp nat_cmp q)) es
-find-lookup q [] = refl
-find-lookup q (e ∷ es) = ap (cond (is_name q e.0) (Some e.1)) (find-lookup q es)
+module _ {X : Type 0} where
+  find-lookup : (q : List ℕ) (es : List (List ℕ × X)) → find (slice_cmp nat_cmp) q es ≡ lookup (is_at (slice_cmp nat_cmp q)) es
+  find-lookup q [] = refl
+  find-lookup q (e ∷ es) = ap (cond (is_name q e.0) (Some e.1)) (find-lookup q es)
 
--- a key is found in the content as it is found in the map
-pub get-content_of : (m : BTreeMap (List ℕ) Key) (q : List ℕ) → get (content_of m.entries) q ≡ tree.get (slice_cmp nat_cmp) m q
-get-content_of m q = get-of_entries nat_list_cmp_total m.entries q ∙ find-lookup q m.entries
+  -- a name is found in the value as it is found in the map
+  pub get-content_of : (m : BTreeMap (List ℕ) X) (q : List ℕ) → get (from_entries m.entries) q ≡ tree.get (slice_cmp nat_cmp) m q
+  get-content_of m q = get-of_entries nat_list_cmp_total m.entries q ∙ find-lookup q m.entries
 
 turned : (a b : List ℕ) → is_name a b ≡ is_name b a
 turned a b = (eq_by_cmp_equiv nat_list_cmp_total).symm a b
 
--- a map with a new value at a key
-pub content-insert : (m n : BTreeMap (List ℕ) Key) (name : List ℕ) (key : Key) → UpdatesBy (slice_cmp nat_cmp) (slice_cmp nat_cmp name) m n (Some key)
-    → content_of n.entries ≡ insert (content_of m.entries) name key
-content-insert m n name key u = same_map _ _ (λ q.
-    get-content_of n q ∙ u.0 q ∙ ap (λ b. cond b (Some key) (tree.get (slice_cmp nat_cmp) m q)) (turned name q)
-    ∙ ap (cond (is_name q name) (Some key)) (sym (get-content_of m q)) ∙ sym (get-insert (content_of m.entries) name key q))
+module _ {X : Type 0} where
+  -- a map with a new value at a name
+  pub content-insert : (m n : BTreeMap (List ℕ) X) (name : List ℕ) (x : X) → UpdatesBy (slice_cmp nat_cmp) (slice_cmp nat_cmp name) m n (Some x)
+      → from_entries n.entries ≡ insert (from_entries m.entries) name x
+  content-insert m n name x u = same_map _ _ (λ q.
+      get-content_of n q ∙ u.0 q ∙ ap (λ b. cond b (Some x) (tree.get (slice_cmp nat_cmp) m q)) (turned name q)
+      ∙ ap (cond (is_name q name) (Some x)) (sym (get-content_of m q)) ∙ sym (get-insert (from_entries m.entries) name x q))
 
--- a map without a key
-pub content-remove : (m n : BTreeMap (List ℕ) Key) (name : List ℕ) → UpdatesBy (slice_cmp nat_cmp) (slice_cmp nat_cmp name) m n None
-    → content_of n.entries ≡ remove (content_of m.entries) name
-content-remove m n name u = same_map _ _ (λ q.
-    get-content_of n q ∙ u.0 q ∙ ap (λ b. cond b None (tree.get (slice_cmp nat_cmp) m q)) (turned name q)
-    ∙ ap (cond (is_name q name) None) (sym (get-content_of m q)) ∙ sym (get-remove (content_of m.entries) name q))
+  -- a map without a name
+  pub content-remove : (m n : BTreeMap (List ℕ) X) (name : List ℕ) → UpdatesBy (slice_cmp nat_cmp) (slice_cmp nat_cmp name) m n None
+      → from_entries n.entries ≡ remove (from_entries m.entries) name
+  content-remove m n name u = same_map _ _ (λ q.
+      get-content_of n q ∙ u.0 q ∙ ap (λ b. cond b None (tree.get (slice_cmp nat_cmp) m q)) (turned name q)
+      ∙ ap (cond (is_name q name) None) (sym (get-content_of m q)) ∙ sym (get-remove (from_entries m.entries) name q))

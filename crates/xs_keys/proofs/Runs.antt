@@ -32,10 +32,8 @@ one_more mid e reply now next is (inl applied) = (
   subst (λ c. IsContent c (e ∷ mid)) (sym applied.content_is) (content-step mid now e.0 e.1 is),
   λ rest answers last done. inl (now, is, applied.answer_is, done),
 )
-one_more mid e reply now next is (inr (inl refused)) =
-    (mid, subst (λ c. IsContent c mid) (sym refused.content_is) is, λ rest answers last done. inr (inl (refused.takes, refused.answer_is), done))
-one_more mid e reply now next is (inr (inr unserved)) =
-    (mid, subst (λ c. IsContent c mid) (sym unserved.content_is) is, λ rest answers last done. inr (inr (unserved.unserved, unserved.answer_is), done))
+one_more mid e reply now next is (inr refused) =
+    (mid, subst (λ c. IsContent c mid) (sym refused.content_is) is, λ rest answers last done. inr ((refused.takes, refused.answer_is), done))
 
 pub runs-more : (old : Content) (events : List (ℕ × Command)) (replies : List Reply) (now next : Content) (e : ℕ × Command) (rest : List (ℕ × Command)) (reply : Reply)
     → RunsSoFar old events replies now (e ∷ rest) → Step now e.0 e.1 reply next → RunsSoFar old events (replies ++ reply ∷ []) next rest

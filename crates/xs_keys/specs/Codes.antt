@@ -31,3 +31,7 @@ coded_content = coded_map (coded_list coded_ℕ) coded_key
 -- the content of a list of keys
 abbrev pub content_of : List (List ℕ × Key) → Content
 content_of entries = from_entries entries
+
+-- the groups of a list of groups
+abbrev pub groups_of : List (List ℕ × State) → NameMap State
+groups_of entries = from_entries entries

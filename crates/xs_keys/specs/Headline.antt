@@ -1,26 +1,14 @@
--- One call: applied, or refused for want of memory, or not served yet. The headline, of a run of commands over a
+-- One call: applied, or refused for want of memory. The headline, of a run of commands over a
 -- history; and what each life of a group promises: new deliveries, and one owner until an entry is settled.
 use Rattle.std.specs.Prelude.{◌≡◌, ℕ, Bool, true, false, ◌⊎◌, Some, not, ◌||◌, List, [], ◌∷◌, ◌++◌, None, is_some}
-use Rattle.xs_keys.specs.Ground.{Memory, Unsupported, Reply, Error, Command, Ping, Quit, Add, Delete, TrimTo, Len, Scan}
+use Rattle.xs_keys.specs.Ground.{Memory, Reply, Error, Command, Ping, Add, Scan}
 use Rattle.xs_keys.specs.Ground.{GroupCreate, ConsumerCreate, ReadGroup, Pending, PendingRows, Claim, AutoClaim}
-use Rattle.xs_keys.specs.Ground.{DropKeys, Id, is_below, has_id, Ascends, AllAbove}
+use Rattle.xs_keys.specs.Ground.{Id, is_below, has_id, Ascends, AllAbove}
 use Rattle.xs_keys.specs.Content.{Content, IsContent, IsLawfulContent, after}
 use Rattle.xs_keys.specs.Reply.{reply}
 use Rattle.xs_keys.specs.Turn.{Turn, consumer_of, delivered, cursor, is_their_turn, delivers_pending, takes, settles}
 use Rattle.xs_keys.specs.Turn.{owner}
 use Rattle.xs_keys.specs.GroupLife.{GroupLife, group_life}
-
--- the commands that are served today; those of groups are not yet
-abbrev pub is_served : Command → Bool
-is_served (Ping message) = true
-is_served Quit = true
-is_served (Add add) = true
-is_served (Delete name ids) = true
-is_served (TrimTo name trim) = true
-is_served (Len name) = true
-is_served (Scan scan) = true
-is_served (DropKeys names) = true
-is_served _ = false
 
 -- the commands that may find no memory
 abbrev pub takes_memory : Command → Bool
@@ -42,7 +30,6 @@ is_error _ = false
 
 -- the reply is the model's, and so is what is left
 pub record Applied (old : Content) (now : ℕ) (command : Command) (answer : Reply) (new : Content) : Type 0 where
-  pub served : is_served command ≡ true
   pub answer_is : answer ≡ reply old now command
   pub content_is : new ≡ after old now command
 
@@ -53,16 +40,8 @@ pub record OutOfMemory (old : Content) (now : ℕ) (command : Command) (answer :
   pub answer_is : answer ≡ Error Memory
   pub content_is : new ≡ old
 
--- the command isn't served yet: nothing has changed
-pub record Unserved (old : Content) (command : Command) (answer : Reply) (new : Content) : Type 0 where
-  pub unserved : is_served command ≡ false
-  pub answer_is : answer ≡ Error Unsupported
-  pub content_is : new ≡ old
-
 abbrev pub Step : Content → ℕ → Command → Reply → Content → Type 0
-Step old now command answer new =
-    Applied old now command answer new
-    ⊎ (OutOfMemory old now command answer new ⊎ Unserved old command answer new)
+Step old now command answer new = Applied old now command answer new ⊎ OutOfMemory old now command answer new
 
 -- one of the turns is their turn, and the id is delivered exactly where it is in the stream then
 pub record HadItsTurn (start : Id) (turns : List Turn) (x : Id) : Type 0 where
@@ -117,11 +96,9 @@ pub record HasOneOwner (life : GroupLife) : Type 0 where
   pub until_settled : OwnedUntilSettled life.start life.turns
   pub by_claims : ChangesByClaims life.start life.turns
 
--- it was refused for want of memory, or isn't served yet: it is left out of the history
+-- it was refused for want of memory: it is left out of the history
 abbrev pub IsLeftOut : Command → Reply → Type 0
-IsLeftOut command answer =
-    ((takes_memory command ≡ true) × (answer ≡ Error Memory))
-    ⊎ ((is_served command ≡ false) × (answer ≡ Error Unsupported))
+IsLeftOut command answer = (takes_memory command ≡ true) × (answer ≡ Error Memory)
 
 -- from a past on, these are answers to these events, and the last history has those that were applied:
 -- each reply is the model's at the content of the events before it, or the event is left out

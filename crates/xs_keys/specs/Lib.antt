@@ -6,6 +6,8 @@ pub mod Content
 pub mod Reply
 pub mod Headline
 pub mod Adding
+pub mod Reading
+pub mod Grouping
 pub mod Codes
 pub mod Played
 pub mod Examples

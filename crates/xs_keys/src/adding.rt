@@ -14,6 +14,7 @@ use crate::changing::Keys;
 use crate::showing::id_text;
 use crate::slot::Slot;
 use std::alloc::Global;
+use std::collections::BTreeMap;
 use xs_bytes::Bytes;
 use xs_command::{AddCommand, Command};
 use xs_resp::{Fault, Reply};
@@ -91,7 +92,8 @@ fn add_missing(keys: &mut Keys, alloc: Global, now: Moment, add: &AddCommand) ->
     let Ok(text) = try_add(alloc, &mut stream, now, add) else {
         return Reply::Error(Fault::Memory);
     };
-    match keys.insert(key, Slot { stream }) {
+    let groups = BTreeMap::new(alloc);
+    match keys.insert(key, Slot { stream, groups }) {
         Ok(_) => Reply::Bulk(text),
         Err(_) => Reply::Error(Fault::Memory),
     }

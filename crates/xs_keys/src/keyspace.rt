@@ -5,12 +5,14 @@ ghost use Rattle.xs_command.specs.WellFormed.{IsAddId, IsWellFormed};
 ghost use Rattle.xs_keys.specs.Headline.{Step, RunsOn};
 
 use crate::changing::Keys;
-use crate::{adding, changing, showing};
+use crate::{
+    adding, asking, changing, claiming, consumers, grouping, reading, reporting, scanning, showing,
+};
 use std::alloc::{AllocError, Global};
 use std::collections::BTreeMap;
 use std::marker::Model;
 use xs_bytes::Bytes;
-use xs_command::{AddCommand, Command, Names, ScanCommand};
+use xs_command::{PendingRowsCommand, AutoClaimCommand, AddCommand, ClaimCommand, Command, GroupCreateCommand, Names, ReadGroupCommand, ScanCommand};
 use xs_resp::{Fault, Reply, Simple};
 use xs_stream::{Ids, Moment, Trim};
 
@@ -58,7 +60,24 @@ impl Keyspace {
             Command::Len { key } => self.count(now, key),
             Command::Scan(scan) => self.scan(now, scan),
             Command::DropKeys { keys } => self.drop_keys(now, keys),
-            _ => Reply::Error(Fault::Unsupported),
+            Command::ReadGroup(read) => self.read_group(now, read),
+            Command::Claim(claim) => self.claim(now, claim),
+            Command::GroupCreate(create) => self.create_group(now, create),
+            Command::Ack { key, group, ids } => self.ack(now, key, group, ids),
+            Command::AutoClaim(claim) => self.auto_claim(now, claim),
+            Command::Pending { key, group } => self.pending(now, key, group),
+            Command::PendingRows(rows) => self.pending_rows(now, rows),
+            Command::GroupDestroy { key, group } => self.destroy_group(now, key, group),
+            Command::ConsumerCreate {
+                key,
+                group,
+                consumer,
+            } => self.join(now, key, group, consumer),
+            Command::ConsumerDelete {
+                key,
+                group,
+                consumer,
+            } => self.leave(now, key, group, consumer),
         }
     }
 
@@ -116,6 +135,76 @@ impl Keyspace {
         ensures { Step self.old _now (Command.DropKeys names.now) result self.new }
     {
         Reply::Int(changing::drop_keys(&mut self.keys, names.as_slice()))
+    }
+
+    /// XREADGROUP.
+    fn read_group(&mut self, now: Moment, read: &ReadGroupCommand) -> Reply
+        ensures { Step self.old now (Command.ReadGroup read.now) result self.new }
+    {
+        reading::read(&mut self.keys, self.alloc, now, read)
+    }
+
+    /// XCLAIM.
+    fn claim(&mut self, now: Moment, claim: &ClaimCommand) -> Reply
+        ensures { Step self.old now (Command.Claim claim.now) result self.new }
+    {
+        claiming::claim(&mut self.keys, self.alloc, now, claim)
+    }
+
+    /// XGROUP CREATE.
+    fn create_group(&mut self, now: Moment, create: &GroupCreateCommand) -> Reply
+        ensures { Step self.old now (Command.GroupCreate create.now) result self.new }
+    {
+        grouping::create(&mut self.keys, self.alloc, now, create)
+    }
+
+    /// XACK.
+    fn ack(&mut self, now: Moment, key: &Bytes, group: &Bytes, ids: &Ids) -> Reply
+        ensures { Step self.old now (Command.Ack key.now group.now ids.now) result self.new }
+    {
+        Reply::Int(asking::ack(&mut self.keys, now, key, group, ids.as_slice()))
+    }
+
+    /// XAUTOCLAIM.
+    fn auto_claim(&mut self, now: Moment, claim: &AutoClaimCommand) -> Reply
+        ensures { Step self.old now (Command.AutoClaim claim.now) result self.new }
+    {
+        scanning::scan(&mut self.keys, self.alloc, now, claim)
+    }
+
+    /// XPENDING, the short form.
+    fn pending(&self, now: Moment, key: &Bytes, group: &Bytes) -> Reply
+        ensures { Step self.now now (Command.Pending key.now group.now) result self.now }
+    {
+        reporting::pending(&self.keys, self.alloc, now, key, group)
+    }
+
+    /// XPENDING, the long form.
+    fn pending_rows(&self, now: Moment, rows: &PendingRowsCommand) -> Reply
+        ensures { Step self.now now (Command.PendingRows rows.now) result self.now }
+    {
+        reporting::pending_rows(&self.keys, self.alloc, now, rows)
+    }
+
+    /// XGROUP DESTROY.
+    fn destroy_group(&mut self, now: Moment, key: &Bytes, group: &Bytes) -> Reply
+        ensures { Step self.old now (Command.GroupDestroy key.now group.now) result self.new }
+    {
+        consumers::destroy(&mut self.keys, now, key, group)
+    }
+
+    /// XGROUP CREATECONSUMER.
+    fn join(&mut self, now: Moment, key: &Bytes, group: &Bytes, consumer: &Bytes) -> Reply
+        ensures { Step self.old now (Command.ConsumerCreate key.now group.now consumer.now) result self.new }
+    {
+        consumers::join(&mut self.keys, self.alloc, now, key, group, consumer)
+    }
+
+    /// XGROUP DELCONSUMER.
+    fn leave(&mut self, now: Moment, key: &Bytes, group: &Bytes, consumer: &Bytes) -> Reply
+        ensures { Step self.old now (Command.ConsumerDelete key.now group.now consumer.now) result self.new }
+    {
+        consumers::leave(&mut self.keys, now, key, group, consumer)
     }
 
     /// Applies commands at their moments, in order. A refusal means that nothing was applied; a command

@@ -2,11 +2,18 @@
 #![tactic(auto)]
 
 mod adding;
+mod asking;
 mod changing;
+mod claiming;
 pub mod clock;
+mod consumers;
 pub mod examples;
+mod grouping;
 pub mod keyspace;
 pub mod laws;
+mod reading;
+mod reporting;
+mod scanning;
 mod showing;
 mod slot;
 

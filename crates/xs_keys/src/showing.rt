@@ -43,7 +43,7 @@ fn fields_shown(alloc: Global, fields: &[Field]) -> Result<Replies, AllocError>
 }
 
 /// An array of two replies.
-fn pair(alloc: Global, first: Reply, second: Reply) -> Result<Reply, AllocError>
+pub fn pair(alloc: Global, first: Reply, second: Reply) -> Result<Reply, AllocError>
     ensures { IfOk result (λ reply. reply ≡ array (first ∷ second ∷ [])) }
 {
     let mut items = Vec::with_capacity(alloc, 2)?;
@@ -53,7 +53,7 @@ fn pair(alloc: Global, first: Reply, second: Reply) -> Result<Reply, AllocError>
 }
 
 /// An entry: its id, and its fields, or the null array where it isn't in the stream.
-fn entry_shown(alloc: Global, stream: &Stream, id: Id) -> Result<Reply, AllocError>
+pub fn entry_shown(alloc: Global, stream: &Stream, id: Id) -> Result<Reply, AllocError>
     ensures { IfOk result (λ reply. reply ≡ entry_reply stream.now.entries id) }
 {
     let text = Reply::Bulk(id_text(alloc, id)?);
@@ -67,7 +67,7 @@ fn entry_shown(alloc: Global, stream: &Stream, id: Id) -> Result<Reply, AllocErr
 }
 
 /// The entries with these ids.
-fn entries_shown(alloc: Global, stream: &Stream, ids: &[Id]) -> Result<Reply, AllocError>
+pub fn entries_shown(alloc: Global, stream: &Stream, ids: &[Id]) -> Result<Reply, AllocError>
     ensures { IfOk result (λ reply. reply ≡ array (map (entry_reply stream.now.entries) ids.now)) }
 {
     let mut items = Vec::with_capacity(alloc, ids.len())?;

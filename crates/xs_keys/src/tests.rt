@@ -9,7 +9,7 @@ use xs_resp::{Fault, Reply, Simple, encode};
 use xs_stream::Moment;
 
 /// The events of a day, and the reply that the pages of the commands name for each.
-const DAY: [(&str, &str); 14] = [
+const DAY: [(&str, &str); 25] = [
     ("XADD s * f v", "$6\r\n1000-0\r\n"),
     ("XADD s NOMKSTREAM 2000-5 f v", "$6\r\n2000-5\r\n"),
     (
@@ -33,6 +33,23 @@ const DAY: [(&str, &str); 14] = [
     ("PING", "+PONG\r\n"),
     ("DEL s s t", ":1\r\n"),
     ("XLEN s", ":0\r\n"),
+    ("XGROUP CREATE k g 0 MKSTREAM", "+OK\r\n"),
+    ("XGROUP CREATE l g 0 MKSTREAM", "+OK\r\n"),
+    ("XADD k 1-1 f v", "$3\r\n1-1\r\n"),
+    ("XADD l 2-1 f v", "$3\r\n2-1\r\n"),
+    (
+        "XREADGROUP GROUP g a STREAMS k l > >",
+        "*2\r\n*2\r\n$1\r\nk\r\n*1\r\n*2\r\n$3\r\n1-1\r\n*2\r\n$1\r\nf\r\n$1\r\nv\r\n*2\r\n$1\r\nl\r\n*1\r\n*2\r\n$3\r\n2-1\r\n*2\r\n$1\r\nf\r\n$1\r\nv\r\n",
+    ),
+    ("XREADGROUP GROUP g a STREAMS k l > >", "*-1\r\n"),
+    (
+        "XPENDING k g",
+        "*4\r\n:1\r\n$3\r\n1-1\r\n$3\r\n1-1\r\n*1\r\n*2\r\n$1\r\na\r\n$1\r\n1\r\n",
+    ),
+    ("XCLAIM k g b 0 1-1 JUSTID", "*1\r\n$3\r\n1-1\r\n"),
+    ("XACK k g 1-1", ":1\r\n"),
+    ("XGROUP DELCONSUMER l g a", ":1\r\n"),
+    ("XGROUP DESTROY l g", ":1\r\n"),
 ];
 
 /// The command of a line that has words.

@@ -29,10 +29,8 @@ step-follows : (past : List (ℕ × Command)) (old new : Content) (now : ℕ) (c
     → (next : List (ℕ × Command)) × IsContent new next × Follows past now command answer next
 step-follows past old new now command answer is (inl applied) =
     ((now, command) ∷ past, subst (λ c. IsContent c ((now, command) ∷ past)) (sym applied.content_is) (content-step past old now command is), inl (old, is, applied.answer_is, refl))
-step-follows past old new now command answer is (inr (inl refused)) =
-    (past, subst (λ c. IsContent c past) (sym refused.content_is) is, inr (inl (refused.takes, refused.answer_is), refl))
-step-follows past old new now command answer is (inr (inr unserved)) =
-    (past, subst (λ c. IsContent c past) (sym unserved.content_is) is, inr (inr (unserved.unserved, unserved.answer_is), refl))
+step-follows past old new now command answer is (inr refused) =
+    (past, subst (λ c. IsContent c past) (sym refused.content_is) is, inr (refused.takes, refused.answer_is, refl))
 
 said-follows : (past : List (ℕ × Command)) (old new : Content) (now : ℕ) (read : Result Command Fault) (answer : Reply) → IsContent old past
     → MatchResult read (λ command. Step old now command answer new) (λ fault. (answer ≡ Error fault) × (new ≡ old))

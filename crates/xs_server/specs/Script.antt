@@ -1,7 +1,7 @@
 -- What a script writes: the replies to its lines, in order.
 use Rattle.std.specs.Prelude.{◌≡◌, ℕ, true, false, ◌⊎◌, List, [], ◌∷◌, ◌++◌, MatchResult, IsSomeAnd}
 use Rattle.std.specs.List.{list_any}
-use Rattle.xs_resp.specs.declared.fault.Fault.TheVariants.{Memory, Unsupported}
+use Rattle.xs_resp.specs.declared.fault.Fault.TheVariants.{Memory}
 use Rattle.xs_resp.specs.declared.reply.Reply.{Reply}
 use Rattle.xs_resp.specs.declared.reply.Reply.TheVariants.{Error}
 use Rattle.xs_resp.specs.ReplyText.{text}
@@ -9,15 +9,15 @@ use Rattle.xs_command.specs.declared.command.Command.{Command}
 use Rattle.xs_command.specs.Read.{reads}
 use Rattle.xs_keys.specs.Content.{Content, IsContent}
 use Rattle.xs_keys.specs.Reply.{reply}
-use Rattle.xs_keys.specs.Headline.{is_served, takes_memory}
+use Rattle.xs_keys.specs.Headline.{takes_memory}
 use Rattle.xs_server.specs.Line.{is_line_end, line_of}
 
 -- the answer to a command over a history, and the history that follows: the model's reply, and the event is
--- added; or memory ran out, or the command isn't served yet, and it isn't
+-- added; or memory ran out, and it isn't
 abbrev pub Follows : List (ℕ × Command) → ℕ → Command → Reply → List (ℕ × Command) → Type 0
 Follows past now command answer next =
     ((content : Content) × IsContent content past × (answer ≡ reply content now command) × (next ≡ (now, command) ∷ past))
-    ⊎ ((((takes_memory command ≡ true) × (answer ≡ Error Memory)) ⊎ ((is_served command ≡ false) × (answer ≡ Error Unsupported))) × (next ≡ past))
+    ⊎ ((takes_memory command ≡ true) × (answer ≡ Error Memory) × (next ≡ past))
 
 -- the answer to the words of a request: that of their command, or their first fault; or memory ran out
 abbrev pub Answered : List (ℕ × Command) → ℕ → List (List ℕ) → Reply → List (ℕ × Command) → Type 0

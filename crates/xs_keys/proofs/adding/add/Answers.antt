@@ -1,4 +1,4 @@
-use Rattle.xs_bytes.specs.SortedMap as map
+use Rattle.xs_keys.specs.Codes.{groups_of}
 use Rattle.std.proofs.Common.{Some, is_some, sym, ap, ◌∙◌}
 use Rattle.xs_keys.proofs.Maps.{get-content_of}
 use Rattle.xs_keys.proofs.Additions.{adds-step}
@@ -11,5 +11,5 @@ pub returns-in-Some : goal.returns-in-Some
 returns-in-Some c =
     let found = get-content_of c.args.keys.now c.args.add.now.key ∙ sym c.in-Some.ensures.value ∙ ap Some (sym c.slot.view_is) in
     let some = ap is_some (c.in-Some.ensures.value) in
-    adds-step c.args.keys.now (c.get_mut.follows.lender (record { stream = c.add_to.new.stream; groups = map.empty })) c.args.now c.args.add.now c.add_to.result c.slot.inside.stream c.add_to.new.stream map.empty
-    found ((c.get_mut.follows.holds (record { stream = c.add_to.new.stream; groups = map.empty })).3 (sym some)) c.add_to.ensures
+    adds-step c.args.keys.now (c.get_mut.follows.lender (record { stream = c.add_to.new.stream; groups = groups_of c.slot.inside.groups.entries })) c.args.now c.args.add.now c.add_to.result c.slot.inside.stream c.add_to.new.stream (groups_of c.slot.inside.groups.entries)
+    found ((c.get_mut.follows.holds (record { stream = c.add_to.new.stream; groups = groups_of c.slot.inside.groups.entries })).3 (sym some)) c.add_to.ensures

@@ -1,0 +1,204 @@
+-- Reads of groups: what one leaves, how several go on, and how they are taken back.
+use Rattle.std.proofs.Common.{append_assoc, subst, ◌≡◌, ◌&&◌, ℕ, ◌+◌, ◌<◌, Bool, true, false, cond, List, [], ◌∷◌, ◌++◌, Some, None, is_some, map, length, get_or, sym, ap, ◌∙◌, refl, arith}
+use Rattle.std.proofs.lemmas.Bool.{false≢true}
+use Rattle.std.specs.List.{list_all}
+use Rattle.std.specs.Option.{option_map_or}
+use Rattle.xs_bytes.specs.SortedMap.{NameMap, get, insert}
+use Rattle.xs_stream.specs.declared.id.Id.{Id}
+use Rattle.xs_stream.specs.declared.field.Field.{Field}
+use Rattle.xs_stream.specs.Kept.{Kept, ids_of}
+use Rattle.xs_group.specs.declared.delivery.Delivery.{Delivery}
+use Rattle.xs_group.specs.State.{State, Rows, is_name}
+use Rattle.xs_group.specs.Delivered.{row_ids, new_rows, shown_rows, IsMade}
+use Rattle.xs_command.specs.declared.command.ReadGroupCommand.{ReadGroupCommand}
+use Rattle.xs_command.specs.declared.reads.ReadOne.{ReadOne}
+use Rattle.xs_command.specs.declared.reads.ReadFrom.{ReadFrom}
+use Rattle.xs_command.specs.declared.reads.ReadFrom.TheVariants.{New, After}
+use Rattle.xs_keys.specs.declared.reading.Served.{Served}
+use Rattle.xs_keys.specs.Turn.{Ask}
+use Rattle.xs_keys.specs.GroupLife.{read_ask}
+use Rattle.xs_keys.specs.Content.{Content, Key, asked, read_each, group_after, with_group, group_in, entries_in}
+use Rattle.xs_resp.specs.declared.reply.Reply.{Reply}
+use Rattle.xs_keys.specs.Headline.{is_error}
+use Rattle.xs_keys.specs.Reply.{shown_by, parts, array_or_null}
+use Rattle.xs_keys.specs.Reading.{listed, ids_shown, part_of, IsServed, IsServedIn, IsServedAt, IsMadeIn, IsMadeAt, AreMade}
+use Rattle.xs_keys.proofs.Names.{get-insert, insert-same, is_name-eq, is_name-refl, same_map}
+
+pub ids-new : (ids : List Id) → row_ids (new_rows ids) ≡ ids
+ids-new [] = refl
+ids-new (x ∷ xs) = ap (λ rest. x ∷ rest) (ids-new xs)
+
+pub ids-shown : (rows : Rows) (present ids : List Id) → row_ids (shown_rows rows present ids) ≡ ids
+ids-shown rows present [] = refl
+ids-shown rows present (x ∷ xs) = ap (λ rest. x ∷ rest) (ids-shown rows present xs)
+
+-- the part of a read is that of the ids that it shows
+pub shows-part : (read : ReadGroupCommand) (key : List ℕ) (from : ReadFrom) (entries : List (Id × List Field)) (group : State)
+    → part_of from key entries (ids_shown read from (ids_of entries) group) ≡ shown_by read key from entries group
+shows-part read key New entries group = refl
+shows-part read key (After id) entries group = refl
+
+-- what was put in goes where the value before it is put in again
+pub insert-back : {X : Type 0} (m : NameMap X) (name : List ℕ) (a b : X) → get m name ≡ Some b → insert (insert m name a) name b ≡ m
+insert-back m name a b e = same_map _ m (λ q. get-insert (insert m name a) name b q ∙ by q (is_name q name) refl) where
+  by : (q : List ℕ) (t : Bool) → is_name q name ≡ t → cond t (Some b) (get (insert m name a) q) ≡ get m q
+  by q true h = rw (is_name-eq q name h) (sym e)
+  by q false h = get-insert m name a q ∙ ap (λ t. cond t (Some a) (get m q)) h
+
+pub get-inserted : {X : Type 0} (m : NameMap X) (name : List ℕ) (a : X) → get (insert m name a) name ≡ Some a
+get-inserted m name a = get-insert m name a name ∙ ap (λ t. cond t (Some a) (get m name)) (is_name-refl name)
+
+-- an ask of a group that is there
+pub asked-at : (content : Content) (now : ℕ) (name group_name : List ℕ) (ask : Ask) (key : Key) (was : State)
+    → get content name ≡ Some key → get key.groups group_name ≡ Some was
+    → asked content now name group_name ask ≡ insert content name (with_group key group_name (group_after now (ids_of key.stream.entries) ask was))
+asked-at content now name group_name ask key was had has = rw (had, has) refl
+
+-- ---- one read
+
+module _ (now : ℕ) (read : ReadGroupCommand) (one : ReadOne) (before after : Content) (served : Served) where
+  pub served-content : IsServedAt now read one before after served → after ≡ asked before now one.key read.group (read_ask read one.from)
+  served-content s =
+      s.put ∙ ap (λ (groups : NameMap State). insert before one.key (record { stream = s.key.stream; groups = groups })) (s.serves.put ∙ ap (λ (g : State). insert s.key.groups read.group g) s.serves.serves.left)
+      ∙ sym (asked-at before now one.key read.group (read_ask read one.from) s.key s.serves.was s.had s.serves.had)
+
+  pub served-part : IsServedAt now read one before after served
+      → listed served.part ≡ option_map_or (shown_by read one.key one.from (entries_in (get before one.key))) (group_in (get before one.key) read.group) []
+  served-part s = rw (s.had, s.serves.had) s.serves.serves.shows
+
+  pub served-made : IsServedAt now read one before after served → IsMadeAt read.group one.key before after served.delivery
+  served-made s = record {
+    key = s.key;
+    groups = _;
+    had = s.had;
+    put = s.put;
+    made = record { was = s.serves.was; is = s.serves.is; had = s.serves.had; put = s.serves.put; made = s.serves.serves.made };
+  }
+
+-- ---- what is there stays there
+
+module _ (group name : List ℕ) (before after : Content) (d : Delivery) (m : IsMadeAt group name before after d) where
+  pub stays-there : (q : List ℕ) → is_some (group_in (get before q) group) ≡ true → is_some (group_in (get after q) group) ≡ true
+  stays-there q h =
+      ap (λ (c : Content). is_some (group_in (get c q) group)) m.put
+      ∙ ap (λ k. is_some (group_in k group)) (get-insert before name (record { stream = m.key.stream; groups = m.groups }) q) ∙ by (is_name q name) where
+    by : (t : Bool) → is_some (group_in (cond t (Some (record { stream = m.key.stream; groups = m.groups })) (get before q)) group) ≡ true
+    by true = ap (λ (g : NameMap State). is_some (get g group)) m.made.put ∙ ap is_some (get-inserted m.key.groups group m.made.is)
+    by false = h
+
+  pub all-stay : (reads : List ReadOne) → list_all (λ one. is_some (group_in (get before one.key) group)) reads ≡ true
+      → list_all (λ one. is_some (group_in (get after one.key) group)) reads ≡ true
+  all-stay [] h = refl
+  all-stay (one ∷ more) h = by (is_some (group_in (get before one.key) group)) refl h (λ rest. all-stay more rest) where
+    by : (t : Bool) → is_some (group_in (get before one.key) group) ≡ t
+        → (t && list_all (λ one. is_some (group_in (get before one.key) group)) more) ≡ true
+        → (list_all (λ one. is_some (group_in (get before one.key) group)) more ≡ true → list_all (λ one. is_some (group_in (get after one.key) group)) more ≡ true)
+        → list_all (λ one. is_some (group_in (get after one.key) group)) (one ∷ more) ≡ true
+    by true e rest more_stay = rw (stays-there one.key e) (more_stay rest)
+    by false e rest more_stay = absurd (false≢true rest)
+
+-- ---- a chain of reads
+
+pub made-push : (group : List ℕ) (reads : List ReadOne) (ds : List Delivery) (first middle last : Content) (one : ReadOne) (d : Delivery)
+    → AreMade group reads ds first middle → length ds < length reads → one ≡ get_or reads (length ds) one
+    → IsMadeAt group one.key middle last d → AreMade group reads (ds ++ d ∷ []) first last
+made-push group [] [] first middle last one d so_far lt at m = absurd (omega arith)
+made-push group [] (e ∷ ds) first middle last one d so_far lt at m = absurd so_far
+made-push group (r ∷ reads) [] first middle last one d so_far lt at m = rw (← so_far, ← at) (last, m, refl)
+made-push group (r ∷ reads) (e ∷ ds) first middle last one d so_far lt at m =
+    (so_far.0, so_far.1, made-push group reads ds so_far.0 middle last one d so_far.2 (omega arith) at m)
+
+-- the last of a chain
+pub record Split (group : List ℕ) (reads : List ReadOne) (ds : List Delivery) (first last : Content) (one : ReadOne) (d : Delivery) : Type 0 where
+  pub middle : Content
+  pub before : AreMade group reads ds first middle
+  pub made : IsMadeAt group one.key middle last d
+
+pub made-pop : (group : List ℕ) (reads : List ReadOne) (ds : List Delivery) (first last : Content) (one : ReadOne) (d : Delivery)
+    → AreMade group reads (ds ++ d ∷ []) first last → one ≡ get_or reads (length ds) one → Split group reads ds first last one d
+made-pop group [] [] first last one d all at = absurd all
+made-pop group [] (e ∷ ds) first last one d all at = absurd all
+made-pop group (r ∷ reads) [] first last one d all at = record { middle = first; before = refl; made = rw (at, all.2) all.1 }
+made-pop group (r ∷ reads) (e ∷ ds) first last one d all at =
+    let more = made-pop group reads ds all.0 last one d all.2 at in
+    record { middle = more.middle; before = (all.0, all.1, more.before); made = more.made }
+
+-- there are no more deliveries than reads
+pub made-shorter : (group : List ℕ) (reads : List ReadOne) (ds : List Delivery) (first last : Content) (d : Delivery)
+    → AreMade group reads (ds ++ d ∷ []) first last → length ds < length reads
+made-shorter group [] [] first last d all = absurd all
+made-shorter group [] (e ∷ ds) first last d all = absurd all
+made-shorter group (r ∷ reads) [] first last d all = omega arith
+made-shorter group (r ∷ reads) (e ∷ ds) first last d all = omega (arith, made-shorter group reads ds all.0 last d all.2)
+
+-- ---- one read taken back
+
+module _ (group : List ℕ) (before after : NameMap State) (d : Delivery) (m : IsMadeIn group before after d) where
+  get-made : get after group ≡ Some m.is
+  get-made = ap (λ (g : NameMap State). get g group) m.put ∙ get-inserted before group m.is
+
+  pub made-there : is_some (get after group) ≡ true
+  made-there = ap is_some get-made
+
+  -- the group that is there is the one that the read left
+  pub made-state : (now : State) → get after group ≡ Some now → IsMade m.was now d
+  made-state now found = let same : m.is ≡ now = cc (get-made, found) in subst (λ s. IsMade m.was s d) same m.made
+
+  pub back-in : insert after group m.was ≡ before
+  back-in = ap (λ (g : NameMap State). insert g group m.was) m.put ∙ insert-back before group m.is m.was m.had
+
+module _ (group name : List ℕ) (before after : Content) (d : Delivery) (m : IsMadeAt group name before after d) where
+  get-key : get after name ≡ Some (record { stream = m.key.stream; groups = m.groups })
+  get-key = ap (λ (c : Content). get c name) m.put ∙ get-inserted before name (record { stream = m.key.stream; groups = m.groups })
+
+  pub key-there : is_some (get after name) ≡ true
+  key-there = ap is_some get-key
+
+  -- the key that is there has the stream of before, and the groups that the read left
+  pub key-groups : (stream : Kept) (groups : NameMap State) → get after name ≡ Some (record { stream = stream; groups = groups })
+      → (stream ≡ m.key.stream) × IsMadeIn group m.key.groups groups d
+  key-groups stream groups found =
+      let old : Key = record { stream = m.key.stream; groups = m.groups } in
+      let now : Key = record { stream = stream; groups = groups } in
+      let key : Some old ≡ Some now = sym get-key ∙ found in
+      let one : old ≡ now = cc key in
+      let same : m.groups ≡ groups = ap (λ (k : Key). k.groups) one in
+      let same_stream : stream ≡ m.key.stream = sym (ap (λ (k : Key). k.stream) one) in
+      (same_stream, subst (λ g. IsMadeIn group m.key.groups g d) same m.made)
+
+  pub back-at : (stream : Kept) → stream ≡ m.key.stream → insert after name (record { stream = stream; groups = m.key.groups }) ≡ before
+  back-at stream same =
+      ap (λ (s : Kept). insert after name (record { stream = s; groups = m.key.groups })) same
+      ∙ ap (λ (c : Content). insert c name m.key) m.put ∙ insert-back before name (record { stream = m.key.stream; groups = m.groups }) m.key m.had
+
+-- ---- several reads, one more of them
+
+module _ (now : ℕ) (read : ReadGroupCommand) (one : ReadOne) (more : List ReadOne) (before after : Content) (served : Served) (s : IsServedAt now read one before after served) where
+  pub content-more : (whole : Content) → read_each before now read (one ∷ more) ≡ whole → read_each after now read more ≡ whole
+  content-more whole e = ap (λ c. read_each c now read more) (served-content now read one before after served s) ∙ e
+
+  pub parts-more : (done whole : List Reply) → done ++ parts before now read (one ∷ more) ≡ whole → (done ++ listed served.part) ++ parts after now read more ≡ whole
+  parts-more done whole e =
+      append_assoc done (listed served.part) (parts after now read more)
+      ∙ ap (λ rest. done ++ rest) (ap (λ p. p ++ parts after now read more) (served-part now read one before after served s)
+      ∙ ap (λ c. option_map_or (shown_by read one.key one.from (entries_in (get before one.key))) (group_in (get before one.key) read.group) [] ++ parts c now read more) (served-content now read one before after served s))
+      ∙ e
+
+  pub there-more : list_all (λ one. is_some (group_in (get before one.key) read.group)) (one ∷ more) ≡ true
+      → list_all (λ one. is_some (group_in (get after one.key) read.group)) more ≡ true
+  there-more h = all-stay read.group one.key before after served.delivery (served-made now read one before after served s) more
+      (by (is_some (group_in (get before one.key) read.group)) h) where
+    by : (t : Bool) → (t && list_all (λ one. is_some (group_in (get before one.key) read.group)) more) ≡ true → list_all (λ one. is_some (group_in (get before one.key) read.group)) more ≡ true
+    by true h = h
+    by false h = absurd (false≢true h)
+
+pub first-there : (test : ReadOne → Bool) (one : ReadOne) (more : List ReadOne) → list_all test (one ∷ more) ≡ true → test one ≡ true
+first-there test one more h = by (test one) h where
+  by : (t : Bool) → (t && list_all test more) ≡ true → t ≡ true
+  by true h = refl
+  by false h = absurd (false≢true h)
+
+-- what is served is never an error
+pub no-error : (replies : List Reply) → is_error (array_or_null replies) ≡ false
+no-error [] = refl
+no-error (r ∷ rs) = refl

@@ -1,0 +1,13 @@
+-- What the contracts of the creation of groups say within the code.
+use Rattle.std.specs.Prelude.{◌≡◌, true, false, ◌⊎◌}
+use Rattle.xs_keys.specs.Ground.{NameMap, has_key, insert, Id, State, new_group, Reply, Simple, Error, Okay, Busy, Memory}
+use Rattle.xs_keys.specs.Ground.{GroupCreateCommand}
+use Rattle.xs_keys.specs.GroupLife.{start_of}
+
+-- among the groups of a key with this top: it is there already, or it is made, or memory ran out
+abbrev pub Creates : GroupCreateCommand → Id → NameMap State → Reply → NameMap State → Type 0
+Creates create top old answer new =
+    ((has_key old create.group ≡ true) × (answer ≡ Error Busy) × (new ≡ old))
+    ⊎ (((has_key old create.group ≡ false) × (answer ≡ Simple Okay)
+        × (new ≡ insert old create.group (new_group (start_of create.start top))))
+    ⊎ ((has_key old create.group ≡ false) × (answer ≡ Error Memory) × (new ≡ old)))

@@ -1,0 +1,75 @@
+-- What the contracts of reads of groups say within the code.
+use Rattle.std.specs.Prelude.{◌≡◌, ℕ, List, [], ◌∷◌, Option, Some, None}
+use Rattle.xs_group.specs.declared.delivery.Delivery.{Delivery}
+use Rattle.xs_group.specs.Delivered.{IsMade}
+use Rattle.xs_keys.specs.declared.reading.Served.{Served}
+use Rattle.xs_keys.specs.Ground.{NameMap, get, insert, Id, Field, ids_of, delivers, shown, State, Reply, ReadGroupCommand}
+use Rattle.xs_keys.specs.Ground.{ReadOne, ReadFrom, New, After}
+use Rattle.xs_keys.specs.GroupLife.{read_ask}
+use Rattle.xs_keys.specs.Content.{Content, Key, group_after}
+use Rattle.xs_keys.specs.Reply.{part, new_part, shown_by}
+
+-- a part of a reply, where there is one
+abbrev pub listed : Option Reply → List Reply
+listed None = []
+listed (Some reply) = reply ∷ []
+
+-- the ids that a read shows
+abbrev pub ids_shown : ReadGroupCommand → ReadFrom → List Id → State → List Id
+ids_shown read New present group = delivers read.limit group.cursor present
+ids_shown read (After id) present group = shown read.consumer read.limit id group.rows.entries
+
+-- its part of the reply
+abbrev pub part_of : ReadFrom → List ℕ → List (Id × List Field) → List Id → List Reply
+part_of New key entries ids = new_part key entries ids
+part_of (After id) key entries ids = part key entries ids ∷ []
+
+-- a read of a group was served: what it left, its part of the reply, and what takes it back
+pub record IsServed
+    (entries : List (Id × List Field)) (now : ℕ) (read : ReadGroupCommand) (one : ReadOne) (before after : State)
+    (served : Served) : Type 0 where
+  pub left : after ≡ group_after now (ids_of entries) (read_ask read one.from) before
+  pub shows : listed served.part ≡ shown_by read one.key one.from entries before
+  pub made : IsMade before after served.delivery
+
+-- so was one of these groups
+pub record IsServedIn
+    (entries : List (Id × List Field)) (now : ℕ) (read : ReadGroupCommand) (one : ReadOne)
+    (before after : NameMap State) (served : Served) : Type 0 where
+  pub was : State
+  pub is : State
+  pub had : get before read.group ≡ Some was
+  pub put : after ≡ insert before read.group is
+  pub serves : IsServed entries now read one was is served
+
+-- so was one of these keys
+pub record IsServedAt
+    (now : ℕ) (read : ReadGroupCommand) (one : ReadOne) (before after : Content) (served : Served) : Type 0 where
+  pub key : Key
+  pub groups : NameMap State
+  pub had : get before one.key ≡ Some key
+  pub put : after ≡ insert before one.key (record key { groups = groups })
+  pub serves : IsServedIn key.stream.entries now read one key.groups groups served
+
+-- a read of one of these groups made the ones of the others, and answered this delivery
+pub record IsMadeIn (group : List ℕ) (before after : NameMap State) (delivery : Delivery) : Type 0 where
+  pub was : State
+  pub is : State
+  pub had : get before group ≡ Some was
+  pub put : after ≡ insert before group is
+  pub made : IsMade was is delivery
+
+-- so did one of a group of these keys
+pub record IsMadeAt (group key_name : List ℕ) (before after : Content) (delivery : Delivery) : Type 0 where
+  pub key : Key
+  pub groups : NameMap State
+  pub had : get before key_name ≡ Some key
+  pub put : after ≡ insert before key_name (record key { groups = groups })
+  pub made : IsMadeIn group key.groups groups delivery
+
+-- the first of these reads made the one content of the other, and answered these deliveries, one after the other
+abbrev pub AreMade : List ℕ → List ReadOne → List Delivery → Content → Content → Type 0
+AreMade group reads [] first last = last ≡ first
+AreMade group [] (d ∷ ds) first last = ⊥
+AreMade group (one ∷ more) (d ∷ ds) first last =
+    (next : Content) × IsMadeAt group one.key first next d × AreMade group more ds next last

@@ -1,0 +1,80 @@
+//! XCLAIM over the map of keys.
+ghost use Rattle.std.specs.Prelude.{◌≡◌, map, IfOk, OnOk, OnErr};
+ghost use Rattle.xs_stream.specs.Kept.{ids_of};
+ghost use Rattle.xs_group.specs.Claims as claims;
+ghost use Rattle.xs_keys.specs.Turn.{claim};
+ghost use Rattle.xs_keys.specs.Content.{group_after};
+ghost use Rattle.xs_keys.specs.Codes.{content_of};
+ghost use Rattle.xs_keys.specs.Reply.{array, id_reply, taken_reply};
+ghost use Rattle.xs_keys.specs.Headline.{Step};
+
+use crate::changing::Keys;
+use crate::showing::{entries_shown, id_text};
+use std::alloc::{AllocError, Global};
+use xs_command::{ClaimCommand, Command};
+use xs_group::Group;
+use xs_resp::{Fault, Replies, Reply};
+use xs_stream::{Id, Moment, Stream};
+
+/// These ids.
+pub fn ids_shown(alloc: Global, ids: &[Id]) -> Result<Reply, AllocError>
+    ensures { IfOk result (λ reply. reply ≡ array (map id_reply ids.now)) }
+{
+    let mut items = Vec::with_capacity(alloc, ids.len())?;
+    for id in ids {
+        let text = id_text(alloc, *id)?;
+        items.push(Reply::Bulk(text))?;
+    }
+    Ok(Reply::Array(Replies::new(items)))
+}
+
+/// The entries that a claim took, or their ids alone.
+pub fn taken_shown(
+    alloc: Global,
+    stream: &Stream,
+    just_id: bool,
+    ids: &[Id],
+) -> Result<Reply, AllocError>
+    ensures { IfOk result (λ reply. reply ≡ taken_reply just_id stream.now.entries ids.now) }
+{
+    if just_id {
+        return ids_shown(alloc, ids);
+    }
+    entries_shown(alloc, stream, ids)
+}
+
+/// Claims entries of a group. The reply is made first, so that a refusal of memory leaves the group as
+/// it was.
+fn claim_of(
+    group: &mut Group,
+    alloc: Global,
+    stream: &Stream,
+    now: Moment,
+    command: &ClaimCommand,
+) -> Result<Reply, AllocError>
+    ensures answer { IfOk result (λ reply. reply ≡ taken_reply command.now.rule.just_id stream.now.entries (claims.claim_of group.old.rows.entries (ids_of stream.now.entries) now command.now.rule command.now.ids).take) }
+    ensures ok { OnOk result (group.new ≡ group_after now (ids_of stream.now.entries) (claim command.now.consumer command.now.rule command.now.ids) group.old) }
+    ensures err { OnErr result (group.new ≡ group.old) }
+{
+    let rule = command.rule;
+    let found = group.find_claim(alloc, stream, now, &rule, command.ids.as_slice())?;
+    let reply = taken_shown(alloc, stream, rule.just_id, found.take.as_slice())?;
+    group.settle(alloc, &command.consumer, now, &rule, &found)?;
+    Ok(reply)
+}
+
+/// XCLAIM.
+pub fn claim(keys: &mut Keys, alloc: Global, now: Moment, command: &ClaimCommand) -> Reply
+    ensures { Step (content_of keys.old.entries) now (Command.Claim command.now) result (content_of keys.new.entries) }
+{
+    let Some(slot) = keys.get_mut(&command.key) else {
+        return Reply::Error(Fault::NoGroup);
+    };
+    let Some(group) = slot.groups.get_mut(&command.group) else {
+        return Reply::Error(Fault::NoGroup);
+    };
+    match claim_of(group, alloc, &slot.stream, now, command) {
+        Ok(reply) => reply,
+        Err(AllocError) => Reply::Error(Fault::Memory),
+    }
+}
