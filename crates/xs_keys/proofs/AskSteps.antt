@@ -1,7 +1,8 @@
 -- Commands that ask one group of one key, over the maps as the code keeps them.
-use Rattle.std.proofs.Common.{◌≡◌, ℕ, Bool, true, false, List, Option, Some, None, option_and_then, sym, ap, ◌∙◌, refl, inl, inr, BTreeMap}
+use Rattle.std.proofs.Common.{◌≡◌, ℕ, Bool, true, false, List, Option, Some, None, is_some, sym, ap, ◌∙◌, refl, BTreeMap}
 use Rattle.std.specs.Option.{option_map_or}
 use Rattle.std.specs.Ordering.{nat_cmp}
+use Rattle.std.specs.BTreeMap as tree
 use Rattle.std.specs.BTreeMap.{UpdatesBy}
 use Rattle.std.specs.Cmp.Lexicographic.{slice_cmp}
 use Rattle.xs_bytes.specs.SortedMap.{NameMap, get, insert}
@@ -17,7 +18,7 @@ use Rattle.xs_resp.specs.declared.reply.Reply.TheVariants.{Error}
 use Rattle.xs_resp.specs.declared.fault.Fault.TheVariants.{NoGroup}
 use Rattle.xs_keys.specs.Reply.{of_group, taken_reply}
 use Rattle.xs_keys.specs.Headline.{is_error}
-use Rattle.xs_keys.proofs.Maps.{content-insert}
+use Rattle.xs_keys.proofs.Maps.{get-content_of, content-insert}
 use Rattle.xs_keys.proofs.Names.{insert-same}
 use Rattle.xs_keys.proofs.ReadSteps.{asked-at}
 
@@ -58,8 +59,40 @@ module _ (m n : BTreeMap (List ℕ) Key) (gm gn : BTreeMap (List ℕ) State) (na
   pub reached : group_in (get (content_of m.entries) name) group_name ≡ Some was
   reached = ap (λ k. group_in k group_name) w.found ∙ w.has
 
+-- ---- what a look-up says
+
+module _ (m : BTreeMap (List ℕ) Key) (name : List ℕ) where
+  -- the key isn't there, and so no group of it
+  pub no-key : None ≡ tree.get (slice_cmp nat_cmp) m name → get (content_of m.entries) name ≡ None
+  no-key e = get-content_of m name ∙ sym e
+
+  -- the key is there
+  pub key-found : (slot key : Key) → Some slot ≡ tree.get (slice_cmp nat_cmp) m name → key ≡ slot → get (content_of m.entries) name ≡ Some key
+  key-found slot key e view = get-content_of m name ∙ sym e ∙ ap Some (sym view)
+
+module _ (m n : BTreeMap (List ℕ) Key) (gm gn : BTreeMap (List ℕ) State) (name group_name : List ℕ) (slot : Key) (stream : Kept) where
+  -- key and group are there, and the group is written
+  pub writes-found : (was is : State) → Some slot ≡ tree.get (slice_cmp nat_cmp) m name → record { stream = stream; groups = groups_of gm.entries } ≡ slot
+      → Some was ≡ tree.get (slice_cmp nat_cmp) gm group_name
+      → (is_some (tree.get (slice_cmp nat_cmp) gm group_name) ≡ true → UpdatesBy (slice_cmp nat_cmp) (slice_cmp nat_cmp group_name) gm gn (Some is))
+      → (is_some (tree.get (slice_cmp nat_cmp) m name) ≡ true
+      → UpdatesBy (slice_cmp nat_cmp) (slice_cmp nat_cmp name) m n (Some (record { stream = stream; groups = groups_of gn.entries })))
+      → Writes m n gm gn name group_name stream was is
+  writes-found was is key view group puts puts_key = record {
+    found = key-found m name slot (record { stream = stream; groups = groups_of gm.entries }) key view;
+    has = get-content_of gm group_name ∙ sym group;
+    group = puts (sym (ap is_some group));
+    key = puts_key (sym (ap is_some key));
+  }
+
+-- the key is there and the group isn't: nothing has changed
+pub record Misses (m n : BTreeMap (List ℕ) Key) (gm : BTreeMap (List ℕ) State) (name group_name : List ℕ) (stream : Kept) : Type 0 where
+  pub found : get (content_of m.entries) name ≡ Some (record { stream = stream; groups = groups_of gm.entries })
+  pub lacks : get (groups_of gm.entries) group_name ≡ None
+  pub same : content_of n.entries ≡ content_of m.entries
+
 -- a key whose groups are as they were
-pub untouched : (m n : BTreeMap (List ℕ) Key) (gm gn : BTreeMap (List ℕ) State) (name : List ℕ) (stream : Kept)
+untouched : (m n : BTreeMap (List ℕ) Key) (gm gn : BTreeMap (List ℕ) State) (name : List ℕ) (stream : Kept)
     → get (content_of m.entries) name ≡ Some (record { stream = stream; groups = groups_of gm.entries })
     → gn ≡ gm
     → UpdatesBy (slice_cmp nat_cmp) (slice_cmp nat_cmp name) m n (Some (record { stream = stream; groups = groups_of gn.entries }))
@@ -68,6 +101,28 @@ untouched m n gm gn name stream found same u =
     content-insert m n name (record { stream = stream; groups = groups_of gn.entries }) u
     ∙ ap (λ (g : BTreeMap (List ℕ) State). insert (content_of m.entries) name (record { stream = stream; groups = groups_of g.entries })) same
     ∙ insert-same (content_of m.entries) name (record { stream = stream; groups = groups_of gm.entries }) found
+
+module _ (m n : BTreeMap (List ℕ) Key) (gm gn : BTreeMap (List ℕ) State) (name group_name : List ℕ) (slot : Key) (stream : Kept) where
+  pub misses : Some slot ≡ tree.get (slice_cmp nat_cmp) m name → record { stream = stream; groups = groups_of gm.entries } ≡ slot
+      → None ≡ tree.get (slice_cmp nat_cmp) gm group_name → gn ≡ gm
+      → (is_some (tree.get (slice_cmp nat_cmp) m name) ≡ true
+      → UpdatesBy (slice_cmp nat_cmp) (slice_cmp nat_cmp name) m n (Some (record { stream = stream; groups = groups_of gn.entries })))
+      → Misses m n gm name group_name stream
+  misses key view group back puts_key =
+      let found = key-found m name slot (record { stream = stream; groups = groups_of gm.entries }) key view in
+      record {
+        found = found;
+        lacks = get-content_of gm group_name ∙ sym group;
+        same = untouched m n gm gn name stream found back (puts_key (sym (ap is_some key)));
+      }
+
+module _ (m n : BTreeMap (List ℕ) Key) (gm : BTreeMap (List ℕ) State) (name group_name : List ℕ) (stream : Kept) (w : Misses m n gm name group_name stream) where
+  pub missed : group_in (get (content_of m.entries) name) group_name ≡ None
+  missed = ap (λ k. group_in k group_name) w.found ∙ w.lacks
+
+  -- to ask what isn't there changes nothing
+  pub missed-asked : (now : ℕ) (ask : Ask) → content_of n.entries ≡ asked (content_of m.entries) now name group_name ask
+  missed-asked now ask = w.same ∙ sym (asked-missing (content_of m.entries) now name group_name ask missed)
 
 pub no-error-taken : (just_id : Bool) (entries : List (Id × List Field)) (ids : List Id) → is_error (taken_reply just_id entries ids) ≡ false
 no-error-taken true entries ids = refl

@@ -14,7 +14,7 @@ use Rattle.xs_command.specs.declared.command.GroupCreateCommand.{GroupCreateComm
 use Rattle.xs_command.specs.declared.command.Command.TheVariants.{GroupCreate}
 use Rattle.xs_keys.specs.GroupLife.{start_of}
 use Rattle.xs_keys.specs.Content.{Content, Key, new_key, with_group}
-use Rattle.xs_keys.specs.Codes.{content_of, groups_of}
+use Rattle.xs_keys.specs.Codes.{content_of}
 use Rattle.xs_keys.specs.Grouping.{Creates}
 use Rattle.xs_keys.specs.Headline.{Step}
 use Rattle.xs_keys.proofs.Names.{insert-same}

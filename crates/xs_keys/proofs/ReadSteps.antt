@@ -1,5 +1,5 @@
 -- Reads of groups: what one leaves, how several go on, and how they are taken back.
-use Rattle.std.proofs.Common.{append_assoc, subst, ◌≡◌, ◌&&◌, ℕ, ◌+◌, ◌<◌, Bool, true, false, cond, List, [], ◌∷◌, ◌++◌, Some, None, is_some, map, length, get_or, sym, ap, ◌∙◌, refl, arith}
+use Rattle.std.proofs.Common.{append_assoc, subst, ◌≡◌, ◌&&◌, ℕ, ◌<◌, Bool, true, false, cond, List, [], ◌∷◌, ◌++◌, Some, is_some, length, get_or, sym, ap, ◌∙◌, refl, arith}
 use Rattle.std.proofs.lemmas.Bool.{false≢true}
 use Rattle.std.specs.List.{list_all}
 use Rattle.std.specs.Option.{option_map_or}
@@ -14,15 +14,15 @@ use Rattle.xs_command.specs.declared.command.ReadGroupCommand.{ReadGroupCommand}
 use Rattle.xs_command.specs.declared.reads.ReadOne.{ReadOne}
 use Rattle.xs_command.specs.declared.reads.ReadFrom.{ReadFrom}
 use Rattle.xs_command.specs.declared.reads.ReadFrom.TheVariants.{New, After}
-use Rattle.xs_keys.specs.declared.reading.Served.{Served}
+use Rattle.xs_keys.specs.declared.xreadgroup.Served.{Served}
 use Rattle.xs_keys.specs.Turn.{Ask}
 use Rattle.xs_keys.specs.GroupLife.{read_ask}
 use Rattle.xs_keys.specs.Content.{Content, Key, asked, read_each, group_after, with_group, group_in, entries_in}
 use Rattle.xs_resp.specs.declared.reply.Reply.{Reply}
 use Rattle.xs_keys.specs.Headline.{is_error}
 use Rattle.xs_keys.specs.Reply.{shown_by, parts, array_or_null}
-use Rattle.xs_keys.specs.Reading.{listed, ids_shown, part_of, IsServed, IsServedIn, IsServedAt, IsMadeIn, IsMadeAt, AreMade}
-use Rattle.xs_keys.proofs.Names.{get-insert, insert-same, is_name-eq, is_name-refl, same_map}
+use Rattle.xs_keys.specs.Reading.{listed, ids_shown, part_of, IsServedAt, IsMadeIn, IsMadeAt, AreMade}
+use Rattle.xs_keys.proofs.Names.{get-insert, is_name-eq, is_name-refl, same_map}
 
 pub ids-new : (ids : List Id) → row_ids (new_rows ids) ≡ ids
 ids-new [] = refl
@@ -82,9 +82,9 @@ module _ (group name : List ℕ) (before after : Content) (d : Delivery) (m : Is
   stays-there q h =
       ap (λ (c : Content). is_some (group_in (get c q) group)) m.put
       ∙ ap (λ k. is_some (group_in k group)) (get-insert before name (record { stream = m.key.stream; groups = m.groups }) q) ∙ by (is_name q name) where
-    by : (t : Bool) → is_some (group_in (cond t (Some (record { stream = m.key.stream; groups = m.groups })) (get before q)) group) ≡ true
-    by true = ap (λ (g : NameMap State). is_some (get g group)) m.made.put ∙ ap is_some (get-inserted m.key.groups group m.made.is)
-    by false = h
+        by : (t : Bool) → is_some (group_in (cond t (Some (record { stream = m.key.stream; groups = m.groups })) (get before q)) group) ≡ true
+        by true = ap (λ (g : NameMap State). is_some (get g group)) m.made.put ∙ ap is_some (get-inserted m.key.groups group m.made.is)
+        by false = h
 
   pub all-stay : (reads : List ReadOne) → list_all (λ one. is_some (group_in (get before one.key) group)) reads ≡ true
       → list_all (λ one. is_some (group_in (get after one.key) group)) reads ≡ true
@@ -188,9 +188,9 @@ module _ (now : ℕ) (read : ReadGroupCommand) (one : ReadOne) (more : List Read
       → list_all (λ one. is_some (group_in (get after one.key) read.group)) more ≡ true
   there-more h = all-stay read.group one.key before after served.delivery (served-made now read one before after served s) more
       (by (is_some (group_in (get before one.key) read.group)) h) where
-    by : (t : Bool) → (t && list_all (λ one. is_some (group_in (get before one.key) read.group)) more) ≡ true → list_all (λ one. is_some (group_in (get before one.key) read.group)) more ≡ true
-    by true h = h
-    by false h = absurd (false≢true h)
+        by : (t : Bool) → (t && list_all (λ one. is_some (group_in (get before one.key) read.group)) more) ≡ true → list_all (λ one. is_some (group_in (get before one.key) read.group)) more ≡ true
+        by true h = h
+        by false h = absurd (false≢true h)
 
 pub first-there : (test : ReadOne → Bool) (one : ReadOne) (more : List ReadOne) → list_all test (one ∷ more) ≡ true → test one ≡ true
 first-there test one more h = by (test one) h where

@@ -9,5 +9,5 @@ abbrev pub Creates : GroupCreateCommand → Id → NameMap State → Reply → N
 Creates create top old answer new =
     ((has_key old create.group ≡ true) × (answer ≡ Error Busy) × (new ≡ old))
     ⊎ (((has_key old create.group ≡ false) × (answer ≡ Simple Okay)
-        × (new ≡ insert old create.group (new_group (start_of create.start top))))
+    × (new ≡ insert old create.group (new_group (start_of create.start top))))
     ⊎ ((has_key old create.group ≡ false) × (answer ≡ Error Memory) × (new ≡ old)))

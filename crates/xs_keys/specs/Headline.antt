@@ -43,6 +43,10 @@ pub record OutOfMemory (old : Content) (now : ℕ) (command : Command) (answer :
 abbrev pub Step : Content → ℕ → Command → Reply → Content → Type 0
 Step old now command answer new = Applied old now command answer new ⊎ OutOfMemory old now command answer new
 
+-- the same at any moment: the command doesn't ask for the time
+abbrev pub StepAtAnyTime : Content → Command → Reply → Content → Type 0
+StepAtAnyTime old command answer new = (now : ℕ) → Step old now command answer new
+
 -- one of the turns is their turn, and the id is delivered exactly where it is in the stream then
 pub record HadItsTurn (start : Id) (turns : List Turn) (x : Id) : Type 0 where
   pub later : List Turn

@@ -2,7 +2,7 @@
 use Rattle.std.specs.Prelude.{◌≡◌, ℕ, List, [], ◌∷◌, Option, Some, None}
 use Rattle.xs_group.specs.declared.delivery.Delivery.{Delivery}
 use Rattle.xs_group.specs.Delivered.{IsMade}
-use Rattle.xs_keys.specs.declared.reading.Served.{Served}
+use Rattle.xs_keys.specs.declared.xreadgroup.Served.{Served}
 use Rattle.xs_keys.specs.Ground.{NameMap, get, insert, Id, Field, ids_of, delivers, shown, State, Reply, ReadGroupCommand}
 use Rattle.xs_keys.specs.Ground.{ReadOne, ReadFrom, New, After}
 use Rattle.xs_keys.specs.GroupLife.{read_ask}

@@ -91,12 +91,16 @@ parts content now read (one ∷ more) =
     option_map_or (shown_by read one.key one.from (entries_in key)) (group_in key read.group) []
     ++ parts (asked content now one.key read.group (read_ask read one.from)) now read more
 
--- XPENDING, the short form: each owner with its count is an array of two
+-- XPENDING, the short form: a consumer with the number of its pending entries
+abbrev pub owner_reply : OwnerCount → Reply
+owner_reply owner = array (Bulk owner.consumer ∷ Bulk (decimal owner.count) ∷ [])
+
+-- XPENDING, the short form
 abbrev pub summary_reply : GroupSummary → Reply
 summary_reply summary =
     let id : Option Id → Reply = λ x. option_map_or id_reply x NullBulk in
-    let owner : OwnerCount → Reply = λ o. array (Bulk o.consumer ∷ Bulk (decimal o.count) ∷ []) in
-    array (Int summary.total ∷ id summary.least ∷ id summary.greatest ∷ array_or_null (map owner summary.owners) ∷ [])
+    let owners = array_or_null (map owner_reply summary.owners) in
+    array (Int summary.total ∷ id summary.least ∷ id summary.greatest ∷ owners ∷ [])
 
 -- XPENDING, a row of the long form
 abbrev pub row_reply : PendingRow → Reply

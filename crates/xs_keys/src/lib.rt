@@ -1,21 +1,25 @@
 //! The keyspace: one event at a time, and whole runs of events, each as the model of whole histories says.
 #![tactic(auto)]
 
-mod adding;
-mod asking;
-mod changing;
-mod claiming;
 pub mod clock;
-mod consumers;
+mod del;
 pub mod examples;
-mod grouping;
+mod keys;
 pub mod keyspace;
 pub mod laws;
-mod reading;
-mod reporting;
-mod scanning;
+mod ping;
 mod showing;
-mod slot;
+mod xack;
+mod xadd;
+mod xautoclaim;
+mod xclaim;
+mod xdel;
+mod xgroup;
+mod xlen;
+mod xpending;
+mod xrange;
+mod xreadgroup;
+mod xtrim;
 
 pub use clock::Clock;
 pub use keyspace::Keyspace;

@@ -1,0 +1,31 @@
+use Rattle.std.proofs.Common.{◌≡◌, ℕ, Bool, true, false, [], Option, Some, None, ap, ◌∙◌, refl, inl}
+use Rattle.std.proofs.Math.Seq.{take-nil}
+use Rattle.xs_stream.specs.declared.range.Range.{Range}
+use Rattle.xs_stream.specs.Kept.{limited, ids_within}
+use Rattle.xs_resp.specs.declared.reply.Reply.TheVariants.{Array}
+use Rattle.xs_resp.specs.ReplyItems.{items_of}
+use Rattle.xs_keys.specs.Content.{Key}
+use Rattle.xs_keys.specs.Codes.{groups_of}
+use Rattle.xs_keys.proofs.AskSteps.{no-key, key-found}
+use Rattle.xs_keys.proofs.xrange.range.Goals as goal
+
+-- a missing key has no entries to show
+none : (limit : Option ℕ) (range : Range) (reversed : Bool) → limited limit (ids_within range reversed []) ≡ []
+none None range true = refl
+none None range false = refl
+none (Some n) range true = take-nil n
+none (Some n) range false = take-nil n
+
+pub returns-in_default : goal.returns-in_default
+returns-in_default c = λ now.
+    let command = c.args.command.now in
+    let missing = no-key c.args.keys.now command.key c.in_default.ensures.value in
+    inl (record {
+      answer_is = rw (missing, none command.limit command.range command.reversed) (ap Array (c.new-in_default.ensures ∙ ap items_of c.new.ensures.items));
+      content_is = refl;
+    })
+
+pub returns-in-Ok : goal.returns-in-Ok
+returns-in-Ok c = λ now.
+    let was : Key = record { stream = c.slot.inside.stream; groups = groups_of c.slot.inside.groups.entries } in
+    inl (record { answer_is = rw (key-found c.args.keys.now c.args.command.now.key _ was c.in-Some.ensures.value c.slot.view_is) c.in-Ok.ensures; content_is = refl })

@@ -1,0 +1,72 @@
+use Rattle.std.proofs.Common.{◌≡◌, ◌<◌, ◌∷◌, ◌++◌, ◌∙◌, ◌+◌, true, drop, length, get_or, is_some, is_ok, sym, ap, refl, arith}
+use Rattle.std.specs.List.{list_all}
+use Rattle.std.proofs.lemmas.List.{drop_more}
+use Rattle.xs_bytes.specs.SortedMap.{get}
+use Rattle.xs_command.specs.declared.reads.ReadOne.{ReadOne}
+use Rattle.xs_keys.specs.Content.{group_in, read_each}
+use Rattle.xs_keys.specs.Codes.{content_of}
+use Rattle.xs_keys.specs.Reply.{parts}
+use Rattle.xs_keys.proofs.ReadSteps.{first-there, content-more, parts-more, there-more, made-push, served-made}
+use Rattle.xs_keys.proofs.xreadgroup.serve_all.Goals as goal
+use Rattle.xs_keys.proofs.xreadgroup.serve_all.Goals.{After-one-item}
+
+next : (c : After-one-item) → drop c.loop-one.one-index c.as_slice-reads.result.now ≡ c.one-item.result ∷ drop (c.loop-one.one-index + 1) c.as_slice-reads.result.now
+next c = drop_more c.as_slice-reads.result.now c.loop-one.one-index c.one-item.result c.loop-one-test.true
+    ∙ ap (λ (r : ReadOne). r ∷ drop (c.loop-one.one-index + 1) c.as_slice-reads.result.now) (sym c.one-item.is)
+
+pub loop-one-init : goal.loop-one-init
+loop-one-init c = record {
+  content = refl;
+  shown = rw c.in_ok-items.ensures.items refl;
+  there = ap (list_all (λ (one : ReadOne). is_some (group_in (get (content_of c.args.keys.now.entries) one.key) c.args.read.now.group))) c.as_slice-reads.ensures ∙ c.requires;
+  made = rw c.in_ok-deliveries.ensures.items refl;
+  count = c.in_ok-deliveries.ensures.len;
+  fewer = omega (arith, c.in_ok-items.ensures.len);
+  room = c.in_ok-deliveries.ensures.capacity;
+  room_shown = c.in_ok-items.ensures.capacity;
+}
+
+pub serve_at-requires : goal.serve_at-requires
+serve_at-requires c =
+    let there = λ (one : ReadOne). is_some (group_in (get (content_of c.loop-one.keys.entries) one.key) c.args.read.now.group) in
+    first-there there c.one-item.result (drop (c.loop-one.one-index + 1) c.as_slice-reads.result.now)
+    (ap (list_all there) (sym (next (goal.at.serve_at-requires c).After-one-item)) ∙ c.loop-one.invariant.there)
+
+pub unwrap-requires : goal.unwrap-requires
+unwrap-requires c = c.push.ensures.succeeds (omega arith)
+
+pub loop-one-preserved : goal.loop-one-preserved
+loop-one-preserved c =
+    let now = c.args.now in
+    let read = c.args.read.now in
+    let reads = c.as_slice-reads.result.now in
+    let first = content_of c.args.keys.now.entries in
+    let before = content_of c.loop-one.keys.entries in
+    let after = content_of c.serve_at.new.keys.entries in
+    let one = c.one-item.result in
+    let more = drop (c.loop-one.one-index + 1) reads in
+    let served = c.in-Ok.served in
+    let split = next (goal.at.loop-one-preserved c).After-one-item in
+    let is = c.in-Ok.ensures.ok in
+    let ok : is_ok c.push.result ≡ true = c.push.ensures.succeeds (omega arith) in
+    let items = rw ok at c.push.ensures.items in
+    let len = rw ok at c.push.ensures.len in
+    let there = λ (r : ReadOne). is_some (group_in (get before r.key) read.group) in
+    let count : length c.loop-one.deliveries.items ≡ c.loop-one.one-index = omega (arith, c.loop-one.deliveries.ok.0) in
+    let lt : length c.loop-one.deliveries.items < length reads = omega arith in
+    let place : one ≡ get_or reads (length c.loop-one.deliveries.items) one = rw count c.one-item.is in
+    record {
+      content = content-more now read one more before after served is (read_each first now read reads) (ap (read_each before now read) (sym split) ∙ c.loop-one.invariant.content);
+      shown = ap (λ done. done ++ parts after now read more) c.push_part.ensures.items
+          ∙ parts-more now read one more before after served is c.loop-one.items.items (parts first now read reads)
+          (ap (λ rest. c.loop-one.items.items ++ parts before now read rest) (sym split) ∙ c.loop-one.invariant.shown);
+      there = there-more now read one more before after served is (ap (list_all there) (sym split) ∙ c.loop-one.invariant.there);
+      made = rw items (made-push read.group reads c.loop-one.deliveries.items first before after one served.delivery c.loop-one.invariant.made lt place (served-made now read one before after served is));
+      count = omega (arith, len);
+      fewer = omega (arith, c.push_part.ensures.len);
+      room = omega (arith, c.push.ensures.capacity);
+      room_shown = omega (arith, c.push_part.ensures.capacity);
+    }
+
+pub undo_all-requires : goal.undo_all-requires
+undo_all-requires c = (content_of c.args.keys.now.entries, rw c.in-Err.ensures.err c.loop-one.invariant.made)

@@ -1,0 +1,32 @@
+//! DEL.
+ghost use Rattle.std.specs.Prelude.{◌≡◌};
+ghost use Rattle.xs_keys.specs.Content.{without_keys};
+ghost use Rattle.xs_keys.specs.Codes.{content_of};
+ghost use Rattle.xs_keys.specs.Reply.{existing};
+ghost use Rattle.xs_keys.specs.Headline.{StepAtAnyTime};
+
+use crate::keys::Keys;
+use xs_bytes::Bytes;
+use xs_command::{Command, Names};
+use xs_resp::Reply;
+
+/// Removes keys, and counts those that were there, each once.
+fn remove_all(keys: &mut Keys, names: &[Bytes]) -> u64
+    ensures content { content_of keys.new.entries ≡ without_keys names.now (content_of keys.old.entries) }
+    ensures count { result ≡ existing names.now (content_of keys.old.entries) }
+{
+    let mut count = 0;
+    for name in names {
+        if keys.remove(name).is_some() {
+            count += 1;
+        }
+    }
+    count
+}
+
+/// Removes keys with their groups, and says how many of them there were, each counted once.
+pub fn delete(keys: &mut Keys, names: &Names) -> Reply
+    ensures { StepAtAnyTime (content_of keys.old.entries) (Command.DropKeys names.now) result (content_of keys.new.entries) }
+{
+    Reply::Int(remove_all(keys, names.as_slice()))
+}

@@ -1,0 +1,110 @@
+//! XADD.
+ghost use Rattle.std.specs.Prelude.{◌≡◌, Some, Ok, Err, None, true, is_ok, IfOk, OnErr, IsErrOf};
+ghost use Rattle.xs_bytes.specs.SortedMap as map;
+ghost use Rattle.xs_stream.specs.Id.{printed, assigned};
+ghost use Rattle.xs_command.specs.WellFormed.{IsAddId};
+ghost use Rattle.xs_keys.specs.Life.{added};
+ghost use Rattle.xs_keys.specs.Content.{stream_after};
+ghost use Rattle.xs_keys.specs.Adding.{text_of, Adds};
+ghost use Rattle.xs_keys.specs.Codes.{content_of};
+ghost use Rattle.xs_keys.specs.Reply.{fault_of};
+ghost use Rattle.xs_keys.specs.Headline.{Step};
+
+use crate::keys::{Keys, Slot};
+use crate::showing::id_text;
+use std::alloc::Global;
+use std::collections::BTreeMap;
+use xs_bytes::Bytes;
+use xs_command::{AddCommand, Command};
+use xs_resp::{Fault, Reply};
+use xs_stream::{AddError, Moment, Stream};
+
+/// Adds an entry to a stream and trims it then. The text of the id is made first, so that a refusal of
+/// memory leaves the stream as it was.
+fn try_add(
+    alloc: Global,
+    stream: &mut Stream,
+    now: Moment,
+    add: &AddCommand,
+) -> Result<Bytes, AddError>
+    ensures ok { IfOk result (λ text. (text_of (assigned now stream.old.top add.now.id) ≡ Some text)
+        × (stream.new ≡ stream_after (added now add.now.id add.now.fields add.now.trim) stream.old)) }
+    ensures small { IsErrOf result AddError.Small → assigned now stream.old.top add.now.id ≡ Err AddError.Small }
+    ensures exhausted { IsErrOf result AddError.Exhausted → assigned now stream.old.top add.now.id ≡ Err AddError.Exhausted }
+    ensures memory { IsErrOf result AddError.Memory → is_ok (assigned now stream.old.top add.now.id) ≡ true }
+    ensures err { OnErr result (stream.new ≡ stream.old) }
+{
+    let id = match stream.assign(now, add.id) {
+        Ok(id) => id,
+        Err(error) => return Err(error),
+    };
+    let Ok(text) = id_text(alloc, id) else {
+        return Err(AddError::Memory);
+    };
+    let Ok(fields) = add.fields.copy(alloc) else {
+        return Err(AddError::Memory);
+    };
+    match stream.add(now, add.id, fields) {
+        Ok(_) => {}
+        Err(error) => return Err(error),
+    }
+    if let Some(trim) = add.trim {
+        let _ = stream.trim(trim);
+    }
+    Ok(text)
+}
+
+/// The error of a refused addition.
+fn fault_of_refusal(refusal: AddError) -> Fault
+    ensures { result ≡ fault_of refusal }
+{
+    match refusal {
+        AddError::Small => Fault::SmallId,
+        AddError::Exhausted => Fault::Exhausted,
+        AddError::Memory => Fault::Memory,
+    }
+}
+
+/// Adds an entry to a stream, and gives the reply.
+fn add_to(alloc: Global, stream: &mut Stream, now: Moment, add: &AddCommand) -> Reply
+    ensures { Adds stream.old now add.now result stream.new }
+{
+    match try_add(alloc, stream, now, add) {
+        Ok(text) => Reply::Bulk(text),
+        Err(refusal) => Reply::Error(fault_of_refusal(refusal)),
+    }
+}
+
+/// Adds an entry to a key that isn't there, and makes the key where the command may.
+fn add_missing(keys: &mut Keys, alloc: Global, now: Moment, add: &AddCommand) -> Reply
+    requires missing { map.get (content_of keys.old.entries) add.now.key ≡ None }
+    requires well_formed { IsAddId add.now.id }
+    ensures { Step (content_of keys.old.entries) now (Command.Add add.now) result (content_of keys.new.entries) }
+{
+    if !add.make {
+        return Reply::NullBulk;
+    }
+    let Ok(key) = Bytes::from_slice(alloc, add.key.as_slice()) else {
+        return Reply::Error(Fault::Memory);
+    };
+    let mut stream = Stream::new(alloc);
+    let Ok(text) = try_add(alloc, &mut stream, now, add) else {
+        return Reply::Error(Fault::Memory);
+    };
+    let groups = BTreeMap::new(alloc);
+    match keys.insert(key, Slot { stream, groups }) {
+        Ok(_) => Reply::Bulk(text),
+        Err(_) => Reply::Error(Fault::Memory),
+    }
+}
+
+/// Adds an entry to the stream of a key.
+pub fn add(keys: &mut Keys, alloc: Global, now: Moment, add: &AddCommand) -> Reply
+    requires { IsAddId add.now.id }
+    ensures { Step (content_of keys.old.entries) now (Command.Add add.now) result (content_of keys.new.entries) }
+{
+    match keys.get_mut(&add.key) {
+        Some(slot) => add_to(alloc, &mut slot.stream, now, add),
+        None => add_missing(keys, alloc, now, add),
+    }
+}

@@ -1,0 +1,70 @@
+//! XAUTOCLAIM.
+ghost use Rattle.std.specs.Prelude.{◌≡◌, IfOk, OnOk, OnErr};
+ghost use Rattle.xs_stream.specs.Kept.{ids_of};
+ghost use Rattle.xs_group.specs.Claims as claims;
+ghost use Rattle.xs_keys.specs.Turn.{auto_claim};
+ghost use Rattle.xs_keys.specs.Content.{group_after};
+ghost use Rattle.xs_keys.specs.Codes.{content_of};
+ghost use Rattle.xs_keys.specs.Reply.{scan_shown};
+ghost use Rattle.xs_keys.specs.Headline.{Step};
+
+use crate::keys::Keys;
+use crate::showing::{array_of, id_text, ids_shown, taken_shown};
+use std::alloc::{AllocError, Global};
+use xs_command::{AutoClaimCommand, Command};
+use xs_group::{Group, Scan};
+use xs_resp::{Fault, Reply};
+use xs_stream::{Moment, Stream};
+
+/// Where to go on, what was taken, and the ids that were removed.
+fn scan_shown(
+    alloc: Global,
+    stream: &Stream,
+    just_id: bool,
+    scan: &Scan,
+) -> Result<Reply, AllocError>
+    ensures { IfOk result (λ reply. reply ≡ scan_shown just_id stream.now.entries scan.now) }
+{
+    let cursor = Reply::Bulk(id_text(alloc, scan.cursor)?);
+    let taken = taken_shown(alloc, stream, just_id, scan.claim.take.as_slice())?;
+    let removed = ids_shown(alloc, scan.claim.removed.as_slice())?;
+    Ok(array_of(vec![in alloc; cursor, taken, removed]?))
+}
+
+/// Claims entries of a group from a start upwards. The reply is made before the claim is carried out, so
+/// that a refusal of memory leaves the group as it was.
+fn claim_in(
+    group: &mut Group,
+    alloc: Global,
+    stream: &Stream,
+    now: Moment,
+    command: &AutoClaimCommand,
+) -> Result<Reply, AllocError>
+    ensures answer { let found = claims.scan_of group.old.rows.entries (ids_of stream.now.entries) now command.now.rule command.now.start command.now.limit in
+        IfOk result (λ reply. reply ≡ scan_shown command.now.rule.just_id stream.now.entries found) }
+    ensures ok { let asked = auto_claim command.now.consumer command.now.rule command.now.start command.now.limit in
+        OnOk result (group.new ≡ group_after now (ids_of stream.now.entries) asked group.old) }
+    ensures err { OnErr result (group.new ≡ group.old) }
+{
+    let rule = command.rule;
+    let found = group.scan(alloc, stream, now, &rule, command.start, command.limit)?;
+    let reply = scan_shown(alloc, stream, rule.just_id, &found)?;
+    group.settle(alloc, &command.consumer, now, &rule, &found.claim)?;
+    Ok(reply)
+}
+
+/// Claims entries of a group from a start upwards.
+pub fn claim(keys: &mut Keys, alloc: Global, now: Moment, command: &AutoClaimCommand) -> Reply
+    ensures { Step (content_of keys.old.entries) now (Command.AutoClaim command.now) result (content_of keys.new.entries) }
+{
+    let Some(slot) = keys.get_mut(&command.key) else {
+        return Reply::Error(Fault::NoGroup);
+    };
+    let Some(group) = slot.groups.get_mut(&command.group) else {
+        return Reply::Error(Fault::NoGroup);
+    };
+    match claim_in(group, alloc, &slot.stream, now, command) {
+        Ok(reply) => reply,
+        Err(AllocError) => Reply::Error(Fault::Memory),
+    }
+}

@@ -1,0 +1,55 @@
+//! XCLAIM.
+ghost use Rattle.std.specs.Prelude.{◌≡◌, IfOk, OnOk, OnErr};
+ghost use Rattle.xs_stream.specs.Kept.{ids_of};
+ghost use Rattle.xs_group.specs.Claims as claims;
+ghost use Rattle.xs_keys.specs.Turn.{claim};
+ghost use Rattle.xs_keys.specs.Content.{group_after};
+ghost use Rattle.xs_keys.specs.Codes.{content_of};
+ghost use Rattle.xs_keys.specs.Reply.{taken_reply};
+ghost use Rattle.xs_keys.specs.Headline.{Step};
+
+use crate::keys::Keys;
+use crate::showing::taken_shown;
+use std::alloc::{AllocError, Global};
+use xs_command::{ClaimCommand, Command};
+use xs_group::Group;
+use xs_resp::{Fault, Reply};
+use xs_stream::{Moment, Stream};
+
+/// Claims entries of a group. The reply is made before the claim is carried out, so that a refusal of
+/// memory leaves the group as it was.
+fn claim_in(
+    group: &mut Group,
+    alloc: Global,
+    stream: &Stream,
+    now: Moment,
+    command: &ClaimCommand,
+) -> Result<Reply, AllocError>
+    ensures answer { let found = claims.claim_of group.old.rows.entries (ids_of stream.now.entries) now command.now.rule command.now.ids in
+        IfOk result (λ reply. reply ≡ taken_reply command.now.rule.just_id stream.now.entries found.take) }
+    ensures ok { let asked = claim command.now.consumer command.now.rule command.now.ids in
+        OnOk result (group.new ≡ group_after now (ids_of stream.now.entries) asked group.old) }
+    ensures err { OnErr result (group.new ≡ group.old) }
+{
+    let rule = command.rule;
+    let found = group.find_claim(alloc, stream, now, &rule, command.ids.as_slice())?;
+    let reply = taken_shown(alloc, stream, rule.just_id, found.take.as_slice())?;
+    group.settle(alloc, &command.consumer, now, &rule, &found)?;
+    Ok(reply)
+}
+
+/// Claims entries of a group by their ids.
+pub fn claim(keys: &mut Keys, alloc: Global, now: Moment, command: &ClaimCommand) -> Reply
+    ensures { Step (content_of keys.old.entries) now (Command.Claim command.now) result (content_of keys.new.entries) }
+{
+    let Some(slot) = keys.get_mut(&command.key) else {
+        return Reply::Error(Fault::NoGroup);
+    };
+    let Some(group) = slot.groups.get_mut(&command.group) else {
+        return Reply::Error(Fault::NoGroup);
+    };
+    match claim_in(group, alloc, &slot.stream, now, command) {
+        Ok(reply) => reply,
+        Err(AllocError) => Reply::Error(Fault::Memory),
+    }
+}

@@ -1,0 +1,19 @@
+//! XDEL.
+ghost use Rattle.xs_keys.specs.Codes.{content_of};
+ghost use Rattle.xs_keys.specs.Headline.{StepAtAnyTime};
+
+use crate::keys::Keys;
+use xs_bytes::Bytes;
+use xs_command::Command;
+use xs_resp::Reply;
+use xs_stream::Ids;
+
+/// Removes entries of a key, and says how many there were.
+pub fn delete(keys: &mut Keys, key: &Bytes, ids: &Ids) -> Reply
+    ensures { StepAtAnyTime (content_of keys.old.entries) (Command.Delete key.now ids.now) result (content_of keys.new.entries) }
+{
+    match keys.get_mut(key) {
+        Some(slot) => Reply::Int(slot.stream.delete(ids.as_slice())),
+        None => Reply::Int(0),
+    }
+}

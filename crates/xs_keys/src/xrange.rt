@@ -1,0 +1,35 @@
+//! XRANGE and XREVRANGE.
+ghost use Rattle.std.specs.Prelude.{◌≡◌, IfOk};
+ghost use Rattle.xs_stream.specs.Kept.{limited, ids_within};
+ghost use Rattle.xs_keys.specs.Codes.{content_of};
+ghost use Rattle.xs_keys.specs.Reply.{entries_reply};
+ghost use Rattle.xs_keys.specs.Headline.{StepAtAnyTime};
+
+use crate::keys::Keys;
+use crate::showing::entries_shown;
+use std::alloc::{AllocError, Global};
+use xs_command::{Command, ScanCommand};
+use xs_resp::{Fault, Replies, Reply};
+use xs_stream::Stream;
+
+/// The entries of a range of a stream.
+fn range_shown(alloc: Global, stream: &Stream, command: &ScanCommand) -> Result<Reply, AllocError>
+    ensures { let entries = stream.now.entries in
+        IfOk result (λ reply. reply ≡ entries_reply entries (limited command.now.limit (ids_within command.now.range command.now.reversed entries))) }
+{
+    let ids = stream.range(alloc, command.range, command.limit, command.reversed)?;
+    entries_shown(alloc, stream, ids.as_slice())
+}
+
+/// The entries of a range of a key.
+pub fn range(keys: &Keys, alloc: Global, command: &ScanCommand) -> Reply
+    ensures { StepAtAnyTime (content_of keys.now.entries) (Command.Scan command.now) result (content_of keys.now.entries) }
+{
+    let Some(slot) = keys.get(&command.key) else {
+        return Reply::Array(Replies::new(Vec::new(alloc)));
+    };
+    match range_shown(alloc, &slot.stream, command) {
+        Ok(reply) => reply,
+        Err(AllocError) => Reply::Error(Fault::Memory),
+    }
+}

@@ -1,0 +1,261 @@
+//! XREADGROUP.
+ghost use Rattle.std.specs.Prelude.{◌≡◌, ◌<◌, ◌≤◌, ◌+◌, ◌++◌, vec_len, vec_capacity, true, is_some, map, length, IfOk, OnOk, OnErr};
+ghost use Rattle.std.specs.List.{list_all};
+ghost use Rattle.xs_bytes.specs.SortedMap as finmap;
+ghost use Rattle.xs_bytes.specs.SortedMap.{NameMap};
+ghost use Rattle.xs_stream.specs.Kept.{ids_of};
+ghost use Rattle.xs_group.specs.State.{State};
+ghost use Rattle.xs_group.specs.Delivered.{IsMade, row_ids};
+ghost use Rattle.xs_keys.specs.GroupLife.{read_ask};
+ghost use Rattle.xs_keys.specs.Content.{Content, group_after, group_in, serves, read_each};
+ghost use Rattle.xs_keys.specs.Codes.{content_of, groups_of};
+ghost use Rattle.xs_keys.specs.Reply.{array_or_null, entry_reply, array, part, parts};
+ghost use Rattle.xs_keys.specs.Reading.{listed, ids_shown, part_of, IsServed, IsServedIn, IsServedAt, IsMadeIn, IsMadeAt, AreMade};
+ghost use Rattle.xs_keys.specs.Headline.{Step};
+
+use crate::keys::{Groups, Keys, group_at};
+use crate::showing::{array_of, entry_shown};
+use std::alloc::{AllocError, Global};
+use xs_bytes::Bytes;
+use xs_command::{Command, ReadFrom, ReadGroupCommand, ReadOne};
+use xs_group::{Delivery, DeliveryRow, Group};
+use xs_resp::{Fault, Reply};
+use xs_stream::{Moment, Stream};
+
+/// A read of one group: what takes it back, and its part of the reply, where it has one.
+#[derive(Drop)]
+pub struct Served {
+    pub delivery: Delivery,
+    pub part: Option<Reply>,
+}
+
+/// Reads a group.
+fn read_group(
+    group: &mut Group,
+    alloc: Global,
+    stream: &Stream,
+    now: Moment,
+    read: &ReadGroupCommand,
+    from: ReadFrom,
+) -> Result<Delivery, AllocError>
+    ensures ok { OnOk result (group.new ≡ group_after now (ids_of stream.now.entries) (read_ask read.now from) group.old) }
+    ensures rows { IfOk result (λ d. row_ids d.rows ≡ ids_shown read.now from (ids_of stream.now.entries) group.old) }
+    ensures made { IfOk result (λ d. IsMade group.old group.new d) }
+    ensures err { OnErr result (group.new ≡ group.old) }
+{
+    group.lawful();
+    match from {
+        ReadFrom::New => group.deliver(alloc, stream, &read.consumer, now, read.limit, read.noack),
+        ReadFrom::After(id) => group.history(alloc, stream, &read.consumer, now, id, read.limit),
+    }
+}
+
+/// The entries of these rows.
+fn rows_shown(alloc: Global, stream: &Stream, rows: &[DeliveryRow]) -> Result<Reply, AllocError>
+    ensures { IfOk result (λ reply. reply ≡ array (map (entry_reply stream.now.entries) (row_ids rows.now))) }
+{
+    let mut items = Vec::with_capacity(alloc, rows.len())?;
+    for row in rows {
+        let entry = entry_shown(alloc, stream, row.id)?;
+        items.push(entry)?;
+    }
+    Ok(array_of(items))
+}
+
+/// A key, and the entries of these rows.
+fn stream_part(
+    alloc: Global,
+    stream: &Stream,
+    key: &Bytes,
+    rows: &[DeliveryRow],
+) -> Result<Reply, AllocError>
+    ensures { IfOk result (λ reply. reply ≡ part key.now stream.now.entries (row_ids rows.now)) }
+{
+    let name = Reply::Bulk(Bytes::from_slice(alloc, key.as_slice())?);
+    let entries = rows_shown(alloc, stream, rows)?;
+    Ok(array_of(vec![in alloc; name, entries]?))
+}
+
+/// A read's part of the reply. Nothing new has none.
+fn part_shown(
+    alloc: Global,
+    stream: &Stream,
+    key: &Bytes,
+    from: ReadFrom,
+    rows: &[DeliveryRow],
+) -> Result<Option<Reply>, AllocError>
+    ensures { IfOk result (λ shows. listed shows ≡ part_of from key.now stream.now.entries (row_ids rows.now)) }
+{
+    match from {
+        ReadFrom::New => {
+            if rows.is_empty() {
+                return Ok(None);
+            }
+            Ok(Some(stream_part(alloc, stream, key, rows)?))
+        }
+        ReadFrom::After(_) => Ok(Some(stream_part(alloc, stream, key, rows)?)),
+    }
+}
+
+/// Serves one read. Where there is no memory for its part of the reply, it is taken back.
+fn serve(
+    group: &mut Group,
+    alloc: Global,
+    stream: &Stream,
+    now: Moment,
+    read: &ReadGroupCommand,
+    one: &ReadOne,
+) -> Result<Served, AllocError>
+    ensures ok { IfOk result (λ served. IsServed stream.now.entries now read.now one.now group.old group.new served) }
+    ensures err { OnErr result (group.new ≡ group.old) }
+{
+    let delivery = read_group(group, alloc, stream, now, read, one.from)?;
+    match part_shown(alloc, stream, &one.key, one.from, delivery.rows.as_slice()) {
+        Ok(part) => Ok(Served { delivery, part }),
+        Err(error) => {
+            group.undo(delivery);
+            Err(error)
+        }
+    }
+}
+
+/// Serves one read among the groups of its key.
+fn serve_in(
+    groups: &mut Groups,
+    alloc: Global,
+    stream: &Stream,
+    now: Moment,
+    read: &ReadGroupCommand,
+    one: &ReadOne,
+) -> Result<Served, AllocError>
+    requires { is_some (finmap.get (groups_of groups.old.entries) read.now.group) ≡ true }
+    ensures ok { IfOk result (λ served. IsServedIn stream.now.entries now read.now one.now (groups_of groups.old.entries) (groups_of groups.new.entries) served) }
+    ensures err { OnErr result (groups_of groups.new.entries ≡ groups_of groups.old.entries) }
+{
+    match groups.get_mut(&read.group) {
+        Some(group) => serve(group, alloc, stream, now, read, one),
+        None => unreachable!(),
+    }
+}
+
+/// Serves one read among the keys.
+fn serve_at(
+    keys: &mut Keys,
+    alloc: Global,
+    now: Moment,
+    read: &ReadGroupCommand,
+    one: &ReadOne,
+) -> Result<Served, AllocError>
+    requires { is_some (group_in (finmap.get (content_of keys.old.entries) one.now.key) read.now.group) ≡ true }
+    ensures ok { IfOk result (λ served. IsServedAt now read.now one.now (content_of keys.old.entries) (content_of keys.new.entries) served) }
+    ensures err { OnErr result (content_of keys.new.entries ≡ content_of keys.old.entries) }
+{
+    match keys.get_mut(&one.key) {
+        Some(slot) => serve_in(&mut slot.groups, alloc, &slot.stream, now, read, one),
+        None => unreachable!(),
+    }
+}
+
+/// Takes a read of one of these groups back, where it was the last one.
+fn undo_in(groups: &mut Groups, group: &Bytes, delivery: Delivery)
+    requires { (before : NameMap State) × IsMadeIn group.now before (groups_of groups.old.entries) delivery }
+    ensures { (before : NameMap State) → IsMadeIn group.now before (groups_of groups.old.entries) delivery → groups_of groups.new.entries ≡ before }
+{
+    match groups.get_mut(group) {
+        Some(group) => group.undo(delivery),
+        None => unreachable!(),
+    }
+}
+
+/// Takes a read of a group of one of these keys back, where it was the last one.
+fn undo_at(keys: &mut Keys, key: &Bytes, group: &Bytes, delivery: Delivery)
+    requires { (before : Content) × IsMadeAt group.now key.now before (content_of keys.old.entries) delivery }
+    ensures { (before : Content) → IsMadeAt group.now key.now before (content_of keys.old.entries) delivery → content_of keys.new.entries ≡ before }
+{
+    match keys.get_mut(key) {
+        Some(slot) => undo_in(&mut slot.groups, group, delivery),
+        None => unreachable!(),
+    }
+}
+
+/// Takes reads back, the last first.
+fn undo_all(keys: &mut Keys, reads: &[ReadOne], group: &Bytes, deliveries: Vec<Delivery>)
+    requires { (first : Content) × AreMade group.now reads.now deliveries.items first (content_of keys.old.entries) }
+    ensures { (first : Content) → AreMade group.now reads.now deliveries.items first (content_of keys.old.entries) → content_of keys.new.entries ≡ first }
+{
+    let mut left = deliveries;
+    while let Some(delivery) = left.pop() {
+        undo_at(keys, &reads[left.len()].key, group, delivery);
+    }
+}
+
+/// Appends a part, where there is one, to parts that have room for it.
+fn push_part(items: &mut Vec<Reply>, part: Option<Reply>)
+    requires { vec_len items.old < vec_capacity items.old }
+    ensures items { items.new.items ≡ items.old.items ++ listed part }
+    ensures len { vec_len items.new ≤ vec_len items.old + 1 }
+    ensures capacity { vec_capacity items.old ≤ vec_capacity items.new }
+{
+    if let Some(part) = part {
+        items.push(part).unwrap();
+    }
+}
+
+/// Serves the reads one after the other. Where memory runs out, all of them are taken back.
+fn serve_all(
+    keys: &mut Keys,
+    alloc: Global,
+    now: Moment,
+    read: &ReadGroupCommand,
+) -> Result<Reply, AllocError>
+    requires { serves (content_of keys.old.entries) read.now ≡ true }
+    ensures content { OnOk result (content_of keys.new.entries ≡ read_each (content_of keys.old.entries) now read.now read.now.reads) }
+    ensures answer { IfOk result (λ reply. reply ≡ array_or_null (parts (content_of keys.old.entries) now read.now read.now.reads)) }
+    ensures err { OnErr result (content_of keys.new.entries ≡ content_of keys.old.entries) }
+{
+    let reads = read.reads.as_slice();
+    let mut deliveries = Vec::with_capacity(alloc, reads.len())?;
+    let mut items = Vec::with_capacity(alloc, reads.len())?;
+    for one in reads {
+        match serve_at(keys, alloc, now, read, one) {
+            Ok(served) => {
+                let Served { delivery, part } = served;
+                deliveries.push(delivery).unwrap();
+                push_part(&mut items, part);
+            }
+            Err(error) => {
+                undo_all(keys, reads, &read.group, deliveries);
+                return Err(error);
+            }
+        }
+    }
+    if items.is_empty() {
+        return Ok(Reply::NullArray);
+    }
+    Ok(array_of(items))
+}
+
+/// Each key and group of a read is there.
+fn all_there(keys: &Keys, read: &ReadGroupCommand) -> bool
+    ensures { result ≡ serves (content_of keys.now.entries) read.now }
+{
+    for one in read.reads.as_slice() {
+        if group_at(keys, &one.key, &read.group).is_none() {
+            return false;
+        }
+    }
+    true
+}
+
+/// XREADGROUP.
+pub fn read(keys: &mut Keys, alloc: Global, now: Moment, read: &ReadGroupCommand) -> Reply
+    ensures { Step (content_of keys.old.entries) now (Command.ReadGroup read.now) result (content_of keys.new.entries) }
+{
+    if !all_there(keys, read) {
+        return Reply::Error(Fault::NoGroup);
+    }
+    match serve_all(keys, alloc, now, read) {
+        Ok(reply) => reply,
+        Err(AllocError) => Reply::Error(Fault::Memory),
+    }
+}
