@@ -9,7 +9,7 @@ use xs_resp::{Fault, Reply, Simple, encode};
 use xs_stream::Moment;
 
 /// The events of a day, and the reply that the pages of the commands name for each.
-const DAY: [(&str, &str); 25] = [
+const DAY: [(&str, &str); 35] = [
     ("XADD s * f v", "$6\r\n1000-0\r\n"),
     ("XADD s NOMKSTREAM 2000-5 f v", "$6\r\n2000-5\r\n"),
     (
@@ -35,20 +35,43 @@ const DAY: [(&str, &str); 25] = [
     ("XLEN s", ":0\r\n"),
     ("XGROUP CREATE k g 0 MKSTREAM", "+OK\r\n"),
     ("XGROUP CREATE l g 0 MKSTREAM", "+OK\r\n"),
+    ("XGROUP CREATE m g $ MKSTREAM", "+OK\r\n"),
+    ("XGROUP CREATE k g 0", "-BUSYGROUP Consumer Group name already exists\r\n"),
     ("XADD k 1-1 f v", "$3\r\n1-1\r\n"),
     ("XADD l 2-1 f v", "$3\r\n2-1\r\n"),
+    ("XADD m 3-1 f v", "$3\r\n3-1\r\n"),
+    ("XREADGROUP GROUP g a STREAMS k l n > > >", "-NOGROUP No such key or consumer group\r\n"),
     (
-        "XREADGROUP GROUP g a STREAMS k l > >",
-        "*2\r\n*2\r\n$1\r\nk\r\n*1\r\n*2\r\n$3\r\n1-1\r\n*2\r\n$1\r\nf\r\n$1\r\nv\r\n*2\r\n$1\r\nl\r\n*1\r\n*2\r\n$3\r\n2-1\r\n*2\r\n$1\r\nf\r\n$1\r\nv\r\n",
+        "XREADGROUP GROUP g a STREAMS k l m > > >",
+        "*3\r\n\
+         *2\r\n$1\r\nk\r\n*1\r\n*2\r\n$3\r\n1-1\r\n*2\r\n$1\r\nf\r\n$1\r\nv\r\n\
+         *2\r\n$1\r\nl\r\n*1\r\n*2\r\n$3\r\n2-1\r\n*2\r\n$1\r\nf\r\n$1\r\nv\r\n\
+         *2\r\n$1\r\nm\r\n*1\r\n*2\r\n$3\r\n3-1\r\n*2\r\n$1\r\nf\r\n$1\r\nv\r\n",
     ),
     ("XREADGROUP GROUP g a STREAMS k l > >", "*-1\r\n"),
+    ("XDEL m 3-1", ":1\r\n"),
+    (
+        "XREADGROUP GROUP g a STREAMS l k m > 0 0",
+        "*2\r\n\
+         *2\r\n$1\r\nk\r\n*1\r\n*2\r\n$3\r\n1-1\r\n*2\r\n$1\r\nf\r\n$1\r\nv\r\n\
+         *2\r\n$1\r\nm\r\n*1\r\n*2\r\n$3\r\n3-1\r\n*-1\r\n",
+    ),
     (
         "XPENDING k g",
-        "*4\r\n:1\r\n$3\r\n1-1\r\n$3\r\n1-1\r\n*1\r\n*2\r\n$1\r\na\r\n$1\r\n1\r\n",
+        "*4\r\n:1\r\n$3\r\n1-1\r\n$3\r\n1-1\r\n\
+         *1\r\n*2\r\n$1\r\na\r\n$1\r\n1\r\n",
     ),
+    ("XPENDING k g - + 10", "*1\r\n*4\r\n$3\r\n1-1\r\n$1\r\na\r\n:0\r\n:2\r\n"),
     ("XCLAIM k g b 0 1-1 JUSTID", "*1\r\n$3\r\n1-1\r\n"),
+    (
+        "XAUTOCLAIM l g b 0 - COUNT 5",
+        "*3\r\n$3\r\n0-0\r\n*1\r\n*2\r\n$3\r\n2-1\r\n*2\r\n$1\r\nf\r\n$1\r\nv\r\n\
+         *0\r\n",
+    ),
+    ("XAUTOCLAIM m g b 0 -", "*3\r\n$3\r\n0-0\r\n*0\r\n*1\r\n$3\r\n3-1\r\n"),
+    ("XGROUP CREATECONSUMER l g c", ":1\r\n"),
     ("XACK k g 1-1", ":1\r\n"),
-    ("XGROUP DELCONSUMER l g a", ":1\r\n"),
+    ("XGROUP DELCONSUMER l g b", ":1\r\n"),
     ("XGROUP DESTROY l g", ":1\r\n"),
 ];
 
@@ -141,6 +164,39 @@ fn texts_of(alloc: Global, replies: &[Reply]) -> Result<Vec<u8>, AllocError> {
     }
 }
 
+/// The reply to a line, by a run of one event.
+fn ran_alone(
+    alloc: Global,
+    keyspace: &mut Keyspace,
+    now: Moment,
+    line: &str,
+) -> Result<Option<Reply>, Refusal> {
+    let events = [(now, command(alloc, line)?)];
+    let mut replies = run_again(keyspace, events.as_slice())?;
+    Ok(replies.pop())
+}
+
+// The same day, each event a run of its own.
+#[test]
+fn a_refused_run_changes_nothing(rt: HostRuntime) -> Result<(), Fail> {
+    let alloc = rt.alloc();
+    let now = Moment::new(1000).ok_or("a moment")?;
+    let mut keyspace = Keyspace::new(alloc);
+    for (line, text) in DAY {
+        let mut reply = ran_alone(alloc, &mut keyspace, now, line)?;
+        if let Some(Reply::Error(Fault::Memory)) = reply {
+            reply = ran_alone(alloc, &mut keyspace, now, line)?;
+        }
+        let reply = reply.ok_or("a reply")?;
+        assert_eq!(rt;
+            text_of(alloc, &reply)?.as_slice(),
+            text.as_bytes(),
+            "{line}"
+        );
+    }
+    Ok(())
+}
+
 /// Runs an addition and the deletion of its stream, and gives the replies as one text.
 fn ran(alloc: Global, keyspace: &mut Keyspace, now: Moment) -> Result<Vec<u8>, Refusal> {
     let events = [
@@ -181,8 +237,24 @@ fn answer(alloc: Global, keyspace: &mut Keyspace, now: Moment, line: &str) -> Op
     }
 }
 
-/// Commands that take no memory, and the number that each answers in turn on a stream of the entries 1-0 to 3-0.
-const WITHOUT_MEMORY: [(&str, u64); 8] = [
+/// A stream of three entries, delivered to a consumer of a group.
+const DELIVERED: [&str; 5] = [
+    "XADD s 1-0 f v",
+    "XADD s 2-0 f v",
+    "XADD s 3-0 f v",
+    "XGROUP CREATE s g 0",
+    "XREADGROUP GROUP g a STREAMS s >",
+];
+
+/// Commands that take no memory, and the number that each answers in turn on a stream of the entries 1-0 to 3-0, all of
+/// them delivered to a consumer.
+const WITHOUT_MEMORY: [(&str, u64); 14] = [
+    ("XACK s g 1-0 1-0 9-9", 1),
+    ("XACK t g 1-0", 0),
+    ("XGROUP DELCONSUMER s g a", 2),
+    ("XGROUP DELCONSUMER s g a", 0),
+    ("XGROUP DESTROY s g", 1),
+    ("XGROUP DESTROY s g", 0),
     ("XLEN s", 3),
     ("XDEL s 1-0 1-0 9-9", 1),
     ("XTRIM s MAXLEN 1", 1),
@@ -199,10 +271,10 @@ fn some_commands_take_no_memory(rt: HostRuntime) -> Result<(), Fail> {
     let alloc = rt.alloc();
     let now = Moment::new(1000).ok_or("a moment")?;
     let mut keyspace = Keyspace::new(alloc);
-    for line in ["XADD s 1-0 f v", "XADD s 2-0 f v", "XADD s 3-0 f v"] {
-        let added = answer(alloc, &mut keyspace, now, line);
-        if !matches!(added, Some(Reply::Bulk(_))) {
-            return Ok(());
+    for line in DELIVERED {
+        match answer(alloc, &mut keyspace, now, line) {
+            None | Some(Reply::Error(_)) => return Ok(()),
+            _ => {}
         }
     }
     for (line, number) in WITHOUT_MEMORY {
