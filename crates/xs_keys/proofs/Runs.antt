@@ -30,7 +30,7 @@ runs-none old events = λ past is. (past, is, λ answers last done. done)
 
 -- how a step goes on with a history
 pub step-follows : (past : List (ℕ × Command)) (old new : Content) (now : ℕ) (command : Command) (answer : Reply) → IsContent old past → Step old now command answer new
-    → (next : List (ℕ × Command)) × IsContent new next × Follows past now command answer next
+    → (next : List (ℕ × Command)) × IsContent new next × Follows now past command answer next
 step-follows past old new now command answer is (inl applied) = (
   (now, command) ∷ past,
   subst (λ c. IsContent c ((now, command) ∷ past)) (sym applied.content_is) (content-step past old now command is),

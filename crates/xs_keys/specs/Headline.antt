@@ -126,9 +126,9 @@ pub record IsLeftOut (past : List (ℕ × Command)) (now : ℕ) (command : Comma
   pub no_other : is_error (reply content now command) ≡ false
   pub answer_is : answer ≡ Error Memory
 
--- over a past, a command at a moment is answered so, and this history follows: it joins the history, or is left out
-abbrev pub Follows : List (ℕ × Command) → ℕ → Command → Reply → List (ℕ × Command) → Type 0
-Follows past now command answer next =
+-- at a moment, over a past, a command is answered so, and this history follows: the event joins it, or is left out
+abbrev pub Follows : ℕ → List (ℕ × Command) → Command → Reply → List (ℕ × Command) → Type 0
+Follows now past command answer next =
     (IsAnswered past now command answer × (next ≡ (now, command) ∷ past))
     ⊎ (IsLeftOut past now command answer × (next ≡ past))
 
@@ -136,7 +136,7 @@ Follows past now command answer next =
 abbrev pub Answers : List (ℕ × Command) → List (ℕ × Command) → List Reply → List (ℕ × Command) → Type 0
 Answers past [] [] last = last ≡ past
 Answers past (e ∷ events) (answer ∷ answers) last =
-    (next : List (ℕ × Command)) × Follows past e.0 e.1 answer next × Answers next events answers last
+    (next : List (ℕ × Command)) × Follows e.0 past e.1 answer next × Answers next events answers last
 Answers past _ _ last = ⊥
 
 -- each group of a history, at each time of it: what holds of each of its lives
