@@ -147,6 +147,10 @@ asked-other c now name group ask (Some key) q other = by (get key.groups group) 
   by None = refl
   by (Some s) = rw (get-insert c name (with_group key group (group_after now (ids_of key.stream.entries) ask s)) q, other) refl
 
+-- an ask of a group of one key leaves the others
+pub asked-elsewhere : (c : Content) (now : ℕ) (name group : List ℕ) (ask : Ask) (q : List ℕ) → is_name q name ≡ false → get (asked c now name group ask) q ≡ get c q
+asked-elsewhere c now name group ask q other = asked-other c now name group ask (get c name) q other
+
 pub holds-ask : (c : Content) (streams : List ℕ → Option (List Change)) (lives : List ℕ → List ℕ → Option GroupLife) (now : ℕ) (name group : List ℕ) (ask : Ask)
     → Holds c streams lives → Holds (asked c now name group ask) streams (λ q g. cond (is_name q name && is_name g group) (life_asked now (present_in (streams q)) ask (lives q g)) (lives q g))
 holds-ask c streams lives now name group ask h = λ q. by q (is_name q name) refl where
@@ -194,7 +198,7 @@ group-known (Some key) (Some changes) lives group h = by (get key.groups group) 
 group-known None (Some changes) lives group h = absurd h
 group-known (Some key) None lives group h = absurd h
 
-serves-known : (reads : List ReadOne) (c : Content) (past : List (ℕ × Command)) (group : List ℕ) → IsContent c past
+pub serves-known : (reads : List ReadOne) (c : Content) (past : List (ℕ × Command)) (group : List ℕ) → IsContent c past
     → list_all (λ one. is_some (group_in (get c one.key) group)) reads ≡ list_all (λ one. is_some (group_life past one.key group)) reads
 serves-known [] c past group h = refl
 serves-known (one ∷ more) c past group h =

@@ -15,3 +15,4 @@ pub mod Owners
 pub mod ReadSteps
 pub mod Runs
 pub mod Streams
+pub mod Tellings

@@ -61,7 +61,7 @@ abbrev delivered_in : Command → List Id → Option GroupLife → List Id
 delivered_in command present life = option_map_or (λ l. delivers (limit_of command) (cursor l.start l.turns) present) life []
 
 -- reads of other keys
-absent : List ℕ → List ReadOne → Bool
+abbrev pub absent : List ℕ → List ReadOne → Bool
 absent key reads = list_any (λ one. is_name key one.key) reads
 
 not-read : (now : ℕ) (present : List Id) (read : ReadGroupCommand) (key : List ℕ) (reads : List ReadOne) (life : Option GroupLife) → absent key reads ≡ false → life_read now present read key reads life ≡ life
@@ -88,7 +88,7 @@ other-name key a k same differs = by (is_name key k) refl where
   by false e = refl
   by true e = absurd (false≢true (sym differs ∙ (bytes_eq-Decides a k).1 (sym (is_name-eq key a same) ∙ is_name-eq key k e)))
 
-others-absent : (key a : List ℕ) (more : List ReadOne) → is_name key a ≡ true → AllByRecursion (λ y. bytes_eq a y ≡ false) (keys_of more) → absent key more ≡ false
+pub others-absent : (key a : List ℕ) (more : List ReadOne) → is_name key a ≡ true → AllByRecursion (λ y. bytes_eq a y ≡ false) (keys_of more) → absent key more ≡ false
 unfolding absent
 others-absent key a [] same h = refl
 others-absent key a (one ∷ more) same h = rw (other-name key a one.key same h.0) (others-absent key a more same h.1)

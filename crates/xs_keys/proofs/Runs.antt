@@ -1,15 +1,19 @@
 -- A run so far, and one event more.
-use Rattle.std.proofs.Common.{◌≡◌, ℕ, List, [], ◌∷◌, ◌++◌, Some, inl, inr, sym, subst, refl, append_assoc}
+use Rattle.std.proofs.Common.{◌≡◌, ℕ, List, [], ◌∷◌, ◌++◌, Some, inl, inr, sym, ap, ◌∙◌, subst, refl, append_assoc}
 use Rattle.std.proofs.lemmas.List.{append-nil}
 use Rattle.xs_resp.specs.declared.reply.Reply.{Reply}
 use Rattle.xs_command.specs.declared.command.Command.{Command}
 use Rattle.xs_keys.specs.Content.{Content, IsContent}
-use Rattle.xs_keys.specs.Headline.{Step, Answers, Headline, RunsOn, DeliversNew, HasOneOwner}
+use Rattle.xs_keys.specs.Told.{IsTold}
+use Rattle.xs_keys.specs.Headline.{Step, Follows, Answers, Headline, RunsOn, DeliversNew, HasOneOwner}
 use Rattle.xs_keys.specs.GroupLife.{GroupLife, group_life}
 use Rattle.xs_keys.proofs.Lawfulness.{content-lawful}
 use Rattle.xs_keys.proofs.Deliveries.{ascends-delivered, past-start, had-turn}
 use Rattle.xs_keys.proofs.Histories.{present-in-life}
-use Rattle.xs_keys.proofs.Owners.{owned-until-settled, changes-by-claims}
+use Rattle.xs_keys.proofs.Owners.{owned-until-settled, changes-by-claims, owner-row, row-found, of_row}
+use Rattle.xs_keys.proofs.Streams.{ascends-given}
+use Rattle.xs_keys.proofs.Lives.{goes-on}
+use Rattle.xs_keys.proofs.Tellings.{is-told}
 use Rattle.xs_keys.proofs.Contents.{content-step}
 
 -- from this past on, the answers so far are good, whatever good answers to the rest of the events follow
@@ -25,15 +29,29 @@ pub runs-none : (old : Content) (events : List (ℕ × Command)) → RunsSoFar o
 runs-none old events = λ past is. (past, is, λ answers last done. done)
 
 -- how a step goes on with a history
+pub step-follows : (past : List (ℕ × Command)) (old new : Content) (now : ℕ) (command : Command) (answer : Reply) → IsContent old past → Step old now command answer new
+    → (next : List (ℕ × Command)) × IsContent new next × Follows now past command answer next
+step-follows past old new now command answer is (inl applied) = (
+  (now, command) ∷ past,
+  subst (λ c. IsContent c ((now, command) ∷ past)) (sym applied.content_is) (content-step past old now command is),
+  inl (record {
+        content = old;
+    left_by = is;
+    answer_is = applied.answer_is;
+    told = λ formed. subst (λ r. IsTold past now command r) (sym applied.answer_is) (is-told past old now command is formed);
+  }, refl),
+)
+step-follows past old new now command answer is (inr refused) = (
+  past,
+  subst (λ c. IsContent c past) (sym refused.content_is) is,
+  inr (record { takes = refused.takes; content = old; left_by = is; no_other = refused.no_other; answer_is = refused.answer_is }, refl),
+)
+
 one_more : (mid : List (ℕ × Command)) (e : ℕ × Command) (reply : Reply) (now next : Content) → IsContent now mid → Step now e.0 e.1 reply next
     → (more : List (ℕ × Command)) × IsContent next more × ((rest : List (ℕ × Command)) (answers : List Reply) (last : List (ℕ × Command)) → Answers more rest answers last → Answers mid (e ∷ rest) (reply ∷ answers) last)
-one_more mid e reply now next is (inl applied) = (
-  e ∷ mid,
-  subst (λ c. IsContent c (e ∷ mid)) (sym applied.content_is) (content-step mid now e.0 e.1 is),
-  λ rest answers last done. inl (now, is, applied.answer_is, done),
-)
-one_more mid e reply now next is (inr refused) =
-    (mid, subst (λ c. IsContent c mid) (sym refused.content_is) is, λ rest answers last done. inr ((refused.takes, refused.answer_is), done))
+one_more mid e reply now next is step =
+    let more = step-follows mid now next e.0 e.1 reply is step in
+    (more.0, more.1, λ rest answers last done. (more.0, more.2, done))
 
 pub runs-more : (old : Content) (events : List (ℕ × Command)) (replies : List Reply) (now next : Content) (e : ℕ × Command) (rest : List (ℕ × Command)) (reply : Reply)
     → RunsSoFar old events replies now (e ∷ rest) → Step now e.0 e.1 reply next → RunsSoFar old events (replies ++ reply ∷ []) next rest
@@ -52,11 +70,14 @@ delivers-new past key group life e =
     }
 
 has-one-owner : (life : GroupLife) → HasOneOwner life
-has-one-owner life = record { until_settled = owned-until-settled life.start life.turns; by_claims = changes-by-claims life.start life.turns }
+has-one-owner life = record { is_pending = λ x. owner-row life.start life.turns x ∙ sym (ap of_row (row-found life.start life.turns x)); until_settled = owned-until-settled life.start life.turns; by_claims = changes-by-claims life.start life.turns }
 
 headline : (past events : List (ℕ × Command)) (replies : List Reply) (history : List (ℕ × Command)) → Answers past events replies history → Headline past events replies history
 headline past events replies history answers = record {
   replies = answers;
+  steps = λ later e earlier f content is. (content-lawful earlier content is, content-step earlier content e.0 e.1 is);
+  ids = λ later earlier f key changes g. ascends-given changes;
+  apart = λ later e earlier f formed key group. goes-on earlier e.0 e.1 key group formed;
   deliveries = λ later earlier e key group life f. delivers-new earlier key group life f;
   owners = λ later earlier e key group life f. has-one-owner life;
 }

@@ -2,7 +2,7 @@
 use Rattle.std.specs.Prelude.{[], ◌∷◌, codes}
 use Rattle.xs_resp.specs.declared.fault.Fault.TheVariants.{Arity, BadId, Busy, Exhausted, NoGroup, NoKey, NotInteger}
 use Rattle.xs_resp.specs.declared.fault.Fault.TheVariants.{SmallId, Syntax, UnknownCommand, Unsupported, ZeroId}
-use Rattle.xs_keys.specs.Ground.{Error, Int, NullBulk, NullArray}
+use Rattle.xs_keys.specs.Ground.{Simple, Pong, Error, Int, NullBulk, NullArray}
 use Rattle.xs_keys.specs.Reply.{array}
 use Rattle.xs_keys.specs.Played.{IsPlayed, at, ok, name, number, id, entry, gone, stream, row}
 
@@ -378,4 +378,42 @@ pub record Reports : Type 0 where
       at 160 (codes "XREADGROUP GROUP g b COUNT 1 STREAMS s 1-0") (array (stream (codes "s") (entry 2 0 ∷ []) ∷ [])) ∷
       at 160 (codes "XPENDING z g") (Error NoGroup) ∷
       at 160 (codes "XGROUP CREATECONSUMER z g c") (Error NoKey) ∷
+      [])
+
+pub record Edges : Type 0 where
+  -- a count stops; RETRYCOUNT goes before JUSTID; IDLE past now is now; ids in the order written
+  pub counts_stop : IsPlayed (
+      at 1 (codes "XADD s 1-0 f v") (id 1 0) ∷
+      at 1 (codes "XADD s 2-0 f v") (id 2 0) ∷
+      at 1 (codes "XGROUP CREATE s g 0") ok ∷
+      at 100 (codes "XREADGROUP GROUP g c STREAMS s >") (array (stream (codes "s") (entry 1 0 ∷ entry 2 0 ∷ []) ∷ [])) ∷
+      at 100 (codes "XREADGROUP GROUP g c COUNT 1 STREAMS s 0") (array (stream (codes "s") (entry 1 0 ∷ []) ∷ [])) ∷
+      at 101 (codes "XREADGROUP GROUP g c NOACK STREAMS s 1-0") (array (stream (codes "s") (entry 2 0 ∷ []) ∷ [])) ∷
+      at 101 (codes "XPENDING s g - + 10") (array (row (id 1 0) (codes "c") 1 2 ∷ row (id 2 0) (codes "c") 0 2 ∷ [])) ∷
+      at 101 (codes "XCLAIM s g d 0 2-0 1-0 2-0") (array (entry 2 0 ∷ entry 1 0 ∷ [])) ∷
+      at 101 (codes "XCLAIM s g d 0 1-0 IDLE 999 RETRYCOUNT 9223372036854775807 JUSTID") (array (id 1 0 ∷ [])) ∷
+      at 101 (codes "XPENDING s g - 1-0 10") (array (row (id 1 0) (codes "d") 101 9223372036854775807 ∷ [])) ∷
+      at 101 (codes "XCLAIM s g d 0 1-0") (array (entry 1 0 ∷ [])) ∷
+      at 101 (codes "XPENDING s g - 1-0 10") (array (row (id 1 0) (codes "d") 0 9223372036854775807 ∷ [])) ∷
+      at 101 (codes "XRANGE s - 2-0") (array (entry 1 0 ∷ entry 2 0 ∷ [])) ∷
+      at 101 (codes "XADD s 1-* f v") (Error SmallId) ∷
+      [])
+  -- every field; a new millisecond; a trim within one; ends that are left out; a start without its sequence; greetings
+  pub ends_and_starts : IsPlayed (
+      at 1 (codes "XADD s 1-1 f v g w") (id 1 1) ∷
+      at 1 (codes "XRANGE s - +") (array (array (id 1 1 ∷
+      array (name (codes "f") ∷ name (codes "v") ∷ name (codes "g") ∷ name (codes "w") ∷ []) ∷ []) ∷ [])) ∷
+      at 1 (codes "XADD s 1-2 f v") (id 1 2) ∷
+      at 1 (codes "XADD s 2-1 f v") (id 2 1) ∷
+      at 1 (codes "XADD s 5-* f v") (id 5 0) ∷
+      at 1 (codes "XADD s 5-* f v") (id 5 1) ∷
+      at 1 (codes "XTRIM s MINID 1-2") (Int 1) ∷
+      at 1 (codes "XRANGE s - (2-1") (array (entry 1 2 ∷ [])) ∷
+      at 1 (codes "XRANGE s 5 5") (array (entry 5 0 ∷ entry 5 1 ∷ [])) ∷
+      at 1 (codes "XGROUP CREATE s g 5") ok ∷
+      at 1 (codes "XREADGROUP GROUP g c STREAMS s >") (array (stream (codes "s") (entry 5 1 ∷ []) ∷ [])) ∷
+      at 1 (codes "XRANGE s - + COUNT -0") (Error NotInteger) ∷
+      at 1 (codes "PING hello") (name (codes "hello")) ∷
+      at 1 (codes "PING") (Simple Pong) ∷
+      at 1 (codes "QUIT") ok ∷
       [])

@@ -1,14 +1,18 @@
--- One call: applied, or refused for want of memory. The headline, of a run of commands over a
--- history; and what each life of a group promises: new deliveries, and one owner until an entry is settled.
+-- One call: applied, or refused for want of memory. The headline, of a run of commands over a history; and what it
+-- promises of the ids of each key, and of each life of a group: new deliveries, and one owner until an entry is settled.
 use Rattle.std.specs.Prelude.{◌≡◌, ℕ, Bool, true, false, ◌⊎◌, Some, not, ◌||◌, List, [], ◌∷◌, ◌++◌, None, is_some}
 use Rattle.xs_keys.specs.Ground.{Memory, Reply, Error, Command, Ping, Add, Scan}
 use Rattle.xs_keys.specs.Ground.{GroupCreate, ConsumerCreate, ReadGroup, Pending, PendingRows, Claim, AutoClaim}
-use Rattle.xs_keys.specs.Ground.{Id, is_below, has_id, Ascends, AllAbove}
+use Rattle.xs_keys.specs.Ground.{Id, is_below, has_id, Ascends, AllAbove, ids_of, option_map}
+use Rattle.xs_group.specs.Claims.{row_at}
+use Rattle.xs_command.specs.WellFormed.{IsWellFormed}
+use Rattle.xs_keys.specs.Life.{Change, key_life, given_in}
 use Rattle.xs_keys.specs.Content.{Content, IsContent, IsLawfulContent, after}
 use Rattle.xs_keys.specs.Reply.{reply}
 use Rattle.xs_keys.specs.Turn.{Turn, consumer_of, delivered, cursor, is_their_turn, delivers_pending, takes, settles}
-use Rattle.xs_keys.specs.Turn.{owner}
-use Rattle.xs_keys.specs.GroupLife.{GroupLife, group_life}
+use Rattle.xs_keys.specs.Turn.{owner, rows}
+use Rattle.xs_keys.specs.GroupLife.{GroupLife, group_life, delivered_by, GoesOn}
+use Rattle.xs_keys.specs.Told.{IsTold}
 
 -- the commands that may find no memory
 abbrev pub takes_memory : Command → Bool
@@ -95,23 +99,44 @@ ChangesByClaims start turns =
     → ((name : List ℕ) → owner start earlier x ≡ Some name → OwnerAfter start earlier turn x name)
     × (owner start earlier x ≡ None → NoOwnerAfter start earlier turn x)
 
+-- an entry has an owner exactly where it is pending, and the owner is the consumer of its pending row
+abbrev pub IsPendingWithOwner : Id → List Turn → Type 0
+IsPendingWithOwner start turns =
+    (x : Id) → owner start turns x ≡ option_map (λ row. row.consumer) (row_at (rows start turns) x)
+
 -- one owner until settled
 pub record HasOneOwner (life : GroupLife) : Type 0 where
+  pub is_pending : IsPendingWithOwner life.start life.turns
   pub until_settled : OwnedUntilSettled life.start life.turns
   pub by_claims : ChangesByClaims life.start life.turns
 
--- it was refused for want of memory: it is left out of the history
-abbrev pub IsLeftOut : Command → Reply → Type 0
-IsLeftOut command answer = (takes_memory command ≡ true) × (answer ≡ Error Memory)
+-- an event of the history: its reply is the model's, at the content of the events before it; and what it tells a
+-- consumer of entries is what it delivers or claims
+pub record IsAnswered (past : List (ℕ × Command)) (now : ℕ) (command : Command) (answer : Reply) : Type 0 where
+  pub content : Content
+  pub left_by : IsContent content past
+  pub answer_is : answer ≡ reply content now command
+  pub told : IsWellFormed command → IsTold past now command answer
 
--- from a past on, these are answers to these events, and the last history has those that were applied:
--- each reply is the model's at the content of the events before it, or the event is left out
+-- it was refused for want of memory, where the command takes some and the model refuses nothing
+pub record IsLeftOut (past : List (ℕ × Command)) (now : ℕ) (command : Command) (answer : Reply) : Type 0 where
+  pub takes : takes_memory command ≡ true
+  pub content : Content
+  pub left_by : IsContent content past
+  pub no_other : is_error (reply content now command) ≡ false
+  pub answer_is : answer ≡ Error Memory
+
+-- at a moment, over a past, a command is answered so, and this history follows: the event joins it, or is left out
+abbrev pub Follows : ℕ → List (ℕ × Command) → Command → Reply → List (ℕ × Command) → Type 0
+Follows now past command answer next =
+    (IsAnswered past now command answer × (next ≡ (now, command) ∷ past))
+    ⊎ (IsLeftOut past now command answer × (next ≡ past))
+
+-- from a past on, these are answers to these events, one after the other, and the last history has those that joined it
 abbrev pub Answers : List (ℕ × Command) → List (ℕ × Command) → List Reply → List (ℕ × Command) → Type 0
 Answers past [] [] last = last ≡ past
 Answers past (e ∷ events) (answer ∷ answers) last =
-    ((content : Content) × IsContent content past × (answer ≡ reply content e.0 e.1)
-    × Answers (e ∷ past) events answers last)
-    ⊎ (IsLeftOut e.1 answer × Answers past events answers last)
+    (next : List (ℕ × Command)) × Follows e.0 past e.1 answer next × Answers next events answers last
 Answers past _ _ last = ⊥
 
 -- each group of a history, at each time of it: what holds of each of its lives
@@ -120,12 +145,36 @@ OfEachGroup history Holds =
     (later earlier : List (ℕ × Command)) → history ≡ later ++ earlier
     → (key group : List ℕ) (life : GroupLife) → group_life earlier key group ≡ Some life → Holds life
 
--- every reply is the model's; each group's new deliveries are, in id order and each once, the entries past
+-- at each time of a history, the ids given in the open life of each key ascend
+abbrev pub IdsAscend : List (ℕ × Command) → Type 0
+IdsAscend history =
+    (later earlier : List (ℕ × Command)) → history ≡ later ++ earlier
+    → (key : List ℕ) (changes : List Change) → key_life earlier key ≡ Some changes → Ascends (ids_of (given_in changes))
+
+-- an event delivers nothing of a life that isn't open at it, or that it doesn't read; and what is delivered in a life is
+-- what its events deliver, one after the other
+abbrev pub LivesAreApart : List (ℕ × Command) → Type 0
+LivesAreApart history =
+    (later : List (ℕ × Command)) (e : ℕ × Command) (earlier : List (ℕ × Command)) → history ≡ later ++ e ∷ earlier
+    → IsWellFormed e.1 → (key group : List ℕ)
+    → GoesOn (group_life earlier key group) (delivered_by earlier e.1 key group) (group_life (e ∷ earlier) key group)
+
+-- each event of a history leads from the content before it to the content after it, and each content is lawful
+abbrev pub StepsLawfully : List (ℕ × Command) → Type 0
+StepsLawfully history =
+    (later : List (ℕ × Command)) (e : ℕ × Command) (earlier : List (ℕ × Command)) → history ≡ later ++ e ∷ earlier
+    → (content : Content) → IsContent content earlier
+    → IsLawfulContent content × IsContent (after content e.0 e.1) (e ∷ earlier)
+
+-- every reply is the model's, and tells what was delivered; each group's new deliveries are, in id order and each once, the entries past
 -- its start that were in the stream when their turn came; and each entry delivered without NOACK is pending
 -- with exactly one consumer until it is settled
 pub record Headline
     (past events : List (ℕ × Command)) (answers : List Reply) (history : List (ℕ × Command)) : Type 0 where
   pub replies : Answers past events answers history
+  pub steps : StepsLawfully history
+  pub ids : IdsAscend history
+  pub apart : LivesAreApart history
   pub deliveries : OfEachGroup history DeliversNew
   pub owners : OfEachGroup history HasOneOwner
 

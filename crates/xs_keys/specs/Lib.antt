@@ -4,6 +4,7 @@ pub mod Turn
 pub mod GroupLife
 pub mod Content
 pub mod Reply
+pub mod Told
 pub mod Headline
 pub mod Adding
 pub mod Reading

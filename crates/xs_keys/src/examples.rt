@@ -1,5 +1,5 @@
 //! Examples of what clients see, computed from the definitions of the model.
-ghost use Rattle.xs_keys.specs.Examples.{Streams, Words, Deliveries, Claims, Lives, Reads, Reports};
+ghost use Rattle.xs_keys.specs.Examples.{Streams, Words, Deliveries, Claims, Lives, Reads, Reports, Edges};
 
 /// Ids, ranges and trims.
 pub fn streams()
@@ -34,4 +34,9 @@ pub fn reads()
 /// What is pending.
 pub fn reports()
     ensures { Reports }
+{}
+
+/// Where counts stop, what goes before what, every field, ends and starts.
+pub fn edges()
+    ensures { Edges }
 {}

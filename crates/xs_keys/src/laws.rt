@@ -13,7 +13,9 @@ ghost use Rattle.xs_keys.specs.Life.{Change, key_life, given_in, live, top};
 ghost use Rattle.xs_keys.specs.Turn.{delivered, cursor, holding, owner};
 ghost use Rattle.xs_keys.specs.GroupLife.{GroupLife, group_life, group_of, asks_new, delivered_by, GoesOn};
 ghost use Rattle.xs_keys.specs.Content.{Content, IsContent, after, IsLawfulContent};
-ghost use Rattle.xs_keys.specs.Headline.{HadItsTurn, OwnedUntilSettled, ChangesByClaims};
+ghost use Rattle.xs_keys.specs.Reply.{reply};
+ghost use Rattle.xs_keys.specs.Told.{IsTold};
+ghost use Rattle.xs_keys.specs.Headline.{HadItsTurn, OwnedUntilSettled, ChangesByClaims, IsPendingWithOwner};
 
 /// The empty history leaves the empty content; an event leads from the content of a history to the
 /// content of the history followed by it; a history has one content; and that is lawful.
@@ -67,9 +69,18 @@ pub fn lives_are_apart()
         GoesOn (group_life past key group) (delivered_by past command key group) (group_life ((now, command) ∷ past) key group) }
 {}
 
+/// What an accepted read with `>` tells its consumer are the entries that the event delivers in the group, and what an
+/// accepted claim tells are those that it takes, each with the fields that it was given with (ids alone under JUSTID).
+pub fn what_is_told_is_what_was_delivered()
+    ensures { (past : List (ℕ × Command)) (content : Content) (now : ℕ) (command : Command) →
+        IsContent content past → IsWellFormed command → IsTold past now command (reply content now command) }
+{}
+
 /// The owner, searched for by looking back for the last turn that assigned the entry and for a later one
 /// that settled it, is the consumer of the row that the proofs go over.
 pub fn owner_is_of_the_row()
-    ensures { (past : List (ℕ × Command)) (key group : List ℕ) (life : GroupLife) (x : Id) → group_life past key group ≡ Some life →
+    ensures holding { (past : List (ℕ × Command)) (key group : List ℕ) (life : GroupLife) (x : Id) → group_life past key group ≡ Some life →
         owner life.start life.turns x ≡ option_map (λ row. row.consumer) (holding life.start life.turns x) }
+    ensures pending { (past : List (ℕ × Command)) (key group : List ℕ) (life : GroupLife) → group_life past key group ≡ Some life →
+        IsPendingWithOwner life.start life.turns }
 {}
