@@ -25,7 +25,7 @@ use Rattle.xs_server.proofs.ScriptLines.{lines-begun, long-line, read-lines}
 use Rattle.std.specs.List.{list_any}
 
 -- how a step of the keyspace goes on with a history
-step-follows : (past : List (ℕ × Command)) (old new : Content) (now : ℕ) (command : Command) (answer : Reply) → IsContent old past → Step old now command answer new
+pub step-follows : (past : List (ℕ × Command)) (old new : Content) (now : ℕ) (command : Command) (answer : Reply) → IsContent old past → Step old now command answer new
     → (next : List (ℕ × Command)) × IsContent new next × Follows past now command answer next
 step-follows past old new now command answer is (inl applied) =
     ((now, command) ∷ past, subst (λ c. IsContent c ((now, command) ∷ past)) (sym applied.content_is) (content-step past old now command is), inl (old, is, applied.answer_is, refl))

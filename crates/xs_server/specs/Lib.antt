@@ -6,3 +6,8 @@ pub mod Serving
 pub mod Session
 pub mod Report
 pub mod CommandLine
+pub mod Exchange
+pub mod Serve
+pub mod Connection
+pub mod Alone
+pub mod Modelled
