@@ -16,7 +16,8 @@ pub struct Alone<C: Clock + Drop> {
 }
 
 impl<C: Clock + Drop> Port for Alone<C> {
-    ghost replies = { λ old command answer new. (now : ℕ) × C.gives old.clock now new.clock × Step old.keyspace now command answer new.keyspace };
+    ghost replies = { λ old command answer new. (now : ℕ)
+        × C.gives old.clock now new.clock × Step old.keyspace now command answer new.keyspace };
 
     ghost fails = { λ old command new. ⊥ };
 

@@ -29,6 +29,7 @@ pub trait Port {
     /// Asks for the reply to one command.
     fn ask<R: Wait>(&mut self, rt: &R, command: Command) -> Result<Reply, PortFault>
         requires { IsWellFormed command }
-        ensures asked { MatchResult result (λ reply. replies self.old command reply self.new) (λ _. fails self.old command self.new) }
+        ensures asked { MatchResult result
+            (λ reply. replies self.old command reply self.new) (λ _. fails self.old command self.new) }
         ensures fault { gone self.new ≡ (gone self.old || is_err result) };
 }

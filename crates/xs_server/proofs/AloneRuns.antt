@@ -9,7 +9,8 @@ use Rattle.xs_keys.proofs.Runs.{RunsSoFar, runs-none, runs-more, runs-all}
 use Rattle.xs_server.specs.declared.ending.Ending.{Ending}
 use Rattle.xs_server.specs.declared.ending.ServeFault.{ServeFault}
 use Rattle.xs_server.specs.declared.ending.ServeFault.TheVariants as fault
-use Rattle.xs_server.specs.Exchange.{Exchange, Answered, Run}
+use Rattle.xs_server.specs.Answering.{Answered}
+use Rattle.xs_server.specs.Exchange.{Exchange, Run}
 use Rattle.xs_server.specs.Serve.{Serves, Ends}
 use Rattle.xs_server.specs.Alone.{onto_asked, asked_in, RunsAlone}
 

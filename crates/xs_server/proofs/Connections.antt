@@ -9,24 +9,20 @@ use Rattle.xs_resp.specs.declared.reply.Reply.{Reply}
 use Rattle.xs_resp.specs.declared.reply.Reply.TheVariants.{Error}
 use Rattle.xs_resp.specs.declared.read_fault.Wrong.{Wrong}
 use Rattle.xs_resp.specs.ReplyText.{text}
-use Rattle.xs_resp.specs.Grammar.{Spells}
+use Rattle.xs_resp.specs.Grammar.{Spells, SpellsAll}
 use Rattle.xs_resp.specs.Reading.{Found, request}
 use Rattle.xs_resp.specs.Held.{Held}
-use Rattle.xs_resp.proofs.Decisions.{request-read, request-open, request-fault}
+use Rattle.xs_resp.proofs.Decisions.{request-open, request-fault}
+use Rattle.xs_resp.proofs.Nexts.{took}
 use Rattle.xs_command.specs.declared.command.Command.{Command}
 use Rattle.xs_server.specs.declared.ending.Ending.{Ending}
 use Rattle.xs_server.specs.declared.ending.Ending.TheVariants as ending
 use Rattle.xs_server.specs.declared.ending.ServeFault.{ServeFault}
 use Rattle.xs_server.specs.declared.ending.ServeFault.TheVariants as fault
-use Rattle.xs_server.specs.Exchange.{SpellsAll, Exchange, Answered, Run, texts, is_quit, quits}
-use Rattle.xs_server.specs.Serve.{IsOpen, Ends, Serves}
+use Rattle.xs_server.specs.Answering.{Answered}
+use Rattle.xs_server.specs.Exchange.{Exchange, Run, texts, is_quit, quits}
+use Rattle.xs_server.specs.Serve.{Ends, Serves}
 use Rattle.xs_server.specs.Connection.{Stands, Exchanges, TakesIn, Refuses, Steps}
-
--- one request more is spelled
-spells-more : (front : List ℕ) (requests : List (List (List ℕ))) (first : List ℕ) (words : List (List ℕ)) → SpellsAll front requests → Spells first words → SpellsAll (front ++ first) (requests ++ words ∷ [])
-spells-more front [] first words none spells = (first, [], ap (λ f. f ++ first) none ∙ sym (append-nil first), spells, refl)
-spells-more front (other ∷ requests) first words (one, others, is, spelled, rest) spells =
-    (one, others ++ first, ap (λ f. f ++ first) is ∙ append_assoc one others first, spelled, spells-more others requests first words rest spells)
 
 -- one exchange more
 run-more : {P : Type 0} (Replies : P → Command → Reply → P → Type 0) (old : P) (requests : List (List (List ℕ))) (exchanges : List Exchange) (mid new : P) (word : List ℕ) (words : List (List ℕ)) (asked : Option Command) (answer : Reply)
@@ -56,33 +52,6 @@ run-empty : {P : Type 0} (Replies : P → Command → Reply → P → Type 0) (o
 run-empty Replies old [] exchanges new run = run
 run-empty Replies old ([] ∷ requests) exchanges new run = run-empty Replies old requests exchanges new run
 run-empty Replies old ((one ∷ others) ∷ requests) exchanges new (first, more, next, is, said, rest) = (first, more, next, is, said, run-empty Replies next requests more new rest)
-
--- the request that is read next
-record Took (read front rest : List ℕ) (requests : List (List (List ℕ))) (found : Found) : Type 0 where
-  first : List ℕ
-  split : rest ≡ first ++ drop found.end rest
-  spells : Spells first found.words
-  read_is : read ≡ (front ++ first) ++ drop found.end rest
-  spelled : SpellsAll (front ++ first) (requests ++ found.words ∷ [])
-
-took : (read front rest : List ℕ) (requests : List (List (List ℕ))) (found : Found) → read ≡ front ++ rest → SpellsAll front requests → request rest ≡ Ok (Some found) → Took read front rest requests found
-took read front rest requests found is spelled next =
-    let stands = request-read rest found next in
-    let first = take found.end rest in
-    let split : rest ≡ first ++ drop found.end rest = sym (take-append-drop found.end rest) in
-    record {
-      first = first;
-      split = split;
-      spells = stands.spells;
-      read_is = is ∙ ap (λ r. front ++ r) split ∙ sym (append_assoc front first (drop found.end rest));
-      spelled = spells-more front requests first found.words spelled stands.spells;
-    }
-
--- no request is whole
-is-open : (rest : List ℕ) → request rest ≡ Ok None → IsOpen rest
-is-open rest none =
-    let open' = request-open rest none in
-    (λ front more words is spells. open'.0 (length front) words (subst (λ b. Spells b words) (sym (ap (take (length front)) is ∙ take-append_seam front more)) spells), open'.1)
 
 -- texts of exchanges, and one more
 texts-more : (exchanges : List Exchange) (asked : Option Command) (answer : Reply) → texts (exchanges ++ record { asked = asked; answer = answer } ∷ []) ≡ texts exchanges ++ text answer
@@ -254,13 +223,13 @@ took-in Replies Fails (Ok (Some ending.Closed)) old now read sent rest got befor
     subst (λ r. Serves Replies Fails (Ok ending.Closed) old now r sent) (sym all) (ended Replies Fails (Ok ending.Closed) old now read sent rest before sent s (refl, (takes.1, (s.none, s.sent_is))))
 took-in Replies Fails (Ok (Some ending.Cut)) old now read sent rest got before replies held s next takes same =
     let all = ap (λ g. read ++ g) takes.0 ∙ append-nil read in
-    subst (λ r. Serves Replies Fails (Ok ending.Cut) old now r sent) (sym all) (ended Replies Fails (Ok ending.Cut) old now read sent rest before sent s (refl, (takes.1, is-open rest next, (s.none, s.sent_is))))
+    subst (λ r. Serves Replies Fails (Ok ending.Cut) old now r sent) (sym all) (ended Replies Fails (Ok ending.Cut) old now read sent rest before sent s (refl, (takes.1, request-open rest next, (s.none, s.sent_is))))
 took-in Replies Fails (Ok (Some ending.Quit)) old now read sent rest got before replies held s next takes same = absurd takes
 took-in Replies Fails (Ok (Some ending.Protocol)) old now read sent rest got before replies held s next takes same = absurd takes
 took-in Replies Fails (Err (fault.Read told)) old now read sent rest got before replies held s next takes same =
     let all = ap (λ g. read ++ g) takes.0 ∙ append-nil read in
     subst (λ r. Serves Replies Fails (Err (fault.Read told)) old now r sent) (sym all)
-    (ended Replies Fails (Err (fault.Read told)) old now read sent rest before sent s (refl, is-open rest next, (s.none, s.sent_is ∙ sym (append-nil (texts s.exchanges)), takes.1 ∙ s.counted)))
+    (ended Replies Fails (Err (fault.Read told)) old now read sent rest before sent s (refl, request-open rest next, (s.none, s.sent_is ∙ sym (append-nil (texts s.exchanges)), takes.1 ∙ s.counted)))
 took-in Replies Fails (Err (fault.Memory told)) old now read sent rest got before replies held s next takes same =
     let more = stands-read Replies old now read sent rest got before s in
     ended Replies Fails (Err (fault.Memory told)) old now (read ++ got) sent (rest ++ got) before sent more (refl, inl (more.none, more.sent_is ∙ sym (append-nil (texts more.exchanges)), takes ∙ more.counted))

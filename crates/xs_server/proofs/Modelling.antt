@@ -6,7 +6,8 @@ use Rattle.xs_keys.specs.Content.{Content, IsContent}
 use Rattle.xs_server.specs.declared.ending.Ending.{Ending}
 use Rattle.xs_server.specs.declared.ending.ServeFault.{ServeFault}
 use Rattle.xs_server.specs.declared.ending.ServeFault.TheVariants as fault
-use Rattle.xs_server.specs.Exchange.{Exchange, Answered, Run}
+use Rattle.xs_server.specs.Answering.{Answered}
+use Rattle.xs_server.specs.Exchange.{Exchange, Run}
 use Rattle.xs_server.specs.Serve.{Serves, Ends}
 use Rattle.xs_server.specs.Modelled.{Models, Never, ServesByModel}
 use Rattle.xs_server.proofs.Sessions.{step-follows}

@@ -1,11 +1,13 @@
 -- A connection while it is served.
-use Rattle.std.specs.Prelude.{◌≡◌, ◌≢◌, ℕ, ◌+◌, ◌⊎◌, Bool, true, false, List, [], ◌++◌, length, Option, Some, None, Result, Ok, Err}
+use Rattle.std.specs.Prelude.{◌≡◌, ◌≢◌, ℕ, ◌+◌, ◌⊎◌, Bool, true, false, List, [], ◌++◌, length}
+use Rattle.std.specs.Prelude.{Option, Some, None, Result, Ok, Err}
 use Rattle.std.specs.Io.KnownBytes.{IsAtEnd}
 use Rattle.xs_resp.specs.declared.fault.Fault.TheVariants.{Protocol}
 use Rattle.xs_resp.specs.declared.reply.Reply.{Reply}
 use Rattle.xs_resp.specs.declared.reply.Reply.TheVariants.{Error}
 use Rattle.xs_resp.specs.ReplyText.{text}
 use Rattle.xs_resp.specs.Held.{Held, fed}
+use Rattle.xs_resp.specs.Grammar.{SpellsAll}
 use Rattle.xs_command.specs.declared.command.Command.{Command}
 use Rattle.xs_command.specs.Read.{reads}
 use Rattle.xs_server.specs.declared.ending.Ending.{Ending}
@@ -17,12 +19,15 @@ use Rattle.xs_server.specs.declared.inbox.FillFault.TheVariants as fill
 use Rattle.xs_server.specs.declared.connection.SendFault.{SendFault}
 use Rattle.xs_server.specs.declared.connection.SendFault.TheVariants as send
 use Rattle.xs_server.specs.Device.{capped}
-use Rattle.xs_server.specs.Exchange.{SpellsAll, Exchange, Answered, Run, texts, is_quit, quits}
+use Rattle.xs_server.specs.Answering.{Answered}
+use Rattle.xs_server.specs.Exchange.{Exchange, Run, texts, is_quit, quits}
 use Rattle.xs_server.specs.declared.connection.Connection.{Connection}
 use Rattle.xs_server.specs.Serve.{IsPart, Serves, reads_limit}
 
 -- all requests that were taken are answered, and the answers are written; these bytes are held
-pub record Stands {P : Type 0} (Replies : P → Command → Reply → P → Type 0) (old now : P) (read sent rest : List ℕ) (replies : ℕ) : Type 0 where
+pub record Stands
+    {P : Type 0} (Replies : P → Command → Reply → P → Type 0) (old now : P) (read sent rest : List ℕ) (replies : ℕ)
+    : Type 0 where
   pub requests : List (List (List ℕ))
   pub exchanges : List Exchange
   pub front : List ℕ
@@ -47,17 +52,23 @@ Fills (Err fill.Read) old got new = (got ≡ []) × (new ≡ old)
 Fills (Err fill.Memory) old got new = new ≡ old
 
 -- the words of a request were answered, or its answer isn't written whole, or it has none
-abbrev pub Exchanges : {P : Type 0} → (P → Command → Reply → P → Type 0) → (P → Command → P → Type 0) → Result (Option Ending) ServeFault → P → P → List (List ℕ) → List ℕ → ℕ → ℕ → Type 0
+abbrev pub Exchanges :
+    {P : Type 0} → (P → Command → Reply → P → Type 0) → (P → Command → P → Type 0) → Result (Option Ending) ServeFault
+    → P → P → List (List ℕ) → List ℕ → ℕ → ℕ → Type 0
 Exchanges Replies Fails (Ok None) old new words more before replies =
-    (asked : Option Command) × (answer : Reply) × Answered Replies old words asked answer new × (is_quit asked ≡ false) × (more ≡ text answer) × (replies ≡ capped (before + 1))
+    (asked : Option Command) × (answer : Reply) × Answered Replies old words asked answer new
+    × (is_quit asked ≡ false) × (more ≡ text answer) × (replies ≡ capped (before + 1))
 Exchanges Replies Fails (Ok (Some ending.Quit)) old new words more before replies =
-    (asked : Option Command) × (answer : Reply) × Answered Replies old words asked answer new × (is_quit asked ≡ true) × (more ≡ text answer)
+    (asked : Option Command) × (answer : Reply) × Answered Replies old words asked answer new
+    × (is_quit asked ≡ true) × (more ≡ text answer)
 Exchanges Replies Fails (Ok (Some _)) old new words more before replies = ⊥
 Exchanges Replies Fails (Err (fault.Read told)) old new words more before replies = ⊥
 Exchanges Replies Fails (Err (fault.Write told)) old new words more before replies =
-    (asked : Option Command) × (answer : Reply) × Answered Replies old words asked answer new × IsPart more (text answer) × (told ≡ before)
+    (asked : Option Command) × (answer : Reply) × Answered Replies old words asked answer new
+    × IsPart more (text answer) × (told ≡ before)
 Exchanges Replies Fails (Err (fault.Memory told)) old new words more before replies =
-    (asked : Option Command) × (answer : Reply) × Answered Replies old words asked answer new × (more ≡ []) × (told ≡ before)
+    (asked : Option Command) × (answer : Reply) × Answered Replies old words asked answer new
+    × (more ≡ []) × (told ≡ before)
 Exchanges Replies Fails (Err (fault.Port told)) old new words more before replies =
     (command : Command) × (reads words ≡ Ok command) × Fails old command new × (more ≡ []) × (told ≡ before)
 
@@ -79,9 +90,13 @@ Refuses (Err (fault.Memory told)) more replies = (more ≡ []) × (told ≡ repl
 Refuses _ more replies = ⊥
 
 -- one step: the connection stands, or has ended
-abbrev pub Steps : {P : Type 0} → (P → Command → Reply → P → Type 0) → (P → Command → P → Type 0) → Result (Option Ending) ServeFault → P → P → List ℕ → List ℕ → Held → ℕ → Type 0
-Steps Replies Fails (Ok None) old new read sent held replies = (rest : List ℕ) × (held ≡ Ok rest) × Stands Replies old new read sent rest replies
-Steps Replies Fails (Ok (Some ending)) old new read sent held replies = Serves Replies Fails (Ok ending) old new read sent
+abbrev pub Steps :
+    {P : Type 0} → (P → Command → Reply → P → Type 0) → (P → Command → P → Type 0) → Result (Option Ending) ServeFault
+    → P → P → List ℕ → List ℕ → Held → ℕ → Type 0
+Steps Replies Fails (Ok None) old new read sent held replies =
+    (rest : List ℕ) × (held ≡ Ok rest) × Stands Replies old new read sent rest replies
+Steps Replies Fails (Ok (Some ending)) old new read sent held replies =
+    Serves Replies Fails (Ok ending) old new read sent
 Steps Replies Fails (Err fault) old new read sent held replies = Serves Replies Fails (Err fault) old new read sent
 
 -- the causes of one step's end, where so many reads are left
@@ -93,11 +108,6 @@ StepCause (Err (fault.Read replies)) rest ended reader writer gone left = (reade
 StepCause (Err (fault.Write replies)) rest ended reader writer gone left = writer ≡ true
 StepCause (Err (fault.Memory replies)) rest ended reader writer gone left = Unit {0}
 StepCause (Err (fault.Port replies)) rest ended reader writer gone left = gone ≡ true
-
--- how many bytes are held
-abbrev pub held_length : Held → ℕ
-held_length (Ok bytes) = length bytes
-held_length (Err wrong) = 0
 
 -- nothing is read or written
 pub record IsNew (connection : Connection) : Type 0 where

@@ -1,6 +1,7 @@
 pub mod Device
 pub mod Line
 pub mod Taking
+pub mod Answering
 pub mod Script
 pub mod Serving
 pub mod Session

@@ -1,22 +1,20 @@
 //! A connection while it is served.
-ghost use Rattle.std.specs.Prelude.{◌≡◌, ◌≢◌, ◌<◌, ◌+◌, ◌*◌, None, Bool, ℕ, List, Option, [], true, IfOk, OnErr, Ok, Err, map, length};
+ghost use Rattle.std.specs.Prelude.{◌≡◌, ◌≢◌, ◌<◌, ◌+◌, ◌*◌, None, Bool, ℕ, List, Option, Ok, length};
 ghost use Rattle.std.specs.Io.KnownBytes.{Appends, Consumes, IsAtEnd};
 ghost use Rattle.xs_resp.specs.Bytes.{bytes_of};
+ghost use Rattle.xs_resp.specs.Held.{held_length};
 ghost use Rattle.xs_resp.specs.ReplyText.{text};
-ghost use Rattle.xs_command.specs.declared.command.Command.{Command};
-ghost use Rattle.xs_command.specs.Read.{reads};
 ghost use Rattle.xs_server.specs.Device.{capped};
-ghost use Rattle.xs_server.specs.Exchange.{Answered, is_quit};
-ghost use Rattle.xs_server.specs.Connection.{SendsText, Exchanges, TakesIn, Refuses, StepCause, held_length};
+ghost use Rattle.xs_server.specs.Connection.{SendsText, Exchanges, TakesIn, Refuses, StepCause};
 
+use crate::answering::answer;
 use crate::device::{Sink, Source};
 use crate::ending::{Ending, ServeFault};
 use crate::inbox::{FillFault, Inbox};
 use crate::sending::write_all;
 use std::alloc::Global;
 use std::sync::Wait;
-use xs_command::{Command, Refusal, read_command};
-use xs_desk::{Port, PortFault};
+use xs_desk::Port;
 use xs_resp::{Fault, Reply, encode};
 
 /// A connection while it is served.
@@ -40,50 +38,22 @@ pub enum SendFault {
     Memory,
 }
 
-/// What the words of a request are answered, and whether they were a QUIT.
-#[derive(Drop)]
-pub struct Said {
-    pub reply: Reply,
-    pub quits: bool,
-}
+/// How many bytes of memory the buffer keeps that a great reply made large.
+const KEPT: usize = 65_536;
 
-/// Answers the words of a request: its command is asked of the port.
-pub fn answer<P: Port, T: Wait>(
-    rt: &T,
-    alloc: Global,
-    port: &mut P,
-    words: &[Vec<u8>],
-) -> Result<Said, PortFault>
-    requires { 0 < length words.now }
-    ensures ok { IfOk result (λ said. (asked : Option Command) × Answered P.replies port.old (bytes_of words.now) asked said.reply port.new × (said.quits ≡ is_quit asked)) }
-    ensures err { OnErr result ((command : Command) × (reads (bytes_of words.now) ≡ Ok command) × P.fails port.old command port.new × (P.gone port.new ≡ true)) }
-{
-    match read_command(alloc, words) {
-        Ok(command) => {
-            let quits = matches!(command, Command::Quit);
-            let reply = port.ask(rt, command)?;
-            Ok(Said { reply, quits })
-        }
-        Err(Refusal::Said(fault)) => Ok(Said {
-            reply: Reply::Error(fault),
-            quits: false,
-        }),
-        Err(Refusal::Memory) => Ok(Said {
-            reply: Reply::Error(Fault::Memory),
-            quits: false,
-        }),
-    }
-}
-
-/// Writes the text of a reply.
+/// Writes the text of a reply. The buffer is used for its bytes.
 pub fn send<W: Sink>(writer: &mut W, out: &mut Vec<u8>, reply: &Reply) -> Result<(), SendFault>
-    ensures { (more : List ℕ) × Appends (W.held writer.old) (W.held writer.new) more × SendsText result (text reply.now) more (W.broken writer.new) }
+    ensures { (more : List ℕ) × Appends (W.held writer.old) (W.held writer.new) more
+        × SendsText result (text reply.now) more (W.broken writer.new) }
 {
     out.clear();
     let Ok(()) = encode(reply, out) else {
         return Err(SendFault::Memory);
     };
-    match write_all(writer, out.as_slice()) {
+    let written = write_all(writer, out.as_slice());
+    out.clear();
+    out.shrink_to(KEPT);
+    match written {
         Ok(_) => Ok(()),
         Err(_) => Err(SendFault::Write),
     }
@@ -100,8 +70,10 @@ pub fn exchange<W: Sink, P: Port, T: Wait>(
 ) -> Result<Option<Ending>, ServeFault>
     requires { 0 < length words.now }
     ensures exchanges { (more : List ℕ) × Appends (W.held writer.old) (W.held writer.new) more
-        × Exchanges P.replies P.fails result port.old port.new (bytes_of words.now) more connection.old.replies connection.new.replies }
-    ensures cause { (rest : Option (List ℕ)) (ended reader : Bool) (left : ℕ) → StepCause result rest ended reader (W.broken writer.new) (P.gone port.new) left }
+        × Exchanges P.replies P.fails result port.old port.new (bytes_of words.now) more
+            connection.old.replies connection.new.replies }
+    ensures cause { (rest : Option (List ℕ)) (ended reader : Bool) (left : ℕ) →
+        StepCause result rest ended reader (W.broken writer.new) (P.gone port.new) left }
     ensures inbox { connection.new.inbox ≡ connection.old.inbox }
     ensures left { connection.new.left ≡ connection.old.left }
 {
@@ -126,8 +98,10 @@ pub fn refuse<W: Sink>(
     writer: &mut W,
     connection: &mut Connection,
 ) -> Result<Option<Ending>, ServeFault>
-    ensures refuses { (more : List ℕ) × Appends (W.held writer.old) (W.held writer.new) more × Refuses result more connection.old.replies }
-    ensures cause { (rest : Option (List ℕ)) (ended reader gone : Bool) (left : ℕ) → StepCause result rest ended reader (W.broken writer.new) gone left }
+    ensures refuses { (more : List ℕ) × Appends (W.held writer.old) (W.held writer.new) more
+        × Refuses result more connection.old.replies }
+    ensures cause { (rest : Option (List ℕ)) (ended reader gone : Bool) (left : ℕ) →
+        StepCause result rest ended reader (W.broken writer.new) gone left }
     ensures ended { result ≢ Ok None }
     ensures inbox { connection.new.inbox ≡ connection.old.inbox }
     ensures left { connection.new.left ≡ connection.old.left }
@@ -145,12 +119,17 @@ pub fn take_in<R: Source>(
     reader: &mut R,
     connection: &mut Connection,
 ) -> Result<Option<Ending>, ServeFault>
-    ensures takes { (rest : List ℕ) → connection.old.inbox ≡ Ok rest → (got : List ℕ) × Consumes (R.rest reader.old) (R.rest reader.new) got
+    ensures takes { (rest : List ℕ) → connection.old.inbox ≡ Ok rest →
+        (got : List ℕ) × Consumes (R.rest reader.old) (R.rest reader.new) got
         × TakesIn result rest got connection.new.inbox connection.old.replies }
-    ensures cause { (writer gone : Bool) → StepCause result (R.rest reader.new) (R.ended reader.new) (R.broken reader.new) writer gone connection.new.left }
-    ensures counted { capped (R.calls reader.new + connection.new.left) ≡ capped (R.calls reader.old + connection.old.left) }
+    ensures cause { (writer gone : Bool) →
+        StepCause result (R.rest reader.new) (R.ended reader.new) (R.broken reader.new)
+            writer gone connection.new.left }
+    ensures counted {
+        capped (R.calls reader.new + connection.new.left) ≡ capped (R.calls reader.old + connection.old.left) }
     ensures replies { connection.new.replies ≡ connection.old.replies }
-    ensures fuel { result ≡ Ok None → connection.new.left * 16385 + held_length connection.new.inbox < connection.old.left * 16385 + held_length connection.old.inbox }
+    ensures fuel { result ≡ Ok None → connection.new.left * 16385 + held_length connection.new.inbox
+        < connection.old.left * 16385 + held_length connection.old.inbox }
 {
     let replies = connection.replies;
     if connection.left == 0 {

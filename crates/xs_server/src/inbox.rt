@@ -68,7 +68,8 @@ impl Inbox {
 
     /// Reads a piece, and says whether there was one.
     pub fn fill<R: Source>(&mut self, reader: &mut R) -> Result<bool, FillFault>
-        ensures bytes { (got : List ℕ) × Consumes (R.rest reader.old) (R.rest reader.new) got × (length got ≤ 16384) × Fills result self.old got self.new }
+        ensures bytes { (got : List ℕ) × Consumes (R.rest reader.old) (R.rest reader.new) got
+            × (length got ≤ 16384) × Fills result self.old got self.new }
         ensures end { result ≡ Ok false → IsAtEnd (R.rest reader.new) × (R.ended reader.new ≡ true) }
         ensures counted { R.calls reader.new ≡ capped (R.calls reader.old + 1) }
         ensures err { result ≡ Err FillFault.Read → R.broken reader.new ≡ true }

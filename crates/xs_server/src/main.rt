@@ -2,6 +2,7 @@
 //! replies on standard output.
 #![tactic(auto)]
 
+mod answering;
 mod chunk;
 mod command_line;
 mod connection;

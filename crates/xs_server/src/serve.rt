@@ -1,9 +1,10 @@
 //! A whole connection.
 ghost use Rattle.std.specs.Prelude.{◌≡◌, ◌+◌, ◌*◌, ◌<◌, ◌++◌, [], List, ℕ, length, IfOk, Ok, Some, None};
 ghost use Rattle.std.specs.Io.KnownBytes.{Appends, Consumes};
+ghost use Rattle.xs_resp.specs.Held.{held_length};
 ghost use Rattle.xs_server.specs.Device.{capped};
 ghost use Rattle.xs_server.specs.Serve.{Serves, HasCause, reads_limit};
-ghost use Rattle.xs_server.specs.Connection.{Stands, Steps, StepCause, held_length, IsNew};
+ghost use Rattle.xs_server.specs.Connection.{Stands, Steps, StepCause, IsNew};
 
 use crate::connection::{Connection, exchange, refuse, take_in};
 use crate::device::{Sink, Source};
@@ -39,12 +40,18 @@ fn step<R: Source, W: Sink, P: Port, T: Wait>(
     port: &mut P,
     connection: &mut Connection,
 ) -> Result<Option<Ending>, ServeFault>
-    ensures steps { (old : P) (read sent rest : List ℕ) → connection.old.inbox ≡ Ok rest → Stands P.replies old port.old read sent rest connection.old.replies →
-        (got more : List ℕ) × Consumes (R.rest reader.old) (R.rest reader.new) got × Appends (W.held writer.old) (W.held writer.new) more
-        × Steps P.replies P.fails result old port.new (read ++ got) (sent ++ more) connection.new.inbox connection.new.replies }
-    ensures cause { StepCause result (R.rest reader.new) (R.ended reader.new) (R.broken reader.new) (W.broken writer.new) (P.gone port.new) connection.new.left }
-    ensures counted { capped (R.calls reader.new + connection.new.left) ≡ capped (R.calls reader.old + connection.old.left) }
-    ensures fuel { result ≡ Ok None → connection.new.left * 16385 + held_length connection.new.inbox < connection.old.left * 16385 + held_length connection.old.inbox }
+    ensures steps { (old : P) (read sent rest : List ℕ) →
+        connection.old.inbox ≡ Ok rest → Stands P.replies old port.old read sent rest connection.old.replies →
+        (got more : List ℕ)
+        × Consumes (R.rest reader.old) (R.rest reader.new) got × Appends (W.held writer.old) (W.held writer.new) more
+        × Steps P.replies P.fails result old port.new (read ++ got) (sent ++ more)
+            connection.new.inbox connection.new.replies }
+    ensures cause { StepCause result (R.rest reader.new) (R.ended reader.new) (R.broken reader.new)
+        (W.broken writer.new) (P.gone port.new) connection.new.left }
+    ensures counted {
+        capped (R.calls reader.new + connection.new.left) ≡ capped (R.calls reader.old + connection.old.left) }
+    ensures fuel { result ≡ Ok None → connection.new.left * 16385 + held_length connection.new.inbox
+        < connection.old.left * 16385 + held_length connection.old.inbox }
 {
     match connection.inbox.next() {
         Ok(Some(words)) => {
@@ -71,9 +78,11 @@ pub fn serve<R: Source, W: Sink, P: Port, T: Wait>(
     writer: &mut W,
     port: &mut P,
 ) -> Result<Ending, ServeFault>
-    ensures serves { (read sent : List ℕ) × Consumes (R.rest reader.old) (R.rest reader.new) read × Appends (W.held writer.old) (W.held writer.new) sent
+    ensures serves { (read sent : List ℕ)
+        × Consumes (R.rest reader.old) (R.rest reader.new) read × Appends (W.held writer.old) (W.held writer.new) sent
         × Serves P.replies P.fails result port.old port.new read sent }
-    ensures cause { HasCause result (R.rest reader.new) (R.ended reader.new) (R.broken reader.new) (W.broken writer.new) (P.gone port.new) (R.calls reader.old) (R.calls reader.new) }
+    ensures cause { HasCause result (R.rest reader.new) (R.ended reader.new) (R.broken reader.new)
+        (W.broken writer.new) (P.gone port.new) (R.calls reader.old) (R.calls reader.new) }
 {
     let Ok(mut connection) = new_connection(alloc) else {
         return Err(ServeFault::Memory { replies: 0 });

@@ -21,12 +21,16 @@ pub fn serve_alone<R: Source, W: Sink, C: Clock + Drop, T: Wait>(
     writer: &mut W,
     alone: &mut Alone<C>,
 ) -> Result<Ending, ServeFault>
-    ensures serves { (read sent : List ℕ) × Consumes (R.rest reader.old) (R.rest reader.new) read × Appends (W.held writer.old) (W.held writer.new) sent
-        × ((served : Serves ⟦<Alone<C> as Port>⟧.replies ⟦<Alone<C> as Port>⟧.fails result alone.old alone.new read sent)
+    ensures serves { (read sent : List ℕ)
+        × Consumes (R.rest reader.old) (R.rest reader.new) read × Appends (W.held writer.old) (W.held writer.new) sent
+        × ((served : Serves ⟦<Alone<C> as Port>⟧.replies ⟦<Alone<C> as Port>⟧.fails result
+            alone.old alone.new read sent)
         × RunsAlone served.exchanges alone.old.keyspace alone.new.keyspace) }
-    ensures model { (read sent : List ℕ) × Consumes (R.rest reader.old) (R.rest reader.new) read × Appends (W.held writer.old) (W.held writer.new) sent
+    ensures model { (read sent : List ℕ)
+        × Consumes (R.rest reader.old) (R.rest reader.new) read × Appends (W.held writer.old) (W.held writer.new) sent
         × ServesByModel result alone.old.keyspace alone.new.keyspace read sent }
-    ensures cause { HasCause result (R.rest reader.new) (R.ended reader.new) (R.broken reader.new) (W.broken writer.new) false (R.calls reader.old) (R.calls reader.new) }
+    ensures cause { HasCause result (R.rest reader.new) (R.ended reader.new) (R.broken reader.new)
+        (W.broken writer.new) false (R.calls reader.old) (R.calls reader.new) }
 {
     serve(rt, alloc, reader, writer, alone)
 }

@@ -3,14 +3,9 @@ ghost use Rattle.std.specs.Prelude.{None};
 
 use super::*;
 use crate::device::{Failed, Sink, Source};
-use crate::ending::{Ending, ServeFault};
 use crate::script_fault::ScriptFault;
-use crate::serve_alone::serve_alone;
 use std::alloc::{AllocError, Global};
 use std::test::Fail;
-use xs_desk::Alone;
-use xs_keys::{Clock, Keyspace};
-use xs_stream::Moment;
 
 /// Gives a byte at a time, and fails at one of its calls, counted from 1.
 #[derive(Drop)]
@@ -66,11 +61,12 @@ impl<'a> Source for Dribble<'a> {
     }
 }
 
-/// Takes a byte at a time, and fails at one of its calls, counted from 1.
+/// Takes a byte at a time, and fails at one of its calls, counted from 1: by an error, or by taking none.
 #[derive(Drop)]
 struct Held {
     bytes: Vec<u8>,
     fails_at: u64,
+    stops: bool,
     calls: u64,
     broken: bool,
 }
@@ -80,6 +76,7 @@ impl Held {
         Self {
             bytes: Vec::new(alloc),
             fails_at,
+            stops: false,
             calls: 0,
             broken: false,
         }
@@ -100,7 +97,7 @@ impl Sink for Held {
         };
         if self.calls == self.fails_at || self.bytes.push(*first).is_err() {
             self.broken = true;
-            return Err(Failed);
+            return if self.stops { Ok(0) } else { Err(Failed) };
         }
         Ok(1)
     }
@@ -226,87 +223,4 @@ fn reports_each_fault(rt: HostRuntime) -> Result<(), Fail> {
     Ok(())
 }
 
-/// A clock that stands still.
-#[derive(Drop)]
-struct Still {
-    moment: Moment,
-}
-
-impl Clock for Still {
-    ghost gives = { λ old now new. Unit {0} };
-
-    fn now(&mut self) -> Moment {
-        self.moment
-    }
-}
-
-/// An empty keyspace at moment 1000.
-fn new_alone(alloc: Global) -> Alone<Still> {
-    Alone {
-        keyspace: Keyspace::new(alloc),
-        clock: Still {
-            moment: Moment::new(1000).unwrap(),
-        },
-    }
-}
-
-#[test]
-fn serves_a_byte_at_a_time(rt: HostRuntime) -> Result<(), Fail> {
-    let alloc = rt.alloc();
-    for (input, output, ending) in [
-        (
-            "*1\r\n$4\r\nPING\r\n*0\r\n*-1\r\n*2\r\n$4\r\nping\r\n$2\r\nhi\r\n",
-            "+PONG\r\n$2\r\nhi\r\n",
-            Ending::Closed,
-        ),
-        ("*1\r\n$03\r\n", "-ERR Protocol error\r\n", Ending::Protocol),
-        ("PING\r\n", "-ERR Protocol error\r\n", Ending::Protocol),
-        (
-            "*1\r\n$4\r\nQUIT\r\n*1\r\n$4\r\nPING\r\n",
-            "+OK\r\n",
-            Ending::Quit,
-        ),
-        ("*1\r\n$4\r\nPI", "", Ending::Cut),
-        (
-            "*1\r\n$4\r\nPANG\r\n",
-            "-ERR unknown command\r\n",
-            Ending::Closed,
-        ),
-    ] {
-        let mut writer = Held::new(alloc, 0);
-        let mut alone = new_alone(alloc);
-        let served = serve_alone(
-            &rt,
-            alloc,
-            &mut Dribble::new(input.as_bytes(), 0),
-            &mut writer,
-            &mut alone,
-        );
-        assert_eq!(rt; served, Ok(ending), "{input}");
-        assert_eq!(rt; writer.bytes.as_slice(), output.as_bytes(), "{input}");
-    }
-    Ok(())
-}
-
-const THREE_ADDITIONS: &[u8] =
-    b"*5\r\n$4\r\nXADD\r\n$1\r\ns\r\n$1\r\n*\r\n$1\r\nf\r\n$1\r\nv\r\n*5\r\n$4\r\nXADD\r\n$1\r\ns\r\n$1\r\n*\r\n$1\r\nf\r\n$1\r\nv\r\n*5\r\n$4\r\nXADD\r\n$1\r\ns\r\n$1\r\n*\r\n$1\r\nf\r\n$1\r\nv\r\n";
-
-#[test]
-fn tells_of_each_failed_write_of_a_reply(rt: HostRuntime) -> Result<(), Fail> {
-    let alloc = rt.alloc();
-    for at in 1..37 {
-        let mut writer = Held::new(alloc, at);
-        let mut alone = new_alone(alloc);
-        let served = serve_alone(
-            &rt,
-            alloc,
-            &mut Dribble::new(THREE_ADDITIONS, 0),
-            &mut writer,
-            &mut alone,
-        );
-        let replies = (at - 1) / 12;
-        assert_eq!(rt; served, Err(ServeFault::Write { replies }), "write {at}");
-        assert_eq!(rt; writer.bytes.len() as u64, at - 1, "write {at}");
-    }
-    Ok(())
-}
+mod sessions;

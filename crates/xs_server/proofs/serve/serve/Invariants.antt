@@ -2,7 +2,8 @@ use Rattle.std.proofs.Common.{◌≡◌, ℕ, ◌+◌, ◌*◌, List, Ok}
 use Rattle.std.specs.Io.KnownBytes.{Consumes, Appends}
 use Rattle.xs_server.specs.Device.{capped}
 use Rattle.xs_server.specs.Serve.{reads_limit}
-use Rattle.xs_server.specs.Connection.{Stands, held_length}
+use Rattle.xs_resp.specs.Held.{held_length}
+use Rattle.xs_server.specs.Connection.{Stands}
 use Rattle.xs_server.proofs.serve.serve.Given as goal
 
 -- the requests taken so far are answered

@@ -2,8 +2,8 @@ use Rattle.std.proofs.Common.{◌≡◌, ℕ, ◌<◌, ◌==◌, Bool, true, fal
 use Rattle.std.proofs.lemmas.List.{append-nil}
 use Rattle.std.proofs.KnownBytes.{Consumes-nil, Appends-nil}
 use Rattle.xs_resp.specs.Bytes.{bytes_of}
-use Rattle.xs_server.specs.Connection.{held_length}
-use Rattle.xs_server.proofs.Nexts.{next-words, next-none, next-same, next-fault, next-shorter}
+use Rattle.xs_resp.specs.Held.{held_length}
+use Rattle.xs_resp.proofs.Nexts.{next-words, next-none, next-same, next-fault, next-shorter}
 use Rattle.xs_server.proofs.Connections.{stands-empty, exchanged, took-in, refused}
 use Rattle.xs_server.proofs.serve.step.Goals as goal
 

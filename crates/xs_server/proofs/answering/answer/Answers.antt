@@ -2,8 +2,8 @@ use Rattle.std.proofs.Common.{◌≡◌, Some, false, refl, sym, ap, ◌∙◌}
 use Rattle.xs_command.specs.declared.command.Command.{Command}
 use Rattle.xs_command.specs.declared.command.Command.TheVariants.{Quit}
 use Rattle.xs_server.specs.Exchange.{is_quit}
-use Rattle.xs_server.proofs.connection.answer.Goals as goal
-use Rattle.xs_server.proofs.connection.answer.Goals.{in-Quit, in_default}
+use Rattle.xs_server.proofs.answering.answer.Goals as goal
+use Rattle.xs_server.proofs.answering.answer.Goals.{in-Quit, in_default}
 
 -- a command that isn't QUIT
 no-quit : (command : Command) → (command ≡ Quit → ⊥) → is_quit (Some command) ≡ false

@@ -1,15 +1,14 @@
 -- What the next request of held bytes tells of them.
-use Rattle.std.proofs.Common.{◌≡◌, ℕ, ◌+◌, ◌<◌, ◌≤◌, List, length, take, drop, Some, None, Ok, Err, inl, inr, ap, subst, refl, arith, length-append, length-drop}
-use Rattle.std.proofs.lemmas.List.{length-take-le}
+use Rattle.std.proofs.Common.{◌≡◌, ℕ, ◌+◌, ◌<◌, ◌≤◌, List, [], ◌∷◌, ◌++◌, length, take, drop, Some, None, Ok, Err, inl, inr, sym, ap, ◌∙◌, subst, refl, arith, append_assoc, length-append, length-drop}
+use Rattle.std.proofs.lemmas.List.{append-nil, length-take-le, take-append-drop}
 use Rattle.xs_resp.specs.declared.read_fault.Wrong.{Wrong}
 use Rattle.xs_resp.specs.declared.read_fault.ReadFault.{ReadFault}
 use Rattle.xs_resp.specs.declared.read_fault.ReadFault.TheVariants.{Memory}
-use Rattle.xs_resp.specs.Grammar.{Spells}
+use Rattle.xs_resp.specs.Grammar.{Spells, SpellsAll}
 use Rattle.xs_resp.specs.Outcome.{Outcome}
 use Rattle.xs_resp.specs.Reading.{Found, request}
-use Rattle.xs_resp.specs.Held.{Held, Next, NextOf, fed}
+use Rattle.xs_resp.specs.Held.{Held, Next, NextOf, fed, held_length}
 use Rattle.xs_resp.proofs.Decisions.{request-read}
-use Rattle.xs_server.specs.Connection.{held_length}
 
 -- a request was taken
 pub record IsNext (bytes : List ℕ) (words : List (List ℕ)) (new : Held) : Type 0 where
@@ -67,3 +66,34 @@ next-shorter (Err wrong) words new (is, left) = cc
 pub fed-length : (old : Held) (got : List ℕ) → held_length (fed old got) ≤ held_length old + length got
 fed-length (Ok bytes) got = omega (arith, length-append bytes got)
 fed-length (Err wrong) got = omega arith
+
+-- ---- requests that were taken one after the other
+
+-- one request more is spelled
+spells-more : (front : List ℕ) (requests : List (List (List ℕ))) (first : List ℕ) (words : List (List ℕ)) → SpellsAll front requests → Spells first words
+    → SpellsAll (front ++ first) (requests ++ words ∷ [])
+spells-more front [] first words none spells = (first, [], ap (λ f. f ++ first) none ∙ sym (append-nil first), spells, refl)
+spells-more front (other ∷ requests) first words (one, others, is, spelled, rest) spells =
+    (one, others ++ first, ap (λ f. f ++ first) is ∙ append_assoc one others first, spelled, spells-more others requests first words rest spells)
+
+-- the request that is read behind others
+pub record Took (read front rest : List ℕ) (requests : List (List (List ℕ))) (found : Found) : Type 0 where
+  pub first : List ℕ
+  pub split : rest ≡ first ++ drop found.end rest
+  pub spells : Spells first found.words
+  pub read_is : read ≡ (front ++ first) ++ drop found.end rest
+  pub spelled : SpellsAll (front ++ first) (requests ++ found.words ∷ [])
+
+pub took : (read front rest : List ℕ) (requests : List (List (List ℕ))) (found : Found) → read ≡ front ++ rest → SpellsAll front requests → request rest ≡ Ok (Some found)
+    → Took read front rest requests found
+took read front rest requests found is spelled next =
+    let stands = request-read rest found next in
+    let first = take found.end rest in
+    let split : rest ≡ first ++ drop found.end rest = sym (take-append-drop found.end rest) in
+    record {
+      first = first;
+      split = split;
+      spells = stands.spells;
+      read_is = is ∙ ap (λ r. front ++ r) split ∙ sym (append_assoc front first (drop found.end rest));
+      spelled = spells-more front requests first found.words spelled stands.spells;
+    }
