@@ -1,4 +1,6 @@
 //! Whole connections over a keyspace alone, at moment 1000.
+ghost use Rattle.std.specs.Prelude.{None};
+
 use super::*;
 use crate::ending::{Ending, ServeFault};
 use crate::serve_alone::serve_alone;
