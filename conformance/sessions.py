@@ -10,6 +10,7 @@ xs_server. What is wanted is what the plain reader below makes of the whole list
 The last line is 'N connections, M bytes, peak P MiB'; the status is 1 where an answer differs or the peak is 64 MiB.
 """
 import argparse
+import concurrent.futures
 import os
 import random
 import struct
@@ -172,14 +173,15 @@ def pieces(made, data):
     yield struct.pack("<I", 0)
 
 
-def make(seed, size, given, wanted):
+def make(seed, size, place):
     """Writes connections of so many bytes in all, and what is wanted, and says how many there are."""
     made, written, count = random.Random(seed), 0, 0
-    while written < size:
-        data = connection(made)
-        given.write(b"".join(pieces(made, data)))
-        wanted.write(served(data))
-        written, count = written + len(data), count + 1
+    with open(place["given"], "wb") as given, open(place["wanted"], "wb") as wanted:
+        while written < size:
+            data = connection(made)
+            given.write(b"".join(pieces(made, data)))
+            wanted.write(served(data))
+            written, count = written + len(data), count + 1
     return count, written
 
 
@@ -199,8 +201,9 @@ def main():
     asked = parser.parse_args()
     with tempfile.TemporaryDirectory() as folder:
         place = {name: os.path.join(folder, name) for name in ("given", "wanted", "got")}
-        with open(place["given"], "wb") as given, open(place["wanted"], "wb") as wanted:
-            count, written = make(asked.seed, asked.bytes, given, wanted)
+        # in a process of its own: the peak of a child that is started counts what its parent had
+        with concurrent.futures.ProcessPoolExecutor(max_workers=1) as maker:
+            count, written = maker.submit(make, asked.seed, asked.bytes, place).result()
         program = laid_down.replace(folder, os.path.join(HERE, "sessions", "main.rt.txt"))
         with open(place["given"], "rb") as given, open(place["got"], "wb") as got:
             child = subprocess.Popen([program], stdin=given, stdout=got)
