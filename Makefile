@@ -7,11 +7,13 @@ run:
 	@echo "Proving and building xs_server. The first time everything is proved, which can take a quarter of an hour."
 	@cd crates/xs_server && rt run -- script < stdin
 
-# Proves everything from nothing, tries the edits that have to fail, and runs the tests and the worked cases.
+# Proves everything from nothing, tries the edits that have to fail, and runs the tests, the worked cases, and sessions
+# made at random.
 test:
 	rt ci
 	test -x $(PROGRAM) || (cd crates/xs_server && rt run -- script < stdin)
 	python3 conformance/run.py $(PROGRAM) script
+	python3 conformance/sessions.py --bytes 5000000
 
 # Runs the tests that say so with each allocation refused in turn. Needs cc.
 refusals:

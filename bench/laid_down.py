@@ -25,6 +25,21 @@ def build(folder, name, below, words):
     return os.path.join(crate, "out", f"bench_{name}")
 
 
+def replace(folder, main):
+    """Lays down all crates with this file as the program of xs_server, without its tests, builds it by a run on no
+    input, and gives its path."""
+    shutil.copy(os.path.join(TOP, "crates.txt"), folder)
+    shutil.copytree(os.path.join(TOP, "crates"), os.path.join(folder, "crates"))
+    crate = os.path.join(folder, "crates", "xs_server")
+    shutil.copy(main, os.path.join(crate, "src", "main.rt"))
+    os.remove(os.path.join(crate, "src", "tests.rt"))
+    shutil.rmtree(os.path.join(crate, "src", "tests"))
+    subprocess.run(["git", "init", "-q"], cwd=folder, check=True)
+    asked = ["rt", "run", "--"]
+    subprocess.run(asked, cwd=crate, check=True, stdin=subprocess.DEVNULL, stdout=subprocess.DEVNULL)
+    return os.path.join(crate, "out", "xs_server")
+
+
 def run(program, *words):
     """What the program told, and what the kernel says that it used."""
     child = subprocess.Popen([program, *words], stdout=subprocess.PIPE, text=True)

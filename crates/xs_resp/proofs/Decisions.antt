@@ -10,7 +10,7 @@ use Rattle.xs_resp.specs.Outcome.{Outcome, ◌>>=◌, Keeps}
 use Rattle.xs_resp.specs.Header.{header}
 use Rattle.xs_resp.specs.declared.word.Span.{Span}
 use Rattle.xs_resp.specs.Reading.{Found, text_in, after, words, request}
-use Rattle.xs_resp.specs.Grammar.{sent_words, spelling, null_spelling, AreSizes, Spells, BeginsLine, FaultBehind, FaultIn}
+use Rattle.xs_resp.specs.Grammar.{sent_words, spelling, null_spelling, AreSizes, Spells, BeginsLine, FaultBehind, FaultIn, IsOpen}
 use Rattle.xs_resp.proofs.Outcomes.{bind-ok, bind-err, cases-outcome, Keeps-bind, after-keeps}
 use Rattle.xs_resp.proofs.Reading.{header_ends}
 use Rattle.xs_resp.proofs.Keeping.{header-keeps}
@@ -158,19 +158,22 @@ fault-request bytes wrong (inl f) = request-err bytes wrong (header-err Count by
 fault-request bytes wrong (inr f) = behind-fault bytes wrong f
 
 -- nothing is decided exactly where neither holds
-pub request-open : (bytes : List ℕ) → request bytes ≡ Ok None → ((end : ℕ) (texts : List (List ℕ)) → Spells (take end bytes) texts → ⊥) × ((wrong : Wrong) → FaultIn bytes wrong → ⊥)
+pub request-open : (bytes : List ℕ) → request bytes ≡ Ok None → IsOpen bytes
 request-open bytes e = (
-  λ end texts s. let read = sym e ∙ ap request (sym (take-append-drop end bytes)) ∙ spelled-read (take end bytes) texts (drop end bytes) s in cc,
+  λ front rest texts is s. let read = sym e ∙ ap request is ∙ spelled-read front texts rest s in cc,
   λ wrong f. let read = sym e ∙ fault-request bytes wrong f in cc,
 )
 
-pub open-request : (bytes : List ℕ) → ((end : ℕ) (texts : List (List ℕ)) → Spells (take end bytes) texts → ⊥) × ((wrong : Wrong) → FaultIn bytes wrong → ⊥) → request bytes ≡ Ok None
-open-request bytes neither =
+pub open-request : (bytes : List ℕ) → IsOpen bytes → request bytes ≡ Ok None
+open-request bytes open' =
     elim (cases-outcome (request bytes)) [
       | inl none ↦ none
       | inr decided ↦ elim decided [
-        | inl found ↦ absurd (neither.0 (found.0).end (found.0).words (request-read bytes found.0 found.1).spells)
-        | inr wrong ↦ absurd (neither.1 wrong.0 (request-fault bytes wrong.0 wrong.1))
+        | inl found ↦
+            let end = (found.0).end in
+            let is = sym (take-append-drop end bytes) in
+            absurd (open'.0 (take end bytes) (drop end bytes) (found.0).words is (request-read bytes found.0 found.1).spells)
+        | inr wrong ↦ absurd (open'.1 wrong.0 (request-fault bytes wrong.0 wrong.1))
       ]
     ]
 

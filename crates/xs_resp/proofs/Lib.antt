@@ -11,3 +11,4 @@ pub mod SentWords
 pub mod Sequences
 pub mod Decisions
 pub mod Cutting
+pub mod Nexts

@@ -35,6 +35,12 @@ pub record Spells (bytes : List ℕ) (words : List (List ℕ)) : Type 0 where
   pub sizes : AreSizes words
   pub spelled : (bytes ≡ spelling words) ⊎ ((words ≡ []) × (bytes ≡ null_spelling))
 
+-- these bytes are requests of these words, one after the other
+abbrev pub SpellsAll : List ℕ → List (List (List ℕ)) → Type 0
+SpellsAll bytes [] = bytes ≡ []
+SpellsAll bytes (words ∷ requests) =
+    (first others : List ℕ) × (bytes ≡ first ++ others) × Spells first words × SpellsAll others requests
+
 -- no byte is CR
 abbrev pub HasNoCr : List ℕ → Type 0
 HasNoCr text = AllByRecursion (λ byte. byte ≢ 13) text
@@ -120,3 +126,9 @@ pub record FaultBehind (bytes : List ℕ) (wrong : Wrong) : Type 0 where
 -- the fault that stands in some bytes
 abbrev pub FaultIn : List ℕ → Wrong → Type 0
 FaultIn bytes wrong = HeaderFault Count bytes wrong ⊎ FaultBehind bytes wrong
+
+-- more bytes decide: no front of these is a request, and no fault stands in them
+abbrev pub IsOpen : List ℕ → Type 0
+IsOpen bytes =
+    ((front rest : List ℕ) (words : List (List ℕ)) → bytes ≡ front ++ rest → Spells front words → ⊥)
+    × ((wrong : Wrong) → FaultIn bytes wrong → ⊥)

@@ -16,6 +16,11 @@ abbrev pub fed : Held → List ℕ → Held
 fed (Ok bytes) piece = Ok (bytes ++ piece)
 fed (Err wrong) piece = Err wrong
 
+-- how many bytes are held
+abbrev pub held_length : Held → ℕ
+held_length (Ok bytes) = length bytes
+held_length (Err wrong) = 0
+
 -- whether bytes are held
 abbrev pub is_partial : Held → Bool
 is_partial (Ok bytes) = not (length bytes == 0)

@@ -8,7 +8,7 @@ ghost use Rattle.xs_resp.specs.ReplyText.{text};
 ghost use Rattle.xs_resp.specs.Line.{line};
 ghost use Rattle.xs_resp.specs.Outcome.{Keeps};
 ghost use Rattle.xs_resp.specs.Reading.{Found, request};
-ghost use Rattle.xs_resp.specs.Grammar.{Spells, FaultIn};
+ghost use Rattle.xs_resp.specs.Grammar.{Spells, FaultIn, IsOpen};
 ghost use Rattle.xs_resp.specs.Held.{Held};
 ghost use Rattle.xs_resp.specs.Pieces.{Reads, ReadsPieces};
 
@@ -34,9 +34,7 @@ pub fn fault_stands()
 /// Nothing is answered exactly where no front of the bytes is a request and no fault stands.
 pub fn neither_stands()
     ensures { (bytes : List ℕ) →
-        (request bytes ≡ Ok None)
-        ↔ (((end : ℕ) (words : List (List ℕ)) → Spells (take end bytes) words → ⊥)
-        × ((wrong : Wrong) → FaultIn bytes wrong → ⊥)) }
+        (request bytes ≡ Ok None) ↔ IsOpen bytes }
 {}
 
 /// No spelling is a proper prefix of another.

@@ -69,8 +69,6 @@ impl Requests {
         if let State::Failed(_) = self.state {
             return Ok(());
         }
-        let used = make_room(&mut self.bytes, self.start);
-        self.start -= used;
         self.bytes.extend_from_slice(piece)
     }
 
@@ -103,7 +101,8 @@ impl Requests {
         let Ok(words) = words_of(self.alloc, rest_of(self.bytes.as_slice(), self.start)) else {
             return Err(ReadFault::Memory);
         };
-        self.start += reached.at;
+        let used = self.start + reached.at;
+        self.start = used - make_room(&mut self.bytes, used);
         self.state = State::Between;
         Ok(Some(words))
     }
@@ -119,8 +118,11 @@ impl Requests {
     }
 }
 
-/// Moves the bytes from an index on to the front, where half of all is used up, and tells how
-/// many went.
+/// How many bytes of memory a buffer keeps that a great request made large.
+const KEPT: usize = 65_536;
+
+/// Moves the bytes from an index on to the front, where half of all is used up, gives back the
+/// memory that isn't needed any more, and tells how many bytes went.
 fn make_room(bytes: &mut Vec<u8>, start: usize) -> usize
     requires { start ≤ length bytes.old.items }
     ensures used { result ≤ start }
@@ -131,6 +133,7 @@ fn make_room(bytes: &mut Vec<u8>, start: usize) -> usize
         return 0;
     }
     drop(bytes.drain(..start));
+    bytes.shrink_to(KEPT);
     start
 }
 

@@ -1,19 +1,17 @@
 -- Sessions: one line more, and replies that are sent.
-use Rattle.std.proofs.Common.{◌≡◌, ℕ, ◌+◌, ◌<◌, Bool, false, List, [], ◌∷◌, ◌++◌, length, Option, Some, None, Result, Ok, Err, inl, inr, sym, ap, ◌∙◌, subst, refl, append_assoc, arith, IsSomeAnd, MatchResult, length-append}
+use Rattle.std.proofs.Common.{◌≡◌, ℕ, ◌+◌, ◌<◌, Bool, false, List, [], ◌∷◌, ◌++◌, length, Option, Some, None, Result, Ok, Err, inl, inr, sym, ap, ◌∙◌, subst, refl, append_assoc, arith, IsSomeAnd, length-append}
 use Rattle.std.proofs.lemmas.List.{append-nil}
-use Rattle.xs_resp.specs.declared.fault.Fault.{Fault}
 use Rattle.xs_resp.specs.declared.reply.Reply.{Reply}
-use Rattle.xs_resp.specs.declared.reply.Reply.TheVariants.{Error}
 use Rattle.xs_resp.specs.ReplyText.{text}
 use Rattle.xs_command.specs.declared.command.Command.{Command}
-use Rattle.xs_command.specs.Read.{reads}
 use Rattle.xs_keys.specs.Content.{Content, IsContent}
 use Rattle.xs_keys.specs.Headline.{Step}
 use Rattle.xs_keys.proofs.Contents.{content-step}
 use Rattle.xs_server.specs.Device.{capped}
 use Rattle.xs_server.specs.Line.{line_of, script_lines, is_line_end, line_limit}
-use Rattle.xs_server.specs.Script.{Follows, Answered, Script}
-use Rattle.xs_server.specs.Serving.{Serves}
+use Rattle.xs_server.specs.Answering.{Answered, IsAnswer}
+use Rattle.xs_server.specs.Script.{Follows, Script}
+use Rattle.xs_server.specs.Serving.{StepAt}
 use Rattle.xs_server.specs.declared.session.Session.{Session}
 use Rattle.xs_server.specs.declared.script_fault.ScriptFault.{ScriptFault}
 use Rattle.xs_server.specs.declared.script_fault.ScriptFault.TheVariants.{Line, Read, Write}
@@ -25,34 +23,29 @@ use Rattle.xs_server.proofs.ScriptLines.{lines-begun, long-line, read-lines}
 use Rattle.std.specs.List.{list_any}
 
 -- how a step of the keyspace goes on with a history
-step-follows : (past : List (ℕ × Command)) (old new : Content) (now : ℕ) (command : Command) (answer : Reply) → IsContent old past → Step old now command answer new
-    → (next : List (ℕ × Command)) × IsContent new next × Follows past now command answer next
+pub step-follows : (past : List (ℕ × Command)) (old new : Content) (now : ℕ) (command : Command) (answer : Reply) → IsContent old past → Step old now command answer new
+    → (next : List (ℕ × Command)) × IsContent new next × Follows now past command answer next
 step-follows past old new now command answer is (inl applied) =
     ((now, command) ∷ past, subst (λ c. IsContent c ((now, command) ∷ past)) (sym applied.content_is) (content-step past old now command is), inl (old, is, applied.answer_is, refl))
 step-follows past old new now command answer is (inr refused) =
     (past, subst (λ c. IsContent c past) (sym refused.content_is) is, inr (refused.takes, refused.answer_is, refl))
 
-said-follows : (past : List (ℕ × Command)) (old new : Content) (now : ℕ) (read : Result Command Fault) (answer : Reply) → IsContent old past
-    → MatchResult read (λ command. Step old now command answer new) (λ fault. (answer ≡ Error fault) × (new ≡ old))
-    → (next : List (ℕ × Command)) × IsContent new next × MatchResult read (λ command. Follows past now command answer next) (λ fault. (answer ≡ Error fault) × (next ≡ past))
-said-follows past old new now (Ok command) answer is step = step-follows past old new now command answer is step
-said-follows past old new now (Err fault) answer is same = (past, subst (λ c. IsContent c past) (sym same.1) is, (same.0, refl))
-
-pub serves-answered : (past : List (ℕ × Command)) (old new : Content) (now : ℕ) (words : List (List ℕ)) (answer : Reply) → IsContent old past → Serves old now words answer new
-    → (next : List (ℕ × Command)) × IsContent new next × Answered past now words answer next
-serves-answered past old new now words answer is (inl said) =
-    let next = said-follows past old new now (reads words) answer is said in
-    (next.0, next.1, inl next.2)
-serves-answered past old new now words answer is (inr refused) = (past, subst (λ c. IsContent c past) (sym refused.1) is, inr (refused.0, refl))
+-- how an answer of the keyspace goes on with a history
+pub answer-follows : (past : List (ℕ × Command)) (old new : Content) (now : ℕ) (words : List (List ℕ)) (asked : Option Command) (answer : Reply) → IsContent old past
+    → Answered (StepAt now) old words asked answer new → (next : List (ℕ × Command)) × IsContent new next × Answered (Follows now) past words asked answer next
+answer-follows past old new now words (Some command) answer is said =
+    let next = step-follows past old new now command answer is said.1 in
+    (next.0, next.1, (said.0, next.2))
+answer-follows past old new now words None answer is said = (past, subst (λ c. IsContent c past) (sym said.0) is, (refl, said.1))
 
 -- one line more
 pub script-more : (past : List (ℕ × Command)) (lines : List (List ℕ)) (line : List ℕ) (out : List ℕ) (mid next : List (ℕ × Command)) (answer : Reply)
-    → Script past lines out mid → IsSomeAnd (line_of line) (λ request. Answered mid request.0 request.1 answer next) → Script past (lines ++ line ∷ []) (out ++ text answer) next
+    → Script past lines out mid → IsSomeAnd (line_of line) (λ request. IsAnswer (Follows request.0) mid request.1 answer next) → Script past (lines ++ line ∷ []) (out ++ text answer) next
 script-more past [] line out mid next answer so_far answered = (
   answer,
   next,
   [],
-  subst (λ p. IsSomeAnd (line_of line) (λ request. Answered p request.0 request.1 answer next)) so_far.1 answered,
+  subst (λ p. IsSomeAnd (line_of line) (λ request. IsAnswer (Follows request.0) p request.1 answer next)) so_far.1 answered,
   ap (λ o. o ++ text answer) so_far.0 ∙ sym (append-nil (text answer)),
   (refl, refl),
 )
@@ -60,14 +53,16 @@ script-more past (first ∷ lines) line out mid next answer (reply, then, more, 
     (reply, then, more ++ text answer, said, ap (λ o. o ++ text answer) is ∙ append_assoc (text reply) more (text answer), script-more then lines line more mid next answer rest answered)
 
 line-answered : (past : List (ℕ × Command)) (old new : Content) (read : Option (ℕ × List (List ℕ))) (answer : Reply) → IsContent old past
-    → IsSomeAnd read (λ request. Serves old request.0 request.1 answer new)
-    → (next : List (ℕ × Command)) × IsContent new next × IsSomeAnd read (λ request. Answered past request.0 request.1 answer next)
-line-answered past old new (Some request) answer is serves = serves-answered past old new request.0 request.1 answer is serves
+    → IsSomeAnd read (λ request. IsAnswer (StepAt request.0) old request.1 answer new)
+    → (next : List (ℕ × Command)) × IsContent new next × IsSomeAnd read (λ request. IsAnswer (Follows request.0) past request.1 answer next)
+line-answered past old new (Some request) answer is serves =
+    let next = answer-follows past old new request.0 request.1 serves.0 answer is serves.1 in
+    (next.0, next.1, (serves.0, next.2))
 line-answered past old new None answer is serves = absurd serves
 
 -- a served line
 pub served-line : (lines : List (List ℕ)) (line out : List ℕ) (past : List (ℕ × Command)) (old new : Content) (answer : Reply) → IsContent old past
-    → Script [] lines out past → IsSomeAnd (line_of line) (λ request. Serves old request.0 request.1 answer new)
+    → Script [] lines out past → IsSomeAnd (line_of line) (λ request. IsAnswer (StepAt request.0) old request.1 answer new)
     → (next : List (ℕ × Command)) × Script [] (lines ++ line ∷ []) (out ++ text answer) next × IsContent new next
 served-line lines line out past old new answer is so_far serves =
     let next = line-answered past old new (line_of line) answer is serves in

@@ -1,8 +1,14 @@
 pub mod Device
 pub mod Line
 pub mod Taking
+pub mod Answering
 pub mod Script
 pub mod Serving
 pub mod Session
 pub mod Report
 pub mod CommandLine
+pub mod Exchange
+pub mod Serve
+pub mod Connection
+pub mod Alone
+pub mod Modelled

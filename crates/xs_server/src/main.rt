@@ -2,9 +2,13 @@
 //! replies on standard output.
 #![tactic(auto)]
 
+mod answering;
 mod chunk;
 mod command_line;
+mod connection;
 mod device;
+mod ending;
+mod inbox;
 mod lines;
 mod parts;
 mod report;
@@ -12,6 +16,8 @@ mod run;
 mod script;
 mod script_fault;
 mod sending;
+mod serve;
+mod serve_alone;
 mod serving;
 mod session;
 mod taken;

@@ -3,7 +3,8 @@ ghost use Rattle.std.specs.Prelude.{◌≡◌, ◌<◌, ◌≤◌, ◌++◌, Non
 ghost use Rattle.xs_resp.specs.declared.reply.Reply.{Reply};
 ghost use Rattle.xs_resp.specs.ReplyText.{text};
 ghost use Rattle.xs_server.specs.Line.{line_of, line_limit};
-ghost use Rattle.xs_server.specs.Serving.{Serves};
+ghost use Rattle.xs_server.specs.Answering.{IsAnswer};
+ghost use Rattle.xs_server.specs.Serving.{StepAt};
 
 use crate::parts::read_line;
 use std::alloc::Global;
@@ -24,7 +25,7 @@ pub enum Unanswered {
 /// Answers the words of a request at a moment.
 fn answer(alloc: Global, keyspace: &mut Keyspace, now: Moment, words: &[Vec<u8>]) -> Reply
     requires { 0 < length words.now }
-    ensures { Serves keyspace.old now (map (λ word. word.items) words.now) result keyspace.new }
+    ensures { IsAnswer (StepAt now) keyspace.old (map (λ word. word.items) words.now) result keyspace.new }
 {
     match read_command(alloc, words) {
         Ok(command) => keyspace.apply(now, &command),
@@ -41,7 +42,9 @@ pub fn serve_line(
     out: &mut Vec<u8>,
 ) -> Result<(), Unanswered>
     requires { length line.now ≤ line_limit }
-    ensures ok { IfOk result (λ _. (reply : Reply) × IsSomeAnd (line_of line.now) (λ request. Serves keyspace.old request.0 request.1 reply keyspace.new)
+    ensures ok { IfOk result (λ _. (reply : Reply)
+        × IsSomeAnd (line_of line.now)
+            (λ request. IsAnswer (StepAt request.0) keyspace.old request.1 reply keyspace.new)
         × (out.new.items ≡ out.old.items ++ text reply)) }
     ensures none { result ≡ Err Unanswered.NoLine → line_of line.now ≡ None }
     ensures err { OnErr result (out.new.items ≡ out.old.items) }

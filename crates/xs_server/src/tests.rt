@@ -61,11 +61,12 @@ impl<'a> Source for Dribble<'a> {
     }
 }
 
-/// Takes a byte at a time, and fails at one of its calls, counted from 1.
+/// Takes a byte at a time, and fails at one of its calls, counted from 1: by an error, or by taking none.
 #[derive(Drop)]
 struct Held {
     bytes: Vec<u8>,
     fails_at: u64,
+    stops: bool,
     calls: u64,
     broken: bool,
 }
@@ -75,6 +76,7 @@ impl Held {
         Self {
             bytes: Vec::new(alloc),
             fails_at,
+            stops: false,
             calls: 0,
             broken: false,
         }
@@ -95,7 +97,7 @@ impl Sink for Held {
         };
         if self.calls == self.fails_at || self.bytes.push(*first).is_err() {
             self.broken = true;
-            return Err(Failed);
+            return if self.stops { Ok(0) } else { Err(Failed) };
         }
         Ok(1)
     }
@@ -220,3 +222,5 @@ fn reports_each_fault(rt: HostRuntime) -> Result<(), Fail> {
     }
     Ok(())
 }
+
+mod sessions;

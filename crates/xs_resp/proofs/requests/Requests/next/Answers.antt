@@ -34,4 +34,5 @@ returns c =
     let whole = follows-all c.rest_of-bytes.result.now c.in-Ok-Some.progress follows.0 (omega arith) in
     let open' : held_in c.self.inside.state bytes ≡ Ok bytes = elim c.match-self.branch [ in-Between w ↦ ap (λ s. held_in s bytes) w.in-Between.is | in-Within w ↦ ap (λ s. held_in s bytes) w.in-Within.is ] in
     let has = subst (λ b. HasWords (request b) c.in-Ok.words) again c.in-Ok.ensures in
-    Next-words c.args.self.now bytes _ _ c.in-Ok.words (sym c.self.view_is ∙ open') (ap request (sym here) ∙ whole) has (sym (drop-drop c.in-Ok-Some.progress.at c.self.inside.start c.self.inside.bytes.items))
+    Next-words c.args.self.now bytes _ _ c.in-Ok.words (sym c.self.view_is ∙ open') (ap request (sym here) ∙ whole) has
+    (c.make_room.ensures.rest ∙ sym (drop-drop c.in-Ok-Some.progress.at c.self.inside.start c.self.inside.bytes.items))

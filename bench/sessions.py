@@ -1,0 +1,106 @@
+#!/usr/bin/env python3
+"""Measures sessions over memory beside the script of the same commands and a real Redis 7.0.
+
+    sessions.py [--runs N]        by processor time; needs the toolchain, redis-server and cc
+    sessions.py --instructions    by instructions, of sessions and scripts; needs the toolchain and valgrind
+
+1,000,000 additions with one value of 60 bytes, and 1,000,000 PINGs. A session is `serve` over a keyspace alone, fed out
+of memory in pieces of 16 KiB and of 100 bytes; its replies go to nowhere. The program over it,
+bench/sessions/main.rt.txt, stands in a copy of the repository in the place of the one of xs_server. A script is read
+from a file, and its replies go to nowhere. Redis keeps nothing on disk and is fed over a Unix socket by bench/feed.c,
+whose own time isn't counted.
+"""
+import argparse
+import os
+import re
+import subprocess
+import tempfile
+
+import bench
+import laid_down
+
+COUNT = 1_000_000
+SIZES = (16384, 100)
+COMMANDS = {"XADD": f"XADD s * f {bench.VALUE}", "PING": "PING"}
+
+
+class Programs:
+    """What is measured, and the files that are read."""
+
+    def __init__(self, folder):
+        self.folder = folder
+        self.session = laid_down.replace(folder, os.path.join(laid_down.HERE, "sessions", "main.rt.txt"))
+        self.program = os.path.join(laid_down.TOP, "crates", "xs_server", "out", "xs_server")
+        self.script = {name: os.path.join(folder, f"{name}.script") for name in COMMANDS}
+        self.requests = {name: os.path.join(folder, f"{name}.requests") for name in COMMANDS}
+        for name, command in COMMANDS.items():
+            bench.write_script(self.script[name], [command] * COUNT)
+            bench.write_requests(self.requests[name], [command] * COUNT)
+
+    def by_session(self, name, size):
+        told, used = laid_down.run(self.session, name, str(size))
+        if told != f"{COUNT} replies\n":
+            raise SystemExit(f"the session told {told!r}")
+        return used.ru_utime + used.ru_stime, used.ru_maxrss * 1024
+
+    def by_script(self, name):
+        return bench.run_here(self.program, self.script[name])[1:]
+
+    def by_redis(self, name):
+        return bench.run_redis(self.requests[name], COUNT, self.folder)[1:]
+
+
+def works(programs):
+    """Who does what: a name, a command, and how it is run."""
+    for name in COMMANDS:
+        for size in SIZES:
+            yield name, f"session, {size} bytes", lambda name=name, size=size: programs.by_session(name, size)
+        yield name, "script", lambda name=name: programs.by_script(name)
+        yield name, "Redis", lambda name=name: programs.by_redis(name)
+
+
+def by_time(programs, runs):
+    taken = {}
+    for _ in range(runs):
+        for name, who, run in works(programs):
+            taken.setdefault((name, who), []).append(run())
+    print("| Command | Who | Processor time in s | Peak in MiB | By script | By Redis |\n|---|---|---|---|---|---|")
+    for (name, who), values in taken.items():
+        times, peaks = zip(*values)
+        by = [bench.ratios(times, [value[0] for value in taken[name, other]]) for other in ("script", "Redis")]
+        print(f"| {name} | {who} | {bench.spread(times)} | {bench.spread(peaks, 2**20)} | {by[0]} | {by[1]} |")
+
+
+def count(words, stdin=subprocess.DEVNULL):
+    asked = ["valgrind", "--tool=callgrind", "--callgrind-out-file=/dev/null", *words]
+    told = subprocess.run(asked, stdin=stdin, stdout=subprocess.DEVNULL, stderr=subprocess.PIPE, text=True, check=True)
+    return int(re.search(r"Collected : (\d+)", told.stderr).group(1))
+
+
+def by_instructions(programs):
+    print("| Command | Who | Instructions a command | By script |\n|---|---|---|---|")
+    for name in COMMANDS:
+        with open(programs.script[name], "rb") as script:
+            base = count([programs.program, "script"], script)
+        print(f"| {name} | script | {base / COUNT:.0f} | 1.00 |", flush=True)
+        for size in SIZES:
+            taken = count([programs.session, name, str(size)])
+            print(f"| {name} | session, {size} bytes | {taken / COUNT:.0f} | {taken / base:.2f} |", flush=True)
+
+
+def main():
+    parser = argparse.ArgumentParser(description=__doc__, formatter_class=argparse.RawDescriptionHelpFormatter)
+    parser.add_argument("--runs", type=int, default=5)
+    parser.add_argument("--instructions", action="store_true")
+    asked = parser.parse_args()
+    with tempfile.TemporaryDirectory() as folder:
+        programs = Programs(folder)
+        if asked.instructions:
+            by_instructions(programs)
+        else:
+            bench.build_feeder(folder)
+            by_time(programs, asked.runs)
+
+
+if __name__ == "__main__":
+    main()

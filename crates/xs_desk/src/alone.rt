@@ -1,0 +1,30 @@
+//! A keyspace and a clock, without a keeper.
+ghost use Rattle.std.specs.Prelude.{◌≡◌, ℕ, false};
+ghost use Rattle.xs_keys.specs.Headline.{Step};
+
+use crate::port::{Port, PortFault};
+use std::sync::Wait;
+use xs_command::Command;
+use xs_keys::{Clock, Keyspace};
+use xs_resp::Reply;
+
+/// A keyspace that is asked at the moments of a clock. It is never gone.
+#[derive(Drop)]
+pub struct Alone<C: Clock + Drop> {
+    pub keyspace: Keyspace,
+    pub clock: C,
+}
+
+impl<C: Clock + Drop> Port for Alone<C> {
+    ghost replies = { λ old command answer new. (now : ℕ)
+        × C.gives old.clock now new.clock × Step old.keyspace now command answer new.keyspace };
+
+    ghost fails = { λ old command new. ⊥ };
+
+    ghost gone = { λ port. false };
+
+    fn ask<R: Wait>(&mut self, _rt: &R, command: Command) -> Result<Reply, PortFault> {
+        let now = self.clock.now();
+        Ok(self.keyspace.apply(now, &command))
+    }
+}

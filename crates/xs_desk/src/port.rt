@@ -1,0 +1,35 @@
+//! What commands are asked of.
+use std::sync::Wait;
+use xs_command::Command;
+use xs_resp::Reply;
+
+/// Why a port gave no reply.
+#[derive(Clone, Copy, Debug, PartialEq, Eq)]
+pub enum PortFault {
+    /// The keeper has stopped.
+    Gone,
+}
+
+/// What commands are asked of. Each implementation names what its replies may be.
+pub trait Port {
+    ghost use Rattle.std.specs.Prelude.{◌≡◌, ◌||◌, Bool, MatchResult, is_err};
+    ghost use Rattle.xs_command.specs.WellFormed.{IsWellFormed};
+    ghost use Rattle.xs_command.specs.declared.command.Command.{Command};
+    ghost use Rattle.xs_resp.specs.declared.reply.Reply.{Reply};
+
+    /// The state before, the command, the reply, the state after.
+    ghost replies: { Self → Command → Reply → Self → Type 0 };
+
+    /// The state before, the command, the state after, where there was no reply.
+    ghost fails: { Self → Command → Self → Type 0 };
+
+    /// It has answered a fault.
+    ghost gone: { Self → Bool };
+
+    /// Asks for the reply to one command.
+    fn ask<R: Wait>(&mut self, rt: &R, command: Command) -> Result<Reply, PortFault>
+        requires { IsWellFormed command }
+        ensures asked { MatchResult result
+            (λ reply. replies self.old command reply self.new) (λ _. fails self.old command self.new) }
+        ensures fault { gone self.new ≡ (gone self.old || is_err result) };
+}

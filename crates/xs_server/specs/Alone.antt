@@ -1,0 +1,22 @@
+-- A connection that is served by a keyspace alone.
+use Rattle.std.specs.Prelude.{◌≡◌, ℕ, List, [], ◌∷◌, map, Option, Some, None}
+use Rattle.xs_resp.specs.declared.reply.Reply.{Reply}
+use Rattle.xs_command.specs.declared.command.Command.{Command}
+use Rattle.xs_keys.specs.Content.{Content}
+use Rattle.xs_keys.specs.Headline.{RunsOn}
+use Rattle.xs_server.specs.Exchange.{Exchange}
+
+-- a command that was asked, and its answer
+abbrev pub onto_asked : Option Command → Reply → List (Command × Reply) → List (Command × Reply)
+onto_asked None answer rest = rest
+onto_asked (Some command) answer rest = (command, answer) ∷ rest
+
+abbrev pub asked_in : List Exchange → List (Command × Reply)
+asked_in [] = []
+asked_in (exchange ∷ exchanges) = onto_asked exchange.asked exchange.answer (asked_in exchanges)
+
+-- the commands that were asked, each at some moment, are a run of the keyspace, and the answers are its replies
+abbrev pub RunsAlone : List Exchange → Content → Content → Type 0
+RunsAlone exchanges old new =
+    (events : List (ℕ × Command)) × (map (λ event. event.1) events ≡ map (λ asked. asked.0) (asked_in exchanges))
+    × RunsOn old events (map (λ asked. asked.1) (asked_in exchanges)) new

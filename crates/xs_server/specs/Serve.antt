@@ -1,0 +1,112 @@
+-- A connection: the bytes that it reads and writes, and how it ends.
+use Rattle.std.specs.Prelude.{◌≡◌, ◌≢◌, ℕ, ◌+◌, ◌<◌, ◌⊎◌, Bool, true, false, List, [], ◌∷◌, ◌++◌, length}
+use Rattle.std.specs.Prelude.{Option, Result, Ok, Err}
+use Rattle.std.specs.Io.KnownBytes.{IsAtEnd}
+use Rattle.xs_resp.specs.declared.fault.Fault.TheVariants.{Protocol}
+use Rattle.xs_resp.specs.declared.reply.Reply.{Reply}
+use Rattle.xs_resp.specs.declared.reply.Reply.TheVariants.{Error}
+use Rattle.xs_resp.specs.declared.read_fault.Wrong.{Wrong}
+use Rattle.xs_resp.specs.ReplyText.{text}
+use Rattle.xs_resp.specs.Grammar.{Spells, SpellsAll, FaultIn, IsOpen}
+use Rattle.xs_command.specs.declared.command.Command.{Command}
+use Rattle.xs_command.specs.Read.{reads}
+use Rattle.xs_server.specs.declared.ending.Ending.{Ending}
+use Rattle.xs_server.specs.declared.ending.Ending.TheVariants as ending
+use Rattle.xs_server.specs.declared.ending.ServeFault.{ServeFault}
+use Rattle.xs_server.specs.declared.ending.ServeFault.TheVariants as fault
+use Rattle.xs_server.specs.Device.{capped}
+use Rattle.xs_server.specs.Exchange.{Exchange, Run, texts, is_quit, quits}
+
+-- the answers are written, and none of them is to a QUIT
+abbrev pub Written : List Exchange → List ℕ → Type 0
+Written exchanges sent = (quits exchanges ≡ false) × (sent ≡ texts exchanges)
+
+-- so many answers are written whole, none of them to a QUIT, and behind them this part of a text
+abbrev pub WrittenTo : List Exchange → List ℕ → List ℕ → ℕ → Type 0
+WrittenTo exchanges part sent replies =
+    (quits exchanges ≡ false) × (sent ≡ texts exchanges ++ part) × (replies ≡ capped (length exchanges))
+
+-- a text that lacks some bytes of the whole one
+abbrev pub IsPart : List ℕ → List ℕ → Type 0
+IsPart part whole = (more : List ℕ) × (whole ≡ part ++ more) × (0 < length more)
+
+-- how a connection ends, where `rest` was read behind the requests
+abbrev pub EndsBy : Ending → List ℕ → List Exchange → List ℕ → Type 0
+EndsBy ending.Closed rest exchanges sent = (rest ≡ []) × Written exchanges sent
+EndsBy ending.Cut rest exchanges sent = (rest ≢ []) × IsOpen rest × Written exchanges sent
+EndsBy ending.Quit rest exchanges sent =
+    (before : List Exchange) × (last : Exchange) × (exchanges ≡ before ++ last ∷ [])
+    × (quits before ≡ false) × (is_quit last.asked ≡ true) × (sent ≡ texts exchanges)
+EndsBy ending.Protocol rest exchanges sent =
+    (wrong : Wrong) × FaultIn rest wrong × (quits exchanges ≡ false) × (sent ≡ texts exchanges ++ text (Error Protocol))
+
+-- a writer failed within the text of the last answer, or within that of the protocol error
+abbrev pub WriteFails : List ℕ → List Exchange → List ℕ → ℕ → Type 0
+WriteFails rest exchanges sent replies =
+    ((before : List Exchange) × (last : Exchange) × (part : List ℕ) × (exchanges ≡ before ++ last ∷ [])
+        × WrittenTo before part sent replies × IsPart part (text last.answer))
+    ⊎ ((wrong : Wrong) × (part : List ℕ) × FaultIn rest wrong
+        × WrittenTo exchanges part sent replies × IsPart part (text (Error Protocol)))
+
+-- memory ran out between two requests, or for the text of the last answer
+abbrev pub MemoryFails : List Exchange → List ℕ → ℕ → Type 0
+MemoryFails exchanges sent replies =
+    WrittenTo exchanges [] sent replies
+    ⊎ ((before : List Exchange) × (last : Exchange) × (exchanges ≡ before ++ last ∷ [])
+        × WrittenTo before [] sent replies)
+
+-- a request behind the others was asked and not answered
+pub record PortFails {P : Type 0} (Fails : P → Command → P → Type 0) (last new : P) (rest : List ℕ) : Type 0 where
+  pub first : List ℕ
+  pub others : List ℕ
+  pub words : List (List ℕ)
+  pub command : Command
+  pub rest_is : rest ≡ first ++ others
+  pub spelled : Spells first words
+  pub reads_as : reads words ≡ Ok command
+  pub fails : Fails last command new
+
+-- how a connection ends, the port with it
+abbrev pub Ends :
+    {P : Type 0} → (P → Command → P → Type 0) → Result Ending ServeFault → P → P
+    → List ℕ → List Exchange → List ℕ → Type 0
+Ends Fails (Ok ending) last new rest exchanges sent = (new ≡ last) × EndsBy ending rest exchanges sent
+Ends Fails (Err (fault.Read replies)) last new rest exchanges sent =
+    (new ≡ last) × IsOpen rest × WrittenTo exchanges [] sent replies
+Ends Fails (Err (fault.Write replies)) last new rest exchanges sent =
+    (new ≡ last) × WriteFails rest exchanges sent replies
+Ends Fails (Err (fault.Memory replies)) last new rest exchanges sent =
+    (new ≡ last) × MemoryFails exchanges sent replies
+Ends Fails (Err (fault.Port replies)) last new rest exchanges sent =
+    PortFails Fails last new rest × WrittenTo exchanges [] sent replies
+
+-- a whole connection: what is read begins with requests, which were answered in order by the port; what is written is
+-- the texts of the answers; and how it ended
+pub record Serves
+    {P : Type 0} (Replies : P → Command → Reply → P → Type 0) (Fails : P → Command → P → Type 0)
+    (result : Result Ending ServeFault) (old new : P) (read sent : List ℕ) : Type 0 where
+  pub requests : List (List (List ℕ))
+  pub exchanges : List Exchange
+  pub front : List ℕ
+  pub rest : List ℕ
+  pub last : P
+  pub read_is : read ≡ front ++ rest
+  pub spelled : SpellsAll front requests
+  pub run : Run Replies old requests exchanges last
+  pub ends : Ends Fails result last new rest exchanges sent
+
+-- how often a connection's reader is asked
+abbrev pub reads_limit : ℕ
+reads_limit = 1000000000000
+
+-- why a connection ended so: the end of the input was met; the reader has failed, or has answered so many reads; the
+-- writer has failed; the port is gone
+abbrev pub HasCause : Result Ending ServeFault → Option (List ℕ) → Bool → Bool → Bool → Bool → ℕ → ℕ → Type 0
+HasCause (Ok ending.Closed) left ended reader writer gone before calls = IsAtEnd left × (ended ≡ true)
+HasCause (Ok ending.Cut) left ended reader writer gone before calls = IsAtEnd left × (ended ≡ true)
+HasCause (Ok _) left ended reader writer gone before calls = Unit {0}
+HasCause (Err (fault.Read replies)) left ended reader writer gone before calls =
+    (reader ≡ true) ⊎ (capped calls ≡ capped (before + reads_limit))
+HasCause (Err (fault.Write replies)) left ended reader writer gone before calls = writer ≡ true
+HasCause (Err (fault.Memory replies)) left ended reader writer gone before calls = Unit {0}
+HasCause (Err (fault.Port replies)) left ended reader writer gone before calls = gone ≡ true
