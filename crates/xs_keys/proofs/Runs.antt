@@ -72,7 +72,7 @@ delivers-new past key group life e =
 has-one-owner : (life : GroupLife) → HasOneOwner life
 has-one-owner life = record { is_pending = λ x. owner-row life.start life.turns x ∙ sym (ap of_row (row-found life.start life.turns x)); until_settled = owned-until-settled life.start life.turns; by_claims = changes-by-claims life.start life.turns }
 
-headline : (past events : List (ℕ × Command)) (replies : List Reply) (history : List (ℕ × Command)) → Answers past events replies history → Headline past events replies history
+pub headline : (past events : List (ℕ × Command)) (replies : List Reply) (history : List (ℕ × Command)) → Answers past events replies history → Headline past events replies history
 headline past events replies history answers = record {
   replies = answers;
   steps = λ later e earlier f content is. (content-lawful earlier content is, content-step earlier content e.0 e.1 is);

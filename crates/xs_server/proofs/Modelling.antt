@@ -10,7 +10,8 @@ use Rattle.xs_server.specs.Answering.{Answered}
 use Rattle.xs_server.specs.Exchange.{Exchange, Run}
 use Rattle.xs_server.specs.Serve.{Serves, Ends}
 use Rattle.xs_server.specs.Modelled.{Models, Never, ServesByModel}
-use Rattle.xs_server.proofs.Sessions.{step-follows}
+use Rattle.xs_keys.proofs.Runs.{step-follows}
+
 use Rattle.xs_server.proofs.AloneRuns.{IsOfKeyspace, last-is}
 use Rattle.xs_keys.specs.Headline.{OfEachGroup, DeliversNew, HasOneOwner}
 use Rattle.xs_keys.proofs.Deliveries.{ascends-delivered, past-start, had-turn}

@@ -6,11 +6,12 @@ use Rattle.xs_resp.specs.ReplyText.{text}
 use Rattle.xs_command.specs.declared.command.Command.{Command}
 use Rattle.xs_keys.specs.Content.{Content, IsContent}
 use Rattle.xs_keys.specs.Headline.{Step}
-use Rattle.xs_keys.proofs.Contents.{content-step}
 use Rattle.xs_server.specs.Device.{capped}
 use Rattle.xs_server.specs.Line.{line_of, script_lines, is_line_end, line_limit}
 use Rattle.xs_server.specs.Answering.{Answered, IsAnswer}
-use Rattle.xs_server.specs.Script.{Follows, Script}
+use Rattle.xs_keys.specs.Headline.{Follows, Answers}
+use Rattle.xs_keys.proofs.Runs.{step-follows, headline}
+use Rattle.xs_server.specs.Script.{Script, Served, AreServed, events_of, answers_of, IsScript}
 use Rattle.xs_server.specs.Serving.{StepAt}
 use Rattle.xs_server.specs.declared.session.Session.{Session}
 use Rattle.xs_server.specs.declared.script_fault.ScriptFault.{ScriptFault}
@@ -20,15 +21,7 @@ use Rattle.xs_server.specs.Session.{Stands, Sent, PartSent, Sends, SendsAll, Ser
 use Rattle.xs_server.specs.declared.taken.LineFault.TheVariants.{Long}
 use Rattle.xs_server.specs.Taking.{FailsLine}
 use Rattle.xs_server.proofs.ScriptLines.{lines-begun, long-line, read-lines}
-use Rattle.std.specs.List.{list_any}
-
--- how a step of the keyspace goes on with a history
-pub step-follows : (past : List (ℕ × Command)) (old new : Content) (now : ℕ) (command : Command) (answer : Reply) → IsContent old past → Step old now command answer new
-    → (next : List (ℕ × Command)) × IsContent new next × Follows now past command answer next
-step-follows past old new now command answer is (inl applied) =
-    ((now, command) ∷ past, subst (λ c. IsContent c ((now, command) ∷ past)) (sym applied.content_is) (content-step past old now command is), inl (old, is, applied.answer_is, refl))
-step-follows past old new now command answer is (inr refused) =
-    (past, subst (λ c. IsContent c past) (sym refused.content_is) is, inr (refused.takes, refused.answer_is, refl))
+use Rattle.std.specs.List.{flat_map, list_any}
 
 -- how an answer of the keyspace goes on with a history
 pub answer-follows : (past : List (ℕ × Command)) (old new : Content) (now : ℕ) (words : List (List ℕ)) (asked : Option Command) (answer : Reply) → IsContent old past
@@ -68,6 +61,48 @@ served-line lines line out past old new answer is so_far serves =
     let next = line-answered past old new (line_of line) answer is serves in
     (next.0, script-more [] lines line out past next.0 answer so_far next.2, next.1)
 
+-- ---- the headline of a script
+
+-- lines that are answered over a history: the commands that were asked follow one another
+pub record ServesFrom (past : List (ℕ × Command)) (lines : List (List ℕ)) (out : List ℕ) (last : List (ℕ × Command)) : Type 0 where
+  pub served : List Served
+  pub are_served : AreServed lines served
+  pub answers : Answers past (events_of served) (answers_of served) last
+  pub out_is : out ≡ flat_map (λ one. text one.answer) served
+
+serves-more : (past : List (ℕ × Command)) (line : List ℕ) (lines : List (List ℕ)) (out more : List ℕ) (next last : List (ℕ × Command)) (answer : Reply)
+    → (read : Option (ℕ × List (List ℕ))) → line_of line ≡ read → IsSomeAnd read (λ request. IsAnswer (Follows request.0) past request.1 answer next)
+    → out ≡ text answer ++ more → ServesFrom next lines more last → ServesFrom past (line ∷ lines) out last
+serves-more past line lines out more next last answer None e said is rest = absurd said
+serves-more past line lines out more next last answer (Some request) e (Some command, said) is rest = record {
+  served = record { now = request.0; asked = Some command; answer = answer } ∷ rest.served;
+  are_served = ((request.1, e, (said.0, tt)), rest.are_served);
+  answers = (next, said.1, rest.answers);
+  out_is = is ∙ ap (λ o. text answer ++ o) rest.out_is;
+}
+serves-more past line lines out more next last answer (Some request) e (None, said) is rest = record {
+  served = record { now = request.0; asked = None; answer = answer } ∷ rest.served;
+  are_served = ((request.1, e, (refl, said.1)), rest.are_served);
+  answers = subst (λ p. Answers p (events_of rest.served) (answers_of rest.served) last) said.0 rest.answers;
+  out_is = is ∙ ap (λ o. text answer ++ o) rest.out_is;
+}
+
+serves-from : (past : List (ℕ × Command)) (lines : List (List ℕ)) (out : List ℕ) (last : List (ℕ × Command)) → Script past lines out last → ServesFrom past lines out last
+serves-from past [] out last script = record { served = []; are_served = tt; answers = script.1; out_is = script.0 }
+serves-from past (line ∷ lines) out last (answer, next, more, said, is, rest) =
+    serves-more past line lines out more next last answer (line_of line) refl said is (serves-from next lines more last rest)
+
+pub is-script : (lines : List (List ℕ)) (out : List ℕ) (past : List (ℕ × Command)) → Script [] lines out past → IsScript lines out
+is-script lines out past script =
+    let all = serves-from [] lines out past script in
+    record {
+      served = all.served;
+      are_served = all.are_served;
+      history = past;
+      headline = headline [] (events_of all.served) (answers_of all.served) past all.answers;
+      out_is = all.out_is;
+    }
+
 -- ---- counts
 
 pub capped-more : (n : ℕ) (lines : List (List ℕ)) (line : List ℕ) → n ≡ capped (length lines) → capped (n + 1) ≡ capped (length (lines ++ line ∷ []))
@@ -81,12 +116,12 @@ capped-sent n m sent part e f = let len = length-append sent part in omega arith
 pub sent-after : (lines : List (List ℕ)) (sent part rest out : List ℕ) (n m : ℕ) (past : List (ℕ × Command)) → Script [] lines (sent ++ out) past
     → n ≡ capped (length sent) → m ≡ capped (n + length part) → out ≡ part ++ rest → rest ≡ [] → Sent lines (sent ++ part) m
 sent-after lines sent part rest out n m past script counted more is none =
-    (past, subst (λ o. Script [] lines (sent ++ o) past) (is ∙ ap (λ r. part ++ r) none ∙ append-nil part) script, capped-sent n m sent part counted more)
+    (is-script lines (sent ++ part) past (subst (λ o. Script [] lines (sent ++ o) past) (is ∙ ap (λ r. part ++ r) none ∙ append-nil part) script), capped-sent n m sent part counted more)
 
 pub part-after : (lines : List (List ℕ)) (sent part rest out : List ℕ) (n m : ℕ) (past : List (ℕ × Command)) → Script [] lines (sent ++ out) past
     → n ≡ capped (length sent) → m ≡ capped (n + length part) → out ≡ part ++ rest → PartSent lines (sent ++ part) m
 part-after lines sent part rest out n m past script counted more is =
-    (sent ++ out, rest, past, script, ap (λ o. sent ++ o) is ∙ sym (append_assoc sent part rest), capped-sent n m sent part counted more)
+    (sent ++ out, rest, is-script lines (sent ++ out) past script, ap (λ o. sent ++ o) is ∙ sym (append_assoc sent part rest), capped-sent n m sent part counted more)
 
 pub capped-next : (n m : ℕ) (lines : List (List ℕ)) → n ≡ capped (length lines) → m ≡ capped (n + 1) → m ≡ capped (length lines + 1)
 capped-next n m lines e f = omega arith
@@ -142,7 +177,7 @@ fault-ends (script_fault.Memory written) lines line behind read sent session bro
 -- all lines are answered, and nothing is held
 pub all-sent : (lines : List (List ℕ)) (read sent : List ℕ) (session : Session) → Stands lines sent session → session.out.items ≡ [] → script_lines read ≡ lines → Sent (script_lines read) sent session.written
 all-sent lines read sent session stands empty e =
-    (stands.0, subst (λ ls. Script [] ls sent stands.0) (sym e) (subst (λ o. Script [] lines o stands.0) (ap (λ o. sent ++ o) empty ∙ append-nil sent) stands.1), stands.4)
+    (is-script (script_lines read) sent stands.0 (subst (λ ls. Script [] ls sent stands.0) (sym e) (subst (λ o. Script [] lines o stands.0) (ap (λ o. sent ++ o) empty ∙ append-nil sent) stands.1)), stands.4)
 
 -- the line in hand is too long
 long-ends : (line more : List ℕ) (lines : List (List ℕ)) (read : List ℕ) (sent : List ℕ) (number written : ℕ) → list_any is_line_end line ≡ false → line_limit < length line

@@ -1,24 +1,12 @@
 -- What a script writes: the replies to its lines, in order.
-use Rattle.std.specs.Prelude.{◌≡◌, ℕ, true, false, ◌⊎◌, List, [], ◌∷◌, ◌++◌, IsSomeAnd}
-use Rattle.std.specs.List.{list_any}
-use Rattle.xs_resp.specs.declared.fault.Fault.TheVariants.{Memory}
+use Rattle.std.specs.Prelude.{◌≡◌, ℕ, false, List, [], ◌∷◌, ◌++◌, Option, Some, None, IsSomeAnd}
+use Rattle.std.specs.List.{flat_map, list_any}
 use Rattle.xs_resp.specs.declared.reply.Reply.{Reply}
-use Rattle.xs_resp.specs.declared.reply.Reply.TheVariants.{Error}
 use Rattle.xs_resp.specs.ReplyText.{text}
 use Rattle.xs_command.specs.declared.command.Command.{Command}
-use Rattle.xs_keys.specs.Content.{Content, IsContent}
-use Rattle.xs_keys.specs.Reply.{reply}
-use Rattle.xs_keys.specs.Headline.{takes_memory}
-use Rattle.xs_server.specs.Answering.{IsAnswer}
+use Rattle.xs_keys.specs.Headline.{Follows, Headline}
+use Rattle.xs_server.specs.Answering.{Answered, IsAnswer}
 use Rattle.xs_server.specs.Line.{is_line_end, line_of}
-
--- the answer to a command over a history, and the history that follows: the model's reply, and the event is
--- added; or memory ran out, and it isn't
-abbrev pub Follows : ℕ → List (ℕ × Command) → Command → Reply → List (ℕ × Command) → Type 0
-Follows now past command answer next =
-    ((content : Content) × IsContent content past
-        × (answer ≡ reply content now command) × (next ≡ (now, command) ∷ past))
-    ⊎ ((takes_memory command ≡ true) × (answer ≡ Error Memory) × (next ≡ past))
 
 -- over a history, these script lines may be answered by this text, and leave that history
 abbrev pub Script : List (ℕ × Command) → List (List ℕ) → List ℕ → List (ℕ × Command) → Type 0
@@ -27,6 +15,50 @@ Script past (line ∷ lines) out last =
     (answer : Reply) × (next : List (ℕ × Command)) × (more : List ℕ)
     × IsSomeAnd (line_of line) (λ request. IsAnswer (Follows request.0) past request.1 answer next)
     × (out ≡ text answer ++ more) × Script next lines more last
+
+-- a line that was answered: its moment, the command that its words asked, if they did, and the answer
+pub record Served : Type 0 where
+  pub now : ℕ
+  pub asked : Option Command
+  pub answer : Reply
+
+-- the line has that moment, and its words are that command; or nothing was asked, since they have a fault or memory
+-- ran out
+abbrev pub IsServed : List ℕ → Served → Type 0
+IsServed line served =
+    (words : List (List ℕ)) × (line_of line ≡ Some (served.now, words))
+    × Answered (λ old command answer new. Unit {0}) tt words served.asked served.answer tt
+
+abbrev pub AreServed : List (List ℕ) → List Served → Type 0
+AreServed [] [] = Unit {0}
+AreServed (line ∷ lines) (one ∷ more) = IsServed line one × AreServed lines more
+AreServed _ _ = ⊥
+
+-- the commands that were asked, at their moments, and the answers to them
+abbrev pub onto_event : ℕ → Option Command → List (ℕ × Command) → List (ℕ × Command)
+onto_event now None events = events
+onto_event now (Some command) events = (now, command) ∷ events
+
+abbrev pub events_of : List Served → List (ℕ × Command)
+events_of [] = []
+events_of (one ∷ more) = onto_event one.now one.asked (events_of more)
+
+abbrev pub onto_answer : Option Command → Reply → List Reply → List Reply
+onto_answer None answer answers = answers
+onto_answer (Some command) answer answers = answer ∷ answers
+
+abbrev pub answers_of : List Served → List Reply
+answers_of [] = []
+answers_of (one ∷ more) = onto_answer one.asked one.answer (answers_of more)
+
+-- a whole script: each line is answered, of the commands that were asked the headline holds, and the text is that of all
+-- the answers
+pub record IsScript (lines : List (List ℕ)) (out : List ℕ) : Type 0 where
+  pub served : List Served
+  pub are_served : AreServed lines served
+  pub history : List (ℕ × Command)
+  pub headline : Headline [] (events_of served) (answers_of served) history
+  pub out_is : out ≡ flat_map (λ one. text one.answer) served
 
 -- a line with its end
 abbrev pub with_end : List ℕ → List ℕ

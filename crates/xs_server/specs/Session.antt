@@ -9,7 +9,7 @@ use Rattle.xs_server.specs.declared.script_fault.ScriptFault.{ScriptFault}
 use Rattle.xs_server.specs.declared.script_fault.ScriptFault.TheVariants.{Line, Read, Write, Memory}
 use Rattle.xs_server.specs.Device.{capped}
 use Rattle.xs_server.specs.Line.{is_line_end, script_lines, line_of}
-use Rattle.xs_server.specs.Script.{Script, with_end, AreLines}
+use Rattle.xs_server.specs.Script.{Script, IsScript, with_end, AreLines}
 
 -- these lines are answered; some of the replies are sent, and the others are held
 abbrev pub Stands : List (List ℕ) → List ℕ → Session → Type 0
@@ -19,11 +19,12 @@ Stands lines sent session =
 
 -- the replies to these lines are sent, so many bytes
 abbrev pub Sent : List (List ℕ) → List ℕ → ℕ → Type 0
-Sent lines sent written = (past : List (ℕ × Command)) × Script [] lines sent past × (written ≡ capped (length sent))
+Sent lines sent written = IsScript lines sent × (written ≡ capped (length sent))
 
 -- a prefix of the replies to these lines is sent, so many bytes
 abbrev pub PartSent : List (List ℕ) → List ℕ → ℕ → Type 0
-PartSent lines sent written = (whole rest : List ℕ) × (past : List (ℕ × Command)) × Script [] lines whole past × (whole ≡ sent ++ rest) × (written ≡ capped (length sent))
+PartSent lines sent written =
+    (whole rest : List ℕ) × IsScript lines whole × (whole ≡ sent ++ rest) × (written ≡ capped (length sent))
 
 -- how a script ends that has read and sent these bytes
 abbrev pub EndsBy : ScriptFault → List ℕ → List ℕ → Type 0
