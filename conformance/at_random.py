@@ -4,11 +4,11 @@
     at_random.py [--seed N] [--rounds N] [--counts] PROGRAM [ARG ..]
 
 Each round has 400 commands of streams and groups (conformance/commands.py says which, and what is left out), from the
-empty keyspace on; the program runs them as one script. A reply has to be that of Redis, byte by byte; an error has to be
-an error. The moments of the script lie about the clock's own at the round's beginning, forwards and backwards, while
-Redis has its clock; so an idle time is compared as old or as new, and least idle times are none or lie far between.
-A round ends at its first difference, which is shown. `--counts` shows how often each kind of reply of each command
-came. The last line is 'N passed, M failed', by commands; the status is 1 where M > 0.
+empty keyspace on; the program runs them as one script. A reply has to be that of Redis, byte by byte; of an error the
+first word, since texts differ. The moments of the script lie about the clock's own at the round's beginning, forwards
+and backwards, while Redis has its clock; so an idle time is compared as old or as new, and least idle times are none
+or lie far between. A round ends at its first difference, which is shown. `--counts` shows how often each kind of reply
+of each command came. The last line is 'N passed, M failed', by commands; the status is 1 where M > 0.
 """
 import argparse
 import io

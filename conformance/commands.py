@@ -150,8 +150,9 @@ class Maker:
 
     def rows(self):
         key = self.key()
-        return ["XPENDING", key, self.group(), *self.chance(0.5, ["IDLE", self.least_idle()]), *self.ends(key),
-                self.one("1", "2", "10", "10", "10", "20", "0", "-1"), *self.chance(0.3, [self.one("a", "b", "B", "z")])]
+        count, consumer = self.one("1", "2", "10", "10", "10", "20", "0", "-1"), self.one("a", "b", "B", "z")
+        return ["XPENDING", key, self.group(), *self.chance(0.5, ["IDLE", self.least_idle()]), *self.ends(key), count,
+                *self.chance(0.3, [consumer])]
 
     def claim(self):
         key, group, consumer = self.in_group()
@@ -190,7 +191,8 @@ class Maker:
         if kind < 0.5 and words[0] != "XPENDING":
             return [*words, "odd"]
         spared = {place for word, place in (("XCLAIM", 5), ("CREATECONSUMER", 4)) if word in words[:2]}
-        left = [place for place in range(4 if words[0] == "XPENDING" else 1, len(words)) if place not in spared]
+        first = 4 if words[0] == "XPENDING" else 1
+        left = [place for place in range(first, len(words)) if place not in spared]
         place = self.one(*left) if left else 0
         return [*words[:place], self.one(*WRONG), *words[place + 1:]]
 
@@ -198,5 +200,6 @@ class Maker:
         words = self.well_said()
         if self.random.random() < 0.1:
             words = self.spoiled(words)
-        small = self.random.random() < 0.1
-        return [word.lower() if small and (place == 0 or word in KEYWORDS) else word for place, word in enumerate(words)]
+        if self.random.random() < 0.9:
+            return words
+        return [word.lower() if word in KEYWORDS or place == 0 else word for place, word in enumerate(words)]

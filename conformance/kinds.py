@@ -21,12 +21,15 @@ def parsed(stream):
 
 def of_read(parts):
     entries = [entry for _, shown in parts for entry in shown]
-    return ("one stream", "several streams")[len(parts) > 1] + (
-        ", a deleted entry" if any(fields is None for _, fields in entries) else "" if entries else ", no entries")
+    streams = "several streams" if len(parts) > 1 else "one stream"
+    if not entries:
+        return streams + ", no entries"
+    return streams + (", a deleted entry" if any(fields is None for _, fields in entries) else "")
 
 
 def of_scan(cursor, taken, removed):
-    return ", ".join(["claimed"] * bool(taken) + ["removed"] * bool(removed) + ["goes on"] * (cursor != "0-0")) or "nothing"
+    shown = [("claimed", taken), ("removed", removed), ("goes on", cursor != "0-0")]
+    return ", ".join(word for word, holds in shown if holds) or "nothing"
 
 
 def kind(name, reply):
