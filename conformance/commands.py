@@ -79,8 +79,8 @@ class Maker:
         return self.one(["-", "+"], ["-", "+"], [self.end(key), self.end(key)])
 
     def trim(self, key, most):
-        exactly = self.chance(0.3, ["="])
-        return self.one(["MAXLEN", *exactly, self.number(most // 2, most)], ["MINID", *exactly, self.id(key)])
+        exactly, count = self.chance(0.3, ["="]), self.number(most // 2, most)
+        return self.one(["MAXLEN", *exactly, *(self.chance(0.05, ["-1"]) or [count])], ["MINID", *exactly, self.id(key)])
 
     def least_idle(self):
         return self.one("0", "0", "-7", str(LONG))
@@ -137,7 +137,7 @@ class Maker:
         new = self.random.random() < 0.6
         starts = [">" if new else self.one(">", "0", "0-0", self.id(key)) for key in keys]
         options = [["GROUP", self.group(), self.consumer()], self.chance(0.5, ["COUNT", self.number(-1, 4)]),
-                   self.chance(0.15, ["NOACK"]), self.chance(0.03, ["BLOCK", "1"])]
+                   self.chance(0.05, ["COUNT", "2"]), self.chance(0.15, ["NOACK"]), self.chance(0.03, ["BLOCK", "1"])]
         self.random.shuffle(options)
         return ["XREADGROUP", *(word for option in options for word in option), "STREAMS", *keys, *starts]
 
@@ -159,7 +159,7 @@ class Maker:
         options = [self.chance(0.2, ["IDLE", self.one("0", "-5", str(2 * LONG))]),
                    self.chance(0.2, ["TIME", self.one("1000", "0", "-3", str(20 * LONG))]),
                    self.chance(0.2, ["RETRYCOUNT", self.one("0", "7", "9000000000000000000")]),
-                   self.chance(0.25, ["JUSTID"])]
+                   self.chance(0.05, ["RETRYCOUNT", "3"]), self.chance(0.25, ["JUSTID"])]
         self.random.shuffle(options)
         return ["XCLAIM", key, group, consumer, self.least_idle(), *self.ids(key, 5),
                 *(word for option in options for word in option)]
@@ -168,18 +168,20 @@ class Maker:
         key, group, consumer = self.in_group()
         start = self.one("0", "-", "0-0", self.end(key), self.id(key))
         return ["XAUTOCLAIM", key, group, consumer, self.least_idle(), start,
-                *self.chance(0.7, ["COUNT", self.one("1", "1", "2", "3", "100")]), *self.chance(0.25, ["JUSTID"])]
+                *self.chance(0.7, ["COUNT", self.one("1", "1", "2", "3", "100")]), *self.chance(0.25, ["JUSTID"]),
+                *self.chance(0.05, ["COUNT", "2"])]
 
     def greeting(self):
         return self.one(["PING"], ["PING", "hello"], ["QUIT"], ["XGROUP"], ["FOO", "s"])
 
-    def well_said(self):
+    def makers(self):
+        """What makes a command, with how often it is wanted."""
         ends = {self.deletion: 10, self.trimming: 4, self.dropping: 1, self.destruction: 1, self.consumer_removal: 2,
                 self.acknowledgement: 12}
         often = {self.addition: 50, self.length: 2, self.scan: 8, self.creation: 20, self.consumer_creation: 4,
                  self.read: 40, self.summary: 6, self.rows: 12, self.claim: 20, self.auto_claim: 20, self.greeting: 2}
         often.update({make: count * (0.1 if self.grows else 1) for make, count in ends.items()})
-        return self.random.choices([*often], [*often.values()])[0]()
+        return often
 
     def spoiled(self, words):
         """One word too many or too few, or a wrong one."""
@@ -196,10 +198,17 @@ class Maker:
         place = self.one(*left) if left else 0
         return [*words[:place], self.one(*WRONG), *words[place + 1:]]
 
+    def spoiled_command(self):
+        """Of any kind as often as of another; since it is mostly refused, nothing is reached by it."""
+        reached = dict(self.reached)
+        words = self.spoiled(self.one(*self.makers())())
+        self.reached = reached
+        return words
+
     def command(self):
-        words = self.well_said()
-        if self.random.random() < 0.1:
-            words = self.spoiled(words)
+        often = self.makers()
+        make = self.random.choices([*often], [*often.values()])[0]
+        words = self.spoiled_command() if self.random.random() < 0.1 else make()
         if self.random.random() < 0.9:
             return words
         return [word.lower() if word in KEYWORDS or place == 0 else word for place, word in enumerate(words)]
