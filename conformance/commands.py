@@ -79,8 +79,8 @@ class Maker:
         return self.one(["-", "+"], ["-", "+"], [self.end(key), self.end(key)])
 
     def trim(self, key, most):
-        exactly, count = self.chance(0.3, ["="]), self.number(most // 2, most)
-        return self.one(["MAXLEN", *exactly, *(self.chance(0.05, ["-1"]) or [count])], ["MINID", *exactly, self.id(key)])
+        exactly, count = self.chance(0.3, ["="]), self.chance(0.05, ["-1"]) or [self.number(most // 2, most)]
+        return self.one(["MAXLEN", *exactly, *count], ["MINID", *exactly, self.id(key)])
 
     def least_idle(self):
         return self.one("0", "0", "-7", str(LONG))
