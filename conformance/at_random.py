@@ -66,7 +66,7 @@ def main():
         for number in range(given.rounds):
             seed = f"{given.seed} {number}"
             maker = commands.Maker(seed)
-            lines = [maker.command() for _ in range(COMMANDS)]
+            lines = [*maker.opening(), *(maker.command() for _ in range(COMMANDS))][:COMMANDS]
             same = same_in_round(lines, answers(given.program, lines, seed), real_redis.ask(path, lines), counts)
             passed, failed = passed + same, failed + (same < COMMANDS)
             if same < COMMANDS:

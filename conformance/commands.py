@@ -174,6 +174,14 @@ class Maker:
     def greeting(self):
         return self.one(["PING"], ["PING", "hello"], ["QUIT"], ["XGROUP"], ["FOO", "s"])
 
+    def opening(self):
+        """How every tenth round begins: more is pending than a scan takes that names no COUNT."""
+        if self.random.random() > 0.1:
+            return []
+        self.reached["s"] = 130
+        additions = [["XADD", "s", f"{number}-0", "f", str(number)] for number in range(1, 131)]
+        return [["XGROUP", "CREATE", "s", "g", "0", "MKSTREAM"], *additions, "XREADGROUP GROUP g a STREAMS s >".split()]
+
     def makers(self):
         """What makes a command, with how often it is wanted."""
         ends = {self.deletion: 10, self.trimming: 4, self.dropping: 1, self.destruction: 1, self.consumer_removal: 2,
