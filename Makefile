@@ -19,10 +19,9 @@ test:
 refusals:
 	python3 conformance/refusals.py
 
-# Asks a real Redis 7.0 the cases that are its own too, and commands made at random: of streams beside the program, of
-# groups beside the model. Debian: apt-get install redis-server
+# Asks a real Redis 7.0 the worked cases too, but for those that are only ours, and then asks it and the program the same
+# 100,000 commands of streams and groups, made at random. Debian: apt-get install redis-server
 compare:
 	python3 conformance/compare.py
 	test -x $(PROGRAM) || (cd crates/xs_server && rt run -- script < stdin)
 	python3 conformance/at_random.py $(PROGRAM) script
-	python3 conformance/model_at_random.py

@@ -3,7 +3,7 @@
 
     compare.py          starts redis-server on a socket of its own, and ends it
 
-A reply has to be the case's, byte by byte; an error has to be an error, since texts differ.
+A reply has to be the case's, byte by byte; of an error the first word, since texts differ.
 The last line is 'N passed, M failed'; the status is 1 where M > 0.
 """
 import sys
