@@ -60,7 +60,7 @@ runs-more old events replies now next e rest reply so_far step = λ past is.
     let more = one_more here.0 e reply now next here.1 step in
     (more.0, more.1, λ answers last done. rw append_assoc (here.2 (reply ∷ answers) last (more.2 rest answers last done)))
 
-delivers-new : (past : List (ℕ × Command)) (key group : List ℕ) (life : GroupLife) → group_life past key group ≡ Some life → DeliversNew life
+pub delivers-new : (past : List (ℕ × Command)) (key group : List ℕ) (life : GroupLife) → group_life past key group ≡ Some life → DeliversNew life
 delivers-new past key group life e =
     let asc = present-in-life past key group life e in
     record {
@@ -69,7 +69,7 @@ delivers-new past key group life e =
       at_their_turn = λ x low high. had-turn life.start life.turns x asc low high;
     }
 
-has-one-owner : (life : GroupLife) → HasOneOwner life
+pub has-one-owner : (life : GroupLife) → HasOneOwner life
 has-one-owner life = record { is_pending = λ x. owner-row life.start life.turns x ∙ sym (ap of_row (row-found life.start life.turns x)); until_settled = owned-until-settled life.start life.turns; by_claims = changes-by-claims life.start life.turns }
 
 pub headline : (past events : List (ℕ × Command)) (replies : List Reply) (history : List (ℕ × Command)) → Answers past events replies history → Headline past events replies history

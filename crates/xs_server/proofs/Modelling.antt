@@ -10,13 +10,9 @@ use Rattle.xs_server.specs.Answering.{Answered}
 use Rattle.xs_server.specs.Exchange.{Exchange, Run}
 use Rattle.xs_server.specs.Serve.{Serves, Ends}
 use Rattle.xs_server.specs.Modelled.{Models, Never, ServesByModel}
-use Rattle.xs_keys.proofs.Runs.{step-follows}
-
-use Rattle.xs_server.proofs.AloneRuns.{IsOfKeyspace, last-is}
 use Rattle.xs_keys.specs.Headline.{OfEachGroup, DeliversNew, HasOneOwner}
-use Rattle.xs_keys.proofs.Deliveries.{ascends-delivered, past-start, had-turn}
-use Rattle.xs_keys.proofs.Histories.{present-in-life}
-use Rattle.xs_keys.proofs.Owners.{owned-until-settled, changes-by-claims}
+use Rattle.xs_keys.proofs.Runs.{step-follows, delivers-new, has-one-owner}
+use Rattle.xs_server.proofs.AloneRuns.{IsOfKeyspace, last-is}
 
 answered-models : {P : Type 0} (Replies : P → Command → Reply → P → Type 0) (content : P → Content) → IsOfKeyspace Replies content
     → (old next : P) (words : List (List ℕ)) (asked : Option Command) (answer : Reply) → Answered Replies old words asked answer next
@@ -49,16 +45,10 @@ ends-models Fails never (Err (fault.Memory told)) last new rest exchanges sent h
 ends-models Fails never (Err (fault.Port told)) last new rest exchanges sent history ends = absurd (never last (ends.0).command new (ends.0).fails)
 
 deliveries : (history : List (ℕ × Command)) → OfEachGroup history DeliversNew
-deliveries history = λ later earlier e key group life f.
-    let asc = present-in-life earlier key group life f in
-    record {
-      ascend = ascends-delivered life.start life.turns asc;
-      past_start = past-start life.start life.turns;
-      at_their_turn = λ x low high. had-turn life.start life.turns x asc low high;
-    }
+deliveries history = λ later earlier e key group life f. delivers-new earlier key group life f
 
 owners : (history : List (ℕ × Command)) → OfEachGroup history HasOneOwner
-owners history = λ later earlier e key group life f. record { until_settled = owned-until-settled life.start life.turns; by_claims = changes-by-claims life.start life.turns }
+owners history = λ later earlier e key group life f. has-one-owner life
 
 pub serves-by-model : {P : Type 0} (Replies : P → Command → Reply → P → Type 0) (Fails : P → Command → P → Type 0) (content : P → Content) → IsOfKeyspace Replies content
     → ((old : P) (command : Command) (new : P) → Fails old command new → ⊥)

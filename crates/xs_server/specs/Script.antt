@@ -27,7 +27,7 @@ pub record Served : Type 0 where
 abbrev pub IsServed : List ℕ → Served → Type 0
 IsServed line served =
     (words : List (List ℕ)) × (line_of line ≡ Some (served.now, words))
-    × Answered (λ old command answer new. Unit {0}) tt words served.asked served.answer tt
+    × Answered {P = Unit {0}} (λ old command answer new. Unit {0}) tt words served.asked served.answer tt
 
 abbrev pub AreServed : List (List ℕ) → List Served → Type 0
 AreServed [] [] = Unit {0}
