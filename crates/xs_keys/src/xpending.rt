@@ -16,11 +16,14 @@ use xs_group::{Group, GroupSummary, OwnerCount, PendingRow};
 use xs_resp::{Fault, Reply};
 use xs_stream::{Id, Moment};
 
+/// The longest text of a number.
+const NUMBER_TEXT: usize = 20;
+
 /// The text of a number.
 fn number_text(alloc: Global, number: u64) -> Result<Bytes, AllocError>
     ensures { IfOk result (λ text. text ≡ decimal number) }
 {
-    let mut text = Vec::new(alloc);
+    let mut text = Vec::with_capacity(alloc, NUMBER_TEXT)?;
     push_decimal(&mut text, number)?;
     Ok(Bytes::new(text))
 }
@@ -36,17 +39,18 @@ fn id_shown(alloc: Global, id: Option<Id>) -> Result<Reply, AllocError>
 }
 
 /// A consumer and its count.
-fn owner_shown(alloc: Global, owner: &OwnerCount) -> Result<Reply, AllocError>
-    ensures { IfOk result (λ reply. reply ≡ owner_reply owner.now) }
+fn owner_shown(alloc: Global, owner: OwnerCount) -> Result<Reply, AllocError>
+    ensures { IfOk result (λ reply. reply ≡ owner_reply owner) }
 {
-    let name = Reply::Bulk(Bytes::from_slice(alloc, owner.consumer.as_slice())?);
-    let count = Reply::Bulk(number_text(alloc, owner.count)?);
+    let OwnerCount { consumer, count } = owner;
+    let name = Reply::Bulk(consumer);
+    let count = Reply::Bulk(number_text(alloc, count)?);
     Ok(array_of(vec![in alloc; name, count]?))
 }
 
 /// Consumers with their counts.
-fn owners_shown(alloc: Global, owners: &[OwnerCount]) -> Result<Reply, AllocError>
-    ensures { IfOk result (λ reply. reply ≡ array_or_null (map owner_reply owners.now)) }
+fn owners_shown(alloc: Global, owners: Vec<OwnerCount>) -> Result<Reply, AllocError>
+    ensures { IfOk result (λ reply. reply ≡ array_or_null (map owner_reply owners.items)) }
 {
     if owners.is_empty() {
         return Ok(Reply::NullArray);
@@ -60,30 +64,30 @@ fn owners_shown(alloc: Global, owners: &[OwnerCount]) -> Result<Reply, AllocErro
 }
 
 /// The short form.
-fn summary_shown(alloc: Global, summary: &GroupSummary) -> Result<Reply, AllocError>
-    ensures { IfOk result (λ reply. reply ≡ summary_reply summary.now) }
+fn summary_shown(alloc: Global, summary: GroupSummary) -> Result<Reply, AllocError>
+    ensures { IfOk result (λ reply. reply ≡ summary_reply summary) }
 {
+    let total = Reply::Int(summary.total);
     let least = id_shown(alloc, summary.least)?;
     let greatest = id_shown(alloc, summary.greatest)?;
-    let owners = owners_shown(alloc, summary.owners.as_slice())?;
-    let total = Reply::Int(summary.total);
+    let owners = owners_shown(alloc, summary.owners.into_vec())?;
     Ok(array_of(vec![in alloc; total, least, greatest, owners]?))
 }
 
 /// A row of the long form.
-fn row_shown(alloc: Global, row: &PendingRow) -> Result<Reply, AllocError>
-    ensures { IfOk result (λ reply. reply ≡ row_reply row.now) }
+fn row_shown(alloc: Global, row: PendingRow) -> Result<Reply, AllocError>
+    ensures { IfOk result (λ reply. reply ≡ row_reply row) }
 {
     let id = Reply::Bulk(id_text(alloc, row.id)?);
-    let name = Reply::Bulk(Bytes::from_slice(alloc, row.consumer.as_slice())?);
+    let name = Reply::Bulk(row.consumer);
     let idle = Reply::Int(row.idle);
     let count = Reply::Int(row.count);
     Ok(array_of(vec![in alloc; id, name, idle, count]?))
 }
 
 /// The long form.
-fn rows_shown(alloc: Global, rows: &[PendingRow]) -> Result<Reply, AllocError>
-    ensures { IfOk result (λ reply. reply ≡ array (map row_reply rows.now)) }
+fn rows_shown(alloc: Global, rows: Vec<PendingRow>) -> Result<Reply, AllocError>
+    ensures { IfOk result (λ reply. reply ≡ array (map row_reply rows.items)) }
 {
     let mut items = Vec::with_capacity(alloc, rows.len())?;
     for row in rows {
@@ -98,7 +102,7 @@ fn summary_of(alloc: Global, group: &Group) -> Result<Reply, AllocError>
     ensures { IfOk result (λ reply. reply ≡ summary_reply (report.summary_of group.now)) }
 {
     let summary = group.summary(alloc)?;
-    summary_shown(alloc, &summary)
+    summary_shown(alloc, summary)
 }
 
 /// XPENDING, the short form.
@@ -132,7 +136,7 @@ fn rows_of(
         command.limit,
         command.consumer.as_ref(),
     )?;
-    rows_shown(alloc, rows.as_slice())
+    rows_shown(alloc, rows)
 }
 
 /// XPENDING, the long form.

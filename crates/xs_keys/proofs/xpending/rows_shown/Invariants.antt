@@ -1,7 +1,7 @@
-use Rattle.std.proofs.Common.{◌≡◌, take, map}
+use Rattle.std.proofs.Common.{◌≡◌, map}
 use Rattle.xs_keys.specs.Reply.{row_reply}
 use Rattle.xs_keys.proofs.xpending.rows_shown.Given as goal
 
 -- the rows so far
 abbrev pub invariant-loop-row : goal.invariant-loop-row
-invariant-loop-row l = l.items.items ≡ map row_reply (take l.row-index l.rows)
+invariant-loop-row l = l.items.items ≡ map row_reply l.yielded
