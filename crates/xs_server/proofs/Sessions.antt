@@ -179,6 +179,16 @@ pub all-sent : (lines : List (List ℕ)) (read sent : List ℕ) (session : Sessi
 all-sent lines read sent session stands empty e =
     (is-script (script_lines read) sent stands.0 (subst (λ ls. Script [] ls sent stands.0) (sym e) (subst (λ o. Script [] lines o stands.0) (ap (λ o. sent ++ o) empty ∙ append-nil sent) stands.1)), stands.4)
 
+-- a writer that fails at the end of the input
+pub finish-fails : (fault : ScriptFault) (lines : List (List ℕ)) (read sent part rest out : List ℕ) (n m : ℕ) (past : List (ℕ × Command)) (broken : Bool)
+    → Script [] lines (sent ++ out) past → n ≡ capped (length sent) → m ≡ capped (n + length part) → out ≡ part ++ rest → SendsAll (Err fault) rest m broken
+    → script_lines read ≡ lines → EndsBy fault read (sent ++ part)
+finish-fails (Write told) lines read sent part rest out n m past broken script counted more is all e =
+    (lines, [], e ∙ sym (append-nil lines), part-after lines sent part rest out n told past script counted (all.0 ∙ more) is)
+finish-fails (Line number written) lines read sent part rest out n m past broken script counted more is all e = absurd all
+finish-fails (Read written) lines read sent part rest out n m past broken script counted more is all e = absurd all
+finish-fails (script_fault.Memory written) lines read sent part rest out n m past broken script counted more is all e = absurd all
+
 -- the line in hand is too long
 long-ends : (line more : List ℕ) (lines : List (List ℕ)) (read : List ℕ) (sent : List ℕ) (number written : ℕ) → list_any is_line_end line ≡ false → line_limit < length line
     → script_lines read ≡ lines ++ script_lines (line ++ more) → number ≡ capped (length lines + 1) → Sent lines sent written → EndsBy (Line number written) read sent

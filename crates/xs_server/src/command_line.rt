@@ -6,7 +6,7 @@ ghost use Rattle.xs_server.specs.CommandLine.{AsksScript};
 use clap::Command;
 use clap::error::{Error, ErrorKind};
 use std::alloc::Global;
-use std::io::Eprint;
+use std::io::{Eprint, ErrorKind as IoErrorKind};
 
 /// What the command line asks for.
 #[derive(Clone, Copy, Debug, PartialEq, Eq)]
@@ -49,6 +49,23 @@ pub fn read_words(rt: &HostRuntime, words: &[String]) -> Asked
             ErrorKind::OutOfMemory => Asked::Memory,
             _ => {
                 let _ = rt.eprint(&error);
+                Asked::Nothing
+            }
+        },
+    }
+}
+
+/// What the words that the program was called with ask for. Words that aren't UTF-8 are a wrong command line.
+pub fn read_command_line(rt: &HostRuntime) -> Asked {
+    match std::env::args(rt) {
+        Ok(words) => match words.collect::<Vec<String>>(rt.alloc()) {
+            Ok(words) => read_words(rt, words.as_slice()),
+            Err(_) => Asked::Memory,
+        },
+        Err(error) => match error.kind() {
+            IoErrorKind::OutOfMemory => Asked::Memory,
+            _ => {
+                let _ = rt.eprint(&"error: an argument is not UTF-8\n");
                 Asked::Nothing
             }
         },

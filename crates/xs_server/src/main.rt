@@ -22,7 +22,7 @@ mod serving;
 mod session;
 mod taken;
 
-use command_line::{Asked, read_words};
+use command_line::{Asked, read_command_line};
 use device::{FromRead, ToWrite};
 use report::{report_memory, report_script};
 use run::run_script;
@@ -30,14 +30,7 @@ use std::process::ExitCode;
 
 fn main(rt: HostRuntime) -> ExitCode {
     let mut errors = ToWrite::new(rt.stderr());
-    let asked = match std::env::args(&rt) {
-        Ok(words) => match words.collect::<Vec<String>>(rt.alloc()) {
-            Ok(words) => read_words(&rt, words.as_slice()),
-            Err(_) => Asked::Memory,
-        },
-        Err(_) => Asked::Memory,
-    };
-    let status = match asked {
+    let status = match read_command_line(&rt) {
         Asked::Script => {
             let mut reader = FromRead::new(rt.stdin());
             let mut writer = ToWrite::new(rt.stdout());

@@ -1,6 +1,7 @@
 use Rattle.std.proofs.Common.{◌++◌, ◌∷◌, [], ◌∙◌, refl}
 use Rattle.std.proofs.KnownBytes.{Consumes-nil, Appends-nil, Consumes-trans, Appends-trans}
 use Rattle.xs_keys.proofs.Contents.{content-none}
+use Rattle.xs_server.proofs.Sessions.{is-script}
 use Rattle.xs_server.proofs.run.run_script.Goals as goal
 
 pub lines-init : goal.lines-init
@@ -30,3 +31,6 @@ returns-in-Err-clause-runs g c =
     let inv = c.lines.invariant.0 in
     let more = c.in-Err.ensures.steps inv.0 inv.1 inv.2 inv.5 inv.6 in
     (inv.1 ++ more.0, inv.2 ++ more.1, Consumes-trans _ _ _ inv.1 more.0 inv.3 more.2, Appends-trans _ _ _ inv.2 more.1 inv.4 more.3, more.4)
+
+pub returns-in_default-clause-runs : goal.returns-in_default-clause-runs
+returns-in_default-clause-runs g c = ([], [], Consumes-nil _, Appends-nil _, ([], [], refl, (is-script [] [] [] (refl, refl), refl)))
