@@ -17,7 +17,7 @@ use Rattle.xs_server.specs.Line.{is_line_end, line_of}
 abbrev pub Follows : ℕ → List (ℕ × Command) → Command → Reply → List (ℕ × Command) → Type 0
 Follows now past command answer next =
     ((content : Content) × IsContent content past
-        × (answer ≡ reply content now command) × (next ≡ (now, command) ∷ past))
+    × (answer ≡ reply content now command) × (next ≡ (now, command) ∷ past))
     ⊎ ((takes_memory command ≡ true) × (answer ≡ Error Memory) × (next ≡ past))
 
 -- over a history, these script lines may be answered by this text, and leave that history
