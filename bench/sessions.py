@@ -1,13 +1,13 @@
 #!/usr/bin/env python3
 """Measures sessions over memory beside the script of the same commands and a real Redis 7.0.
 
-    sessions.py [--runs N]        by processor time; needs the toolchain, redis-server and cc
-    sessions.py --instructions    by instructions, of sessions and scripts; needs the toolchain and valgrind
+    sessions.py [--runs N] PROGRAM        by processor time; needs the toolchain, redis-server and cc
+    sessions.py --instructions PROGRAM    by instructions, of sessions and scripts; needs the toolchain and valgrind
 
 1,000,000 additions with one value of 60 bytes, and 1,000,000 PINGs. A session is `serve` over a keyspace alone, fed out
 of memory in pieces of 16 KiB and of 100 bytes; its replies go to nowhere. The program over it,
 bench/sessions/main.rt.txt, stands in a copy of the repository in the place of the one of xs_server. A script is read
-from a file, and its replies go to nowhere. Redis keeps nothing on disk and is fed over a Unix socket by bench/feed.c,
+by PROGRAM from a file, and its replies go to nowhere. Redis keeps nothing on disk and is fed over a Unix socket by bench/feed.c,
 whose own time isn't counted.
 """
 import argparse
@@ -27,10 +27,9 @@ COMMANDS = {"XADD": f"XADD s * f {bench.VALUE}", "PING": "PING"}
 class Programs:
     """What is measured, and the files that are read."""
 
-    def __init__(self, folder):
-        self.folder = folder
+    def __init__(self, folder, program):
+        self.folder, self.program = folder, program
         self.session = laid_down.replace(folder, os.path.join(laid_down.HERE, "sessions", "main.rt.txt"))
-        self.program = os.path.join(laid_down.TOP, "crates", "xs_server", "out", "xs_server")
         self.script = {name: os.path.join(folder, f"{name}.script") for name in COMMANDS}
         self.requests = {name: os.path.join(folder, f"{name}.requests") for name in COMMANDS}
         for name, command in COMMANDS.items():
@@ -92,9 +91,10 @@ def main():
     parser = argparse.ArgumentParser(description=__doc__, formatter_class=argparse.RawDescriptionHelpFormatter)
     parser.add_argument("--runs", type=int, default=5)
     parser.add_argument("--instructions", action="store_true")
+    parser.add_argument("program")
     asked = parser.parse_args()
     with tempfile.TemporaryDirectory() as folder:
-        programs = Programs(folder)
+        programs = Programs(folder, os.path.abspath(asked.program))
         if asked.instructions:
             by_instructions(programs)
         else:

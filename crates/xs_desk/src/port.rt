@@ -1,12 +1,14 @@
 //! What commands are asked of.
 use std::sync::Wait;
+use thiserror::Error;
 use xs_command::Command;
 use xs_resp::Reply;
 
 /// Why a port gave no reply.
-#[derive(Clone, Copy, Debug, PartialEq, Eq)]
+#[derive(Clone, Copy, Debug, PartialEq, Eq, Error)]
 pub enum PortFault {
     /// The keeper has stopped.
+    #[error("nobody answers any more")]
     Gone,
 }
 
@@ -26,7 +28,10 @@ pub trait Port {
     /// It has answered a fault.
     ghost gone: { Self → Bool };
 
-    /// Asks for the reply to one command.
+    /// Asks for the reply to one command. It may wait.
+    ///
+    /// # Errors
+    /// `Gone`, and the port is gone for good. The command may have been executed.
     fn ask<R: Wait>(&mut self, rt: &R, command: Command) -> Result<Reply, PortFault>
         requires { IsWellFormed command }
         ensures asked { MatchResult result

@@ -121,14 +121,25 @@ impl Requests {
 /// How many bytes of memory a buffer keeps that a great request made large.
 const KEPT: usize = 65_536;
 
-/// Moves the bytes from an index on to the front, where half of all is used up, gives back the
-/// memory that isn't needed any more, and tells how many bytes went.
+/// Fewer bytes than these aren't worth a move of those behind them.
+const FEW: usize = 4_096;
+
+/// Drops the bytes before an index and gives back the memory that isn't needed any more, where
+/// all bytes are used up, or half of them and not only a few. Tells how many bytes went.
 fn make_room(bytes: &mut Vec<u8>, start: usize) -> usize
     requires { start ≤ length bytes.old.items }
     ensures used { result ≤ start }
     ensures within { start - result ≤ length bytes.new.items }
     ensures rest { drop (start - result) bytes.new.items ≡ drop start bytes.old.items }
 {
+    if start == bytes.len() {
+        bytes.clear();
+        bytes.shrink_to(KEPT);
+        return start;
+    }
+    if start < FEW {
+        return 0;
+    }
     if start < bytes.len() - start {
         return 0;
     }

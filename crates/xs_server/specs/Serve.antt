@@ -44,16 +44,16 @@ EndsBy ending.Protocol rest exchanges sent =
 abbrev pub WriteFails : List ℕ → List Exchange → List ℕ → ℕ → Type 0
 WriteFails rest exchanges sent replies =
     ((before : List Exchange) × (last : Exchange) × (part : List ℕ) × (exchanges ≡ before ++ last ∷ [])
-        × WrittenTo before part sent replies × IsPart part (text last.answer))
+    × WrittenTo before part sent replies × IsPart part (text last.answer))
     ⊎ ((wrong : Wrong) × (part : List ℕ) × FaultIn rest wrong
-        × WrittenTo exchanges part sent replies × IsPart part (text (Error Protocol)))
+    × WrittenTo exchanges part sent replies × IsPart part (text (Error Protocol)))
 
 -- memory ran out between two requests, or for the text of the last answer
 abbrev pub MemoryFails : List Exchange → List ℕ → ℕ → Type 0
 MemoryFails exchanges sent replies =
     WrittenTo exchanges [] sent replies
     ⊎ ((before : List Exchange) × (last : Exchange) × (exchanges ≡ before ++ last ∷ [])
-        × WrittenTo before [] sent replies)
+    × WrittenTo before [] sent replies)
 
 -- a request behind the others was asked and not answered
 pub record PortFails {P : Type 0} (Fails : P → Command → P → Type 0) (last new : P) (rest : List ℕ) : Type 0 where

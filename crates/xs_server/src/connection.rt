@@ -71,7 +71,7 @@ pub fn exchange<W: Sink, P: Port, T: Wait>(
     requires { 0 < length words.now }
     ensures exchanges { (more : List ℕ) × Appends (W.held writer.old) (W.held writer.new) more
         × Exchanges P.replies P.fails result port.old port.new (bytes_of words.now) more
-            connection.old.replies connection.new.replies }
+        connection.old.replies connection.new.replies }
     ensures cause { (rest : Option (List ℕ)) (ended reader : Bool) (left : ℕ) →
         StepCause result rest ended reader (W.broken writer.new) (P.gone port.new) left }
     ensures inbox { connection.new.inbox ≡ connection.old.inbox }
@@ -124,9 +124,8 @@ pub fn take_in<R: Source>(
         × TakesIn result rest got connection.new.inbox connection.old.replies }
     ensures cause { (writer gone : Bool) →
         StepCause result (R.rest reader.new) (R.ended reader.new) (R.broken reader.new)
-            writer gone connection.new.left }
-    ensures counted {
-        capped (R.calls reader.new + connection.new.left) ≡ capped (R.calls reader.old + connection.old.left) }
+        writer gone connection.new.left }
+    ensures counted { capped (R.calls reader.new + connection.new.left) ≡ capped (R.calls reader.old + connection.old.left) }
     ensures replies { connection.new.replies ≡ connection.old.replies }
     ensures fuel { result ≡ Ok None → connection.new.left * 16385 + held_length connection.new.inbox
         < connection.old.left * 16385 + held_length connection.old.inbox }

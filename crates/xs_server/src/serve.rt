@@ -45,11 +45,10 @@ fn step<R: Source, W: Sink, P: Port, T: Wait>(
         (got more : List ℕ)
         × Consumes (R.rest reader.old) (R.rest reader.new) got × Appends (W.held writer.old) (W.held writer.new) more
         × Steps P.replies P.fails result old port.new (read ++ got) (sent ++ more)
-            connection.new.inbox connection.new.replies }
+        connection.new.inbox connection.new.replies }
     ensures cause { StepCause result (R.rest reader.new) (R.ended reader.new) (R.broken reader.new)
         (W.broken writer.new) (P.gone port.new) connection.new.left }
-    ensures counted {
-        capped (R.calls reader.new + connection.new.left) ≡ capped (R.calls reader.old + connection.old.left) }
+    ensures counted { capped (R.calls reader.new + connection.new.left) ≡ capped (R.calls reader.old + connection.old.left) }
     ensures fuel { result ≡ Ok None → connection.new.left * 16385 + held_length connection.new.inbox
         < connection.old.left * 16385 + held_length connection.old.inbox }
 {
@@ -70,7 +69,11 @@ fn step<R: Source, W: Sink, P: Port, T: Wait>(
     }
 }
 
-/// Serves a connection: each whole request is asked of the port, and its reply is written before the next is taken.
+/// Serves a connection: each whole request is asked of the port, in order, and its reply is written whole before the
+/// next request is taken. It reads on only where no request is whole.
+///
+/// # Errors
+/// A `ServeFault`, with the number of replies that were written whole. What was executed stays.
 pub fn serve<R: Source, W: Sink, P: Port, T: Wait>(
     rt: &T,
     alloc: Global,

@@ -24,7 +24,7 @@ pub fn serve_alone<R: Source, W: Sink, C: Clock + Drop, T: Wait>(
     ensures serves { (read sent : List ℕ)
         × Consumes (R.rest reader.old) (R.rest reader.new) read × Appends (W.held writer.old) (W.held writer.new) sent
         × ((served : Serves ⟦<Alone<C> as Port>⟧.replies ⟦<Alone<C> as Port>⟧.fails result
-            alone.old alone.new read sent)
+        alone.old alone.new read sent)
         × RunsAlone served.exchanges alone.old.keyspace alone.new.keyspace) }
     ensures model { (read sent : List ℕ)
         × Consumes (R.rest reader.old) (R.rest reader.new) read × Appends (W.held writer.old) (W.held writer.new) sent

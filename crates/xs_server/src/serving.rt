@@ -44,7 +44,7 @@ pub fn serve_line(
     requires { length line.now ≤ line_limit }
     ensures ok { IfOk result (λ _. (reply : Reply)
         × IsSomeAnd (line_of line.now)
-            (λ request. IsAnswer (StepAt request.0) keyspace.old request.1 reply keyspace.new)
+        (λ request. IsAnswer (StepAt request.0) keyspace.old request.1 reply keyspace.new)
         × (out.new.items ≡ out.old.items ++ text reply)) }
     ensures none { result ≡ Err Unanswered.NoLine → line_of line.now ≡ None }
     ensures err { OnErr result (out.new.items ≡ out.old.items) }

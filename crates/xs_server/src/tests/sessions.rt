@@ -107,7 +107,8 @@ impl<'a> Sink for Counted<'a> {
 
     fn write(&mut self, from: &[u8]) -> Result<usize, Failed> {
         let taken = self.held.write(from)?;
-        self.written.set(self.written.get().saturating_add(taken as u64));
+        self.written
+            .set(self.written.get().saturating_add(taken as u64));
         Ok(taken)
     }
 }
@@ -150,7 +151,11 @@ fn serves_whole_connections(rt: HostRuntime) -> Result<(), Fail> {
             let mut writer = Held::new(alloc, 0);
             let served = serve_alone(&rt, alloc, &mut reader, &mut writer, &mut new_alone(alloc));
             assert_eq!(rt; served, Ok(ending), "{input} cut at {cut}");
-            assert_eq!(rt; writer.bytes.as_slice(), output.as_bytes(), "{input} cut at {cut}");
+            assert_eq!(rt;
+                writer.bytes.as_slice(),
+                output.as_bytes(),
+                "{input} cut at {cut}"
+            );
         }
     }
     Ok(())
@@ -169,7 +174,10 @@ fn reads_on_once_all_is_answered(rt: HostRuntime) -> Result<(), Fail> {
     };
     let served = serve_alone(&rt, alloc, &mut reader, &mut writer, &mut new_alone(alloc));
     assert_eq!(rt; served, Ok(Ending::Closed));
-    assert_eq!(rt; writer.held.bytes.as_slice(), b"+PONG\r\n+PONG\r\n".as_slice());
+    assert_eq!(rt;
+        writer.held.bytes.as_slice(),
+        b"+PONG\r\n+PONG\r\n".as_slice()
+    );
     Ok(())
 }
 
@@ -199,7 +207,11 @@ fn tells_of_each_failed_write_of_a_reply(rt: HostRuntime) -> Result<(), Fail> {
             assert_eq!(rt; served, Err(ServeFault::Write { replies }), "write {at}");
             assert_eq!(rt; writer.bytes.len() as u64, at - 1, "write {at}");
             let told = format!(in alloc; ":{}\r\n", replies + 1)?;
-            assert_eq!(rt; told_length(&rt, alloc, &mut alone)?.as_slice(), told.as_bytes(), "write {at}");
+            assert_eq!(rt;
+                told_length(&rt, alloc, &mut alone)?.as_slice(),
+                told.as_bytes(),
+                "write {at}"
+            );
         }
     }
     Ok(())
