@@ -62,12 +62,12 @@ pub fn read_command_line(rt: &HostRuntime) -> Asked {
             Ok(words) => read_words(rt, words.as_slice()),
             Err(_) => Asked::Memory,
         },
-        Err(error) => match error.kind() {
-            IoErrorKind::OutOfMemory => Asked::Memory,
-            _ => {
-                let _ = rt.eprint(&"error: an argument is not UTF-8\n");
-                Asked::Nothing
+        Err(error) => {
+            if error.kind() == IoErrorKind::OutOfMemory {
+                return Asked::Memory;
             }
-        },
+            let _ = rt.eprint(&"error: an argument is not UTF-8\n");
+            Asked::Nothing
+        }
     }
 }
