@@ -15,9 +15,11 @@ test:
 	python3 conformance/run.py $(PROGRAM) script
 	python3 conformance/sessions.py --bytes 5000000
 
-# Runs the tests that say so with each allocation refused in turn. Needs cc.
+# Runs the tests that say so, and the worked cases, with each allocation refused in turn. Needs cc.
 refusals:
 	python3 conformance/refusals.py
+	test -x $(PROGRAM) || (cd crates/xs_server && rt run -- script < stdin)
+	python3 conformance/refused_scripts.py $(PROGRAM) script
 
 # Asks a real Redis 7.0 the worked cases too, but for those that are only ours, and then asks it and the program the same
 # 100,000 commands of streams and groups, made at random. Debian: apt-get install redis-server

@@ -46,7 +46,7 @@ def groups_of(lines):
 
 
 def questions(lines):
-    """Lines that ask for all that the keys hold, and last change a top and a cursor to show them."""
+    """Lines that ask for all that the keys hold; the last ones add and read, which shows tops and cursors."""
     keys, groups = keys_of(lines), groups_of(lines)
     for key in keys:
         yield f"9000 a XRANGE {key} - +"

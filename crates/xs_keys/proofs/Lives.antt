@@ -65,7 +65,6 @@ abbrev pub absent : List ℕ → List ReadOne → Bool
 absent key reads = list_any (λ one. is_name key one.key) reads
 
 not-read : (now : ℕ) (present : List Id) (read : ReadGroupCommand) (key : List ℕ) (reads : List ReadOne) (life : Option GroupLife) → absent key reads ≡ false → life_read now present read key reads life ≡ life
-unfolding absent
 not-read now present read key [] life e = refl
 not-read now present read key (one ∷ more) life e = by (is_name key one.key) e (λ f. not-read now present read key more life f) where
   by : (t : Bool) → (t || list_any (λ o. is_name key o.key) more) ≡ false → (list_any (λ o. is_name key o.key) more ≡ false → life_read now present read key more life ≡ life)
@@ -74,7 +73,6 @@ not-read now present read key (one ∷ more) life e = by (is_name key one.key) e
   by false f rest = rest f
 
 not-asked : (key : List ℕ) (reads : List ReadOne) → absent key reads ≡ false → list_any (λ one. is_name key one.key && is_new one.from) reads ≡ false
-unfolding absent
 not-asked key [] e = refl
 not-asked key (one ∷ more) e = by (is_name key one.key) e (λ f. not-asked key more f) where
   by : (t : Bool) → (t || list_any (λ o. is_name key o.key) more) ≡ false → (list_any (λ o. is_name key o.key) more ≡ false → list_any (λ o. is_name key o.key && is_new o.from) more ≡ false)
@@ -89,7 +87,6 @@ other-name key a k same differs = by (is_name key k) refl where
   by true e = absurd (false≢true (sym differs ∙ (bytes_eq-Decides a k).1 (sym (is_name-eq key a same) ∙ is_name-eq key k e)))
 
 pub others-absent : (key a : List ℕ) (more : List ReadOne) → is_name key a ≡ true → AllByRecursion (λ y. bytes_eq a y ≡ false) (keys_of more) → absent key more ≡ false
-unfolding absent
 others-absent key a [] same h = refl
 others-absent key a (one ∷ more) same h = rw (other-name key a one.key same h.0) (others-absent key a more same h.1)
 

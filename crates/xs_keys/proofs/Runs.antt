@@ -34,12 +34,15 @@ pub step-follows : (past : List (ℕ × Command)) (old new : Content) (now : ℕ
 step-follows past old new now command answer is (inl applied) = (
   (now, command) ∷ past,
   subst (λ c. IsContent c ((now, command) ∷ past)) (sym applied.content_is) (content-step past old now command is),
-  inl (record {
-        content = old;
-    left_by = is;
-    answer_is = applied.answer_is;
-    told = λ formed. subst (λ r. IsTold past now command r) (sym applied.answer_is) (is-told past old now command is formed);
-  }, refl),
+  inl (
+    record {
+      content = old;
+      left_by = is;
+      answer_is = applied.answer_is;
+      told = λ formed. subst (λ r. IsTold past now command r) (sym applied.answer_is) (is-told past old now command is formed);
+    },
+    refl,
+  ),
 )
 step-follows past old new now command answer is (inr refused) = (
   past,

@@ -1,13 +1,13 @@
 -- The replies to reads and claims tell what is delivered and taken, each entry as it was given.
-use Rattle.std.proofs.Common.{◌≡◌, ◌∙◌, ℕ, Bool, true, false, cond, ◌&&◌, ◌||◌, List, [], ◌∷◌, ◌++◌, Option, Some, None, is_some, filter, map, take, bytes_eq, sym, ap, subst, refl, zero, suc}
+use Rattle.std.proofs.Common.{◌≡◌, ◌∙◌, ℕ, Bool, true, false, cond, ◌&&◌, ◌||◌, List, [], ◌∷◌, Option, Some, None, is_some, filter, map, take, bytes_eq, sym, ap, refl, zero, suc}
 use Rattle.std.proofs.lemmas.Bool.{false≢true}
 use Rattle.std.specs.List.{flat_map, list_all, list_any, IsDistinct, AllByRecursion}
 use Rattle.std.specs.Option.{option_map_or}
-use Rattle.xs_bytes.specs.SortedMap.{get, insert}
+use Rattle.xs_bytes.specs.SortedMap.{get}
 use Rattle.xs_stream.specs.declared.id.Id.{Id}
 use Rattle.xs_stream.specs.declared.field.Field.{Field}
 use Rattle.xs_stream.specs.Id.{is_below, is_same, has_id}
-use Rattle.xs_stream.specs.Kept.{Kept, ids_of, fields_at, limited}
+use Rattle.xs_stream.specs.Kept.{ids_of, fields_at, limited}
 use Rattle.xs_stream.proofs.Entries.{ids_of-filter}
 use Rattle.xs_stream.proofs.Order.{is_same-eq, is_same-refl}
 use Rattle.xs_group.specs.State.{State, Row, is_name, delivers, shown}
@@ -22,15 +22,15 @@ use Rattle.xs_command.specs.declared.reads.ReadOne.{ReadOne}
 use Rattle.xs_command.specs.declared.reads.ReadFrom.{ReadFrom}
 use Rattle.xs_command.specs.declared.reads.ReadFrom.TheVariants.{New, After}
 use Rattle.xs_keys.specs.Life.{Change, key_life, given_in, live, stands, stream_of}
-use Rattle.xs_keys.specs.Turn.{Ask, cursor, rows, claim, auto_claim}
-use Rattle.xs_keys.specs.GroupLife.{GroupLife, group_life, group_of, present_in, is_new, asks_new, acts, delivered_by, read_ask}
+use Rattle.xs_keys.specs.Turn.{cursor, rows, claim, auto_claim}
+use Rattle.xs_keys.specs.GroupLife.{GroupLife, group_life, is_new, asks_new, acts, delivered_by, read_ask}
 use Rattle.xs_keys.specs.Content.{Content, Key, IsContent, IsGroup, GroupHolds, KeyHolds, group_in, entries_in, asked, serves}
-use Rattle.xs_keys.specs.Reply.{reply, array, id_reply, field_replies, entry_reply, entries_reply, part, new_part, shown_by, parts, array_or_null, taken_reply, scan_shown}
+use Rattle.xs_keys.specs.Reply.{reply, array, id_reply, field_replies, entry_reply, entries_reply, new_part, shown_by, parts, taken_reply, scan_shown}
 use Rattle.xs_keys.specs.Told.{given_at, TellsRead, TellsReads, taken_by, IsTold}
 use Rattle.xs_keys.proofs.IdLists.{has_id-where}
 use Rattle.xs_keys.proofs.Names.{is_name-refl}
 use Rattle.xs_keys.proofs.Contents.{no_life, asked-elsewhere, serves-known}
-use Rattle.xs_keys.proofs.Lives.{absent, others-absent}
+use Rattle.xs_keys.proofs.Lives.{others-absent}
 use Rattle.xs_keys.proofs.AskSteps.{said-of}
 
 and-first : (a b : Bool) → (a && b) ≡ true → a ≡ true
@@ -61,7 +61,7 @@ fields-kept p (e ∷ es) x h = by (p e.0) (is_same x e.0) refl refl (fields-kept
 entry-live : (changes : List Change) (x : Id) → has_id (ids_of (live changes)) x ≡ true → entry_reply (live changes) x ≡ entry_reply (given_in changes) x
 entry-live changes x h =
     let stays : stands changes x ≡ true = and-first (stands changes x) (has_id (ids_of (given_in changes)) x)
-        (sym (ap (λ ids. has_id ids x) (ids_of-filter (stands changes) (given_in changes)) ∙ has_id-where (stands changes) (ids_of (given_in changes)) x) ∙ h) in
+    (sym (ap (λ ids. has_id ids x) (ids_of-filter (stands changes) (given_in changes)) ∙ has_id-where (stands changes) (ids_of (given_in changes)) x) ∙ h) in
     ap (λ (fields : Option (List Field)). array (id_reply x ∷ option_map_or (λ fs. array (flat_map field_replies fs)) fields NullArray ∷ [])) (fields-kept (stands changes) (given_in changes) x stays)
 
 map-among : (f g : Id → Reply) (xs : List Id) → ((x : Id) → has_id xs x ≡ true → f x ≡ g x) → map f xs ≡ map g xs
@@ -230,8 +230,7 @@ told-reads c past now read is act (one ∷ more) next distinct open_all same ask
 
 pub is-told : (past : List (ℕ × Command)) (c : Content) (now : ℕ) (command : Command) → IsContent c past → IsWellFormed command → IsTold past now command (reply c now command)
 is-told past c now (ReadGroup read) is formed = λ act.
-    let served : serves c read ≡ true = serves-known read.reads c past read.group is ∙ act in
-    (
+    let served : serves c read ≡ true = serves-known read.reads c past read.group is ∙ act in (
       parts c now read read.reads,
       rw served refl,
       told-reads c past now read is act read.reads c formed.1 act (λ key among. refl) (λ key among. among),
@@ -241,14 +240,13 @@ is-told past c now (Claim command) is formed = λ is_open.
     rw (t.key_is, t.state_is) (told-claim c past now command.key command.group command.consumer command.rule command.ids t)
 is-told past c now (AutoClaim command) is formed = λ is_open.
     let t = there c past command.key command.group is is_open in
-    let found = scan_of t.state.rows.entries (ids_of t.key.stream.entries) now command.rule command.start command.limit in
-    (
+    let found = scan_of t.state.rows.entries (ids_of t.key.stream.entries) now command.rule command.start command.limit in (
       id_reply found.cursor,
       array (map id_reply found.claim.removed),
       said-of c command.key command.group t.key t.state t.key_is t.state_is
-      (λ entries g. scan_shown command.rule.just_id entries (scan_of g.rows.entries (ids_of entries) now command.rule command.start command.limit))
-      ∙ ap (λ taken. array (id_reply found.cursor ∷ taken ∷ array (map id_reply found.claim.removed) ∷ []))
-      (told-scan c past now command.key command.group command.consumer command.rule command.start command.limit t),
+          (λ entries g. scan_shown command.rule.just_id entries (scan_of g.rows.entries (ids_of entries) now command.rule command.start command.limit))
+          ∙ ap (λ taken. array (id_reply found.cursor ∷ taken ∷ array (map id_reply found.claim.removed) ∷ []))
+          (told-scan c past now command.key command.group command.consumer command.rule command.start command.limit t),
     )
 is-told past c now (Ping message) is formed = tt
 is-told past c now Quit is formed = tt

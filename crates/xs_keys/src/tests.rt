@@ -36,11 +36,17 @@ const DAY: [(&str, &str); 35] = [
     ("XGROUP CREATE k g 0 MKSTREAM", "+OK\r\n"),
     ("XGROUP CREATE l g 0 MKSTREAM", "+OK\r\n"),
     ("XGROUP CREATE m g $ MKSTREAM", "+OK\r\n"),
-    ("XGROUP CREATE k g 0", "-BUSYGROUP Consumer Group name already exists\r\n"),
+    (
+        "XGROUP CREATE k g 0",
+        "-BUSYGROUP Consumer Group name already exists\r\n",
+    ),
     ("XADD k 1-1 f v", "$3\r\n1-1\r\n"),
     ("XADD l 2-1 f v", "$3\r\n2-1\r\n"),
     ("XADD m 3-1 f v", "$3\r\n3-1\r\n"),
-    ("XREADGROUP GROUP g a STREAMS k l n > > >", "-NOGROUP No such key or consumer group\r\n"),
+    (
+        "XREADGROUP GROUP g a STREAMS k l n > > >",
+        "-NOGROUP No such key or consumer group\r\n",
+    ),
     (
         "XREADGROUP GROUP g a STREAMS k l m > > >",
         "*3\r\n\
@@ -61,14 +67,20 @@ const DAY: [(&str, &str); 35] = [
         "*4\r\n:1\r\n$3\r\n1-1\r\n$3\r\n1-1\r\n\
          *1\r\n*2\r\n$1\r\na\r\n$1\r\n1\r\n",
     ),
-    ("XPENDING k g - + 10", "*1\r\n*4\r\n$3\r\n1-1\r\n$1\r\na\r\n:0\r\n:2\r\n"),
+    (
+        "XPENDING k g - + 10",
+        "*1\r\n*4\r\n$3\r\n1-1\r\n$1\r\na\r\n:0\r\n:2\r\n",
+    ),
     ("XCLAIM k g b 0 1-1 JUSTID", "*1\r\n$3\r\n1-1\r\n"),
     (
         "XAUTOCLAIM l g b 0 - COUNT 5",
         "*3\r\n$3\r\n0-0\r\n*1\r\n*2\r\n$3\r\n2-1\r\n*2\r\n$1\r\nf\r\n$1\r\nv\r\n\
          *0\r\n",
     ),
-    ("XAUTOCLAIM m g b 0 -", "*3\r\n$3\r\n0-0\r\n*0\r\n*1\r\n$3\r\n3-1\r\n"),
+    (
+        "XAUTOCLAIM m g b 0 -",
+        "*3\r\n$3\r\n0-0\r\n*0\r\n*1\r\n$3\r\n3-1\r\n",
+    ),
     ("XGROUP CREATECONSUMER l g c", ":1\r\n"),
     ("XACK k g 1-1", ":1\r\n"),
     ("XGROUP DELCONSUMER l g b", ":1\r\n"),

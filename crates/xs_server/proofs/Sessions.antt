@@ -5,7 +5,6 @@ use Rattle.xs_resp.specs.declared.reply.Reply.{Reply}
 use Rattle.xs_resp.specs.ReplyText.{text}
 use Rattle.xs_command.specs.declared.command.Command.{Command}
 use Rattle.xs_keys.specs.Content.{Content, IsContent}
-use Rattle.xs_keys.specs.Headline.{Step}
 use Rattle.xs_server.specs.Device.{capped}
 use Rattle.xs_server.specs.Line.{line_of, script_lines, is_line_end, line_limit}
 use Rattle.xs_server.specs.Answering.{Answered, IsAnswer}
