@@ -12,7 +12,7 @@ def build(folder, name, below, words):
     """Lays down the crates below and the program NAME of bench/NAME/main.rt.txt, builds it by a run with these words,
     and gives its path."""
     lines = open(os.path.join(TOP, "crates.txt"), encoding="utf-8").read().splitlines()
-    kept = [line for line in lines if line.split(":")[0] in below]
+    kept = [line for line in lines if line.split(":")[0].split(" ")[0] in below]
     with open(os.path.join(folder, "crates.txt"), "w", encoding="utf-8") as out:
         out.write("\n".join([*kept, f"bench_{name}: {' '.join(below)}", ""]))
     for crate in below:
