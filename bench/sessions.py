@@ -7,8 +7,8 @@
 1,000,000 additions with one value of 60 bytes, and 1,000,000 PINGs. A session is `serve` over a keyspace alone, fed out
 of memory in pieces of 16 KiB and of 100 bytes; its replies go to nowhere. The program over it,
 bench/sessions/main.rt.txt, stands in a copy of the repository in the place of the one of xs_server. A script is read
-by PROGRAM from a file, and its replies go to nowhere. Redis keeps nothing on disk and is fed over a Unix socket by bench/feed.c,
-whose own time isn't counted.
+by PROGRAM from a file, and its replies go to nowhere. Of both the whole process is measured, its end included. Redis
+keeps nothing on disk and is fed over a Unix socket by bench/feed.c, whose own time isn't counted.
 """
 import argparse
 import os
@@ -16,12 +16,13 @@ import re
 import subprocess
 import tempfile
 
-import bench
 import laid_down
+from bench import VALUE
+from beside_redis import Redis, ratios, spread, take, write_part
 
 COUNT = 1_000_000
 SIZES = (16384, 100)
-COMMANDS = {"XADD": f"XADD s * f {bench.VALUE}", "PING": "PING"}
+COMMANDS = {"XADD": f"XADD s * f {VALUE}", "PING": "PING"}
 
 
 class Programs:
@@ -30,11 +31,9 @@ class Programs:
     def __init__(self, folder, program):
         self.folder, self.program = folder, program
         self.session = laid_down.replace(folder, os.path.join(laid_down.HERE, "sessions", "main.rt.txt"))
-        self.script = {name: os.path.join(folder, f"{name}.script") for name in COMMANDS}
-        self.requests = {name: os.path.join(folder, f"{name}.requests") for name in COMMANDS}
-        for name, command in COMMANDS.items():
-            bench.write_script(self.script[name], [command] * COUNT)
-            bench.write_requests(self.requests[name], [command] * COUNT)
+        self.parts = {name: write_part(folder, name, [command] * COUNT) for name, command in COMMANDS.items()}
+        feeder = os.path.join(laid_down.HERE, "feed.c")
+        subprocess.run(["cc", "-O2", "-o", os.path.join(folder, "feed"), feeder], check=True)
 
     def by_session(self, name, size):
         told, used = laid_down.run(self.session, name, str(size))
@@ -43,10 +42,17 @@ class Programs:
         return used.ru_utime + used.ru_stime, used.ru_maxrss * 1024
 
     def by_script(self, name):
-        return bench.run_here(self.program, self.script[name])[1:]
+        with open(self.parts[name].script, "rb") as script:
+            child = subprocess.Popen([self.program, "script"], stdin=script, stdout=subprocess.DEVNULL)
+            _, status, used = os.wait4(child.pid, 0)
+        child.returncode = os.waitstatus_to_exitcode(status)
+        if child.returncode != 0:
+            raise SystemExit(f"the program ended with status {child.returncode}")
+        return used.ru_utime + used.ru_stime, used.ru_maxrss * 1024
 
     def by_redis(self, name):
-        return bench.run_redis(self.requests[name], COUNT, self.folder)[1:]
+        taken = take(Redis(self.folder, False), None, self.parts[name])
+        return taken.used, taken.peak
 
 
 def works(programs):
@@ -66,8 +72,8 @@ def by_time(programs, runs):
     print("| Command | Who | Processor time in s | Peak in MiB | By script | By Redis |\n|---|---|---|---|---|---|")
     for (name, who), values in taken.items():
         times, peaks = zip(*values)
-        by = [bench.ratios(times, [value[0] for value in taken[name, other]]) for other in ("script", "Redis")]
-        print(f"| {name} | {who} | {bench.spread(times)} | {bench.spread(peaks, 2**20)} | {by[0]} | {by[1]} |")
+        by = [ratios(times, [value[0] for value in taken[name, other]]) for other in ("script", "Redis")]
+        print(f"| {name} | {who} | {spread(times)} | {max(peaks) / 2**20:.1f} | {by[0]} | {by[1]} |")
 
 
 def count(words, stdin=subprocess.DEVNULL):
@@ -79,7 +85,7 @@ def count(words, stdin=subprocess.DEVNULL):
 def by_instructions(programs):
     print("| Command | Who | Instructions a command | By script |\n|---|---|---|---|")
     for name in COMMANDS:
-        with open(programs.script[name], "rb") as script:
+        with open(programs.parts[name].script, "rb") as script:
             base = count([programs.program, "script"], script)
         print(f"| {name} | script | {base / COUNT:.0f} | 1.00 |", flush=True)
         for size in SIZES:
@@ -98,7 +104,6 @@ def main():
         if asked.instructions:
             by_instructions(programs)
         else:
-            bench.build_feeder(folder)
             by_time(programs, asked.runs)
 
 
