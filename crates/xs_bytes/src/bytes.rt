@@ -1,27 +1,42 @@
 //! A byte string: a name, a key, a value. A contract sees it as the list of its bytes.
-ghost use Rattle.std.specs.Prelude.{◌≡◌, length, IfOk, Some, nat_eq};
+ghost use Rattle.std.specs.Prelude.{◌≡◌, ◌∷◌, ◌++◌, length, IfOk, Some, nat_eq};
 ghost use Rattle.std.proofs.Common.{rules, refl};
 ghost use Rattle.std.specs.Ordering.{nat_cmp};
 ghost use Rattle.std.specs.Cmp.{partial_equiv_from_equiv, ties};
 ghost use Rattle.std.specs.Cmp.Rules.{comparing};
 ghost use Rattle.std.specs.Cmp.Lexicographic.{slice_cmp, pointwise, nat_list_eq_equiv, nat_list_cmp_total, texts_po};
 
+use crate::short::{ROOM, Short};
 use std::alloc::{AllocError, Global};
 use std::cmp::Ordering;
+use std::fmt::{self, Debug, Formatter};
 use std::marker::Model;
 
-/// A byte string. It owns its bytes, and keeps the allocator that they were made with.
-#[derive(Clone, Debug, Drop)]
+/// A byte string. It owns its bytes. A copy of 30 bytes or less takes no memory.
+#[derive(Drop)]
 pub struct Bytes {
-    items: Vec<u8>,
+    stored: Stored,
 }
+
+/// Where the bytes lie.
+#[derive(Drop)]
+pub(crate) enum Stored {
+    /// In the value itself.
+    Short(Short),
+    /// In memory of their own.
+    Long(Vec<u8>),
+}
+
+// No more than a vector and a tag, for which the room of short ones is chosen.
+const _: () = prove!(size_of::<Bytes>() == 32);
 
 impl Model for Bytes {
     ghost use Rattle.std.specs.Prelude.{List, ℕ};
+    ghost use Rattle.xs_bytes.specs.Stored.{stored_bytes};
 
     ghost Value = { List ℕ };
 
-    ghost view = { λ b. b.items.items };
+    ghost view = { λ b. stored_bytes b.stored };
 }
 
 impl Bytes {
@@ -29,35 +44,59 @@ impl Bytes {
     pub fn new(items: Vec<u8>) -> Self
         ensures { result ≡ items.items }
     {
-        Self { items }
+        Self {
+            stored: Stored::Long(items),
+        }
     }
 
     /// A copy of a slice, at its exact size.
     pub fn from_slice(alloc: Global, items: &[u8]) -> Result<Self, AllocError>
         ensures { IfOk result (λ b. b ≡ items.now) }
     {
-        let items = Vec::from_slice(alloc, items)?;
-        Ok(Self { items })
+        if items.len() <= ROOM {
+            let mut short = Short::new();
+            short.extend_from_slice(items);
+            return Ok(Self {
+                stored: Stored::Short(short),
+            });
+        }
+        Ok(Self::new(Vec::from_slice(alloc, items)?))
     }
 
-    /// Gives the bytes back. It takes no memory.
-    pub fn into_vec(self) -> Vec<u8>
-        ensures { result.items ≡ self }
+    /// A text, a byte, and a second text, at its exact size.
+    pub fn join(alloc: Global, first: &[u8], between: u8, second: &[u8]) -> Result<Self, AllocError>
+        ensures { IfOk result (λ b. b ≡ first.now ++ between ∷ second.now) }
     {
-        let Self { items } = self;
-        items
+        let len = first.len() + 1 + second.len();
+        if len <= ROOM {
+            let mut short = Short::new();
+            short.extend_from_slice(first);
+            short.extend_from_slice(&[between]);
+            short.extend_from_slice(second);
+            return Ok(Self {
+                stored: Stored::Short(short),
+            });
+        }
+        let mut items = Vec::with_capacity(alloc, len)?;
+        items.extend_from_slice(first)?;
+        items.push(between)?;
+        items.extend_from_slice(second)?;
+        Ok(Self::new(items))
     }
 
     pub fn as_slice(&self) -> &[u8]
         ensures { result.now ≡ self.now }
     {
-        self.items.as_slice()
+        match &self.stored {
+            Stored::Short(short) => short.as_slice(),
+            Stored::Long(items) => items.as_slice(),
+        }
     }
 
     pub fn len(&self) -> usize
         ensures { result ≡ length self.now }
     {
-        self.items.len()
+        self.as_slice().len()
     }
 }
 
@@ -67,7 +106,7 @@ impl PartialEq for Bytes {
     ghost laws = { partial_equiv_from_equiv nat_list_eq_equiv };
 
     fn eq(&self, other: &Bytes) -> bool {
-        self.items.as_slice() == other.items.as_slice()
+        self.as_slice() == other.as_slice()
     }
 }
 
@@ -95,6 +134,12 @@ impl Ord for Bytes {
     ghost matches_eq = { ties texts_po (λ a b. refl) };
 
     fn cmp(&self, other: &Bytes) -> Ordering {
-        self.items.as_slice().cmp(other.items.as_slice())
+        self.as_slice().cmp(other.as_slice())
+    }
+}
+
+impl Debug for Bytes {
+    fn fmt<W: fmt::Write>(&self, f: &mut Formatter<W>) -> fmt::Result {
+        self.as_slice().fmt(f)
     }
 }

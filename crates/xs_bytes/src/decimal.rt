@@ -1,9 +1,10 @@
 //! Decimal numbers in text.
-ghost use Rattle.std.specs.Prelude.{◌≡◌, ◌++◌, OnOk, OnErr, decimal};
+ghost use Rattle.std.specs.Prelude.{◌≡◌, ◌++◌, IfOk, OnOk, OnErr, decimal};
 ghost use Rattle.xs_bytes.specs.Number.{number_of, natural_of};
 
+use crate::bytes::Bytes;
 use itoa::Buffer;
-use std::alloc::AllocError;
+use std::alloc::{AllocError, Global};
 
 /// The number that a text of decimal digits spells, where it is below 2^64. Leading zeros are
 /// accepted. None for any other text, the empty one included.
@@ -40,4 +41,12 @@ pub fn push_decimal(out: &mut Vec<u8>, value: u64) -> Result<(), AllocError>
 {
     let mut buffer = Buffer::new();
     out.extend_from_slice(buffer.format(value).as_bytes())
+}
+
+/// The text of a number in decimal.
+pub fn decimal_text(alloc: Global, value: u64) -> Result<Bytes, AllocError>
+    ensures { IfOk result (λ text. text ≡ decimal value) }
+{
+    let mut buffer = Buffer::new();
+    Bytes::from_slice(alloc, buffer.format(value).as_bytes())
 }

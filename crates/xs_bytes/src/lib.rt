@@ -3,6 +3,7 @@
 
 pub mod bytes;
 pub mod decimal;
+mod short;
 
 pub use bytes::Bytes;
-pub use decimal::{natural, number, push_decimal};
+pub use decimal::{decimal_text, natural, number, push_decimal};

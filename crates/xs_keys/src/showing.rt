@@ -1,7 +1,6 @@
 //! What replies are made of: arrays, ids, entries.
 ghost use Rattle.std.specs.Prelude.{◌≡◌, [], ◌∷◌, IfOk, map};
 ghost use Rattle.std.specs.List.{flat_map};
-ghost use Rattle.xs_stream.specs.Id.{printed};
 ghost use Rattle.xs_resp.specs.ReplyItems.{items_of};
 ghost use Rattle.xs_keys.specs.Reply.{array, field_replies, id_reply, entry_reply, entries_reply, taken_reply};
 
@@ -9,18 +8,6 @@ use std::alloc::{AllocError, Global};
 use xs_bytes::Bytes;
 use xs_resp::{Replies, Reply};
 use xs_stream::{Field, Id, Stream};
-
-/// The longest text of an id: two numbers of twenty digits, and a dash.
-const ID_TEXT: usize = 41;
-
-/// The text of an id.
-pub fn id_text(alloc: Global, id: Id) -> Result<Bytes, AllocError>
-    ensures { IfOk result (λ text. text ≡ printed id) }
-{
-    let mut text = Vec::with_capacity(alloc, ID_TEXT)?;
-    id.write(&mut text)?;
-    Ok(Bytes::new(text))
-}
 
 /// An array of these replies.
 pub fn array_of(replies: Vec<Reply>) -> Reply
@@ -47,7 +34,7 @@ fn fields_shown(alloc: Global, fields: &[Field]) -> Result<Replies, AllocError>
 pub fn entry_shown(alloc: Global, stream: &Stream, id: Id) -> Result<Reply, AllocError>
     ensures { IfOk result (λ reply. reply ≡ entry_reply stream.now.entries id) }
 {
-    let text = Reply::Bulk(id_text(alloc, id)?);
+    let text = Reply::Bulk(id.text(alloc)?);
     let fields = match stream.get(id) {
         Some(fields) => Reply::Array(fields_shown(alloc, fields)?),
         None => Reply::NullArray,
@@ -73,7 +60,7 @@ pub fn ids_shown(alloc: Global, ids: &[Id]) -> Result<Reply, AllocError>
 {
     let mut items = Vec::with_capacity(alloc, ids.len())?;
     for id in ids {
-        let text = id_text(alloc, *id)?;
+        let text = id.text(alloc)?;
         items.push(Reply::Bulk(text))?;
     }
     Ok(array_of(items))

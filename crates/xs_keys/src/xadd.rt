@@ -11,7 +11,6 @@ ghost use Rattle.xs_keys.specs.Reply.{fault_of};
 ghost use Rattle.xs_keys.specs.Headline.{Step};
 
 use crate::keys::{Keys, Slot};
-use crate::showing::id_text;
 use std::alloc::Global;
 use std::collections::BTreeMap;
 use xs_bytes::Bytes;
@@ -38,7 +37,7 @@ fn try_add(
         Ok(id) => id,
         Err(error) => return Err(error),
     };
-    let Ok(text) = id_text(alloc, id) else {
+    let Ok(text) = id.text(alloc) else {
         return Err(AddError::Memory);
     };
     let Ok(fields) = add.fields.copy(alloc) else {

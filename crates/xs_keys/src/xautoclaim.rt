@@ -9,7 +9,7 @@ ghost use Rattle.xs_keys.specs.Reply.{scan_shown};
 ghost use Rattle.xs_keys.specs.Headline.{Step};
 
 use crate::keys::Keys;
-use crate::showing::{array_of, id_text, ids_shown, taken_shown};
+use crate::showing::{array_of, ids_shown, taken_shown};
 use std::alloc::{AllocError, Global};
 use xs_command::{AutoClaimCommand, Command};
 use xs_group::{Group, Scan};
@@ -25,7 +25,7 @@ fn scan_shown(
 ) -> Result<Reply, AllocError>
     ensures { IfOk result (λ reply. reply ≡ scan_shown just_id stream.now.entries scan.now) }
 {
-    let cursor = Reply::Bulk(id_text(alloc, scan.cursor)?);
+    let cursor = Reply::Bulk(scan.cursor.text(alloc)?);
     let taken = taken_shown(alloc, stream, just_id, scan.claim.take.as_slice())?;
     let removed = ids_shown(alloc, scan.claim.removed.as_slice())?;
     Ok(array_of(vec![in alloc; cursor, taken, removed]?))

@@ -1,5 +1,5 @@
 //! XPENDING.
-ghost use Rattle.std.specs.Prelude.{◌≡◌, decimal, map, IfOk};
+ghost use Rattle.std.specs.Prelude.{◌≡◌, map, IfOk};
 ghost use Rattle.std.specs.Option.{option_map_or};
 ghost use Rattle.xs_group.specs.Report as report;
 ghost use Rattle.xs_keys.specs.Codes.{content_of};
@@ -7,33 +7,20 @@ ghost use Rattle.xs_keys.specs.Reply.{array, array_or_null, id_reply, owner_repl
 ghost use Rattle.xs_keys.specs.Headline.{Step, StepAtAnyTime};
 
 use crate::keys::{Keys, group_at};
-use crate::showing::{array_of, id_text};
+use crate::showing::array_of;
 use std::alloc::{AllocError, Global};
-use xs_bytes::Bytes;
-use xs_bytes::decimal::push_decimal;
+use xs_bytes::{Bytes, decimal_text};
 use xs_command::{Command, PendingRowsCommand};
 use xs_group::{Group, GroupSummary, OwnerCount, PendingRow};
 use xs_resp::{Fault, Reply};
 use xs_stream::{Id, Moment};
-
-/// The longest text of a number.
-const NUMBER_TEXT: usize = 20;
-
-/// The text of a number.
-fn number_text(alloc: Global, number: u64) -> Result<Bytes, AllocError>
-    ensures { IfOk result (λ text. text ≡ decimal number) }
-{
-    let mut text = Vec::with_capacity(alloc, NUMBER_TEXT)?;
-    push_decimal(&mut text, number)?;
-    Ok(Bytes::new(text))
-}
 
 /// An id, or the null string where there is none.
 fn id_shown(alloc: Global, id: Option<Id>) -> Result<Reply, AllocError>
     ensures { IfOk result (λ reply. reply ≡ option_map_or id_reply id Reply.NullBulk) }
 {
     match id {
-        Some(id) => Ok(Reply::Bulk(id_text(alloc, id)?)),
+        Some(id) => Ok(Reply::Bulk(id.text(alloc)?)),
         None => Ok(Reply::NullBulk),
     }
 }
@@ -44,7 +31,7 @@ fn owner_shown(alloc: Global, owner: OwnerCount) -> Result<Reply, AllocError>
 {
     let OwnerCount { consumer, count } = owner;
     let name = Reply::Bulk(consumer);
-    let count = Reply::Bulk(number_text(alloc, count)?);
+    let count = Reply::Bulk(decimal_text(alloc, count)?);
     Ok(array_of(vec![in alloc; name, count]?))
 }
 
@@ -78,7 +65,7 @@ fn summary_shown(alloc: Global, summary: GroupSummary) -> Result<Reply, AllocErr
 fn row_shown(alloc: Global, row: PendingRow) -> Result<Reply, AllocError>
     ensures { IfOk result (λ reply. reply ≡ row_reply row) }
 {
-    let id = Reply::Bulk(id_text(alloc, row.id)?);
+    let id = Reply::Bulk(row.id.text(alloc)?);
     let name = Reply::Bulk(row.consumer);
     let idle = Reply::Int(row.idle);
     let count = Reply::Int(row.count);

@@ -1,11 +1,12 @@
 //! Entry ids (Redis Streams, "Entry IDs"): milliseconds and a sequence, in this order.
-ghost use Rattle.std.specs.Prelude.{◌≡◌, ◌<◌, ◌==◌, ◌++◌, IfSome, OnOk, OnErr, length, take, vec_len, position};
+ghost use Rattle.std.specs.Prelude.{◌≡◌, ◌<◌, ◌==◌, ◌++◌, IfOk, IfSome, OnOk, OnErr, length, take, vec_len, position};
 ghost use Rattle.xs_stream.specs.Id.{printed};
 ghost use Rattle.xs_stream.specs.IdText.{next_id, previous_id, id_number, parse_id};
 
-use std::alloc::AllocError;
+use itoa::Buffer;
+use std::alloc::{AllocError, Global};
 use std::marker::Model;
-use xs_bytes::{number, push_decimal};
+use xs_bytes::{Bytes, number, push_decimal};
 
 /// The id of an entry. Ids are ordered by milliseconds, then by sequence.
 #[derive(Clone, Copy, Debug, PartialEq, Eq, PartialOrd, Ord)]
@@ -95,6 +96,17 @@ impl Id {
                 Err(error)
             }
         }
+    }
+
+    /// The printed id.
+    pub fn text(&self, alloc: Global) -> Result<Bytes, AllocError>
+        ensures { IfOk result (λ text. text ≡ printed self.now) }
+    {
+        let mut ms = Buffer::new();
+        let mut seq = Buffer::new();
+        let ms = ms.format(self.ms).as_bytes();
+        let seq = seq.format(self.seq).as_bytes();
+        Bytes::join(alloc, ms, b'-', seq)
     }
 
     /// As `write`, but a refusal may leave a part behind.
