@@ -48,7 +48,7 @@ pub(crate) fn owner_counts(
     requires ordered { IsOrdered (slice_cmp nat_cmp) owners.now }
     ensures { IfOk result (λ counts. counts.items ≡ owners_told (names_of owners.now.entries) (rows_of _rows.now.entries)) }
 {
-    let mut counts = Vec::new(alloc);
+    let mut counts = Vec::with_capacity(alloc, owners.len())?;
     for (name, ids) in owners {
         let count = ids.len() as u64;
         if count == 0 {

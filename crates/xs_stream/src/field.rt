@@ -6,7 +6,7 @@ use std::marker::Model;
 use xs_bytes::Bytes;
 
 /// A field of an entry. Names may repeat within an entry, and may be empty, as values may.
-#[derive(Clone, Debug, Drop)]
+#[derive(Debug, Drop)]
 pub struct Field {
     pub name: Bytes,
     pub value: Bytes,

@@ -21,7 +21,7 @@ loop-name-init c =
     let is = c.into_iter-name-iterator.ensures.into_iter_gives.0 in
     record {
       held = subst (AreHeld owners.entries) (sym is) (held-all owners c.requires.ordered);
-      counted = λ i. c.new-counts.ensures.items i ++ told rows (is i);
+      counted = λ i. c.in_ok-counts.ensures.items i ++ told rows (is i);
     }
 
 pub loop-name-preserved-then-count-eq0 : goal.loop-name-preserved-then-count-eq0
