@@ -1,13 +1,14 @@
 //! Whether a key stands among words twice.
-ghost use Rattle.std.specs.Prelude.{◌≡◌, IfOk, map};
+ghost use Rattle.std.specs.Prelude.{◌≡◌, IfOk};
 ghost use Rattle.xs_command.specs.Streams.{is_distinct};
 
 use std::alloc::{AllocError, Global};
 use std::collections::BTreeSet;
+use xs_bytes::Bytes;
 
 /// Whether no key stands there a second time.
-pub(crate) fn is_distinct(alloc: Global, keys: &[Vec<u8>]) -> Result<bool, AllocError>
-    ensures { IfOk result (λ answer. answer ≡ is_distinct (map (λ key. key.items) keys.now)) }
+pub(crate) fn is_distinct(alloc: Global, keys: &[Bytes]) -> Result<bool, AllocError>
+    ensures { IfOk result (λ answer. answer ≡ is_distinct keys.now) }
 {
     let mut seen = BTreeSet::new(alloc);
     for key in keys {

@@ -1,5 +1,5 @@
 //! From words to a command.
-ghost use Rattle.std.specs.Prelude.{◌<◌, IfOk, length, map};
+ghost use Rattle.std.specs.Prelude.{◌<◌, IfOk, length};
 ghost use Rattle.xs_command.specs.Words.{Gives};
 ghost use Rattle.xs_command.specs.WellFormed.{IsWellFormed};
 ghost use Rattle.xs_command.specs.Read.{reads, syntax};
@@ -13,13 +13,14 @@ use crate::{
     xtrim,
 };
 use std::alloc::Global;
+use xs_bytes::Bytes;
 use xs_resp::Fault;
 
 /// The command that the words of a request spell, or their first fault from left to right. Each
 /// word that the command keeps is copied. A refusal for memory says nothing of the words.
-pub fn read_command(alloc: Global, words: &[Vec<u8>]) -> Result<Command, Refusal>
+pub fn read_command(alloc: Global, words: &[Bytes]) -> Result<Command, Refusal>
     requires { 0 < length words.now }
-    ensures exact { Gives result (reads (map (λ word. word.items) words.now)) }
+    ensures exact { Gives result (reads words.now) }
     ensures formed { IfOk result IsWellFormed }
 {
     read_words(alloc, &Words::new(words))

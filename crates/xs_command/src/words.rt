@@ -1,5 +1,5 @@
 //! The words of a request, read one after the other.
-ghost use Rattle.std.specs.Prelude.{◌≡◌, ◌<◌, ◌≤◌, ◌^◌, IfOk, length, map, take, drop};
+ghost use Rattle.std.specs.Prelude.{◌≡◌, ◌<◌, ◌≤◌, ◌^◌, IfOk, length, take, drop};
 ghost use Rattle.xs_command.specs.Words.{is_word, word, behind_sign};
 ghost use Rattle.xs_command.specs.Streams.{is_distinct};
 
@@ -50,20 +50,20 @@ impl<'a> Word<'a> {
 /// The words that are still to be read. A contract sees the list of them.
 #[derive(Drop)]
 pub(crate) struct Words<'a> {
-    rest: &'a [Vec<u8>],
+    rest: &'a [Bytes],
 }
 
 impl<'a> Model for Words<'a> {
-    ghost use Rattle.std.specs.Prelude.{List, ℕ, map};
+    ghost use Rattle.std.specs.Prelude.{List, ℕ};
 
     ghost Value = { List (List ℕ) };
 
-    ghost view = { λ w. map (λ v. v.items) w.rest.now };
+    ghost view = { λ w. w.rest.now };
 }
 
 impl<'a> Words<'a> {
-    pub(crate) fn new(rest: &'a [Vec<u8>]) -> Self
-        ensures { result ≡ map (λ v. v.items) rest.now }
+    pub(crate) fn new(rest: &'a [Bytes]) -> Self
+        ensures { result ≡ rest.now }
     {
         Self { rest }
     }

@@ -4,6 +4,7 @@ ghost use Rattle.xs_command.specs.WellFormed.{IsWellFormed};
 use super::*;
 use std::alloc::{AllocError, Global};
 use std::test::Fail;
+use xs_bytes::Bytes;
 use xs_command::{Command, Refusal, read_command};
 use xs_resp::{Fault, Reply, Simple, encode};
 use xs_stream::Moment;
@@ -93,7 +94,7 @@ fn read(alloc: Global, line: &str) -> Result<Command, Refusal>
 {
     let mut words = Vec::new(alloc);
     for word in line.split(' ') {
-        words.push(Vec::from_slice(alloc, word.as_bytes())?)?;
+        words.push(Bytes::from_slice(alloc, word.as_bytes())?)?;
     }
     let words = words.as_slice();
     if words.is_empty() {

@@ -8,7 +8,6 @@ pub mod Part
 pub mod Header
 pub mod Reading
 pub mod Faulting
-pub mod Bytes
 pub mod Progress
 pub mod Held
 pub mod Line

@@ -6,6 +6,7 @@ use crate::header::{Part, read_header};
 use crate::word::{read_word, rest_of};
 use crate::words::Words;
 use std::alloc::{AllocError, Global};
+use xs_bytes::Bytes;
 
 /// Copies the words of the request at the front, each at its exact size.
 pub fn words_of(alloc: Global, bytes: &[u8]) -> Result<Words, AllocError>
@@ -25,7 +26,7 @@ fn copy_words(alloc: Global, bytes: &[u8], number: usize) -> Result<Words, Alloc
     let mut rest = bytes;
     for _i in 0..number {
         let span = read_word(rest).unwrap().unwrap();
-        copies.push(Vec::from_slice(alloc, &rest[span.start..span.end])?)?;
+        copies.push(Bytes::from_slice(alloc, &rest[span.start..span.end])?)?;
         rest = rest_of(rest, span.end + 2);
     }
     Ok(Words::new(copies))

@@ -1,43 +1,42 @@
 //! The words of a request.
-ghost use Rattle.std.specs.Prelude.{◌≡◌, ◌==◌, length, map};
-ghost use Rattle.xs_resp.specs.Bytes.{bytes_of};
+ghost use Rattle.std.specs.Prelude.{◌≡◌, ◌==◌, length};
 
 use std::marker::Model;
+use xs_bytes::Bytes;
 
 /// The words of a request. A contract sees the list of their bytes.
 #[derive(Debug, Drop)]
 pub struct Words {
-    items: Vec<Vec<u8>>,
+    items: Vec<Bytes>,
 }
 
 impl Model for Words {
     ghost use Rattle.std.specs.Prelude.{List, ℕ};
-    ghost use Rattle.xs_resp.specs.Bytes.{bytes_of};
 
     ghost Value = { List (List ℕ) };
 
-    ghost view = { λ w. bytes_of w.items.items };
+    ghost view = { λ w. w.items.items };
 }
 
 impl Words {
     /// The words of a request. It takes no memory.
-    pub fn new(items: Vec<Vec<u8>>) -> Self
-        ensures { result ≡ bytes_of items.items }
+    pub fn new(items: Vec<Bytes>) -> Self
+        ensures { result ≡ items.items }
     {
         Self { items }
     }
 
     /// Gives the words back. It takes no memory.
-    pub fn into_vec(self) -> Vec<Vec<u8>>
-        ensures { bytes_of result.items ≡ self }
+    pub fn into_vec(self) -> Vec<Bytes>
+        ensures { result.items ≡ self }
     {
         let Self { items } = self;
         items
     }
 
     /// The words, in order.
-    pub fn as_slice(&self) -> &[Vec<u8>]
-        ensures { bytes_of result.now ≡ self.now }
+    pub fn as_slice(&self) -> &[Bytes]
+        ensures { result.now ≡ self.now }
     {
         self.items.as_slice()
     }

@@ -1,6 +1,5 @@
 //! The answer to the words of a request: their command is asked of a port.
 ghost use Rattle.std.specs.Prelude.{◌≡◌, ◌<◌, true, Option, IfOk, OnErr, Ok, length};
-ghost use Rattle.xs_resp.specs.Bytes.{bytes_of};
 ghost use Rattle.xs_command.specs.declared.command.Command.{Command};
 ghost use Rattle.xs_command.specs.Read.{reads};
 ghost use Rattle.xs_server.specs.Answering.{Answered};
@@ -8,6 +7,7 @@ ghost use Rattle.xs_server.specs.Exchange.{is_quit};
 
 use std::alloc::Global;
 use std::sync::Wait;
+use xs_bytes::Bytes;
 use xs_command::{Command, Refusal, read_command};
 use xs_desk::{Port, PortFault};
 use xs_resp::{Fault, Reply};
@@ -24,13 +24,13 @@ pub fn answer<P: Port, T: Wait>(
     rt: &T,
     alloc: Global,
     port: &mut P,
-    words: &[Vec<u8>],
+    words: &[Bytes],
 ) -> Result<Said, PortFault>
     requires { 0 < length words.now }
     ensures ok { IfOk result (λ said. (asked : Option Command)
-        × Answered P.replies port.old (bytes_of words.now) asked said.reply port.new
+        × Answered P.replies port.old words.now asked said.reply port.new
         × (said.quits ≡ is_quit asked)) }
-    ensures err { OnErr result ((command : Command) × (reads (bytes_of words.now) ≡ Ok command)
+    ensures err { OnErr result ((command : Command) × (reads words.now ≡ Ok command)
         × P.fails port.old command port.new × (P.gone port.new ≡ true)) }
 {
     match read_command(alloc, words) {

@@ -1,7 +1,6 @@
 //! A connection while it is served.
 ghost use Rattle.std.specs.Prelude.{◌≡◌, ◌≢◌, ◌<◌, ◌+◌, ◌*◌, None, Bool, ℕ, List, Option, Ok, length};
 ghost use Rattle.std.specs.Io.KnownBytes.{Appends, Consumes, IsAtEnd};
-ghost use Rattle.xs_resp.specs.Bytes.{bytes_of};
 ghost use Rattle.xs_resp.specs.Held.{held_length};
 ghost use Rattle.xs_resp.specs.ReplyText.{text};
 ghost use Rattle.xs_server.specs.Device.{capped};
@@ -14,6 +13,7 @@ use crate::inbox::{FillFault, Inbox};
 use crate::sending::write_all;
 use std::alloc::Global;
 use std::sync::Wait;
+use xs_bytes::Bytes;
 use xs_desk::Port;
 use xs_resp::{Fault, Reply, encode};
 
@@ -66,11 +66,11 @@ pub fn exchange<W: Sink, P: Port, T: Wait>(
     writer: &mut W,
     port: &mut P,
     connection: &mut Connection,
-    words: &[Vec<u8>],
+    words: &[Bytes],
 ) -> Result<Option<Ending>, ServeFault>
     requires { 0 < length words.now }
     ensures exchanges { (more : List ℕ) × Appends (W.held writer.old) (W.held writer.new) more
-        × Exchanges P.replies P.fails result port.old port.new (bytes_of words.now) more
+        × Exchanges P.replies P.fails result port.old port.new words.now more
         connection.old.replies connection.new.replies }
     ensures cause { (rest : Option (List ℕ)) (ended reader : Bool) (left : ℕ) →
         StepCause result rest ended reader (W.broken writer.new) (P.gone port.new) left }

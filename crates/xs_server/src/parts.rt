@@ -1,11 +1,11 @@
 //! What a line of a script says.
-ghost use Rattle.std.specs.Prelude.{◌≡◌, ◌<◌, ◌≤◌, ◌∷◌, length, map, IfOk, IfSome};
+ghost use Rattle.std.specs.Prelude.{◌≡◌, ◌<◌, ◌≤◌, ◌∷◌, length, IfOk, IfSome};
 ghost use Rattle.std.specs.Option.{option_map, option_copied};
 ghost use Rattle.xs_server.specs.Line.{parts_of, parts_behind, full_parts, moment_of, line_of, line_limit};
 
 use memchr::memchr;
 use std::alloc::{AllocError, Global};
-use xs_bytes::natural;
+use xs_bytes::{Bytes, natural};
 use xs_stream::Moment;
 
 /// The part before the first space, and what stands behind it.
@@ -20,8 +20,8 @@ fn split_space(text: &[u8]) -> (&[u8], Option<&[u8]>)
 }
 
 /// The parts of a text between spaces, where none is empty.
-fn words_of(alloc: Global, text: &[u8]) -> Result<Option<Vec<Vec<u8>>>, AllocError>
-    ensures { IfOk result (λ words. option_map (λ w. map (λ word. word.items) w.items) words
+fn words_of(alloc: Global, text: &[u8]) -> Result<Option<Vec<Bytes>>, AllocError>
+    ensures { IfOk result (λ words. option_map (λ w. w.items) words
         ≡ full_parts (parts_of text.now)) }
 {
     let mut words = Vec::new(alloc);
@@ -31,7 +31,7 @@ fn words_of(alloc: Global, text: &[u8]) -> Result<Option<Vec<Vec<u8>>>, AllocErr
         if word.is_empty() {
             return Ok(None);
         }
-        words.push(Vec::from_slice(alloc, word)?)?;
+        words.push(Bytes::from_slice(alloc, word)?)?;
         left = rest;
     }
     Ok(Some(words))
@@ -45,9 +45,9 @@ fn moment(text: &[u8]) -> Option<Moment>
 }
 
 /// The moment and the words of a script line, or None where it is no script line.
-pub fn read_line(alloc: Global, line: &[u8]) -> Result<Option<(Moment, Vec<Vec<u8>>)>, AllocError>
+pub fn read_line(alloc: Global, line: &[u8]) -> Result<Option<(Moment, Vec<Bytes>)>, AllocError>
     requires { length line.now ≤ line_limit }
-    ensures { IfOk result (λ read. option_map (λ r. (r.0, map (λ word. word.items) r.1.items)) read ≡ line_of line.now) }
+    ensures { IfOk result (λ read. option_map (λ r. (r.0, r.1.items)) read ≡ line_of line.now) }
 {
     let (first, behind) = split_space(line);
     let Some(client) = behind else {

@@ -1,5 +1,5 @@
 //! One request: its words are read, its command is applied, and its reply is written.
-ghost use Rattle.std.specs.Prelude.{◌≡◌, ◌<◌, ◌≤◌, ◌++◌, None, length, map, OnErr, IfOk, Err, IsSomeAnd};
+ghost use Rattle.std.specs.Prelude.{◌≡◌, ◌<◌, ◌≤◌, ◌++◌, None, length, OnErr, IfOk, Err, IsSomeAnd};
 ghost use Rattle.xs_resp.specs.declared.reply.Reply.{Reply};
 ghost use Rattle.xs_resp.specs.ReplyText.{text};
 ghost use Rattle.xs_server.specs.Line.{line_of, line_limit};
@@ -8,6 +8,7 @@ ghost use Rattle.xs_server.specs.Serving.{StepAt};
 
 use crate::parts::read_line;
 use std::alloc::Global;
+use xs_bytes::Bytes;
 use xs_command::{Refusal, read_command};
 use xs_keys::Keyspace;
 use xs_resp::{Fault, Reply, encode};
@@ -23,9 +24,9 @@ pub enum Unanswered {
 }
 
 /// Answers the words of a request at a moment.
-fn answer(alloc: Global, keyspace: &mut Keyspace, now: Moment, words: &[Vec<u8>]) -> Reply
+fn answer(alloc: Global, keyspace: &mut Keyspace, now: Moment, words: &[Bytes]) -> Reply
     requires { 0 < length words.now }
-    ensures { IsAnswer (StepAt now) keyspace.old (map (λ word. word.items) words.now) result keyspace.new }
+    ensures { IsAnswer (StepAt now) keyspace.old words.now result keyspace.new }
 {
     match read_command(alloc, words) {
         Ok(command) => keyspace.apply(now, &command),

@@ -1,13 +1,14 @@
 //! Requests from lines of text: words that spaces divide, `""` for the empty word.
 use crate::{Command, Refusal, read_command};
 use std::alloc::{AllocError, Global};
+use xs_bytes::Bytes;
 use xs_resp::Fault;
 
-fn words_of(alloc: Global, line: &str) -> Result<Vec<Vec<u8>>, AllocError> {
+fn words_of(alloc: Global, line: &str) -> Result<Vec<Bytes>, AllocError> {
     let mut words = Vec::new(alloc);
     for piece in line.split(' ') {
         let word = if piece == "\"\"" { "" } else { piece };
-        words.push(Vec::from_slice(alloc, word.as_bytes())?)?;
+        words.push(Bytes::from_slice(alloc, word.as_bytes())?)?;
     }
     Ok(words)
 }

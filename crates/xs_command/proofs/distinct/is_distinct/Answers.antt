@@ -1,19 +1,16 @@
-use Rattle.std.proofs.Common.{◌≡◌, ℕ, ◌+◌, ◌<◌, List, [], ◌∷◌, ◌++◌, length, map, take, get_or, refl, sym, ap, ◌∙◌, bytes_eq, Bor, Vec, Global}
+use Rattle.std.proofs.Common.{◌≡◌, ℕ, ◌+◌, ◌<◌, List, [], ◌∷◌, ◌++◌, length, take, get_or, refl, sym, ap, ◌∙◌, bytes_eq, Bor}
 use Rattle.std.specs.List.{list_any}
 use Rattle.std.specs.Ordering.{nat_cmp, is_eq}
 use Rattle.std.specs.Cmp.Lexicographic.{slice_cmp}
-use Rattle.std.proofs.lemmas.List.{take_more, take-map, map_push}
+use Rattle.std.proofs.lemmas.List.{take_more}
 use Rattle.std.proofs.lemmas.Map.Text.{is_eq-slice_cmp}
 use Rattle.xs_command.specs.Streams.{is_distinct}
 use Rattle.xs_command.proofs.DistinctKeys.{found_again, is_new, has_more, was_there, was_new}
 use Rattle.xs_command.proofs.distinct.is_distinct.Goals as goal
 
-abbrev texts : List (Vec ℕ Global) → List (List ℕ)
-texts keys = map (λ key. key.items) keys
-
--- the texts up to this key
-texts_more : (keys : List (Vec ℕ Global)) (i : ℕ) (key : Vec ℕ Global) → i < length keys → key ≡ get_or keys i key → texts (take (i + 1) keys) ≡ texts (take i keys) ++ key.items ∷ []
-texts_more keys i key h is = ap texts (take_more keys i key h ∙ ap (λ k. take i keys ++ k ∷ []) (sym is)) ∙ map_push (λ key. key.items) (take i keys) key
+-- the keys up to this one
+keys_more : (keys : List (List ℕ)) (i : ℕ) (key : List ℕ) → i < length keys → key ≡ get_or keys i key → take (i + 1) keys ≡ take i keys ++ key ∷ []
+keys_more keys i key h is = take_more keys i key h ∙ ap (λ k. take i keys ++ k ∷ []) (sym is)
 
 pub loop-key-init : goal.loop-key-init
 unfolding is_distinct
@@ -24,19 +21,19 @@ returns-then-not-branch c =
     let keys = c.args.keys.now in
     let i = c.loop-key.key-index in
     let key = c.key-item.result in
-    let more = texts_more keys i key c.loop-key-test.true c.key-item.is in
+    let more = keys_more keys i key c.loop-key-test.true c.key-item.is in
     let there = was_there _ _ c.in_ok-insert.ensures.added c.if-not-branch.true in
-    let among = ap (λ t. list_any (bytes_eq t) (texts (take i keys))) (sym c.as_slice.ensures.value) ∙ sym (c.loop-key.invariant.1 c.as_slice.result) ∙ there in
-    found_again (texts keys) (i + 1) (texts (take i keys)) key.items (take-map (λ key. key.items) (i + 1) keys ∙ more) among
+    let among = ap (λ t. list_any (bytes_eq t) (take i keys)) (sym c.as_slice.ensures) ∙ sym (c.loop-key.invariant.1 c.as_slice.result) ∙ there in
+    found_again keys (i + 1) (take i keys) key more among
 
 pub loop-key-preserved : goal.loop-key-preserved
 loop-key-preserved c =
     let keys = c.args.keys.now in
     let i = c.loop-key.key-index in
     let key = c.key-item.result in
-    let more = texts_more keys i key c.loop-key-test.true c.key-item.is in
+    let more = keys_more keys i key c.loop-key-test.true c.key-item.is in
     let absent = was_new _ _ c.in_ok-insert.ensures.added c.if-not-branch.false in
-    let apart = ap (λ t. list_any (bytes_eq t) (texts (take i keys))) (sym c.as_slice.ensures.value) ∙ sym (c.loop-key.invariant.1 c.as_slice.result) ∙ absent in (
-      rw more (is_new (texts (take i keys)) key.items c.loop-key.invariant.0 apart),
-      λ q. c.in_ok-insert.ensures.updates.0 q ∙ has_more (texts (take i keys)) key.items q.now _ _ (is_eq-slice_cmp c.as_slice.result.now q.now ∙ ap (λ t. bytes_eq t q.now) c.as_slice.ensures.value) (c.loop-key.invariant.1 q) ∙ ap (list_any (bytes_eq q.now)) (sym more),
+    let apart = ap (λ t. list_any (bytes_eq t) (take i keys)) (sym c.as_slice.ensures) ∙ sym (c.loop-key.invariant.1 c.as_slice.result) ∙ absent in (
+      rw more (is_new (take i keys) key c.loop-key.invariant.0 apart),
+      λ q. c.in_ok-insert.ensures.updates.0 q ∙ has_more (take i keys) key q.now _ _ (is_eq-slice_cmp c.as_slice.result.now q.now ∙ ap (λ t. bytes_eq t q.now) c.as_slice.ensures) (c.loop-key.invariant.1 q) ∙ ap (list_any (bytes_eq q.now)) (sym more),
     )

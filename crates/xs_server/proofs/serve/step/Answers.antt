@@ -1,7 +1,6 @@
 use Rattle.std.proofs.Common.{◌≡◌, ℕ, ◌<◌, ◌==◌, Bool, true, false, List, ◌∷◌, [], length, drop, refl, sym, ap, ◌∙◌, subst, arith}
 use Rattle.std.proofs.lemmas.List.{append-nil}
 use Rattle.std.proofs.KnownBytes.{Consumes-nil, Appends-nil}
-use Rattle.xs_resp.specs.Bytes.{bytes_of}
 use Rattle.xs_resp.specs.Held.{held_length}
 use Rattle.xs_resp.proofs.Nexts.{next-words, next-none, next-same, next-fault, next-shorter}
 use Rattle.xs_server.proofs.Connections.{stands-empty, exchanged, took-in, refused}
@@ -32,7 +31,7 @@ pub returns-else-is_empty-clause-steps : goal.returns-else-is_empty-clause-steps
 returns-else-is_empty-clause-steps g c = λ old read sent rest is stands.
     let next = rw c.in-Ok-Some.field-0-is at c.in-Ok-Some.ensures in
     let n = next-words c.args.connection.now.inbox rest c.in-Ok-Some.words c.next.new.self is next in
-    let words = bytes_of c.as_slice.result.now in
+    let words = c.as_slice.result.now in
     let same : c.in-Ok-Some.words ≡ words = sym c.as_slice.ensures in
     let some = subst (λ (w : List (List ℕ)). 0 < length w) same (some-words c.in-Ok-Some.words c.is_empty.result c.is_empty.ensures c.if-is_empty.false) in
     let ex = c.exchange.ensures.exchanges in
