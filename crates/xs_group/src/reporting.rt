@@ -74,6 +74,9 @@ fn told(alloc: Global, now: Moment, id: Id, entry: &Entry) -> Result<PendingRow,
     })
 }
 
+/// The room for rows that is taken at once, where so many are asked for.
+const FIRST_ROOM: u64 = 16;
+
 /// The rows in a range that isn't empty that are idle for long enough, at most this many.
 pub(crate) fn rows_within(
     alloc: Global,
@@ -86,7 +89,7 @@ pub(crate) fn rows_within(
     requires { is_below range.high range.low ≡ false }
     ensures { IfOk result (λ found. found.items ≡ rows_told range min_idle now limit rows.now.entries) }
 {
-    let mut found = Vec::new(alloc);
+    let mut found = Vec::with_capacity(alloc, FIRST_ROOM.min(limit) as usize)?;
     let within = rows.range((Bound::Included(range.low), Bound::Included(range.high)));
     for (id, entry) in within {
         if found.len() as u64 >= limit {
@@ -113,7 +116,7 @@ pub(crate) fn rows_of_ids(
     requires { is_below range.high range.low ≡ false }
     ensures { IfOk result (λ found. found.items ≡ rows_told range min_idle now limit (rows_among rows.now.entries ids.now.keys)) }
 {
-    let mut found = Vec::new(alloc);
+    let mut found = Vec::with_capacity(alloc, FIRST_ROOM.min(limit) as usize)?;
     let within = ids.range((Bound::Included(range.low), Bound::Included(range.high)));
     for id in within {
         if found.len() as u64 >= limit {

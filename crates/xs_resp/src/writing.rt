@@ -52,10 +52,21 @@ fn write_items(items: &Replies, out: &mut Vec<u8>) -> Result<(), AllocError>
     Ok(())
 }
 
+/// Appends a marker, a digit and the end of the line.
+fn write_digit(marker: u8, digit: u8, out: &mut Vec<u8>) -> Result<(), AllocError>
+    ensures { Writes result out.old.items out.new.items (marker ∷ digit ∷ crlf) }
+{
+    out.extend_from_slice(&[marker, digit, b'\r', b'\n'])
+}
+
 /// Appends a marker, a number and the end of the line.
 fn write_line(marker: u8, number: u64, out: &mut Vec<u8>) -> Result<(), AllocError>
     ensures { Writes result out.old.items out.new.items (line marker number) }
 {
+    if number < 10 {
+        // Most lengths and counts have one digit.
+        return write_digit(marker, b'0' + number as u8, out);
+    }
     out.push(marker)?;
     push_decimal(out, number)?;
     out.extend_from_slice(b"\r\n")

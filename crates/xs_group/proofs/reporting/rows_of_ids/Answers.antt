@@ -8,7 +8,7 @@ use Rattle.xs_group.proofs.reporting.rows_of_ids.Goals as goal
 pub loop-id-init : goal.loop-id-init
 loop-id-init c =
     let is = c.into_iter-id-iterator.ensures.into_iter_gives ∙ c.range-within.ensures.between tt in
-    rw (c.new-found.ensures.items) (
+    rw (c.in_ok-found.ensures.items) (
       ap (λ ids. map (pending_row c.args.now) (filter (λ e. leb c.args.min_idle (idle c.args.now e.1.time)) (rows_among c.args.rows.now.entries ids))) is
           ∙ ap (map (pending_row c.args.now)) (among-told c.args.range c.args.min_idle c.args.now c.args.rows.now.entries c.args.ids.now.keys),
       omega arith,
