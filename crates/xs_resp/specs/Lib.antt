@@ -15,3 +15,6 @@ pub mod Line
 pub mod Grammar
 pub mod Pieces
 pub mod State
+pub mod Examples
+pub mod ExamplesRequests
+pub mod ExamplesSpelling
