@@ -1,7 +1,7 @@
 #!/usr/bin/env python3
 """Lists the definitions that can be turned with no example broken.
 
-    slips.py [--only WORD] [--file WORD] [--from N] [--most N] [--folder FOLDER] [--list] CRATE      needs the toolchain
+    slips.py [--only WORD] [--file WORD] [--from N] [--most N] [--step N] [--folder FOLDER] [--list] CRATE      needs the toolchain
 
 A slip that is made alike in a definition and in the code that is proved against it passes every proof. What guards
 against it are examples whose values come from outside. In a copy of the repository this turns one thing of one
@@ -240,6 +240,7 @@ def main():
     parser.add_argument("--file", default="", help="the files whose names have this word")
     parser.add_argument("--from", type=int, default=0, dest="first", help="how many turns to pass over")
     parser.add_argument("--most", type=int, default=10**9, help="how many turns")
+    parser.add_argument("--step", type=int, default=1, help="one turn of so many")
     parser.add_argument("--folder", help="a copy of the repository to work in")
     parser.add_argument("--list", action="store_true", help="shows the turns and tries none")
     parser.add_argument("crate")
@@ -247,7 +248,7 @@ def main():
     counts = {"refused": 0, "passed": 0, "not read": 0}
     folder = TOP if asked.list else copied(asked.folder)
     crate = os.path.join(folder, "crates", asked.crate)
-    for file, turn in list(slips(crate, asked))[asked.first:asked.first + asked.most]:
+    for file, turn in list(slips(crate, asked))[asked.first:asked.first + asked.most:asked.step]:
         verdict = "passed" if asked.list else judge(crate, os.path.join(crate, "specs", file), turn.text)
         counts[verdict] += 1
         if verdict == "passed":

@@ -8,8 +8,8 @@ use Rattle.xs_stream.specs.Examples.{at}
 use Rattle.xs_group.specs.declared.report.OwnerCount.{OwnerCount}
 use Rattle.xs_group.specs.declared.report.PendingRow.{PendingRow}
 use Rattle.xs_group.specs.State.{new_group}
-use Rattle.xs_group.specs.Report.{last_id, owned_count, summary_of, pending_of}
-use Rattle.xs_group.specs.ExamplesRead.{three, group}
+use Rattle.xs_group.specs.Report.{owned_count, summary_of, pending_of}
+use Rattle.xs_group.specs.ExamplesRead.{group}
 
 abbrev pub owner : List ℕ → ℕ → OwnerCount
 owner consumer count = record { consumer = consumer; count = count }

@@ -1,6 +1,4 @@
 //! Examples of what the definitions say, with values from outside.
-#![tactic(auto, unfolding(xs_bytes::specs::SortedMap::empty, xs_bytes::specs::SortedMap::get, xs_bytes::specs::SortedMap::insert_by, xs_bytes::specs::SortedMap::remove, xs_bytes::specs::SortedMap::change,))]
-
 ghost use Rattle.xs_group.specs.ExamplesRead.{Counts, Consumers, Acknowledged, New, Own};
 ghost use Rattle.xs_group.specs.ExamplesClaims.{ByIds, ByScan, TimesAndCounts, Settled};
 ghost use Rattle.xs_group.specs.ExamplesDelivered.{Answers, TakenBack, Verdicts, Lawful};

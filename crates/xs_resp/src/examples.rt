@@ -1,6 +1,4 @@
 //! Examples of what the definitions say, with values from outside.
-#![tactic(auto, unfolding(crate::specs::ReplyText::text, crate::specs::FaultText::fault_text, crate::specs::Part::number_in, crate::specs::Part::is_natural, crate::specs::Header::header, crate::specs::Header::line_at, crate::specs::Reading::word, crate::specs::Reading::words, crate::specs::Reading::request))]
-
 ghost use Rattle.xs_resp.specs.Examples.{Replies, FaultTexts};
 ghost use Rattle.xs_resp.specs.ExamplesRequests.{Requests, Undecided, Faults, Reader};
 ghost use Rattle.xs_resp.specs.ExamplesSpelling.{Spellings, Spelled, Pieces, Stays};
