@@ -1,14 +1,15 @@
 #!/usr/bin/env python3
 """Lists the definitions that can be turned with no example broken.
 
-    slips.py [--only WORD] [--most N] CRATE      needs the toolchain; may run for hours
+    slips.py [--only WORD] [--file WORD] [--from N] [--most N] [--step N] [--folder FOLDER] [--list] CRATE      needs the toolchain
 
 A slip that is made alike in a definition and in the code that is proved against it passes every proof. What guards
 against it are examples whose values come from outside. In a copy of the repository this turns one thing of one
 definition of crates/CRATE/specs at a time: a number by one, `<` for `<=`, `and` for `or`, true for false, a branch for
-the other, what is joined in the other order, the first for the whole list, a case's result for its neighbour's. Then
-it checks the examples of the crate alone (`rt check --only examples`). A turn that no example refuses is shown; one
-that doesn't read as a definition isn't counted. The last line is 'N refused, M passed, K not read'.
+the other, an order, the first of a list for the whole, a result for its neighbour's, a letter of a text. Then it
+checks the examples of the crate alone (`rt check --only examples`), some seconds for each turn. A turn that no example
+refuses is shown; one that isn't well typed, or that a proof within specs/ refuses, isn't counted. The last line is
+'N refused, M passed, K not read'. It may run for hours, and belongs to no gate.
 """
 import argparse
 import os
@@ -21,122 +22,237 @@ import tempfile
 HERE = os.path.dirname(os.path.abspath(__file__))
 TOP = os.path.dirname(HERE)
 
-# what stands in a definition, and what it is turned to
-TURNS = [
-    (r"(?<![\w.'{])(\d+)(?![\w.}])", lambda m: str(int(m.group(1)) + 1)),
-    (r"\bnat_le\b", lambda m: "nat_lt"),
-    (r"\bnat_lt\b", lambda m: "nat_le"),
-    (r"\bis_below (\w[\w.]*) (\w[\w.]*)", lambda m: f"is_below {m.group(2)} {m.group(1)}"),
-    (r"&&", lambda m: "||"),
-    (r"\|\|", lambda m: "&&"),
-    (r"\btrue\b", lambda m: "false"),
-    (r"\bfalse\b", lambda m: "true"),
-    (r"\bnot \(", lambda m: "("),
-    (r"\bnot (\w)", lambda m: m.group(1)),
-    (r"if (.+?) then (.+?) else ([^()]+?)$", lambda m: f"if {m.group(1)} then {m.group(3)} else {m.group(2)}"),
-    (r"(\w[\w. ]*) \+\+ (\w[\w. ]*)$", lambda m: f"{m.group(2)} ++ {m.group(1)}"),
-    (r"(\w[\w. ]*) - (\w[\w.]*)", lambda m: f"{m.group(2)} - {m.group(1)}"),
-    (r"∷ (\w+ )+(\w+)$", lambda m: "∷ []"),
-    (r"\bNone\b(?= =)", lambda m: "(Some nothing)"),
+# words that may stand for one another, each turned into the next one
+SIBLINGS = [
+    ["nat_le", "nat_lt"],
+    ["&&", "||"],
+    ["true", "false"],
+    ["take", "drop"],
+    ["list_any", "list_all"],
+    ["Syntax", "Arity", "BadId", "NotInteger", "ZeroId", "Unsupported", "UnknownCommand"],
+    ["SmallId", "Exhausted", "NoKey", "NoGroup", "Busy"],
+    ["Small", "Exhausted"],
+    ["Length", "Shape", "Limit"],
+    ["Okay", "Pong"],
+    ["NullBulk", "NullArray"],
+    ["next_id", "previous_id"],
+    ["low_end", "high_end"],
+    ["zero_id", "greatest_id"],
+    ["first_id", "last_id"],
+    ["New", "NoAck", "History"],
+    ["Passed", "Taken", "Removed"],
 ]
-BEGINS = re.compile(r"^(?:abbrev|unfoldable) pub ([^\s:]+) *:")
+# where a word comes from that a turn brings in
+HOMES = {
+    "Prelude": ["nat_le", "nat_lt", "true", "false", "take", "drop", "[]", "◌&&◌", "◌||◌", "◌∷◌"],
+    "List": ["list_any", "list_all"],
+}
+BEGINS = re.compile(r"^(?:abbrev|unfoldable) pub (\S+) *:", re.M)
+STOPS = [" then ", " else ", " in ", ";", " ≡ ", " ↦ ", "\n  pub ", " ++ "]
 
 
-class Definition:
-    """A name, and the numbers of the lines of its equations."""
+class Turn:
+    """A definition, and its file's text with one thing of it turned."""
 
-    def __init__(self, name):
-        self.name, self.equations = name, []
-
-
-def definitions(lines):
-    """The functions of a file; facts, records and types are what contracts say, and have no examples."""
-    found = []
-    for number, line in enumerate(lines):
-        begins = BEGINS.match(line)
-        if begins:
-            found.append(Definition(begins.group(1)))
-        elif not line.strip() or line.startswith(("--", "pub ", "use ")):
-            found.append(Definition(""))
-        elif found and found[-1].name and not (found[-1].name[0].isupper()):
-            found[-1].equations.append(number)
-    return [one for one in found if one.name and one.equations]
+    def __init__(self, name, shown, text):
+        self.name, self.shown, self.text = name, shown, text
 
 
-def turned_lines(line):
-    """The line with one thing turned, for each thing behind its `=`."""
-    head, equals, body = line.partition(" = ") if " = " in line else ("", "", line)
-    for pattern, turn in TURNS:
-        for match in re.finditer(pattern, body):
-            yield head + equals + body[:match.start()] + turn(match) + body[match.end():]
+def definitions(text):
+    """The name, the start and the end of the equations of each definition that is no type."""
+    for begins in BEGINS.finditer(text):
+        ends = re.search(r"\n(?:\n|--|pub |use |abbrev |unfoldable )", text[begins.end():])
+        end = begins.end() + ends.start() if ends else len(text)
+        equations = re.search(r"\n(?=\S)", text[begins.start():end])
+        if equations:
+            yield begins.group(1), begins.start() + equations.end(), end
 
 
-def neighbours(lines, definition):
-    """Two cases with each other's results."""
-    cases = [n for n in definition.equations if lines[n].startswith(definition.name + " ") and " = " in lines[n]]
-    for one, other in zip(cases, cases[1:]):
-        (head, _, body), (other_head, _, other_body) = (lines[n].partition(" = ") for n in (one, other))
-        if body != other_body:
-            yield {one: f"{head} = {other_body}", other: f"{other_head} = {body}"}
+def closing(text, start):
+    """The index behind a term that starts here: its brackets close, or a word follows that ends it."""
+    depth, index = 0, start
+    while index < len(text):
+        if text[index] in "([{":
+            depth += 1
+        elif text[index] in ")]}":
+            depth -= 1
+            if depth < 0:
+                return index
+        elif depth == 0 and (re.match(r"\n\S", text[index:]) or any(text.startswith(s, index) for s in STOPS)):
+            return index
+        index += 1
+    return index
 
 
-def slips(path, only):
-    """The name of a definition, and its changed lines."""
-    lines = open(path, encoding="utf-8").read().split("\n")
-    for definition in definitions(lines):
-        if only not in definition.name:
+def behind(text, start, word):
+    """The index behind a word at the depth of this one."""
+    depth = 0
+    for index in range(start, len(text)):
+        depth += (text[index] in "([{") - (text[index] in ")]}")
+        if depth < 0:
+            return None
+        if depth == 0 and re.match(rf"\s{word}\s", text[index:]):
+            return index + len(word) + 2
+    return None
+
+
+def numbers(body):
+    for found in re.finditer(r"(?<![\w.'{\"])\d+(?![\w.}\"])", body):
+        value = int(found.group())
+        yield found.start(), found.end(), str(value + 1)
+        if value > 0:
+            yield found.start(), found.end(), str(value - 1)
+
+
+def siblings(body):
+    for words in SIBLINGS:
+        for place, word in enumerate(words):
+            for found in re.finditer(rf"(?<![\w.'\"]){re.escape(word)}(?![\w'\"])", body):
+                yield found.start(), found.end(), words[(place + 1) % len(words)]
+
+
+def texts(body):
+    for found in re.finditer(r'codes "([^"]*)"', body):
+        yield found.end(1), found.end(1), "x"
+
+
+def negations(body):
+    for found in re.finditer(r"\bnot (?=[(\w])", body):
+        yield found.start(), found.end(), ""
+
+
+def orders(body):
+    """Arguments, and sides of an operator, in the other order."""
+    term = r"(?:\w[\w.]*|\([^()]*\))"
+    for found in re.finditer(rf"\b(is_below|option_or|ordering_then|nat_cmp|is_idle|idle) ({term}) ({term})", body):
+        yield found.start(), found.end(), f"{found.group(1)} {found.group(3)} {found.group(2)}"
+    side = rf"{term}(?: {term})*"
+    for found in re.finditer(rf"(?<= )({side}) (\+\+|-) ({side})", body):
+        yield found.start(), found.end(), f"({found.group(3)}) {found.group(2)} ({found.group(1)})"
+    for found in re.finditer(r"(\w+) = ([^;{}]+); (\w+) = ([^;{}]+?)(?= \}|;)", body):
+        one, value, other, others = found.groups()
+        yield found.start(), found.end(), f"{one} = {others}; {other} = {value}"
+
+
+def branches(body):
+    """A branch in the place of the other."""
+    for found in re.finditer(r"\bif\s", body):
+        middle = behind(body, found.end(), "then")
+        last = middle and behind(body, middle, "else")
+        if last:
+            first = body[middle:last - 6].strip()
+            end = closing(body, last)
+            yield middle, last - 6, body[last:end].strip()
+            yield last, end, first
+
+
+def rests(body):
+    """The first of a list for the whole."""
+    for found in re.finditer(r" ∷ ", body):
+        end = closing(body, found.end())
+        if body[found.end():end].strip() != "[]":
+            yield found.end(), end, "[]"
+
+
+def cases(body, name):
+    """A case's result in the place of its neighbour's."""
+    starts = [found.start() for found in re.finditer(rf"^{re.escape(name)}\b", body, re.M)] + [len(body)]
+    places = [(start + body[start:end].find(" =") + 2, end) for start, end in zip(starts, starts[1:])]
+    for (start, end), (other, last) in zip(places, places[1:]):
+        result, neighbour = body[start:end].rstrip(), body[other:last].rstrip()
+        if result.split() != neighbour.split():
+            yield start, start + len(result), neighbour
+            yield other, other + len(neighbour), result
+
+
+def with_words(text):
+    """The text with an import of each word that a turn brought in."""
+    head = text[:text.find("\nabbrev")]
+    missing = []
+    for home, words in HOMES.items():
+        for word in words:
+            plain = word.strip("◌")
+            if plain in text and not re.search(rf"[{{, ]{re.escape(word)}[,}}]", head):
+                missing.append(f"use Rattle.std.specs.{home}.{{{word}}}\n")
+    first = text.find("use ")
+    return text[:first] + "".join(missing) + text[first:]
+
+
+def turns(text, wanted):
+    """Each turn of a file's definitions."""
+    for name, start, end in definitions(text):
+        if wanted not in name:
             continue
-        for number in definition.equations:
-            for turned in turned_lines(lines[number]):
-                if turned != lines[number]:
-                    yield definition.name, {number: turned}
-        for changed in neighbours(lines, definition):
-            yield definition.name, changed
+        body = text[start:end]
+        heads = {at for found in re.finditer(r"^\S.*? =(?=\s)", body, re.M) for at in range(*found.span())}
+        kinds = [numbers, siblings, texts, negations, orders, branches, rests, lambda whole: cases(whole, name)]
+        for one, other, new in (place for kind in kinds for place in kind(body)):
+            if one in heads or body[one:other] == new:
+                continue
+            line = body[:one].rfind("\n") + 1
+            turned = body[:one] + new + body[other:]
+            shown = turned[line:].split("\n")[0]
+            yield Turn(name, f"{body[one:other].strip()!r} is {new.strip()!r} in: {shown.strip()}",
+                       with_words(text[:start] + turned + text[end:]))
 
 
-def judge(folder, path, changed):
+def judge(folder, path, turned):
     """'refused', 'passed', or 'not read'."""
-    before = open(path, encoding="utf-8").read()
-    lines = before.split("\n")
-    for number, line in changed.items():
-        lines[number] = line
+    with open(path, encoding="utf-8") as source:
+        before = source.read()
     try:
         with open(path, "w", encoding="utf-8") as out:
-            out.write("\n".join(lines))
+            out.write(turned)
         words = ["rt", "check", "--only", "examples"]
         told = subprocess.run(words, cwd=folder, capture_output=True, text=True)
     finally:
         with open(path, "w", encoding="utf-8") as out:
             out.write(before)
-    errors = re.findall(r"^(\S+?):\d+:\d+: error", told.stdout + told.stderr, re.M)
-    if any("/specs/" in place for place in errors):
+    said = told.stdout + told.stderr
+    counts = re.search(r"^only=(\d+) proved=(\d+)", said, re.M)
+    if not counts or re.search(r"^\./specs/\S+: error", said, re.M):
         return "not read"
-    return "refused" if any("/proofs/examples/" in place for place in errors) else "passed" if not errors else "not read"
+    return "passed" if counts.group(1) == counts.group(2) else "refused"
+
+
+def copied(folder):
+    """The folder, or a copy of the repository in a new one."""
+    if folder:
+        return folder
+    folder = tempfile.mkdtemp(prefix="slips")
+    shutil.copy(os.path.join(TOP, "crates.txt"), folder)
+    shutil.copytree(os.path.join(TOP, "crates"), os.path.join(folder, "crates"))
+    subprocess.run(["git", "init", "-q"], cwd=folder, check=True)
+    return folder
+
+
+def slips(crate, asked):
+    """The file and the turn, for each of the crate."""
+    for file in sorted(os.listdir(os.path.join(crate, "specs"))):
+        if file.endswith(".antt") and not file.startswith(("Lib.", "Examples", "Played")) and asked.file in file:
+            with open(os.path.join(crate, "specs", file), encoding="utf-8") as source:
+                yield from ((file, turn) for turn in turns(source.read(), asked.only))
 
 
 def main():
     parser = argparse.ArgumentParser(description=__doc__, formatter_class=argparse.RawDescriptionHelpFormatter)
     parser.add_argument("--only", default="", help="the definitions whose names have this word")
+    parser.add_argument("--file", default="", help="the files whose names have this word")
+    parser.add_argument("--from", type=int, default=0, dest="first", help="how many turns to pass over")
     parser.add_argument("--most", type=int, default=10**9, help="how many turns")
+    parser.add_argument("--step", type=int, default=1, help="one turn of so many")
+    parser.add_argument("--folder", help="a copy of the repository to work in")
+    parser.add_argument("--list", action="store_true", help="shows the turns and tries none")
     parser.add_argument("crate")
     asked = parser.parse_args()
     counts = {"refused": 0, "passed": 0, "not read": 0}
-    with tempfile.TemporaryDirectory() as folder:
-        shutil.copy(os.path.join(TOP, "crates.txt"), folder)
-        shutil.copytree(os.path.join(TOP, "crates"), os.path.join(folder, "crates"))
-        subprocess.run(["git", "init", "-q"], cwd=folder, check=True)
-        crate = os.path.join(folder, "crates", asked.crate)
-        for file in sorted(os.listdir(os.path.join(crate, "specs"))):
-            path = os.path.join(crate, "specs", file)
-            if not file.endswith(".antt") or file in ("Lib.antt", "Examples.antt", "Played.antt"):
-                continue
-            for name, changed in slips(path, asked.only):
-                if sum(counts.values()) == asked.most:
-                    break
-                verdict = judge(crate, path, changed)
-                counts[verdict] += 1
-                if verdict == "passed":
-                    print(f"{file} {name}", *(line.strip() for line in changed.values()), sep="\n    ", flush=True)
+    folder = TOP if asked.list else copied(asked.folder)
+    crate = os.path.join(folder, "crates", asked.crate)
+    for file, turn in list(slips(crate, asked))[asked.first:asked.first + asked.most:asked.step]:
+        verdict = "passed" if asked.list else judge(crate, os.path.join(crate, "specs", file), turn.text)
+        counts[verdict] += 1
+        if verdict == "passed":
+            print(f"{file} {turn.name}: {turn.shown}", flush=True)
     print(f"{counts['refused']} refused, {counts['passed']} passed, {counts['not read']} not read")
     return 0
 

@@ -22,4 +22,8 @@ pub mod Xautoclaim
 pub mod Del
 pub mod Read
 pub mod Examples
+pub mod ExamplesWords
+pub mod ExamplesStreams
+pub mod ExamplesGroups
 pub mod WellFormed
+pub mod ExamplesFormed

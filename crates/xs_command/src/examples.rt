@@ -1,5 +1,9 @@
 //! Examples of what words say, proved of the definition that `read_command` follows.
 ghost use Rattle.xs_command.specs.Examples.{StreamExamples, GroupExamples};
+ghost use Rattle.xs_command.specs.ExamplesWords.{Integers, AddIds, Counts};
+ghost use Rattle.xs_command.specs.ExamplesStreams.{Additions, Removals, Scans};
+ghost use Rattle.xs_command.specs.ExamplesGroups as groups;
+ghost use Rattle.xs_command.specs.ExamplesFormed.{Formed};
 
 /// Commands of streams without groups.
 pub fn stream_examples()
@@ -9,4 +13,64 @@ pub fn stream_examples()
 /// Commands of groups.
 pub fn group_examples()
     ensures { GroupExamples }
+{}
+
+/// Whole numbers.
+pub fn integers()
+    ensures { Integers }
+{}
+
+/// The ids of additions.
+pub fn add_ids()
+    ensures { AddIds }
+{}
+
+/// How many words a command has.
+pub fn counts()
+    ensures { Counts }
+{}
+
+/// XADD.
+pub fn additions()
+    ensures { Additions }
+{}
+
+/// XDEL, XTRIM and DEL.
+pub fn removals()
+    ensures { Removals }
+{}
+
+/// XRANGE and XREVRANGE.
+pub fn scans()
+    ensures { Scans }
+{}
+
+/// XGROUP.
+pub fn groups()
+    ensures { groups.Groups }
+{}
+
+/// XREADGROUP.
+pub fn reads()
+    ensures { groups.Reads }
+{}
+
+/// XACK and XPENDING.
+pub fn pending()
+    ensures { groups.Pending }
+{}
+
+/// XCLAIM.
+pub fn claims()
+    ensures { groups.Claims }
+{}
+
+/// XAUTOCLAIM.
+pub fn auto_claims()
+    ensures { groups.Scans }
+{}
+
+/// Commands that words can't give.
+pub fn formed()
+    ensures { Formed }
 {}

@@ -7,3 +7,7 @@ pub mod Delivered
 pub mod Verdict
 pub mod Listing
 pub mod Count
+pub mod ExamplesRead
+pub mod ExamplesClaims
+pub mod ExamplesReport
+pub mod ExamplesDelivered

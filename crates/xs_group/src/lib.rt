@@ -9,6 +9,7 @@ pub mod claim_rule;
 mod claiming;
 pub mod delivery;
 mod entry;
+pub mod examples;
 pub mod group;
 mod moving;
 mod name;

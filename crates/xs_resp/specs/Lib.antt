@@ -14,3 +14,6 @@ pub mod Line
 pub mod Grammar
 pub mod Pieces
 pub mod State
+pub mod Examples
+pub mod ExamplesRequests
+pub mod ExamplesSpelling

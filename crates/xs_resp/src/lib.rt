@@ -2,6 +2,7 @@
 #![tactic(auto)]
 
 mod copying;
+pub mod examples;
 pub mod fault;
 mod header;
 pub mod laws;

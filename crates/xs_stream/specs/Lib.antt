@@ -3,3 +3,5 @@ pub mod IdText
 pub mod RangeText
 pub mod Kept
 pub mod Lawful
+pub mod Examples
+pub mod ExamplesKept

@@ -4,6 +4,7 @@
 #![tactic(auto)]
 
 pub mod add;
+pub mod examples;
 pub mod field;
 pub mod id;
 pub mod moment;

@@ -1,0 +1,36 @@
+use Rattle.std.proofs.Common.{refl}
+use Rattle.xs_command.specs.Words.{is_word, word, behind_sign, integer, natural, id, low, high}
+use Rattle.xs_command.specs.Options.{up_to}
+use Rattle.xs_command.specs.Name.{name_of}
+use Rattle.xs_command.specs.Syntax.{only, leading_ids, ids}
+use Rattle.xs_command.specs.Xgroup.{xgroup, subcommand_of, create, destroy, create_consumer, delete_consumer, create_option, group_start}
+use Rattle.xs_command.specs.Streams.{streams, each_from, is_distinct, read_from}
+use Rattle.xs_command.specs.Xreadgroup.{xreadgroup, read_option, reader}
+use Rattle.xs_command.specs.Xack.{xack}
+use Rattle.xs_command.specs.Xpending.{xpending, form, idle_rows, pending_rows, optional}
+use Rattle.xs_command.specs.Xclaim.{xclaim, claim_option}
+use Rattle.xs_command.specs.Xautoclaim.{xautoclaim, auto_claim_option}
+use Rattle.xs_command.specs.Read.{reads}
+use Rattle.xs_command.proofs.examples.pending.Goals as goal
+
+pub returns : goal.returns
+unfolding is_word word behind_sign integer natural id low high up_to name_of only leading_ids ids xgroup subcommand_of create destroy create_consumer delete_consumer create_option group_start streams each_from is_distinct read_from xreadgroup read_option reader xack xpending form idle_rows pending_rows optional xclaim claim_option xautoclaim auto_claim_option reads
+returns c = record {
+  acknowledged = refl;
+  second_is_none = refl;
+  summary = refl;
+  rows = refl;
+  rows_of_a_consumer = refl;
+  rows_left_out = refl;
+  rows_that_are_idle = refl;
+  idle_below_zero_own = refl;
+  four_words = refl;
+  five_words = refl;
+  eight_words_without_idle = refl;
+  idle_and_too_few = refl;
+  idle_and_too_many = refl;
+  low_is_none = refl;
+  high_is_none = refl;
+  count_is_none = refl;
+  idle_is_none = refl;
+}

@@ -1,0 +1,137 @@
+-- What reads of a group answer and how they are taken back, what a claim makes of one id, and what holds of every
+-- group, by examples over the group of `ExamplesRead`. A real Redis 7.0 delivers so; how it is told is this server's.
+use Rattle.std.specs.Prelude.{◌≡◌, ℕ, true, false, [], ◌∷◌, codes, Some, None}
+use Rattle.xs_bytes.specs.SortedMap.{keys}
+use Rattle.xs_stream.specs.declared.id.Id.{Id}
+use Rattle.xs_stream.specs.Id.{is_same}
+use Rattle.xs_stream.specs.Examples.{at}
+use Rattle.xs_group.specs.declared.delivery.DeliveryRow.{DeliveryRow}
+use Rattle.xs_group.specs.declared.delivery.DeliveryKind.TheVariants as kind
+use Rattle.xs_group.specs.declared.verdict.Verdict.TheVariants.{Passed, Taken, Removed}
+use Rattle.xs_group.specs.State.{State, delivered_to, reread_by}
+use Rattle.xs_group.specs.Held.{Held, rows_of, is_owner, row_in, IsNamed}
+use Rattle.xs_group.specs.Lawful.{IsUpTo}
+use Rattle.xs_group.specs.Count.{IsCount}
+use Rattle.xs_group.specs.Delivered.{delivery_of, history_of, set_rows, unmade}
+use Rattle.xs_group.specs.Verdict.{verdict_of, hits_of, with_taken, with_removed, scanned_after, moved, AreApart}
+use Rattle.xs_group.specs.ExamplesRead.{pending, names_in, three, group, present}
+use Rattle.xs_group.specs.ExamplesClaims.{rule, row, twelve}
+
+abbrev pub new : Id → DeliveryRow
+new id = record { id = id; present = true; before = None }
+
+-- an entry of the consumer's own, with its time and count before
+abbrev pub own : Id → ℕ → ℕ → DeliveryRow
+own id time count = record { id = id; present = true; before = Some (record { time = time; count = count }) }
+
+abbrev pub gone : Id → ℕ → ℕ → DeliveryRow
+gone id time count = record { id = id; present = false; before = Some (record { time = time; count = count }) }
+
+-- what a delivery says, but for its kind, which each example states
+pub record Answers : Type 0 where
+  pub to_a_new_consumer :
+      delivery_of (codes "d") (Some 2) false present group
+      ≡ record {
+        consumer = codes "d";
+        created = true;
+        cursor_before = at 3 0;
+        kind = kind.New;
+        rows = new (at 4 0) ∷ new (at 5 0) ∷ [];
+      }
+  pub without_pending :
+      delivery_of (codes "a") (Some 1) true present group
+      ≡ record {
+        consumer = codes "a";
+        created = false;
+        cursor_before = at 3 0;
+        kind = kind.NoAck;
+        rows = new (at 4 0) ∷ [];
+      }
+  pub of_its_own :
+      history_of (codes "a") None (at 0 0) present group
+      ≡ record {
+        consumer = codes "a";
+        created = false;
+        cursor_before = at 3 0;
+        kind = kind.History;
+        rows = gone (at 1 0) 100 1 ∷ own (at 3 0) 120 1 ∷ [];
+      }
+  pub none_of_its_own :
+      history_of (codes "d") (Some 9) (at 0 0) present group
+      ≡ record { consumer = codes "d"; created = true; cursor_before = at 3 0; kind = kind.History; rows = [] }
+  pub above_an_id :
+      history_of (codes "a") (Some 1) (at 1 0) present group
+      ≡ record {
+        consumer = codes "a";
+        created = false;
+        cursor_before = at 3 0;
+        kind = kind.History;
+        rows = own (at 3 0) 120 1 ∷ [];
+      }
+
+abbrev pub held : State → Held
+held group = record { consumers = group.consumers; rows = group.rows }
+
+-- the consumers and the rows are those of the group before the read
+abbrev pub IsAsBefore : Held → Type 0
+IsAsBefore held = (keys held.consumers ≡ codes "a" ∷ codes "b" ∷ codes "c" ∷ []) × (held.rows.entries ≡ three)
+
+pub record TakenBack : Type 0 where
+  pub new_entries_of_a_new_consumer :
+      IsAsBefore (unmade (delivery_of (codes "d") (Some 2) false present group)
+      (held (delivered_to (codes "d") 200 (Some 2) false present group)))
+  pub new_entries_of_a_known_one :
+      IsAsBefore (unmade (delivery_of (codes "a") None false present group)
+      (held (delivered_to (codes "a") 200 None false present group)))
+  pub entries_that_arent_pending :
+      IsAsBefore (unmade (delivery_of (codes "d") None true present group)
+      (held (delivered_to (codes "d") 200 None true present group)))
+  pub own_entries :
+      IsAsBefore (unmade (history_of (codes "a") None (at 0 0) present group)
+      (held (reread_by (codes "a") 200 None (at 0 0) present group)))
+  pub nothing_of_a_new_consumer :
+      IsAsBefore (unmade (history_of (codes "d") None (at 0 0) present group)
+      (held (reread_by (codes "d") 200 None (at 0 0) present group)))
+  pub sets_time_and_count :
+      (set_rows (Some 200) (gone (at 1 0) 100 1 ∷ own (at 3 0) 120 1 ∷ []) (rows_of three)).entries
+      ≡ pending (at 1 0) (codes "a") 100 1 ∷ pending (at 2 0) (codes "b") 110 2 ∷ pending (at 3 0) (codes "a") 200 2
+      ∷ []
+  pub sets_them_back :
+      (set_rows None (gone (at 1 0) 90 5 ∷ own (at 3 0) 95 6 ∷ []) (rows_of three)).entries
+      ≡ pending (at 1 0) (codes "a") 90 5 ∷ pending (at 2 0) (codes "b") 110 2 ∷ pending (at 3 0) (codes "a") 95 6 ∷ []
+
+-- what a claim makes of one id after another
+pub record Verdicts : Type 0 where
+  pub of_no_row : verdict_of None true 150 (rule 0) ≡ Passed
+  pub idle_enough : verdict_of (Some (row (codes "a") 100 1)) true 150 (rule 50) ≡ Taken
+  pub not_idle_enough : verdict_of (Some (row (codes "a") 100 1)) true 149 (rule 50) ≡ Passed
+  pub deleted : verdict_of (Some (row (codes "a") 100 1)) false 149 (rule 50) ≡ Removed
+  pub passed_is_no_hit : hits_of Passed ≡ 0
+  pub taken_is_one : hits_of Taken ≡ 1
+  pub removed_is_one : hits_of Removed ≡ 1
+  pub taken_behind_others : with_taken Taken (at 1 0 ∷ []) (at 2 0) ≡ at 1 0 ∷ at 2 0 ∷ []
+  pub others_arent_taken : with_taken Removed (at 1 0 ∷ []) (at 2 0) ≡ at 1 0 ∷ []
+  pub removed_behind_others : with_removed Removed (at 1 0 ∷ []) (at 2 0) ≡ at 1 0 ∷ at 2 0 ∷ []
+  pub others_arent_removed : with_removed Taken (at 1 0 ∷ []) (at 2 0) ≡ at 1 0 ∷ []
+  pub up_to_the_hits : scanned_after (λ x. is_same x (at 3 0)) 1 0 0 twelve ≡ at 1 0 ∷ at 2 0 ∷ at 3 0 ∷ []
+  pub up_to_ten_times_as_many :
+      scanned_after (λ x. false) 1 0 0 twelve
+      ≡ at 1 0 ∷ at 2 0 ∷ at 3 0 ∷ at 4 0 ∷ at 5 0 ∷ at 6 0 ∷ at 7 0 ∷ at 8 0 ∷ at 9 0 ∷ at 10 0 ∷ []
+  pub moves_those_named :
+      moved (codes "d") 200 (rule 0) (at 2 0 ∷ at 1 0 ∷ []) (at 1 0) (row (codes "a") 100 1)
+      ≡ Some (row (codes "d") 200 2)
+  pub leaves_others :
+      moved (codes "d") 200 (rule 0) (at 2 0 ∷ []) (at 1 0) (row (codes "a") 100 1) ≡ Some (row (codes "a") 100 1)
+
+pub record Lawful : Type 0 where
+  pub apart : AreApart (at 2 0 ∷ at 1 0 ∷ at 3 0 ∷ [])
+  pub not_apart : AreApart (at 2 0 ∷ at 1 0 ∷ at 2 0 ∷ []) → ⊥
+  pub not_apart_at_the_end : AreApart (at 2 0 ∷ at 1 0 ∷ at 1 0 ∷ []) → ⊥
+  pub owner : is_owner (row_in three (at 2 0)) (codes "b") ≡ true
+  pub another : is_owner (row_in three (at 2 0)) (codes "a") ≡ false
+  pub nobody : is_owner (row_in three (at 4 0)) (codes "a") ≡ false
+  pub above_the_cursor : IsUpTo (at 2 9) (rows_of three) → ⊥
+  pub of_no_consumer : IsNamed (names_in (codes "a" ∷ codes "c" ∷ [])) (rows_of three) → ⊥
+  pub greatest_count : IsCount (Some 9223372036854775807)
+  pub too_great_a_count : IsCount (Some 9223372036854775808) → ⊥
+  pub no_count : IsCount None

@@ -1,0 +1,80 @@
+//! Examples of what the definitions say, with values from outside.
+ghost use Rattle.xs_group.specs.ExamplesRead.{Counts, Consumers, Acknowledged, New, Own};
+ghost use Rattle.xs_group.specs.ExamplesClaims.{ByIds, ByScan, TimesAndCounts, Settled};
+ghost use Rattle.xs_group.specs.ExamplesDelivered.{Answers, TakenBack, Verdicts, Lawful};
+ghost use Rattle.xs_group.specs.ExamplesReport.{Summaries, Rows};
+
+/// Idle times and counts of deliveries.
+pub fn counts()
+    ensures { Counts }
+{}
+
+/// Consumers that join and leave.
+pub fn consumers()
+    ensures { Consumers }
+{}
+
+/// Acknowledgements.
+pub fn acknowledged()
+    ensures { Acknowledged }
+{}
+
+/// Reads of new entries.
+pub fn new_entries()
+    ensures { New }
+{}
+
+/// Reads of a consumer's own entries.
+pub fn own_entries()
+    ensures { Own }
+{}
+
+/// Claims of ids.
+pub fn claims_by_ids()
+    ensures { ByIds }
+{}
+
+/// Claims by a scan.
+pub fn claims_by_scan()
+    ensures { ByScan }
+{}
+
+/// The time and the count of a claimed row.
+pub fn times_and_counts()
+    ensures { TimesAndCounts }
+{}
+
+/// A group after a claim.
+pub fn settled()
+    ensures { Settled }
+{}
+
+/// The summary of what is pending.
+pub fn summaries()
+    ensures { Summaries }
+{}
+
+/// The rows of what is pending.
+pub fn rows()
+    ensures { Rows }
+{}
+
+/// What reads answer.
+pub fn answers()
+    ensures { Answers }
+{}
+
+/// Reads that are taken back.
+pub fn taken_back()
+    ensures { TakenBack }
+{}
+
+/// What a claim makes of one id.
+pub fn verdicts()
+    ensures { Verdicts }
+{}
+
+/// What holds of every group.
+pub fn lawful()
+    ensures { Lawful }
+{}

@@ -1,0 +1,54 @@
+//! Examples of what the definitions say, with values from outside.
+ghost use Rattle.xs_resp.specs.Examples.{Replies, FaultTexts};
+ghost use Rattle.xs_resp.specs.ExamplesRequests.{Requests, Undecided, Faults, Reader};
+ghost use Rattle.xs_resp.specs.ExamplesSpelling.{Spellings, Spelled, Pieces, Stays};
+
+/// The texts of replies.
+pub fn replies()
+    ensures { Replies }
+{}
+
+/// The texts of errors.
+pub fn fault_texts()
+    ensures { FaultTexts }
+{}
+
+/// Bytes that are a request.
+pub fn requests()
+    ensures { Requests }
+{}
+
+/// Bytes that decide nothing yet.
+pub fn undecided()
+    ensures { Undecided }
+{}
+
+/// Bytes that are no request.
+pub fn faults()
+    ensures { Faults }
+{}
+
+/// What a reader holds and gives.
+pub fn reader()
+    ensures { Reader }
+{}
+
+/// Requests as they are sent.
+pub fn spellings()
+    ensures { Spellings }
+{}
+
+/// Bytes that spell requests.
+pub fn spelled()
+    ensures { Spelled }
+{}
+
+/// Requests in pieces.
+pub fn pieces()
+    ensures { Pieces }
+{}
+
+/// What is decided stays so.
+pub fn stays()
+    ensures { Stays }
+{}
