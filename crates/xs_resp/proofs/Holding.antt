@@ -7,6 +7,8 @@ use Rattle.xs_resp.specs.declared.read_fault.ReadFault.TheVariants.{Memory}
 use Rattle.xs_resp.specs.declared.requests.State.{State}
 use Rattle.xs_resp.specs.declared.requests.State.TheVariants.{Between, Within, Failed}
 use Rattle.xs_resp.specs.Reading.{Found, request, HasWords}
+use Rattle.xs_resp.specs.declared.read_fault.ReadFault.{ReadFault}
+use Rattle.xs_resp.specs.Faulting.{fault_of}
 use Rattle.xs_resp.specs.Held.{Held, fed, Next, NextOf}
 use Rattle.xs_resp.specs.State.{held_in, IsState}
 use Rattle.xs_resp.proofs.Progressing.{follows-fed}
@@ -45,6 +47,12 @@ fed-ok state (Err d) at bytes moved piece items e within rest = tt
 pub fed-err : {T E : Type 0} (state : State) (result : Result T E) (at : ℕ) (bytes moved piece items : List ℕ) → items ≡ cond (is_ok result) (moved ++ piece) moved → drop at moved ≡ bytes → OnErr result (held_in state (drop at items) ≡ held_in state bytes)
 fed-err state (Ok x) at bytes moved piece items e rest = tt
 fed-err state (Err d) at bytes moved piece items e rest = ap (held_in state) (ap (drop at) e ∙ rest)
+
+-- a fault of held bytes is answered, and held from then on
+pub Next-fault : (held : Held) (bytes : List ℕ) (wrong : Wrong) (fault : ReadFault) → held ≡ Ok bytes → request bytes ≡ Err wrong → fault ≡ fault_of wrong → Next held (Err fault) (Err wrong)
+Next-fault held bytes wrong fault is e told =
+    let out : NextOf bytes (Err wrong) (Err fault) (Err wrong) = (ap Err told, refl) in
+    subst (λ h. Next h (Err fault) (Err wrong)) (sym is) (subst (λ o. NextOf bytes o (Err fault) (Err wrong)) (sym e) out)
 
 -- the next request, where memory ran out
 pub Next-memory : (held : Held) (bytes : List ℕ) (found : Found) → held ≡ Ok bytes → request bytes ≡ Ok (Some found) → Next held (Err Memory) (Ok bytes)

@@ -1,14 +1,14 @@
 -- What the next request of held bytes tells of them.
-use Rattle.std.proofs.Common.{◌≡◌, ℕ, ◌+◌, ◌<◌, ◌≤◌, List, [], ◌∷◌, ◌++◌, length, take, drop, Some, None, Ok, Err, inl, inr, sym, ap, ◌∙◌, subst, refl, arith, append_assoc, length-append, length-drop}
-use Rattle.std.proofs.lemmas.List.{append-nil, length-take-le, take-append-drop}
+use Rattle.std.proofs.Common.{◌≡◌, ℕ, ◌+◌, ◌<◌, ◌≤◌, List, [], ◌∷◌, ◌++◌, length, take, drop, Option, Some, None, Result, Ok, Err, inl, inr, sym, ap, ◌∙◌, subst, refl, arith, append_assoc, length-append, length-drop}
+use Rattle.std.proofs.lemmas.List.{append-nil, length-take-le, take-append-drop, drop-append-le}
 use Rattle.xs_resp.specs.declared.read_fault.Wrong.{Wrong}
 use Rattle.xs_resp.specs.declared.read_fault.ReadFault.{ReadFault}
 use Rattle.xs_resp.specs.declared.read_fault.ReadFault.TheVariants.{Memory}
 use Rattle.xs_resp.specs.Grammar.{Spells, SpellsAll}
-use Rattle.xs_resp.specs.Outcome.{Outcome}
+use Rattle.xs_resp.specs.Outcome.{Outcome, Keeps}
 use Rattle.xs_resp.specs.Reading.{Found, request}
 use Rattle.xs_resp.specs.Held.{Held, Next, NextOf, fed, held_length}
-use Rattle.xs_resp.proofs.Decisions.{request-read}
+use Rattle.xs_resp.proofs.Decisions.{request-read, request-keeps}
 
 -- a request was taken
 pub record IsNext (bytes : List ℕ) (words : List (List ℕ)) (new : Held) : Type 0 where
@@ -97,3 +97,21 @@ took read front rest requests found is spelled next =
       read_is = is ∙ ap (λ r. front ++ r) split ∙ sym (append_assoc front first (drop found.end rest));
       spelled = spells-more front requests first found.words spelled stands.spells;
     }
+
+stays-of : (bytes more : List ℕ) (outcome : Outcome Found) (result : Result (Option (List (List ℕ))) ReadFault) (new : Held) → request bytes ≡ outcome → NextOf bytes outcome result new
+    → Keeps outcome (request (bytes ++ more)) → (result ≡ Ok None → ⊥) → Next (Ok (bytes ++ more)) result (fed new more)
+stays-of bytes more (Ok (Some found)) result new e (inl (is, left)) keeps some =
+    let within = (request-read bytes found e).within in
+    subst (λ o. NextOf (bytes ++ more) o result (fed new more)) (sym keeps)
+    (inl (is, ap (λ h. fed h more) left ∙ ap Ok (sym (drop-append-le found.end bytes more within))))
+stays-of bytes more (Ok (Some found)) result new e (inr (is, left)) keeps some =
+    subst (λ o. NextOf (bytes ++ more) o result (fed new more)) (sym keeps) (inr (is, ap (λ h. fed h more) left))
+stays-of bytes more (Ok None) result new e (is, left) keeps some = absurd (some is)
+stays-of bytes more (Err wrong) result new e (is, left) keeps some =
+    subst (λ o. NextOf (bytes ++ more) o result (fed new more)) (sym keeps) (is, ap (λ h. fed h more) left)
+
+-- what is answered but None is answered on every continuation
+pub next_stays : (old : Held) (result : Result (Option (List (List ℕ))) ReadFault) (new : Held) → Next old result new
+    → (more : List ℕ) → (result ≡ Ok None → ⊥) → Next (fed old more) result (fed new more)
+next_stays (Ok bytes) result new next more some = stays-of bytes more (request bytes) result new refl next (request-keeps bytes more) some
+next_stays (Err wrong) result new (is, left) more some = (is, ap (λ h. fed h more) left)

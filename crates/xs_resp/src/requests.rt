@@ -45,7 +45,7 @@ impl Model for Requests {
 }
 
 impl Requests {
-    ghost use Rattle.std.specs.Prelude.{◌≡◌, [], OnOk, OnErr, IsOk, IsErr, Ok};
+    ghost use Rattle.std.specs.Prelude.{◌≡◌, ◌≢◌, ℕ, List, [], None, OnOk, OnErr, IsOk, IsErr, Ok};
     ghost use Rattle.xs_resp.specs.Held.{fed, is_partial, Next};
 
     /// A reader that holds nothing.
@@ -72,13 +72,16 @@ impl Requests {
         self.bytes.extend_from_slice(piece)
     }
 
-    /// The words of the next request, which is taken out. None while it isn't whole.
+    /// The words of the next request, which is taken out. None while it isn't whole. What it answers but None, it would
+    /// answer whatever bytes come behind.
     /// It takes memory only where a request is whole.
     ///
     /// # Errors
     /// `Memory`, and the reader is unchanged; else what is wrong with the bytes, for good.
+    #[tactic(auto, using(crate::proofs::Nexts::next_stays))]
     pub fn next(&mut self) -> Result<Option<Words>, ReadFault>
-        ensures { Next self.old result self.new }
+        ensures next { Next self.old result self.new }
+        ensures stays { (more : List ℕ) → result ≢ Ok None → Next (fed self.old more) result (fed self.new more) }
     {
         let progress = match self.state {
             State::Between => None,

@@ -236,3 +236,44 @@ fn a_failed_reader_takes_no_memory(rt: HostRuntime) {
         assert!(rt; matches!(reader.next(), Err(ReadFault::Shape)));
     }
 }
+
+/// A request of so many words of one byte.
+fn request_of(alloc: Global, words: u64) -> Result<Vec<u8>, AllocError> {
+    let mut text = format!(in alloc; "*{words}\r\n")?.into_bytes();
+    for _ in 0..words {
+        text.extend_from_slice(b"$1\r\na\r\n")?;
+    }
+    Ok(text)
+}
+
+// A reader that looks at a request from its front with each piece takes longer than a test may.
+#[test]
+fn looks_at_each_byte_once(rt: HostRuntime) -> Result<(), Fail> {
+    let text = request_of(rt.alloc(), 400_000)?;
+    let mut reader = Requests::new(rt.alloc());
+    let mut read = 0;
+    for piece in text.as_slice().chunks(64) {
+        reader.feed(piece)?;
+        if let Some(words) = reader.next()? {
+            read = words.len();
+        }
+    }
+    assert_eq!(rt; read, 400_000);
+    assert!(rt; !reader.partial());
+    Ok(())
+}
+
+#[test]
+fn gives_a_great_buffer_back(rt: HostRuntime) -> Result<(), Fail> {
+    let text = request_of(rt.alloc(), 100_000)?;
+    let mut reader = Requests::new(rt.alloc());
+    for behind in [b"".as_slice(), b"*1\r\n".as_slice()] {
+        reader.feed(text.as_slice())?;
+        reader.feed(behind)?;
+        assert!(rt; reader.bytes.capacity() >= text.len());
+        let words = reader.next()?.ok_or("a request")?;
+        assert_eq!(rt; words.len(), 100_000);
+        assert!(rt; reader.bytes.capacity() <= KEPT);
+    }
+    Ok(())
+}
