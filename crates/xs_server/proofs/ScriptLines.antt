@@ -1,12 +1,12 @@
 -- The lines of what was read.
-use Rattle.std.proofs.Common.{◌≡◌, ℕ, ◌<◌, ◌≤◌, Bool, true, false, ◌||◌, cond, eqb, leb, List, [], ◌∷◌, ◌++◌, length, None, sym, ap, ◌∙◌, refl, append_assoc, arith}
+use Rattle.std.proofs.Common.{◌≡◌, ℕ, ◌<◌, Bool, true, false, ◌||◌, cond, eqb, leb, List, [], ◌∷◌, ◌++◌, length, None, sym, ap, ◌∙◌, refl, append_assoc, arith}
 use Rattle.std.specs.List.{flat_map, list_any}
 use Rattle.std.proofs.lemmas.List.{append-nil}
 use Rattle.std.proofs.lemmas.Bool.{false≢true}
 use Rattle.std.proofs.lemmas.Bool.Decides.{nat_tests}
 use Rattle.xs_server.specs.Line.{is_line_end, onto_first, script_lines, line_of, line_limit}
 use Rattle.xs_server.specs.Script.{with_end, AreLines}
-use Rattle.xs_server.specs.Session.{IsRead}
+use Rattle.xs_server.specs.Session.{IsRead, IsInHand}
 
 -- a line that ends with LF is a line
 pub lines-ended : (line tail : List ℕ) → list_any is_line_end line ≡ false → script_lines (line ++ 10 ∷ tail) ≡ line ∷ script_lines tail
@@ -29,25 +29,6 @@ lines-last (b ∷ next ∷ line) h some = by (lines-last (next ∷ line)) (eqb b
       → cond t ([] ∷ script_lines (next ∷ line)) (onto_first b (script_lines (next ∷ line))) ≡ (b ∷ next ∷ line) ∷ []
   by rest true e = absurd (false≢true (sym e))
   by rest false e = rw (rest e (omega arith)) refl
-
--- bytes without LF begin a line, which may go on
-front : ℕ → List (List ℕ) → List ℕ
-front b [] = b ∷ []
-front b (part ∷ parts) = b ∷ part
-
-pub lines-begun : (b : ℕ) (line more : List ℕ) → list_any is_line_end (b ∷ line) ≡ false
-    → (whole : List ℕ) × (others : List (List ℕ)) × (script_lines ((b ∷ line) ++ more) ≡ whole ∷ others) × (length (b ∷ line) ≤ length whole)
-lines-begun b [] more h = by (script_lines more) (eqb b 10) h where
-  by : (parts : List (List ℕ)) (t : Bool) → (t || false) ≡ false → (whole : List ℕ) × (others : List (List ℕ)) × (cond t ([] ∷ parts) (onto_first b parts) ≡ whole ∷ others) × (1 ≤ length whole)
-  by parts true e = absurd (false≢true (sym e))
-  by [] false e = (b ∷ [], [], refl, omega arith)
-  by (part ∷ parts) false e = (b ∷ part, parts, refl, omega arith)
-lines-begun b (next ∷ line) more h = by (lines-begun next line more) (eqb b 10) h where
-  by : (list_any is_line_end (next ∷ line) ≡ false → (whole : List ℕ) × (others : List (List ℕ)) × (script_lines ((next ∷ line) ++ more) ≡ whole ∷ others) × (length (next ∷ line) ≤ length whole))
-      → (t : Bool) → (t || list_any is_line_end (next ∷ line)) ≡ false
-      → (whole : List ℕ) × (others : List (List ℕ)) × (cond t ([] ∷ script_lines ((next ∷ line) ++ more)) (onto_first b (script_lines ((next ∷ line) ++ more))) ≡ whole ∷ others) × (length (b ∷ next ∷ line) ≤ length whole)
-  by rest true e = absurd (false≢true (sym e))
-  by rest false e = let more_lines = rest e in (b ∷ more_lines.0, more_lines.1, rw more_lines.2 refl, omega (arith, more_lines.3))
 
 -- whole lines come first
 pub lines-join : (lines : List (List ℕ)) (tail : List ℕ) → AreLines lines → script_lines (flat_map with_end lines ++ tail) ≡ lines ++ script_lines tail
@@ -79,6 +60,24 @@ read-line read lines unused line left is split h = (
       ∙ sym (append_assoc (flat_map with_end lines) (with_end line) left) ∙ ap (λ f. f ++ left) (sym (flat-more lines line)),
   are-more lines line is.1 h,
 )
+
+-- the lines before one, and that one
+pub are-fewer : (lines : List (List ℕ)) (line : List ℕ) → AreLines (lines ++ line ∷ []) → AreLines lines × (list_any is_line_end line ≡ false)
+are-fewer [] line are = (tt, are.0)
+are-fewer (first ∷ lines) line are = let rest = are-fewer lines line are.1 in ((are.0, rest.0), rest.1)
+
+-- a line that was read with its LF is in hand
+pub in-hand : (read : List ℕ) (lines : List (List ℕ)) (line unused : List ℕ) → IsRead read (lines ++ line ∷ []) unused → IsInHand read lines line (10 ∷ unused)
+in-hand read lines line unused is =
+    let are = are-fewer lines line is.1 in (
+      is.0 ∙ ap (λ f. f ++ unused) (flat-more lines line) ∙ append_assoc (flat_map with_end lines) (with_end line) unused ∙ ap (λ r. flat_map with_end lines ++ r) (append_assoc line (10 ∷ []) unused),
+      are.0,
+      are.1,
+    )
+
+-- so is the last one that lacks it
+pub in-hand-last : (read : List ℕ) (lines : List (List ℕ)) (line : List ℕ) → IsRead read lines line → list_any is_line_end line ≡ false → IsInHand read lines line []
+in-hand-last read lines line is none = (is.0 ∙ ap (λ r. flat_map with_end lines ++ r) (sym (append-nil line)), is.1, none)
 
 -- a line past the limit is no script line
 pub long-line : (line : List ℕ) → line_limit < length line → line_of line ≡ None

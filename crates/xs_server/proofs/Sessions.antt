@@ -1,26 +1,26 @@
 -- Sessions: one line more, and replies that are sent.
-use Rattle.std.proofs.Common.{◌≡◌, ℕ, ◌+◌, ◌<◌, Bool, false, List, [], ◌∷◌, ◌++◌, length, Option, Some, None, Result, Ok, Err, inl, inr, sym, ap, ◌∙◌, subst, refl, append_assoc, arith, IsSomeAnd, length-append}
+use Rattle.std.proofs.Common.{◌≡◌, ℕ, ◌+◌, ◌≤◌, Bool, List, [], ◌∷◌, ◌++◌, length, Option, Some, None, Result, Ok, Err, inl, inr, sym, ap, ◌∙◌, subst, refl, append_assoc, arith, IsSomeAnd, length-append}
 use Rattle.std.proofs.lemmas.List.{append-nil}
 use Rattle.xs_resp.specs.declared.reply.Reply.{Reply}
 use Rattle.xs_resp.specs.ReplyText.{text}
 use Rattle.xs_command.specs.declared.command.Command.{Command}
 use Rattle.xs_keys.specs.Content.{Content, IsContent}
 use Rattle.xs_server.specs.Device.{capped}
-use Rattle.xs_server.specs.Line.{line_of, script_lines, is_line_end, line_limit}
+use Rattle.xs_server.specs.Line.{line_of, script_lines}
 use Rattle.xs_server.specs.Answering.{Answered, IsAnswer}
 use Rattle.xs_keys.specs.Headline.{Follows, Answers}
 use Rattle.xs_keys.proofs.Runs.{step-follows, headline}
-use Rattle.xs_server.specs.Script.{Script, Served, AreServed, events_of, answers_of, IsScript}
+use Rattle.xs_server.specs.Script.{Script, Served, AreServed, events_of, answers_of, IsScript, with_end}
 use Rattle.xs_server.specs.Serving.{StepAt}
 use Rattle.xs_server.specs.declared.session.Session.{Session}
 use Rattle.xs_server.specs.declared.script_fault.ScriptFault.{ScriptFault}
 use Rattle.xs_server.specs.declared.script_fault.ScriptFault.TheVariants.{Line, Read, Write}
 use Rattle.xs_server.specs.declared.script_fault.ScriptFault.TheVariants as script_fault
-use Rattle.xs_server.specs.Session.{Stands, Sent, PartSent, Sends, SendsAll, ServesNext, HasWriteCause, EndsBy, IsRead}
+use Rattle.xs_server.specs.Session.{Stands, Sent, PartSent, Sends, SendsAll, ServesNext, HasWriteCause, EndsBy, IsRead, IsInHand, IsReadOut, piece}
 use Rattle.xs_server.specs.declared.taken.LineFault.TheVariants.{Long}
 use Rattle.xs_server.specs.Taking.{FailsLine}
-use Rattle.xs_server.proofs.ScriptLines.{lines-begun, long-line, read-lines}
-use Rattle.std.specs.List.{flat_map, list_any}
+use Rattle.xs_server.proofs.ScriptLines.{long-line, read-lines}
+use Rattle.std.specs.List.{flat_map}
 
 -- how an answer of the keyspace goes on with a history
 pub answer-follows : (past : List (ℕ × Command)) (old new : Content) (now : ℕ) (words : List (List ℕ)) (asked : Option Command) (answer : Reply) → IsContent old past
@@ -165,13 +165,15 @@ send-cause A (script_fault.Memory written) rest m broken all = tt
 
 -- ---- how a script ends
 
-pub fault-ends : (fault : ScriptFault) (lines : List (List ℕ)) (line : List ℕ) (behind : List (List ℕ)) (read sent : List ℕ) (session : Session) (broken : Bool)
-    → script_lines read ≡ lines ++ line ∷ behind → ServesNext (Err fault) lines line sent session broken → EndsBy fault read sent
-fault-ends (Line number written) lines line behind read sent session broken e next = (lines, line, behind, e, next.0, next.1, next.2)
-fault-ends (Read written) lines line behind read sent session broken e next = absurd next
-fault-ends (Write written) lines line behind read sent session broken e (inl part, cause) = (lines, line ∷ behind, e, part)
-fault-ends (Write written) lines line behind read sent session broken e (inr part, cause) = (lines ++ line ∷ [], behind, e ∙ sym (append_assoc lines (line ∷ []) behind), part)
-fault-ends (script_fault.Memory written) lines line behind read sent session broken e next = (lines, line ∷ behind, e, next)
+-- the line in hand isn't answered: it is so far from its end, and so much was read behind it
+pub fault-ends : (fault : ScriptFault) (lines : List (List ℕ)) (line behind : List ℕ) (after : List (List ℕ)) (read sent : List ℕ) (session : Session) (broken : Bool) (rest : Option (List ℕ)) (ended : Bool)
+    → IsInHand read lines line behind → IsReadOut line behind rest ended → length behind ≤ piece + 1 → script_lines read ≡ lines ++ line ∷ after
+    → ServesNext (Err fault) lines line sent session broken → EndsBy fault read sent rest ended
+fault-ends (Line number written) lines line behind after read sent session broken rest ended is whole few e next = (lines, line, behind, is, whole, next.0, next.1, next.2)
+fault-ends (Read written) lines line behind after read sent session broken rest ended is whole few e next = absurd next
+fault-ends (Write written) lines line behind after read sent session broken rest ended is whole few e (inl part, cause) = (lines, line ∷ after, e, part)
+fault-ends (Write written) lines line behind after read sent session broken rest ended is whole few e (inr part, cause) = (lines ++ line ∷ [], after, e ∙ sym (append_assoc lines (line ∷ []) after), part)
+fault-ends (script_fault.Memory written) lines line behind after read sent session broken rest ended is whole few e next = (lines, line, behind, is, few, next)
 
 -- all lines are answered, and nothing is held
 pub all-sent : (lines : List (List ℕ)) (read sent : List ℕ) (session : Session) → Stands lines sent session → session.out.items ≡ [] → script_lines read ≡ lines → Sent (script_lines read) sent session.written
@@ -181,32 +183,25 @@ all-sent lines read sent session stands empty e =
 -- a writer that fails at the end of the input
 pub finish-fails : (fault : ScriptFault) (lines : List (List ℕ)) (read sent part rest out : List ℕ) (n m : ℕ) (past : List (ℕ × Command)) (broken : Bool)
     → Script [] lines (sent ++ out) past → n ≡ capped (length sent) → m ≡ capped (n + length part) → out ≡ part ++ rest → SendsAll (Err fault) rest m broken
-    → script_lines read ≡ lines → EndsBy fault read (sent ++ part)
-finish-fails (Write told) lines read sent part rest out n m past broken script counted more is all e =
+    → (rest_left : Option (List ℕ)) (ended : Bool) → script_lines read ≡ lines → EndsBy fault read (sent ++ part) rest_left ended
+finish-fails (Write told) lines read sent part rest out n m past broken script counted more is all left ended e =
     (lines, [], e ∙ sym (append-nil lines), part-after lines sent part rest out n told past script counted (all.0 ∙ more) is)
-finish-fails (Line number written) lines read sent part rest out n m past broken script counted more is all e = absurd all
-finish-fails (Read written) lines read sent part rest out n m past broken script counted more is all e = absurd all
-finish-fails (script_fault.Memory written) lines read sent part rest out n m past broken script counted more is all e = absurd all
+finish-fails (Line number written) lines read sent part rest out n m past broken script counted more is all left ended e = absurd all
+finish-fails (Read written) lines read sent part rest out n m past broken script counted more is all left ended e = absurd all
+finish-fails (script_fault.Memory written) lines read sent part rest out n m past broken script counted more is all left ended e = absurd all
 
 -- the line in hand is too long
-long-ends : (line more : List ℕ) (lines : List (List ℕ)) (read : List ℕ) (sent : List ℕ) (number written : ℕ) → list_any is_line_end line ≡ false → line_limit < length line
-    → script_lines read ≡ lines ++ script_lines (line ++ more) → number ≡ capped (length lines + 1) → Sent lines sent written → EndsBy (Line number written) read sent
-long-ends [] more lines read sent number written none long e counted all = absurd (omega arith)
-long-ends (b ∷ line) more lines read sent number written none long e counted all =
-    let begun = lines-begun b line more none in
-    (lines, begun.0, begun.1, e ∙ ap (λ ls. lines ++ ls) begun.2, long-line begun.0 (omega (arith, begun.3)), counted, all)
-
-pub gives-up-long : (lines : List (List ℕ)) (read sent unused : List ℕ) (number written : ℕ) → IsRead read lines unused → FailsLine Long unused
-    → number ≡ capped (length lines + 1) → Sent lines sent written → EndsBy (Line number written) read sent
-gives-up-long lines read sent unused number written is (line, more, split, none, long) counted all =
-    long-ends line more lines read sent number written none long (read-lines read lines unused is ∙ ap (λ u. lines ++ script_lines u) split) counted all
+pub gives-up-long : (lines : List (List ℕ)) (read sent unused : List ℕ) (number written : ℕ) (rest : Option (List ℕ)) (ended : Bool) → IsRead read lines unused → FailsLine Long unused
+    → number ≡ capped (length lines + 1) → Sent lines sent written → EndsBy (Line number written) read sent rest ended
+gives-up-long lines read sent unused number written rest ended is (line, more, split, none, long) counted all =
+    (lines, line, more, (is.0 ∙ ap (λ u. flat_map with_end lines ++ u) split, is.1, none), inr (inr long), long-line line long, counted, all)
 
 -- a writer that fails while the line in hand can't be taken
 pub gives-up-write : (fault : ScriptFault) (lines : List (List ℕ)) (read sent part rest out unused : List ℕ) (n m : ℕ) (past : List (ℕ × Command)) (broken : Bool)
     → Script [] lines (sent ++ out) past → n ≡ capped (length sent) → m ≡ capped (n + length part) → out ≡ part ++ rest → SendsAll (Err fault) rest m broken
-    → IsRead read lines unused → EndsBy fault read (sent ++ part)
-gives-up-write (Write told) lines read sent part rest out unused n m past broken script counted more is all read_is =
+    → (rest_left : Option (List ℕ)) (ended : Bool) → IsRead read lines unused → EndsBy fault read (sent ++ part) rest_left ended
+gives-up-write (Write told) lines read sent part rest out unused n m past broken script counted more is all left ended read_is =
     (lines, script_lines unused, read-lines read lines unused read_is, part-after lines sent part rest out n told past script counted (all.0 ∙ more) is)
-gives-up-write (Line number written) lines read sent part rest out unused n m past broken script counted more is all read_is = absurd all
-gives-up-write (Read written) lines read sent part rest out unused n m past broken script counted more is all read_is = absurd all
-gives-up-write (script_fault.Memory written) lines read sent part rest out unused n m past broken script counted more is all read_is = absurd all
+gives-up-write (Line number written) lines read sent part rest out unused n m past broken script counted more is all left ended read_is = absurd all
+gives-up-write (Read written) lines read sent part rest out unused n m past broken script counted more is all left ended read_is = absurd all
+gives-up-write (script_fault.Memory written) lines read sent part rest out unused n m past broken script counted more is all left ended read_is = absurd all

@@ -1,5 +1,6 @@
 -- A script while it runs, and how it ends.
-use Rattle.std.specs.Prelude.{◌≡◌, ℕ, ◌+◌, true, false, ◌⊎◌, Bool, List, [], ◌∷◌, ◌++◌, length, None, Result, Ok, Err}
+use Rattle.std.specs.Prelude.{◌≡◌, ℕ, ◌+◌, ◌<◌, ◌≤◌, true, false, ◌⊎◌, Bool, List, [], ◌∷◌, ◌++◌, length, Option, None, Result, Ok, Err}
+use Rattle.std.specs.Io.KnownBytes.{IsAtEnd}
 use Rattle.std.specs.List.{flat_map, list_any}
 use Rattle.xs_command.specs.declared.command.Command.{Command}
 use Rattle.xs_bytes.specs.SortedMap as map
@@ -8,7 +9,7 @@ use Rattle.xs_server.specs.declared.session.Session.{Session}
 use Rattle.xs_server.specs.declared.script_fault.ScriptFault.{ScriptFault}
 use Rattle.xs_server.specs.declared.script_fault.ScriptFault.TheVariants.{Line, Read, Write, Memory}
 use Rattle.xs_server.specs.Device.{capped}
-use Rattle.xs_server.specs.Line.{is_line_end, script_lines, line_of}
+use Rattle.xs_server.specs.Line.{is_line_end, script_lines, line_of, line_limit}
 use Rattle.xs_server.specs.Script.{Script, IsScript, with_end, AreLines}
 
 -- these lines are answered; some of the replies are sent, and the others are held
@@ -26,24 +27,45 @@ abbrev pub PartSent : List (List ℕ) → List ℕ → ℕ → Type 0
 PartSent lines sent written =
     (whole rest : List ℕ) × IsScript lines whole × (whole ≡ sent ++ rest) × (written ≡ capped (length sent))
 
--- how a script ends that has read and sent these bytes
-abbrev pub EndsBy : ScriptFault → List ℕ → List ℕ → Type 0
-EndsBy (Line number written) read sent =
-    (lines : List (List ℕ)) × (line : List ℕ) × (after : List (List ℕ)) × (script_lines read ≡ lines ++ line ∷ after)
+-- these whole lines were read, then the line in hand as far as it was looked at, and then what stands behind it
+abbrev pub IsInHand : List ℕ → List (List ℕ) → List ℕ → List ℕ → Type 0
+IsInHand read lines line behind =
+    (read ≡ flat_map with_end lines ++ (line ++ behind)) × AreLines lines × (list_any is_line_end line ≡ false)
+
+-- the line in hand was read up to its LF, or to the end of the input, or past the limit
+abbrev pub IsReadOut : List ℕ → List ℕ → Option (List ℕ) → Bool → Type 0
+IsReadOut line behind rest ended =
+    ((unused : List ℕ) × (behind ≡ 10 ∷ unused)) ⊎ ((behind ≡ []) × IsAtEnd rest × (ended ≡ true)) ⊎ (line_limit < length line)
+
+-- a reader is asked for so many bytes at once
+abbrev pub piece : ℕ
+piece = 65536
+
+-- how a script ends that has read and sent these bytes, and whose reader has these left
+abbrev pub EndsBy : ScriptFault → List ℕ → List ℕ → Option (List ℕ) → Bool → Type 0
+EndsBy (Line number written) read sent rest ended =
+    (lines : List (List ℕ)) × (line behind : List ℕ) × IsInHand read lines line behind × IsReadOut line behind rest ended
     × (line_of line ≡ None) × (number ≡ capped (length lines + 1)) × Sent lines sent written
-EndsBy (Read written) read sent =
-    (lines : List (List ℕ)) × (rest : List ℕ) × (read ≡ flat_map with_end lines ++ rest) × AreLines lines × (list_any is_line_end rest ≡ false) × Sent lines sent written
-EndsBy (Write written) read sent = (lines after : List (List ℕ)) × (script_lines read ≡ lines ++ after) × PartSent lines sent written
-EndsBy (Memory written) read sent = (lines after : List (List ℕ)) × (script_lines read ≡ lines ++ after) × Sent lines sent written
+EndsBy (Read written) read sent rest ended =
+    (lines : List (List ℕ)) × (line : List ℕ) × IsInHand read lines line [] × Sent lines sent written
+EndsBy (Write written) read sent rest ended =
+    (lines after : List (List ℕ)) × (script_lines read ≡ lines ++ after) × PartSent lines sent written
+EndsBy (Memory written) read sent rest ended =
+    (lines : List (List ℕ)) × (line behind : List ℕ) × IsInHand read lines line behind × (length behind ≤ piece + 1)
+    × Sent lines sent written
 
 -- the whole script is answered, or it ended by a fault
-abbrev pub Runs : Result ℕ ScriptFault → List ℕ → List ℕ → Type 0
-Runs (Ok n) read sent = Sent (script_lines read) sent n
-Runs (Err fault) read sent = EndsBy fault read sent
+abbrev pub Runs : Result ℕ ScriptFault → List ℕ → List ℕ → Option (List ℕ) → Bool → Type 0
+Runs (Ok n) read sent rest ended = Sent (script_lines read) sent n
+Runs (Err fault) read sent rest ended = EndsBy fault read sent rest ended
 
 -- what is read is these lines, and then what isn't used yet
 abbrev pub IsRead : List ℕ → List (List ℕ) → List ℕ → Type 0
 IsRead read lines unused = (read ≡ flat_map with_end lines ++ unused) × AreLines lines
+
+-- what is read is these lines, and then a last line that lacks its end
+abbrev pub IsLast : List ℕ → List (List ℕ) → List ℕ → Type 0
+IsLast read lines line = IsRead read lines line × (list_any is_line_end line ≡ false) × (0 < length line)
 
 -- a line that was served isn't answered, and so the script ends; or it is
 abbrev pub ServesNext : Result (Unit {0}) ScriptFault → List (List ℕ) → List ℕ → List ℕ → Session → Bool → Type 0
@@ -71,10 +93,11 @@ HasWriteCause (Err (Read written)) broken = ⊥
 HasWriteCause _ broken = Unit {0}
 
 -- one more line is answered, or all are; or the script ends by a fault
-abbrev pub Steps : Result Bool ScriptFault → List (List ℕ) → List ℕ → List ℕ → Session → Type 0
-Steps (Ok true) lines read sent session = (line : List ℕ) × IsRead read (lines ++ line ∷ []) session.chunk × Stands (lines ++ line ∷ []) sent session
-Steps (Ok false) lines read sent session = Sent (script_lines read) sent session.written
-Steps (Err fault) lines read sent session = EndsBy fault read sent
+abbrev pub Steps : Result Bool ScriptFault → List (List ℕ) → List ℕ → List ℕ → Session → Option (List ℕ) → Bool → Type 0
+Steps (Ok true) lines read sent session rest ended =
+    (line : List ℕ) × IsRead read (lines ++ line ∷ []) session.chunk × Stands (lines ++ line ∷ []) sent session
+Steps (Ok false) lines read sent session rest ended = Sent (script_lines read) sent session.written
+Steps (Err fault) lines read sent session rest ended = EndsBy fault read sent rest ended
 
 -- a writer's fault comes only from a writer that has failed; a reader's from one that has failed, or after so many reads
 abbrev pub HasCause : Result Bool ScriptFault → Bool → Bool → ℕ → Type 0

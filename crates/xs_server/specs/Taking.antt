@@ -3,6 +3,7 @@ use Rattle.std.specs.Prelude.{◌≡◌, ℕ, ◌<◌, ◌≤◌, Bool, true, fa
 use Rattle.std.specs.Io.KnownBytes.{IsAtEnd}
 use Rattle.std.specs.List.{list_any}
 use Rattle.xs_server.specs.Line.{is_line_end, line_limit}
+use Rattle.xs_server.specs.Session.{piece}
 use Rattle.xs_server.specs.declared.taken.Taken.{Taken}
 use Rattle.xs_server.specs.declared.taken.Taken.TheVariants.{Line, Last, End}
 use Rattle.xs_server.specs.declared.taken.LineFault.{LineFault}
@@ -19,11 +20,12 @@ TakesLine Line bytes line left = (bytes ≡ line ++ 10 ∷ left) × (list_any is
 TakesLine Last bytes line left = (bytes ≡ line) × (left ≡ []) × (list_any is_line_end line ≡ false) × (length line ≤ line_limit) × (0 < length line)
 TakesLine End bytes line left = (bytes ≡ []) × (left ≡ [])
 
--- these bytes begin a line that is too long; or a line whose end hasn't come
+-- these bytes begin a line that is too long; or a line whose end hasn't come; or a line, with a piece behind it at most
 abbrev pub FailsLine : LineFault → List ℕ → Type 0
 FailsLine Long bytes = (line more : List ℕ) × (bytes ≡ line ++ more) × (list_any is_line_end line ≡ false) × (line_limit < length line)
 FailsLine Read bytes = list_any is_line_end bytes ≡ false
-FailsLine Memory bytes = Unit {0}
+FailsLine Memory bytes =
+    (line more : List ℕ) × (bytes ≡ line ++ more) × (list_any is_line_end line ≡ false) × (length more ≤ piece)
 
 -- where no LF ends the line, the end of the input was met
 abbrev pub EndsInput : Taken → Option (List ℕ) → Bool → Type 0

@@ -43,7 +43,8 @@ impl Chunk {
 
     /// The bytes that aren't used yet.
     pub fn unused(&self) -> &[u8]
-        ensures { result.now ≡ self.now }
+        ensures value { result.now ≡ self.now }
+        ensures small { length self.now ≤ 65536 }
     {
         &self.bytes[self.at..self.filled]
     }

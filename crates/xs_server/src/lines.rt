@@ -4,6 +4,7 @@ ghost use Rattle.std.specs.List.{list_any};
 ghost use Rattle.std.specs.Io.KnownBytes.{Consumes};
 ghost use Rattle.xs_server.specs.Device.{capped};
 ghost use Rattle.xs_server.specs.Line.{is_line_end, line_limit};
+ghost use Rattle.xs_server.specs.Session.{piece};
 ghost use Rattle.xs_server.specs.Taking.{TakesPart, TakesLine, FailsLine, EndsInput};
 
 use crate::chunk::Chunk;
@@ -27,6 +28,7 @@ fn line_end(bytes: &[u8]) -> Option<usize>
 fn take_part(chunk: &mut Chunk, line: &mut Vec<u8>) -> Result<bool, AllocError>
     ensures part { IfOk result (λ ended. TakesPart ended chunk.old chunk.new line.old.items line.new.items) }
     ensures err { OnErr result ((chunk.new ≡ chunk.old) × (line.new.items ≡ line.old.items)) }
+    ensures small { length chunk.old ≤ piece }
 {
     let unused = chunk.unused();
     match line_end(unused) {
@@ -57,6 +59,7 @@ pub fn take_line<R: Source>(
     ensures end { IfOk result (λ taken. EndsInput taken (R.rest reader.new) (R.ended reader.new)) }
     ensures fault { result ≡ Err LineFault.Read → (R.broken reader.new ≡ true) ⊎ (left.new ≡ 0) }
     ensures memory { result ≡ Err LineFault.Memory → length line.new.items ≤ line_limit }
+    ensures small { result ≡ Ok Taken.Line → length chunk.new ≤ piece }
     ensures counted { capped (R.calls reader.new + left.new) ≡ capped (R.calls reader.old + left.old) }
     ensures fuel { result ≡ Ok Taken.Line → left.new * 65537 + length chunk.new < left.old * 65537 + length chunk.old }
 {

@@ -1,9 +1,9 @@
 //! A whole script.
-ghost use Rattle.std.specs.Prelude.{◌≡◌, ◌+◌, ◌*◌, ◌<◌, ◌++◌, [], true, false, List, ℕ, length, IfOk, Ok, Err};
+ghost use Rattle.std.specs.Prelude.{◌≡◌, ◌+◌, ◌*◌, ◌<◌, ◌≤◌, ◌++◌, [], true, false, List, ℕ, length, IfOk, Ok, Err};
 ghost use Rattle.std.specs.Io.KnownBytes.{Appends, Consumes, IsAtEnd};
 ghost use Rattle.xs_bytes.specs.SortedMap as map;
 ghost use Rattle.xs_server.specs.Device.{capped};
-ghost use Rattle.xs_server.specs.Session.{Stands, IsRead, Steps, HasCause, Runs, RunsByCause, IsNew};
+ghost use Rattle.xs_server.specs.Session.{Stands, IsRead, Steps, HasCause, Runs, RunsByCause, IsNew, reads_limit};
 
 use crate::chunk::Chunk;
 use crate::device::{Sink, Source};
@@ -48,7 +48,7 @@ fn step<R: Source, W: Sink>(
 ) -> Result<bool, ScriptFault>
     ensures steps { (lines : List (List ℕ)) (read sent : List ℕ) → Stands lines sent session.old → IsRead read lines session.old.chunk →
         (got more : List ℕ) × Consumes (R.rest reader.old) (R.rest reader.new) got × Appends (W.held writer.old) (W.held writer.new) more
-        × Steps result lines (read ++ got) (sent ++ more) session.new }
+        × Steps result lines (read ++ got) (sent ++ more) session.new (R.rest reader.new) (R.ended reader.new) }
     ensures end { result ≡ Ok false → IsAtEnd (R.rest reader.new) × (R.ended reader.new ≡ true) }
     ensures cause { HasCause result (R.broken reader.new) (W.broken writer.new) session.new.left }
     ensures counted { capped (R.calls reader.new + session.new.left) ≡ capped (R.calls reader.old + session.old.left) }
@@ -74,8 +74,9 @@ pub fn run_script<R: Source, W: Sink>(
     reader: &mut R,
     writer: &mut W,
 ) -> Result<u64, ScriptFault>
-    ensures runs { (read sent : List ℕ) × Consumes (R.rest reader.old) (R.rest reader.new) read × Appends (W.held writer.old) (W.held writer.new) sent × Runs result read sent }
+    ensures runs { (read sent : List ℕ) × Consumes (R.rest reader.old) (R.rest reader.new) read × Appends (W.held writer.old) (W.held writer.new) sent × Runs result read sent (R.rest reader.new) (R.ended reader.new) }
     ensures end { IfOk result (λ _. IsAtEnd (R.rest reader.new) × (R.ended reader.new ≡ true)) }
+    ensures reads { capped (R.calls reader.new) ≤ R.calls reader.old + reads_limit }
     ensures cause { RunsByCause result (R.broken reader.new) (W.broken writer.new) (R.calls reader.old) (R.calls reader.new) }
 {
     let Ok(mut session) = new_session(alloc) else {

@@ -1,9 +1,9 @@
 //! Scripts: lines in, replies out.
-ghost use Rattle.std.specs.Prelude.{◌≡◌, ◌≢◌, ◌⊎◌, ◌<◌, ◌≤◌, ◌++◌, ◌∷◌, [], true, false, Ok, Err, IsErr, List, ℕ, length};
-ghost use Rattle.std.specs.Io.KnownBytes.{Appends};
+ghost use Rattle.std.specs.Prelude.{◌≡◌, ◌≢◌, ◌⊎◌, ◌<◌, ◌≤◌, ◌++◌, ◌∷◌, [], Bool, true, false, Ok, Err, IsErr, List, Option, ℕ, length};
+ghost use Rattle.std.specs.Io.KnownBytes.{Appends, IsAtEnd};
 ghost use Rattle.xs_server.specs.Line.{line_limit, script_lines};
 ghost use Rattle.xs_server.specs.Taking.{FailsLine};
-ghost use Rattle.xs_server.specs.Session.{Stands, IsRead, Sends, ServesNext, Steps, HasWriteCause};
+ghost use Rattle.xs_server.specs.Session.{Stands, IsRead, IsLast, Sends, ServesNext, Steps, HasWriteCause, piece};
 
 use crate::device::Sink;
 use crate::script_fault::ScriptFault;
@@ -103,9 +103,11 @@ pub fn serve_more<W: Sink>(
     session: &mut Session,
 ) -> Result<bool, ScriptFault>
     requires { length session.old.line.items ≤ line_limit }
-    ensures steps { (lines : List (List ℕ)) (read sent left : List ℕ) → Stands lines sent session.old → IsRead read (lines ++ session.old.line.items ∷ []) left → session.old.chunk ≡ left →
-        (more : List ℕ) × Appends (W.held writer.old) (W.held writer.new) more × Steps result lines read (sent ++ more) session.new }
+    ensures steps { (lines : List (List ℕ)) (read sent unused : List ℕ) (rest : Option (List ℕ)) (ended : Bool) →
+        Stands lines sent session.old → IsRead read (lines ++ session.old.line.items ∷ []) unused → session.old.chunk ≡ unused → length unused ≤ piece →
+        (more : List ℕ) × Appends (W.held writer.old) (W.held writer.new) more × Steps result lines read (sent ++ more) session.new rest ended }
     ensures going { result ≢ Ok false }
+    ensures held { result ≡ Ok true → length session.new.out.items < 65536 }
     ensures cause { HasWriteCause result (W.broken writer.new) }
     ensures chunk { session.new.chunk ≡ session.old.chunk }
     ensures left { session.new.left ≡ session.old.left }
@@ -123,8 +125,9 @@ pub fn serve_last<W: Sink>(
     session: &mut Session,
 ) -> Result<bool, ScriptFault>
     requires { length session.old.line.items ≤ line_limit }
-    ensures steps { (lines : List (List ℕ)) (read sent : List ℕ) → Stands lines sent session.old → script_lines read ≡ lines ++ session.old.line.items ∷ [] →
-        (more : List ℕ) × Appends (W.held writer.old) (W.held writer.new) more × Steps result lines read (sent ++ more) session.new }
+    ensures steps { (lines : List (List ℕ)) (read sent : List ℕ) (rest : Option (List ℕ)) (ended : Bool) →
+        Stands lines sent session.old → IsLast read lines session.old.line.items → IsAtEnd rest → ended ≡ true →
+        (more : List ℕ) × Appends (W.held writer.old) (W.held writer.new) more × Steps result lines read (sent ++ more) session.new rest ended }
     ensures last { result ≢ Ok true }
     ensures cause { HasWriteCause result (W.broken writer.new) }
     ensures left { session.new.left ≡ session.old.left }
@@ -137,8 +140,8 @@ pub fn serve_last<W: Sink>(
 
 /// Sends what is held at the end of the input.
 pub fn finish<W: Sink>(writer: &mut W, session: &mut Session) -> Result<bool, ScriptFault>
-    ensures steps { (lines : List (List ℕ)) (read sent : List ℕ) → Stands lines sent session.old → script_lines read ≡ lines →
-        (more : List ℕ) × Appends (W.held writer.old) (W.held writer.new) more × Steps result lines read (sent ++ more) session.new }
+    ensures steps { (lines : List (List ℕ)) (read sent : List ℕ) (rest : Option (List ℕ)) (ended : Bool) → Stands lines sent session.old → script_lines read ≡ lines →
+        (more : List ℕ) × Appends (W.held writer.old) (W.held writer.new) more × Steps result lines read (sent ++ more) session.new rest ended }
     ensures last { result ≢ Ok true }
     ensures cause { HasWriteCause result (W.broken writer.new) }
     ensures left { session.new.left ≡ session.old.left }
@@ -155,8 +158,9 @@ pub fn give_up<W: Sink>(
     session: &mut Session,
     fault: LineFault,
 ) -> Result<bool, ScriptFault>
-    ensures steps { (lines : List (List ℕ)) (read sent unused : List ℕ) → Stands lines sent session.old → IsRead read lines unused → FailsLine fault unused →
-        (more : List ℕ) × Appends (W.held writer.old) (W.held writer.new) more × Steps result lines read (sent ++ more) session.new }
+    ensures steps { (lines : List (List ℕ)) (read sent unused : List ℕ) (rest : Option (List ℕ)) (ended : Bool) →
+        Stands lines sent session.old → IsRead read lines unused → FailsLine fault unused →
+        (more : List ℕ) × Appends (W.held writer.old) (W.held writer.new) more × Steps result lines read (sent ++ more) session.new rest ended }
     ensures last { IsErr result }
     ensures write { (written : ℕ) → result ≡ Err (ScriptFault.Write written) → W.broken writer.new ≡ true }
     ensures read { (written : ℕ) → result ≡ Err (ScriptFault.Read written) → fault ≡ LineFault.Read }

@@ -1,4 +1,4 @@
-use Rattle.std.proofs.Common.{◌++◌, ◌∷◌, [], ◌∙◌, refl}
+use Rattle.std.proofs.Common.{◌++◌, ◌∷◌, [], ◌∙◌, refl, arith}
 use Rattle.std.proofs.KnownBytes.{Consumes-nil, Appends-nil, Consumes-trans, Appends-trans}
 use Rattle.xs_keys.proofs.Contents.{content-none}
 use Rattle.xs_server.proofs.Sessions.{is-script}
@@ -33,4 +33,4 @@ returns-in-Err-clause-runs g c =
     (inv.1 ++ more.0, inv.2 ++ more.1, Consumes-trans _ _ _ inv.1 more.0 inv.3 more.2, Appends-trans _ _ _ inv.2 more.1 inv.4 more.3, more.4)
 
 pub returns-in_default-clause-runs : goal.returns-in_default-clause-runs
-returns-in_default-clause-runs g c = ([], [], Consumes-nil _, Appends-nil _, ([], [], refl, (is-script [] [] [] (refl, refl), refl)))
+returns-in_default-clause-runs g c = ([], [], Consumes-nil _, Appends-nil _, ([], [], [], (refl, tt, refl), omega arith, (is-script [] [] [] (refl, refl), refl)))
