@@ -1,5 +1,5 @@
 -- What the program says at its end.
-use Rattle.std.specs.Prelude.{◌≡◌, ℕ, ◌⊎◌, Bool, true, List, [], ◌++◌, codes, decimal, Option}
+use Rattle.std.specs.Prelude.{◌≡◌, ℕ, ◌⊎◌, Bool, true, List, [], ◌++◌, codes, decimal, Option, Result, Ok, Err}
 use Rattle.std.specs.Io.KnownBytes.{Appends}
 use Rattle.xs_server.specs.declared.script_fault.ScriptFault.{ScriptFault}
 use Rattle.xs_server.specs.declared.script_fault.ScriptFault.TheVariants.{Line, Read, Write, Memory}
@@ -26,6 +26,15 @@ fault_text (Line number _) = line_text number
 fault_text (Read _) = codes "xs_server: reading failed\n"
 fault_text (Write _) = codes "xs_server: writing failed\n"
 fault_text (Memory _) = memory_text
+
+-- the status of the program and what it says where a script has run
+abbrev pub status_of_run : Result ℕ ScriptFault → ℕ
+status_of_run (Ok written) = 0
+status_of_run (Err fault) = status_of fault
+
+abbrev pub text_of_run : Result ℕ ScriptFault → List ℕ
+text_of_run (Ok written) = []
+text_of_run (Err fault) = fault_text fault
 
 -- a writer takes this text, or a part of it where it fails
 abbrev pub Says : List ℕ → Option (List ℕ) → Option (List ℕ) → Bool → Type 0

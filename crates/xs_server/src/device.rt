@@ -126,6 +126,14 @@ impl<W: Write + Drop> ToWrite<W> {
             broken: false,
         }
     }
+
+    /// Gives the writer back.
+    pub fn into_inner(self) -> W
+        ensures { W.contents result ≡ ⟦<ToWrite<W> as Sink>⟧.held self }
+    {
+        let Self { inner, .. } = self;
+        inner
+    }
 }
 
 impl<W: Write + Drop> Sink for ToWrite<W> {

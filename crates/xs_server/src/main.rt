@@ -14,7 +14,9 @@ mod parts;
 mod report;
 mod run;
 mod script;
+mod script_command;
 mod script_fault;
+mod script_of_bytes;
 mod sending;
 mod serve;
 mod serve_alone;
@@ -24,8 +26,8 @@ mod taken;
 
 use command_line::{Asked, read_command_line};
 use device::{FromRead, ToWrite};
-use report::{report_memory, report_script};
-use run::run_script;
+use report::report_memory;
+use script_command::run_and_report;
 use std::process::ExitCode;
 
 fn main(rt: HostRuntime) -> ExitCode {
@@ -34,10 +36,7 @@ fn main(rt: HostRuntime) -> ExitCode {
         Asked::Script => {
             let mut reader = FromRead::new(rt.stdin());
             let mut writer = ToWrite::new(rt.stdout());
-            match run_script(rt.alloc(), &mut reader, &mut writer) {
-                Ok(_) => 0,
-                Err(fault) => report_script(&mut errors, &fault),
-            }
+            run_and_report(rt.alloc(), &mut reader, &mut writer, &mut errors)
         }
         Asked::Nothing => 2,
         Asked::Memory => report_memory(&mut errors),

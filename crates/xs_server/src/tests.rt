@@ -3,6 +3,8 @@ ghost use Rattle.std.specs.Prelude.{None};
 
 use super::*;
 use crate::device::{Failed, Sink, Source};
+use crate::report::report_script;
+use crate::run::run_script;
 use crate::script_fault::ScriptFault;
 use std::alloc::{AllocError, Global};
 use std::test::Fail;
@@ -224,3 +226,4 @@ fn reports_each_fault(rt: HostRuntime) -> Result<(), Fail> {
 }
 
 mod sessions;
+mod wrapped;

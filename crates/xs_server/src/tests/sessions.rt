@@ -2,12 +2,16 @@
 ghost use Rattle.std.specs.Prelude.{None};
 
 use super::*;
+use crate::connection::send;
+use crate::device::ToWrite;
 use crate::ending::{Ending, ServeFault};
 use crate::serve_alone::serve_alone;
 use std::cell::Cell;
 use std::sync::Wait;
+use xs_bytes::Bytes;
 use xs_desk::Alone;
 use xs_keys::{Clock, Keyspace};
+use xs_resp::Reply;
 use xs_stream::Moment;
 
 /// A clock that stands still.
@@ -248,5 +252,17 @@ fn a_refused_connection_is_served_again(rt: HostRuntime) -> Result<(), Fail> {
         answered = answered || bytes == PONGS.as_bytes();
     }
     assert!(rt; answered);
+    Ok(())
+}
+
+#[test]
+fn gives_a_great_buffer_back(rt: HostRuntime) -> Result<(), Fail> {
+    let alloc = rt.alloc();
+    let reply = Reply::Bulk(Bytes::new(vec![in alloc; b'x'; 1_000_000]?));
+    let mut writer = ToWrite::new(Vec::new(alloc));
+    let mut out = Vec::new(alloc);
+    assert_eq!(rt; send(&mut writer, &mut out, &reply), Ok(()));
+    assert_eq!(rt; writer.into_inner().len(), 1_000_012);
+    assert!(rt; out.capacity() <= 65_536);
     Ok(())
 }
