@@ -1,7 +1,8 @@
 #!/usr/bin/env python3
 """Lists the definitions that can be turned with no example broken.
 
-    slips.py [--only WORD] [--file WORD] [--from N] [--most N] [--step N] [--folder FOLDER] [--list] CRATE      needs the toolchain
+    slips.py [--only WORD] [--file WORD] [--from N] [--most N] [--step N] [--folder FOLDER] [--list] CRATE
+    slips.py --by-hand [--only WORD] [--folder FOLDER] CRATE      both need the toolchain
 
 A slip that is made alike in a definition and in the code that is proved against it passes every proof. What guards
 against it are examples whose values come from outside. In a copy of the repository this turns one thing of one
@@ -9,7 +10,8 @@ definition of crates/CRATE/specs at a time: a number by one, `<` for `<=`, `and`
 the other, an order, the first of a list for the whole, a result for its neighbour's, a letter of a text. Then it
 checks the examples of the crate alone (`rt check --only examples`), some seconds for each turn. A turn that no example
 refuses is shown; one that isn't well typed, or that a proof within specs/ refuses, isn't counted. The last line is
-'N refused, M passed, K not read'. It may run for hours, and belongs to no gate.
+'N refused, M passed, K not read'. It may run for hours, and belongs to no gate. With --by-hand it tries the slips of
+slips.txt instead, which are made by hand.
 """
 import argparse
 import os
@@ -44,7 +46,8 @@ SIBLINGS = [
 ]
 # where a word comes from that a turn brings in
 HOMES = {
-    "Prelude": ["nat_le", "nat_lt", "true", "false", "take", "drop", "[]", "◌&&◌", "◌||◌", "◌∷◌"],
+    "Prelude": ["nat_le", "nat_lt", "true", "false", "take", "drop", "[]", "◌&&◌", "◌||◌", "◌∷◌", "◌==◌", "◌+◌", "◌-◌",
+                "◌++◌", "bytes_eq", "length", "filter", "Some", "None", "if◌then◌else◌"],
     "List": ["list_any", "list_all"],
 }
 BEGINS = re.compile(r"^(?:abbrev|unfoldable) pub (\S+) *:", re.M)
@@ -167,12 +170,12 @@ def cases(body, name):
 
 def with_words(text):
     """The text with an import of each word that a turn brought in."""
-    head = text[:text.find("\nabbrev")]
+    head = text[:re.search(r"\n(?:abbrev|unfoldable|pub) ", text).start()]
     missing = []
     for home, words in HOMES.items():
         for word in words:
-            plain = word.strip("◌")
-            if plain in text and not re.search(rf"[{{, ]{re.escape(word)}[,}}]", head):
+            plain = word.strip("◌").split("◌")[0]
+            if re.search(rf"(?<![\w.]){re.escape(plain)}(?!\w)", text[len(head):]) and not re.search(rf"[{{, ]{re.escape(word)}[,}}]", head):
                 missing.append(f"use Rattle.std.specs.{home}.{{{word}}}\n")
     first = text.find("use ")
     return text[:first] + "".join(missing) + text[first:]
@@ -194,6 +197,23 @@ def turns(text, wanted):
             shown = turned[line:].split("\n")[0]
             yield Turn(name, f"{body[one:other].strip()!r} is {new.strip()!r} in: {shown.strip()}",
                        with_words(text[:start] + turned + text[end:]))
+
+
+def by_hand(asked):
+    """The file and the slip, for each of the crate that is made by hand."""
+    with open(os.path.join(HERE, "slips.txt"), encoding="utf-8") as source:
+        blocks = [block.split("\n") for block in source.read().rstrip("\n").split("\n\n")]
+    for lines in blocks:
+        crate, file, name = lines[0].split() if not lines[0].startswith("#") else ("", "", "")
+        if crate == asked.crate and asked.only in name:
+            with open(os.path.join(TOP, "crates", crate, "specs", file), encoding="utf-8") as source:
+                text = source.read()
+            for old, new in re.findall(r"((?:^- .*\n)+)((?:^\+ .*\n)+)", "\n".join(lines[1:]) + "\n", re.M):
+                old, new = (re.sub(r"^[-+] ", "", part, flags=re.M) for part in (old, new))
+                if text.count(old) != 1:
+                    sys.exit(f"{name}: {file} has it {text.count(old)} times: {old}")
+                text = text.replace(old, new)
+            yield file, Turn(name, "by hand", with_words(text))
 
 
 def judge(folder, path, turned):
@@ -242,17 +262,19 @@ def main():
     parser.add_argument("--most", type=int, default=10**9, help="how many turns")
     parser.add_argument("--step", type=int, default=1, help="one turn of so many")
     parser.add_argument("--folder", help="a copy of the repository to work in")
+    parser.add_argument("--by-hand", action="store_true", help="the slips of slips.txt")
     parser.add_argument("--list", action="store_true", help="shows the turns and tries none")
     parser.add_argument("crate")
     asked = parser.parse_args()
     counts = {"refused": 0, "passed": 0, "not read": 0}
     folder = TOP if asked.list else copied(asked.folder)
     crate = os.path.join(folder, "crates", asked.crate)
-    for file, turn in list(slips(crate, asked))[asked.first:asked.first + asked.most:asked.step]:
+    found = by_hand(asked) if asked.by_hand else slips(crate, asked)
+    for file, turn in list(found)[asked.first:asked.first + asked.most:asked.step]:
         verdict = "passed" if asked.list else judge(crate, os.path.join(crate, "specs", file), turn.text)
         counts[verdict] += 1
-        if verdict == "passed":
-            print(f"{file} {turn.name}: {turn.shown}", flush=True)
+        if verdict == "passed" or asked.by_hand and verdict != "refused":
+            print(verdict + ":" if asked.by_hand else "", f"{file} {turn.name}: {turn.shown}", flush=True)
     print(f"{counts['refused']} refused, {counts['passed']} passed, {counts['not read']} not read")
     return 0
 

@@ -26,7 +26,8 @@ pub record Formed : Type 0 where
   pub no_key_dropped : IsWellFormed (command.DropKeys []) → ⊥
   pub no_stream_read : IsWellFormed (reads_group None false []) → ⊥
   pub a_stream_read_twice :
-      IsWellFormed (reads_group None false (each (codes "a") New ∷ each (codes "b") New ∷ each (codes "a") New ∷ [])) → ⊥
+      IsWellFormed (reads_group None false (each (codes "a") New ∷ each (codes "b") New ∷ each (codes "a") New ∷ []))
+      → ⊥
   pub two_streams_read :
       IsWellFormed (reads_group None false (each (codes "a") New ∷ each (codes "b") (After zero_id) ∷ []))
   pub a_field : IsWellFormed (adds_fields (Exact (at 0 1)) (field (codes "f") (codes "v") ∷ []))

@@ -11,3 +11,4 @@ pub mod ExamplesRead
 pub mod ExamplesClaims
 pub mod ExamplesReport
 pub mod ExamplesDelivered
+pub mod ExamplesIndexes

@@ -2,6 +2,7 @@
 ghost use Rattle.xs_group.specs.ExamplesRead.{Counts, Consumers, Acknowledged, New, Own};
 ghost use Rattle.xs_group.specs.ExamplesClaims.{ByIds, ByScan, TimesAndCounts, Settled};
 ghost use Rattle.xs_group.specs.ExamplesDelivered.{Answers, TakenBack, Verdicts, Lawful};
+ghost use Rattle.xs_group.specs.ExamplesIndexes.{Indexes, Listed, Left};
 ghost use Rattle.xs_group.specs.ExamplesReport.{Summaries, Rows};
 
 /// Idle times and counts of deliveries.
@@ -77,4 +78,19 @@ pub fn verdicts()
 /// What holds of every group.
 pub fn lawful()
     ensures { Lawful }
+{}
+
+/// The index by consumer.
+pub fn indexes()
+    ensures { Indexes }
+{}
+
+/// Reports as they are made.
+pub fn listed()
+    ensures { Listed }
+{}
+
+/// What a read leaves.
+pub fn left()
+    ensures { Left }
 {}

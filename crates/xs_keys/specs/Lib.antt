@@ -12,3 +12,5 @@ pub mod Grouping
 pub mod Codes
 pub mod Played
 pub mod Examples
+pub mod ExamplesHistory
+pub mod ExamplesTurns

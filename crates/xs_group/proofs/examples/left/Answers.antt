@@ -1,0 +1,17 @@
+use Rattle.std.specs.Prelude.{T}
+use Rattle.std.proofs.Common.{sym, subst}
+use Rattle.xs_stream.specs.Examples.{at}
+use Rattle.std.proofs.Common.{refl}
+use Rattle.xs_bytes.specs.SortedMap.{empty, get, insert_by, remove, change}
+use Rattle.xs_group.proofs.examples.left.Goals as goal
+
+pub returns : goal.returns
+unfolding empty get insert_by remove change
+returns c = record {
+  received_with_rows = (refl, (refl, refl));
+  received_with_noack = (refl, (refl, refl));
+  nothing_received = (refl, (refl, refl));
+  noack_left_no_row = refl;
+  free = λ x h. absurd (subst T (sym h) tt);
+  not_free = λ h. subst T (h (at 2 0) refl) tt;
+}
