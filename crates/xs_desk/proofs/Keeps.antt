@@ -1,16 +1,16 @@
 -- The rings stay the same through a turn, and so the ends that come back belong to the keeper's lanes.
-use Rattle.std.specs.Prelude.{◌≡◌, ℕ, zero, suc, ◌+◌, ◌<◌, List, [], ◌∷◌, length, map, get_or, slice_get, Some, Result, MatchResult, refl}
-use Rattle.std.proofs.Common.{sym, ◌∙◌, ap, subst, arith}
+use Rattle.std.specs.Prelude.{◌≡◌, ℕ, zero, suc, ◌+◌, ◌<◌, List, [], ◌∷◌, ◌++◌, length, map, get_or, slice_get, Some, Result, MatchResult, refl}
+use Rattle.std.proofs.Common.{sym, ◌∙◌, ap, subst, inl, inr, arith}
 use Rattle.std.proofs.Math.Seq.{map-set_same}
 use Rattle.std.proofs.lemmas.Option.{get_or_from_slice_get, slice_get-map, slice_get_within}
 use Rattle.std.proofs.lemmas.List.{length-map}
 use Rattle.std.specs.Option.{option_map}
 use Rattle.xs_desk.specs.History.{Ring, LaneOf, Desk, ServedCall}
 use Rattle.xs_desk.specs.Serving.{with_call, Serves, ServesAll, Turns}
-use Rattle.xs_desk.specs.Callers.{Caller, AreEnds, IsSide}
+use Rattle.xs_desk.specs.Callers.{Caller, IsEndOf, AreEnds, IsSide}
 use Rattle.xs_desk.specs.Opening.{AreNew}
 use Rattle.xs_desk.specs.Keeping.{rings_of, KeepsRings, KeepsSide, KeepSides}
-use Rattle.xs_desk.proofs.Lists.{some-at, some-of-map}
+use Rattle.xs_desk.proofs.Lists.{some-at, some-of-map, snoc-cases, still-at, last-at}
 use Rattle.xs_desk.proofs.Turning.{turns-anyhow}
 
 serves-keeps : (old : Desk) (call : ServedCall) (new : Desk) → Serves old call new → KeepsRings old new
@@ -37,19 +37,35 @@ new-side k depth (x ∷ xs) (y ∷ ys) a zero c e =
 new-side k depth (x ∷ xs) (y ∷ ys) a (suc i) c e =
     let h = new-side (k + 1) depth xs ys a.1 i c e in (h.0, h.1, h.2, h.3 ∙ omega arith)
 
--- what a keeper and its clients have kept is what `close` asks for
-pub ends-fit : (depth : ℕ) (old new : Desk) (clients ends : List Caller) → AreNew 0 depth old.lanes clients → KeepsRings old new → KeepSides clients ends → AreEnds new.lanes ends
-ends-fit depth old new clients ends are rings sides i e at =
+pub ends-new : (depth : ℕ) (lanes : List LaneOf) (clients : List Caller) → AreNew 0 depth lanes clients → AreEnds lanes clients
+ends-new depth lanes clients are i e at =
+    let n = new-side 0 depth lanes clients are i e at in
+    let lane : e.lane ≡ i = n.3 ∙ omega arith in
+    (n.0, ap (λ (j : ℕ). slice_get lanes j) lane ∙ n.1, n.2)
+
+pub ends-turned : (old new : Desk) (ends : List Caller) → AreEnds old.lanes ends → KeepsRings old new → AreEnds new.lanes ends
+ends-turned old new ends are rings i e at =
+    let a = are i e at in
+    let here : slice_get (map rings_of old.lanes) e.lane ≡ Some (rings_of a.0) = slice_get-map rings_of old.lanes e.lane ∙ ap (option_map rings_of) a.1 in
+    let there : slice_get (map rings_of new.lanes) e.lane ≡ Some (rings_of a.0) = ap (λ (ls : List (Ring × Ring)). slice_get ls e.lane) rings ∙ here in
+    let l = some-of-map rings_of new.lanes e.lane (rings_of a.0) there in
+    (l.0, l.1, (ap (λ (p : Ring × Ring). p.0) l.2 ∙ a.2.0, ap (λ (p : Ring × Ring). p.1) l.2 ∙ a.2.1))
+
+pub ends-kept : (lanes : List LaneOf) (clients ends : List Caller) → AreEnds lanes clients → KeepSides clients ends → AreEnds lanes ends
+ends-kept lanes clients ends are sides i e at =
     let s = sides i e at in
-    let n = new-side 0 depth old.lanes clients are i s.0 s.1 in
-    let here : slice_get (map rings_of old.lanes) i ≡ Some (rings_of n.0) = slice_get-map rings_of old.lanes i ∙ ap (option_map rings_of) n.1 in
-    let there : slice_get (map rings_of new.lanes) i ≡ Some (rings_of n.0) = ap (λ (ls : List (Ring × Ring)). slice_get ls i) rings ∙ here in
-    let l = some-of-map rings_of new.lanes i (rings_of n.0) there in
-    let lane : e.lane ≡ i = s.2.0 ∙ n.3 ∙ omega arith in (
-      l.0,
-      ap (λ (j : ℕ). slice_get new.lanes j) lane ∙ l.1,
-      (ap (λ (p : Ring × Ring). p.0) l.2 ∙ n.2.0 ∙ sym s.2.1, ap (λ (p : Ring × Ring). p.1) l.2 ∙ n.2.1 ∙ sym s.2.2),
-    )
+    let a = are i s.0 s.1 in
+    (a.0, ap (λ (j : ℕ). slice_get lanes j) s.2.0 ∙ a.1, (a.2.0 ∙ sym s.2.1, a.2.1 ∙ sym s.2.2))
+
+pub ends-push : (lanes : List LaneOf) (ends : List Caller) (end : Caller) → AreEnds lanes ends → IsEndOf lanes end → AreEnds lanes (ends ++ end ∷ [])
+ends-push lanes ends end are is i e at = elim (snoc-cases ends end i e at) [ inl p ↦ are i e p | inr p ↦ subst (λ (x : Caller). IsEndOf lanes x) (sym p.1) is ]
+
+-- the last of some ends, and the others
+pub ends-pop : (lanes : List LaneOf) (all ends : List Caller) (end : Caller) → AreEnds lanes all → all ≡ ends ++ end ∷ [] → AreEnds lanes ends × IsEndOf lanes end
+ends-pop lanes all ends end are is = (
+  (λ i e at. are i e (ap (λ (xs : List Caller). slice_get xs i) is ∙ still-at ends end i e at)),
+  are (length ends) end (ap (λ (xs : List Caller). slice_get xs (length ends)) is ∙ last-at ends end),
+)
 
 -- where each client at its place kept its side
 pub sides-kept : {S : Type 0} (f : S → Caller) (js : List S) (clients ends : List Caller) → map f js ≡ clients → length ends ≡ length js

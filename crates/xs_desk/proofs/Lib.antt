@@ -8,3 +8,4 @@ pub mod Openings
 pub mod Keeps
 pub mod Sides
 pub mod Uniqueness
+pub mod Crossing

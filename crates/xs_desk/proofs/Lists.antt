@@ -12,6 +12,15 @@ snoc-cases [] y (suc j) x e = absurd (cc)
 snoc-cases (z ∷ zs) y zero x e = inl e
 snoc-cases (z ∷ zs) y (suc j) x e = elim (snoc-cases zs y j x e) [ inl p ↦ inl p | inr p ↦ inr (omega (arith, p.0), p.1) ]
 
+pub still-at : {X : Type 0} (xs : List X) (y : X) (j : ℕ) (x : X) → slice_get xs j ≡ Some x → slice_get (xs ++ y ∷ []) j ≡ Some x
+still-at [] y j x e = absurd (cc)
+still-at (z ∷ zs) y zero x e = e
+still-at (z ∷ zs) y (suc j) x e = still-at zs y j x e
+
+pub last-at : {X : Type 0} (xs : List X) (y : X) → slice_get (xs ++ y ∷ []) (length xs) ≡ Some y
+last-at [] y = refl
+last-at (z ∷ zs) y = last-at zs y
+
 -- what stands in a list after a write
 pub set-cases : {X : Type 0} (xs : List X) (i j : ℕ) (x m : X) → slice_get (slice_set xs i x) j ≡ Some m → ((j ≡ i) × (m ≡ x)) ⊎ ((i ≢ j) × (slice_get xs j ≡ Some m))
 set-cases [] i j x m e = absurd (cc)

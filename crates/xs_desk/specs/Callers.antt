@@ -29,11 +29,13 @@ caller_of lane calls answers =
 abbrev pub IsSide : LaneOf → Caller → Type 0
 IsSide lane caller = (lane.calls ≡ caller.calls) × (lane.answers ≡ caller.answers)
 
--- each of the ends is a side of the lane of its number
+-- it is a side of the lane of its number
+abbrev pub IsEndOf : List LaneOf → Caller → Type 0
+IsEndOf lanes end = (lane : LaneOf) × (slice_get lanes end.lane ≡ Some lane) × IsSide lane end
+
+-- each of these is
 abbrev pub AreEnds : List LaneOf → List Caller → Type 0
-AreEnds lanes ends =
-    (i : ℕ) (end : Caller) → slice_get ends i ≡ Some end
-    → (lane : LaneOf) × (slice_get lanes end.lane ≡ Some lane) × IsSide lane end
+AreEnds lanes ends = (i : ℕ) (end : Caller) → slice_get ends i ≡ Some end → IsEndOf lanes end
 
 -- an end of lane k is there
 abbrev pub HasEnd : List Caller → ℕ → Type 0
