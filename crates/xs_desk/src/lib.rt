@@ -1,8 +1,29 @@
-//! Whom commands are asked of.
+//! Whom commands are asked of: a keyspace alone, or a desk, whose keeper serves the calls of many clients, each over a
+//! lane of its own.
 #![tactic(auto)]
 
 pub mod alone;
+pub mod answer;
+pub mod client;
+pub mod closing;
+pub mod keeper;
+pub mod lane;
+pub mod laws;
+pub mod opening;
 pub mod port;
+mod seat;
+pub mod summary;
+mod waiting;
 
 pub use alone::Alone;
+pub use answer::Answer;
+pub use client::{Client, Ended, Full};
+pub use closing::{CloseError, close};
+pub use keeper::{Keeper, KeeperError, Waker};
+pub use lane::Lane;
+pub use opening::{DeskError, desk};
 pub use port::{Port, PortFault};
+pub use summary::{LaneSummary, Summary};
+
+#[cfg(test)]
+mod tests;

@@ -1,0 +1,11 @@
+pub mod Lists
+pub mod Histories
+pub mod Turning
+pub mod Looking
+pub mod Closings
+pub mod Askings
+pub mod Openings
+pub mod Keeps
+pub mod Sides
+pub mod Uniqueness
+pub mod Crossing

@@ -1,0 +1,70 @@
+-- The history of a desk: the calls that its keeper served, each with its answer, in the order of their places.
+use Rattle.std.specs.Prelude.{◌≡◌, ℕ, ◌<◌, ◌==◌, List, map, filter, length, slice_get, Some, All}
+use Rattle.std.specs.declared.alloc.Global.{Global}
+use Rattle.rtrb.specs.Shared.{Names}
+use denote.RawPtr.{Ptr}
+use Rattle.xs_bytes.specs.SortedMap.{empty}
+use Rattle.xs_resp.specs.declared.reply.Reply.{Reply}
+use Rattle.xs_command.specs.declared.command.Command.{Command}
+use Rattle.xs_keys.specs.Content.{Content}
+use Rattle.xs_keys.specs.Headline.{RunsOn}
+use Rattle.xs_desk.specs.declared.answer.Answer.{Answer}
+
+-- a call that was served: the number of its lane, what was asked, and what was answered
+pub record ServedCall : Type 0 where
+  pub lane : ℕ
+  pub command : Command
+  pub answer : Answer
+
+-- which ring it is
+pub record Ring : Type 0 where
+  pub words : Ptr
+  pub slots : Ptr
+  pub names : Names
+  pub heap : Global
+
+-- a lane as its keeper knows it: the commands taken from it, the answers sent to it, and the rings of both
+pub record LaneOf : Type 0 where
+  pub popped : List Command
+  pub sent : List Answer
+  pub calls : Ring
+  pub answers : Ring
+
+-- a desk as its keeper knows it: the lanes, what the keyspace holds, and the next place
+pub record Desk : Type 0 where
+  pub lanes : List LaneOf
+  pub keyspace : Content
+  pub place : ℕ
+
+-- the calls of lane k
+abbrev pub of_lane : ℕ → List ServedCall → List ServedCall
+of_lane k history = filter (λ call. call.lane == k) history
+
+abbrev pub commands_of : List ServedCall → List Command
+commands_of calls = map (λ call. call.command) calls
+
+abbrev pub answers_of : List ServedCall → List Answer
+answers_of calls = map (λ call. call.answer) calls
+
+-- each command at the moment that its answer tells
+abbrev pub events_of : List ServedCall → List (ℕ × Command)
+events_of calls = map (λ call. (call.answer.moment, call.command)) calls
+
+abbrev pub replies_of : List ServedCall → List Reply
+replies_of calls = map (λ call. call.answer.reply) calls
+
+-- the numbers are 0, 1, 2, ..
+abbrev pub CountUp : List ℕ → Type 0
+CountUp numbers = (i n : ℕ) → slice_get numbers i ≡ Some n → n ≡ i
+
+-- The places are 0, 1, 2, .. over the whole desk, and the tickets are so in each lane. What was taken from a lane and
+-- sent to it are its calls of the history, in their order. The calls at their moments are a run from the empty
+-- keyspace on, which gave these replies and left what the keyspace holds.
+pub record IsHistory (history : List ServedCall) (desk : Desk) : Type 0 where
+  pub places : CountUp (map (λ call. call.answer.place) history)
+  pub tickets : (k : ℕ) → CountUp (map (λ call. call.answer.ticket) (of_lane k history))
+  pub lanes : (k : ℕ) (lane : LaneOf) → slice_get desk.lanes k ≡ Some lane
+      → (lane.popped ≡ commands_of (of_lane k history)) × (lane.sent ≡ answers_of (of_lane k history))
+  pub within : All (λ call. call.lane < length desk.lanes) history
+  pub next : desk.place ≡ length history
+  pub runs : RunsOn empty (events_of history) (replies_of history) desk.keyspace

@@ -1,0 +1,35 @@
+-- A new desk, and why there is none.
+use Rattle.std.specs.Prelude.{◌≡◌, ℕ, ◌+◌, ◌<◌, ◌⊎◌, List, [], ◌∷◌}
+use Rattle.xs_desk.specs.declared.opening.DeskError.{DeskError}
+use Rattle.xs_desk.specs.declared.opening.DeskError.TheVariants.{Lanes, Depth, Memory}
+use Rattle.xs_desk.specs.History.{LaneOf}
+use Rattle.xs_desk.specs.Callers.{Caller, IsSide}
+
+-- lane k, which nobody has used yet
+pub record IsNew (k depth : ℕ) (lane : LaneOf) (client : Caller) : Type 0 where
+  pub popped : lane.popped ≡ []
+  pub sent : lane.sent ≡ []
+  pub submitted : client.submitted ≡ []
+  pub taken : client.taken ≡ []
+  pub number : client.lane ≡ k
+  pub depth_is : client.depth ≡ depth
+  pub side : IsSide lane client
+
+-- lanes from number k on, which nobody has used yet, and their clients
+abbrev pub AreNew : ℕ → ℕ → List LaneOf → List Caller → Type 0
+AreNew k depth [] [] = Unit {0}
+AreNew k depth (lane ∷ lanes) (client ∷ clients) = IsNew k depth lane client × AreNew (k + 1) depth lanes clients
+AreNew k depth _ _ = ⊥
+
+-- the numbers of lanes and of places that a desk may have
+abbrev pub IsLaneCount : ℕ → Type 0
+IsLaneCount n = (0 < n) × (n < 65)
+
+abbrev pub IsDepth : ℕ → Type 0
+IsDepth depth = (0 < depth) × (depth < 65537)
+
+-- the lanes are too many or none; else the places are; else memory ran out
+abbrev pub IsDeskError : ℕ → ℕ → DeskError → Type 0
+IsDeskError n depth Lanes = (n ≡ 0) ⊎ (64 < n)
+IsDeskError n depth Depth = IsLaneCount n × ((depth ≡ 0) ⊎ (65536 < depth))
+IsDeskError n depth Memory = IsLaneCount n × IsDepth depth

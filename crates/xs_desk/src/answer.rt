@@ -1,0 +1,28 @@
+//! What goes through the rings of a lane.
+use rtrb::Protocol;
+use xs_command::Command;
+use xs_resp::Reply;
+use xs_stream::Moment;
+
+/// The answer to a call.
+#[derive(Debug, Drop)]
+pub struct Answer {
+    /// The number of the call in its lane, from 0 on.
+    pub ticket: u64,
+    /// The number of the call over the whole desk, from 0 on.
+    pub place: u64,
+    /// When it was applied.
+    pub moment: Moment,
+    /// The reply of the keyspace.
+    pub reply: Reply,
+}
+
+/// The rule of a ring for calls: each command is well formed.
+#[derive(Clone, Copy)]
+pub struct Formed;
+
+impl Protocol<Command> for Formed {
+    ghost use Rattle.xs_command.specs.WellFormed.{IsWellFormed};
+
+    ghost allows = { λ _ command. IsWellFormed command };
+}

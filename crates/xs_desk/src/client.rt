@@ -1,0 +1,163 @@
+//! The client's side of a lane.
+ghost use Rattle.std.specs.Prelude.{◌≡◌, ◌++◌, ◌∷◌, [], ◌<◌, length, IfOk, IfErr, IsOk, MatchOption};
+
+use crate::answer::{Answer, Formed};
+use crate::waiting::{Bell, Sleeper};
+use rtrb::{Consumer, Producer, PushError};
+use std::alloc::Global;
+use std::marker::Model;
+use std::sync::atomic::{AtomicBool, Ordering};
+use std::sync::{Arc, Wait};
+use xs_command::Command;
+
+/// There is no free place for the command, or no further ticket. It hands the command back.
+#[derive(Debug, Drop)]
+pub struct Full(pub Command);
+
+/// The client of a lane. Contracts see the number of the lane, the commands submitted, the answers taken, which rings
+/// they go through, and for how many commands there are places.
+#[derive(Drop)]
+pub struct Client {
+    calls: Producer<Command, Global, Formed>,
+    answers: Consumer<Answer>,
+    lane: usize,
+    ticket: u64,
+    sleeper: Sleeper,
+    // Wakes the keeper.
+    bell: Bell,
+    // Set once nobody is served any more.
+    gone: Arc<AtomicBool>,
+}
+
+impl Model for Client {
+    ghost use Rattle.xs_desk.specs.Callers.{Caller};
+
+    ghost Value = { Caller };
+
+    ghost use Rattle.std.specs.Prelude.{◌≡◌, length};
+    ghost use Rattle.rtrb.specs.Ring.{sent};
+    ghost use Rattle.xs_desk.specs.Callers.{caller_of};
+
+    ghost view = { λ c. caller_of c.lane c.calls c.answers };
+
+    ghost invariant = { λ c. c.ticket ≡ length (sent c.calls) };
+}
+
+/// What is left of a client that makes no further call. Contracts see what they see of the client.
+#[derive(Drop)]
+pub struct Ended {
+    pub(crate) calls: Producer<Command, Global, Formed>,
+    pub(crate) answers: Consumer<Answer>,
+    pub(crate) lane: usize,
+}
+
+impl Model for Ended {
+    ghost use Rattle.xs_desk.specs.Callers.{Caller};
+
+    ghost Value = { Caller };
+
+    ghost use Rattle.xs_desk.specs.Callers.{caller_of};
+
+    ghost view = { λ e. caller_of e.lane e.calls e.answers };
+}
+
+impl Client {
+    ghost use Rattle.std.specs.Prelude.{◌≡◌, ◌++◌, ◌∷◌, [], ◌<◌, length, IfOk, IfErr, IsOk, MatchOption};
+    ghost use Rattle.rtrb.specs.Ring.{sent};
+    ghost use Rattle.xs_command.specs.WellFormed.{IsWellFormed};
+    ghost use Rattle.xs_desk.specs.Callers.{caller_of};
+
+    /// A client that has submitted nothing.
+    pub(crate) fn new(
+        lane: usize,
+        calls: Producer<Command, Global, Formed>,
+        answers: Consumer<Answer>,
+        sleeper: Sleeper,
+        bell: Bell,
+        gone: Arc<AtomicBool>,
+    ) -> Client
+        requires { sent calls ≡ [] }
+        ensures { result ≡ caller_of lane calls answers }
+    {
+        Client {
+            calls,
+            answers,
+            lane,
+            ticket: 0,
+            sleeper,
+            bell,
+            gone,
+        }
+    }
+
+    /// Submits a command. It answers the ticket: 0, 1, 2, .. in this lane. It takes no memory.
+    ///
+    /// # Errors
+    /// `Full`, with the command. Nothing has changed.
+    pub fn submit(&mut self, command: Command) -> Result<u64, Full>
+        requires { IsWellFormed command }
+        ensures ok { IfOk result (λ ticket. (ticket ≡ length self.old.submitted)
+            × (self.new ≡ record self.old { submitted = self.old.submitted ++ command ∷ [] })) }
+        ensures full { IfErr result (λ full. (full.0 ≡ command) × (self.new ≡ self.old)) }
+        ensures room { length self.old.submitted < self.old.depth → IsOk result }
+    {
+        let ticket = self.ticket;
+        let Some(next) = ticket.checked_add(1) else {
+            return Err(Full(command));
+        };
+        match self.calls.push(command) {
+            Ok(()) => {
+                self.ticket = next;
+                Ok(ticket)
+            }
+            Err(PushError::Full(back)) => Err(Full(back)),
+        }
+    }
+
+    /// The next answer, if it has come. It takes no memory.
+    pub fn take(&mut self) -> Option<Answer>
+        ensures { MatchOption result (self.new ≡ self.old)
+            (λ answer. self.new ≡ record self.old { taken = self.old.taken ++ answer ∷ [] }) }
+    {
+        self.answers.pop().ok()
+    }
+
+    /// Ends the client: it makes no further call.
+    pub fn finish(self) -> Ended
+        ensures { result ≡ self }
+    {
+        let Client {
+            calls,
+            answers,
+            lane,
+            ..
+        } = self;
+        Ended {
+            calls,
+            answers,
+            lane,
+        }
+    }
+
+    /// Begins a look for an answer or a place, and says whether nobody is served any more.
+    pub(crate) fn begin_look(&mut self) -> bool
+        ensures { self.new ≡ self.old }
+    {
+        self.sleeper.begin_look();
+        self.gone.load(Ordering::SeqCst)
+    }
+
+    /// The look has found what it was for. The keeper is told where a command was submitted.
+    pub(crate) fn found(&mut self)
+        ensures { self.new ≡ self.old }
+    {
+        self.sleeper.found();
+        self.bell.ring();
+    }
+
+    /// Waits where the look has found nothing. The keeper is told first: a place may have come free for it.
+    pub(crate) fn rest<R: Wait>(&self, rt: &R) {
+        self.bell.ring();
+        self.sleeper.rest(rt);
+    }
+}

@@ -1,0 +1,112 @@
+//! Closing a desk.
+ghost use Rattle.std.specs.Prelude.{◌≡◌, ℕ, ◌<◌, ◌≤◌, [], List, length, map, IfOk, IfErr, IfSome, IfNone, IsTrue, IsFalse, slice_get, Some, vec_capacity};
+ghost use Rattle.xs_bytes.specs.SortedMap.{empty};
+ghost use Rattle.xs_keys.specs.Headline.{RunsOn};
+ghost use Rattle.xs_desk.specs.History.{ServedCall, IsHistory, events_of, replies_of};
+ghost use Rattle.xs_desk.specs.Seats.{lane_of};
+ghost use Rattle.xs_desk.specs.Callers.{Caller, AreEnds, HasEnd, IsSide};
+ghost use Rattle.xs_desk.specs.Closing.{SumsUp, SumUp, AreEven, IsRefused};
+
+use crate::client::Ended;
+use crate::keeper::Keeper;
+use crate::seat::Seat;
+use crate::summary::{LaneSummary, Summary};
+use std::alloc::Global;
+
+/// Why a desk wasn't closed. Both arguments come back as they were. The first that holds is told.
+#[derive(Drop)]
+pub enum CloseError {
+    /// The end of a lane is missing.
+    Unfinished(Keeper, Vec<Ended>),
+    /// Out of memory.
+    Memory(Keeper, Vec<Ended>),
+}
+
+/// Where the first end of the lane stands.
+fn end_of(ended: &Vec<Ended>, lane: usize) -> Option<usize>
+    ensures found { IfSome result (λ i. (i < length ended.now.items) × ((end : Caller) × (slice_get ended.now.items i ≡ Some end) × (end.lane ≡ lane))) }
+    ensures none { IfNone result (HasEnd ended.now.items lane → ⊥) }
+{
+    for i in 0..ended.len() {
+        let end = &ended[i];
+        if end.lane == lane {
+            return Some(i);
+        }
+    }
+    None
+}
+
+fn has_all(ended: &Vec<Ended>, lanes: usize) -> bool
+    ensures yes { IsTrue result → (k : ℕ) → k < lanes → HasEnd ended.now.items k }
+    ensures no { IsFalse result → (k : ℕ) × (k < lanes) × (HasEnd ended.now.items k → ⊥) }
+{
+    for k in 0..lanes {
+        if end_of(ended, k).is_none() {
+            return false;
+        }
+    }
+    true
+}
+
+/// Looks at both rings of a lane with both ends of each.
+fn sum_up(seat: &mut Seat, end: &mut Ended) -> LaneSummary
+    requires side { IsSide (lane_of seat.old) end.old }
+    requires even { length (lane_of seat.old).sent ≡ length (lane_of seat.old).popped }
+    ensures seat { lane_of seat.new ≡ lane_of seat.old }
+    ensures end { end.new ≡ end.old }
+    ensures summary { SumsUp (lane_of seat.old) end.old result }
+{
+    let left = seat.calls.slots_beside(&mut end.calls);
+    let untaken = end.answers.slots_beside(&mut seat.answers);
+    LaneSummary {
+        served: seat.ticket,
+        left: left as u64,
+        untaken: untaken as u64,
+    }
+}
+
+/// Sums up each lane. The room for it was made before, and the ends are all there.
+fn sum_up_all(seats: &mut Vec<Seat>, ended: &mut Vec<Ended>, lanes: &mut Vec<LaneSummary>)
+    requires room { (lanes.old.items ≡ []) × (length seats.old.items ≤ vec_capacity lanes.old) }
+    requires ends { AreEnds (map lane_of seats.old.items) ended.old.items }
+    requires all { (k : ℕ) → k < length seats.old.items → HasEnd ended.old.items k }
+    requires even { AreEven (map lane_of seats.old.items) }
+    ensures { SumUp (map lane_of seats.old.items) ended.old.items (length seats.old.items) lanes.new.items }
+{
+    for k in 0..seats.len() {
+        let Some(at) = end_of(ended, k) else {
+            unreachable!();
+        };
+        let end = &mut ended[at];
+        let seat = &mut seats[k];
+        let summary = sum_up(seat, end);
+        if lanes.push(summary).is_err() {
+            unreachable!();
+        }
+    }
+}
+
+/// Closes a desk whose clients have finished. Each end is one of the desk's: its rings are those of the keeper's lane of
+/// its number.
+///
+/// # Errors
+/// A `CloseError`.
+pub fn close(alloc: Global, keeper: Keeper, ended: Vec<Ended>) -> Result<Summary, CloseError>
+    requires { AreEnds keeper.lanes ended.items }
+    ensures lanes { IfOk result (λ summary. SumUp keeper.lanes ended.items (length keeper.lanes) summary.lanes.items) }
+    ensures history { IfOk result (λ summary. (history : List ServedCall) × IsHistory history keeper
+        × RunsOn empty (events_of history) (replies_of history) summary.keyspace) }
+    ensures refused { IfErr result (IsRefused keeper ended.items) }
+{
+    let count = keeper.lanes();
+    if !has_all(&ended, count) {
+        return Err(CloseError::Unfinished(keeper, ended));
+    }
+    let Ok(mut lanes) = Vec::with_capacity(alloc, count) else {
+        return Err(CloseError::Memory(keeper, ended));
+    };
+    let (mut seats, keyspace) = keeper.into_parts();
+    let mut ended = ended;
+    sum_up_all(&mut seats, &mut ended, &mut lanes);
+    Ok(Summary { lanes, keyspace })
+}

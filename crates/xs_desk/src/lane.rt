@@ -1,0 +1,126 @@
+//! A client that waits for each answer.
+ghost use Rattle.std.specs.Prelude.{◌≡◌, length, MatchResult};
+ghost use Rattle.xs_command.specs.WellFormed.{IsWellFormed};
+ghost use Rattle.xs_desk.specs.Asking.{Submits, Takes, Receives, Asks, Fails};
+
+use crate::client::{Client, Full};
+use crate::port::{Port, PortFault};
+use std::marker::Model;
+use std::sync::Wait;
+use xs_command::Command;
+use xs_resp::Reply;
+
+/// The port of a client. Contracts see the client, and whether the keeper is known to be gone.
+#[derive(Drop)]
+pub struct Lane {
+    client: Client,
+    gone: bool,
+}
+
+impl Model for Lane {
+    ghost use Rattle.xs_desk.specs.Asking.{Asker};
+
+    ghost Value = { Asker };
+
+    ghost view = { λ l. record { client = l.client; gone = l.gone } };
+}
+
+impl Lane {
+    ghost use Rattle.std.specs.Prelude.{◌≡◌, false};
+
+    /// A port of this client. It takes no memory.
+    pub fn new(client: Client) -> Lane
+        ensures { result ≡ record { client = client; gone = false } }
+    {
+        Lane {
+            client,
+            gone: false,
+        }
+    }
+
+    /// Gives the client back. It takes no memory.
+    pub fn end(self) -> Client
+        ensures { result ≡ self.client }
+    {
+        self.client
+    }
+}
+
+/// Submits the command; while there is no place for it, it takes an older answer, or waits.
+#[tactic(auto, using(crate::proofs::Askings::takes_none, crate::proofs::Askings::takes_more, crate::proofs::Askings::takes_last, crate::proofs::Askings::takes_submits, crate::proofs::Askings::takes_same))]
+fn submit<R: Wait>(rt: &R, client: &mut Client, command: Command) -> Result<u64, PortFault>
+    requires { IsWellFormed command }
+    ensures { MatchResult result
+        (λ ticket. (ticket ≡ length client.old.submitted) × Submits client.old command client.new)
+        (λ _. Takes client.old client.new) }
+{
+    let mut command = command;
+    for _ in rt.forever() {
+        let gone = client.begin_look();
+        match client.submit(command) {
+            Ok(ticket) => {
+                client.found();
+                return Ok(ticket);
+            }
+            Err(Full(back)) => command = back,
+        }
+        if client.take().is_none() {
+            if gone {
+                return Err(PortFault::Gone);
+            }
+            client.rest(rt);
+        }
+    }
+    unreachable!()
+}
+
+/// Takes answers up to the one with the ticket, and waits for it.
+#[tactic(auto, using(crate::proofs::Askings::takes_none, crate::proofs::Askings::takes_more, crate::proofs::Askings::takes_last, crate::proofs::Askings::takes_submits, crate::proofs::Askings::takes_same))]
+fn receive<R: Wait>(rt: &R, client: &mut Client, ticket: u64) -> Result<Reply, PortFault>
+    ensures { MatchResult result (λ reply. Receives client.old ticket reply client.new) (λ _. Takes client.old client.new) }
+{
+    for _ in rt.forever() {
+        let gone = client.begin_look();
+        match client.take() {
+            Some(answer) => {
+                if answer.ticket == ticket {
+                    client.found();
+                    return Ok(answer.reply);
+                }
+            }
+            None => {
+                if gone {
+                    return Err(PortFault::Gone);
+                }
+                client.rest(rt);
+            }
+        }
+    }
+    unreachable!()
+}
+
+fn ask_of<R: Wait>(rt: &R, client: &mut Client, command: Command) -> Result<Reply, PortFault>
+    requires { IsWellFormed command }
+    ensures { MatchResult result (λ reply. Asks client.old command reply client.new) (λ _. Fails client.old command client.new) }
+{
+    let ticket = submit(rt, client, command)?;
+    receive(rt, client, ticket)
+}
+
+impl Port for Lane {
+    ghost use Rattle.xs_desk.specs.Asking.{Asks, Fails};
+
+    ghost replies = { λ old command reply new. Asks old.client command reply new.client };
+
+    ghost fails = { λ old command new. Fails old.client command new.client };
+
+    ghost gone = { λ lane. lane.gone };
+
+    fn ask<R: Wait>(&mut self, rt: &R, command: Command) -> Result<Reply, PortFault> {
+        let asked = ask_of(rt, &mut self.client, command);
+        if asked.is_err() {
+            self.gone = true;
+        }
+        asked
+    }
+}

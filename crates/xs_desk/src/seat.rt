@@ -1,0 +1,71 @@
+//! The keeper's side of a lane.
+ghost use Rattle.std.specs.Prelude.{◌≡◌, ◌+◌, ◌^◌, ◌≤◌, Some, None, nat_lt, if◌then◌else◌, length};
+ghost use Rattle.rtrb.specs.Ring.{sent};
+
+use crate::answer::{Answer, Formed};
+use crate::waiting::Bell;
+use rtrb::{Consumer, Producer};
+use std::alloc::Global;
+use xs_command::Command;
+use xs_keys::{Clock, Keyspace};
+
+/// The keeper's ends of the rings of a lane.
+#[derive(Drop)]
+pub(crate) struct Seat {
+    pub calls: Consumer<Command, Global, Formed>,
+    pub answers: Producer<Answer>,
+    pub ticket: u64,
+    // Wakes the client of the lane.
+    pub bell: Bell,
+    ghost counted: { ticket ≡ length (sent answers) },
+}
+
+/// What came of a look at a lane.
+#[derive(Clone, Copy, Debug, PartialEq, Eq)]
+pub(crate) enum Look {
+    Idle,
+    Served,
+    Exhausted,
+}
+
+/// The place after a place, if there is one.
+pub(crate) fn next_place(place: u64) -> Option<u64>
+    ensures { result ≡ (if nat_lt (place + 1) (2 ^ 64) then Some (place + 1) else None) }
+{
+    place.checked_add(1)
+}
+
+impl Seat {
+    ghost use Rattle.xs_desk.specs.Seats.{scene, Looks};
+
+    /// Serves the next call of the lane, if there is one and its answer has a free place.
+    pub fn serve<C: Clock>(
+        &mut self,
+        keyspace: &mut Keyspace,
+        place: &mut u64,
+        clock: &mut C,
+    ) -> Look
+        requires { length (sent self.old.answers) ≤ place.old }
+        ensures { Looks C.gives result (scene self.old keyspace.old place.old clock.old) (scene self.new keyspace.new place.new clock.new) }
+    {
+        if self.answers.is_full() || self.calls.is_empty() {
+            return Look::Idle;
+        }
+        let Some(next) = next_place(*place) else {
+            return Look::Exhausted;
+        };
+        let command = self.calls.pop_known();
+        let moment = clock.now();
+        let reply = keyspace.apply(moment, &command);
+        self.answers.push_reserved(Answer {
+            ticket: self.ticket,
+            place: *place,
+            moment,
+            reply,
+        });
+        self.ticket += 1;
+        *place = next;
+        self.bell.ring();
+        Look::Served
+    }
+}

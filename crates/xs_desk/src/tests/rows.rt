@@ -1,0 +1,79 @@
+//! One desk in one thread.
+use super::commands::{read, text_of};
+use super::trial::{Still, Trial};
+use crate::client::Full;
+use crate::opening::{DeskError, desk};
+use crate::seat::next_place;
+use crate::summary::LaneSummary;
+use std::alloc::Global;
+use std::process::Abort;
+use std::test::Fail;
+use xs_resp::Reply;
+
+/// The summary of a lane.
+fn lane(served: u64, left: u64, untaken: u64) -> LaneSummary {
+    LaneSummary {
+        served,
+        left,
+        untaken,
+    }
+}
+
+const ADDITION: &str = "XADD s * f v";
+
+#[test]
+fn lanes_and_places_have_bounds(rt: HostRuntime) -> Result<(), Fail> {
+    let alloc = rt.alloc();
+    for (lanes, depth, fault) in [
+        (0, 1, DeskError::Lanes),
+        (65, 1, DeskError::Lanes),
+        (0, 0, DeskError::Lanes),
+        (1, 0, DeskError::Depth),
+        (64, 65_537, DeskError::Depth),
+    ] {
+        assert!(rt; matches!(desk(alloc, lanes, depth), Err(told) if told == fault), "{lanes}, {depth}");
+    }
+    assert!(rt; desk(alloc, 64, 1).is_ok());
+    assert!(rt; desk(alloc, 1, 65_536).is_ok());
+    Ok(())
+}
+
+/// A desk whose lane 0 has answered two additions, and has a third that waits for a place for its answer.
+fn three_additions<R: Abort>(rt: &R, alloc: Global, clock: &mut Still) -> Result<Trial, Fail> {
+    let mut trial = Trial::new(alloc, 2, 1)?;
+    assert!(rt; matches!(trial.submit(0, read(alloc, ADDITION)?), Ok(0)));
+    assert!(rt; matches!(trial.submit(0, read(alloc, ADDITION)?), Err(Full(_))));
+    assert_eq!(rt; trial.turn(clock), Ok(1));
+    let answer = trial.take(0).ok_or("an answer")?;
+    assert_eq!(rt; (answer.ticket, answer.place, answer.moment.get()), (0, 0, 1000));
+    assert_eq!(rt; text_of(alloc, &answer.reply)?.as_slice(), b"$6\r\n1000-0\r\n".as_slice());
+    assert!(rt; trial.take(0).is_none());
+    assert!(rt; matches!(trial.submit(0, read(alloc, ADDITION)?), Ok(1)));
+    assert_eq!(rt; trial.turn(clock), Ok(1));
+    assert!(rt; matches!(trial.submit(0, read(alloc, ADDITION)?), Ok(2)));
+    assert_eq!(rt; trial.turn(clock), Ok(0));
+    Ok(trial)
+}
+
+// Lane 0 has a place for one command and one answer: a second command is handed back, and a call whose answer has no
+// place stays where it is.
+#[test]
+fn serves_one_call_after_the_other(rt: HostRuntime) -> Result<(), Fail> {
+    let alloc = rt.alloc();
+    let mut clock = Still::at(1000).ok_or("a moment")?;
+    let trial = three_additions(&rt, alloc, &mut clock)?;
+    let summary = trial.close_late(alloc).ok_or("a summary")?;
+    assert_eq!(rt; summary.lanes.as_slice(), [lane(2, 1, 1), lane(0, 0, 0)].as_slice());
+    let mut keyspace = summary.keyspace;
+    let reply = keyspace.apply(clock.moment, &read(alloc, "XLEN s")?);
+    assert!(rt; matches!(reply, Reply::Int(2)));
+    Ok(())
+}
+
+// The last place is told by the number before it.
+#[test]
+fn the_last_place_has_none_after_it(rt: HostRuntime) {
+    assert_eq!(rt; next_place(0), Some(1));
+    assert_eq!(rt; next_place(u64::MAX - 1), Some(u64::MAX));
+    assert_eq!(rt; next_place(u64::MAX), None);
+}

@@ -1,0 +1,100 @@
+//! How a lane and its keeper wait for each other. No promise rests on it.
+//!
+//! A side that finds nothing looks again, at first at once, then after it has yielded the processor, and then it parks.
+//! Before the look after which it may park it says that it sleeps, and the other side gives its token only then.
+//! No token is lost, since all loads and stores have one order: the sleeper stores the flag, looks, and parks; the other
+//! side pushes or takes something, and loads the flag. Where the look came before the push, so did the store, and the
+//! load finds the flag set: the token is given, and ends the park, even one that begins later. Where the look came
+//! after the push, it has found what was pushed. A token that nobody needed ends one park too early, after which the
+//! sleeper looks again.
+use crossbeam_utils::sync::{Parker, Unparker};
+use std::alloc::{AllocError, Global};
+use std::sync::atomic::{AtomicBool, Ordering};
+use std::sync::{Arc, Wait};
+use std::{hint, thread};
+
+/// How many looks that find nothing are made one right after the other.
+const SPINS: u32 = 20;
+
+/// How many more are made, each after the processor was yielded.
+const YIELDS: u32 = 10;
+
+/// The look after which a side parks, where it finds nothing.
+const LAST_LOOK: u32 = SPINS + YIELDS + 1;
+
+/// One side's own waiting.
+#[derive(Drop)]
+pub(crate) struct Sleeper {
+    // Looks that found nothing, one after the other, with the one begun; at most LAST_LOOK.
+    looks: u32,
+    sleeps: Arc<AtomicBool>,
+    parker: Parker,
+}
+
+/// What wakes the other side.
+#[derive(Drop)]
+pub(crate) struct Bell {
+    sleeps: Arc<AtomicBool>,
+    unparker: Unparker,
+}
+
+impl Sleeper {
+    pub fn new(alloc: Global) -> Result<Sleeper, AllocError> {
+        let sleeps = Arc::new(alloc, AtomicBool::new(false))?;
+        let parker = Parker::new(alloc)?;
+        Ok(Sleeper {
+            looks: 0,
+            sleeps,
+            parker,
+        })
+    }
+
+    pub fn bell(&self) -> Result<Bell, AllocError> {
+        let sleeps = Arc::try_clone(&self.sleeps)?;
+        let unparker = self.parker.unparker().clone()?;
+        Ok(Bell { sleeps, unparker })
+    }
+
+    /// Begins a look. It stands before the look itself.
+    pub fn begin_look(&mut self) {
+        if self.looks < LAST_LOOK {
+            self.looks += 1;
+        }
+        if self.looks == LAST_LOOK {
+            self.sleeps.store(true, Ordering::SeqCst);
+        }
+    }
+
+    /// The look has found something.
+    pub fn found(&mut self) {
+        if self.looks == LAST_LOOK {
+            self.sleeps.store(false, Ordering::SeqCst);
+        }
+        self.looks = 0;
+    }
+
+    /// Waits a little where the look has found nothing; after the last look it waits for the token.
+    pub fn rest<R: Wait>(&self, rt: &R) {
+        if self.looks == LAST_LOOK {
+            self.parker.park(rt);
+        } else if self.looks > SPINS {
+            thread::yield_now();
+        } else {
+            hint::spin_loop();
+        }
+    }
+}
+
+impl Bell {
+    /// Gives the token if the other side may sleep.
+    pub fn ring(&self) {
+        if self.sleeps.load(Ordering::SeqCst) {
+            self.unparker.unpark();
+        }
+    }
+
+    /// Gives the token in any case.
+    pub fn wake(&self) {
+        self.unparker.unpark();
+    }
+}
