@@ -31,7 +31,10 @@ fn lanes_and_places_have_bounds(rt: HostRuntime) -> Result<(), Fail> {
         (1, 0, DeskError::Depth),
         (64, 65_537, DeskError::Depth),
     ] {
-        assert!(rt; matches!(desk(alloc, lanes, depth), Err(told) if told == fault), "{lanes}, {depth}");
+        assert!(rt;
+            matches!(desk(alloc, lanes, depth), Err(told) if told == fault),
+            "{lanes}, {depth}"
+        );
     }
     assert!(rt; desk(alloc, 64, 1).is_ok());
     assert!(rt; desk(alloc, 1, 65_536).is_ok());
@@ -45,8 +48,14 @@ fn three_additions<R: Abort>(rt: &R, alloc: Global, clock: &mut Still) -> Result
     assert!(rt; matches!(trial.submit(0, read(alloc, ADDITION)?), Err(Full(_))));
     assert_eq!(rt; trial.turn(clock), Ok(1));
     let answer = trial.take(0).ok_or("an answer")?;
-    assert_eq!(rt; (answer.ticket, answer.place, answer.moment.get()), (0, 0, 1000));
-    assert_eq!(rt; text_of(alloc, &answer.reply)?.as_slice(), b"$6\r\n1000-0\r\n".as_slice());
+    assert_eq!(rt;
+        (answer.ticket, answer.place, answer.moment.get()),
+        (0, 0, 1000)
+    );
+    assert_eq!(rt;
+        text_of(alloc, &answer.reply)?.as_slice(),
+        b"$6\r\n1000-0\r\n".as_slice()
+    );
     assert!(rt; trial.take(0).is_none());
     assert!(rt; matches!(trial.submit(0, read(alloc, ADDITION)?), Ok(1)));
     assert_eq!(rt; trial.turn(clock), Ok(1));
@@ -63,7 +72,10 @@ fn serves_one_call_after_the_other(rt: HostRuntime) -> Result<(), Fail> {
     let mut clock = Still::at(1000).ok_or("a moment")?;
     let trial = three_additions(&rt, alloc, &mut clock)?;
     let summary = trial.close_late(alloc).ok_or("a summary")?;
-    assert_eq!(rt; summary.lanes.as_slice(), [lane(2, 1, 1), lane(0, 0, 0)].as_slice());
+    assert_eq!(rt;
+        summary.lanes.as_slice(),
+        [lane(2, 1, 1), lane(0, 0, 0)].as_slice()
+    );
     let mut keyspace = summary.keyspace;
     let reply = keyspace.apply(clock.moment, &read(alloc, "XLEN s")?);
     assert!(rt; matches!(reply, Reply::Int(2)));

@@ -50,7 +50,11 @@ pub fn keep<C: Clock + Drop, R: Wait>(rt: &R, keeper: Keeper, clock: C, stop: &A
 }
 
 /// A client for each job, as far as there are jobs.
-fn seat_all<J: Drop>(alloc: Global, clients: Vec<Client>, jobs: Vec<J>) -> Result<Vec<Seated<J>>, AllocError>
+fn seat_all<J: Drop>(
+    alloc: Global,
+    clients: Vec<Client>,
+    jobs: Vec<J>,
+) -> Result<Vec<Seated<J>>, AllocError>
     ensures { IfOk result (λ seated. map (λ s. s.client) seated.items ≡ clients.items) }
 {
     let mut jobs = jobs.into_iter();
@@ -65,7 +69,10 @@ fn seat_all<J: Drop>(alloc: Global, clients: Vec<Client>, jobs: Vec<J>) -> Resul
 }
 
 /// The clients, and what was done with them.
-fn parted<J: Drop>(alloc: Global, seated: Vec<Seated<J>>) -> Result<(Vec<Client>, Vec<J>), AllocError>
+fn parted<J: Drop>(
+    alloc: Global,
+    seated: Vec<Seated<J>>,
+) -> Result<(Vec<Client>, Vec<J>), AllocError>
     ensures { IfOk result (λ r. r.0.items ≡ map (λ s. s.client) seated.items) }
 {
     let mut clients = Vec::new(alloc);
@@ -98,9 +105,7 @@ fn run_all<J: Job + Send + Drop, R: Threads + Wait + Sync>(
         seated,
         &|s: Seated<J>| -> Seated<J>
             ensures { KeepsSide s.client result.client }
-        {
-            run_one(rt, s)
-        },
+        { run_one(rt, s) },
     )
 }
 

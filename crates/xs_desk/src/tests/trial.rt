@@ -106,7 +106,11 @@ impl Trial {
         let ticket = self.submit(lane, command).ok()?;
         self.turn(clock).ok()?;
         let answer = self.take(lane)?;
-        if answer.ticket == ticket { Some(answer) } else { None }
+        if answer.ticket == ticket {
+            Some(answer)
+        } else {
+            None
+        }
     }
 
     /// Runs each job with its client in a thread of its own, and the keeper in this one.
