@@ -13,6 +13,7 @@ test:
 	rt ci
 	test -x $(PROGRAM) || (cd crates/xs_server && rt run -- script < stdin)
 	python3 conformance/run.py $(PROGRAM) script
+	python3 conformance/great.py $(PROGRAM)
 	python3 conformance/sessions.py --bytes 5000000
 
 # Runs the tests that say so, and the worked cases, with each allocation refused in turn. Needs cc.
