@@ -12,6 +12,7 @@ pub mod Lives
 pub mod Maps
 pub mod Names
 pub mod Owners
+pub mod Touches
 pub mod ReadSteps
 pub mod Runs
 pub mod Streams

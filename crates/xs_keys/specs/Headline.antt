@@ -9,6 +9,7 @@ use Rattle.xs_command.specs.WellFormed.{IsWellFormed}
 use Rattle.xs_keys.specs.Life.{Change, key_life, given_in}
 use Rattle.xs_keys.specs.Content.{Content, IsContent, IsLawfulContent, after}
 use Rattle.xs_keys.specs.Reply.{reply}
+use Rattle.xs_keys.specs.Touched.{IsLastTouched}
 use Rattle.xs_keys.specs.Turn.{Turn, consumer_of, delivered, cursor, is_their_turn, delivers_pending, takes, settles}
 use Rattle.xs_keys.specs.Turn.{owner, rows}
 use Rattle.xs_keys.specs.GroupLife.{GroupLife, group_life, delivered_by, GoesOn}
@@ -107,6 +108,7 @@ IsPendingWithOwner start turns =
 -- one owner until settled
 pub record HasOneOwner (life : GroupLife) : Type 0 where
   pub is_pending : IsPendingWithOwner life.start life.turns
+  pub is_last_touched : IsLastTouched life.start life.turns
   pub until_settled : OwnedUntilSettled life.start life.turns
   pub by_claims : ChangesByClaims life.start life.turns
 

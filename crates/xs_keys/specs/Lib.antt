@@ -1,6 +1,7 @@
 pub mod Ground
 pub mod Life
 pub mod Turn
+pub mod Touched
 pub mod GroupLife
 pub mod Content
 pub mod Reply

@@ -15,6 +15,7 @@ ghost use Rattle.xs_keys.specs.GroupLife.{GroupLife, group_life, group_of, asks_
 ghost use Rattle.xs_keys.specs.Content.{Content, IsContent, after, IsLawfulContent};
 ghost use Rattle.xs_keys.specs.Reply.{reply};
 ghost use Rattle.xs_keys.specs.Told.{IsTold};
+ghost use Rattle.xs_keys.specs.Touched.{IsLastTouched};
 ghost use Rattle.xs_keys.specs.Headline.{HadItsTurn, OwnedUntilSettled, ChangesByClaims, IsPendingWithOwner};
 
 /// The empty history leaves the empty content; an event leads from the content of a history to the
@@ -83,4 +84,11 @@ pub fn owner_is_of_the_row()
         owner life.start life.turns x ≡ option_map (λ row. row.consumer) (holding life.start life.turns x) }
     ensures pending { (past : List (ℕ × Command)) (key group : List ℕ) (life : GroupLife) → group_life past key group ≡ Some life →
         IsPendingWithOwner life.start life.turns }
+{}
+
+/// The time and the delivery count of a pending row, carried from turn to turn, are those that the last turn gave that
+/// touched the entry: that delivered it, claimed it, or showed it once more to its consumer.
+pub fn time_and_count_are_of_the_last_touch()
+    ensures { (past : List (ℕ × Command)) (key group : List ℕ) (life : GroupLife) → group_life past key group ≡ Some life →
+        IsLastTouched life.start life.turns }
 {}

@@ -1,0 +1,51 @@
+-- The time and the delivery count of a pending entry, by looking back for the last turn that touched it. (Redis Streams,
+-- "Consumer groups": the pending entries list; XPENDING; XCLAIM.)
+use Rattle.std.specs.Prelude.{◌≡◌, ℕ, Bool, List, [], ◌∷◌, Some, ◌&&◌, ◌||◌, if◌then◌else◌}
+use Rattle.xs_group.specs.Claims.{row_at, claim_time, claim_count}
+use Rattle.xs_group.specs.State.{raised}
+use Rattle.xs_keys.specs.Ground.{Id, Row, has_id, shown}
+use Rattle.xs_keys.specs.Turn.{Ask, Turn, read_new, read_own, claim, auto_claim, rows, assigns}
+
+-- the own pending entries that an ask shows once more, over the rows it meets
+abbrev pub shown_again : Ask → List (Id × Row) → List Id
+shown_again (read_own consumer limit from) rows = shown consumer limit from rows
+shown_again _ rows = []
+
+-- the turn delivers it once more to the consumer who has it: it is shown, and still in the stream
+abbrev pub redelivers : Id → List Turn → Turn → Id → Bool
+redelivers start past turn x = has_id (shown_again turn.ask (rows start past)) x && has_id turn.present x
+
+-- it is delivered without NOACK, taken by a claim, or delivered once more
+abbrev pub touches : Id → List Turn → Turn → Id → Bool
+touches start past turn x = assigns start past turn x || redelivers start past turn x
+
+-- the time that it gets: that of the claim, else now
+abbrev pub time_given : Ask → ℕ → ℕ
+time_given (claim consumer rule ids) now = claim_time rule.when now
+time_given (auto_claim consumer rule start limit) now = claim_time rule.when now
+time_given _ now = now
+
+-- the count that it gets: 1 at its delivery, that of the claim, else one more
+abbrev pub count_given : Ask → ℕ → ℕ
+count_given (read_new consumer limit noack) count = 1
+count_given (claim consumer rule ids) count = claim_count rule.retry rule.just_id count
+count_given (auto_claim consumer rule start limit) count = claim_count rule.retry rule.just_id count
+count_given _ count = raised count
+
+-- the time that it got from the last turn that touched it
+abbrev pub time_of : Id → List Turn → Id → ℕ
+time_of start [] x = 0
+time_of start (turn ∷ past) x =
+    if touches start past turn x then time_given turn.ask turn.now else time_of start past x
+
+-- the count that it got from the last turn that touched it
+abbrev pub count_of : Id → List Turn → Id → ℕ
+count_of start [] x = 0
+count_of start (turn ∷ past) x =
+    if touches start past turn x then count_given turn.ask (count_of start past x) else count_of start past x
+
+-- time and count of a pending row are those of the last turn that touched it
+abbrev pub IsLastTouched : Id → List Turn → Type 0
+IsLastTouched start turns =
+    (x : Id) (row : Row) → row_at (rows start turns) x ≡ Some row
+    → (row.time ≡ time_of start turns x) × (row.count ≡ count_of start turns x)
