@@ -3,3 +3,4 @@ pub mod Each
 pub mod SortedMap
 pub mod MapCode
 pub mod MapOf
+pub mod Examples

@@ -3,6 +3,7 @@
 
 pub mod bytes;
 pub mod decimal;
+pub mod examples;
 
 pub use bytes::Bytes;
 pub use decimal::{natural, number, push_decimal};
