@@ -4,3 +4,4 @@ pub mod SortedMap
 pub mod MapCode
 pub mod MapOf
 pub mod Stored
+pub mod Examples

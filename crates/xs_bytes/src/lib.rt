@@ -3,6 +3,7 @@
 
 pub mod bytes;
 pub mod decimal;
+pub mod examples;
 mod short;
 
 pub use bytes::Bytes;

@@ -114,6 +114,7 @@ pub record Verdicts : Type 0 where
   pub removed_behind_others : with_removed Removed (at 1 0 ∷ []) (at 2 0) ≡ at 1 0 ∷ at 2 0 ∷ []
   pub others_arent_removed : with_removed Taken (at 1 0 ∷ []) (at 2 0) ≡ at 1 0 ∷ []
   pub up_to_the_hits : scanned_after (λ x. is_same x (at 3 0)) 1 0 0 twelve ≡ at 1 0 ∷ at 2 0 ∷ at 3 0 ∷ []
+  pub up_to_two_hits : scanned_after (λ x. true) 2 0 0 twelve ≡ at 1 0 ∷ at 2 0 ∷ []
   pub up_to_ten_times_as_many :
       scanned_after (λ x. false) 1 0 0 twelve
       ≡ at 1 0 ∷ at 2 0 ∷ at 3 0 ∷ at 4 0 ∷ at 5 0 ∷ at 6 0 ∷ at 7 0 ∷ at 8 0 ∷ at 9 0 ∷ at 10 0 ∷ []

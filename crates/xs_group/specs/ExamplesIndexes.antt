@@ -8,6 +8,7 @@ use Rattle.xs_group.specs.declared.delivery.DeliveryKind.TheVariants as kind
 use Rattle.xs_group.specs.Held.{Owners, rows_of, names_of, has_among, holds, AreFree}
 use Rattle.xs_group.specs.Delivered.{received, taken_back}
 use Rattle.xs_group.specs.Listing.{owners_told, is_told, rows_told, with_row, rows_among, rows_asked}
+use Rattle.xs_group.specs.Verdict.{AreSomeOf, AreAgreedBut}
 use Rattle.xs_group.specs.ExamplesRead.{pending, three, group, Is}
 use Rattle.xs_group.specs.ExamplesClaims.{row}
 use Rattle.xs_group.specs.ExamplesReport.{owner, told, everything, between}
@@ -63,3 +64,7 @@ pub record Left : Type 0 where
   pub noack_left_no_row : (taken_back kind.NoAck (own (at 1 0) 90 5 ∷ []) (rows_of three)).entries ≡ three
   pub free : AreFree (rows_of three) []
   pub not_free : AreFree (rows_of three) (at 9 0 ∷ at 2 0 ∷ []) → ⊥
+  pub not_some_of_those : AreSomeOf (at 2 0 ∷ []) (at 3 0 ∷ at 1 0 ∷ []) → ⊥
+  pub lacks_one_of_those_besides : AreAgreedBut three owners (codes "c") (at 2 0 ∷ []) → ⊥
+  pub has_one_that_isnt_besides :
+      AreAgreedBut (pending (at 2 0) (codes "b") 110 2 ∷ []) owners (codes "a") (at 1 0 ∷ []) → ⊥

@@ -1,8 +1,9 @@
 -- The grammar of requests, and requests in pieces, by examples of the RESP protocol specification (version 2).
-use Rattle.std.specs.Prelude.{◌≡◌, ℕ, [], ◌∷◌, codes, Ok, Err}
+use Rattle.std.specs.Prelude.{◌≡◌, ℕ, [], ◌∷◌, codes, Ok, Err, ◌++◌}
 use Rattle.xs_resp.specs.declared.read_fault.Wrong.TheVariants.{Length, Shape, Limit}
 use Rattle.xs_resp.specs.Outcome.{Keeps}
 use Rattle.xs_resp.specs.Grammar.{spelling, null_spelling, Spells, SpellsAll}
+use Rattle.xs_resp.specs.Grammar.{HasNoCr, LacksCrlf, FaultIn, WordFault, IsOpen}
 use Rattle.xs_resp.specs.Pieces.{Reads, ReadsPieces}
 use Rattle.xs_resp.specs.Examples.{wire}
 use Rattle.xs_resp.specs.ExamplesRequests.{found, undecided}
@@ -37,3 +38,21 @@ pub record Stays : Type 0 where
   pub undecided_may_be_a_request : Keeps undecided (found [] 4)
   pub a_fault : Keeps {A = ℕ} (Err Shape) (Err Shape)
   pub no_other_fault : Keeps {A = ℕ} (Err Shape) (Err Length) → ⊥
+
+-- a fault of each kind, and what is none
+pub record FaultKinds : Type 0 where
+  pub no_cr : HasNoCr (codes "12")
+  pub a_cr : HasNoCr (49 ∷ 13 ∷ []) → ⊥
+  pub another_byte : LacksCrlf (codes "x")
+  pub another_byte_behind_cr : LacksCrlf (13 ∷ codes "x")
+  pub no_byte_yet : LacksCrlf [] → ⊥
+  pub cr_alone : LacksCrlf (13 ∷ []) → ⊥
+  pub a_line_end : LacksCrlf (13 ∷ 10 ∷ []) → ⊥
+  pub no_marker : FaultIn (codes "PING") Shape
+  pub no_lf : FaultIn (codes "*1" ++ 13 ∷ codes "x") Shape
+  pub no_number : FaultIn (wire (codes "*x^")) Length
+  pub too_great_a_number : FaultIn (wire (codes "*1048577^")) Limit
+  pub too_long_a_header : FaultIn (codes "*111111111111111111111111111111") Limit
+  pub no_line_end_behind_a_word : WordFault (wire (codes "$4^PINGx")) Shape
+  pub a_request_first : IsOpen (wire (codes "*0^x")) → ⊥
+  pub a_fault_first : IsOpen (codes "x") → ⊥

@@ -1,7 +1,7 @@
 //! Examples of what the definitions say, with values from outside.
 ghost use Rattle.xs_resp.specs.Examples.{Replies, FaultTexts};
 ghost use Rattle.xs_resp.specs.ExamplesRequests.{Requests, Undecided, Faults, Reader};
-ghost use Rattle.xs_resp.specs.ExamplesSpelling.{Spellings, Spelled, Pieces, Stays};
+ghost use Rattle.xs_resp.specs.ExamplesSpelling.{Spellings, Spelled, FaultKinds, Pieces, Stays};
 
 /// The texts of replies.
 pub fn replies()
@@ -41,6 +41,11 @@ pub fn spellings()
 /// Bytes that spell requests.
 pub fn spelled()
     ensures { Spelled }
+{}
+
+/// Faults that stand in bytes.
+pub fn fault_kinds()
+    ensures { FaultKinds }
 {}
 
 /// Requests in pieces.

@@ -1,4 +1,4 @@
-use Rattle.std.specs.Prelude.{T}
+use Rattle.std.specs.Prelude.{T, codes}
 use Rattle.std.proofs.Common.{sym, subst}
 use Rattle.xs_stream.specs.Examples.{at}
 use Rattle.std.proofs.Common.{refl}
@@ -14,4 +14,7 @@ returns c = record {
   noack_left_no_row = refl;
   free = λ x h. absurd (subst T (sym h) tt);
   not_free = λ h. subst T (h (at 2 0) refl) tt;
+  not_some_of_those = λ h. subst T (sym (h (at 2 0) refl)) tt;
+  lacks_one_of_those_besides = λ h. subst T (sym (h (codes "c") (at 2 0))) tt;
+  has_one_that_isnt_besides = λ h. subst T (h (codes "a") (at 3 0)) tt;
 }

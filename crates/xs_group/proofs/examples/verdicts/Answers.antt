@@ -17,6 +17,7 @@ returns c = record {
   removed_behind_others = refl;
   others_arent_removed = refl;
   up_to_the_hits = refl;
+  up_to_two_hits = refl;
   up_to_ten_times_as_many = refl;
   moves_those_named = refl;
   leaves_others = refl;

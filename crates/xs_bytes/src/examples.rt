@@ -1,0 +1,12 @@
+//! Examples of what the definitions say, with values from outside.
+ghost use Rattle.xs_bytes.specs.Examples.{Numbers, Maps};
+
+/// Decimal numbers in text.
+pub fn numbers()
+    ensures { Numbers }
+{}
+
+/// Maps as values.
+pub fn maps()
+    ensures { Maps }
+{}
