@@ -1,8 +1,0 @@
-//! Tests of desks.
-use super::*;
-
-mod commands;
-mod rows;
-mod threads;
-mod together;
-mod trial;
