@@ -11,8 +11,8 @@ use Rattle.xs_group.specs.Claims.{scanned, first_or_zero, scan_of, claim_time, c
 use Rattle.xs_group.specs.ExamplesRead.{pending, three, group, Is}
 
 -- a claim of what is idle for so long, without options
-abbrev pub rule : ℕ → Rule
-rule min_idle = record { min_idle = min_idle; when = time.Now; retry = None; just_id = false }
+abbrev pub idle_for : ℕ → Rule
+idle_for min_idle = record { min_idle = min_idle; when = time.Now; retry = None; just_id = false }
 
 -- the ids in the stream: the second of the three is deleted
 abbrev pub present : List Id
@@ -28,27 +28,27 @@ twelve =
 
 -- XCLAIM; own: as idle as asked for is enough, each id is treated once, a deleted one goes whatever its idle time
 pub record ByIds : Type 0 where
-  pub idle_for_longer : is_idle 151 (rule 50) (Some (row (codes "a") 100 1)) ≡ true
-  pub idle_for_as_long : is_idle 150 (rule 50) (Some (row (codes "a") 100 1)) ≡ true
-  pub not_idle_for_so_long : is_idle 149 (rule 50) (Some (row (codes "a") 100 1)) ≡ false
-  pub any_idle_time : is_idle 100 (rule 0) (Some (row (codes "a") 100 1)) ≡ true
-  pub not_pending : is_idle 100 (rule 0) None ≡ false
+  pub idle_for_longer : is_idle 151 (idle_for 50) (Some (row (codes "a") 100 1)) ≡ true
+  pub idle_for_as_long : is_idle 150 (idle_for 50) (Some (row (codes "a") 100 1)) ≡ true
+  pub not_idle_for_so_long : is_idle 149 (idle_for 50) (Some (row (codes "a") 100 1)) ≡ false
+  pub any_idle_time : is_idle 100 (idle_for 0) (Some (row (codes "a") 100 1)) ≡ true
+  pub not_pending : is_idle 100 (idle_for 0) None ≡ false
   pub deleted_one_goes : is_removed three present (at 2 0) ≡ true
   pub one_in_the_stream_stays : is_removed three present (at 1 0) ≡ false
   pub one_not_pending_cant_go : is_removed three present (at 9 0) ≡ false
-  pub one_idle_is_taken : is_taken three present 150 (rule 50) (at 1 0) ≡ true
-  pub one_deleted_isnt : is_taken three present 150 (rule 0) (at 2 0) ≡ false
-  pub one_not_idle_isnt : is_taken three present 150 (rule 50) (at 3 0) ≡ false
-  pub one_not_pending_isnt : is_taken three present 150 (rule 0) (at 4 0) ≡ false
+  pub one_idle_is_taken : is_taken three present 150 (idle_for 50) (at 1 0) ≡ true
+  pub one_deleted_isnt : is_taken three present 150 (idle_for 0) (at 2 0) ≡ false
+  pub one_not_idle_isnt : is_taken three present 150 (idle_for 50) (at 3 0) ≡ false
+  pub one_not_pending_isnt : is_taken three present 150 (idle_for 0) (at 4 0) ≡ false
   pub each_id_once : firsts (at 2 0 ∷ at 1 0 ∷ at 2 0 ∷ at 3 0 ∷ at 1 0 ∷ []) ≡ at 2 0 ∷ at 1 0 ∷ at 3 0 ∷ []
   pub in_the_order_written :
-      claim_of three present 150 (rule 0) (at 3 0 ∷ at 2 0 ∷ at 9 0 ∷ at 1 0 ∷ at 3 0 ∷ [])
+      claim_of three present 150 (idle_for 0) (at 3 0 ∷ at 2 0 ∷ at 9 0 ∷ at 1 0 ∷ at 3 0 ∷ [])
       ≡ record { take = at 3 0 ∷ at 1 0 ∷ []; removed = at 2 0 ∷ [] }
   pub those_that_are_idle :
-      claim_of three present 150 (rule 50) (at 1 0 ∷ at 2 0 ∷ at 3 0 ∷ [])
+      claim_of three present 150 (idle_for 50) (at 1 0 ∷ at 2 0 ∷ at 3 0 ∷ [])
       ≡ record { take = at 1 0 ∷ []; removed = at 2 0 ∷ [] }
   pub several_deleted :
-      claim_of three [] 150 (rule 999) (at 3 0 ∷ at 1 0 ∷ []) ≡ record { take = []; removed = at 3 0 ∷ at 1 0 ∷ [] }
+      claim_of three [] 150 (idle_for 999) (at 3 0 ∷ at 1 0 ∷ []) ≡ record { take = []; removed = at 3 0 ∷ at 1 0 ∷ [] }
 
 -- XAUTOCLAIM; own: COUNT hits or 10 x COUNT ids
 pub record ByScan : Type 0 where
@@ -56,9 +56,9 @@ pub record ByScan : Type 0 where
   pub from_its_start : from_start (at 2 0) three ≡ at 2 0 ∷ at 3 0 ∷ []
   pub past_an_id : from_start (at 2 1) three ≡ at 3 0 ∷ []
   pub past_the_last : from_start (at 4 0) three ≡ []
-  pub taken_is_a_hit : is_hit three present 150 (rule 50) (at 1 0) ≡ true
-  pub removed_is_a_hit : is_hit three present 150 (rule 50) (at 2 0) ≡ true
-  pub another_is_no_hit : is_hit three present 150 (rule 50) (at 3 0) ≡ false
+  pub taken_is_a_hit : is_hit three present 150 (idle_for 50) (at 1 0) ≡ true
+  pub removed_is_a_hit : is_hit three present 150 (idle_for 50) (at 2 0) ≡ true
+  pub another_is_no_hit : is_hit three present 150 (idle_for 50) (at 3 0) ≡ false
   pub all_beginnings : prefixes (at 1 0 ∷ at 2 0 ∷ []) ≡ [] ∷ (at 1 0 ∷ []) ∷ (at 1 0 ∷ at 2 0 ∷ []) ∷ []
   pub as_many_hits : scanned (λ x. true) 2 twelve ≡ at 1 0 ∷ at 2 0 ∷ []
   pub up_to_the_hit : scanned (λ x. is_same x (at 3 0)) 1 twelve ≡ at 1 0 ∷ at 2 0 ∷ at 3 0 ∷ []
@@ -70,19 +70,19 @@ pub record ByScan : Type 0 where
   pub next_one : first_or_zero (at 3 0 ∷ at 4 0 ∷ []) ≡ at 3 0
   pub no_next_one : first_or_zero [] ≡ at 0 0
   pub one_taken_and_one_removed :
-      scan_of three present 150 (rule 50) (at 0 0) 2
+      scan_of three present 150 (idle_for 50) (at 0 0) 2
       ≡ record { cursor = at 3 0; claim = record { take = at 1 0 ∷ []; removed = at 2 0 ∷ [] } }
   pub one_hit :
-      scan_of three present 150 (rule 50) (at 0 0) 1
+      scan_of three present 150 (idle_for 50) (at 0 0) 1
       ≡ record { cursor = at 2 0; claim = record { take = at 1 0 ∷ []; removed = [] } }
   pub goes_on_from_there :
-      scan_of three present 150 (rule 30) (at 2 0) 100
+      scan_of three present 150 (idle_for 30) (at 2 0) 100
       ≡ record { cursor = at 0 0; claim = record { take = at 3 0 ∷ []; removed = at 2 0 ∷ [] } }
   pub nothing_from_there :
-      scan_of three present 150 (rule 0) (at 4 0) 100
+      scan_of three present 150 (idle_for 0) (at 4 0) 100
       ≡ record { cursor = at 0 0; claim = record { take = []; removed = [] } }
   pub several_taken :
-      scan_of three (at 1 0 ∷ at 2 0 ∷ at 3 0 ∷ []) 150 (rule 0) (at 0 0) 100
+      scan_of three (at 1 0 ∷ at 2 0 ∷ at 3 0 ∷ []) 150 (idle_for 0) (at 0 0) 100
       ≡ record { cursor = at 0 0; claim = record { take = at 1 0 ∷ at 2 0 ∷ at 3 0 ∷ []; removed = [] } }
 
 -- IDLE, TIME, RETRYCOUNT and JUSTID; own: a time is never past now, and IDLE past now is 0
@@ -100,7 +100,7 @@ pub record TimesAndCounts : Type 0 where
   pub retrycount_zero : claim_count (Some 0) false 2 ≡ 0
   pub retrycount_before_justid : claim_count (Some 7) true 2 ≡ 7
   pub stops_at_the_greatest : claim_count None false 9223372036854775807 ≡ 9223372036854775807
-  pub claimed_now : claimed_row (codes "d") 200 (rule 0) (row (codes "a") 100 1) ≡ row (codes "d") 200 2
+  pub claimed_now : claimed_row (codes "d") 200 (idle_for 0) (row (codes "a") 100 1) ≡ row (codes "d") 200 2
   pub claimed_by_its_options :
       claimed_row (codes "d") 200 (record { min_idle = 5; when = time.Idle 30; retry = Some 7; just_id = true })
       (row (codes "a") 100 1) ≡ row (codes "d") 170 7
@@ -110,17 +110,17 @@ pub record TimesAndCounts : Type 0 where
 
 pub record Settled : Type 0 where
   pub taken_and_removed :
-      Is (settled_by (codes "d") 200 (rule 0) (record { take = at 3 0 ∷ at 1 0 ∷ []; removed = at 2 0 ∷ [] }) group)
+      Is (settled_by (codes "d") 200 (idle_for 0) (record { take = at 3 0 ∷ at 1 0 ∷ []; removed = at 2 0 ∷ [] }) group)
       (at 3 0) (codes "a" ∷ codes "b" ∷ codes "c" ∷ codes "d" ∷ [])
       (pending (at 1 0) (codes "d") 200 2 ∷ pending (at 3 0) (codes "d") 200 2 ∷ [])
   pub others_stay :
-      Is (settled_by (codes "a") 200 (rule 0) (record { take = at 2 0 ∷ []; removed = [] }) group) (at 3 0)
+      Is (settled_by (codes "a") 200 (idle_for 0) (record { take = at 2 0 ∷ []; removed = [] }) group) (at 3 0)
       (codes "a" ∷ codes "b" ∷ codes "c" ∷ [])
       (pending (at 1 0) (codes "a") 100 1 ∷ pending (at 2 0) (codes "a") 200 3 ∷ pending (at 3 0) (codes "a") 120 1
       ∷ [])
   pub several_removed :
-      Is (settled_by (codes "a") 200 (rule 0) (record { take = []; removed = at 2 0 ∷ at 3 0 ∷ [] }) group) (at 3 0)
+      Is (settled_by (codes "a") 200 (idle_for 0) (record { take = []; removed = at 2 0 ∷ at 3 0 ∷ [] }) group) (at 3 0)
       (codes "a" ∷ codes "b" ∷ codes "c" ∷ []) (pending (at 1 0) (codes "a") 100 1 ∷ [])
   pub nothing_claimed :
-      Is (settled_by (codes "d") 200 (rule 0) (record { take = []; removed = [] }) group) (at 3 0)
+      Is (settled_by (codes "d") 200 (idle_for 0) (record { take = []; removed = [] }) group) (at 3 0)
       (codes "a" ∷ codes "b" ∷ codes "c" ∷ codes "d" ∷ []) three

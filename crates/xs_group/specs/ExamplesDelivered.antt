@@ -15,7 +15,7 @@ use Rattle.xs_group.specs.Count.{IsCount}
 use Rattle.xs_group.specs.Delivered.{delivery_of, history_of, set_rows, unmade}
 use Rattle.xs_group.specs.Verdict.{verdict_of, hits_of, with_taken, with_removed, scanned_after, moved, AreApart}
 use Rattle.xs_group.specs.ExamplesRead.{pending, names_in, three, group, present}
-use Rattle.xs_group.specs.ExamplesClaims.{rule, row, twelve}
+use Rattle.xs_group.specs.ExamplesClaims.{idle_for, row, twelve}
 
 abbrev pub new : Id → DeliveryRow
 new id = record { id = id; present = true; before = None }
@@ -102,10 +102,10 @@ pub record TakenBack : Type 0 where
 
 -- what a claim makes of one id after another
 pub record Verdicts : Type 0 where
-  pub of_no_row : verdict_of None true 150 (rule 0) ≡ Passed
-  pub idle_enough : verdict_of (Some (row (codes "a") 100 1)) true 150 (rule 50) ≡ Taken
-  pub not_idle_enough : verdict_of (Some (row (codes "a") 100 1)) true 149 (rule 50) ≡ Passed
-  pub deleted : verdict_of (Some (row (codes "a") 100 1)) false 149 (rule 50) ≡ Removed
+  pub of_no_row : verdict_of None true 150 (idle_for 0) ≡ Passed
+  pub idle_enough : verdict_of (Some (row (codes "a") 100 1)) true 150 (idle_for 50) ≡ Taken
+  pub not_idle_enough : verdict_of (Some (row (codes "a") 100 1)) true 149 (idle_for 50) ≡ Passed
+  pub deleted : verdict_of (Some (row (codes "a") 100 1)) false 149 (idle_for 50) ≡ Removed
   pub passed_is_no_hit : hits_of Passed ≡ 0
   pub taken_is_one : hits_of Taken ≡ 1
   pub removed_is_one : hits_of Removed ≡ 1
@@ -119,10 +119,10 @@ pub record Verdicts : Type 0 where
       scanned_after (λ x. false) 1 0 0 twelve
       ≡ at 1 0 ∷ at 2 0 ∷ at 3 0 ∷ at 4 0 ∷ at 5 0 ∷ at 6 0 ∷ at 7 0 ∷ at 8 0 ∷ at 9 0 ∷ at 10 0 ∷ []
   pub moves_those_named :
-      moved (codes "d") 200 (rule 0) (at 2 0 ∷ at 1 0 ∷ []) (at 1 0) (row (codes "a") 100 1)
+      moved (codes "d") 200 (idle_for 0) (at 2 0 ∷ at 1 0 ∷ []) (at 1 0) (row (codes "a") 100 1)
       ≡ Some (row (codes "d") 200 2)
   pub leaves_others :
-      moved (codes "d") 200 (rule 0) (at 2 0 ∷ []) (at 1 0) (row (codes "a") 100 1) ≡ Some (row (codes "a") 100 1)
+      moved (codes "d") 200 (idle_for 0) (at 2 0 ∷ []) (at 1 0) (row (codes "a") 100 1) ≡ Some (row (codes "a") 100 1)
 
 pub record Lawful : Type 0 where
   pub apart : AreApart (at 2 0 ∷ at 1 0 ∷ at 3 0 ∷ [])
