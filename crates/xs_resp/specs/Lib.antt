@@ -1,6 +1,5 @@
 pub mod FaultText
 pub mod Items
-pub mod ItemsDepth
 pub mod ReplyItems
 pub mod ReplyText
 pub mod Outcome

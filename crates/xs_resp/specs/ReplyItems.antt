@@ -1,19 +1,21 @@
--- Replies as parts in turn.
+-- Replies as tokens in turn.
 use Rattle.std.specs.Prelude.{List, [], ◌∷◌, length}
 use Rattle.std.specs.List.{flat_map}
 use Rattle.xs_resp.specs.declared.reply.Reply.{Reply}
 use Rattle.xs_resp.specs.declared.reply.Reply.TheVariants.{Simple, Error, Int, Bulk, NullBulk, Array, NullArray}
-use Rattle.xs_resp.specs.Items.{Token, Items, simple, error, int, bulk, null_bulk, array_of, null_array}
+use Rattle.xs_resp.specs.declared.token.Token.{Token}
+use Rattle.xs_resp.specs.declared.token.Token.TheVariants as token
+use Rattle.xs_resp.specs.Items.{Items}
 
--- the parts of a reply: of an array its header, and then the parts of its items
+-- the tokens of a reply: of an array its header, and then the tokens of its items
 abbrev pub tokens_of : Reply → List Token
-tokens_of (Simple s) = simple s ∷ []
-tokens_of (Error f) = error f ∷ []
-tokens_of (Int n) = int n ∷ []
-tokens_of (Bulk bytes) = bulk bytes ∷ []
-tokens_of NullBulk = null_bulk ∷ []
-tokens_of (Array items) = array_of items.count ∷ items.tokens
-tokens_of NullArray = null_array ∷ []
+tokens_of (Simple s) = token.Simple s ∷ []
+tokens_of (Error f) = token.Error f ∷ []
+tokens_of (Int n) = token.Int n ∷ []
+tokens_of (Bulk bytes) = token.Bulk bytes ∷ []
+tokens_of NullBulk = token.NullBulk ∷ []
+tokens_of (Array items) = token.Array items.count ∷ items.tokens
+tokens_of NullArray = token.NullArray ∷ []
 
 -- the items of an array of these replies
 abbrev pub items_of : List Reply → Items

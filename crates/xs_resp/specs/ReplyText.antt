@@ -2,28 +2,29 @@
 use Rattle.std.specs.Prelude.{◌≡◌, ℕ, ⊤, List, ◌∷◌, ◌++◌, length, take, codes, Result, Ok, Err}
 use Rattle.std.specs.declared.alloc.AllocError.{AllocError}
 use Rattle.std.specs.List.{flat_map}
-use Rattle.xs_resp.specs.declared.reply.Simple.{Simple}
+use Rattle.xs_resp.specs.declared.reply.Simple as simple
 use Rattle.xs_resp.specs.declared.reply.Simple.TheVariants.{Okay, Pong}
 use Rattle.xs_resp.specs.declared.reply.Reply.{Reply}
 use Rattle.xs_resp.specs.FaultText.{fault_text}
 use Rattle.xs_resp.specs.Line.{crlf, line}
-use Rattle.xs_resp.specs.Items.{Token, simple, error, int, bulk, null_bulk, array_of, null_array}
+use Rattle.xs_resp.specs.declared.token.Token.{Token}
+use Rattle.xs_resp.specs.declared.token.Token.TheVariants.{Simple, Error, Int, Bulk, NullBulk, Array, NullArray}
 use Rattle.xs_resp.specs.ReplyItems.{tokens_of}
 
 -- what a simple string says
-abbrev pub simple_text : Simple → List ℕ
+abbrev pub simple_text : simple.Simple → List ℕ
 simple_text Okay = codes "OK"
 simple_text Pong = codes "PONG"
 
--- the text of one part: the markers are + - : $ *
+-- the text of one token: the markers are + - : $ *
 abbrev pub token_text : Token → List ℕ
-token_text (simple s) = 43 ∷ simple_text s ++ crlf
-token_text (error f) = 45 ∷ fault_text f ++ crlf
-token_text (int n) = line 58 n
-token_text (bulk bytes) = line 36 (length bytes) ++ bytes ++ crlf
-token_text null_bulk = codes "$-1" ++ crlf
-token_text (array_of n) = line 42 n
-token_text null_array = codes "*-1" ++ crlf
+token_text (Simple s) = 43 ∷ simple_text s ++ crlf
+token_text (Error f) = 45 ∷ fault_text f ++ crlf
+token_text (Int n) = line 58 n
+token_text (Bulk bytes) = line 36 (length bytes) ++ bytes ++ crlf
+token_text NullBulk = codes "$-1" ++ crlf
+token_text (Array n) = line 42 n
+token_text NullArray = codes "*-1" ++ crlf
 
 -- the text of a reply
 unfoldable pub text : Reply → List ℕ

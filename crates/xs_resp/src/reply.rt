@@ -2,6 +2,7 @@
 ghost use Rattle.std.specs.Prelude.{◌≡◌, ◌==◌};
 
 use crate::fault::Fault;
+use crate::token::Token;
 use std::marker::Model;
 use xs_bytes::Bytes;
 
@@ -16,7 +17,6 @@ pub enum Simple {
 
 /// The reply to a request.
 #[derive(Debug, Drop)]
-#[cycle(reply)]
 pub enum Reply {
     /// A simple string.
     Simple(Simple),
@@ -34,68 +34,43 @@ pub enum Reply {
     NullArray,
 }
 
-/// The items of an array. A contract sees their number, and their parts in turn.
+/// The items of an array: how many they are, and their tokens in turn. An item that is an array stands there as
+/// its header and the tokens of its own items, so a reply of many small arrays is one list in memory.
 #[derive(Debug, Drop)]
-#[cycle(reply)]
 pub struct Replies {
-    items: Vec<Reply>,
+    count: usize,
+    tokens: Vec<Token>,
 }
 
 impl Model for Replies {
-    ghost use Rattle.std.specs.Prelude.{length};
-    ghost use Rattle.std.proofs.Common.{arith};
     ghost use Rattle.xs_resp.specs.Items.{Items};
 
     ghost Value = { Items };
 
-    ghost use Rattle.xs_resp.specs.ReplyItems.{items_of};
-
-    ghost view = { λ b. items_of b.items.items };
-
-    ghost size = { λ i. length i.tokens };
-
-    ghost use Rattle.xs_resp.specs.ItemsDepth.{most-le-tokens};
-
-    ghost size_decreases = { λ b h. omega (arith, most-le-tokens b.items.items) };
+    ghost view = { λ b. record { count = b.count; tokens = b.tokens.items } };
 }
 
 impl Replies {
-    ghost use Rattle.std.specs.Prelude.{◌≡◌, ◌==◌};
-    ghost use Rattle.xs_resp.specs.ReplyItems.{items_of};
+    ghost use Rattle.std.specs.Prelude.{◌≡◌};
 
-    /// The items of an array. It takes no memory.
-    pub fn new(items: Vec<Reply>) -> Self
-        ensures { result ≡ items_of items.items }
+    /// So many items, of which these are the tokens. It takes no memory.
+    pub fn new(count: usize, tokens: Vec<Token>) -> Self
+        ensures { result ≡ record { count = count; tokens = tokens.items } }
     {
-        Self { items }
+        Self { count, tokens }
     }
 
-    /// Gives the replies back. It takes no memory.
-    pub fn into_vec(self) -> Vec<Reply>
-        ensures { items_of result.items ≡ self }
-    {
-        let Self { items } = self;
-        items
-    }
-
-    /// The replies, in order.
-    pub fn as_slice(&self) -> &[Reply]
-        ensures { items_of result.now ≡ self.now }
-    {
-        self.items.as_slice()
-    }
-
-    /// How many replies there are.
-    pub fn len(&self) -> usize
+    /// How many items there are.
+    pub fn count(&self) -> usize
         ensures { result ≡ self.now.count }
     {
-        self.items.len()
+        self.count
     }
 
-    /// Whether there is no reply.
-    pub fn is_empty(&self) -> bool
-        ensures { result ≡ (self.now.count == 0) }
+    /// The tokens of the items, in order.
+    pub fn tokens(&self) -> &[Token]
+        ensures { result.now ≡ self.now.tokens }
     {
-        self.items.is_empty()
+        self.tokens.as_slice()
     }
 }

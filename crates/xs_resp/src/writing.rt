@@ -7,6 +7,7 @@ ghost use Rattle.xs_resp.specs.FaultText.{fault_text};
 
 use crate::fault::Fault;
 use crate::reply::{Replies, Reply, Simple};
+use crate::token::Token;
 use std::alloc::AllocError;
 use xs_bytes::push_decimal;
 
@@ -23,7 +24,6 @@ pub fn encode(reply: &Reply, out: &mut Vec<u8>) -> Result<(), AllocError>
     written
 }
 
-#[cycle(writing)]
 #[tactic(auto, unfolding(crate::specs::ReplyText::text))]
 fn write_reply(reply: &Reply, out: &mut Vec<u8>) -> Result<(), AllocError>
     ensures { Writes result out.old.items out.new.items (text reply.now) }
@@ -40,16 +40,29 @@ fn write_reply(reply: &Reply, out: &mut Vec<u8>) -> Result<(), AllocError>
 }
 
 /// Appends the header of an array, and then its items.
-#[cycle(writing)]
 fn write_items(items: &Replies, out: &mut Vec<u8>) -> Result<(), AllocError>
     ensures { Writes result out.old.items out.new.items
         (line 42 items.now.count ++ flat_map token_text items.now.tokens) }
 {
-    write_line(b'*', items.len() as u64, out)?;
-    for reply in items.as_slice() {
-        write_reply(reply, out)?;
+    write_line(b'*', items.count() as u64, out)?;
+    for token in items.tokens() {
+        write_token(token, out)?;
     }
     Ok(())
+}
+
+fn write_token(token: &Token, out: &mut Vec<u8>) -> Result<(), AllocError>
+    ensures { Writes result out.old.items out.new.items (token_text token.now) }
+{
+    match token {
+        Token::Simple(simple) => write_simple(*simple, out),
+        Token::Error(fault) => write_fault(*fault, out),
+        Token::Int(number) => write_line(b':', *number, out),
+        Token::Bulk(bytes) => write_bulk(bytes.as_slice(), out),
+        Token::NullBulk => out.extend_from_slice(b"$-1\r\n"),
+        Token::Array(count) => write_line(b'*', *count as u64, out),
+        Token::NullArray => out.extend_from_slice(b"*-1\r\n"),
+    }
 }
 
 /// Appends a marker, a digit and the end of the line.

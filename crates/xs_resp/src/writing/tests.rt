@@ -9,19 +9,30 @@ fn bulk(alloc: Global, bytes: &[u8]) -> Result<Reply, AllocError> {
     Ok(Reply::Bulk(Bytes::from_slice(alloc, bytes)?))
 }
 
-fn pair(alloc: Global, first: Reply, second: Reply) -> Result<Reply, AllocError> {
-    let mut items = Vec::with_capacity(alloc, 2)?;
-    items.push(first)?;
-    items.push(second)?;
-    Ok(Reply::Array(Replies::new(items)))
-}
-
 /// An entry with one field, behind an entry that was deleted.
 fn history(alloc: Global) -> Result<Reply, AllocError> {
-    let deleted = pair(alloc, bulk(alloc, b"1-0")?, Reply::NullArray)?;
-    let fields = pair(alloc, bulk(alloc, b"f")?, bulk(alloc, b"")?)?;
-    let entry = pair(alloc, bulk(alloc, b"1000-12")?, fields)?;
-    pair(alloc, deleted, entry)
+    let mut tokens = Vec::with_capacity(alloc, 8)?;
+    tokens.push(Token::Array(2))?;
+    tokens.push(Token::Bulk(Bytes::from_slice(alloc, b"1-0")?))?;
+    tokens.push(Token::NullArray)?;
+    tokens.push(Token::Array(2))?;
+    tokens.push(Token::Bulk(Bytes::from_slice(alloc, b"1000-12")?))?;
+    tokens.push(Token::Array(2))?;
+    tokens.push(Token::Bulk(Bytes::from_slice(alloc, b"f")?))?;
+    tokens.push(Token::Bulk(Bytes::from_slice(alloc, b"")?))?;
+    Ok(Reply::Array(Replies::new(2, tokens)))
+}
+
+/// A token of each kind.
+fn mixed(alloc: Global) -> Result<Reply, AllocError> {
+    let mut tokens = Vec::with_capacity(alloc, 6)?;
+    tokens.push(Token::Simple(Simple::Okay))?;
+    tokens.push(Token::Error(Fault::Syntax))?;
+    tokens.push(Token::Int(10))?;
+    tokens.push(Token::NullBulk)?;
+    tokens.push(Token::Array(0))?;
+    tokens.push(Token::NullArray)?;
+    Ok(Reply::Array(Replies::new(6, tokens)))
 }
 
 fn text_of(alloc: Global, reply: &Reply) -> Result<Vec<u8>, AllocError> {
@@ -33,7 +44,7 @@ fn text_of(alloc: Global, reply: &Reply) -> Result<Vec<u8>, AllocError> {
 #[test]
 fn writes_each_kind(rt: HostRuntime) -> Result<(), Fail> {
     let alloc = rt.alloc();
-    let empty = Reply::Array(Replies::new(Vec::new(alloc)));
+    let empty = Reply::Array(Replies::new(0, Vec::new(alloc)));
     let wanted = [
         (Reply::Simple(Simple::Okay), "+OK\r\n"),
         (Reply::Simple(Simple::Pong), "+PONG\r\n"),
@@ -49,6 +60,10 @@ fn writes_each_kind(rt: HostRuntime) -> Result<(), Fail> {
         (Reply::NullBulk, "$-1\r\n"),
         (empty, "*0\r\n"),
         (Reply::NullArray, "*-1\r\n"),
+        (
+            mixed(alloc)?,
+            "*6\r\n+OK\r\n-ERR syntax error\r\n:10\r\n$-1\r\n*0\r\n*-1\r\n",
+        ),
         (
             history(alloc)?,
             "*2\r\n*2\r\n$3\r\n1-0\r\n*-1\r\n*2\r\n$7\r\n1000-12\r\n*2\r\n$1\r\nf\r\n$0\r\n\r\n",
@@ -107,19 +122,6 @@ fn prints_each_fault(rt: HostRuntime) -> Result<(), Fail> {
         let written = text_of(alloc, &Reply::Error(fault))?;
         assert_eq!(rt; written.as_slice(), text.as_bytes());
     }
-    Ok(())
-}
-
-#[test]
-fn gives_the_items_back(rt: HostRuntime) -> Result<(), Fail> {
-    let alloc = rt.alloc();
-    let mut items = Vec::new(alloc);
-    items.push(Reply::Int(7))?;
-    let replies = Replies::new(items);
-    assert_eq!(rt; replies.len(), 1);
-    assert!(rt; !replies.is_empty());
-    assert_eq!(rt; replies.as_slice().len(), 1);
-    assert_eq!(rt; replies.into_vec().len(), 1);
     Ok(())
 }
 
