@@ -1,14 +1,15 @@
 -- Reads of groups: what one leaves, how several go on, and how they are taken back.
-use Rattle.std.proofs.Common.{append_assoc, subst, ◌≡◌, ◌&&◌, ℕ, ◌<◌, Bool, true, false, cond, List, [], ◌∷◌, ◌++◌, Some, is_some, length, get_or, sym, ap, ◌∙◌, refl, arith}
+use Rattle.std.proofs.Common.{append_assoc, length-append, subst, ◌≡◌, ◌&&◌, ℕ, ◌+◌, ◌<◌, ◌≤◌, Bool, true, false, cond, List, [], ◌∷◌, ◌++◌, Option, Some, None, is_some, length, get_or, sym, ap, ◌∙◌, refl, arith}
+use Rattle.std.proofs.lemmas.List.Concat.{flat_map-append}
 use Rattle.std.proofs.lemmas.Bool.{false≢true}
-use Rattle.std.specs.List.{list_all}
+use Rattle.std.specs.List.{flat_map, list_all}
 use Rattle.std.specs.Option.{option_map_or}
 use Rattle.xs_bytes.specs.SortedMap.{NameMap, get, insert}
 use Rattle.xs_stream.specs.declared.id.Id.{Id}
 use Rattle.xs_stream.specs.declared.field.Field.{Field}
 use Rattle.xs_stream.specs.Kept.{Kept, ids_of}
 use Rattle.xs_group.specs.declared.delivery.Delivery.{Delivery}
-use Rattle.xs_group.specs.State.{State, Rows, is_name}
+use Rattle.xs_group.specs.State.{State, Rows, is_name, delivers}
 use Rattle.xs_group.specs.Delivered.{row_ids, new_rows, shown_rows, IsMade}
 use Rattle.xs_command.specs.declared.command.ReadGroupCommand.{ReadGroupCommand}
 use Rattle.xs_command.specs.declared.reads.ReadOne.{ReadOne}
@@ -19,9 +20,11 @@ use Rattle.xs_keys.specs.Turn.{Ask}
 use Rattle.xs_keys.specs.GroupLife.{read_ask}
 use Rattle.xs_keys.specs.Content.{Content, Key, asked, read_each, group_after, with_group, group_in, entries_in}
 use Rattle.xs_resp.specs.declared.reply.Reply.{Reply}
+use Rattle.xs_resp.specs.declared.token.Token.{Token}
+use Rattle.xs_resp.specs.ReplyItems.{tokens_of}
 use Rattle.xs_keys.specs.Headline.{is_error}
-use Rattle.xs_keys.specs.Reply.{shown_by, parts, array_or_null}
-use Rattle.xs_keys.specs.Reading.{listed, ids_shown, part_of, IsServedAt, IsMadeIn, IsMadeAt, AreMade}
+use Rattle.xs_keys.specs.Reply.{shown_by, new_part, parts, array_or_null}
+use Rattle.xs_keys.specs.Reading.{ids_shown, part_of, IsShown, IsServedAt, IsMadeIn, IsMadeAt, AreMade}
 use Rattle.xs_keys.proofs.Names.{get-insert, is_name-eq, is_name-refl, same_map}
 
 pub ids-new : (ids : List Id) → row_ids (new_rows ids) ≡ ids
@@ -56,17 +59,17 @@ asked-at content now name group_name ask key was had has = rw (had, has) refl
 
 -- ---- one read
 
-module _ (now : ℕ) (read : ReadGroupCommand) (one : ReadOne) (before after : Content) (served : Served) where
-  pub served-content : IsServedAt now read one before after served → after ≡ asked before now one.key read.group (read_ask read one.from)
+module _ (now : ℕ) (read : ReadGroupCommand) (one : ReadOne) (before after : Content) (tokens longer : List Token) (served : Served) where
+  pub served-content : IsServedAt now read one before after tokens longer served → after ≡ asked before now one.key read.group (read_ask read one.from)
   served-content s =
       s.put ∙ ap (λ (groups : NameMap State). insert before one.key (record { stream = s.key.stream; groups = groups })) (s.serves.put ∙ ap (λ (g : State). insert s.key.groups read.group g) s.serves.serves.left)
       ∙ sym (asked-at before now one.key read.group (read_ask read one.from) s.key s.serves.was s.had s.serves.had)
 
-  pub served-part : IsServedAt now read one before after served
-      → listed served.part ≡ option_map_or (shown_by read one.key one.from (entries_in (get before one.key))) (group_in (get before one.key) read.group) []
-  served-part s = rw (s.had, s.serves.had) s.serves.serves.shows
+  pub served-shown : IsServedAt now read one before after tokens longer served
+      → IsShown (option_map_or (shown_by read one.key one.from (entries_in (get before one.key))) (group_in (get before one.key) read.group) []) served.parts tokens longer
+  served-shown s = rw (s.had, s.serves.had) s.serves.serves.shows
 
-  pub served-made : IsServedAt now read one before after served → IsMadeAt read.group one.key before after served.delivery
+  pub served-made : IsServedAt now read one before after tokens longer served → IsMadeAt read.group one.key before after served.delivery
   served-made s = record {
     key = s.key;
     groups = _;
@@ -173,20 +176,35 @@ module _ (group name : List ℕ) (before after : Content) (d : Delivery) (m : Is
 
 -- ---- several reads, one more of them
 
-module _ (now : ℕ) (read : ReadGroupCommand) (one : ReadOne) (more : List ReadOne) (before after : Content) (served : Served) (s : IsServedAt now read one before after served) where
+module _ (now : ℕ) (read : ReadGroupCommand) (one : ReadOne) (more : List ReadOne) (before after : Content) (tokens longer : List Token) (served : Served) (s : IsServedAt now read one before after tokens longer served) where
   pub content-more : (whole : Content) → read_each before now read (one ∷ more) ≡ whole → read_each after now read more ≡ whole
-  content-more whole e = ap (λ c. read_each c now read more) (served-content now read one before after served s) ∙ e
+  content-more whole e = ap (λ c. read_each c now read more) (served-content now read one before after tokens longer served s) ∙ e
 
-  pub parts-more : (done whole : List Reply) → done ++ parts before now read (one ∷ more) ≡ whole → (done ++ listed served.part) ++ parts after now read more ≡ whole
-  parts-more done whole e =
-      append_assoc done (listed served.part) (parts after now read more)
-      ∙ ap (λ rest. done ++ rest) (ap (λ p. p ++ parts after now read more) (served-part now read one before after served s)
-      ∙ ap (λ c. option_map_or (shown_by read one.key one.from (entries_in (get before one.key))) (group_in (get before one.key) read.group) [] ++ parts c now read more) (served-content now read one before after served s))
+  abbrev this : List Reply
+  this = option_map_or (shown_by read one.key one.from (entries_in (get before one.key))) (group_in (get before one.key) read.group) []
+
+  shown : IsShown this served.parts tokens longer
+  shown = served-shown now read one before after tokens longer served s
+
+  split : parts before now read (one ∷ more) ≡ this ++ parts after now read more
+  split = ap (λ c. this ++ parts c now read more) (sym (served-content now read one before after tokens longer served s))
+
+  pub tokens-more : (whole : List Token) → tokens ++ flat_map tokens_of (parts before now read (one ∷ more)) ≡ whole
+      → longer ++ flat_map tokens_of (parts after now read more) ≡ whole
+  tokens-more whole e =
+      ap (λ all. all ++ flat_map tokens_of (parts after now read more)) shown.appended
+      ∙ append_assoc tokens (flat_map tokens_of this) (flat_map tokens_of (parts after now read more))
+      ∙ ap (λ rest. tokens ++ rest) (sym (flat_map-append tokens_of this (parts after now read more)) ∙ ap (flat_map tokens_of) (sym split))
       ∙ e
+
+  pub count-more : (count whole : ℕ) → count + length (parts before now read (one ∷ more)) ≡ whole
+      → (count + served.parts) + length (parts after now read more) ≡ whole
+  count-more count whole e =
+      omega (arith, e, ap length split, length-append this (parts after now read more), shown.counted)
 
   pub there-more : list_all (λ one. is_some (group_in (get before one.key) read.group)) (one ∷ more) ≡ true
       → list_all (λ one. is_some (group_in (get after one.key) read.group)) more ≡ true
-  there-more h = all-stay read.group one.key before after served.delivery (served-made now read one before after served s) more
+  there-more h = all-stay read.group one.key before after served.delivery (served-made now read one before after tokens longer served s) more
       (by (is_some (group_in (get before one.key) read.group)) h) where
         by : (t : Bool) → (t && list_all (λ one. is_some (group_in (get before one.key) read.group)) more) ≡ true → list_all (λ one. is_some (group_in (get before one.key) read.group)) more ≡ true
         by true h = h
@@ -197,6 +215,24 @@ first-there test one more h = by (test one) h where
   by : (t : Bool) → (t && list_all test more) ≡ true → t ≡ true
   by true h = refl
   by false h = absurd (false≢true h)
+
+-- a read has one part at most
+pub one-part : (read : ReadGroupCommand) (key : List ℕ) (from : ReadFrom) (entries : List (Id × List Field)) (group : Option State)
+    → length (option_map_or (shown_by read key from entries) group []) ≤ 1
+one-part read key from entries None = omega arith
+one-part read key (After id) entries (Some group) = omega arith
+one-part read key New entries (Some group) = by (delivers read.limit group.cursor (ids_of entries)) where
+  by : (ids : List Id) → length (new_part key entries ids) ≤ 1
+  by [] = omega arith
+  by (x ∷ xs) = omega arith
+
+-- so all of them have no more parts than they are
+pub parts-le : (content : Content) (now : ℕ) (read : ReadGroupCommand) (reads : List ReadOne) → length (parts content now read reads) ≤ length reads
+parts-le content now read [] = omega arith
+parts-le content now read (one ∷ more) =
+    let this = option_map_or (shown_by read one.key one.from (entries_in (get content one.key))) (group_in (get content one.key) read.group) [] in
+    let after = asked content now one.key read.group (read_ask read one.from) in
+    omega (arith, one-part read one.key one.from (entries_in (get content one.key)) (group_in (get content one.key) read.group), parts-le after now read more, length-append this (parts after now read more))
 
 -- what is served is never an error
 pub no-error : (replies : List Reply) → is_error (array_or_null replies) ≡ false

@@ -1,11 +1,10 @@
 -- Time and count of a row are those of the last turn that touched it.
 use Rattle.std.proofs.Common.{◌≡◌, ℕ, Bool, true, false, not, cond, ◌&&◌, ◌||◌, List, [], ◌∷◌, Option, Some, None, option_and_then, is_some, ◌⊎◌, inl, inr, sym, ap, subst, ◌∙◌, refl}
-use Rattle.std.proofs.lemmas.Bool.{false≢true}
 use Rattle.xs_stream.specs.declared.id.Id.{Id}
 use Rattle.xs_stream.specs.Id.{has_id}
 use Rattle.xs_group.specs.declared.claim.Claim.{Claim}
-use Rattle.xs_group.specs.Claims.{Rule, row_at, claim_of, scan_of, claimed, claimed_row, claim_time, claim_count}
-use Rattle.xs_group.specs.State.{Row, is_name, delivers, first_row, shown, again, raised, reread, unless_acked, unless_owned}
+use Rattle.xs_group.specs.Claims.{Rule, claim_of, scan_of, claimed, claimed_row, claim_time, claim_count}
+use Rattle.xs_group.specs.State.{Row, is_name, delivers, first_row, shown, again, raised, unless_acked, unless_owned}
 use Rattle.xs_keys.specs.Turn.{Ask, Turn, read_new, read_own, ack, join, leave, claim, auto_claim, cursor, asked_row, asked_new, asked_claim, keeps_pending, holding, rows}
 use Rattle.xs_keys.specs.Touched.{shown_again, time_given, count_given, time_of, count_of, IsLastTouched}
 use Rattle.xs_keys.proofs.Owners.{row-found}

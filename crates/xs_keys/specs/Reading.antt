@@ -1,5 +1,8 @@
 -- What the contracts of reads of groups say within the code.
-use Rattle.std.specs.Prelude.{◌≡◌, ℕ, List, [], ◌∷◌, Option, Some, None}
+use Rattle.std.specs.Prelude.{◌≡◌, ℕ, List, [], ◌∷◌, ◌++◌, length, Some}
+use Rattle.std.specs.List.{flat_map}
+use Rattle.xs_resp.specs.declared.token.Token.{Token}
+use Rattle.xs_resp.specs.ReplyItems.{tokens_of}
 use Rattle.xs_group.specs.declared.delivery.Delivery.{Delivery}
 use Rattle.xs_group.specs.Delivered.{IsMade}
 use Rattle.xs_keys.specs.declared.xreadgroup.Served.{Served}
@@ -9,10 +12,10 @@ use Rattle.xs_keys.specs.GroupLife.{read_ask}
 use Rattle.xs_keys.specs.Content.{Content, Key, group_after}
 use Rattle.xs_keys.specs.Reply.{part, new_part, shown_by}
 
--- a part of a reply, where there is one
-abbrev pub listed : Option Reply → List Reply
-listed None = []
-listed (Some reply) = reply ∷ []
+-- these parts of a reply were counted and appended
+pub record IsShown (shown : List Reply) (count : ℕ) (before after : List Token) : Type 0 where
+  pub counted : count ≡ length shown
+  pub appended : after ≡ before ++ flat_map tokens_of shown
 
 -- the ids that a read shows
 abbrev pub ids_shown : ReadGroupCommand → ReadFrom → List Id → State → List Id
@@ -24,32 +27,33 @@ abbrev pub part_of : ReadFrom → List ℕ → List (Id × List Field) → List 
 part_of New key entries ids = new_part key entries ids
 part_of (After id) key entries ids = part key entries ids ∷ []
 
--- a read of a group was served: what it left, its part of the reply, and what takes it back
+-- a read of a group was served: what it left, what it shows, and what takes it back
 pub record IsServed
     (entries : List (Id × List Field)) (now : ℕ) (read : ReadGroupCommand) (one : ReadOne) (before after : State)
-    (served : Served) : Type 0 where
+    (tokens longer : List Token) (served : Served) : Type 0 where
   pub left : after ≡ group_after now (ids_of entries) (read_ask read one.from) before
-  pub shows : listed served.part ≡ shown_by read one.key one.from entries before
+  pub shows : IsShown (shown_by read one.key one.from entries before) served.parts tokens longer
   pub made : IsMade before after served.delivery
 
 -- so was one of these groups
 pub record IsServedIn
     (entries : List (Id × List Field)) (now : ℕ) (read : ReadGroupCommand) (one : ReadOne)
-    (before after : NameMap State) (served : Served) : Type 0 where
+    (before after : NameMap State) (tokens longer : List Token) (served : Served) : Type 0 where
   pub was : State
   pub is : State
   pub had : get before read.group ≡ Some was
   pub put : after ≡ insert before read.group is
-  pub serves : IsServed entries now read one was is served
+  pub serves : IsServed entries now read one was is tokens longer served
 
 -- so was one of these keys
 pub record IsServedAt
-    (now : ℕ) (read : ReadGroupCommand) (one : ReadOne) (before after : Content) (served : Served) : Type 0 where
+    (now : ℕ) (read : ReadGroupCommand) (one : ReadOne) (before after : Content) (tokens longer : List Token)
+    (served : Served) : Type 0 where
   pub key : Key
   pub groups : NameMap State
   pub had : get before one.key ≡ Some key
   pub put : after ≡ insert before one.key (record key { groups = groups })
-  pub serves : IsServedIn key.stream.entries now read one key.groups groups served
+  pub serves : IsServedIn key.stream.entries now read one key.groups groups tokens longer served
 
 -- a read of one of these groups made the ones of the others, and answered this delivery
 pub record IsMadeIn (group : List ℕ) (before after : NameMap State) (delivery : Delivery) : Type 0 where

@@ -1,82 +1,100 @@
-//! What replies are made of: arrays, ids, entries.
-ghost use Rattle.std.specs.Prelude.{◌≡◌, [], ◌∷◌, IfOk, map};
+//! What replies are made of: ids and entries, as the tokens that are appended for them.
+ghost use Rattle.std.specs.Prelude.{◌≡◌, ◌++◌, IfOk, OnOk, map};
 ghost use Rattle.std.specs.List.{flat_map};
-ghost use Rattle.xs_resp.specs.ReplyItems.{items_of};
-ghost use Rattle.xs_keys.specs.Reply.{array, field_replies, id_reply, entry_reply, entries_reply, taken_reply};
+ghost use Rattle.xs_resp.specs.ReplyItems.{tokens_of};
+ghost use Rattle.xs_keys.specs.Reply.{array, field_replies, id_reply, entry_reply, entries_reply};
 
 use std::alloc::{AllocError, Global};
 use xs_bytes::Bytes;
-use xs_resp::{Replies, Reply};
+use xs_resp::{Replies, Reply, Token};
 use xs_stream::{Field, Id, Stream};
 
-/// An array of these replies.
-pub fn array_of(replies: Vec<Reply>) -> Reply
-    ensures { result ≡ array replies.items }
+/// How many tokens an entry with one field has.
+pub const ENTRY_TOKENS: usize = 5;
+
+/// Appends an id.
+pub fn push_id(tokens: &mut Vec<Token>, alloc: Global, id: Id) -> Result<(), AllocError>
+    ensures { OnOk result (tokens.new.items ≡ tokens.old.items ++ tokens_of (id_reply id)) }
 {
-    Reply::Array(Replies::new(replies))
+    let text = id.text(alloc)?;
+    tokens.push(Token::Bulk(text))?;
+    Ok(())
 }
 
-/// The names and values of fields in turn.
-fn fields_shown(alloc: Global, fields: &[Field]) -> Result<Replies, AllocError>
-    ensures { IfOk result (λ replies. replies ≡ items_of (flat_map field_replies fields.now)) }
+/// Appends a string.
+pub fn push_bytes(tokens: &mut Vec<Token>, alloc: Global, bytes: &Bytes) -> Result<(), AllocError>
+    ensures { OnOk result (tokens.new.items ≡ tokens.old.items ++ tokens_of (Reply.Bulk bytes.now)) }
 {
-    let mut items = Vec::with_capacity(alloc, fields.len().saturating_mul(2))?;
-    for field in fields {
-        let name = Bytes::from_slice(alloc, field.name.as_slice())?;
-        items.push(Reply::Bulk(name))?;
-        let value = Bytes::from_slice(alloc, field.value.as_slice())?;
-        items.push(Reply::Bulk(value))?;
-    }
-    Ok(Replies::new(items))
+    let bytes = Bytes::from_slice(alloc, bytes.as_slice())?;
+    tokens.push(Token::Bulk(bytes))?;
+    Ok(())
 }
 
-/// An entry: its id, and its fields, or the null array where it isn't in the stream.
-pub fn entry_shown(alloc: Global, stream: &Stream, id: Id) -> Result<Reply, AllocError>
-    ensures { IfOk result (λ reply. reply ≡ entry_reply stream.now.entries id) }
+/// Appends the names and values of fields in turn.
+fn push_fields(tokens: &mut Vec<Token>, alloc: Global, fields: &[Field]) -> Result<(), AllocError>
+    ensures { OnOk result (tokens.new.items ≡ tokens.old.items ++ tokens_of (array (flat_map field_replies fields.now))) }
 {
-    let text = Reply::Bulk(id.text(alloc)?);
-    let fields = match stream.get(id) {
-        Some(fields) => Reply::Array(fields_shown(alloc, fields)?),
-        None => Reply::NullArray,
+    let Some(count) = fields.len().checked_mul(2) else {
+        return Err(AllocError);
     };
-    Ok(array_of(vec![in alloc; text, fields]?))
+    tokens.push(Token::Array(count))?;
+    for field in fields {
+        push_bytes(tokens, alloc, &field.name)?;
+        push_bytes(tokens, alloc, &field.value)?;
+    }
+    Ok(())
+}
+
+/// Appends an entry: its id, and its fields, or the null array where it isn't in the stream.
+pub fn push_entry(
+    tokens: &mut Vec<Token>,
+    alloc: Global,
+    stream: &Stream,
+    id: Id,
+) -> Result<(), AllocError>
+    ensures { OnOk result (tokens.new.items ≡ tokens.old.items ++ tokens_of (entry_reply stream.now.entries id)) }
+{
+    tokens.push(Token::Array(2))?;
+    push_id(tokens, alloc, id)?;
+    match stream.get(id) {
+        Some(fields) => push_fields(tokens, alloc, fields)?,
+        None => tokens.push(Token::NullArray)?,
+    }
+    Ok(())
+}
+
+/// Appends the entries with these ids.
+pub fn push_entries(
+    tokens: &mut Vec<Token>,
+    alloc: Global,
+    stream: &Stream,
+    ids: &[Id],
+) -> Result<(), AllocError>
+    ensures { OnOk result (tokens.new.items ≡ tokens.old.items ++ flat_map tokens_of (map (entry_reply stream.now.entries) ids.now)) }
+{
+    tokens.reserve(ids.len().saturating_mul(ENTRY_TOKENS))?;
+    for id in ids {
+        push_entry(tokens, alloc, stream, *id)?;
+    }
+    Ok(())
+}
+
+/// Appends these ids.
+pub fn push_ids(tokens: &mut Vec<Token>, alloc: Global, ids: &[Id]) -> Result<(), AllocError>
+    ensures { OnOk result (tokens.new.items ≡ tokens.old.items ++ flat_map tokens_of (map id_reply ids.now)) }
+{
+    tokens.reserve(ids.len())?;
+    for id in ids {
+        push_id(tokens, alloc, *id)?;
+    }
+    Ok(())
 }
 
 /// The entries with these ids.
 pub fn entries_shown(alloc: Global, stream: &Stream, ids: &[Id]) -> Result<Reply, AllocError>
     ensures { IfOk result (λ reply. reply ≡ entries_reply stream.now.entries ids.now) }
 {
-    let mut items = Vec::with_capacity(alloc, ids.len())?;
-    for id in ids {
-        let entry = entry_shown(alloc, stream, *id)?;
-        items.push(entry)?;
-    }
-    Ok(array_of(items))
-}
-
-/// These ids.
-pub fn ids_shown(alloc: Global, ids: &[Id]) -> Result<Reply, AllocError>
-    ensures { IfOk result (λ reply. reply ≡ array (map id_reply ids.now)) }
-{
-    let mut items = Vec::with_capacity(alloc, ids.len())?;
-    for id in ids {
-        let text = id.text(alloc)?;
-        items.push(Reply::Bulk(text))?;
-    }
-    Ok(array_of(items))
-}
-
-/// The entries that a claim took, or their ids alone.
-pub fn taken_shown(
-    alloc: Global,
-    stream: &Stream,
-    just_id: bool,
-    ids: &[Id],
-) -> Result<Reply, AllocError>
-    ensures { IfOk result (λ reply. reply ≡ taken_reply just_id stream.now.entries ids.now) }
-{
-    if just_id {
-        return ids_shown(alloc, ids);
-    }
-    entries_shown(alloc, stream, ids)
+    let mut tokens = Vec::new(alloc);
+    push_entries(&mut tokens, alloc, stream, ids)?;
+    Ok(Reply::Array(Replies::new(ids.len(), tokens)))
 }

@@ -1,20 +1,46 @@
 //! XAUTOCLAIM.
-ghost use Rattle.std.specs.Prelude.{◌≡◌, IfOk, OnOk, OnErr};
+ghost use Rattle.std.specs.Prelude.{◌≡◌, ◌++◌, map, IfOk, OnOk, OnErr};
 ghost use Rattle.xs_stream.specs.Kept.{ids_of};
 ghost use Rattle.xs_group.specs.Claims as claims;
 ghost use Rattle.xs_keys.specs.Turn.{auto_claim};
 ghost use Rattle.xs_keys.specs.Content.{group_after};
 ghost use Rattle.xs_keys.specs.Codes.{content_of};
-ghost use Rattle.xs_keys.specs.Reply.{scan_shown};
+ghost use Rattle.xs_resp.specs.ReplyItems.{tokens_of};
+ghost use Rattle.xs_keys.specs.Reply.{array, id_reply, scan_shown, taken_reply};
 ghost use Rattle.xs_keys.specs.Headline.{Step};
 
 use crate::keys::Keys;
-use crate::showing::{array_of, ids_shown, taken_shown};
+use crate::showing::{push_entries, push_id, push_ids};
 use std::alloc::{AllocError, Global};
 use xs_command::{AutoClaimCommand, Command};
 use xs_group::{Group, Scan};
-use xs_resp::{Fault, Reply};
-use xs_stream::{Moment, Stream};
+use xs_resp::{Fault, Replies, Reply, Token};
+use xs_stream::{Id, Moment, Stream};
+
+/// Appends an array of these ids.
+fn push_id_array(tokens: &mut Vec<Token>, alloc: Global, ids: &[Id]) -> Result<(), AllocError>
+    ensures { OnOk result (tokens.new.items ≡ tokens.old.items ++ tokens_of (array (map id_reply ids.now))) }
+{
+    tokens.push(Token::Array(ids.len()))?;
+    push_ids(tokens, alloc, ids)
+}
+
+/// Appends the array of the entries that a claim took, or of their ids alone.
+fn push_taken(
+    tokens: &mut Vec<Token>,
+    alloc: Global,
+    stream: &Stream,
+    just_id: bool,
+    ids: &[Id],
+) -> Result<(), AllocError>
+    ensures { OnOk result (tokens.new.items ≡ tokens.old.items ++ tokens_of (taken_reply just_id stream.now.entries ids.now)) }
+{
+    if just_id {
+        return push_id_array(tokens, alloc, ids);
+    }
+    tokens.push(Token::Array(ids.len()))?;
+    push_entries(tokens, alloc, stream, ids)
+}
 
 /// Where to go on, what was taken, and the ids that were removed.
 fn scan_shown(
@@ -25,10 +51,17 @@ fn scan_shown(
 ) -> Result<Reply, AllocError>
     ensures { IfOk result (λ reply. reply ≡ scan_shown just_id stream.now.entries scan.now) }
 {
-    let cursor = Reply::Bulk(scan.cursor.text(alloc)?);
-    let taken = taken_shown(alloc, stream, just_id, scan.claim.take.as_slice())?;
-    let removed = ids_shown(alloc, scan.claim.removed.as_slice())?;
-    Ok(array_of(vec![in alloc; cursor, taken, removed]?))
+    let mut tokens = Vec::new(alloc);
+    push_id(&mut tokens, alloc, scan.cursor)?;
+    push_taken(
+        &mut tokens,
+        alloc,
+        stream,
+        just_id,
+        scan.claim.take.as_slice(),
+    )?;
+    push_id_array(&mut tokens, alloc, scan.claim.removed.as_slice())?;
+    Ok(Reply::Array(Replies::new(3, tokens)))
 }
 
 /// Claims entries of a group from a start upwards. The reply is made before the claim is carried out, so

@@ -1,20 +1,44 @@
 //! XCLAIM.
-ghost use Rattle.std.specs.Prelude.{◌≡◌, IfOk, OnOk, OnErr};
+ghost use Rattle.std.specs.Prelude.{◌≡◌, map, IfOk, OnOk, OnErr};
 ghost use Rattle.xs_stream.specs.Kept.{ids_of};
 ghost use Rattle.xs_group.specs.Claims as claims;
 ghost use Rattle.xs_keys.specs.Turn.{claim};
 ghost use Rattle.xs_keys.specs.Content.{group_after};
 ghost use Rattle.xs_keys.specs.Codes.{content_of};
-ghost use Rattle.xs_keys.specs.Reply.{taken_reply};
+ghost use Rattle.xs_keys.specs.Reply.{array, id_reply, taken_reply};
 ghost use Rattle.xs_keys.specs.Headline.{Step};
 
 use crate::keys::Keys;
-use crate::showing::taken_shown;
+use crate::showing::{entries_shown, push_ids};
 use std::alloc::{AllocError, Global};
 use xs_command::{ClaimCommand, Command};
 use xs_group::Group;
-use xs_resp::{Fault, Reply};
-use xs_stream::{Moment, Stream};
+use xs_resp::{Fault, Replies, Reply};
+use xs_stream::{Id, Moment, Stream};
+
+/// These ids.
+fn ids_shown(alloc: Global, ids: &[Id]) -> Result<Reply, AllocError>
+    ensures { IfOk result (λ reply. reply ≡ array (map id_reply ids.now)) }
+{
+    let mut tokens = Vec::new(alloc);
+    push_ids(&mut tokens, alloc, ids)?;
+    Ok(Reply::Array(Replies::new(ids.len(), tokens)))
+}
+
+/// The entries that a claim took, or their ids alone.
+fn taken_shown(
+    alloc: Global,
+    stream: &Stream,
+    just_id: bool,
+    ids: &[Id],
+) -> Result<Reply, AllocError>
+    ensures { IfOk result (λ reply. reply ≡ taken_reply just_id stream.now.entries ids.now) }
+{
+    if just_id {
+        return ids_shown(alloc, ids);
+    }
+    entries_shown(alloc, stream, ids)
+}
 
 /// Claims entries of a group. The reply is made before the claim is carried out, so that a refusal of
 /// memory leaves the group as it was.

@@ -1,87 +1,110 @@
 //! XPENDING.
-ghost use Rattle.std.specs.Prelude.{◌≡◌, map, IfOk};
+ghost use Rattle.std.specs.Prelude.{◌≡◌, ◌++◌, map, IfOk, OnOk};
 ghost use Rattle.std.specs.Option.{option_map_or};
 ghost use Rattle.xs_group.specs.Report as report;
+ghost use Rattle.xs_resp.specs.ReplyItems.{tokens_of};
 ghost use Rattle.xs_keys.specs.Codes.{content_of};
 ghost use Rattle.xs_keys.specs.Reply.{array, array_or_null, id_reply, owner_reply, row_reply, summary_reply};
 ghost use Rattle.xs_keys.specs.Headline.{Step, StepAtAnyTime};
 
 use crate::keys::{Keys, group_at};
-use crate::showing::array_of;
+use crate::showing::push_id;
 use std::alloc::{AllocError, Global};
 use xs_bytes::{Bytes, decimal_text};
 use xs_command::{Command, PendingRowsCommand};
 use xs_group::{Group, GroupSummary, OwnerCount, PendingRow};
-use xs_resp::{Fault, Reply};
+use xs_resp::{Fault, Replies, Reply, Token};
 use xs_stream::{Id, Moment};
 
-/// An id, or the null string where there is none.
-fn id_shown(alloc: Global, id: Option<Id>) -> Result<Reply, AllocError>
-    ensures { IfOk result (λ reply. reply ≡ option_map_or id_reply id Reply.NullBulk) }
+/// How many tokens the short form has beside its consumers.
+const SUMMARY_TOKENS: usize = 4;
+
+/// How many tokens a consumer and its count have.
+const OWNER_TOKENS: usize = 3;
+
+/// How many tokens a row of the long form has.
+const ROW_TOKENS: usize = 5;
+
+/// Appends an id, or the null string where there is none.
+fn push_id_or_null(tokens: &mut Vec<Token>, alloc: Global, id: Option<Id>) -> Result<(), AllocError>
+    ensures { OnOk result (tokens.new.items ≡ tokens.old.items ++ tokens_of (option_map_or id_reply id Reply.NullBulk)) }
 {
     match id {
-        Some(id) => Ok(Reply::Bulk(id.text(alloc)?)),
-        None => Ok(Reply::NullBulk),
+        Some(id) => push_id(tokens, alloc, id)?,
+        None => tokens.push(Token::NullBulk)?,
     }
+    Ok(())
 }
 
-/// A consumer and its count.
-fn owner_shown(alloc: Global, owner: OwnerCount) -> Result<Reply, AllocError>
-    ensures { IfOk result (λ reply. reply ≡ owner_reply owner) }
+/// Appends a consumer and its count.
+fn push_owner(tokens: &mut Vec<Token>, alloc: Global, owner: OwnerCount) -> Result<(), AllocError>
+    ensures { OnOk result (tokens.new.items ≡ tokens.old.items ++ tokens_of (owner_reply owner)) }
 {
     let OwnerCount { consumer, count } = owner;
-    let name = Reply::Bulk(consumer);
-    let count = Reply::Bulk(decimal_text(alloc, count)?);
-    Ok(array_of(vec![in alloc; name, count]?))
+    tokens.push(Token::Array(2))?;
+    tokens.push(Token::Bulk(consumer))?;
+    tokens.push(Token::Bulk(decimal_text(alloc, count)?))?;
+    Ok(())
 }
 
-/// Consumers with their counts.
-fn owners_shown(alloc: Global, owners: Vec<OwnerCount>) -> Result<Reply, AllocError>
-    ensures { IfOk result (λ reply. reply ≡ array_or_null (map owner_reply owners.items)) }
+/// Appends consumers with their counts.
+fn push_owners(
+    tokens: &mut Vec<Token>,
+    alloc: Global,
+    owners: Vec<OwnerCount>,
+) -> Result<(), AllocError>
+    ensures { OnOk result (tokens.new.items ≡ tokens.old.items ++ tokens_of (array_or_null (map owner_reply owners.items))) }
 {
     if owners.is_empty() {
-        return Ok(Reply::NullArray);
+        tokens.push(Token::NullArray)?;
+        return Ok(());
     }
-    let mut items = Vec::with_capacity(alloc, owners.len())?;
+    tokens.push(Token::Array(owners.len()))?;
     for owner in owners {
-        let shown = owner_shown(alloc, owner)?;
-        items.push(shown)?;
+        push_owner(tokens, alloc, owner)?;
     }
-    Ok(array_of(items))
+    Ok(())
 }
 
 /// The short form.
 fn summary_shown(alloc: Global, summary: GroupSummary) -> Result<Reply, AllocError>
     ensures { IfOk result (λ reply. reply ≡ summary_reply summary) }
 {
-    let total = Reply::Int(summary.total);
-    let least = id_shown(alloc, summary.least)?;
-    let greatest = id_shown(alloc, summary.greatest)?;
-    let owners = owners_shown(alloc, summary.owners.into_vec())?;
-    Ok(array_of(vec![in alloc; total, least, greatest, owners]?))
+    let owners = summary.owners.into_vec();
+    let room = owners
+        .len()
+        .saturating_mul(OWNER_TOKENS)
+        .saturating_add(SUMMARY_TOKENS);
+    let mut tokens = Vec::with_capacity(alloc, room)?;
+    tokens.push(Token::Int(summary.total))?;
+    push_id_or_null(&mut tokens, alloc, summary.least)?;
+    push_id_or_null(&mut tokens, alloc, summary.greatest)?;
+    push_owners(&mut tokens, alloc, owners)?;
+    Ok(Reply::Array(Replies::new(4, tokens)))
 }
 
-/// A row of the long form.
-fn row_shown(alloc: Global, row: PendingRow) -> Result<Reply, AllocError>
-    ensures { IfOk result (λ reply. reply ≡ row_reply row) }
+/// Appends a row of the long form.
+fn push_row(tokens: &mut Vec<Token>, alloc: Global, row: PendingRow) -> Result<(), AllocError>
+    ensures { OnOk result (tokens.new.items ≡ tokens.old.items ++ tokens_of (row_reply row)) }
 {
-    let id = Reply::Bulk(row.id.text(alloc)?);
-    let name = Reply::Bulk(row.consumer);
-    let idle = Reply::Int(row.idle);
-    let count = Reply::Int(row.count);
-    Ok(array_of(vec![in alloc; id, name, idle, count]?))
+    tokens.push(Token::Array(4))?;
+    push_id(tokens, alloc, row.id)?;
+    tokens.push(Token::Bulk(row.consumer))?;
+    tokens.push(Token::Int(row.idle))?;
+    tokens.push(Token::Int(row.count))?;
+    Ok(())
 }
 
 /// The long form.
 fn rows_shown(alloc: Global, rows: Vec<PendingRow>) -> Result<Reply, AllocError>
     ensures { IfOk result (λ reply. reply ≡ array (map row_reply rows.items)) }
 {
-    let mut items = Vec::with_capacity(alloc, rows.len())?;
+    let count = rows.len();
+    let mut tokens = Vec::with_capacity(alloc, count.saturating_mul(ROW_TOKENS))?;
     for row in rows {
-        let shown = row_shown(alloc, row)?;
-        items.push(shown)?;
+        push_row(&mut tokens, alloc, row)?;
     }
-    Ok(array_of(items))
+    Ok(Reply::Array(Replies::new(count, tokens)))
 }
 
 /// What is pending in a group, told in short.

@@ -26,7 +26,7 @@ pub fn range(keys: &Keys, alloc: Global, command: &ScanCommand) -> Reply
     ensures { StepAtAnyTime (content_of keys.now.entries) (Command.Scan command.now) result (content_of keys.now.entries) }
 {
     let Some(slot) = keys.get(&command.key) else {
-        return Reply::Array(Replies::new(Vec::new(alloc)));
+        return Reply::Array(Replies::new(0, Vec::new(alloc)));
     };
     match range_shown(alloc, &slot.stream, command) {
         Ok(reply) => reply,

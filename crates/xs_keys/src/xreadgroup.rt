@@ -1,6 +1,6 @@
 //! XREADGROUP.
-ghost use Rattle.std.specs.Prelude.{◌≡◌, ◌<◌, ◌≤◌, ◌+◌, ◌++◌, vec_len, vec_capacity, true, is_some, map, length, IfOk, OnOk, OnErr};
-ghost use Rattle.std.specs.List.{list_all};
+ghost use Rattle.std.specs.Prelude.{◌≡◌, ◌++◌, true, is_some, map, length, IfOk, OnOk, OnErr};
+ghost use Rattle.std.specs.List.{flat_map, list_all};
 ghost use Rattle.xs_bytes.specs.SortedMap as finmap;
 ghost use Rattle.xs_bytes.specs.SortedMap.{NameMap};
 ghost use Rattle.xs_stream.specs.Kept.{ids_of};
@@ -9,24 +9,25 @@ ghost use Rattle.xs_group.specs.Delivered.{IsMade, row_ids};
 ghost use Rattle.xs_keys.specs.GroupLife.{read_ask};
 ghost use Rattle.xs_keys.specs.Content.{Content, group_after, group_in, serves, read_each};
 ghost use Rattle.xs_keys.specs.Codes.{content_of, groups_of};
-ghost use Rattle.xs_keys.specs.Reply.{array_or_null, entry_reply, array, part, parts};
-ghost use Rattle.xs_keys.specs.Reading.{listed, ids_shown, part_of, IsServed, IsServedIn, IsServedAt, IsMadeIn, IsMadeAt, AreMade};
+ghost use Rattle.xs_resp.specs.ReplyItems.{tokens_of};
+ghost use Rattle.xs_keys.specs.Reply.{array_or_null, entry_reply, part, parts};
+ghost use Rattle.xs_keys.specs.Reading.{ids_shown, part_of, IsShown, IsServed, IsServedIn, IsServedAt, IsMadeIn, IsMadeAt, AreMade};
 ghost use Rattle.xs_keys.specs.Headline.{Step};
 
 use crate::keys::{Groups, Keys, group_at};
-use crate::showing::{array_of, entry_shown};
+use crate::showing::{ENTRY_TOKENS, push_bytes, push_entry};
 use std::alloc::{AllocError, Global};
 use xs_bytes::Bytes;
 use xs_command::{Command, ReadFrom, ReadGroupCommand, ReadOne};
 use xs_group::{Delivery, DeliveryRow, Group};
-use xs_resp::{Fault, Reply};
+use xs_resp::{Fault, Replies, Reply, Token};
 use xs_stream::{Moment, Stream};
 
-/// A read of one group: what takes it back, and its part of the reply, where it has one.
+/// A read of one group: what takes it back, and how many parts of the reply it has, none or one.
 #[derive(Drop)]
 pub struct Served {
     pub delivery: Delivery,
-    pub part: Option<Reply>,
+    pub parts: usize,
 }
 
 /// Reads a group.
@@ -50,54 +51,62 @@ fn read_group(
     }
 }
 
-/// The entries of these rows.
-fn rows_shown(alloc: Global, stream: &Stream, rows: &[DeliveryRow]) -> Result<Reply, AllocError>
-    ensures { IfOk result (λ reply. reply ≡ array (map (entry_reply stream.now.entries) (row_ids rows.now))) }
+/// Appends the entries of these rows.
+fn push_rows(
+    tokens: &mut Vec<Token>,
+    alloc: Global,
+    stream: &Stream,
+    rows: &[DeliveryRow],
+) -> Result<(), AllocError>
+    ensures { OnOk result (tokens.new.items ≡ tokens.old.items ++ flat_map tokens_of (map (entry_reply stream.now.entries) (row_ids rows.now))) }
 {
-    let mut items = Vec::with_capacity(alloc, rows.len())?;
+    tokens.reserve(rows.len().saturating_mul(ENTRY_TOKENS))?;
     for row in rows {
-        let entry = entry_shown(alloc, stream, row.id)?;
-        items.push(entry)?;
+        push_entry(tokens, alloc, stream, row.id)?;
     }
-    Ok(array_of(items))
+    Ok(())
 }
 
-/// A key, and the entries of these rows.
-fn stream_part(
+/// Appends a key, and the entries of these rows.
+fn push_stream(
+    tokens: &mut Vec<Token>,
     alloc: Global,
     stream: &Stream,
     key: &Bytes,
     rows: &[DeliveryRow],
-) -> Result<Reply, AllocError>
-    ensures { IfOk result (λ reply. reply ≡ part key.now stream.now.entries (row_ids rows.now)) }
+) -> Result<(), AllocError>
+    ensures { OnOk result (tokens.new.items ≡ tokens.old.items ++ tokens_of (part key.now stream.now.entries (row_ids rows.now))) }
 {
-    let name = Reply::Bulk(Bytes::from_slice(alloc, key.as_slice())?);
-    let entries = rows_shown(alloc, stream, rows)?;
-    Ok(array_of(vec![in alloc; name, entries]?))
+    tokens.push(Token::Array(2))?;
+    push_bytes(tokens, alloc, key)?;
+    tokens.push(Token::Array(rows.len()))?;
+    push_rows(tokens, alloc, stream, rows)
 }
 
-/// A read's part of the reply. Nothing new has none.
-fn part_shown(
+/// Appends a read's part of the reply, and says how many parts that is: nothing new has none.
+fn push_part(
+    tokens: &mut Vec<Token>,
     alloc: Global,
     stream: &Stream,
     key: &Bytes,
     from: ReadFrom,
     rows: &[DeliveryRow],
-) -> Result<Option<Reply>, AllocError>
-    ensures { IfOk result (λ shows. listed shows ≡ part_of from key.now stream.now.entries (row_ids rows.now)) }
+) -> Result<usize, AllocError>
+    ensures { IfOk result (λ parts. IsShown (part_of from key.now stream.now.entries (row_ids rows.now)) parts tokens.old.items tokens.new.items) }
 {
     match from {
         ReadFrom::New => {
             if rows.is_empty() {
-                return Ok(None);
+                return Ok(0);
             }
-            Ok(Some(stream_part(alloc, stream, key, rows)?))
+            push_stream(tokens, alloc, stream, key, rows)?;
         }
-        ReadFrom::After(_) => Ok(Some(stream_part(alloc, stream, key, rows)?)),
+        ReadFrom::After(_) => push_stream(tokens, alloc, stream, key, rows)?,
     }
+    Ok(1)
 }
 
-/// Serves one read. Where there is no memory for its part of the reply, it is taken back.
+/// Serves one read, and appends its part of the reply. Where there is no memory for that, the read is taken back.
 fn serve(
     group: &mut Group,
     alloc: Global,
@@ -105,13 +114,21 @@ fn serve(
     now: Moment,
     read: &ReadGroupCommand,
     one: &ReadOne,
+    tokens: &mut Vec<Token>,
 ) -> Result<Served, AllocError>
-    ensures ok { IfOk result (λ served. IsServed stream.now.entries now read.now one.now group.old group.new served) }
+    ensures ok { IfOk result (λ served. IsServed stream.now.entries now read.now one.now group.old group.new tokens.old.items tokens.new.items served) }
     ensures err { OnErr result (group.new ≡ group.old) }
 {
     let delivery = read_group(group, alloc, stream, now, read, one.from)?;
-    match part_shown(alloc, stream, &one.key, one.from, delivery.rows.as_slice()) {
-        Ok(part) => Ok(Served { delivery, part }),
+    match push_part(
+        tokens,
+        alloc,
+        stream,
+        &one.key,
+        one.from,
+        delivery.rows.as_slice(),
+    ) {
+        Ok(parts) => Ok(Served { delivery, parts }),
         Err(error) => {
             group.undo(delivery);
             Err(error)
@@ -127,13 +144,14 @@ fn serve_in(
     now: Moment,
     read: &ReadGroupCommand,
     one: &ReadOne,
+    tokens: &mut Vec<Token>,
 ) -> Result<Served, AllocError>
     requires { is_some (finmap.get (groups_of groups.old.entries) read.now.group) ≡ true }
-    ensures ok { IfOk result (λ served. IsServedIn stream.now.entries now read.now one.now (groups_of groups.old.entries) (groups_of groups.new.entries) served) }
+    ensures ok { IfOk result (λ served. IsServedIn stream.now.entries now read.now one.now (groups_of groups.old.entries) (groups_of groups.new.entries) tokens.old.items tokens.new.items served) }
     ensures err { OnErr result (groups_of groups.new.entries ≡ groups_of groups.old.entries) }
 {
     match groups.get_mut(&read.group) {
-        Some(group) => serve(group, alloc, stream, now, read, one),
+        Some(group) => serve(group, alloc, stream, now, read, one, tokens),
         None => unreachable!(),
     }
 }
@@ -145,13 +163,22 @@ fn serve_at(
     now: Moment,
     read: &ReadGroupCommand,
     one: &ReadOne,
+    tokens: &mut Vec<Token>,
 ) -> Result<Served, AllocError>
     requires { is_some (group_in (finmap.get (content_of keys.old.entries) one.now.key) read.now.group) ≡ true }
-    ensures ok { IfOk result (λ served. IsServedAt now read.now one.now (content_of keys.old.entries) (content_of keys.new.entries) served) }
+    ensures ok { IfOk result (λ served. IsServedAt now read.now one.now (content_of keys.old.entries) (content_of keys.new.entries) tokens.old.items tokens.new.items served) }
     ensures err { OnErr result (content_of keys.new.entries ≡ content_of keys.old.entries) }
 {
     match keys.get_mut(&one.key) {
-        Some(slot) => serve_in(&mut slot.groups, alloc, &slot.stream, now, read, one),
+        Some(slot) => serve_in(
+            &mut slot.groups,
+            alloc,
+            &slot.stream,
+            now,
+            read,
+            one,
+            tokens,
+        ),
         None => unreachable!(),
     }
 }
@@ -189,18 +216,6 @@ fn undo_all(keys: &mut Keys, reads: &[ReadOne], group: &Bytes, deliveries: Vec<D
     }
 }
 
-/// Appends a part, where there is one, to parts that have room for it.
-fn push_part(items: &mut Vec<Reply>, part: Option<Reply>)
-    requires { vec_len items.old < vec_capacity items.old }
-    ensures items { items.new.items ≡ items.old.items ++ listed part }
-    ensures len { vec_len items.new ≤ vec_len items.old + 1 }
-    ensures capacity { vec_capacity items.old ≤ vec_capacity items.new }
-{
-    if let Some(part) = part {
-        items.push(part).unwrap();
-    }
-}
-
 /// Serves the reads one after the other. Where memory runs out, all of them are taken back.
 fn serve_all(
     keys: &mut Keys,
@@ -215,13 +230,13 @@ fn serve_all(
 {
     let reads = read.reads.as_slice();
     let mut deliveries = Vec::with_capacity(alloc, reads.len())?;
-    let mut items = Vec::with_capacity(alloc, reads.len())?;
+    let mut tokens = Vec::new(alloc);
+    let mut parts = 0usize;
     for one in reads {
-        match serve_at(keys, alloc, now, read, one) {
+        match serve_at(keys, alloc, now, read, one, &mut tokens) {
             Ok(served) => {
-                let Served { delivery, part } = served;
-                deliveries.push(delivery).unwrap();
-                push_part(&mut items, part);
+                deliveries.push(served.delivery).unwrap();
+                parts += served.parts;
             }
             Err(error) => {
                 undo_all(keys, reads, &read.group, deliveries);
@@ -229,10 +244,10 @@ fn serve_all(
             }
         }
     }
-    if items.is_empty() {
+    if parts == 0 {
         return Ok(Reply::NullArray);
     }
-    Ok(array_of(items))
+    Ok(Reply::Array(Replies::new(parts, tokens)))
 }
 
 /// Each key and group of a read is there.

@@ -1,12 +1,13 @@
 use Rattle.std.proofs.Common.{◌≡◌, ◌<◌, ◌∷◌, ◌++◌, ◌∙◌, ◌+◌, true, drop, length, get_or, is_some, is_ok, sym, ap, refl, arith}
-use Rattle.std.specs.List.{list_all}
+use Rattle.std.specs.List.{flat_map, list_all}
 use Rattle.std.proofs.lemmas.List.{drop_more}
 use Rattle.xs_bytes.specs.SortedMap.{get}
 use Rattle.xs_command.specs.declared.reads.ReadOne.{ReadOne}
+use Rattle.xs_resp.specs.ReplyItems.{tokens_of}
 use Rattle.xs_keys.specs.Content.{group_in, read_each}
 use Rattle.xs_keys.specs.Codes.{content_of}
 use Rattle.xs_keys.specs.Reply.{parts}
-use Rattle.xs_keys.proofs.ReadSteps.{first-there, content-more, parts-more, there-more, made-push, served-made}
+use Rattle.xs_keys.proofs.ReadSteps.{first-there, content-more, tokens-more, count-more, parts-le, there-more, made-push, served-made}
 use Rattle.xs_keys.proofs.xreadgroup.serve_all.Goals as goal
 use Rattle.xs_keys.proofs.xreadgroup.serve_all.Goals.{After-one-item}
 
@@ -17,13 +18,12 @@ next c = drop_more c.as_slice-reads.result.now c.loop-one.one-index c.one-item.r
 pub loop-one-init : goal.loop-one-init
 loop-one-init c = record {
   content = refl;
-  shown = rw c.in_ok-items.ensures.items refl;
+  shown = rw c.new-tokens.ensures.items refl;
+  counted = omega arith;
   there = ap (list_all (λ (one : ReadOne). is_some (group_in (get (content_of c.args.keys.now.entries) one.key) c.args.read.now.group))) c.as_slice-reads.ensures ∙ c.requires;
   made = rw c.in_ok-deliveries.ensures.items refl;
   count = c.in_ok-deliveries.ensures.len;
-  fewer = omega (arith, c.in_ok-items.ensures.len);
   room = c.in_ok-deliveries.ensures.capacity;
-  room_shown = c.in_ok-items.ensures.capacity;
 }
 
 pub serve_at-requires : goal.serve_at-requires
@@ -44,6 +44,8 @@ loop-one-preserved c =
     let before = content_of c.loop-one.keys.entries in
     let after = content_of c.serve_at.new.keys.entries in
     let one = c.one-item.result in
+    let tokens = c.loop-one.tokens.items in
+    let longer = c.serve_at.new.tokens.items in
     let more = drop (c.loop-one.one-index + 1) reads in
     let served = c.in-Ok.served in
     let split = next (goal.at.loop-one-preserved c).After-one-item in
@@ -56,17 +58,29 @@ loop-one-preserved c =
     let lt : length c.loop-one.deliveries.items < length reads = omega arith in
     let place : one ≡ get_or reads (length c.loop-one.deliveries.items) one = rw count c.one-item.is in
     record {
-      content = content-more now read one more before after served is (read_each first now read reads) (ap (read_each before now read) (sym split) ∙ c.loop-one.invariant.content);
-      shown = ap (λ done. done ++ parts after now read more) c.push_part.ensures.items
-          ∙ parts-more now read one more before after served is c.loop-one.items.items (parts first now read reads)
-          (ap (λ rest. c.loop-one.items.items ++ parts before now read rest) (sym split) ∙ c.loop-one.invariant.shown);
-      there = there-more now read one more before after served is (ap (list_all there) (sym split) ∙ c.loop-one.invariant.there);
-      made = rw items (made-push read.group reads c.loop-one.deliveries.items first before after one served.delivery c.loop-one.invariant.made lt place (served-made now read one before after served is));
+      content = content-more now read one more before after tokens longer served is (read_each first now read reads) (ap (read_each before now read) (sym split) ∙ c.loop-one.invariant.content);
+      shown = tokens-more now read one more before after tokens longer served is (flat_map tokens_of (parts first now read reads))
+          (ap (λ rest. tokens ++ flat_map tokens_of (parts before now read rest)) (sym split) ∙ c.loop-one.invariant.shown);
+      counted = count-more now read one more before after tokens longer served is c.loop-one.parts (length (parts first now read reads))
+          (ap (λ rest. c.loop-one.parts + length (parts before now read rest)) (sym split) ∙ c.loop-one.invariant.counted);
+      there = there-more now read one more before after tokens longer served is (ap (list_all there) (sym split) ∙ c.loop-one.invariant.there);
+      made = rw items (made-push read.group reads c.loop-one.deliveries.items first before after one served.delivery c.loop-one.invariant.made lt place (served-made now read one before after tokens longer served is));
       count = omega (arith, len);
-      fewer = omega (arith, c.push_part.ensures.len);
       room = omega (arith, c.push.ensures.capacity);
-      room_shown = omega (arith, c.push_part.ensures.capacity);
     }
 
 pub undo_all-requires : goal.undo_all-requires
 undo_all-requires c = (content_of c.args.keys.now.entries, rw c.in-Err.ensures.err c.loop-one.invariant.made)
+
+pub overflow_add-parts : goal.overflow_add-parts
+overflow_add-parts c =
+    let now = c.args.now in
+    let read = c.args.read.now in
+    let reads = c.as_slice-reads.result.now in
+    let first = content_of c.args.keys.now.entries in
+    let before = content_of c.loop-one.keys.entries in
+    let more = drop (c.loop-one.one-index + 1) reads in
+    let split = next (goal.at.overflow_add-parts c).After-one-item in
+    let counted = count-more now read c.one-item.result more before (content_of c.serve_at.new.keys.entries) c.loop-one.tokens.items c.serve_at.new.tokens.items c.in-Ok.served c.in-Ok.ensures.ok c.loop-one.parts (length (parts first now read reads))
+    (ap (λ rest. c.loop-one.parts + length (parts before now read rest)) (sym split) ∙ c.loop-one.invariant.counted) in
+    omega (arith, counted, parts-le first now read reads, c.loop-one.invariant.room, c.loop-one.deliveries.small)

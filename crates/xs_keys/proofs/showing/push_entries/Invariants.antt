@@ -1,0 +1,9 @@
+use Rattle.std.proofs.Common.{◌≡◌, ◌++◌, take, map}
+use Rattle.std.specs.List.{flat_map}
+use Rattle.xs_resp.specs.ReplyItems.{tokens_of}
+use Rattle.xs_keys.specs.Reply.{entry_reply}
+use Rattle.xs_keys.proofs.showing.push_entries.Given as goal
+
+-- the entries so far
+abbrev pub invariant-loop-id : goal.invariant-loop-id
+invariant-loop-id l = l.tokens.items ≡ l.fn.tokens.items ++ flat_map tokens_of (map (entry_reply l.stream.entries) (take l.id-index l.ids))

@@ -1,0 +1,10 @@
+use Rattle.std.proofs.Common.{◌≡◌, ◌++◌, take, map}
+use Rattle.std.specs.List.{flat_map}
+use Rattle.xs_resp.specs.ReplyItems.{tokens_of}
+use Rattle.xs_group.specs.Delivered.{row_ids}
+use Rattle.xs_keys.specs.Reply.{entry_reply}
+use Rattle.xs_keys.proofs.xreadgroup.push_rows.Given as goal
+
+-- the entries so far
+abbrev pub invariant-loop-row : goal.invariant-loop-row
+invariant-loop-row l = l.tokens.items ≡ l.fn.tokens.items ++ flat_map tokens_of (map (entry_reply l.stream.entries) (row_ids (take l.row-index l.rows)))
