@@ -1,4 +1,4 @@
-.PHONY: run test refusals compare
+.PHONY: run check test edits refusals compare
 
 PROGRAM = crates/xs_server/out/xs_server
 
@@ -11,20 +11,30 @@ run:
 # made at random.
 test:
 	rt ci
-	test -x $(PROGRAM) || (cd crates/xs_server && rt run -- script < stdin)
+	cd crates/xs_server && rt run -- script < stdin > /dev/null
 	python3 conformance/run.py $(PROGRAM) script
 	python3 conformance/great.py $(PROGRAM)
 	python3 conformance/sessions.py --bytes 5000000
 
+# Proves what has changed, and runs the worked cases: what one runs while working.
+check:
+	rt all check
+	cd crates/xs_server && rt run -- script < stdin > /dev/null
+	python3 conformance/run.py $(PROGRAM) script
+
+# Tries the wrong bodies that the gate leaves out, hours of them.
+edits:
+	python3 edits/try.py
+
 # Runs the tests that say so, and the worked cases, with each allocation refused in turn. Needs cc.
 refusals:
 	python3 conformance/refusals.py
-	test -x $(PROGRAM) || (cd crates/xs_server && rt run -- script < stdin)
+	cd crates/xs_server && rt run -- script < stdin > /dev/null
 	python3 conformance/refused_scripts.py $(PROGRAM) script
 
 # Asks a real Redis 7.0 the worked cases too, but for those that are only ours, and then asks it and the program the same
 # 100,000 commands of streams and groups, made at random. Debian: apt-get install redis-server
 compare:
 	python3 conformance/compare.py
-	test -x $(PROGRAM) || (cd crates/xs_server && rt run -- script < stdin)
+	cd crates/xs_server && rt run -- script < stdin > /dev/null
 	python3 conformance/at_random.py $(PROGRAM) script
