@@ -13,6 +13,7 @@ pub mod Maps
 pub mod Names
 pub mod Owners
 pub mod Touches
+pub mod Takings
 pub mod ReadSteps
 pub mod Runs
 pub mod Streams

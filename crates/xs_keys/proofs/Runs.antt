@@ -10,6 +10,7 @@ use Rattle.xs_keys.specs.GroupLife.{GroupLife, group_life}
 use Rattle.xs_keys.proofs.Lawfulness.{content-lawful}
 use Rattle.xs_keys.proofs.Deliveries.{ascends-delivered, past-start, had-turn}
 use Rattle.xs_keys.proofs.Histories.{present-in-life}
+use Rattle.xs_keys.proofs.Takings.{in-full, claims-idle}
 use Rattle.xs_keys.proofs.Touches.{is-last-touched}
 use Rattle.xs_keys.proofs.Owners.{owned-until-settled, changes-by-claims, owner-row, row-found, of_row}
 use Rattle.xs_keys.proofs.Streams.{ascends-given}
@@ -71,10 +72,17 @@ delivers-new past key group life e =
       ascend = ascends-delivered life.start life.turns asc;
       past_start = past-start life.start life.turns;
       at_their_turn = λ x low high. had-turn life.start life.turns x asc low high;
+      in_full = in-full life.start life.turns;
     }
 
 pub has-one-owner : (life : GroupLife) → HasOneOwner life
-has-one-owner life = record { is_pending = λ x. owner-row life.start life.turns x ∙ sym (ap of_row (row-found life.start life.turns x)); is_last_touched = is-last-touched life.start life.turns; until_settled = owned-until-settled life.start life.turns; by_claims = changes-by-claims life.start life.turns }
+has-one-owner life = record {
+  is_pending = λ x. owner-row life.start life.turns x ∙ sym (ap of_row (row-found life.start life.turns x));
+  is_last_touched = is-last-touched life.start life.turns;
+  claims_idle = claims-idle life.start life.turns;
+  until_settled = owned-until-settled life.start life.turns;
+  by_claims = changes-by-claims life.start life.turns;
+}
 
 pub headline : (past events : List (ℕ × Command)) (replies : List Reply) (history : List (ℕ × Command)) → Answers past events replies history → Headline past events replies history
 headline past events replies history answers = record {

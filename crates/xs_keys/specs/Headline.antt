@@ -1,6 +1,7 @@
 -- One call: applied, or refused for want of memory. The headline, of a run of commands over a history; and what it
 -- promises of the ids of each key, and of each life of a group: new deliveries, and one owner until an entry is settled.
-use Rattle.std.specs.Prelude.{◌≡◌, ℕ, Bool, true, false, ◌⊎◌, Some, not, ◌||◌, List, [], ◌∷◌, ◌++◌, None, is_some}
+use Rattle.std.specs.Prelude.{◌≡◌, ℕ, Bool, true, false, ◌⊎◌, Option, Some, not, ◌||◌, List, [], ◌∷◌, ◌++◌, None, is_some}
+use Rattle.std.specs.Prelude.{length}
 use Rattle.xs_keys.specs.Ground.{Memory, Reply, Error, Command, Ping, Add, Scan}
 use Rattle.xs_keys.specs.Ground.{GroupCreate, ConsumerCreate, ReadGroup, Pending, PendingRows, Claim, AutoClaim}
 use Rattle.xs_keys.specs.Ground.{Id, is_below, has_id, Ascends, AllAbove, ids_of, option_map}
@@ -10,8 +11,9 @@ use Rattle.xs_keys.specs.Life.{Change, key_life, given_in}
 use Rattle.xs_keys.specs.Content.{Content, IsContent, IsLawfulContent, after}
 use Rattle.xs_keys.specs.Reply.{reply}
 use Rattle.xs_keys.specs.Touched.{IsLastTouched}
-use Rattle.xs_keys.specs.Turn.{Turn, consumer_of, delivered, cursor, is_their_turn, delivers_pending, takes, settles}
-use Rattle.xs_keys.specs.Turn.{owner, rows}
+use Rattle.xs_keys.specs.Taken.{ClaimsWhatIsIdle}
+use Rattle.xs_keys.specs.Turn.{Turn, read_new, consumer_of, delivered, delivers_at, cursor, is_their_turn}
+use Rattle.xs_keys.specs.Turn.{delivers_pending, takes, settles, owner, rows}
 use Rattle.xs_keys.specs.GroupLife.{GroupLife, group_life, delivered_by, GoesOn}
 use Rattle.xs_keys.specs.Told.{IsTold}
 
@@ -61,12 +63,22 @@ pub record HadItsTurn (start : Id) (turns : List Turn) (x : Id) : Type 0 where
   pub theirs : is_their_turn start earlier turn x ≡ true
   pub exactly : has_id (delivered start turns) x ≡ has_id turn.present x
 
--- new deliveries: in id order and each once, past the start, and exactly the entries in the stream at their turn
+-- a read of new entries delivers as many as it asks for, or leaves no entry in the stream past the cursor
+abbrev pub DeliversInFull : Id → List Turn → Type 0
+DeliversInFull start turns =
+    (later : List Turn) (turn : Turn) (earlier : List Turn) → turns ≡ later ++ turn ∷ earlier
+    → (consumer : List ℕ) (limit : Option ℕ) (noack : Bool) → turn.ask ≡ read_new consumer limit noack
+    → (limit ≡ Some (length (delivers_at turn (cursor start earlier))))
+    ⊎ ((x : Id) → has_id turn.present x ≡ true → is_below (cursor start (turn ∷ earlier)) x ≡ false)
+
+-- new deliveries: in id order and each once, past the start, exactly the entries in the stream at their turn, and as
+-- many as are asked for
 pub record DeliversNew (life : GroupLife) : Type 0 where
   pub ascend : Ascends (delivered life.start life.turns)
   pub past_start : AllAbove life.start (delivered life.start life.turns)
   pub at_their_turn : (x : Id) → is_below life.start x ≡ true → is_below (cursor life.start life.turns) x ≡ false
       → HadItsTurn life.start life.turns x
+  pub in_full : DeliversInFull life.start life.turns
 
 -- one of these later turns settles it
 abbrev pub settled_in : Id → List Turn → List Turn → Id → Bool
@@ -105,10 +117,11 @@ abbrev pub IsPendingWithOwner : Id → List Turn → Type 0
 IsPendingWithOwner start turns =
     (x : Id) → owner start turns x ≡ option_map (λ row. row.consumer) (row_at (rows start turns) x)
 
--- one owner until settled
+-- one owner until settled, and a claim takes only what has been idle for as long as it asks
 pub record HasOneOwner (life : GroupLife) : Type 0 where
   pub is_pending : IsPendingWithOwner life.start life.turns
   pub is_last_touched : IsLastTouched life.start life.turns
+  pub claims_idle : ClaimsWhatIsIdle life.start life.turns
   pub until_settled : OwnedUntilSettled life.start life.turns
   pub by_claims : ChangesByClaims life.start life.turns
 
@@ -168,9 +181,9 @@ StepsLawfully history =
     → (content : Content) → IsContent content earlier
     → IsLawfulContent content × IsContent (after content e.0 e.1) (e ∷ earlier)
 
--- every reply is the model's, and tells what was delivered; each group's new deliveries are, in id order and each once, the entries past
--- its start that were in the stream when their turn came; and each entry delivered without NOACK is pending
--- with exactly one consumer until it is settled
+-- every reply is the model's, and tells what was delivered; each group's new deliveries are, in id order and each once,
+-- the entries past its start that were in the stream when their turn came, as many as were asked for; and each entry
+-- delivered without NOACK is pending with exactly one consumer until it is settled, and is claimed only when idle
 pub record Headline
     (past events : List (ℕ × Command)) (answers : List Reply) (history : List (ℕ × Command)) : Type 0 where
   pub replies : Answers past events answers history

@@ -2,6 +2,7 @@ pub mod Ground
 pub mod Life
 pub mod Turn
 pub mod Touched
+pub mod Taken
 pub mod GroupLife
 pub mod Content
 pub mod Reply

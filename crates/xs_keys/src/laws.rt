@@ -15,8 +15,9 @@ ghost use Rattle.xs_keys.specs.GroupLife.{GroupLife, group_life, group_of, asks_
 ghost use Rattle.xs_keys.specs.Content.{Content, IsContent, after, IsLawfulContent};
 ghost use Rattle.xs_keys.specs.Reply.{reply};
 ghost use Rattle.xs_keys.specs.Told.{IsTold};
+ghost use Rattle.xs_keys.specs.Taken.{ClaimsWhatIsIdle};
 ghost use Rattle.xs_keys.specs.Touched.{IsLastTouched};
-ghost use Rattle.xs_keys.specs.Headline.{HadItsTurn, OwnedUntilSettled, ChangesByClaims, IsPendingWithOwner};
+ghost use Rattle.xs_keys.specs.Headline.{HadItsTurn, DeliversInFull, OwnedUntilSettled, ChangesByClaims, IsPendingWithOwner};
 
 /// The empty history leaves the empty content; an event leads from the content of a history to the
 /// content of the history followed by it; a history has one content; and that is lawful.
@@ -47,6 +48,12 @@ pub fn deliveries_ascend()
 pub fn delivered_exactly_where_live_at_its_turn()
     ensures { (past : List (ℕ × Command)) (key group : List ℕ) (life : GroupLife) (x : Id) → group_life past key group ≡ Some life →
         is_below life.start x ≡ true → is_below (cursor life.start life.turns) x ≡ false → HadItsTurn life.start life.turns x }
+{}
+
+/// A read of new entries delivers as many as it asks for, or leaves no entry in the stream past the cursor.
+pub fn a_read_delivers_in_full()
+    ensures { (past : List (ℕ × Command)) (key group : List ℕ) (life : GroupLife) → group_life past key group ≡ Some life →
+        DeliversInFull life.start life.turns }
 {}
 
 /// After a delivery without NOACK an entry has an owner up to the first turn that settles it, and none
@@ -91,4 +98,11 @@ pub fn owner_is_of_the_row()
 pub fn time_and_count_are_of_the_last_touch()
     ensures { (past : List (ℕ × Command)) (key group : List ℕ) (life : GroupLife) → group_life past key group ≡ Some life →
         IsLastTouched life.start life.turns }
+{}
+
+/// A claim takes an entry only where it has an owner, is in the stream, and was last touched as long ago as the claim
+/// asks; and it removes a pending entry only where that is no longer in the stream.
+pub fn a_claim_takes_what_is_idle()
+    ensures { (past : List (ℕ × Command)) (key group : List ℕ) (life : GroupLife) → group_life past key group ≡ Some life →
+        ClaimsWhatIsIdle life.start life.turns }
 {}

@@ -1,0 +1,159 @@
+-- What claims take and remove, and how many a read delivers.
+use Rattle.std.proofs.Common.{◌≡◌, ℕ, ◌≤◌, ◌-◌, ◌⊎◌, inl, inr, Bool, true, false, ◌&&◌, not, List, ◌∷◌, length, take, filter, Option, Some, None, is_some, sym, ap, ◌∙◌, refl, subst, arith, take_all}
+use Rattle.std.proofs.lemmas.List.{length-take-le}
+use Rattle.std.proofs.lemmas.Bool.{false≢true}
+use Rattle.std.specs.Prelude.{nat_le}
+use Rattle.std.proofs.lemmas.Bool.Decides.{nat_tests}
+use Rattle.xs_stream.specs.declared.id.Id.{Id}
+use Rattle.xs_stream.specs.Id.{is_below, has_id}
+use Rattle.xs_group.specs.State.{Row, idle, delivers}
+use Rattle.xs_group.specs.Claims.{Rule, row_at, is_idle, is_taken, is_removed, is_hit, firsts, scanned, from_start}
+use Rattle.xs_keys.specs.Life.{greatest}
+use Rattle.xs_keys.specs.Turn.{Ask, Turn, read_new, read_own, ack, join, leave, claim, auto_claim, asked_claim, rows, takes, asked_new, delivers_at, cursor, owner}
+use Rattle.xs_keys.specs.Taken.{least_idle, removes_pending, IsTakenWhenIdle, IsRemovedWhenGone, ClaimsWhatIsIdle}
+use Rattle.xs_keys.specs.Headline.{DeliversInFull}
+use Rattle.xs_keys.proofs.IdLists.{has_id-where, not_among}
+use Rattle.xs_stream.proofs.Order.{not_above-trans}
+use Rattle.xs_keys.proofs.Streams.{greatest-up, up_to-greatest}
+use Rattle.xs_keys.proofs.GroupSteps.{cursor-step}
+use Rattle.xs_keys.proofs.Owners.{owner-row, row-found, of_row}
+use Rattle.xs_keys.proofs.Touches.{is-last-touched}
+
+left : (a b : Bool) → (a && b) ≡ true → a ≡ true
+left true b h = refl
+left false b h = absurd (false≢true h)
+
+right : (a b : Bool) → (a && b) ≡ true → b ≡ true
+right true b h = h
+right false b h = absurd (false≢true h)
+
+-- what a filter keeps passes its test
+passes : (p : Id → Bool) (xs : List Id) (x : Id) → has_id (filter p xs) x ≡ true → p x ≡ true
+passes p xs x h = left (p x) (has_id xs x) (sym (has_id-where p xs x) ∙ h)
+
+-- ---- claims
+
+-- an id that is taken
+record Taken (min_idle now : ℕ) (present : List Id) (entries : List (Id × Row)) (x : Id) : Type 0 where
+  row : Row
+  found : row_at entries x ≡ Some row
+  idle : min_idle ≤ now - row.time
+  there : has_id present x ≡ true
+
+taken : (entries : List (Id × Row)) (present : List Id) (now : ℕ) (rule : Rule) (ids : List Id) (x : Id)
+    → has_id (filter (is_taken entries present now rule) ids) x ≡ true → Taken rule.min_idle now present entries x
+taken entries present now rule ids x h = by (row_at entries x) refl (passes (is_taken entries present now rule) ids x h) where
+  by : (row : Option Row) → row_at entries x ≡ row → (is_idle now rule row && has_id present x) ≡ true → Taken rule.min_idle now present entries x
+  by None e t = absurd (false≢true t)
+  by (Some row) e t =
+      let test : nat_le rule.min_idle (idle now row.time) ≡ true = left (nat_le rule.min_idle (idle now row.time)) (has_id present x) t in
+      record { row = row; found = e; idle = grind (arith, nat_tests, test); there = right (nat_le rule.min_idle (idle now row.time)) (has_id present x) t }
+
+asked-taken : (ask : Ask) (now : ℕ) (present : List Id) (entries : List (Id × Row)) (x : Id)
+    → has_id (asked_claim ask now present entries).take x ≡ true → Taken (least_idle ask) now present entries x
+asked-taken (read_new consumer limit noack) now present entries x h = absurd (false≢true h)
+asked-taken (read_own consumer limit from) now present entries x h = absurd (false≢true h)
+asked-taken (ack ids) now present entries x h = absurd (false≢true h)
+asked-taken (join consumer) now present entries x h = absurd (false≢true h)
+asked-taken (leave consumer) now present entries x h = absurd (false≢true h)
+asked-taken (claim consumer rule ids) now present entries x h = taken entries present now rule (firsts ids) x h
+asked-taken (auto_claim consumer rule start limit) now present entries x h =
+    taken entries present now rule (scanned (is_hit entries present now rule) limit (from_start start entries)) x h
+
+-- an id that is removed
+record Removed (present : List Id) (entries : List (Id × Row)) (x : Id) : Type 0 where
+  found : is_some (row_at entries x) ≡ true
+  gone : has_id present x ≡ false
+
+removed : (entries : List (Id × Row)) (present ids : List Id) (x : Id) → has_id (filter (is_removed entries present) ids) x ≡ true → Removed present entries x
+removed entries present ids x h =
+    let t = passes (is_removed entries present) ids x h in
+    record { found = left (is_some (row_at entries x)) (not (has_id present x)) t; gone = by (has_id present x) (right (is_some (row_at entries x)) (not (has_id present x)) t) } where
+      by : (b : Bool) → not b ≡ true → b ≡ false
+      by true e = absurd (false≢true e)
+      by false e = refl
+
+asked-removed : (ask : Ask) (now : ℕ) (present : List Id) (entries : List (Id × Row)) (x : Id)
+    → has_id (asked_claim ask now present entries).removed x ≡ true → Removed present entries x
+asked-removed (read_new consumer limit noack) now present entries x h = absurd (false≢true h)
+asked-removed (read_own consumer limit from) now present entries x h = absurd (false≢true h)
+asked-removed (ack ids) now present entries x h = absurd (false≢true h)
+asked-removed (join consumer) now present entries x h = absurd (false≢true h)
+asked-removed (leave consumer) now present entries x h = absurd (false≢true h)
+asked-removed (claim consumer rule ids) now present entries x h = removed entries present (firsts ids) x h
+asked-removed (auto_claim consumer rule start limit) now present entries x h =
+    removed entries present (scanned (is_hit entries present now rule) limit (from_start start entries)) x h
+
+-- whose row is there has an owner
+owned : (start : Id) (past : List Turn) (x : Id) → is_some (row_at (rows start past) x) ≡ true → is_some (owner start past x) ≡ true
+owned start past x h =
+    ap is_some (owner-row start past x ∙ sym (ap of_row (row-found start past x))) ∙ by (row_at (rows start past) x) h where
+      by : (row : Option Row) → is_some row ≡ true → is_some (of_row row) ≡ true
+      by None e = absurd (false≢true e)
+      by (Some row) e = refl
+
+taken-when-idle : (start : Id) (past : List Turn) (turn : Turn) (x : Id) → takes start past turn x ≡ true → IsTakenWhenIdle start past turn x
+taken-when-idle start past turn x h =
+    let t = asked-taken turn.ask turn.now turn.present (rows start past) x h in
+    record {
+      owned = owned start past x (ap is_some t.found);
+      present = t.there;
+      idle = subst (λ (time : ℕ). least_idle turn.ask ≤ turn.now - time) (is-last-touched start past x t.row t.found).0 t.idle;
+    }
+
+removed-when-gone : (start : Id) (past : List Turn) (turn : Turn) (x : Id) → removes_pending start past turn x ≡ true → IsRemovedWhenGone start past turn x
+removed-when-gone start past turn x h =
+    let t = asked-removed turn.ask turn.now turn.present (rows start past) x h in
+    record { owned = owned start past x t.found; gone = t.gone }
+
+pub claims-idle : (start : Id) (turns : List Turn) → ClaimsWhatIsIdle start turns
+claims-idle start turns = λ later turn earlier x e. (taken-when-idle start earlier turn x, removed-when-gone start earlier turn x)
+
+-- ---- reads
+
+-- where all above a cursor are delivered, none is left above it
+none-left : (a : Id) (present : List Id) (x : Id) → has_id present x ≡ true → is_below (greatest a (filter (λ y. is_below a y) present)) x ≡ false
+none-left a present x h = by (is_below a x) refl where
+  above : List Id
+  above = filter (λ y. is_below a y) present
+
+  among : is_below a x ≡ true → has_id above x ≡ true
+  among t = has_id-where (λ y. is_below a y) present x ∙ ap (λ b. b && has_id present x) t ∙ h
+
+  passed : has_id above x ≡ true → (s : Bool) → is_below (greatest a above) x ≡ s → s ≡ false
+  passed there false e = refl
+  passed there true e = absurd (false≢true (sym (not_among (greatest a above) above x e (up_to-greatest a above)) ∙ there))
+
+  by : (t : Bool) → is_below a x ≡ t → is_below (greatest a above) x ≡ false
+  by false t = not_above-trans (greatest a above) a x (greatest-up a above) t
+  by true t = passed (among t) (is_below (greatest a above) x) refl
+
+-- what a read delivers is as many as it asks for, or all
+full : (limit : Option ℕ) (a : Id) (present : List Id)
+    → (limit ≡ Some (length (delivers limit a present))) ⊎ ((x : Id) → has_id present x ≡ true → is_below (greatest a (delivers limit a present)) x ≡ false)
+full None a present = inr (none-left a present)
+full (Some n) a present = by (nat_le n (length above)) refl where
+  above : List Id
+  above = filter (λ y. is_below a y) present
+
+  by : (t : Bool) → nat_le n (length above) ≡ t
+      → (Some n ≡ Some (length (take n above))) ⊎ ((x : Id) → has_id present x ≡ true → is_below (greatest a (take n above)) x ≡ false)
+  by true t =
+      let enough : n ≤ length above = grind (arith, nat_tests, t) in
+      inl (ap Some (sym (length-take-le n above enough)))
+  by false t =
+      let few : length above ≤ n = grind (arith, nat_tests, t) in
+      inr (λ x h. ap (λ ids. is_below (greatest a ids) x) (take_all n above few) ∙ none-left a present x h)
+
+pub in-full : (start : Id) (turns : List Turn) → DeliversInFull start turns
+in-full start turns = λ later turn earlier e consumer limit noack asks.
+    let a = cursor start earlier in
+    let same : delivers_at turn a ≡ delivers limit a turn.present = ap (λ (ask : Ask). asked_new ask turn.present a) asks in
+    by turn earlier limit same (full limit a turn.present) where
+      by : (turn : Turn) (earlier : List Turn) (limit : Option ℕ) → delivers_at turn (cursor start earlier) ≡ delivers limit (cursor start earlier) turn.present
+          → (limit ≡ Some (length (delivers limit (cursor start earlier) turn.present)))
+          ⊎ ((x : Id) → has_id turn.present x ≡ true → is_below (greatest (cursor start earlier) (delivers limit (cursor start earlier) turn.present)) x ≡ false)
+          → (limit ≡ Some (length (delivers_at turn (cursor start earlier)))) ⊎ ((x : Id) → has_id turn.present x ≡ true → is_below (cursor start (turn ∷ earlier)) x ≡ false)
+      by turn earlier limit same (inl e) = inl (e ∙ ap (λ (ids : List Id). Some (length ids)) (sym same))
+      by turn earlier limit same (inr f) =
+          inr (λ x h. ap (λ (c : Id). is_below c x) (cursor-step start turn earlier ∙ ap (greatest (cursor start earlier)) same) ∙ f x h)
