@@ -13,7 +13,8 @@ use Rattle.xs_keys.specs.Reply.{assigned_reply}
 -- an addition to a stream is the model's, or memory ran out where the model refuses nothing, and nothing has changed
 abbrev pub Adds : Kept → ℕ → AddCommand → Reply → Kept → Type 0
 Adds old now add answer new =
-    ((answer ≡ assigned_reply (assigned now old.top add.id)) × (new ≡ stream_after (added now add.id add.fields add.trim) old))
+    ((answer ≡ assigned_reply (assigned now old.top add.id))
+    × (new ≡ stream_after (added now add.id add.fields add.trim) old))
     ⊎ ((is_ok (assigned now old.top add.id) ≡ true) × (answer ≡ Error Memory) × (new ≡ old))
 
 -- the printed id, where one is assigned

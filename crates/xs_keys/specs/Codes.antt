@@ -13,7 +13,8 @@ use Rattle.xs_keys.specs.Content.{Key, Content}
 
 abbrev pub coded_field : Coded Field
 coded_field =
-    code_by (List ℕ × List ℕ) (coded× (coded_list coded_ℕ) (coded_list coded_ℕ)) (λ f. (f.name, f.value)) (λ p. record { name = p.0; value = p.1 }) (λ _. refl)
+    code_by (List ℕ × List ℕ) (coded× (coded_list coded_ℕ) (coded_list coded_ℕ)) (λ f. (f.name, f.value))
+    (λ p. record { name = p.0; value = p.1 }) (λ _. refl)
 
 abbrev pub coded_kept : Coded Kept
 coded_kept =

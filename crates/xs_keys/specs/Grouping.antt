@@ -1,6 +1,7 @@
 -- What the contracts of the creation of groups say within the code.
 use Rattle.std.specs.Prelude.{◌≡◌, true, false, ◌⊎◌}
-use Rattle.xs_keys.specs.Ground.{NameMap, has_key, insert, Id, State, new_group, Reply, Simple, Error, Okay, Busy, Memory}
+use Rattle.xs_keys.specs.Ground.{NameMap, has_key, insert, Id, State, new_group, Reply, Simple, Error, Okay, Busy}
+use Rattle.xs_keys.specs.Ground.{Memory}
 use Rattle.xs_keys.specs.Ground.{GroupCreateCommand}
 use Rattle.xs_keys.specs.GroupLife.{start_of}
 

@@ -1,6 +1,8 @@
 -- One call: applied, or refused for want of memory. The headline, of a run of commands over a history; and what it
--- promises of the ids of each key, and of each life of a group: new deliveries, and one owner until an entry is settled.
-use Rattle.std.specs.Prelude.{◌≡◌, ℕ, Bool, true, false, ◌⊎◌, Option, Some, not, ◌||◌, List, [], ◌∷◌, ◌++◌, None, is_some}
+-- promises of the ids of each key, and of each life of a group: new deliveries, and one owner until an entry is
+-- settled.
+use Rattle.std.specs.Prelude.{◌≡◌, ℕ, Bool, true, false, ◌⊎◌, Option, Some, not, ◌||◌, List, [], ◌∷◌, ◌++◌, None}
+use Rattle.std.specs.Prelude.{is_some}
 use Rattle.std.specs.Prelude.{length}
 use Rattle.xs_keys.specs.Ground.{Memory, Reply, Error, Command, Ping, Add, Scan}
 use Rattle.xs_keys.specs.Ground.{GroupCreate, ConsumerCreate, ReadGroup, Pending, PendingRows, Claim, AutoClaim}
@@ -160,14 +162,20 @@ OfEachGroup history Holds =
     (later earlier : List (ℕ × Command)) → history ≡ later ++ earlier
     → (key group : List ℕ) (life : GroupLife) → group_life earlier key group ≡ Some life → Holds life
 
+-- each life of a group, in any history
+abbrev pub OfEachLife : (GroupLife → Type 0) → Type 0
+OfEachLife Holds =
+    (past : List (ℕ × Command)) (key group : List ℕ) (life : GroupLife)
+    → group_life past key group ≡ Some life → Holds life
+
 -- at each time of a history, the ids given in the open life of each key ascend
 abbrev pub IdsAscend : List (ℕ × Command) → Type 0
 IdsAscend history =
     (later earlier : List (ℕ × Command)) → history ≡ later ++ earlier
     → (key : List ℕ) (changes : List Change) → key_life earlier key ≡ Some changes → Ascends (ids_of (given_in changes))
 
--- an event delivers nothing of a life that isn't open at it, or that it doesn't read; and what is delivered in a life is
--- what its events deliver, one after the other
+-- an event delivers nothing of a life that isn't open at it, or that it doesn't read; and what is delivered in a life
+-- is what its events deliver, one after the other
 abbrev pub LivesAreApart : List (ℕ × Command) → Type 0
 LivesAreApart history =
     (later : List (ℕ × Command)) (e : ℕ × Command) (earlier : List (ℕ × Command)) → history ≡ later ++ e ∷ earlier

@@ -6,7 +6,8 @@ use Rattle.xs_resp.specs.ReplyItems.{tokens_of}
 use Rattle.xs_group.specs.declared.delivery.Delivery.{Delivery}
 use Rattle.xs_group.specs.Delivered.{IsMade}
 use Rattle.xs_keys.specs.declared.xreadgroup.Served.{Served}
-use Rattle.xs_keys.specs.Ground.{NameMap, get, insert, Id, Field, ids_of, delivers, shown, State, Reply, ReadGroupCommand}
+use Rattle.xs_keys.specs.Ground.{NameMap, get, insert, Id, Field, ids_of, delivers, shown, State, Reply}
+use Rattle.xs_keys.specs.Ground.{ReadGroupCommand}
 use Rattle.xs_keys.specs.Ground.{ReadOne, ReadFrom, New, After}
 use Rattle.xs_keys.specs.GroupLife.{read_ask}
 use Rattle.xs_keys.specs.Content.{Content, Key, group_after}

@@ -4,7 +4,7 @@ use Rattle.std.specs.Prelude.{◌≡◌, ℕ, true, List, [], ◌∷◌, ◌++�
 use Rattle.xs_keys.specs.Ground.{option_map_or, Id, Field, Command, ReadGroup, Claim, AutoClaim, ReadOne, ReadFrom}
 use Rattle.xs_keys.specs.Ground.{New, After, Reply, Bulk}
 use Rattle.xs_keys.specs.Life.{key_life, given_in}
-use Rattle.xs_keys.specs.Turn.{Ask, claim, auto_claim, claims_of, rows}
+use Rattle.xs_keys.specs.Turn.{Ask, Turn, claim, auto_claim, claims_of, rows}
 use Rattle.xs_keys.specs.GroupLife.{group_life, group_of, present_in, acts, delivered_by}
 use Rattle.xs_keys.specs.Reply.{array, array_or_null, new_part, taken_reply}
 
@@ -15,7 +15,8 @@ given_at past key = option_map_or given_in (key_life past key) []
 -- the part of a reply for one stream that an event reads: with `>` it has what the event delivers in the group, and
 -- there is none where that is nothing; with an id it has that key's own name
 abbrev pub TellsRead : List (ℕ × Command) → Command → List ℕ → ReadFrom → List Reply → Type 0
-TellsRead past command key New told = told ≡ new_part key (given_at past key) (delivered_by past command key (group_of command))
+TellsRead past command key New told =
+    told ≡ new_part key (given_at past key) (delivered_by past command key (group_of command))
 TellsRead past command key (After id) told = (entries : Reply) × (told ≡ array (Bulk key ∷ entries ∷ []) ∷ [])
 
 -- the parts of all streams, in the order written
@@ -28,9 +29,8 @@ TellsReads past command (one ∷ more) told =
 -- the ids that a claim takes in a group
 abbrev pub taken_by : List (ℕ × Command) → ℕ → List ℕ → List ℕ → Ask → List Id
 taken_by past now key group ask =
-    let present = present_in (key_life past key) in
-    option_map_or (λ life. (claims_of (record { now = now; present = present; ask = ask }) (rows life.start life.turns)).take)
-    (group_life past key group) []
+    let turn : Turn = record { now = now; present = present_in (key_life past key); ask = ask } in
+    option_map_or (λ life. (claims_of turn (rows life.start life.turns)).take) (group_life past key group) []
 
 -- an accepted read tells what it delivers, and an accepted claim what it takes
 abbrev pub IsTold : List (ℕ × Command) → ℕ → Command → Reply → Type 0

@@ -1,5 +1,5 @@
--- The time and the delivery count of a pending entry, by looking back for the last turn that touched it. (Redis Streams,
--- "Consumer groups": the pending entries list; XPENDING; XCLAIM.)
+-- The time and the delivery count of a pending entry, by looking back for the last turn that touched it. (Redis
+-- Streams, "Consumer groups": the pending entries list; XPENDING; XCLAIM.)
 use Rattle.std.specs.Prelude.{◌≡◌, ℕ, Bool, List, [], ◌∷◌, Some, ◌&&◌, ◌||◌, if◌then◌else◌}
 use Rattle.xs_group.specs.Claims.{row_at, claim_time, claim_count}
 use Rattle.xs_group.specs.State.{raised}

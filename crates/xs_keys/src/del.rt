@@ -26,7 +26,8 @@ fn remove_all(keys: &mut Keys, names: &[Bytes]) -> u64
 
 /// Removes keys with their groups, and says how many of them there were, each counted once.
 pub fn delete(keys: &mut Keys, names: &Names) -> Reply
-    ensures { StepAtAnyTime (content_of keys.old.entries) (Command.DropKeys names.now) result (content_of keys.new.entries) }
+    ensures { let old = content_of keys.old.entries in
+        StepAtAnyTime old (Command.DropKeys names.now) result (content_of keys.new.entries) }
 {
     Reply::Int(remove_all(keys, names.as_slice()))
 }

@@ -17,7 +17,8 @@ ghost use Rattle.xs_keys.specs.Reply.{reply};
 ghost use Rattle.xs_keys.specs.Told.{IsTold};
 ghost use Rattle.xs_keys.specs.Taken.{ClaimsWhatIsIdle};
 ghost use Rattle.xs_keys.specs.Touched.{IsLastTouched};
-ghost use Rattle.xs_keys.specs.Headline.{HadItsTurn, DeliversInFull, OwnedUntilSettled, ChangesByClaims, IsPendingWithOwner};
+ghost use Rattle.xs_keys.specs.Headline.{HadItsTurn, DeliversInFull, OwnedUntilSettled, ChangesByClaims};
+ghost use Rattle.xs_keys.specs.Headline.{IsPendingWithOwner, OfEachLife};
 
 /// The empty history leaves the empty content; an event leads from the content of a history to the
 /// content of the history followed by it; a history has one content; and that is lawful.
@@ -25,8 +26,10 @@ pub fn step_law()
     ensures empty { IsContent map.empty [] }
     ensures step { (past : List (ℕ × Command)) (content : Content) (now : ℕ) (command : Command) →
         IsContent content past → IsContent (after content now command) ((now, command) ∷ past) }
-    ensures unique { (past : List (ℕ × Command)) (one other : Content) → IsContent one past → IsContent other past → one ≡ other }
-    ensures lawful { (past : List (ℕ × Command)) (content : Content) → IsContent content past → IsLawfulContent content }
+    ensures unique { (past : List (ℕ × Command)) (one other : Content) →
+        IsContent one past → IsContent other past → one ≡ other }
+    ensures lawful { (past : List (ℕ × Command)) (content : Content) →
+        IsContent content past → IsLawfulContent content }
 {}
 
 /// The ids given in the life of a key ascend.
@@ -37,32 +40,28 @@ pub fn ids_ascend()
 
 /// The ids delivered in the life of a group ascend over all its reads, and are past its start.
 pub fn deliveries_ascend()
-    ensures ascend { (past : List (ℕ × Command)) (key group : List ℕ) (life : GroupLife) → group_life past key group ≡ Some life →
-        Ascends (delivered life.start life.turns) }
-    ensures past_start { (past : List (ℕ × Command)) (key group : List ℕ) (life : GroupLife) → group_life past key group ≡ Some life →
-        AllAbove life.start (delivered life.start life.turns) }
+    ensures ascend { OfEachLife (λ life. Ascends (delivered life.start life.turns)) }
+    ensures past_start { OfEachLife (λ life. AllAbove life.start (delivered life.start life.turns)) }
 {}
 
 /// An id above the start and not above the cursor has had its turn, and was delivered exactly where it
 /// was in the stream then.
 pub fn delivered_exactly_where_live_at_its_turn()
-    ensures { (past : List (ℕ × Command)) (key group : List ℕ) (life : GroupLife) (x : Id) → group_life past key group ≡ Some life →
-        is_below life.start x ≡ true → is_below (cursor life.start life.turns) x ≡ false → HadItsTurn life.start life.turns x }
+    ensures { OfEachLife (λ life. (x : Id) →
+        is_below life.start x ≡ true → is_below (cursor life.start life.turns) x ≡ false
+        → HadItsTurn life.start life.turns x) }
 {}
 
 /// A read of new entries delivers as many as it asks for, or leaves no entry in the stream past the cursor.
 pub fn a_read_delivers_in_full()
-    ensures { (past : List (ℕ × Command)) (key group : List ℕ) (life : GroupLife) → group_life past key group ≡ Some life →
-        DeliversInFull life.start life.turns }
+    ensures { OfEachLife (λ life. DeliversInFull life.start life.turns) }
 {}
 
 /// After a delivery without NOACK an entry has an owner up to the first turn that settles it, and none
 /// after it; the owner changes only by a claim, and comes only by a delivery.
 pub fn one_owner_until_settled()
-    ensures until_settled { (past : List (ℕ × Command)) (key group : List ℕ) (life : GroupLife) → group_life past key group ≡ Some life →
-        OwnedUntilSettled life.start life.turns }
-    ensures by_claims { (past : List (ℕ × Command)) (key group : List ℕ) (life : GroupLife) → group_life past key group ≡ Some life →
-        ChangesByClaims life.start life.turns }
+    ensures until_settled { OfEachLife (λ life. OwnedUntilSettled life.start life.turns) }
+    ensures by_claims { OfEachLife (λ life. ChangesByClaims life.start life.turns) }
 {}
 
 /// An event delivers nothing of a life of a group where it is on another key or group, or where no life
@@ -70,11 +69,14 @@ pub fn one_owner_until_settled()
 /// events deliver, one after the other, and nothing else.
 pub fn lives_are_apart()
     ensures elsewhere { (past : List (ℕ × Command)) (command : Command) (key group : List ℕ) →
-        (is_name group (group_of command) ≡ false) ⊎ (asks_new command key ≡ false) → delivered_by past command key group ≡ [] }
+        (is_name group (group_of command) ≡ false) ⊎ (asks_new command key ≡ false)
+        → delivered_by past command key group ≡ [] }
     ensures outside { (past : List (ℕ × Command)) (command : Command) (key group : List ℕ) →
         group_life past key group ≡ None → delivered_by past command key group ≡ [] }
-    ensures goes_on { (past : List (ℕ × Command)) (now : ℕ) (command : Command) (key group : List ℕ) → IsWellFormed command →
-        GoesOn (group_life past key group) (delivered_by past command key group) (group_life ((now, command) ∷ past) key group) }
+    ensures goes_on { (past : List (ℕ × Command)) (now : ℕ) (command : Command) (key group : List ℕ) →
+        IsWellFormed command →
+        let new = delivered_by past command key group in
+        GoesOn (group_life past key group) new (group_life ((now, command) ∷ past) key group) }
 {}
 
 /// What an accepted read with `>` tells its consumer are the entries that the event delivers in the group, and what an
@@ -87,22 +89,19 @@ pub fn what_is_told_is_what_was_delivered()
 /// The owner, searched for by looking back for the last turn that assigned the entry and for a later one
 /// that settled it, is the consumer of the row that the proofs go over.
 pub fn owner_is_of_the_row()
-    ensures holding { (past : List (ℕ × Command)) (key group : List ℕ) (life : GroupLife) (x : Id) → group_life past key group ≡ Some life →
-        owner life.start life.turns x ≡ option_map (λ row. row.consumer) (holding life.start life.turns x) }
-    ensures pending { (past : List (ℕ × Command)) (key group : List ℕ) (life : GroupLife) → group_life past key group ≡ Some life →
-        IsPendingWithOwner life.start life.turns }
+    ensures holding { OfEachLife (λ life. (x : Id) →
+        owner life.start life.turns x ≡ option_map (λ row. row.consumer) (holding life.start life.turns x)) }
+    ensures pending { OfEachLife (λ life. IsPendingWithOwner life.start life.turns) }
 {}
 
 /// The time and the delivery count of a pending row, carried from turn to turn, are those that the last turn gave that
 /// touched the entry: that delivered it, claimed it, or showed it once more to its consumer.
 pub fn time_and_count_are_of_the_last_touch()
-    ensures { (past : List (ℕ × Command)) (key group : List ℕ) (life : GroupLife) → group_life past key group ≡ Some life →
-        IsLastTouched life.start life.turns }
+    ensures { OfEachLife (λ life. IsLastTouched life.start life.turns) }
 {}
 
 /// A claim takes an entry only where it has an owner, is in the stream, and was last touched as long ago as the claim
 /// asks; and it removes a pending entry only where that is no longer in the stream.
 pub fn a_claim_takes_what_is_idle()
-    ensures { (past : List (ℕ × Command)) (key group : List ℕ) (life : GroupLife) → group_life past key group ≡ Some life →
-        ClaimsWhatIsIdle life.start life.turns }
+    ensures { OfEachLife (λ life. ClaimsWhatIsIdle life.start life.turns) }
 {}

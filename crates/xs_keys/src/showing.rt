@@ -32,7 +32,8 @@ pub fn push_bytes(tokens: &mut Vec<Token>, alloc: Global, bytes: &Bytes) -> Resu
 
 /// Appends the names and values of fields in turn.
 fn push_fields(tokens: &mut Vec<Token>, alloc: Global, fields: &[Field]) -> Result<(), AllocError>
-    ensures { OnOk result (tokens.new.items ≡ tokens.old.items ++ tokens_of (array (flat_map field_replies fields.now))) }
+    ensures { OnOk result (tokens.new.items ≡ tokens.old.items
+        ++ tokens_of (array (flat_map field_replies fields.now))) }
 {
     let Some(count) = fields.len().checked_mul(2) else {
         return Err(AllocError);
@@ -70,7 +71,8 @@ pub fn push_entries(
     stream: &Stream,
     ids: &[Id],
 ) -> Result<(), AllocError>
-    ensures { OnOk result (tokens.new.items ≡ tokens.old.items ++ flat_map tokens_of (map (entry_reply stream.now.entries) ids.now)) }
+    ensures { OnOk result (tokens.new.items ≡ tokens.old.items
+        ++ flat_map tokens_of (map (entry_reply stream.now.entries) ids.now)) }
 {
     tokens.reserve(ids.len().saturating_mul(ENTRY_TOKENS))?;
     for id in ids {

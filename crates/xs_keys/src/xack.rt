@@ -10,7 +10,8 @@ use xs_stream::Ids;
 
 /// Takes these ids out of what is pending in a group, and says how many were.
 pub fn acknowledge(keys: &mut Keys, key: &Bytes, group: &Bytes, ids: &Ids) -> Reply
-    ensures { StepAtAnyTime (content_of keys.old.entries) (Command.Ack key.now group.now ids.now) result (content_of keys.new.entries) }
+    ensures { let old = content_of keys.old.entries in
+        StepAtAnyTime old (Command.Ack key.now group.now ids.now) result (content_of keys.new.entries) }
 {
     let Some(slot) = keys.get_mut(key) else {
         return Reply::Int(0);

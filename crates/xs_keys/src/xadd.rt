@@ -29,7 +29,8 @@ fn try_add(
     ensures ok { IfOk result (λ text. (text_of (assigned now stream.old.top add.now.id) ≡ Some text)
         × (stream.new ≡ stream_after (added now add.now.id add.now.fields add.now.trim) stream.old)) }
     ensures small { IsErrOf result AddError.Small → assigned now stream.old.top add.now.id ≡ Err AddError.Small }
-    ensures exhausted { IsErrOf result AddError.Exhausted → assigned now stream.old.top add.now.id ≡ Err AddError.Exhausted }
+    ensures exhausted { IsErrOf result AddError.Exhausted → assigned now stream.old.top add.now.id
+        ≡ Err AddError.Exhausted }
     ensures memory { IsErrOf result AddError.Memory → is_ok (assigned now stream.old.top add.now.id) ≡ true }
     ensures err { OnErr result (stream.new ≡ stream.old) }
 {

@@ -33,7 +33,8 @@ fn push_taken(
     just_id: bool,
     ids: &[Id],
 ) -> Result<(), AllocError>
-    ensures { OnOk result (tokens.new.items ≡ tokens.old.items ++ tokens_of (taken_reply just_id stream.now.entries ids.now)) }
+    ensures { OnOk result (tokens.new.items ≡ tokens.old.items
+        ++ tokens_of (taken_reply just_id stream.now.entries ids.now)) }
 {
     if just_id {
         return push_id_array(tokens, alloc, ids);
@@ -73,7 +74,9 @@ fn claim_in(
     now: Moment,
     command: &AutoClaimCommand,
 ) -> Result<Reply, AllocError>
-    ensures answer { let found = claims.scan_of group.old.rows.entries (ids_of stream.now.entries) now command.now.rule command.now.start command.now.limit in
+    ensures answer { let asked = command.now in
+        let present = ids_of stream.now.entries in
+        let found = claims.scan_of group.old.rows.entries present now asked.rule asked.start asked.limit in
         IfOk result (λ reply. reply ≡ scan_shown command.now.rule.just_id stream.now.entries found) }
     ensures ok { let asked = auto_claim command.now.consumer command.now.rule command.now.start command.now.limit in
         OnOk result (group.new ≡ group_after now (ids_of stream.now.entries) asked group.old) }
@@ -88,7 +91,8 @@ fn claim_in(
 
 /// Claims entries of a group from a start upwards.
 pub fn claim(keys: &mut Keys, alloc: Global, now: Moment, command: &AutoClaimCommand) -> Reply
-    ensures { Step (content_of keys.old.entries) now (Command.AutoClaim command.now) result (content_of keys.new.entries) }
+    ensures { let old = content_of keys.old.entries in
+        Step old now (Command.AutoClaim command.now) result (content_of keys.new.entries) }
 {
     let Some(slot) = keys.get_mut(&command.key) else {
         return Reply::Error(Fault::NoGroup);

@@ -10,7 +10,8 @@ use xs_stream::Ids;
 
 /// Removes entries of a key, and says how many there were.
 pub fn delete(keys: &mut Keys, key: &Bytes, ids: &Ids) -> Reply
-    ensures { StepAtAnyTime (content_of keys.old.entries) (Command.Delete key.now ids.now) result (content_of keys.new.entries) }
+    ensures { let old = content_of keys.old.entries in
+        StepAtAnyTime old (Command.Delete key.now ids.now) result (content_of keys.new.entries) }
 {
     match keys.get_mut(key) {
         Some(slot) => Reply::Int(slot.stream.delete(ids.as_slice())),

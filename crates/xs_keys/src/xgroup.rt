@@ -46,7 +46,8 @@ fn create_in(groups: &mut Groups, alloc: Global, top: Id, command: &GroupCreateC
 /// insertion, so that a refusal of memory leaves neither.
 fn create_missing(keys: &mut Keys, alloc: Global, command: &GroupCreateCommand) -> Reply
     requires { map.get (content_of keys.old.entries) command.now.key ≡ None }
-    ensures { StepAtAnyTime (content_of keys.old.entries) (Command.GroupCreate command.now) result (content_of keys.new.entries) }
+    ensures { let old = content_of keys.old.entries in
+        StepAtAnyTime old (Command.GroupCreate command.now) result (content_of keys.new.entries) }
 {
     if !command.make {
         return Reply::Error(Fault::NoKey);
@@ -71,7 +72,8 @@ fn create_missing(keys: &mut Keys, alloc: Global, command: &GroupCreateCommand) 
 
 /// XGROUP CREATE.
 pub fn create(keys: &mut Keys, alloc: Global, command: &GroupCreateCommand) -> Reply
-    ensures { StepAtAnyTime (content_of keys.old.entries) (Command.GroupCreate command.now) result (content_of keys.new.entries) }
+    ensures { let old = content_of keys.old.entries in
+        StepAtAnyTime old (Command.GroupCreate command.now) result (content_of keys.new.entries) }
 {
     match keys.get_mut(&command.key) {
         Some(slot) => {
@@ -91,7 +93,8 @@ fn one_where(is: bool) -> Reply
 
 /// XGROUP DESTROY.
 pub fn destroy(keys: &mut Keys, key: &Bytes, group: &Bytes) -> Reply
-    ensures { StepAtAnyTime (content_of keys.old.entries) (Command.GroupDestroy key.now group.now) result (content_of keys.new.entries) }
+    ensures { let old = content_of keys.old.entries in
+        StepAtAnyTime old (Command.GroupDestroy key.now group.now) result (content_of keys.new.entries) }
 {
     match keys.get_mut(key) {
         Some(slot) => one_where(slot.groups.remove(group).is_some()),
@@ -107,7 +110,8 @@ pub fn create_consumer(
     group: &Bytes,
     consumer: &Bytes,
 ) -> Reply
-    ensures { StepAtAnyTime (content_of keys.old.entries) (Command.ConsumerCreate key.now group.now consumer.now) result (content_of keys.new.entries) }
+    ensures { let old = content_of keys.old.entries in
+        StepAtAnyTime old (Command.ConsumerCreate key.now group.now consumer.now) result (content_of keys.new.entries) }
 {
     let Some(slot) = keys.get_mut(key) else {
         return Reply::Error(Fault::NoKey);
@@ -123,7 +127,8 @@ pub fn create_consumer(
 
 /// XGROUP DELCONSUMER.
 pub fn delete_consumer(keys: &mut Keys, key: &Bytes, group: &Bytes, consumer: &Bytes) -> Reply
-    ensures { StepAtAnyTime (content_of keys.old.entries) (Command.ConsumerDelete key.now group.now consumer.now) result (content_of keys.new.entries) }
+    ensures { let old = content_of keys.old.entries in
+        StepAtAnyTime old (Command.ConsumerDelete key.now group.now consumer.now) result (content_of keys.new.entries) }
 {
     let Some(slot) = keys.get_mut(key) else {
         return Reply::Error(Fault::NoKey);

@@ -27,7 +27,8 @@ const ROW_TOKENS: usize = 5;
 
 /// Appends an id, or the null string where there is none.
 fn push_id_or_null(tokens: &mut Vec<Token>, alloc: Global, id: Option<Id>) -> Result<(), AllocError>
-    ensures { OnOk result (tokens.new.items ≡ tokens.old.items ++ tokens_of (option_map_or id_reply id Reply.NullBulk)) }
+    ensures { OnOk result (tokens.new.items ≡ tokens.old.items
+        ++ tokens_of (option_map_or id_reply id Reply.NullBulk)) }
 {
     match id {
         Some(id) => push_id(tokens, alloc, id)?,
@@ -53,7 +54,8 @@ fn push_owners(
     alloc: Global,
     owners: Vec<OwnerCount>,
 ) -> Result<(), AllocError>
-    ensures { OnOk result (tokens.new.items ≡ tokens.old.items ++ tokens_of (array_or_null (map owner_reply owners.items))) }
+    ensures { OnOk result (tokens.new.items ≡ tokens.old.items
+        ++ tokens_of (array_or_null (map owner_reply owners.items))) }
 {
     if owners.is_empty() {
         tokens.push(Token::NullArray)?;
@@ -117,7 +119,8 @@ fn summary_of(alloc: Global, group: &Group) -> Result<Reply, AllocError>
 
 /// XPENDING, the short form.
 pub fn summary(keys: &Keys, alloc: Global, key: &Bytes, group: &Bytes) -> Reply
-    ensures { StepAtAnyTime (content_of keys.now.entries) (Command.Pending key.now group.now) result (content_of keys.now.entries) }
+    ensures { let old = content_of keys.now.entries in
+        StepAtAnyTime old (Command.Pending key.now group.now) result old }
 {
     let Some(group) = group_at(keys, key, group) else {
         return Reply::Error(Fault::NoGroup);
@@ -135,7 +138,8 @@ fn rows_of(
     now: Moment,
     command: &PendingRowsCommand,
 ) -> Result<Reply, AllocError>
-    ensures { let rows = report.pending_of command.now.range command.now.min_idle now command.now.limit command.now.consumer group.now in
+    ensures { let asked = command.now in
+        let rows = report.pending_of asked.range asked.min_idle now asked.limit asked.consumer group.now in
         IfOk result (λ reply. reply ≡ array (map row_reply rows)) }
 {
     let rows = group.pending(
@@ -151,7 +155,8 @@ fn rows_of(
 
 /// XPENDING, the long form.
 pub fn rows(keys: &Keys, alloc: Global, now: Moment, command: &PendingRowsCommand) -> Reply
-    ensures { Step (content_of keys.now.entries) now (Command.PendingRows command.now) result (content_of keys.now.entries) }
+    ensures { let old = content_of keys.now.entries in
+        Step old now (Command.PendingRows command.now) result old }
 {
     let Some(group) = group_at(keys, &command.key, &command.group) else {
         return Reply::Error(Fault::NoGroup);

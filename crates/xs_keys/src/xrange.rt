@@ -15,7 +15,8 @@ use xs_stream::Stream;
 /// The entries of a range of a stream.
 fn range_shown(alloc: Global, stream: &Stream, command: &ScanCommand) -> Result<Reply, AllocError>
     ensures { let entries = stream.now.entries in
-        IfOk result (λ reply. reply ≡ entries_reply entries (limited command.now.limit (ids_within command.now.range command.now.reversed entries))) }
+        let ids = limited command.now.limit (ids_within command.now.range command.now.reversed entries) in
+        IfOk result (λ reply. reply ≡ entries_reply entries ids) }
 {
     let ids = stream.range(alloc, command.range, command.limit, command.reversed)?;
     entries_shown(alloc, stream, ids.as_slice())
@@ -23,7 +24,8 @@ fn range_shown(alloc: Global, stream: &Stream, command: &ScanCommand) -> Result<
 
 /// The entries of a range of a key.
 pub fn range(keys: &Keys, alloc: Global, command: &ScanCommand) -> Reply
-    ensures { StepAtAnyTime (content_of keys.now.entries) (Command.Scan command.now) result (content_of keys.now.entries) }
+    ensures { let old = content_of keys.now.entries in
+        StepAtAnyTime old (Command.Scan command.now) result old }
 {
     let Some(slot) = keys.get(&command.key) else {
         return Reply::Array(Replies::new(0, Vec::new(alloc)));

@@ -11,7 +11,8 @@ ghost use Rattle.xs_keys.specs.Content.{Content, group_after, group_in, serves, 
 ghost use Rattle.xs_keys.specs.Codes.{content_of, groups_of};
 ghost use Rattle.xs_resp.specs.ReplyItems.{tokens_of};
 ghost use Rattle.xs_keys.specs.Reply.{array_or_null, entry_reply, part, parts};
-ghost use Rattle.xs_keys.specs.Reading.{ids_shown, part_of, IsShown, IsServed, IsServedIn, IsServedAt, IsMadeIn, IsMadeAt, AreMade};
+ghost use Rattle.xs_keys.specs.Reading.{ids_shown, part_of, IsShown, IsServed, IsServedIn, IsServedAt, IsMadeIn};
+ghost use Rattle.xs_keys.specs.Reading.{IsMadeAt, AreMade};
 ghost use Rattle.xs_keys.specs.Headline.{Step};
 
 use crate::keys::{Groups, Keys, group_at};
@@ -39,7 +40,8 @@ fn read_group(
     read: &ReadGroupCommand,
     from: ReadFrom,
 ) -> Result<Delivery, AllocError>
-    ensures ok { OnOk result (group.new ≡ group_after now (ids_of stream.now.entries) (read_ask read.now from) group.old) }
+    ensures ok { OnOk result (group.new
+        ≡ group_after now (ids_of stream.now.entries) (read_ask read.now from) group.old) }
     ensures rows { IfOk result (λ d. row_ids d.rows ≡ ids_shown read.now from (ids_of stream.now.entries) group.old) }
     ensures made { IfOk result (λ d. IsMade group.old group.new d) }
     ensures err { OnErr result (group.new ≡ group.old) }
@@ -58,7 +60,8 @@ fn push_rows(
     stream: &Stream,
     rows: &[DeliveryRow],
 ) -> Result<(), AllocError>
-    ensures { OnOk result (tokens.new.items ≡ tokens.old.items ++ flat_map tokens_of (map (entry_reply stream.now.entries) (row_ids rows.now))) }
+    ensures { OnOk result (tokens.new.items ≡ tokens.old.items
+        ++ flat_map tokens_of (map (entry_reply stream.now.entries) (row_ids rows.now))) }
 {
     tokens.reserve(rows.len().saturating_mul(ENTRY_TOKENS))?;
     for row in rows {
@@ -75,7 +78,8 @@ fn push_stream(
     key: &Bytes,
     rows: &[DeliveryRow],
 ) -> Result<(), AllocError>
-    ensures { OnOk result (tokens.new.items ≡ tokens.old.items ++ tokens_of (part key.now stream.now.entries (row_ids rows.now))) }
+    ensures { OnOk result (tokens.new.items ≡ tokens.old.items
+        ++ tokens_of (part key.now stream.now.entries (row_ids rows.now))) }
 {
     tokens.push(Token::Array(2))?;
     push_bytes(tokens, alloc, key)?;
@@ -92,7 +96,8 @@ fn push_part(
     from: ReadFrom,
     rows: &[DeliveryRow],
 ) -> Result<usize, AllocError>
-    ensures { IfOk result (λ parts. IsShown (part_of from key.now stream.now.entries (row_ids rows.now)) parts tokens.old.items tokens.new.items) }
+    ensures { let shown = part_of from key.now stream.now.entries (row_ids rows.now) in
+        IfOk result (λ parts. IsShown shown parts tokens.old.items tokens.new.items) }
 {
     match from {
         ReadFrom::New => {
@@ -116,7 +121,8 @@ fn serve(
     one: &ReadOne,
     tokens: &mut Vec<Token>,
 ) -> Result<Served, AllocError>
-    ensures ok { IfOk result (λ served. IsServed stream.now.entries now read.now one.now group.old group.new tokens.old.items tokens.new.items served) }
+    ensures ok { IfOk result
+        (IsServed stream.now.entries now read.now one.now group.old group.new tokens.old.items tokens.new.items) }
     ensures err { OnErr result (group.new ≡ group.old) }
 {
     let delivery = read_group(group, alloc, stream, now, read, one.from)?;
@@ -147,7 +153,10 @@ fn serve_in(
     tokens: &mut Vec<Token>,
 ) -> Result<Served, AllocError>
     requires { is_some (finmap.get (groups_of groups.old.entries) read.now.group) ≡ true }
-    ensures ok { IfOk result (λ served. IsServedIn stream.now.entries now read.now one.now (groups_of groups.old.entries) (groups_of groups.new.entries) tokens.old.items tokens.new.items served) }
+    ensures ok { let before = groups_of groups.old.entries in
+        let after = groups_of groups.new.entries in
+        IfOk result
+        (IsServedIn stream.now.entries now read.now one.now before after tokens.old.items tokens.new.items) }
     ensures err { OnErr result (groups_of groups.new.entries ≡ groups_of groups.old.entries) }
 {
     match groups.get_mut(&read.group) {
@@ -166,7 +175,9 @@ fn serve_at(
     tokens: &mut Vec<Token>,
 ) -> Result<Served, AllocError>
     requires { is_some (group_in (finmap.get (content_of keys.old.entries) one.now.key) read.now.group) ≡ true }
-    ensures ok { IfOk result (λ served. IsServedAt now read.now one.now (content_of keys.old.entries) (content_of keys.new.entries) tokens.old.items tokens.new.items served) }
+    ensures ok { let before = content_of keys.old.entries in
+        let after = content_of keys.new.entries in
+        IfOk result (IsServedAt now read.now one.now before after tokens.old.items tokens.new.items) }
     ensures err { OnErr result (content_of keys.new.entries ≡ content_of keys.old.entries) }
 {
     match keys.get_mut(&one.key) {
@@ -186,7 +197,8 @@ fn serve_at(
 /// Takes a read of one of these groups back, where it was the last one.
 fn undo_in(groups: &mut Groups, group: &Bytes, delivery: Delivery)
     requires { (before : NameMap State) × IsMadeIn group.now before (groups_of groups.old.entries) delivery }
-    ensures { (before : NameMap State) → IsMadeIn group.now before (groups_of groups.old.entries) delivery → groups_of groups.new.entries ≡ before }
+    ensures { (before : NameMap State) → IsMadeIn group.now before (groups_of groups.old.entries) delivery
+        → groups_of groups.new.entries ≡ before }
 {
     match groups.get_mut(group) {
         Some(group) => group.undo(delivery),
@@ -197,7 +209,8 @@ fn undo_in(groups: &mut Groups, group: &Bytes, delivery: Delivery)
 /// Takes a read of a group of one of these keys back, where it was the last one.
 fn undo_at(keys: &mut Keys, key: &Bytes, group: &Bytes, delivery: Delivery)
     requires { (before : Content) × IsMadeAt group.now key.now before (content_of keys.old.entries) delivery }
-    ensures { (before : Content) → IsMadeAt group.now key.now before (content_of keys.old.entries) delivery → content_of keys.new.entries ≡ before }
+    ensures { (before : Content) → IsMadeAt group.now key.now before (content_of keys.old.entries) delivery
+        → content_of keys.new.entries ≡ before }
 {
     match keys.get_mut(key) {
         Some(slot) => undo_in(&mut slot.groups, group, delivery),
@@ -208,7 +221,8 @@ fn undo_at(keys: &mut Keys, key: &Bytes, group: &Bytes, delivery: Delivery)
 /// Takes reads back, the last first.
 fn undo_all(keys: &mut Keys, reads: &[ReadOne], group: &Bytes, deliveries: Vec<Delivery>)
     requires { (first : Content) × AreMade group.now reads.now deliveries.items first (content_of keys.old.entries) }
-    ensures { (first : Content) → AreMade group.now reads.now deliveries.items first (content_of keys.old.entries) → content_of keys.new.entries ≡ first }
+    ensures { (first : Content) → AreMade group.now reads.now deliveries.items first (content_of keys.old.entries)
+        → content_of keys.new.entries ≡ first }
 {
     let mut left = deliveries;
     while let Some(delivery) = left.pop() {
@@ -224,8 +238,10 @@ fn serve_all(
     read: &ReadGroupCommand,
 ) -> Result<Reply, AllocError>
     requires { serves (content_of keys.old.entries) read.now ≡ true }
-    ensures content { OnOk result (content_of keys.new.entries ≡ read_each (content_of keys.old.entries) now read.now read.now.reads) }
-    ensures answer { IfOk result (λ reply. reply ≡ array_or_null (parts (content_of keys.old.entries) now read.now read.now.reads)) }
+    ensures content { OnOk result (content_of keys.new.entries
+        ≡ read_each (content_of keys.old.entries) now read.now read.now.reads) }
+    ensures answer { IfOk result (λ reply. reply
+        ≡ array_or_null (parts (content_of keys.old.entries) now read.now read.now.reads)) }
     ensures err { OnErr result (content_of keys.new.entries ≡ content_of keys.old.entries) }
 {
     let reads = read.reads.as_slice();

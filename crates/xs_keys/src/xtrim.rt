@@ -10,7 +10,8 @@ use xs_stream::Trim;
 
 /// Trims the stream of a key, and says how many entries went.
 pub fn trim(keys: &mut Keys, key: &Bytes, trim: Trim) -> Reply
-    ensures { StepAtAnyTime (content_of keys.old.entries) (Command.TrimTo key.now trim) result (content_of keys.new.entries) }
+    ensures { let old = content_of keys.old.entries in
+        StepAtAnyTime old (Command.TrimTo key.now trim) result (content_of keys.new.entries) }
 {
     match keys.get_mut(key) {
         Some(slot) => Reply::Int(slot.stream.trim(trim)),
