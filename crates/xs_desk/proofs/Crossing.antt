@@ -1,4 +1,4 @@
--- A keeper may go to another thread.
+-- A keeper and a client may go to another thread, and what is left of a client may come back.
 use denote.Struct.Declared.{shape}
 use denote.Param.Send.{IsSend, struct_send, recorded_send, view_send, sendable}
 use Rattle.std.proofs.Crossing as common
@@ -20,6 +20,10 @@ use Rattle.xs_desk.specs.contracts.answer.Answer as Answer
 use Rattle.xs_desk.specs.contracts.seat.Seat as Seat
 use Rattle.xs_desk.specs.contracts.keeper.Keeper as Keeper
 use Rattle.xs_desk.specs.contracts.keeper.Keeper.TheInside as Inside
+use Rattle.xs_desk.specs.contracts.client.Client as Client
+use Rattle.xs_desk.specs.contracts.client.Client.TheInside as ClientInside
+use Rattle.xs_desk.specs.contracts.client.Ended as Ended
+use Rattle.xs_desk.specs.contracts.client.Ended.TheInside as EndedInside
 
 reply-send : IsSend (Reply.the_field).row
 reply-send = search (common.crosses, knot.crosses, bytes.the_send, fault.the_send, simple.the_send, sendable) depth 60 fits 20000
@@ -47,4 +51,25 @@ keeper-send =
     (struct_send (shape Inside.the_type) (
       search (common.crosses, sendable) depth 60 fits 20000,
       (keyspace.the_send, (search sendable, (sleeper.the_field_send, (search (common.crosses, sendable) depth 60 fits 20000, tt)))),
+    )))
+
+pub client-send : IsSend Client.the_row
+client-send =
+    let a : IsSend Answer.the_row = answer-send in
+    view_send ClientInside.the_row _ _ _ _
+    (recorded_send (ClientInside.the_field).row _ _ (ClientInside.the_type).to_one
+    (struct_send (shape ClientInside.the_type) (
+      search (producer.the_field_send, command.the_send, formed.the_send, common.crosses, sendable) depth 60 fits 20000,
+      (search (consumer.the_field_send, any.the_send, common.crosses, sendable) depth 60 fits 20000,
+      (search sendable, (search sendable, (sleeper.the_field_send, (bell.the_field_send, (search (common.crosses, sendable) depth 60 fits 20000, tt)))))),
+    )))
+
+pub ended-send : IsSend Ended.the_row
+ended-send =
+    let a : IsSend Answer.the_row = answer-send in
+    view_send EndedInside.the_row _ _ _ _
+    (recorded_send (EndedInside.the_field).row _ _ (EndedInside.the_type).to_one
+    (struct_send (shape EndedInside.the_type) (
+      search (producer.the_field_send, command.the_send, formed.the_send, common.crosses, sendable) depth 60 fits 20000,
+      (search (consumer.the_field_send, any.the_send, common.crosses, sendable) depth 60 fits 20000, (search sendable, tt)),
     )))
