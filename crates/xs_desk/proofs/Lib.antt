@@ -8,4 +8,3 @@ pub mod Openings
 pub mod Keeps
 pub mod Sides
 pub mod Uniqueness
-pub mod Crossing

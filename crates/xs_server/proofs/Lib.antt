@@ -6,3 +6,5 @@ pub mod CommandLines
 pub mod Connections
 pub mod AloneRuns
 pub mod Modelling
+pub mod Lanes
+pub mod Crews

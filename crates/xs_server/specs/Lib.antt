@@ -12,3 +12,4 @@ pub mod Serve
 pub mod Connection
 pub mod Alone
 pub mod Modelled
+pub mod Working

@@ -3,6 +3,9 @@ use Rattle.std.specs.Prelude.{◌≡◌, ℕ, ◌⊎◌, Bool, true, List, [], �
 use Rattle.std.specs.Io.KnownBytes.{Appends}
 use Rattle.xs_server.specs.declared.script_fault.ScriptFault.{ScriptFault}
 use Rattle.xs_server.specs.declared.script_fault.ScriptFault.TheVariants.{Line, Read, Write, Memory}
+use Rattle.xs_server.specs.declared.work_fault.WorkFault.{WorkFault}
+use Rattle.xs_server.specs.declared.work_fault.WorkFault.TheVariants as work
+use Rattle.xs_desk.specs.declared.opening.DeskError.TheVariants as desk
 
 -- the status of the program where a script ends before its end: 2 for a line that is no script line, and 1 for a
 -- failed device or a want of memory
@@ -19,6 +22,16 @@ line_text number = codes "xs_server: line " ++ decimal number ++ codes " is not 
 -- the line of a want of memory
 abbrev pub memory_text : List ℕ
 memory_text = codes "xs_server: out of memory\n"
+
+-- the line of a port that can't be listened on
+abbrev pub listening_text : List ℕ
+listening_text = codes "xs_server: listening failed\n"
+
+-- the line of a fault of work: a want of memory, also where it was for the desk, or anything else
+abbrev pub work_text : WorkFault → List ℕ
+work_text (work.Desk desk.Memory) = memory_text
+work_text work.Memory = memory_text
+work_text _ = codes "xs_server: serving failed\n"
 
 -- the line of a script's fault
 abbrev pub fault_text : ScriptFault → List ℕ

@@ -1,12 +1,14 @@
 //! What the program says on standard error, and its status.
 ghost use Rattle.std.specs.Prelude.{◌≡◌, true, false};
 ghost use Rattle.std.specs.Io.KnownBytes.{Appends};
-ghost use Rattle.xs_server.specs.Report.{status_of, fault_text, memory_text, line_text, Says};
+ghost use Rattle.xs_server.specs.Report.{status_of, fault_text, memory_text, line_text, listening_text, work_text, Says};
 
 use crate::device::Sink;
 use crate::script_fault::ScriptFault;
 use crate::sending::write_all;
+use crate::work_fault::WorkFault;
 use itoa::Buffer;
+use xs_desk::DeskError;
 
 /// Writes a text, up to a fault of the writer, and says whether it is whole.
 fn say<W: Sink>(errors: &mut W, text: &[u8]) -> bool
@@ -49,6 +51,29 @@ pub fn report_memory<W: Sink>(errors: &mut W) -> u8
 {
     say(errors, b"xs_server: out of memory\n");
     1
+}
+
+/// Writes the line of a port that can't be listened on, and gives the status of the program.
+pub fn report_listening<W: Sink>(errors: &mut W) -> u8
+    ensures status { result ≡ 1 }
+    ensures said { Says listening_text (W.held errors.old) (W.held errors.new) (W.broken errors.new) }
+{
+    say(errors, b"xs_server: listening failed\n");
+    1
+}
+
+/// Writes the line of a fault of work, passes over a fault of the writer, and gives the status of the program.
+pub fn report_work<W: Sink>(errors: &mut W, fault: &WorkFault) -> u8
+    ensures status { result ≡ 1 }
+    ensures said { Says (work_text fault.now) (W.held errors.old) (W.held errors.new) (W.broken errors.new) }
+{
+    match fault {
+        WorkFault::Desk(DeskError::Memory) | WorkFault::Memory => report_memory(errors),
+        _ => {
+            say(errors, b"xs_server: serving failed\n");
+            1
+        }
+    }
 }
 
 /// Writes that a line is no script line, up to a fault of the writer.

@@ -225,5 +225,6 @@ fn reports_each_fault(rt: HostRuntime) -> Result<(), Fail> {
     Ok(())
 }
 
+mod gates;
 mod sessions;
 mod wrapped;

@@ -1,0 +1,56 @@
+//! What the thread that starts workers and keeper tells them.
+use std::sync::Wait;
+use std::sync::atomic::{AtomicBool, Ordering};
+use std::thread;
+
+/// What the thread that starts the others tells them. No promise rests on it.
+#[derive(Drop)]
+pub struct Signals {
+    // Set where a thread wasn't started; before `begun`.
+    given_up: AtomicBool,
+    begun: AtomicBool,
+    ended: AtomicBool,
+}
+
+impl Signals {
+    /// Nothing is told yet.
+    pub fn new() -> Signals {
+        Signals {
+            given_up: AtomicBool::new(false),
+            begun: AtomicBool::new(false),
+            ended: AtomicBool::new(false),
+        }
+    }
+
+    /// All threads were started: workers may begin.
+    pub fn begin(&self) {
+        self.begun.store(true, Ordering::SeqCst);
+    }
+
+    /// A thread wasn't started: workers end before their first connection.
+    pub fn give_up(&self) {
+        self.given_up.store(true, Ordering::SeqCst);
+        self.begun.store(true, Ordering::SeqCst);
+    }
+
+    /// All workers have ended: the keeper may end.
+    pub fn end(&self) {
+        self.ended.store(true, Ordering::SeqCst);
+    }
+
+    /// Whether all workers have ended.
+    pub fn has_ended(&self) -> bool {
+        self.ended.load(Ordering::SeqCst)
+    }
+
+    /// Waits for the word to begin, and says whether the work begins.
+    pub fn begins<R: Wait>(&self, rt: &R) -> bool {
+        for _ in rt.forever() {
+            if self.begun.load(Ordering::SeqCst) {
+                return !self.given_up.load(Ordering::SeqCst);
+            }
+            thread::yield_now();
+        }
+        unreachable!()
+    }
+}

@@ -1,0 +1,336 @@
+//! Work over gates that are no sockets.
+ghost use Rattle.std.specs.Prelude.{None};
+
+use super::*;
+use crate::gate::{Gate, GateFault};
+use crate::report::report_work;
+use crate::work_fault::WorkFault;
+use crate::working::work;
+use std::sync::atomic::{AtomicU64, Ordering};
+use std::sync::{Arc, Wait};
+use std::thread;
+use std::thread::Threads;
+use xs_desk::{DeskError, LaneSummary, Summary};
+use xs_keys::Clock;
+use xs_stream::Moment;
+
+/// How often a reader looks whether it may give more.
+const TURNS: u64 = 1_000_000;
+
+const PONG: &[u8] = b"+PONG\r\n";
+
+/// A clock that stands still.
+#[derive(Drop)]
+struct Still {
+    moment: Moment,
+}
+
+impl Still {
+    fn new() -> Still {
+        Still {
+            moment: Moment::new(1000).unwrap(),
+        }
+    }
+}
+
+impl Clock for Still {
+    ghost gives = { λ old now new. Unit {0} };
+
+    fn now(&mut self) -> Moment {
+        self.moment
+    }
+}
+
+/// What a reader gives: some bytes, and then, once as many replies as it waits for are counted, others and its end. It
+/// fails where they aren't counted in time.
+#[derive(Drop)]
+struct Waiting {
+    first: &'static [u8],
+    others: &'static [u8],
+    wants: u64,
+    counted: Arc<AtomicU64>,
+    calls: u64,
+    broken: bool,
+    ended: bool,
+}
+
+impl Waiting {
+    fn has_come(&self) -> bool {
+        for _ in 0..TURNS {
+            if self.counted.load(Ordering::SeqCst) >= self.wants {
+                return true;
+            }
+            thread::yield_now();
+        }
+        false
+    }
+}
+
+impl Source for Waiting {
+    ghost rest = { λ s. None };
+
+    ghost calls = { λ s. s.calls };
+
+    ghost broken = { λ s. s.broken };
+
+    ghost ended = { λ s. s.ended };
+
+    fn read(&mut self, into: &mut [u8]) -> Result<usize, Failed> {
+        self.calls = self.calls.saturating_add(1);
+        if self.first.is_empty() {
+            if !self.has_come() {
+                self.broken = true;
+                return Err(Failed);
+            }
+            self.first = self.others;
+            self.others = b"";
+        }
+        let count = self.first.len().min(into.len());
+        if count == 0 && !into.is_empty() {
+            self.ended = true;
+        }
+        let (given, left) = self.first.split_at(count);
+        into[..count].copy_from_slice(given);
+        self.first = left;
+        Ok(count)
+    }
+}
+
+/// Counts the whole `+PONG` that it takes. Any other byte spoils the count for good. It may fail at its first call.
+#[derive(Drop)]
+struct Counting {
+    at: usize,
+    fails: bool,
+    spoiled: bool,
+    counted: Arc<AtomicU64>,
+    calls: u64,
+    broken: bool,
+}
+
+impl Counting {
+    fn take(&mut self, byte: u8) {
+        if self.spoiled || PONG.get(self.at) != Some(&byte) {
+            self.spoiled = true;
+            return;
+        }
+        self.at += 1;
+        if self.at == PONG.len() {
+            self.at = 0;
+            self.counted.fetch_add(1, Ordering::SeqCst);
+        }
+    }
+}
+
+impl Sink for Counting {
+    ghost held = { λ s. None };
+
+    ghost calls = { λ s. s.calls };
+
+    ghost broken = { λ s. s.broken };
+
+    fn write(&mut self, from: &[u8]) -> Result<usize, Failed> {
+        self.calls = self.calls.saturating_add(1);
+        if self.fails {
+            self.broken = true;
+            return Err(Failed);
+        }
+        for byte in from {
+            self.take(*byte);
+        }
+        Ok(from.len())
+    }
+}
+
+/// One connection of a gate.
+#[derive(Clone, Copy)]
+struct Script {
+    first: &'static [u8],
+    others: &'static [u8],
+    wants: u64,
+    fails: bool,
+}
+
+/// A gate with some connections, which counts the replies to them, and then refuses one or ends.
+#[derive(Drop)]
+struct Scripted {
+    connections: &'static [Script],
+    refuses: bool,
+    counted: Arc<AtomicU64>,
+    awaited: Arc<AtomicU64>,
+}
+
+impl Gate for Scripted {
+    type Reader = Waiting;
+
+    type Writer = Counting;
+
+    fn open_next<R: Wait>(&mut self, _rt: &R) -> Result<Option<(Waiting, Counting)>, GateFault> {
+        let [script, left @ ..] = self.connections else {
+            return if self.refuses {
+                Err(GateFault::Refused)
+            } else {
+                Ok(None)
+            };
+        };
+        self.connections = left;
+        let (Ok(awaited), Ok(counted)) = (
+            Arc::try_clone(&self.awaited),
+            Arc::try_clone(&self.counted),
+        ) else {
+            return Err(GateFault::Refused);
+        };
+        let reader = Waiting {
+            first: script.first,
+            others: script.others,
+            wants: script.wants,
+            counted: awaited,
+            calls: 0,
+            broken: false,
+            ended: false,
+        };
+        let writer = Counting {
+            at: 0,
+            fails: script.fails,
+            spoiled: false,
+            counted,
+            calls: 0,
+            broken: false,
+        };
+        Ok(Some((reader, writer)))
+    }
+}
+
+/// A whole PING.
+const PING: Script = Script {
+    first: b"*1\r\n$4\r\nPING\r\n",
+    others: b"",
+    wants: 0,
+    fails: false,
+};
+
+/// A PING whose end comes once the other gate's replies are counted.
+const LATE_PING: Script = Script {
+    first: b"*1\r\n$4\r\nPI",
+    others: b"NG\r\n",
+    wants: 1,
+    fails: false,
+};
+
+/// A PING whose reply can't be written.
+const UNHEARD_PING: Script = Script {
+    first: b"*1\r\n$4\r\nPING\r\n",
+    others: b"",
+    wants: 0,
+    fails: true,
+};
+
+/// Works over two gates, each of which may wait for the replies to the other one, and answers what `work` answers and
+/// how many replies were counted at each.
+fn work_over<R: Threads + Wait + Copy + Send + 'static>(
+    rt: &R,
+    alloc: Global,
+    one: &'static [Script],
+    other: &'static [Script],
+    other_refuses: bool,
+) -> Result<(Result<Summary, WorkFault>, u64, u64), Fail> {
+    let counted = Arc::new(alloc, AtomicU64::new(0))?;
+    let counted_there = Arc::new(alloc, AtomicU64::new(0))?;
+    let mut gates = Vec::new(alloc);
+    gates.push(Scripted {
+        connections: one,
+        refuses: false,
+        counted: Arc::try_clone(&counted)?,
+        awaited: Arc::try_clone(&counted_there)?,
+    })?;
+    gates.push(Scripted {
+        connections: other,
+        refuses: other_refuses,
+        counted: Arc::try_clone(&counted_there)?,
+        awaited: Arc::try_clone(&counted)?,
+    })?;
+    let worked = work(rt, alloc, gates, 16, Still::new());
+    Ok((
+        worked,
+        counted.load(Ordering::SeqCst),
+        counted_there.load(Ordering::SeqCst),
+    ))
+}
+
+fn served(count: u64) -> LaneSummary {
+    LaneSummary {
+        served: count,
+        left: 0,
+        untaken: 0,
+    }
+}
+
+// The first connection gets its end only once the second one is answered: each has a thread of its own, and both are
+// served by one keeper.
+#[test]
+fn gate_two_connections(rt: HostRuntime) -> Result<(), Fail> {
+    let (worked, one, other) = work_over(&rt, rt.alloc(), &[LATE_PING], &[PING], false)?;
+    assert_eq!(rt; (one, other), (1, 1));
+    let summary = worked.ok().ok_or("a summary")?;
+    assert_eq!(rt; summary.lanes.as_slice(), [served(1), served(1)].as_slice());
+    Ok(())
+}
+
+#[test]
+fn a_refused_connection_ends_its_gate_alone(rt: HostRuntime) -> Result<(), Fail> {
+    let (worked, one, _) = work_over(&rt, rt.alloc(), &[PING], &[], true)?;
+    assert_eq!(rt; one, 1);
+    let fault = worked.err().ok_or("a fault")?;
+    assert_eq!(rt; fault, WorkFault::Gate);
+    let mut errors = Held::new(rt.alloc(), 0);
+    assert_eq!(rt; report_work(&mut errors, &fault), 1);
+    assert_eq!(rt;
+        errors.bytes.as_slice(),
+        b"xs_server: serving failed\n".as_slice()
+    );
+    Ok(())
+}
+
+#[test]
+fn a_failed_connection_ends_alone(rt: HostRuntime) -> Result<(), Fail> {
+    let (worked, one, other) = work_over(&rt, rt.alloc(), &[UNHEARD_PING, PING], &[PING, PING], false)?;
+    assert_eq!(rt; (one, other), (1, 2));
+    let summary = worked.ok().ok_or("a summary")?;
+    assert_eq!(rt; summary.lanes.as_slice(), [served(2), served(2)].as_slice());
+    Ok(())
+}
+
+#[test]
+fn without_a_gate_there_is_no_desk(rt: HostRuntime) -> Result<(), Fail> {
+    let alloc = rt.alloc();
+    let gates: Vec<Scripted> = Vec::new(alloc);
+    let fault = work(&rt, alloc, gates, 16, Still::new()).err();
+    assert_eq!(rt; fault, Some(WorkFault::Desk(DeskError::Lanes)));
+    Ok(())
+}
+
+#[test]
+fn reports_each_fault_of_work(rt: HostRuntime) -> Result<(), Fail> {
+    for (fault, line) in [
+        (
+            WorkFault::Desk(DeskError::Lanes),
+            "xs_server: serving failed\n",
+        ),
+        (
+            WorkFault::Desk(DeskError::Depth),
+            "xs_server: serving failed\n",
+        ),
+        (
+            WorkFault::Desk(DeskError::Memory),
+            "xs_server: out of memory\n",
+        ),
+        (WorkFault::Start, "xs_server: serving failed\n"),
+        (WorkFault::Gate, "xs_server: serving failed\n"),
+        (WorkFault::Close, "xs_server: serving failed\n"),
+        (WorkFault::Memory, "xs_server: out of memory\n"),
+    ] {
+        let mut errors = Held::new(rt.alloc(), 0);
+        assert_eq!(rt; report_work(&mut errors, &fault), 1);
+        assert_eq!(rt; errors.bytes.as_slice(), line.as_bytes());
+    }
+    Ok(())
+}
