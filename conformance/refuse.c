@@ -1,9 +1,12 @@
 /* Loaded into a program, this refuses some of its allocations: those from REFUSE_FROM to REFUSE_TO, counted from 1.
- * At the end it writes to the file REFUSE_TOLD how many allocations there were. */
+ * At the end it writes to the file REFUSE_TOLD how many allocations there were. A program with threads ends by _exit,
+ * which runs no destructor; so that is taken over too. */
+#define _GNU_SOURCE
 #include <fcntl.h>
 #include <stddef.h>
 #include <stdio.h>
 #include <stdlib.h>
+#include <sys/syscall.h>
 #include <unistd.h>
 
 void *__libc_malloc(size_t size);
@@ -21,8 +24,8 @@ __attribute__((constructor)) static void begin(void)
 
 static int is_refused(void)
 {
-    asked++;
-    return from <= asked && asked <= to;
+    long number = __atomic_add_fetch(&asked, 1, __ATOMIC_SEQ_CST);
+    return from <= number && number <= to;
 }
 
 void *malloc(size_t size)
@@ -35,7 +38,8 @@ void *realloc(void *block, size_t size)
     return is_refused() ? NULL : __libc_realloc(block, size);
 }
 
-__attribute__((destructor)) static void end(void)
+/* Tells the count, and gives the status, or 3 where it couldn't be told. */
+static int tell(int status)
 {
     char text[32];
     const char *path = getenv("REFUSE_TOLD");
@@ -43,7 +47,21 @@ __attribute__((destructor)) static void end(void)
     if (file >= 0) {
         int size = snprintf(text, sizeof text, "%ld\n", asked);
         if (write(file, text, size) != size)
-            _exit(3);
+            status = 3;
         close(file);
     }
+    return status;
+}
+
+__attribute__((destructor)) static void end(void)
+{
+    if (tell(0) != 0)
+        syscall(SYS_exit_group, 3);
+}
+
+void _exit(int status)
+{
+    status = tell(status);
+    for (;;)
+        syscall(SYS_exit_group, status);
 }

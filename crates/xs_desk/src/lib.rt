@@ -24,3 +24,6 @@ pub use lane::Lane;
 pub use opening::{DeskError, desk};
 pub use port::{Port, PortFault};
 pub use summary::{LaneSummary, Summary};
+
+#[cfg(test)]
+mod tests;

@@ -1,0 +1,14 @@
+//! Tests of desks.
+use super::*;
+
+mod asking;
+mod at_random;
+mod commands;
+mod gone;
+mod lines;
+mod one_thread;
+mod parking;
+mod reading_by_turns;
+mod refusals;
+mod together;
+mod trial;

@@ -1,0 +1,61 @@
+//! Clients that wait for each answer over their lanes, and a keeper that is idle.
+use super::commands::read;
+use super::together::{Job, Rest};
+use super::trial::{Still, Trial};
+use crate::client::Client;
+use crate::lane::Lane;
+use crate::port::Port;
+use std::alloc::Global;
+use std::sync::Wait;
+use std::test::Fail;
+use xs_resp::Reply;
+
+/// How often each client asks.
+const TIMES: u64 = 500;
+
+/// Asks for additions, and counts the replies that are no error.
+#[derive(Drop)]
+struct Adding {
+    alloc: Global,
+    answered: u64,
+}
+
+impl Job for Adding {
+    #[tactic(auto, using(crate::proofs::Sides::ask_keeps_side, crate::proofs::Sides::side_again))]
+    fn run<R: Wait>(&mut self, rt: &R, client: Client) -> Client {
+        let mut lane = Lane::new(client);
+        for _ in 0..TIMES {
+            let Ok(command) = read(self.alloc, "XADD s * f v") else {
+                break;
+            };
+            match lane.ask(rt, command) {
+                Ok(Reply::Error(_)) | Err(_) => {}
+                Ok(_) => self.answered = self.answered.saturating_add(1),
+            }
+        }
+        lane.end()
+    }
+}
+
+#[test]
+fn each_call_is_answered_once(rt: HostRuntime) -> Result<(), Fail> {
+    let alloc = rt.alloc();
+    let mut clock = Still::at(1000).ok_or("a moment")?;
+    for (lanes, depth) in [(1, 1), (2, 16), (8, 1), (64, 4)] {
+        let mut jobs = Vec::new(alloc);
+        for _ in 0..lanes {
+            jobs.push(Adding { alloc, answered: 0 })?;
+        }
+        let trial = Trial::new(alloc, lanes, depth)?;
+        let (mut trial, jobs) = trial.together(&rt, alloc, clock, Rest::Idle, jobs)?;
+        for job in &jobs {
+            assert_eq!(rt; job.answered, TIMES);
+        }
+        let length = trial
+            .call(0, &mut clock, read(alloc, "XLEN s")?)
+            .ok_or("an answer")?;
+        assert_eq!(rt; length.place, TIMES * lanes as u64);
+        assert!(rt; matches!(length.reply, Reply::Int(n) if n == TIMES * lanes as u64));
+    }
+    Ok(())
+}
