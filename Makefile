@@ -1,4 +1,4 @@
-.PHONY: run check test edits refusals compare
+.PHONY: run serve check test edits clients refusals compare
 
 PROGRAM = crates/xs_server/out/xs_server
 
@@ -6,6 +6,12 @@ PROGRAM = crates/xs_server/out/xs_server
 run:
 	@echo "Proving and building xs_server. The first time everything is proved, which can take a quarter of an hour."
 	@cd crates/xs_server && rt run -- script < stdin
+
+# Proves and builds the program, and serves 16 connections at once on port 6379 of 127.0.0.1.
+serve:
+	@echo "Proving and building xs_server. The first time everything is proved, which can take a quarter of an hour."
+	@cd crates/xs_server && rt run -- script < stdin > /dev/null
+	@$(PROGRAM) serve --port 6379 --workers 16 --each 1000000
 
 # Proves everything from nothing, tries the edits that have to fail, and runs the tests, the worked cases, and sessions
 # made at random.
@@ -38,3 +44,9 @@ compare:
 	python3 conformance/compare.py
 	cd crates/xs_server && rt run -- script < stdin > /dev/null
 	python3 conformance/at_random.py $(PROGRAM) script
+
+# Runs the program as a server, with clients of others: redis-py and redis-cli. Debian: apt-get install python3-redis
+# redis-tools
+clients:
+	cd crates/xs_server && rt run -- script < stdin > /dev/null
+	/usr/bin/python3 conformance/clients.py $(PROGRAM)

@@ -292,7 +292,13 @@ fn a_refused_connection_ends_its_gate_alone(rt: HostRuntime) -> Result<(), Fail>
 
 #[test]
 fn a_failed_connection_ends_alone(rt: HostRuntime) -> Result<(), Fail> {
-    let (worked, one, other) = work_over(&rt, rt.alloc(), &[UNHEARD_PING, PING], &[PING, PING], false)?;
+    let (worked, one, other) = work_over(
+        &rt,
+        rt.alloc(),
+        &[UNHEARD_PING, PING],
+        &[PING, PING],
+        false,
+    )?;
     assert_eq!(rt; (one, other), (1, 2));
     let summary = worked.ok().ok_or("a summary")?;
     assert_eq!(rt; summary.lanes.as_slice(), [served(2), served(2)].as_slice());
