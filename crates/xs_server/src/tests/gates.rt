@@ -96,29 +96,41 @@ impl Source for Waiting {
     }
 }
 
-/// Counts the whole `+PONG` that it takes. Any other byte spoils the count for good. It may fail at its first call.
+/// Counts whole `+PONG`. Any other byte spoils the count for good.
 #[derive(Drop)]
-struct Counting {
+struct Tally {
     at: usize,
-    fails: bool,
     spoiled: bool,
     counted: Arc<AtomicU64>,
-    calls: u64,
-    broken: bool,
 }
 
-impl Counting {
+impl Tally {
     fn take(&mut self, byte: u8) {
         if self.spoiled || PONG.get(self.at) != Some(&byte) {
             self.spoiled = true;
             return;
         }
-        self.at += 1;
+        self.at = self.at.saturating_add(1);
         if self.at == PONG.len() {
             self.at = 0;
             self.counted.fetch_add(1, Ordering::SeqCst);
         }
     }
+
+    fn take_all(&mut self, bytes: &[u8]) {
+        for byte in bytes {
+            self.take(*byte);
+        }
+    }
+}
+
+/// Takes all bytes, and counts the replies. It may fail at each of its calls.
+#[derive(Drop)]
+struct Counting {
+    tally: Tally,
+    fails: bool,
+    calls: u64,
+    broken: bool,
 }
 
 impl Sink for Counting {
@@ -134,9 +146,7 @@ impl Sink for Counting {
             self.broken = true;
             return Err(Failed);
         }
-        for byte in from {
-            self.take(*byte);
-        }
+        self.tally.take_all(from);
         Ok(from.len())
     }
 }
@@ -188,11 +198,14 @@ impl Gate for Scripted {
             broken: false,
             ended: false,
         };
-        let writer = Counting {
+        let tally = Tally {
             at: 0,
-            fails: script.fails,
             spoiled: false,
             counted,
+        };
+        let writer = Counting {
+            tally,
+            fails: script.fails,
             calls: 0,
             broken: false,
         };
