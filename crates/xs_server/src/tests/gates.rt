@@ -289,7 +289,7 @@ fn gate_two_connections(rt: HostRuntime) -> Result<(), Fail> {
 }
 
 #[test]
-fn a_refused_connection_ends_its_gate_alone(rt: HostRuntime) -> Result<(), Fail> {
+fn a_gate_that_refuses_ends_alone(rt: HostRuntime) -> Result<(), Fail> {
     let (worked, one, _) = work_over(&rt, rt.alloc(), &[PING], &[], true)?;
     assert_eq!(rt; one, 1);
     let fault = worked.err().ok_or("a fault")?;
