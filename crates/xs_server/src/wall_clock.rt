@@ -1,5 +1,5 @@
 //! The clock of the system.
-ghost use Rattle.std.specs.Prelude.{ℕ};
+ghost use Rattle.std.specs.Prelude.{◌≡◌, ℕ};
 
 use std::time;
 use std::time::SystemTime;
@@ -31,8 +31,8 @@ impl<S: time::Clock + Drop> WallClock<S> {
 }
 
 impl<S: time::Clock + Drop> Clock for WallClock<S> {
-    /// Any moment may come.
-    ghost gives = { λ old now new. Unit {0} };
+    /// Any moment may come. It is the one that is given again where the time can't be read.
+    ghost gives = { λ old now new. new.last ≡ now };
 
     fn now(&mut self) -> Moment {
         if let Some(now) = read(&self.system) {
