@@ -1,4 +1,4 @@
-.PHONY: run serve check test edits clients refusals compare
+.PHONY: run serve check test edits clients hostile refusals compare
 
 PROGRAM = crates/xs_server/out/xs_server
 
@@ -39,14 +39,22 @@ refusals:
 	python3 conformance/refused_scripts.py $(PROGRAM) script
 
 # Asks a real Redis 7.0 the worked cases too, but for those that are only ours, and then asks it and the program the same
-# 100,000 commands of streams and groups, made at random. Debian: apt-get install redis-server
+# 100,000 commands of streams and groups, made at random, as a script and over 8 connections at once. Debian: apt-get
+# install redis-server
 compare:
 	python3 conformance/compare.py
 	cd crates/xs_server && rt run -- script < stdin > /dev/null
 	python3 conformance/at_random.py $(PROGRAM) script
+	python3 conformance/at_random_served.py $(PROGRAM)
 
-# Runs the program as a server, with clients of others: redis-py and redis-cli. Debian: apt-get install python3-redis
-# redis-tools
+# Runs the program as a server for clients of others, beside a real Redis 7.0. Those that aren't installed are skipped.
+# Debian: apt-get install redis-server redis-tools python3-redis python3-hiredis gcc libhiredis-dev node-redis ruby-redis
+# golang-go golang-github-gomodule-redigo-dev php-cli php-redis php-predis
 clients:
 	cd crates/xs_server && rt run -- script < stdin > /dev/null
-	/usr/bin/python3 conformance/clients.py $(PROGRAM)
+	python3 conformance/clients.py $(PROGRAM)
+
+# Runs the program as a server for clients that are hostile, unlucky or many.
+hostile:
+	cd crates/xs_server && rt run -- script < stdin > /dev/null
+	python3 conformance/hostile.py $(PROGRAM)

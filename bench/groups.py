@@ -30,13 +30,6 @@ BASES = {"stream": None, "fill": "stream", "kept": "stream", "remove": "kept"}
 UNCOUNTED = {(100_000, "owner"), (1_000_000, "owner")}
 
 
-def build_plain(folder):
-    program = os.path.join(folder, "plain")
-    source = os.path.join(laid_down.HERE, "groups", "plain.rs")
-    subprocess.run(["rustc", "-O", "-o", program, source], check=True)
-    return program
-
-
 def run(program, size, work):
     """What it told, processor time in seconds, and the peak in KiB."""
     told, used = laid_down.run(program, str(size), work)
@@ -100,7 +93,7 @@ def main():
     with tempfile.TemporaryDirectory() as folder:
         programs = {
             "here": laid_down.build(folder, "groups", BELOW, ["10000", "stream"]),
-            "plain": build_plain(folder),
+            "plain": laid_down.build_plain(folder, "groups", "plain.rs"),
         }
         if asked.instructions:
             print("| Entries | Work | here, millions | plain Rust, millions | ratio |")

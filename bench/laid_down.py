@@ -8,36 +8,51 @@ HERE = os.path.dirname(os.path.abspath(__file__))
 TOP = os.path.dirname(HERE)
 
 
+def lay_down(folder, crates, further=()):
+    """Copies these crates, with their lines of crates.txt, and adds further lines."""
+    with open(os.path.join(TOP, "crates.txt"), encoding="utf-8") as listed:
+        kept = [line for line in listed.read().splitlines() if line.split(":")[0].split(" ")[0] in crates]
+    with open(os.path.join(folder, "crates.txt"), "w", encoding="utf-8") as out:
+        out.write("\n".join([*kept, *further, ""]))
+    for crate in crates:
+        shutil.copytree(os.path.join(TOP, "crates", crate), os.path.join(folder, "crates", crate))
+    subprocess.run(["git", "init", "-q"], cwd=folder, check=True)
+
+
+def build_by_run(crate, words):
+    """Builds the program of this crate by a run with these words on no input, and gives its path."""
+    asked = ["rt", "run", "--", *words]
+    subprocess.run(asked, cwd=crate, check=True, stdin=subprocess.DEVNULL, stdout=subprocess.DEVNULL)
+    return os.path.join(crate, "out", os.path.basename(crate))
+
+
 def build(folder, name, below, words):
     """Lays down the crates below and the program NAME of bench/NAME/main.rt.txt, builds it by a run with these words,
     and gives its path."""
-    lines = open(os.path.join(TOP, "crates.txt"), encoding="utf-8").read().splitlines()
-    kept = [line for line in lines if line.split(":")[0].split(" ")[0] in below]
-    with open(os.path.join(folder, "crates.txt"), "w", encoding="utf-8") as out:
-        out.write("\n".join([*kept, f"bench_{name}: {' '.join(below)}", ""]))
-    for crate in below:
-        shutil.copytree(os.path.join(TOP, "crates", crate), os.path.join(folder, "crates", crate))
+    lay_down(folder, below, [f"bench_{name}: {' '.join(below)}"])
     crate = os.path.join(folder, "crates", f"bench_{name}")
     os.makedirs(os.path.join(crate, "src"))
     shutil.copy(os.path.join(HERE, name, "main.rt.txt"), os.path.join(crate, "src", "main.rt"))
-    subprocess.run(["git", "init", "-q"], cwd=folder, check=True)
-    subprocess.run(["rt", "run", "--", *words], cwd=crate, check=True, stdout=subprocess.DEVNULL)
-    return os.path.join(crate, "out", f"bench_{name}")
+    return build_by_run(crate, words)
 
 
 def replace(folder, main):
     """Lays down all crates with this file as the program of xs_server, without its tests, builds it by a run on no
     input, and gives its path."""
-    shutil.copy(os.path.join(TOP, "crates.txt"), folder)
-    shutil.copytree(os.path.join(TOP, "crates"), os.path.join(folder, "crates"))
+    lay_down(folder, os.listdir(os.path.join(TOP, "crates")))
     crate = os.path.join(folder, "crates", "xs_server")
     shutil.copy(main, os.path.join(crate, "src", "main.rt"))
     os.remove(os.path.join(crate, "src", "tests.rt"))
     shutil.rmtree(os.path.join(crate, "src", "tests"))
-    subprocess.run(["git", "init", "-q"], cwd=folder, check=True)
-    asked = ["rt", "run", "--"]
-    subprocess.run(asked, cwd=crate, check=True, stdin=subprocess.DEVNULL, stdout=subprocess.DEVNULL)
-    return os.path.join(crate, "out", "xs_server")
+    return build_by_run(crate, [])
+
+
+def build_plain(folder, *source):
+    """Builds a program of plain Rust, and gives its path."""
+    program = os.path.join(folder, "plain")
+    path = os.path.join(HERE, *source)
+    subprocess.run(["rustc", "--edition", "2021", "-O", "-o", program, path], check=True)
+    return program
 
 
 def run(program, *words):

@@ -54,6 +54,12 @@ def same_in_round(lines, here, there, counts):
     return len(lines)
 
 
+def lines_of(seed):
+    """The commands of a round."""
+    maker = commands.Maker(seed)
+    return [*maker.opening(), *(maker.command() for _ in range(COMMANDS))][:COMMANDS]
+
+
 def main():
     parser = argparse.ArgumentParser(description=__doc__, formatter_class=argparse.RawDescriptionHelpFormatter)
     parser.add_argument("--seed", type=int, default=1)
@@ -65,8 +71,7 @@ def main():
     with real_redis.started() as path:
         for number in range(given.rounds):
             seed = f"{given.seed} {number}"
-            maker = commands.Maker(seed)
-            lines = [*maker.opening(), *(maker.command() for _ in range(COMMANDS))][:COMMANDS]
+            lines = lines_of(seed)
             same = same_in_round(lines, answers(given.program, lines, seed), real_redis.ask(path, lines), counts)
             passed, failed = passed + same, failed + (same < COMMANDS)
             if same < COMMANDS:

@@ -1,202 +1,140 @@
 #!/usr/bin/env python3
-"""Runs the program as a server, and clients of others against it: redis-py and redis-cli.
+"""Clients of others do the work of a queue on the program and on a real Redis 7.0, and tell the same answers.
 
-    clients.py PROGRAM
+    clients.py [--show] PROGRAM
 
-The server listens on a free port and is ended by its process id. The last line is 'N passed, M failed'; the status is 1
-where M > 0. Debian: apt-get install python3-redis redis-tools
+Each client of conformance/clients adds jobs, reads them by two consumers, acknowledges, leaves some and claims them by
+id and by scan, trims, deletes, and is refused what is wrong, on a server of its own; it prints a line for each step, in
+the form that clients/forms.py tells. All lines have to be those that the same client prints with Redis, and a step has
+to be answered alike to all clients. A client that isn't installed is skipped, and counts as neither. `--show` prints
+the lines of each. The last line is 'N passed, M failed'; the status is 1 where M > 0. Debian: the Makefile names the
+packages.
 """
-import contextlib
-import socket
-import struct
+import argparse
+import os
+import shutil
 import subprocess
 import sys
-import time
+import tempfile
+from dataclasses import dataclass, field
 
-import redis
+import real_redis
+from served import free_port, serving
 
-WORKERS = 4
-
-
-def free_port():
-    with socket.socket() as probe:
-        probe.bind(("127.0.0.1", 0))
-        return probe.getsockname()[1]
-
-
-@contextlib.contextmanager
-def serving(program, workers=WORKERS, each=1000):
-    """The port of a new server, which ends with the block."""
-    port = free_port()
-    words = [program, "serve", "--port", str(port), "--workers", str(workers), "--each", str(each)]
-    server = subprocess.Popen(words, stdout=subprocess.PIPE)
-    try:
-        line = server.stdout.readline().decode()
-        if line != f"listening 127.0.0.1:{port}\n":
-            raise SystemExit(f"the server said {line!r}")
-        yield port
-    finally:
-        server.terminate()
-        server.wait()
+HERE = os.path.join(os.path.dirname(os.path.abspath(__file__)), "clients")
+STEPS = os.path.join(HERE, "steps.txt")
+PYTHON = "/usr/bin/python3"
+WORKERS = 16
 
 
-def client(port):
-    return redis.Redis(port=port, socket_timeout=30)
+def in_folder(words, folder):
+    return [word.replace("@", folder) for word in words]
 
 
-def raw(port):
-    return socket.create_connection(("127.0.0.1", port), timeout=30)
+@dataclass
+class Client:
+    """How a client is run, whether it is there, and what makes it. @ stands for the folder of what was made."""
+
+    name: str
+    words: list
+    there: list
+    made: list = field(default_factory=list)
+    surroundings: dict = field(default_factory=dict)
+    behind: list = field(default_factory=list)
+
+    def is_there(self):
+        if shutil.which(self.there[0]) is None:
+            return False
+        done = subprocess.run(self.there, env=self.environment(), capture_output=True, timeout=60)
+        return done.returncode == 0
+
+    def environment(self):
+        return {**os.environ, **self.surroundings}
+
+    def make(self, folder):
+        if self.made:
+            subprocess.run(in_folder(self.made, folder), env=self.environment(), check=True, timeout=300)
+
+    def told(self, folder, port):
+        """The answers of each step, by its name."""
+        words = [*in_folder(self.words, folder), str(port), *self.behind]
+        done = subprocess.run(words, capture_output=True, env=self.environment(), timeout=60)
+        if done.returncode != 0:
+            raise AssertionError(f"status {done.returncode}: {done.stderr.decode()[-500:]}")
+        return dict(line.split(": ", 1) for line in done.stdout.decode().splitlines())
 
 
-def read_line(stream):
-    line = b""
-    while not line.endswith(b"\r\n"):
-        got = stream.recv(1)
-        if not got:
-            break
-        line += got
-    return line
+def in_here(name):
+    return os.path.join(HERE, name)
 
 
-def queue(port):
-    """Jobs are added, delivered to two consumers, acknowledged, claimed, and each is done once."""
-    producer, one, two = client(port), client(port), client(port)
-    added = [producer.xadd("jobs", {"job": str(number)}) for number in range(10)]
-    assert producer.xlen("jobs") == 10
-    assert producer.xgroup_create("jobs", "workers", id="0")
-    first = one.xreadgroup("workers", "one", {"jobs": ">"}, count=6)[0][1]
-    second = two.xreadgroup("workers", "two", {"jobs": ">"})[0][1]
-    assert [entry for entry, _ in first + second] == added
-    assert [fields[b"job"] for _, fields in first + second] == [str(number).encode() for number in range(10)]
-    assert one.xack("jobs", "workers", *[entry for entry, _ in first]) == 6
-    assert producer.xpending("jobs", "workers")["pending"] == 4
-    claimed = one.xclaim("jobs", "workers", "one", 0, [second[0][0]])
-    assert [entry for entry, _ in claimed] == [second[0][0]]
-    assert two.xack("jobs", "workers", *[entry for entry, _ in second]) == 4
-    assert producer.xpending("jobs", "workers")["pending"] == 0
+def redis_py(variant):
+    module = "hiredis, redis" if "hiredis" in variant else "redis"
+    return Client(f"redis-py, {variant}", [PYTHON, in_here("redis_py.py")], [PYTHON, "-c", f"import {module}"],
+                  behind=[variant])
 
 
-def groups(port):
-    """A group that there is already, a key that isn't there, a range both ways."""
-    some = client(port)
-    some.xgroup_create("s", "g", id="$", mkstream=True)
-    try:
-        some.xgroup_create("s", "g")
-        raise AssertionError("the group was made twice")
-    except redis.ResponseError as error:
-        assert "BUSYGROUP" in str(error)
-    some.xadd("s", {"a": "b"}, id="5-1")
-    some.xadd("s", {"a": "c"}, id="5-2")
-    assert some.xrange("s") == [(b"5-1", {b"a": b"b"}), (b"5-2", {b"a": b"c"})]
-    assert some.xrevrange("s", count=1) == [(b"5-2", {b"a": b"c"})]
-    assert some.xtrim("s", maxlen=1) == 1
-    assert some.delete("s") == 1
-    assert some.xlen("s") == 0
+NODE = {"NODE_PATH": "/usr/share/nodejs"}
+GO = {"GOPATH": "/usr/share/gocode", "GO111MODULE": "off", "GOFLAGS": "-buildvcs=false"}
+CLIENTS = [
+    *(redis_py(variant) for variant in ("python", "hiredis", "python-asyncio", "hiredis-asyncio")),
+    Client("redis-cli", [PYTHON, in_here("redis_cli.py")], ["redis-cli", "--version"]),
+    Client("hiredis", ["@/hiredis"], ["sh", "-c", "command -v cc && test -f /usr/include/hiredis/hiredis.h"],
+           made=["cc", "-O1", "-o", "@/hiredis", in_here("hiredis.c"), "-lhiredis"], behind=[STEPS]),
+    Client("node-redis", ["node", in_here("node_redis.js")], ["node", "-e", 'require("redis")'], surroundings=NODE),
+    Client("redis-rb", ["ruby", in_here("redis_rb.rb")], ["ruby", "-e", 'require "redis"']),
+    Client("redigo", ["@/redigo"], ["go", "list", "github.com/gomodule/redigo/redis"],
+           made=["go", "build", "-o", "@/redigo", in_here("redigo.go")], surroundings=GO, behind=[STEPS]),
+    Client("phpredis", ["php", in_here("phpredis.php")], ["php", "-r", 'exit(class_exists("Redis") ? 0 : 1);']),
+    Client("Predis", ["php", in_here("predis.php")],
+           ["php", "-r", 'exit((@include "Predis/autoload.php") ? 0 : 1);']),
+]
 
 
-def at_once(port):
-    """One connection is answered while another one has sent half of its request."""
-    slow, quick = raw(port), raw(port)
-    slow.sendall(b"*1\r\n$4\r\nPI")
-    quick.sendall(b"*1\r\n$4\r\nPING\r\n")
-    assert read_line(quick) == b"+PONG\r\n"
-    slow.sendall(b"NG\r\n")
-    assert read_line(slow) == b"+PONG\r\n"
-    slow.close()
-    quick.close()
+def difference(what, ours, theirs):
+    """What is told of the first step that was answered in two ways."""
+    for step in {**theirs, **ours}:
+        if ours.get(step) != theirs.get(step):
+            return f"{what}, step {step!r}:\n  {ours.get(step)}\n  {theirs.get(step)}"
+    return None
 
 
-def vanished(port):
-    """A client that resets its connection within a request, or doesn't read its replies, harms no other one."""
-    for sent in (b"*1\r\n$4\r\nPI", b"*1\r\n$4\r\nPING\r\n" * 100):
-        for _ in range(2 * WORKERS):
-            gone = raw(port)
-            gone.sendall(sent)
-            gone.setsockopt(socket.SOL_SOCKET, socket.SO_LINGER, struct.pack("ii", 1, 0))
-            gone.close()
-    assert client(port).ping()
+def faults_of(client, program, folder, standard):
+    """The first difference from Redis, or from the answers that the other clients had."""
+    client.make(folder)
+    with serving(program, workers=WORKERS) as server:
+        ours = client.told(folder, server.port)
+        again = client.told(folder, server.port)
+    with real_redis.started(port=free_port()) as port:
+        theirs = client.told(folder, port)
+    common = {step: answer for step, answer in standard.items() if step in ours}
+    standard.update({step: answer for step, answer in ours.items() if step not in standard})
+    return ours, (difference("here and on Redis", ours, theirs) or difference("the first time and again", ours, again)
+                  or difference("here and by other clients", {step: ours[step] for step in common}, common))
 
 
-def pipelined(port):
-    """Many requests at once, and a reply that is greater than the buffer for replies."""
-    some = client(port)
-    pipe = some.pipeline(transaction=False)
-    for number in range(2000):
-        pipe.xadd("p", {"v": "x" * 100}, id=f"{number + 1}-0")
-    assert pipe.execute() == [f"{number + 1}-0".encode() for number in range(2000)]
-    assert len(some.xrange("p")) == 2000
-    assert some.xadd("great", {"v": "y" * 100_000}, id="1-1") == b"1-1"
-    assert some.xrange("great") == [(b"1-1", {b"v": b"y" * 100_000})]
-
-
-def endings(port):
-    """QUIT is answered and ends the connection; so does what is no request, behind its error."""
-    for sent, reply in ((b"*1\r\n$4\r\nQUIT\r\n", b"+OK\r\n"), (b"PING\r\n", b"-ERR Protocol error\r\n")):
-        some = raw(port)
-        some.sendall(sent)
-        assert read_line(some) == reply
-        assert some.recv(1) == b""
-        some.close()
-
-
-def command_line(port):
-    """redis-cli adds an entry and reads it."""
-    def say(*words):
-        done = subprocess.run(["redis-cli", "-p", str(port), *words], capture_output=True, timeout=30, check=True)
-        return done.stdout.decode().split()
-    assert say("XADD", "c", "7-1", "f", "v") == ["7-1"]
-    assert say("XRANGE", "c", "-", "+") == ["7-1", "f", "v"]
-
-
-def taken(program):
-    """A port in use is told on standard error, with status 1."""
-    with serving(program) as port:
-        words = [program, "serve", "--port", str(port), "--workers", "1", "--each", "1"]
-        done = subprocess.run(words, capture_output=True, timeout=30)
-        assert (done.returncode, done.stdout, done.stderr) == (1, b"", b"xs_server: listening failed\n"), done
-
-
-def ends(program):
-    """Once each worker has served its connections the program ends with status 0."""
-    port = free_port()
-    words = [program, "serve", "--port", str(port), "--workers", "2", "--each", "3"]
-    server = subprocess.Popen(words, stdout=subprocess.PIPE)
-    try:
-        assert server.stdout.readline() == f"listening 127.0.0.1:{port}\n".encode()
-        for _ in range(6):
-            some = raw(port)
-            some.sendall(b"*1\r\n$4\r\nPING\r\n")
-            assert read_line(some) == b"+PONG\r\n"
-            some.close()
-        assert server.wait(timeout=30) == 0
-    finally:
-        if server.poll() is None:
-            server.kill()
-            server.wait()
-
-
-def main(arguments):
-    if len(arguments) != 1:
-        print(__doc__)
-        return 2
-    program, failed = arguments[0], 0
-    cases = [queue, groups, at_once, vanished, pipelined, endings, command_line]
-    programs = [taken, ends]
-    for case in cases + programs:
+def main():
+    parser = argparse.ArgumentParser(description=__doc__, formatter_class=argparse.RawDescriptionHelpFormatter)
+    parser.add_argument("--show", action="store_true")
+    parser.add_argument("program")
+    given = parser.parse_args()
+    passed, failed, standard = 0, 0, {}
+    for client in CLIENTS:
+        if not client.is_there():
+            print(f"{client.name}: skipped, it isn't installed", flush=True)
+            continue
         try:
-            if case in programs:
-                case(program)
-            else:
-                with serving(program) as port:
-                    case(port)
-        except (AssertionError, OSError, redis.RedisError, subprocess.SubprocessError) as error:
-            failed += 1
-            print(f"{case.__name__}: {type(error).__name__} {error}")
-            time.sleep(0.1)
-    total = len(cases) + len(programs)
-    print(f"{total - failed} passed, {failed} failed")
+            with tempfile.TemporaryDirectory() as folder:
+                ours, fault = faults_of(client, given.program, folder, standard)
+        except (AssertionError, OSError, subprocess.SubprocessError) as error:
+            ours, fault = {}, f"{type(error).__name__} {error}"
+        if given.show:
+            print("".join(f"  {step}: {answer}\n" for step, answer in ours.items()), end="")
+        print(f"{client.name}: {fault or f'{len(ours)} steps are answered as by Redis'}", flush=True)
+        passed, failed = passed + (fault is None), failed + (fault is not None)
+    print(f"{passed} passed, {failed} failed")
     return 1 if failed else 0
 
 
 if __name__ == "__main__":
-    sys.exit(main(sys.argv[1:]))
+    sys.exit(main())

@@ -33,11 +33,13 @@ def is_same(want, got):
 
 
 def connect(path):
+    """A connection to a path, or to a port of this machine."""
+    is_path = isinstance(path, str)
     for _ in range(100):
         try:
-            made = socket.socket(socket.AF_UNIX)
+            made = socket.socket(socket.AF_UNIX if is_path else socket.AF_INET)
             made.settimeout(60)
-            made.connect(path)
+            made.connect(path if is_path else ("127.0.0.1", path))
             return made
         except OSError:
             time.sleep(0.05)
@@ -45,30 +47,46 @@ def connect(path):
 
 
 @contextlib.contextmanager
-def started():
-    """The path of a new server's socket. It keeps nothing on disk, and ends with the block."""
+def started(port=0):
+    """The path of a new server's socket, or its port where one is named. It keeps nothing on disk, and ends with the
+    block."""
     with tempfile.TemporaryDirectory() as folder:
         path = os.path.join(folder, "redis.sock")
         server = subprocess.Popen(
-            ["redis-server", "--port", "0", "--unixsocket", path, "--save", "", "--appendonly", "no", "--dir", folder],
+            ["redis-server", "--port", str(port), "--unixsocket", path, "--save", "", "--appendonly", "no",
+             "--dir", folder],
             stdout=subprocess.DEVNULL,
         )
         try:
-            yield path
+            connect(port or path).close()
+            yield port or path
         finally:
             server.terminate()
             server.wait()
 
 
-def ask(path, lines):
-    """The replies to these lists of words, from an empty database. A connection ends with QUIT, and the next begins."""
+def batches(lines, most):
+    """The lists of words in their order, so many together at most; a QUIT is the last of its batch."""
+    batch = []
+    for words in lines:
+        batch.append(words)
+        if len(batch) == most or words[0].upper() == "QUIT":
+            yield batch
+            batch = []
+    if batch:
+        yield batch
+
+
+def ask(path, lines, opening=("FLUSHALL",), together=1):
+    """The replies to these lists of words, behind an opening that empties what they use; so many are sent together. A
+    connection ends with QUIT, and the next begins."""
     replies, made, stream = [], None, None
     with contextlib.ExitStack() as open_ones:
-        for words in [["FLUSHALL"], *lines]:
+        for batch in batches([opening, *lines], together):
             if made is None:
                 made = open_ones.enter_context(connect(path))
                 stream = open_ones.enter_context(made.makefile("rb"))
-            made.sendall(request([word.encode() for word in words]))
-            replies.append(read_reply(stream))
-            made = None if words[0].upper() == "QUIT" else made
+            made.sendall(b"".join(request([word.encode() for word in words]) for words in batch))
+            replies.extend(read_reply(stream) for _ in batch)
+            made = None if batch[-1][0].upper() == "QUIT" else made
     return replies[1:]

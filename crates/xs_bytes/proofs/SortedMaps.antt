@@ -7,7 +7,7 @@ use Rattle.std.specs.Ordering.{eq_by_cmp, is_eq, is_lt}
 use Rattle.std.specs.Cmp.{IsTotalOrder, eq_by_cmp_equiv}
 use Rattle.std.proofs.lemmas.Cmp.{alike_right}
 use Rattle.std.specs.declared.cmp.Ordering.TheVariants.{Less, Equal, Greater}
-use Rattle.xs_bytes.specs.Each.{kept, each}
+use Rattle.xs_bytes.specs.Each.{with_some, each}
 use Rattle.xs_bytes.specs.SortedMap.{SortedMap, empty, get, insert_by, remove, change}
 use Rattle.xs_bytes.specs.MapOf.{of_entries}
 
@@ -45,11 +45,11 @@ module _ {K X : Type 0} {R : K → K → Ordering} where
 
 -- ---- the entries that are changed
 
-kept-other : {K X : Type 0} (R : K → K → Ordering) (q k : K) (v : Option X) (es : List (K × X)) → eq_by_cmp R q k ≡ false → find R q (kept k v es) ≡ find R q es
+kept-other : {K X : Type 0} (R : K → K → Ordering) (q k : K) (v : Option X) (es : List (K × X)) → eq_by_cmp R q k ≡ false → find R q (with_some k v es) ≡ find R q es
 kept-other R q k None es e = refl
 kept-other R q k (Some x) es e = rw e refl
 
-kept-here : {K X : Type 0} (R : K → K → Ordering) (q k : K) (v : Option X) (es : List (K × X)) → eq_by_cmp R q k ≡ true → find R q es ≡ None → find R q (kept k v es) ≡ v
+kept-here : {K X : Type 0} (R : K → K → Ordering) (q k : K) (v : Option X) (es : List (K × X)) → eq_by_cmp R q k ≡ true → find R q es ≡ None → find R q (with_some k v es) ≡ v
 kept-here R q k None es e none = none
 kept-here R q k (Some x) es e none = rw e refl
 
@@ -82,7 +82,7 @@ module _ {K X : Type 0} {R : K → K → Ordering} where
   find-each o same f q [] h = refl
   find-each o same f q (e ∷ es) h = by (eq_by_cmp R q e.0) refl (find-each o same f q es (second _ _ h)) where
     by : (t : Bool) → eq_by_cmp R q e.0 ≡ t → find R q (each f es) ≡ option_and_then (f q) (find R q es)
-        → find R q (kept e.0 (f e.0 e.1) (each f es)) ≡ option_and_then (f q) (cond t (Some e.1) (find R q es))
+        → find R q (with_some e.0 (f e.0 e.1) (each f es)) ≡ option_and_then (f q) (cond t (Some e.1) (find R q es))
     by true t rest =
         let is = same q e.0 (equal _ t) in
         let gone : find R q (each f es) ≡ None = rest ∙ ap (option_and_then (f q)) (ap (λ k. find R k es) is ∙ find-below R e.0 es (first _ _ h)) in

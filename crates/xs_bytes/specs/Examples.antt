@@ -3,7 +3,7 @@
 use Rattle.std.specs.Prelude.{◌≡◌, ℕ, ◌+◌, ◌==◌, true, false, List, [], ◌∷◌, codes, Option, Some, None}
 use Rattle.std.specs.Prelude.{if◌then◌else◌}
 use Rattle.xs_bytes.specs.Number.{is_digit, with_digit, value_of, is_number, number_of, has_leading_zero, natural_of}
-use Rattle.xs_bytes.specs.Each.{kept, each}
+use Rattle.xs_bytes.specs.Each.{with_some, each}
 use Rattle.xs_bytes.specs.SortedMap.{NameMap, empty, get, has_key, keys, insert, remove, change}
 use Rattle.xs_bytes.specs.MapOf.{from_entries}
 
@@ -67,7 +67,7 @@ pub record Maps : Type 0 where
   pub removed : (remove three (codes "b")).entries ≡ (codes "aa", 1) ∷ (codes "c", 3) ∷ []
   pub nothing_removed : (remove three (codes "a")).entries ≡ (codes "aa", 1) ∷ (codes "b", 2) ∷ (codes "c", 3) ∷ []
   pub each_changed : (change twice three).entries ≡ (codes "aa", 2) ∷ (codes "c", 6) ∷ []
-  pub a_value_kept : kept {X = ℕ} (codes "a") (Some 1) ((codes "b", 2) ∷ []) ≡ (codes "a", 1) ∷ (codes "b", 2) ∷ []
-  pub no_value_kept : kept {X = ℕ} (codes "a") None ((codes "b", 2) ∷ []) ≡ (codes "b", 2) ∷ []
+  pub a_value_kept : with_some {X = ℕ} (codes "a") (Some 1) ((codes "b", 2) ∷ []) ≡ (codes "a", 1) ∷ (codes "b", 2) ∷ []
+  pub no_value_kept : with_some {X = ℕ} (codes "a") None ((codes "b", 2) ∷ []) ≡ (codes "b", 2) ∷ []
   pub each_entry :
       each twice ((codes "b", 2) ∷ (codes "a", 1) ∷ (codes "c", 4) ∷ []) ≡ (codes "a", 2) ∷ (codes "c", 8) ∷ []

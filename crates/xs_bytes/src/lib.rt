@@ -4,7 +4,9 @@
 pub mod bytes;
 pub mod decimal;
 pub mod examples;
+pub mod list;
 mod short;
 
 pub use bytes::Bytes;
 pub use decimal::{decimal_text, natural, number, push_decimal};
+pub use list::List;

@@ -11,7 +11,7 @@ use Rattle.xs_command.specs.Integer.{at_least_zero}
 use Rattle.xs_command.specs.WellFormed.{IsWellFormed}
 use Rattle.xs_command.specs.Words.{Reading, is_word, word, low, high, integer}
 use Rattle.xs_command.specs.Options.{many}
-use Rattle.xs_command.specs.Name.{fits}
+use Rattle.xs_command.specs.CommandName.{fits}
 use Rattle.xs_command.specs.Syntax.{ids}
 use Rattle.xs_command.specs.Xgroup.{xgroup, group_named, group_syntax, counts, create, destroy, create_consumer, delete_consumer, create_option, group_start, subcommand_of}
 use Rattle.xs_command.specs.Xack.{xack}

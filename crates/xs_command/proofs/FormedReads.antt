@@ -4,17 +4,17 @@ use Rattle.std.specs.Prelude.{IfOk}
 use Rattle.xs_resp.specs.declared.fault.Fault.TheVariants.{Arity}
 use Rattle.xs_command.specs.declared.command.Command.{Command}
 use Rattle.xs_command.specs.declared.refusal.Refusal.{Refusal}
-use Rattle.xs_command.specs.declared.name.Name.{Name}
-use Rattle.xs_command.specs.declared.name.Name.TheVariants.{Ping, Quit, Xadd, Xdel, Xtrim, Xlen, Xrange, Xrevrange, Xgroup, Xreadgroup, Xack, Xpending, Xclaim, Xautoclaim, Del}
+use Rattle.xs_command.specs.declared.command_name.CommandName.{CommandName}
+use Rattle.xs_command.specs.declared.command_name.CommandName.TheVariants.{Ping, Quit, Xadd, Xdel, Xtrim, Xlen, Xrange, Xrevrange, Xgroup, Xreadgroup, Xack, Xpending, Xclaim, Xautoclaim, Del}
 use Rattle.xs_command.specs.Words.{Gives, word}
 use Rattle.xs_command.specs.WellFormed.{IsWellFormed}
-use Rattle.xs_command.specs.Name.{name_of, counts, fits}
+use Rattle.xs_command.specs.CommandName.{name_of, counts, fits}
 use Rattle.xs_command.specs.Read.{syntax, named, reads}
 use Rattle.xs_command.proofs.Formed.{Always, after_any, ping_formed, quit_formed, xadd_formed, xdel_formed, xtrim_formed, xlen_formed, xrange_formed, xrevrange_formed, del_formed}
 use Rattle.xs_command.proofs.FormedGroups.{xgroup_formed, xack_formed, xpending_formed, xclaim_formed, xautoclaim_formed}
 use Rattle.xs_command.proofs.FormedReadGroup.{xreadgroup_formed}
 
-syntax_formed : (name : Name) → Always IsWellFormed (syntax name)
+syntax_formed : (name : CommandName) → Always IsWellFormed (syntax name)
 syntax_formed Ping words y e = ping_formed words y e
 syntax_formed Quit words y e = quit_formed words y e
 syntax_formed Xadd words y e = xadd_formed words y e
@@ -31,11 +31,11 @@ syntax_formed Xclaim words y e = xclaim_formed words y e
 syntax_formed Xautoclaim words y e = xautoclaim_formed words y e
 syntax_formed Del words y e = del_formed words y e
 
-counted : (name : Name) (b : Bool) (words : List (List ℕ)) (y : Command) → cond b (syntax name words) (Err Arity) ≡ Ok y → IsWellFormed y
+counted : (name : CommandName) (b : Bool) (words : List (List ℕ)) (y : Command) → cond b (syntax name words) (Err Arity) ≡ Ok y → IsWellFormed y
 counted name true words y e = syntax_formed name words y e
 counted name false words y e = absurd cc
 
-named_formed : (name : Option Name) → Always IsWellFormed (named name)
+named_formed : (name : Option CommandName) → Always IsWellFormed (named name)
 named_formed None words y e = absurd cc
 named_formed (Some name) words y e = counted name (fits (counts name) (length words + 1)) words y e
 

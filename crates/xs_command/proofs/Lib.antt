@@ -1,5 +1,5 @@
 pub mod OptionSteps
-pub mod NameByLength
+pub mod CommandNames
 pub mod IdSteps
 pub mod FieldSteps
 pub mod Formed

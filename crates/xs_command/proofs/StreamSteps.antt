@@ -4,8 +4,8 @@ use Rattle.std.proofs.lemmas.List.{append-nil}
 use Rattle.xs_resp.specs.declared.fault.Fault.{Fault}
 use Rattle.xs_command.specs.declared.refusal.Refusal.{Refusal}
 use Rattle.xs_command.specs.declared.refusal.Refusal.TheVariants.{Said, Memory}
-use Rattle.xs_command.specs.declared.reads.ReadFrom.{ReadFrom}
-use Rattle.xs_command.specs.declared.reads.ReadOne.{ReadOne}
+use Rattle.xs_command.specs.declared.command.ReadFrom.{ReadFrom}
+use Rattle.xs_command.specs.declared.command.ReadOne.{ReadOne}
 use Rattle.xs_command.specs.Words.{Fails, word}
 use Rattle.xs_command.specs.Streams.{read_from, before, read_before, each_from}
 

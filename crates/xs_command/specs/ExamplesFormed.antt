@@ -6,10 +6,10 @@ use Rattle.xs_stream.specs.declared.add.AddId.TheVariants.{Auto, Exact}
 use Rattle.xs_stream.specs.declared.field.Field.{Field}
 use Rattle.xs_stream.specs.Id.{zero_id}
 use Rattle.xs_stream.specs.Examples.{at}
-use Rattle.xs_group.specs.declared.claim_rule.ClaimTime.TheVariants as time
+use Rattle.xs_group.specs.declared.claims.ClaimTime.TheVariants as time
 use Rattle.xs_command.specs.declared.command.Command.{Command}
 use Rattle.xs_command.specs.declared.command.Command.TheVariants as command
-use Rattle.xs_command.specs.declared.reads.ReadFrom.TheVariants.{New, After}
+use Rattle.xs_command.specs.declared.command.ReadFrom.TheVariants.{New, After}
 use Rattle.xs_command.specs.WellFormed.{IsWellFormed}
 use Rattle.xs_command.specs.ExamplesStreams.{field}
 use Rattle.xs_command.specs.ExamplesGroups.{each, reads_group, claims}

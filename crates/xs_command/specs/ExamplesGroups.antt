@@ -4,16 +4,16 @@ use Rattle.std.specs.Prelude.{ℕ, Bool, true, false, List, [], ◌∷◌, codes
 use Rattle.xs_stream.specs.declared.id.Id.{Id}
 use Rattle.xs_stream.specs.Id.{zero_id, greatest_id, last}
 use Rattle.xs_stream.specs.Examples.{at}
-use Rattle.xs_group.specs.declared.claim_rule.ClaimTime.{ClaimTime}
-use Rattle.xs_group.specs.declared.claim_rule.ClaimTime.TheVariants as time
+use Rattle.xs_group.specs.declared.claims.ClaimTime.{ClaimTime}
+use Rattle.xs_group.specs.declared.claims.ClaimTime.TheVariants as time
 use Rattle.xs_resp.specs.declared.fault.Fault.TheVariants.{UnknownCommand, Syntax, BadId, NotInteger, Unsupported}
 use Rattle.xs_command.specs.declared.command.Command.{Command}
 use Rattle.xs_command.specs.declared.command.Command.TheVariants as command
 use Rattle.xs_command.specs.declared.command.GroupStart.{GroupStart}
 use Rattle.xs_command.specs.declared.command.GroupStart.TheVariants as start
-use Rattle.xs_command.specs.declared.reads.ReadOne.{ReadOne}
-use Rattle.xs_command.specs.declared.reads.ReadFrom.{ReadFrom}
-use Rattle.xs_command.specs.declared.reads.ReadFrom.TheVariants.{New, After}
+use Rattle.xs_command.specs.declared.command.ReadOne.{ReadOne}
+use Rattle.xs_command.specs.declared.command.ReadFrom.{ReadFrom}
+use Rattle.xs_command.specs.declared.command.ReadFrom.TheVariants.{New, After}
 use Rattle.xs_command.specs.Examples.{Spells, HasFault}
 
 abbrev pub creates : GroupStart → Bool → Command

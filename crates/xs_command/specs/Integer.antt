@@ -1,5 +1,6 @@
 -- Whole numbers in the words of a command.
-use Rattle.std.specs.Prelude.{ℕ, ◌^◌, ◌&&◌, List, [], ◌∷◌, Option, Some, None, option_and_then, nat_lt, nat_le, ◌==◌, if◌then◌else◌}
+use Rattle.std.specs.Prelude.{ℕ, ◌^◌, ◌&&◌, List, [], ◌∷◌, Option, Some, None, option_and_then, nat_lt, nat_le, ◌==◌}
+use Rattle.std.specs.Prelude.{if◌then◌else◌}
 use Rattle.xs_bytes.specs.Number.{natural_of}
 use Rattle.xs_command.specs.declared.integer.Integer.{Integer}
 use Rattle.xs_command.specs.declared.integer.Integer.TheVariants.{Negative, Natural}
@@ -15,7 +16,9 @@ negative_of n = if nat_lt 0 n && nat_le n (2 ^ 63) then Some Negative else None
 -- the integer that a text spells: '-' is 45
 abbrev pub integer_of : List ℕ → Option Integer
 integer_of [] = None
-integer_of (byte ∷ digits) = if byte == 45 then option_and_then negative_of (natural_of digits) else option_and_then positive_of (natural_of (byte ∷ digits))
+integer_of (byte ∷ digits) =
+    if byte == 45 then option_and_then negative_of (natural_of digits)
+    else option_and_then positive_of (natural_of (byte ∷ digits))
 
 -- the number, with 0 for one below 0
 abbrev pub at_least_zero : Integer → ℕ

@@ -1,7 +1,7 @@
 pub mod Integer
 pub mod Words
 pub mod Options
-pub mod Name
+pub mod CommandName
 pub mod Syntax
 pub mod Trim
 pub mod AddId

@@ -18,7 +18,9 @@ abbrev pub taking : {S : Type 0} → Part S → Reading (S × Option (List (List
 taking part words = taken (part words)
 
 -- what comes after a name was read as an option, or as none
-abbrev pub after : {S : Type 0} → Result (S × Option (List (List ℕ))) Fault → List (List ℕ) → (S → Part S) → Result (S × List (List ℕ)) Fault
+abbrev pub after :
+    {S : Type 0} → Result (S × Option (List (List ℕ))) Fault → List (List ℕ) → (S → Part S)
+    → Result (S × List (List ℕ)) Fault
 after (Err fault) words more = Err fault
 after (Ok (s, None)) words more = Ok (s, words)
 after (Ok (s, Some left)) words more = more s left

@@ -2,10 +2,12 @@
 use Rattle.std.specs.Prelude.{◌+◌, length, Option, Some, None, Err, if◌then◌else◌}
 use Rattle.xs_resp.specs.declared.fault.Fault.TheVariants.{UnknownCommand, Arity}
 use Rattle.xs_command.specs.declared.command.Command.{Command}
-use Rattle.xs_command.specs.declared.name.Name.{Name}
-use Rattle.xs_command.specs.declared.name.Name.TheVariants.{Ping, Quit, Xadd, Xdel, Xtrim, Xlen, Xrange, Xrevrange, Xgroup, Xreadgroup, Xack, Xpending, Xclaim, Xautoclaim, Del}
+use Rattle.xs_command.specs.declared.command_name.CommandName.{CommandName}
+use Rattle.xs_command.specs.declared.command_name.CommandName.TheVariants.{Ping, Quit, Xadd, Xdel, Xtrim, Xlen, Xrange}
+use Rattle.xs_command.specs.declared.command_name.CommandName.TheVariants.{Xrevrange, Xgroup, Xreadgroup, Xack}
+use Rattle.xs_command.specs.declared.command_name.CommandName.TheVariants.{Xpending, Xclaim, Xautoclaim, Del}
 use Rattle.xs_command.specs.Words.{Reading, ◌>>=◌, word}
-use Rattle.xs_command.specs.Name.{name_of, counts, fits}
+use Rattle.xs_command.specs.CommandName.{name_of, counts, fits}
 use Rattle.xs_command.specs.Ping.{ping, quit}
 use Rattle.xs_command.specs.Xadd.{xadd}
 use Rattle.xs_command.specs.Xdel.{xdel}
@@ -21,7 +23,7 @@ use Rattle.xs_command.specs.Xautoclaim.{xautoclaim}
 use Rattle.xs_command.specs.Del.{del}
 
 -- the syntax behind each name
-abbrev pub syntax : Name → Reading Command
+abbrev pub syntax : CommandName → Reading Command
 syntax Ping = ping
 syntax Quit = quit
 syntax Xadd = xadd
@@ -39,7 +41,7 @@ syntax Xautoclaim = xautoclaim
 syntax Del = del
 
 -- the words behind a name; their number comes first
-abbrev pub named : Option Name → Reading Command
+abbrev pub named : Option CommandName → Reading Command
 named None words = Err UnknownCommand
 named (Some name) words = if fits (counts name) (length words + 1) then syntax name words else Err Arity
 

@@ -1,13 +1,14 @@
 -- The streams of XREADGROUP: keys, and for each from where it is read.
-use Rattle.std.specs.Prelude.{ℕ, ◌/◌, ◌%◌, ◌&&◌, ◌==◌, not, Bool, true, List, [], ◌∷◌, length, take, drop, nat_lt, bytes_eq, codes, Option, Some, Result, Ok, Err, if◌then◌else◌}
+use Rattle.std.specs.Prelude.{ℕ, ◌/◌, ◌%◌, ◌&&◌, ◌==◌, not, Bool, true, List, [], ◌∷◌, length, take, drop, nat_lt}
+use Rattle.std.specs.Prelude.{bytes_eq, codes, Option, Some, Result, Ok, Err, if◌then◌else◌}
 use Rattle.std.specs.List.{list_any}
 use Rattle.std.specs.Option.{option_map}
 use Rattle.xs_stream.specs.IdText.{parse_id}
 use Rattle.xs_resp.specs.declared.fault.Fault.{Fault}
 use Rattle.xs_resp.specs.declared.fault.Fault.TheVariants.{Syntax, BadId, Unsupported}
-use Rattle.xs_command.specs.declared.reads.ReadFrom.{ReadFrom}
-use Rattle.xs_command.specs.declared.reads.ReadFrom.TheVariants.{New, After}
-use Rattle.xs_command.specs.declared.reads.ReadOne.{ReadOne}
+use Rattle.xs_command.specs.declared.command.ReadFrom.{ReadFrom}
+use Rattle.xs_command.specs.declared.command.ReadFrom.TheVariants.{New, After}
+use Rattle.xs_command.specs.declared.command.ReadOne.{ReadOne}
 use Rattle.xs_command.specs.Words.{Reading, Part, ◌>>=◌, or_fault, word}
 
 -- `>`, or an id; a missing sequence is 0
@@ -31,7 +32,8 @@ before first (Ok reads) = Ok (first ∷ reads)
 before first (Err fault) = Err fault
 
 -- the read of a key from where it says, before those that follow
-abbrev pub read_before : List ℕ → Result (ReadFrom × List (List ℕ)) Fault → Reading (List ReadOne) → Result (List ReadOne) Fault
+abbrev pub read_before :
+    List ℕ → Result (ReadFrom × List (List ℕ)) Fault → Reading (List ReadOne) → Result (List ReadOne) Fault
 read_before key (Err fault) more = Err fault
 read_before key (Ok read) more = before (record { key = key; from = read.0 }) (more read.1)
 
@@ -47,5 +49,6 @@ keys_and_starts keys froms = if is_distinct keys then each_from keys froms else 
 -- as many keys as starts, one or more; a read of one key twice isn't supported
 unfoldable pub streams : Reading (List ReadOne)
 streams words =
-    if nat_lt 0 (length words) && length words % 2 == 0 then keys_and_starts (take (length words / 2) words) (drop (length words / 2) words)
+    if nat_lt 0 (length words) && length words % 2 == 0
+    then keys_and_starts (take (length words / 2) words) (drop (length words / 2) words)
     else Err Syntax

@@ -16,7 +16,8 @@ unfoldable pub min_id : Part Trim
 min_id words = (id >>= λ low. value (trim.MinId low)) (behind_sign words)
 
 -- a trim that was read, where none stands before it
-abbrev pub first_trim : Option Trim → Result (Trim × List (List ℕ)) Fault → Result (Option Trim × Option (List (List ℕ))) Fault
+abbrev pub first_trim :
+    Option Trim → Result (Trim × List (List ℕ)) Fault → Result (Option Trim × Option (List (List ℕ))) Fault
 first_trim (Some earlier) read = Err Syntax
 first_trim None (Ok read) = Ok (Some read.0, Some read.1)
 first_trim None (Err fault) = Err fault

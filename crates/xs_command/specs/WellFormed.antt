@@ -6,7 +6,7 @@ use Rattle.xs_stream.specs.declared.add.AddId.TheVariants.{Auto, AutoSeq, Exact}
 use Rattle.xs_stream.specs.Id.{zero_id}
 use Rattle.xs_command.specs.declared.command.Command.{Command}
 use Rattle.xs_command.specs.declared.command.Command.TheVariants.{Add, Delete, ReadGroup, Ack, Claim, DropKeys}
-use Rattle.xs_command.specs.declared.reads.ReadOne.{ReadOne}
+use Rattle.xs_command.specs.declared.command.ReadOne.{ReadOne}
 
 -- a written id isn't 0-0
 abbrev pub IsAddId : AddId → Type 0

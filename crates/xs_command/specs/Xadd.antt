@@ -18,7 +18,9 @@ abbrev pub no_options : AddOptions
 no_options = record { make = true; trim = None }
 
 -- what a trim's option leaves
-abbrev pub with_trim : AddOptions → Result (Option Trim × Option (List (List ℕ))) Fault → Result (AddOptions × Option (List (List ℕ))) Fault
+abbrev pub with_trim :
+    AddOptions → Result (Option Trim × Option (List (List ℕ))) Fault
+    → Result (AddOptions × Option (List (List ℕ))) Fault
 with_trim options (Ok read) = Ok (record { make = options.make; trim = read.0 }, read.1)
 with_trim options (Err fault) = Err fault
 
@@ -30,7 +32,8 @@ add_option options name words =
 
 -- the command with these fields
 abbrev pub addition : List ℕ → AddOptions → AddId → Result (List Field) Fault → Result Command Fault
-addition key options id (Ok fields) = Ok (command.Add (record { key = key; make = options.make; trim = options.trim; id = id; fields = fields }))
+addition key options id (Ok fields) =
+    Ok (command.Add (record { key = key; make = options.make; trim = options.trim; id = id; fields = fields }))
 addition key options id (Err fault) = Err fault
 
 -- XADD key { NOMKSTREAM, trim } id field value [field value ..]

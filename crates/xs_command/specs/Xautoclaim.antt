@@ -1,6 +1,6 @@
 -- XAUTOCLAIM.
 use Rattle.std.specs.Prelude.{ℕ, true, false, codes, nat_lt, Option, Some, None, Ok, if◌then◌else◌}
-use Rattle.xs_group.specs.declared.claim_rule.ClaimTime.TheVariants as time
+use Rattle.xs_group.specs.declared.claims.ClaimTime.TheVariants as time
 use Rattle.xs_resp.specs.declared.fault.Fault.TheVariants.{Syntax, NotInteger}
 use Rattle.xs_command.specs.declared.command.Command.{Command}
 use Rattle.xs_command.specs.declared.command.Command.TheVariants as command
@@ -21,7 +21,11 @@ no_options = record { limit = 100; just_id = false }
 -- { COUNT n, JUSTID }; the number is at least 1
 unfoldable pub auto_claim_option : OptionOf AutoClaimOptions
 auto_claim_option options name words =
-    if is_word (codes "count") name then taking (natural >>= λ n. or_fault (positive n) NotInteger >>= λ limit. value (record { limit = limit; just_id = options.just_id })) words
+    if is_word (codes "count") name
+    then taking (natural >>= λ n. or_fault (positive n) NotInteger >>= λ limit. value (record {
+      limit = limit;
+      just_id = options.just_id;
+    })) words
     else (if is_word (codes "justid") name then Ok (record { limit = options.limit; just_id = true }, Some words)
     else Ok (options, None))
 

@@ -1,7 +1,7 @@
 -- XCLAIM.
 use Rattle.std.specs.Prelude.{ℕ, true, false, codes, Some, None, Ok, Err, if◌then◌else◌}
-use Rattle.xs_group.specs.declared.claim_rule.ClaimTime.{ClaimTime}
-use Rattle.xs_group.specs.declared.claim_rule.ClaimTime.TheVariants as time
+use Rattle.xs_group.specs.declared.claims.ClaimTime.{ClaimTime}
+use Rattle.xs_group.specs.declared.claims.ClaimTime.TheVariants as time
 use Rattle.xs_group.specs.Claims.{Rule}
 use Rattle.xs_resp.specs.declared.fault.Fault.TheVariants.{Syntax, Unsupported}
 use Rattle.xs_command.specs.declared.command.Command.{Command}
@@ -26,7 +26,8 @@ abbrev pub with_time : Rule → ClaimTime → Rule
 with_time rule when = record { min_idle = rule.min_idle; when = when; retry = rule.retry; just_id = rule.just_id }
 
 abbrev pub with_retry : Rule → ℕ → Rule
-with_retry rule count = record { min_idle = rule.min_idle; when = rule.when; retry = Some count; just_id = rule.just_id }
+with_retry rule count =
+    record { min_idle = rule.min_idle; when = rule.when; retry = Some count; just_id = rule.just_id }
 
 abbrev pub with_just_id : Rule → Rule
 with_just_id rule = record { min_idle = rule.min_idle; when = rule.when; retry = rule.retry; just_id = true }
@@ -34,8 +35,10 @@ with_just_id rule = record { min_idle = rule.min_idle; when = rule.when; retry =
 -- { IDLE ms, TIME ms, RETRYCOUNT n, JUSTID }; the last of IDLE and TIME counts, and FORCE and LASTID aren't supported
 unfoldable pub claim_option : OptionOf Rule
 claim_option rule name words =
-    if is_word (codes "idle") name then taking (integer >>= λ idle. value (with_time rule (time.Idle (at_least_zero idle)))) words
-    else (if is_word (codes "time") name then taking (integer >>= λ millis. value (with_time rule (time_of millis))) words
+    if is_word (codes "idle") name
+    then taking (integer >>= λ idle. value (with_time rule (time.Idle (at_least_zero idle)))) words
+    else (if is_word (codes "time") name
+    then taking (integer >>= λ millis. value (with_time rule (time_of millis))) words
     else (if is_word (codes "retrycount") name then taking (natural >>= λ count. value (with_retry rule count)) words
     else (if is_word (codes "justid") name then Ok (with_just_id rule, Some words)
     else (if is_word (codes "force") name then Err Unsupported

@@ -1,5 +1,6 @@
 -- XGROUP.
-use Rattle.std.specs.Prelude.{ℕ, ◌+◌, true, false, List, [], ◌∷◌, length, codes, bytes_eq, find, Option, Some, None, Ok, Err, if◌then◌else◌}
+use Rattle.std.specs.Prelude.{ℕ, ◌+◌, true, false, List, [], ◌∷◌, length, codes, bytes_eq, find, Option, Some, None, Ok}
+use Rattle.std.specs.Prelude.{Err, if◌then◌else◌}
 use Rattle.std.specs.Option.{option_map}
 use Rattle.xs_stream.specs.IdText.{parse_id}
 use Rattle.xs_resp.specs.declared.fault.Fault.TheVariants.{UnknownCommand, Arity, Syntax, BadId, Unsupported}
@@ -12,18 +13,18 @@ use Rattle.xs_command.specs.declared.xgroup.Subcommand.TheVariants.{Create, Dest
 use Rattle.xs_command.specs.declared.xgroup.CreateOptions.{CreateOptions}
 use Rattle.xs_command.specs.Words.{Reading, Part, ◌>>=◌, or_fault, is_word, word}
 use Rattle.xs_command.specs.Options.{OptionOf, many}
-use Rattle.xs_command.specs.Name.{fits}
+use Rattle.xs_command.specs.CommandName.{fits}
 use Rattle.xs_command.specs.Syntax.{only}
 
 -- the id behind which a new group starts to read; `$` is the top of the stream, and a missing sequence is 0
-abbrev pub start_of : List ℕ → Option GroupStart
-start_of text = if bytes_eq text (codes "$") then Some Top else option_map At (parse_id text 0)
+abbrev pub start_in_word : List ℕ → Option GroupStart
+start_in_word text = if bytes_eq text (codes "$") then Some Top else option_map At (parse_id text 0)
 
 -- the next word, a group's start
 unfoldable pub group_start : Part GroupStart
 group_start = do
   w ← word
-  or_fault (start_of w) BadId
+  or_fault (start_in_word w) BadId
 
 -- { MKSTREAM }; ENTRIESREAD isn't supported
 unfoldable pub create_option : OptionOf CreateOptions

@@ -19,7 +19,14 @@ pending_rows key group min_idle = do
   high ← high
   count ← integer
   consumer ← optional
-  only (command.PendingRows (record { key = key; group = group; min_idle = min_idle; range = record { low = low; high = high }; limit = at_least_zero count; consumer = consumer })) Syntax
+  only (command.PendingRows (record {
+    key = key;
+    group = group;
+    min_idle = min_idle;
+    range = record { low = low; high = high };
+    limit = at_least_zero count;
+    consumer = consumer;
+  })) Syntax
 
 -- IDLE is behind us: ms low high count [consumer]
 unfoldable pub idle_rows : List ℕ → List ℕ → Reading Command

@@ -17,12 +17,19 @@ no_limit = record { limit = None }
 -- { COUNT n }; a number below 0 counts as 0
 unfoldable pub scan_option : OptionOf ScanOptions
 scan_option options name words =
-    if is_word (codes "count") name then taking (integer >>= λ count. value (record { limit = Some (at_least_zero count) })) words
+    if is_word (codes "count") name
+    then taking (integer >>= λ count. value (record { limit = Some (at_least_zero count) })) words
     else Ok (options, None)
 
 -- the command with these parts
 abbrev pub scan : List ℕ → Id → Id → ScanOptions → Bool → Command
-scan key low high options reversed = command.Scan (record { key = key; range = record { low = low; high = high }; limit = options.limit; reversed = reversed })
+scan key low high options reversed =
+    command.Scan (record {
+      key = key;
+      range = record { low = low; high = high };
+      limit = options.limit;
+      reversed = reversed;
+    })
 
 -- XRANGE key low high { COUNT n }
 unfoldable pub xrange : Reading Command

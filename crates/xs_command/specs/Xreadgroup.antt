@@ -6,7 +6,7 @@ use Rattle.xs_command.specs.declared.command.Command.{Command}
 use Rattle.xs_command.specs.declared.command.Command.TheVariants as command
 use Rattle.xs_command.specs.declared.integer.Integer.{Integer}
 use Rattle.xs_command.specs.declared.integer.Integer.TheVariants.{Negative, Natural}
-use Rattle.xs_command.specs.declared.reads.ReadOne.{ReadOne}
+use Rattle.xs_command.specs.declared.command.ReadOne.{ReadOne}
 use Rattle.xs_command.specs.declared.xreadgroup.Reader.{Reader}
 use Rattle.xs_command.specs.declared.xreadgroup.ReadOptions.{ReadOptions}
 use Rattle.xs_command.specs.Words.{Reading, Part, ◌>>=◌, value, is_word, word, integer, natural}
@@ -47,7 +47,14 @@ read_option options name words =
 
 -- the command with these streams
 abbrev pub read_group : Reader → ReadOptions → Result (List ReadOne) Fault → Result Command Fault
-read_group who options (Ok reads) = Ok (command.ReadGroup (record { group = who.group; consumer = who.consumer; limit = options.limit; noack = options.noack; reads = reads }))
+read_group who options (Ok reads) =
+    Ok (command.ReadGroup (record {
+      group = who.group;
+      consumer = who.consumer;
+      limit = options.limit;
+      noack = options.noack;
+      reads = reads;
+    }))
 read_group who options (Err fault) = Err fault
 
 -- behind STREAMS; a group has to be named before
@@ -57,7 +64,8 @@ behind_streams options (Some who) words = read_group who options (streams words)
 
 -- STREAMS key [key ..] from [from ..]
 abbrev pub streams_of : ReadOptions → List ℕ → Reading Command
-streams_of options name words = if is_word (codes "streams") name then behind_streams options options.reader words else Err Syntax
+streams_of options name words =
+    if is_word (codes "streams") name then behind_streams options options.reader words else Err Syntax
 
 -- XREADGROUP { GROUP group consumer, COUNT n, BLOCK ms, NOACK } STREAMS key [key ..] from [from ..]
 unfoldable pub xreadgroup : Reading Command

@@ -1,9 +1,8 @@
 //! The commands of the server. What each does is told on its page of the Redis documentation.
-use crate::names::Names;
-use crate::reads::Reads;
-use xs_bytes::Bytes;
+
+use xs_bytes::{Bytes, List};
 use xs_group::ClaimRule;
-use xs_stream::{AddId, Fields, Id, Ids, Range, Trim};
+use xs_stream::{AddId, Field, Id, Range, Trim};
 
 /// A command. Keys, names and values are byte strings, and may be empty.
 #[derive(Debug, Drop)]
@@ -17,7 +16,7 @@ pub enum Command {
     /// XDEL.
     Delete {
         key: Bytes,
-        ids: Ids,
+        ids: List<Id>,
     },
     /// XTRIM.
     TrimTo {
@@ -55,7 +54,7 @@ pub enum Command {
     Ack {
         key: Bytes,
         group: Bytes,
-        ids: Ids,
+        ids: List<Id>,
     },
     /// XPENDING, the short form.
     Pending {
@@ -70,7 +69,7 @@ pub enum Command {
     AutoClaim(AutoClaimCommand),
     /// DEL.
     DropKeys {
-        keys: Names,
+        keys: List<Bytes>,
     },
 }
 
@@ -86,7 +85,7 @@ pub struct AddCommand {
     /// The id that is asked for, never `0-0`.
     pub id: AddId,
     /// One field or more.
-    pub fields: Fields,
+    pub fields: List<Field>,
 }
 
 /// What XRANGE and XREVRANGE ask for.
@@ -124,6 +123,22 @@ pub struct GroupCreateCommand {
     pub make: bool,
 }
 
+/// From where a stream is read.
+#[derive(Clone, Copy, Debug, PartialEq, Eq)]
+pub enum ReadFrom {
+    /// `>`: the entries that the group hasn't delivered yet.
+    New,
+    /// The pending entries of the consumer above this id.
+    After(Id),
+}
+
+/// One stream of a read.
+#[derive(Debug, Drop)]
+pub struct ReadOne {
+    pub key: Bytes,
+    pub from: ReadFrom,
+}
+
 /// What XREADGROUP asks for.
 #[derive(Debug, Drop)]
 pub struct ReadGroupCommand {
@@ -136,7 +151,7 @@ pub struct ReadGroupCommand {
     /// What is delivered doesn't become pending.
     pub noack: bool,
     /// One stream or more, each once.
-    pub reads: Reads,
+    pub reads: List<ReadOne>,
 }
 
 /// What the long form of XPENDING asks for.
@@ -168,7 +183,7 @@ pub struct ClaimCommand {
     /// Which entries are taken, and what becomes of them.
     pub rule: ClaimRule,
     /// One id or more, as they were written, repeated ones included.
-    pub ids: Ids,
+    pub ids: List<Id>,
 }
 
 /// What XAUTOCLAIM asks for.

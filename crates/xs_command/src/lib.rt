@@ -2,24 +2,17 @@
 //! on the pages of the commands.
 #![tactic(auto)]
 
-mod add_id;
 pub mod command;
+mod command_name;
 mod del;
-mod distinct;
 pub mod examples;
-mod fields;
 mod integer;
-mod name;
-pub mod names;
 mod options;
-mod parts;
 mod ping;
 mod read;
-pub mod reads;
 pub mod refusal;
-mod streams;
-mod syntax;
 mod trim;
+mod word;
 mod words;
 mod xack;
 mod xadd;
@@ -35,11 +28,9 @@ mod xtrim;
 
 pub use command::{
     AddCommand, AutoClaimCommand, ClaimCommand, Command, GroupCreateCommand, GroupStart,
-    PendingRowsCommand, ReadGroupCommand, ScanCommand,
+    PendingRowsCommand, ReadFrom, ReadGroupCommand, ReadOne, ScanCommand,
 };
-pub use names::Names;
 pub use read::read_command;
-pub use reads::{ReadFrom, ReadOne, Reads};
 pub use refusal::Refusal;
 
 #[cfg(test)]

@@ -5,7 +5,8 @@ ghost use Rattle.xs_command.specs.Words.{Gives};
 ghost use Rattle.xs_command.specs.Options.{many};
 
 use crate::refusal::Refusal;
-use crate::words::{Word, Words};
+use crate::word::Word;
+use crate::words::Words;
 use std::alloc::Global;
 
 /// What the options of a command have said so far.

@@ -5,7 +5,7 @@ ghost use Rattle.xs_command.specs.WellFormed.{IsWellFormed};
 ghost use Rattle.xs_command.specs.Read.{reads, syntax};
 
 use crate::command::Command;
-use crate::name::{Name, allows};
+use crate::command_name::{CommandName, allows};
 use crate::refusal::Refusal;
 use crate::words::Words;
 use crate::{
@@ -32,7 +32,7 @@ fn read_words(alloc: Global, words: &Words<'_>) -> Result<Command, Refusal>
     ensures { Gives result (reads words.now) }
 {
     let (first, words) = words.word()?;
-    let Some(name) = Name::of(&first) else {
+    let Some(name) = CommandName::of(&first) else {
         return Err(Refusal::Said(Fault::UnknownCommand));
     };
     if !allows(name.counts(), words.len() + 1) {
@@ -43,24 +43,24 @@ fn read_words(alloc: Global, words: &Words<'_>) -> Result<Command, Refusal>
 
 /// The command of this name, whose further words these are.
 #[tactic(auto, unfolding(crate::specs::Ping::quit))]
-fn read_named(alloc: Global, name: Name, words: &Words<'_>) -> Result<Command, Refusal>
+fn read_named(alloc: Global, name: CommandName, words: &Words<'_>) -> Result<Command, Refusal>
     ensures { Gives result (syntax name words.now) }
 {
     match name {
-        Name::Ping => ping::read(alloc, words),
-        Name::Quit => Ok(Command::Quit),
-        Name::Xadd => xadd::read(alloc, words),
-        Name::Xdel => xdel::read(alloc, words),
-        Name::Xtrim => xtrim::read(alloc, words),
-        Name::Xlen => xlen::read(alloc, words),
-        Name::Xrange => xrange::read(alloc, words),
-        Name::Xrevrange => xrange::read_reversed(alloc, words),
-        Name::Xgroup => xgroup::read(alloc, words),
-        Name::Xreadgroup => xreadgroup::read(alloc, words),
-        Name::Xack => xack::read(alloc, words),
-        Name::Xpending => xpending::read(alloc, words),
-        Name::Xclaim => xclaim::read(alloc, words),
-        Name::Xautoclaim => xautoclaim::read(alloc, words),
-        Name::Del => del::read(alloc, words),
+        CommandName::Ping => ping::read(alloc, words),
+        CommandName::Quit => Ok(Command::Quit),
+        CommandName::Xadd => xadd::read(alloc, words),
+        CommandName::Xdel => xdel::read(alloc, words),
+        CommandName::Xtrim => xtrim::read(alloc, words),
+        CommandName::Xlen => xlen::read(alloc, words),
+        CommandName::Xrange => xrange::read(alloc, words),
+        CommandName::Xrevrange => xrange::read_reversed(alloc, words),
+        CommandName::Xgroup => xgroup::read(alloc, words),
+        CommandName::Xreadgroup => xreadgroup::read(alloc, words),
+        CommandName::Xack => xack::read(alloc, words),
+        CommandName::Xpending => xpending::read(alloc, words),
+        CommandName::Xclaim => xclaim::read(alloc, words),
+        CommandName::Xautoclaim => xautoclaim::read(alloc, words),
+        CommandName::Del => del::read(alloc, words),
     }
 }

@@ -5,7 +5,8 @@ ghost use Rattle.xs_command.specs.Trim.{max_len, min_id, first_trim, trim_option
 
 use crate::options::Options;
 use crate::refusal::Refusal;
-use crate::words::{Word, Words};
+use crate::word::Word;
+use crate::words::Words;
 use std::alloc::Global;
 use xs_resp::Fault;
 use xs_stream::Trim;

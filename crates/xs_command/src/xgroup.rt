@@ -1,13 +1,15 @@
 //! XGROUP.
 ghost use Rattle.std.specs.Prelude.{◌≡◌};
 ghost use Rattle.xs_command.specs.Words.{Gives};
-ghost use Rattle.xs_command.specs.Xgroup.{start_of, group_start, create, destroy, create_consumer, delete_consumer, subcommand_of, group_syntax, xgroup};
+ghost use Rattle.xs_command.specs.Xgroup.{start_in_word, group_start, create, destroy, create_consumer};
+ghost use Rattle.xs_command.specs.Xgroup.{delete_consumer, subcommand_of, group_syntax, xgroup};
 
 use crate::command::{Command, GroupCreateCommand, GroupStart};
-use crate::name::allows;
+use crate::command_name::allows;
 use crate::options::{Options, read_options};
 use crate::refusal::Refusal;
-use crate::words::{Word, Words};
+use crate::word::Word;
+use crate::words::Words;
 use std::alloc::Global;
 use xs_resp::Fault;
 use xs_stream::Id;
@@ -146,7 +148,7 @@ fn read_start<'a>(words: &Words<'a>) -> Result<(GroupStart, Words<'a>), Fault>
 
 /// `$`, or an id. A missing sequence is 0.
 fn parse_start(text: &[u8]) -> Option<GroupStart>
-    ensures { result ≡ start_of text.now }
+    ensures { result ≡ start_in_word text.now }
 {
     if text == b"$".as_slice() {
         return Some(GroupStart::Top);

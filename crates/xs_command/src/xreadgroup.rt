@@ -1,16 +1,20 @@
 //! XREADGROUP.
-ghost use Rattle.std.specs.Prelude.{◌≡◌};
+ghost use Rattle.std.specs.Prelude.{◌≡◌, IfOk};
 ghost use Rattle.xs_command.specs.Words.{Gives};
+ghost use Rattle.xs_command.specs.Streams.{is_distinct, from_of, read_from, each_from, streams};
 ghost use Rattle.xs_command.specs.Xreadgroup.{limit_of, reader, behind_streams, xreadgroup};
 
-use crate::command::{Command, ReadGroupCommand};
+use crate::command::{Command, ReadFrom, ReadGroupCommand, ReadOne};
 use crate::integer::Integer;
 use crate::options::{Options, read_options};
 use crate::refusal::Refusal;
-use crate::words::{Word, Words};
-use std::alloc::Global;
-use xs_bytes::Bytes;
+use crate::word::Word;
+use crate::words::Words;
+use std::alloc::{AllocError, Global};
+use std::collections::BTreeSet;
+use xs_bytes::{Bytes, List};
 use xs_resp::Fault;
+use xs_stream::Id;
 
 /// Who reads.
 #[derive(Debug, Drop)]
@@ -98,11 +102,11 @@ pub(crate) fn read(alloc: Global, words: &Words<'_>) -> Result<Command, Refusal>
     if !name.is(b"streams") {
         return Err(Refusal::Said(Fault::Syntax));
     }
-    read_streams(alloc, options, words)
+    read_command(alloc, options, words)
 }
 
 /// What stands behind STREAMS.
-fn read_streams(alloc: Global, options: ReadOptions, words: Words<'_>) -> Result<Command, Refusal>
+fn read_command(alloc: Global, options: ReadOptions, words: Words<'_>) -> Result<Command, Refusal>
     ensures { Gives result (behind_streams options options.reader words.entry) }
 {
     let ReadOptions {
@@ -113,7 +117,7 @@ fn read_streams(alloc: Global, options: ReadOptions, words: Words<'_>) -> Result
     let Some(Reader { group, consumer }) = reader else {
         return Err(Refusal::Said(Fault::Syntax));
     };
-    let reads = words.streams(alloc)?;
+    let reads = read_reads(alloc, &words)?;
     Ok(Command::ReadGroup(ReadGroupCommand {
         group,
         consumer,
@@ -121,4 +125,77 @@ fn read_streams(alloc: Global, options: ReadOptions, words: Words<'_>) -> Result
         noack,
         reads,
     }))
+}
+
+/// As many keys as starts, one or more, and no key twice.
+#[tactic(auto, unfolding(crate::specs::Streams::streams))]
+fn read_reads(alloc: Global, words: &Words<'_>) -> Result<List<ReadOne>, Refusal>
+    ensures { Gives result (streams words.now) }
+{
+    let count = words.len();
+    if count == 0 {
+        return Err(Refusal::Said(Fault::Syntax));
+    }
+    if count % 2 != 0 {
+        return Err(Refusal::Said(Fault::Syntax));
+    }
+    let (keys, starts) = words.split_at(count / 2);
+    if !is_distinct(alloc, keys.as_slice())? {
+        return Err(Refusal::Said(Fault::Unsupported));
+    }
+    each_from(alloc, keys, starts)
+}
+
+/// Whether no key stands there a second time. A single key needs no memory.
+fn is_distinct(alloc: Global, keys: &[Bytes]) -> Result<bool, AllocError>
+    ensures { IfOk result (λ answer. answer ≡ is_distinct keys.now) }
+{
+    if keys.len() < 2 {
+        return Ok(true);
+    }
+    let mut seen = BTreeSet::new(alloc);
+    for key in keys {
+        if !seen.insert(key.as_slice())? {
+            return Ok(false);
+        }
+    }
+    Ok(true)
+}
+
+/// Each of these keys with its start.
+fn each_from(alloc: Global, keys: Words<'_>, starts: Words<'_>) -> Result<List<ReadOne>, Refusal>
+    ensures { Gives result (each_from keys.entry starts.entry) }
+{
+    let mut items = Vec::with_capacity(alloc, keys.len())?;
+    let mut keys = keys;
+    let mut starts = starts;
+    for _key in 0..keys.len() {
+        let (key, more_keys) = keys.name(alloc)?;
+        let (from, more_starts) = read_from(&starts)?;
+        items.push(ReadOne { key, from })?;
+        keys = more_keys;
+        starts = more_starts;
+    }
+    Ok(List::new(items))
+}
+
+/// The next word, from where a stream is read.
+#[tactic(auto, unfolding(crate::specs::Streams::read_from))]
+fn read_from<'a>(words: &Words<'a>) -> Result<(ReadFrom, Words<'a>), Fault>
+    ensures { result ≡ read_from words.now }
+{
+    let (word, words) = words.word()?;
+    let from = parse_from(word.as_slice()).ok_or(Fault::BadId)?;
+    Ok((from, words))
+}
+
+/// `>`, or an id. A missing sequence is 0.
+fn parse_from(text: &[u8]) -> Option<ReadFrom>
+    ensures { result ≡ from_of text.now }
+{
+    if text == b">".as_slice() {
+        return Some(ReadFrom::New);
+    }
+    let id = Id::parse(text, 0)?;
+    Some(ReadFrom::After(id))
 }

@@ -23,7 +23,14 @@ pub record Caller : Type 0 where
 
 abbrev pub caller_of : ℕ → Producer Command Global Formed → Consumer Answer Global AnyItems → Caller
 caller_of lane calls answers =
-    record { lane = lane; submitted = sent calls; taken = received answers; calls = producer_ring calls; answers = consumer_ring answers; depth = producer_capacity calls }
+    record {
+      lane = lane;
+      submitted = sent calls;
+      taken = received answers;
+      calls = producer_ring calls;
+      answers = consumer_ring answers;
+      depth = producer_capacity calls;
+    }
 
 -- the two sides of one lane
 abbrev pub IsSide : LaneOf → Caller → Type 0

@@ -20,7 +20,9 @@ pub record SumsUp (lane : LaneOf) (end : Caller) (summary : LaneSummary) : Type 
 -- the summaries of the lanes up to lane k, each by an end of that lane
 pub record SumUp (lanes : List LaneOf) (ends : List Caller) (k : ℕ) (summaries : List LaneSummary) : Type 0 where
   pub count : length summaries ≡ k
-  pub each : (j : ℕ) (lane : LaneOf) (summary : LaneSummary) → slice_get lanes j ≡ Some lane → slice_get summaries j ≡ Some summary
+  pub each :
+      (j : ℕ) (lane : LaneOf) (summary : LaneSummary) → slice_get lanes j ≡ Some lane
+      → slice_get summaries j ≡ Some summary
       → (i : ℕ) × (end : Caller) × (slice_get ends i ≡ Some end) × (end.lane ≡ j) × SumsUp lane end summary
 
 -- as many answers as calls

@@ -13,7 +13,12 @@ use Rattle.xs_desk.specs.Rings.{producer_ring, consumer_ring}
 
 abbrev pub lane_of : Seat → LaneOf
 lane_of seat =
-    record { popped = received seat.calls; sent = sent seat.answers; calls = consumer_ring seat.calls; answers = producer_ring seat.answers }
+    record {
+      popped = received seat.calls;
+      sent = sent seat.answers;
+      calls = consumer_ring seat.calls;
+      answers = producer_ring seat.answers;
+    }
 
 abbrev pub desk_of : List Seat → Content → ℕ → Desk
 desk_of seats keyspace place = record { lanes = map lane_of seats; keyspace = keyspace; place = place }
@@ -32,7 +37,8 @@ scene seat keyspace place clock = record { lane = lane_of seat; keyspace = keysp
 pub record Answers {C : Type 0} (gives : C → ℕ → C → Type 0) (old new : Scene C) : Type 0 where
   pub command : Command
   pub answer : Answer
-  pub lane_is : new.lane ≡ record old.lane { popped = old.lane.popped ++ command ∷ []; sent = old.lane.sent ++ answer ∷ [] }
+  pub lane_is :
+      new.lane ≡ record old.lane { popped = old.lane.popped ++ command ∷ []; sent = old.lane.sent ++ answer ∷ [] }
   pub ticket_is : answer.ticket ≡ length old.lane.sent
   pub place_is : answer.place ≡ old.place
   pub next_is : new.place ≡ old.place + 1

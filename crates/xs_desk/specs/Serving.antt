@@ -27,7 +27,8 @@ ServesAll old (call ∷ calls) new = (mid : Desk) × Serves old call mid × Serv
 -- the clock gave the moments of these calls, and no others
 abbrev pub TellsMoments : {C : Type 0} → (C → ℕ → C → Type 0) → C → List ServedCall → C → Type 0
 TellsMoments gives old [] new = new ≡ old
-TellsMoments gives old (call ∷ calls) new = (mid : _) × gives old call.answer.moment mid × TellsMoments gives mid calls new
+TellsMoments gives old (call ∷ calls) new =
+    (mid : _) × gives old call.answer.moment mid × TellsMoments gives mid calls new
 
 -- their lanes ascend, from `low` on and below `high`
 abbrev pub LanesAscend : ℕ → List ServedCall → ℕ → Type 0
@@ -36,7 +37,9 @@ LanesAscend low (call ∷ calls) high = (low ≤ call.lane) × LanesAscend (call
 
 -- so many calls were served, at most one of each lane below `high`, in the order of the lanes, and the clock was
 -- asked once for each
-pub record Turns {C : Type 0} (gives : C → ℕ → C → Type 0) (old : Desk) (clock : C) (count high : ℕ) (new : Desk) (later : C) : Type 0 where
+pub record Turns
+    {C : Type 0} (gives : C → ℕ → C → Type 0) (old : Desk) (clock : C) (count high : ℕ) (new : Desk) (later : C)
+    : Type 0 where
   pub calls : List ServedCall
   pub served : ServesAll old calls new
   pub in_order : LanesAscend 0 calls high

@@ -9,6 +9,7 @@ use std::marker::Model;
 use std::sync::atomic::{AtomicBool, Ordering};
 use std::sync::{Arc, Wait};
 use xs_command::Command;
+use xs_stream::Moment;
 
 /// There is no free place for the command, or no further ticket. It hands the command back.
 #[derive(Debug, Drop)]
@@ -153,6 +154,13 @@ impl Client {
     {
         self.sleeper.found();
         self.bell.ring();
+    }
+
+    /// An answer was taken that was applied at this moment.
+    pub(crate) fn answered_at(&mut self, moment: Moment)
+        ensures { self.new ≡ self.old }
+    {
+        self.sleeper.pace().call_at(moment);
     }
 
     /// Waits where the look has found nothing. The keeper is told first: a place may have come free for it.

@@ -1,5 +1,6 @@
 //! Closing a desk.
-ghost use Rattle.std.specs.Prelude.{◌≡◌, ℕ, ◌<◌, ◌≤◌, [], List, length, map, IfOk, IfErr, IfSome, IfNone, IsTrue, IsFalse, slice_get, Some, vec_capacity};
+ghost use Rattle.std.specs.Prelude.{◌≡◌, ℕ, ◌<◌, ◌≤◌, [], List, length, map, IfOk, IfErr, IfSome, IfNone, IsTrue};
+ghost use Rattle.std.specs.Prelude.{IsFalse, slice_get, Some, vec_capacity};
 ghost use Rattle.xs_bytes.specs.SortedMap.{empty};
 ghost use Rattle.xs_keys.specs.Headline.{RunsOn};
 ghost use Rattle.xs_desk.specs.History.{ServedCall, IsHistory, events_of, replies_of};
@@ -24,7 +25,8 @@ pub enum CloseError {
 
 /// Where the first end of the lane stands.
 fn end_of(ended: &Vec<Ended>, lane: usize) -> Option<usize>
-    ensures found { IfSome result (λ i. (i < length ended.now.items) × ((end : Caller) × (slice_get ended.now.items i ≡ Some end) × (end.lane ≡ lane))) }
+    ensures found { IfSome result (λ i. (i < length ended.now.items)
+        × ((end : Caller) × (slice_get ended.now.items i ≡ Some end) × (end.lane ≡ lane))) }
     ensures none { IfNone result (HasEnd ended.now.items lane → ⊥) }
 {
     for i in 0..ended.len() {
@@ -86,8 +88,8 @@ fn sum_up_all(seats: &mut Vec<Seat>, ended: &mut Vec<Ended>, lanes: &mut Vec<Lan
     }
 }
 
-/// Closes a desk whose clients have finished. Each end is one of the desk's: its rings are those of the keeper's lane of
-/// its number.
+/// Closes a desk whose clients have finished. Each end is one of the desk's: its rings are those of the keeper's lane
+/// of its number.
 ///
 /// # Errors
 /// A `CloseError`.

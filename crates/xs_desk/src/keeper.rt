@@ -42,7 +42,8 @@ impl Model for Keeper {
 
     ghost view = { λ k. desk_of k.seats.items k.keyspace k.place };
 
-    ghost invariant = { λ k. (history : List ServedCall) × IsHistory history (desk_of k.seats.items k.keyspace k.place) };
+    ghost invariant = { λ k. (history : List ServedCall)
+        × IsHistory history (desk_of k.seats.items k.keyspace k.place) };
 }
 
 impl Drop for Keeper {
@@ -89,8 +90,11 @@ fn serve_each<C: Clock>(
 ) -> Result<u64, KeeperError>
     requires { HasPlaces (desk_of seats.old.items keyspace.old place.old) }
     ensures { MatchResult result
-        (λ n. Turns C.gives (desk_of seats.old.items keyspace.old place.old) clock.old n (length seats.old.items) (desk_of seats.new.items keyspace.new place.new) clock.new)
-        (λ _. (n : ℕ) × Turns C.gives (desk_of seats.old.items keyspace.old place.old) clock.old n (length seats.old.items) (desk_of seats.new.items keyspace.new place.new) clock.new × (place.new + 1 ≡ 2 ^ 64)) }
+        (λ n. Turns C.gives (desk_of seats.old.items keyspace.old place.old) clock.old n (length seats.old.items)
+        (desk_of seats.new.items keyspace.new place.new) clock.new)
+        (λ _. (n : ℕ)
+        × Turns C.gives (desk_of seats.old.items keyspace.old place.old) clock.old n (length seats.old.items)
+        (desk_of seats.new.items keyspace.new place.new) clock.new × (place.new + 1 ≡ 2 ^ 64)) }
 {
     let mut served = 0;
     for k in 0..seats.len() {
@@ -146,7 +150,8 @@ impl Keeper {
     pub fn turn<C: Clock>(&mut self, clock: &mut C) -> Result<u64, KeeperError>
         ensures served { MatchResult result
             (λ n. Turns C.gives self.old clock.old n (length self.old.lanes) self.new clock.new)
-            (λ _. (n : ℕ) × Turns C.gives self.old clock.old n (length self.old.lanes) self.new clock.new × (self.new.place + 1 ≡ 2 ^ 64)) }
+            (λ _. (n : ℕ) × Turns C.gives self.old clock.old n (length self.old.lanes) self.new clock.new
+            × (self.new.place + 1 ≡ 2 ^ 64)) }
         ensures rings { KeepsRings self.old self.new }
     {
         self.sleeper.begin_look();

@@ -77,13 +77,15 @@ fn submit<R: Wait>(rt: &R, client: &mut Client, command: Command) -> Result<u64,
 /// Takes answers up to the one with the ticket, and waits for it.
 #[tactic(auto, using(crate::proofs::Askings::takes_none, crate::proofs::Askings::takes_more, crate::proofs::Askings::takes_last, crate::proofs::Askings::takes_submits, crate::proofs::Askings::takes_same))]
 fn receive<R: Wait>(rt: &R, client: &mut Client, ticket: u64) -> Result<Reply, PortFault>
-    ensures { MatchResult result (λ reply. Receives client.old ticket reply client.new) (λ _. Takes client.old client.new) }
+    ensures { MatchResult result (λ reply. Receives client.old ticket reply client.new)
+        (λ _. Takes client.old client.new) }
 {
     for _ in rt.forever() {
         let gone = client.begin_look();
         match client.take() {
             Some(answer) => {
                 if answer.ticket == ticket {
+                    client.answered_at(answer.moment);
                     client.found();
                     return Ok(answer.reply);
                 }
@@ -101,7 +103,8 @@ fn receive<R: Wait>(rt: &R, client: &mut Client, ticket: u64) -> Result<Reply, P
 
 fn ask_of<R: Wait>(rt: &R, client: &mut Client, command: Command) -> Result<Reply, PortFault>
     requires { IsWellFormed command }
-    ensures { MatchResult result (λ reply. Asks client.old command reply client.new) (λ _. Fails client.old command client.new) }
+    ensures { MatchResult result (λ reply. Asks client.old command reply client.new)
+        (λ _. Fails client.old command client.new) }
 {
     let ticket = submit(rt, client, command)?;
     receive(rt, client, ticket)

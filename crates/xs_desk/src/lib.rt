@@ -10,6 +10,7 @@ pub mod keeper;
 pub mod lane;
 pub mod laws;
 pub mod opening;
+mod pace;
 pub mod port;
 mod seat;
 pub mod summary;

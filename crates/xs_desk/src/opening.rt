@@ -56,6 +56,7 @@ fn open_lane(
         answers,
         ticket: 0,
         bell,
+        pace: Arc::try_clone(keeper.pace())?,
     };
     let gone = Arc::try_clone(gone)?;
     let client = Client::new(lane, to_keeper, from_keeper, sleeper, keeper.bell()?, gone);
@@ -84,7 +85,8 @@ fn open_lanes(
 
 #[tactic(auto, using(crate::proofs::Openings::new_history))]
 fn open_desk(alloc: Global, count: usize, depth: usize) -> Result<(Keeper, Vec<Client>), AllocError>
-    ensures { IfOk result (λ r. AreNew 0 depth r.0.lanes r.1.items × (length r.0.lanes ≡ count) × (r.0.keyspace ≡ empty) × (r.0.place ≡ 0)) }
+    ensures { IfOk result (λ r. AreNew 0 depth r.0.lanes r.1.items × (length r.0.lanes ≡ count) × (r.0.keyspace ≡ empty)
+        × (r.0.place ≡ 0)) }
 {
     let sleeper = Sleeper::new(alloc)?;
     let gone = Arc::new(alloc, AtomicBool::new(false))?;
@@ -101,7 +103,8 @@ fn open_desk(alloc: Global, count: usize, depth: usize) -> Result<(Keeper, Vec<C
 /// # Errors
 /// A `DeskError`.
 pub fn desk(alloc: Global, n: usize, depth: usize) -> Result<(Keeper, Vec<Client>), DeskError>
-    ensures new { IfOk result (λ r. AreNew 0 depth r.0.lanes r.1.items × (length r.0.lanes ≡ n) × (r.0.keyspace ≡ empty) × (r.0.place ≡ 0)) }
+    ensures new { IfOk result
+        (λ r. AreNew 0 depth r.0.lanes r.1.items × (length r.0.lanes ≡ n) × (r.0.keyspace ≡ empty) × (r.0.place ≡ 0)) }
     ensures cause { MatchResult result (λ _. IsLaneCount n × IsDepth depth) (IsDeskError n depth) }
 {
     if n == 0 || n > MAX_LANES {

@@ -3,9 +3,11 @@ ghost use Rattle.std.specs.Prelude.{◌≡◌, ◌+◌, ◌^◌, ◌≤◌, Some
 ghost use Rattle.rtrb.specs.Ring.{sent};
 
 use crate::answer::{Answer, Formed};
+use crate::pace::Pace;
 use crate::waiting::Bell;
 use rtrb::{Consumer, Producer};
 use std::alloc::Global;
+use std::sync::Arc;
 use xs_command::Command;
 use xs_keys::{Clock, Keyspace};
 
@@ -17,6 +19,8 @@ pub(crate) struct Seat {
     pub ticket: u64,
     // Wakes the client of the lane.
     pub bell: Bell,
+    // The keeper's.
+    pub pace: Arc<Pace>,
     ghost counted: { ticket ≡ length (sent answers) },
 }
 
@@ -46,7 +50,8 @@ impl Seat {
         clock: &mut C,
     ) -> Look
         requires { length (sent self.old.answers) ≤ place.old }
-        ensures { Looks C.gives result (scene self.old keyspace.old place.old clock.old) (scene self.new keyspace.new place.new clock.new) }
+        ensures { Looks C.gives result (scene self.old keyspace.old place.old clock.old)
+            (scene self.new keyspace.new place.new clock.new) }
     {
         if self.answers.is_full() || self.calls.is_empty() {
             return Look::Idle;
@@ -65,6 +70,7 @@ impl Seat {
         });
         self.ticket += 1;
         *place = next;
+        self.pace.call_at(moment);
         self.bell.ring();
         Look::Served
     }

@@ -6,6 +6,8 @@ mod at_random;
 mod commands;
 mod gone;
 mod lines;
+mod older;
+mod one_run;
 mod one_thread;
 mod parking;
 mod reading_by_turns;

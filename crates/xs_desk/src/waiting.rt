@@ -1,12 +1,17 @@
 //! How a lane and its keeper wait for each other. No promise rests on it.
 //!
-//! A side that finds nothing looks again, at first at once, then after it has yielded the processor, and then it parks.
-//! Before the look after which it may park it says that it sleeps, and the other side gives its token only then.
-//! No token is lost, since all loads and stores have one order: the sleeper stores the flag, looks, and parks; the other
+//! A side that finds nothing looks again at once, then, where calls follow fast, after yielding the processor, and then
+//! it parks. A yield lets the other side run that waits for the same processor. But where other work fills all
+//! processors, a side that has yielded gets its own back only when that work's turn is over, milliseconds later: then
+//! calls don't follow fast any more, and the side parks without a yield until they have done so for a while.
+//!
+//! Before the look after which it may park it says that it sleeps, and the other side gives its token only then. No
+//! token is lost, since all loads and stores have one order: the sleeper stores the flag, looks, and parks; the other
 //! side pushes or takes something, and loads the flag. Where the look came before the push, so did the store, and the
 //! load finds the flag set: the token is given, and ends the park, even one that begins later. Where the look came
 //! after the push, it has found what was pushed. A token that nobody needed ends one park too early, after which the
 //! sleeper looks again.
+use crate::pace::Pace;
 use crossbeam_utils::sync::{Parker, Unparker};
 use std::alloc::{AllocError, Global};
 use std::sync::atomic::{AtomicBool, Ordering};
@@ -16,7 +21,7 @@ use std::{hint, thread};
 /// How many looks that find nothing are made one right after the other.
 const SPINS: u32 = 20;
 
-/// How many more are made, each after the processor was yielded.
+/// How many more are made where calls follow fast, each after the processor was yielded.
 const YIELDS: u32 = 10;
 
 /// The look after which a side parks, where it finds nothing.
@@ -29,6 +34,7 @@ pub(crate) struct Sleeper {
     looks: u32,
     sleeps: Arc<AtomicBool>,
     parker: Parker,
+    pace: Arc<Pace>,
 }
 
 /// What wakes the other side.
@@ -42,10 +48,12 @@ impl Sleeper {
     pub fn new(alloc: Global) -> Result<Sleeper, AllocError> {
         let sleeps = Arc::new(alloc, AtomicBool::new(false))?;
         let parker = Parker::new(alloc)?;
+        let pace = Arc::new(alloc, Pace::new())?;
         Ok(Sleeper {
             looks: 0,
             sleeps,
             parker,
+            pace,
         })
     }
 
@@ -55,10 +63,18 @@ impl Sleeper {
         Ok(Bell { sleeps, unparker })
     }
 
+    /// What is told of the calls that this side waits for.
+    pub fn pace(&self) -> &Arc<Pace> {
+        &self.pace
+    }
+
     /// Begins a look. It stands before the look itself.
     pub fn begin_look(&mut self) {
         if self.looks < LAST_LOOK {
             self.looks += 1;
+        }
+        if self.looks > SPINS && !self.pace.is_swift() {
+            self.looks = LAST_LOOK;
         }
         if self.looks == LAST_LOOK {
             self.sleeps.store(true, Ordering::SeqCst);

@@ -11,7 +11,7 @@ use Rattle.xs_stream.specs.declared.id.Id.{Id}
 use Rattle.xs_stream.specs.Id.{id_cmp, is_same}
 use Rattle.xs_stream.proofs.Order.{is_same-eq, is_same-symm}
 use Rattle.xs_group.specs.State.{Row, Rows, Names, is_name, with_name, has_name}
-use Rattle.xs_group.specs.Held.{rows_of, Held, Owners, names_of, ids_at, has_among, holds, is_owner, row_in, IsAgreed}
+use Rattle.xs_group.specs.Indexes.{rows_of, PendingList, ConsumerIndex, names_of, ids_at, has_among, holds, is_owner, indexed_row, IsAgreed}
 use Rattle.xs_group.proofs.ByConsumer.{Index, is_name-eq, is_name-symm}
 use Rattle.xs_group.proofs.Views.{RowMap, has_name-names_of, same_names, names-same, get-rows_of}
 
@@ -24,7 +24,7 @@ agreed-joined rows m n name s agreed none nothing u q x = by (is_name name q) re
   gone None e = refl
   gone (Some y) e = cc
 
-  by : (t : Bool) → is_name name q ≡ t → holds n.entries q x ≡ is_owner (row_in rows x) q
+  by : (t : Bool) → is_name name q ≡ t → holds n.entries q x ≡ is_owner (indexed_row rows x) q
   by true t = ap (λ o. has_among o x) (u.0 q ∙ ap (λ b. cond b (Some s) (ids_at m.entries q)) t) ∙ ap (λ ks. list_any (is_same x) ks) nothing
       ∙ sym (gone (ids_at m.entries q) (ap (λ k. is_some (ids_at m.entries k)) (sym (is_name-eq name q t)) ∙ none)) ∙ agreed q x
   by false t = ap (λ o. has_among o x) (u.2 q t) ∙ agreed q x
@@ -52,7 +52,7 @@ name-again names name there = same_names _ _ (λ q. has_name-with_name names nam
 
 -- ---- a row less
 
-pub agreed-taken : (m n : RowMap) (a b : Owners) (id : Id) (row : Row) → IsAgreed m.entries a → row_in m.entries id ≡ Some row
+pub agreed-taken : (m n : RowMap) (a b : ConsumerIndex) (id : Id) (row : Row) → IsAgreed m.entries a → indexed_row m.entries id ≡ Some row
     → ((q : List ℕ) → (x : Id) → holds b q x ≡ (holds a q x && not (is_name q row.consumer && is_same x id)))
     → UpdatesBy id_cmp (id_cmp id) m n None → IsAgreed n.entries b
 agreed-taken m n a b id row agreed found h u q x = h q x ∙ by (is_same id x) refl where
@@ -65,29 +65,29 @@ agreed-taken m n a b id row agreed found h u q x = h q x ∙ by (is_same id x) r
   nothing true = refl
   nothing false = refl
 
-  by : (t : Bool) → is_same id x ≡ t → (holds a q x && not (is_name q row.consumer && is_same x id)) ≡ is_owner (row_in n.entries x) q
+  by : (t : Bool) → is_same id x ≡ t → (holds a q x && not (is_name q row.consumer && is_same x id)) ≡ is_owner (indexed_row n.entries x) q
   by true t =
-      let mine : holds a q x ≡ is_name q row.consumer = agreed q x ∙ ap (λ o. is_owner o q) (ap (row_in m.entries) (sym (is_same-eq id x t)) ∙ found) ∙ is_name-symm row.consumer q in
+      let mine : holds a q x ≡ is_name q row.consumer = agreed q x ∙ ap (λ o. is_owner o q) (ap (indexed_row m.entries) (sym (is_same-eq id x t)) ∙ found) ∙ is_name-symm row.consumer q in
       ap (λ c. c && not (is_name q row.consumer && is_same x id)) mine ∙ ap (λ c. is_name q row.consumer && not (is_name q row.consumer && c)) (is_same-symm x id ∙ t)
-      ∙ nothing (is_name q row.consumer) ∙ sym (ap (λ o. is_owner o q) (u.0 x ∙ ap (λ c. cond c None (row_in m.entries x)) t))
+      ∙ nothing (is_name q row.consumer) ∙ sym (ap (λ o. is_owner o q) (u.0 x ∙ ap (λ c. cond c None (indexed_row m.entries x)) t))
   by false t = ap (λ c. holds a q x && not (is_name q row.consumer && c)) (is_same-symm x id ∙ t) ∙ undone (holds a q x) (is_name q row.consumer) ∙ agreed q x ∙ sym (ap (λ o. is_owner o q) (u.2 x t))
 
 -- ---- what callers know of a row
 
-pub none-from_free : (rows : List (Id × Row)) (id : Id) → has_key (rows_of rows) id ≡ false → row_in rows id ≡ None
-none-from_free rows id e = by (row_in rows id) (ap is_some (sym (get-rows_of rows id)) ∙ e) where
+pub none-from_free : (rows : List (Id × Row)) (id : Id) → has_key (rows_of rows) id ≡ false → indexed_row rows id ≡ None
+none-from_free rows id e = by (indexed_row rows id) (ap is_some (sym (get-rows_of rows id)) ∙ e) where
   by : (o : Option Row) → is_some o ≡ false → o ≡ None
   by None e = refl
   by (Some x) e = cc
 
-pub held-again : (held : Held) (name : List ℕ) → has_name held.consumers name ≡ true → held ≡ record { consumers = with_name held.consumers name; rows = held.rows }
+pub held-again : (held : PendingList) (name : List ℕ) → has_name held.consumers name ≡ true → held ≡ record { consumers = with_name held.consumers name; rows = held.rows }
 held-again held name there = ap (λ names. record { consumers = names; rows = held.rows }) (sym (name-again held.consumers name there))
 
-pub held-by : (a b : Names) (p q : Rows) → a ≡ b → p ≡ q → ◌≡◌ {A = Held} (record { consumers = a; rows = p }) (record { consumers = b; rows = q })
+pub held-by : (a b : Names) (p q : Rows) → a ≡ b → p ≡ q → ◌≡◌ {A = PendingList} (record { consumers = a; rows = p }) (record { consumers = b; rows = q })
 held-by a b p q e f = λ i. record { consumers = e i; rows = f i }
 
 -- where the same consumers are left, and the same rows
-pub refused-as : {T E : Type 0} (r : Result T E) (a b : Owners) (rows : Rows) (held : Held) → ((q : List ℕ) → is_some (ids_at a q) ≡ is_some (ids_at b q))
-    → ◌≡◌ {A = Held} (record { consumers = names_of b; rows = rows }) held → OnErr r (◌≡◌ {A = Held} (record { consumers = names_of a; rows = rows }) held)
+pub refused-as : {T E : Type 0} (r : Result T E) (a b : ConsumerIndex) (rows : Rows) (held : PendingList) → ((q : List ℕ) → is_some (ids_at a q) ≡ is_some (ids_at b q))
+    → ◌≡◌ {A = PendingList} (record { consumers = names_of b; rows = rows }) held → OnErr r (◌≡◌ {A = PendingList} (record { consumers = names_of a; rows = rows }) held)
 refused-as (Ok x) a b rows held names is = tt
 refused-as (Err e) a b rows held names is = held-by (names_of a) (names_of b) rows rows (names-same a b names) (λ i. rows) ∙ is

@@ -14,7 +14,7 @@ use Rattle.xs_stream.specs.declared.id.Id.{Id}
 use Rattle.xs_stream.specs.Id.{id_cmp, is_same, has_id}
 use Rattle.xs_stream.proofs.Order.{equal-from, is_same-symm}
 use Rattle.xs_group.specs.State.{is_name}
-use Rattle.xs_group.specs.Held.{ids_at, has_among, holds}
+use Rattle.xs_group.specs.Indexes.{ids_at, has_among, holds}
 
 pub is_name-eq : (a b : List ℕ) → is_name a b ≡ true → a ≡ b
 is_name-eq a b e = exact_bytes a b (equal-from _ e)

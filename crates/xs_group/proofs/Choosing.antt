@@ -5,8 +5,8 @@ use Rattle.std.proofs.Math.Bool.{or-false}
 use Rattle.xs_bytes.specs.SortedMap.{get}
 use Rattle.xs_stream.specs.declared.id.Id.{Id}
 use Rattle.xs_stream.specs.Id.{is_same, has_id}
-use Rattle.xs_group.specs.declared.verdict.Verdict.{Verdict}
-use Rattle.xs_group.specs.declared.verdict.Verdict.TheVariants.{Passed, Taken, Removed}
+use Rattle.xs_group.specs.declared.claims.Verdict.{Verdict}
+use Rattle.xs_group.specs.declared.claims.Verdict.TheVariants.{Passed, Taken, Removed}
 use Rattle.xs_group.specs.Claims.{Rule, row_at, is_idle, is_taken, is_removed, is_hit, firsts}
 use Rattle.xs_group.specs.State.{Row, Rows}
 use Rattle.xs_group.specs.Verdict.{is_taken_by, is_removed_by, verdict_of, with_taken, with_removed, hits_of}

@@ -7,9 +7,9 @@ use Rattle.xs_stream.specs.Id.{is_same, is_below, has_id}
 use Rattle.xs_stream.specs.Kept.{AllAbove, Ascends, limited}
 use Rattle.xs_stream.proofs.Order.{is_same-eq, below-not_back, below-irrefl, not_above-trans}
 use Rattle.xs_group.specs.State.{Row, Rows, last_of, with_rows}
-use Rattle.xs_group.specs.Held.{AreFree}
+use Rattle.xs_group.specs.Indexes.{AreFree}
 use Rattle.xs_group.specs.Lawful.{IsUpTo}
-use Rattle.xs_group.proofs.Putting.{get-with_rows}
+use Rattle.xs_group.proofs.NewRows.{get-with_rows}
 
 pub above-has : (c : Id) (ids : List Id) → AllAbove c ids → (x : Id) → has_id ids x ≡ true → is_below c x ≡ true
 above-has c [] a x e = absurd (false≢true e)

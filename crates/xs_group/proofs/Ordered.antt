@@ -15,7 +15,7 @@ use Rattle.xs_stream.specs.declared.id.Id.{Id}
 use Rattle.xs_stream.specs.Id.{id_cmp, is_same, has_id}
 use Rattle.xs_stream.proofs.Order.{same_id, is_same-eq}
 use Rattle.xs_group.specs.State.{Row, Rows, ids_total, is_name, owned}
-use Rattle.xs_group.specs.Held.{rows_of, is_owner}
+use Rattle.xs_group.specs.Indexes.{rows_of, is_owner}
 use Rattle.xs_group.proofs.Views.{RowMap}
 
 pub both : (a b : Bool) → T a → T b → T (a && b)

@@ -10,8 +10,8 @@ use Rattle.std.specs.declared.cmp.Ordering.TheVariants.{Less, Equal, Greater}
 use Rattle.xs_stream.specs.declared.id.Id.{Id}
 use Rattle.xs_stream.specs.Id.{id_cmp, is_below}
 use Rattle.xs_stream.proofs.Order.{is_same-symm, is_same-refl, le-not_below}
-use Rattle.xs_group.specs.declared.claim.Scan.{Scan}
-use Rattle.xs_group.specs.declared.verdict.Verdict.{Verdict}
+use Rattle.xs_group.specs.declared.claims.Scan.{Scan}
+use Rattle.xs_group.specs.declared.claims.Verdict.{Verdict}
 use Rattle.xs_group.specs.Claims.{Rule, row_at, is_taken, is_removed, is_hit, from_start, prefixes, first_where, scanned, first_or_zero, scan_of}
 use Rattle.xs_group.specs.State.{Row}
 use Rattle.xs_group.specs.Verdict.{is_taken_by, is_removed_by, with_taken, with_removed, scanned_after}

@@ -9,14 +9,14 @@ use Rattle.xs_bytes.specs.SortedMap.{get, change}
 use Rattle.xs_stream.specs.declared.id.Id.{Id}
 use Rattle.xs_stream.specs.Id.{id_cmp, is_same, is_below, has_id}
 use Rattle.xs_stream.proofs.Order.{is_same-symm}
-use Rattle.xs_group.specs.declared.claim.Claim.{Claim}
+use Rattle.xs_group.specs.declared.claims.Claim.{Claim}
 use Rattle.xs_group.specs.Claims.{Rule, is_taken, is_hit, firsts, from_start, scanned, claimed, claimed_row}
 use Rattle.xs_group.specs.State.{Row, Rows, State, unless_acked}
-use Rattle.xs_group.specs.Held.{rows_of, row_in}
+use Rattle.xs_group.specs.Indexes.{rows_of, indexed_row}
 use Rattle.xs_group.specs.Verdict.{moved, scanned_after, AreApart, IsClaimOn}
 use Rattle.xs_group.proofs.Ordered.{first, second}
 use Rattle.xs_group.proofs.Views.{same_rows, get-rows_of}
-use Rattle.xs_group.proofs.Leaving.{get-changed}
+use Rattle.xs_group.proofs.RemovedRows.{get-changed}
 use Rattle.xs_group.proofs.Scanning.{scanned-after}
 
 -- ---- no id is taken twice
@@ -105,6 +105,6 @@ rows-settled name now rule claim rows = same_rows _ _ (λ q. get-changed (unless
       by false false (Some row) = refl
 
 pub rows-moved : (a b : List (Id × Row)) (name : List ℕ) (now : ℕ) (rule : Rule) (ids : List Id)
-    → ((x : Id) → row_in b x ≡ option_and_then (moved name now rule ids x) (row_in a x)) → rows_of b ≡ change (moved name now rule ids) (rows_of a)
+    → ((x : Id) → indexed_row b x ≡ option_and_then (moved name now rule ids x) (indexed_row a x)) → rows_of b ≡ change (moved name now rule ids) (rows_of a)
 rows-moved a b name now rule ids is = same_rows _ _ (λ q. get-rows_of b q ∙ is q ∙ ap (option_and_then (moved name now rule ids q)) (sym (get-rows_of a q))
     ∙ sym (get-changed (moved name now rule ids) (rows_of a) q))

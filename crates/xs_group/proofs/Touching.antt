@@ -8,10 +8,10 @@ use Rattle.xs_stream.proofs.Order.{is_same-eq, is_same-symm}
 use Rattle.xs_group.specs.declared.delivery.Touch.{Touch}
 use Rattle.xs_group.specs.declared.delivery.DeliveryRow.{DeliveryRow}
 use Rattle.xs_group.specs.State.{Row, Rows, again, reread}
-use Rattle.xs_group.specs.Held.{rows_of, Owners, is_owner, row_in, IsAgreed}
+use Rattle.xs_group.specs.Indexes.{rows_of, ConsumerIndex, is_owner, indexed_row, IsAgreed}
 use Rattle.xs_group.specs.Delivered.{touch_of, shown_row, shown_rows, touch_set, with_touch, touched_at, set_one, set_rows, row_ids}
 use Rattle.xs_group.proofs.Views.{RowMap, get-rows_of, same_rows}
-use Rattle.xs_group.proofs.Leaving.{get-changed, change-nothing}
+use Rattle.xs_group.proofs.RemovedRows.{get-changed, change-nothing}
 
 -- ---- one row
 
@@ -20,18 +20,18 @@ touched None row = row
 touched (Some touch) None = None
 touched (Some touch) (Some row) = Some (with_touch touch row)
 
-pub rows-touched : (m n : RowMap) (id : Id) (touch : Touch) (row : Row) → row_in m.entries id ≡ Some row → UpdatesBy id_cmp (id_cmp id) m n (Some (with_touch touch row))
+pub rows-touched : (m n : RowMap) (id : Id) (touch : Touch) (row : Row) → indexed_row m.entries id ≡ Some row → UpdatesBy id_cmp (id_cmp id) m n (Some (with_touch touch row))
     → rows_of n.entries ≡ set_one id (Some touch) (rows_of m.entries)
 rows-touched m n id touch row found u = same_rows _ _ (λ q. get-rows_of n.entries q ∙ by q (is_same q id) refl ∙ sym (get-changed (touched_at id touch) (rows_of m.entries) q)) where
   there : (q : Id) → is_same q id ≡ true → get (rows_of m.entries) q ≡ Some row
-  there q e = get-rows_of m.entries q ∙ ap (row_in m.entries) (is_same-eq q id e) ∙ found
+  there q e = get-rows_of m.entries q ∙ ap (indexed_row m.entries) (is_same-eq q id e) ∙ found
 
   same : (o : Option Row) → o ≡ option_and_then (λ r. Some r) o
   same None = refl
   same (Some r) = refl
 
-  by : (q : Id) (t : Bool) → is_same q id ≡ t → row_in n.entries q ≡ option_and_then (touched_at id touch q) (get (rows_of m.entries) q)
-  by q true e = u.0 q ∙ ap (λ b. cond b (Some (with_touch touch row)) (row_in m.entries q)) (is_same-symm id q ∙ e)
+  by : (q : Id) (t : Bool) → is_same q id ≡ t → indexed_row n.entries q ≡ option_and_then (touched_at id touch q) (get (rows_of m.entries) q)
+  by q true e = u.0 q ∙ ap (λ b. cond b (Some (with_touch touch row)) (indexed_row m.entries q)) (is_same-symm id q ∙ e)
       ∙ sym (ap (option_and_then (touched_at id touch q)) (there q e) ∙ ap (λ b. cond b (Some (with_touch touch row)) (Some row)) e)
   by q false e = u.2 q (is_same-symm id q ∙ e) ∙ sym (get-rows_of m.entries q) ∙ same (get (rows_of m.entries) q)
       ∙ ap (λ b. option_and_then (λ r. cond b (Some (with_touch touch r)) (Some r)) (get (rows_of m.entries) q)) (sym e)
@@ -43,12 +43,12 @@ untouched rows id touch none = sym (change-nothing (touched_at id touch) rows (�
   by q true e (Some row) f = cc (sym f ∙ ap (get rows) (is_same-eq q id e) ∙ none)
   by q false e (Some row) f = ap (λ b. cond b (Some (with_touch touch row)) (Some row)) e
 
-pub agreed-touched : (m n : RowMap) (a : Owners) (id : Id) (touch : Touch) (row : Row) → IsAgreed m.entries a → row_in m.entries id ≡ Some row
+pub agreed-touched : (m n : RowMap) (a : ConsumerIndex) (id : Id) (touch : Touch) (row : Row) → IsAgreed m.entries a → indexed_row m.entries id ≡ Some row
     → UpdatesBy id_cmp (id_cmp id) m n (Some (with_touch touch row)) → IsAgreed n.entries a
 agreed-touched m n a id touch row agreed found u name x = agreed name x ∙ by (is_same id x) refl where
-  by : (t : Bool) → is_same id x ≡ t → is_owner (row_in m.entries x) name ≡ is_owner (row_in n.entries x) name
-  by true e = ap (λ o. is_owner o name) (ap (row_in m.entries) (sym (is_same-eq id x e)) ∙ found)
-      ∙ sym (ap (λ o. is_owner o name) (u.0 x ∙ ap (λ b. cond b (Some (with_touch touch row)) (row_in m.entries x)) e))
+  by : (t : Bool) → is_same id x ≡ t → is_owner (indexed_row m.entries x) name ≡ is_owner (indexed_row n.entries x) name
+  by true e = ap (λ o. is_owner o name) (ap (indexed_row m.entries) (sym (is_same-eq id x e)) ∙ found)
+      ∙ sym (ap (λ o. is_owner o name) (u.0 x ∙ ap (λ b. cond b (Some (with_touch touch row)) (indexed_row m.entries x)) e))
   by false e = sym (ap (λ o. is_owner o name) (u.2 x e))
 
 -- ---- the rows of a read

@@ -4,11 +4,11 @@ use Rattle.xs_bytes.specs.SortedMap.{change}
 use Rattle.xs_stream.specs.declared.id.Id.{Id}
 use Rattle.xs_group.specs.declared.delivery.Delivery.{Delivery}
 use Rattle.xs_group.specs.State.{Rows, State, has_name, with_name, delivers, first_row, with_rows, shown, delivered_to, reread_by, unless_acked}
-use Rattle.xs_group.specs.Held.{Held, IsNamed, AreFree}
+use Rattle.xs_group.specs.Indexes.{PendingList, IsNamed, AreFree}
 use Rattle.xs_group.specs.Lawful.{IsLawful}
 use Rattle.xs_group.specs.Delivered.{delivery_of, history_of, new_rows, kind_of, taken_back, without_made, unmade, row_ids, IsDelivered, IsReread, IsMade}
 use Rattle.xs_group.proofs.Agreeing.{name-again}
-use Rattle.xs_group.proofs.Putting.{held-back, out-again}
+use Rattle.xs_group.proofs.NewRows.{held-back, out-again}
 use Rattle.xs_group.proofs.Cursors.{free-above, delivers-above}
 use Rattle.xs_group.proofs.Touching.{rows-unread}
 
@@ -17,7 +17,7 @@ ids-new_rows [] = refl
 ids-new_rows (x ∷ xs) = ap (λ rest. x ∷ rest) (ids-new_rows xs)
 
 -- the consumer goes where it was made
-without-made : (held : Held) (name : List ℕ) → IsNamed held.consumers held.rows
+without-made : (held : PendingList) (name : List ℕ) → IsNamed held.consumers held.rows
     → without_made (not (has_name held.consumers name)) name (record { consumers = with_name held.consumers name; rows = held.rows }) ≡ held
 without-made held name named = by (has_name held.consumers name) refl where
   by : (t : Bool) → has_name held.consumers name ≡ t → without_made (not t) name (record { consumers = with_name held.consumers name; rows = held.rows }) ≡ held
@@ -30,7 +30,7 @@ undone d group =
     let held = unmade d (record { consumers = group.consumers; rows = group.rows }) in
     record { cursor = d.cursor_before; consumers = held.consumers; rows = held.rows }
 
-abbrev state_of : Id → Held → State
+abbrev state_of : Id → PendingList → State
 state_of cursor held = record { cursor = cursor; consumers = held.consumers; rows = held.rows }
 
 module _ (before : State) (law : IsLawful before) where

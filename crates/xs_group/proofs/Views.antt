@@ -12,34 +12,34 @@ use Rattle.xs_stream.specs.declared.id.Id.{Id}
 use Rattle.xs_stream.specs.Id.{id_cmp, is_same}
 use Rattle.xs_stream.proofs.Order.{same_id, is_same-symm}
 use Rattle.xs_group.specs.State.{Row, Rows, Names, is_name, has_name, ids_total}
-use Rattle.xs_group.specs.Held.{rows_of, Owners, names_of, ids_at, row_in}
+use Rattle.xs_group.specs.Indexes.{rows_of, ConsumerIndex, names_of, ids_at, indexed_row}
 
 pub find-lookup : {K X : Type 0} (R : K → K → Ordering) (q : K) (es : List (K × X)) → find R q es ≡ lookup (is_at (R q)) es
 find-lookup R q [] = refl
 find-lookup R q (e ∷ es) = ap (cond (eq_by_cmp R q e.0) (Some e.1)) (find-lookup R q es)
 
-pub get-rows_of : (rows : List (Id × Row)) (x : Id) → get (rows_of rows) x ≡ row_in rows x
+pub get-rows_of : (rows : List (Id × Row)) (x : Id) → get (rows_of rows) x ≡ indexed_row rows x
 get-rows_of rows x = get-of_entries ids_total rows x ∙ find-lookup id_cmp x rows
 
 abbrev pub unit_of : {X : Type 0} → Option X → Option (Unit {0})
 unit_of None = None
 unit_of (Some x) = Some tt
 
-lookup-units : (owners : Owners) (n : List ℕ) → lookup (is_at (slice_cmp nat_cmp n)) (map (λ e. (e.0, tt)) owners) ≡ unit_of (ids_at owners n)
+lookup-units : (owners : ConsumerIndex) (n : List ℕ) → lookup (is_at (slice_cmp nat_cmp n)) (map (λ e. (e.0, tt)) owners) ≡ unit_of (ids_at owners n)
 lookup-units [] n = refl
 lookup-units (e ∷ es) n = ap (cond (is_name n e.0) (Some tt)) (lookup-units es n) ∙ by (is_name n e.0) where
   by : (t : Bool) → cond t (Some tt) (unit_of (ids_at es n)) ≡ unit_of (cond t (Some e.1) (ids_at es n))
   by true = refl
   by false = refl
 
-pub get-names_of : (owners : Owners) (n : List ℕ) → get (names_of owners) n ≡ unit_of (ids_at owners n)
+pub get-names_of : (owners : ConsumerIndex) (n : List ℕ) → get (names_of owners) n ≡ unit_of (ids_at owners n)
 get-names_of owners n = get-of_entries nat_list_cmp_total (map (λ e. (e.0, tt)) owners) n ∙ find-lookup (slice_cmp nat_cmp) n (map (λ e. (e.0, tt)) owners) ∙ lookup-units owners n
 
 some_unit : {X : Type 0} (o : Option X) → is_some (unit_of o) ≡ is_some o
 some_unit None = refl
 some_unit (Some x) = refl
 
-pub has_name-names_of : (owners : Owners) (n : List ℕ) → has_name (names_of owners) n ≡ is_some (ids_at owners n)
+pub has_name-names_of : (owners : ConsumerIndex) (n : List ℕ) → has_name (names_of owners) n ≡ is_some (ids_at owners n)
 has_name-names_of owners n = ap is_some (get-names_of owners n) ∙ some_unit (ids_at owners n)
 
 pub unit_same : (a b : Option (Unit {0})) → is_some a ≡ is_some b → a ≡ b
@@ -52,13 +52,13 @@ pub same_names : (m n : Names) → ((q : List ℕ) → has_name m q ≡ has_name
 same_names m n is = same_map nat_list_cmp_total exact_bytes m n (λ q. unit_same (get m q) (get n q) (is q))
 
 -- indexes of the same consumers
-pub names-same : (a b : Owners) → ((q : List ℕ) → is_some (ids_at a q) ≡ is_some (ids_at b q)) → names_of a ≡ names_of b
+pub names-same : (a b : ConsumerIndex) → ((q : List ℕ) → is_some (ids_at a q) ≡ is_some (ids_at b q)) → names_of a ≡ names_of b
 names-same a b is = same_names (names_of a) (names_of b) (λ q. has_name-names_of a q ∙ is q ∙ sym (has_name-names_of b q))
 
 pub same_rows : (m n : Rows) → ((q : Id) → get m q ≡ get n q) → m ≡ n
 same_rows m n is = same_map ids_total same_id m n is
 
-pub rows-same : (a b : List (Id × Row)) → ((q : Id) → row_in a q ≡ row_in b q) → rows_of a ≡ rows_of b
+pub rows-same : (a b : List (Id × Row)) → ((q : Id) → indexed_row a q ≡ indexed_row b q) → rows_of a ≡ rows_of b
 rows-same a b is = same_rows (rows_of a) (rows_of b) (λ q. get-rows_of a q ∙ is q ∙ sym (get-rows_of b q))
 
 -- ---- one row
@@ -67,5 +67,5 @@ abbrev pub RowMap : Type 0
 RowMap = BTreeMap Id Row
 
 pub rows-remove : (m n : RowMap) (id : Id) → UpdatesBy id_cmp (id_cmp id) m n None → rows_of n.entries ≡ remove (rows_of m.entries) id
-rows-remove m n id u = same_rows _ _ (λ q. get-rows_of n.entries q ∙ u.0 q ∙ ap (λ b. cond b None (row_in m.entries q)) (is_same-symm id q)
+rows-remove m n id u = same_rows _ _ (λ q. get-rows_of n.entries q ∙ u.0 q ∙ ap (λ b. cond b None (indexed_row m.entries q)) (is_same-symm id q)
     ∙ ap (cond (is_same q id) None) (sym (get-rows_of m.entries q)) ∙ sym (get-remove ids_total (rows_of m.entries) id q))

@@ -5,10 +5,10 @@ use Rattle.std.specs.FinMap.Entries.{find}
 use Rattle.xs_bytes.specs.SortedMap.{change}
 use Rattle.xs_stream.specs.declared.id.Id.{Id}
 use Rattle.xs_stream.specs.Id.{id_cmp, is_below, is_same, has_id, zero_id}
-use Rattle.xs_group.specs.declared.claim_rule.ClaimTime.{ClaimTime}
-use Rattle.xs_group.specs.declared.claim_rule.ClaimTime.TheVariants.{Now, Idle, At}
-use Rattle.xs_group.specs.declared.claim.Claim.{Claim}
-use Rattle.xs_group.specs.declared.claim.Scan.{Scan}
+use Rattle.xs_group.specs.declared.claims.ClaimTime.{ClaimTime}
+use Rattle.xs_group.specs.declared.claims.ClaimTime.TheVariants.{Now, Idle, At}
+use Rattle.xs_group.specs.declared.claims.Claim.{Claim}
+use Rattle.xs_group.specs.declared.claims.Scan.{Scan}
 use Rattle.xs_group.specs.State.{Row, State, with_name, idle, raised}
 
 -- what a claim asks for: the least idle time, the time and the count that its rows get, and JUSTID
@@ -110,7 +110,7 @@ claimed consumer now rule claim x row =
     else (if has_id claim.take x then Some (claimed_row consumer now rule row) else Some row)
 
 -- a group after a claim: the consumer is there, removed rows go, and taken rows are the consumer's
-abbrev pub settled_by : List ℕ → ℕ → Rule → Claim → State → State
-settled_by consumer now rule claim group =
+abbrev pub claimed_by : List ℕ → ℕ → Rule → Claim → State → State
+claimed_by consumer now rule claim group =
     let rows = change (claimed consumer now rule claim) group.rows in
     record group { consumers = with_name group.consumers consumer; rows = rows }

@@ -12,7 +12,7 @@ use Rattle.xs_group.specs.declared.delivery.Delivery.{Delivery}
 use Rattle.xs_group.specs.State.{Row, Rows, State, has_name, with_name, raised}
 use Rattle.xs_group.specs.State.{delivers, delivered_to, shown, reread_by, last_of, with_rows, first_row}
 use Rattle.xs_group.specs.State.{unless_acked, unless_owned}
-use Rattle.xs_group.specs.Held.{Held}
+use Rattle.xs_group.specs.Indexes.{PendingList}
 use Rattle.xs_group.specs.Lawful.{IsLawful}
 
 -- an entry that is delivered for the first time
@@ -92,7 +92,8 @@ IsMade before after delivery = IsLawful before × (IsDelivered before after deli
 
 -- the time and count that a row gets by a delivery at a moment, or gets back
 abbrev pub touch_set : Option ℕ → DeliveryRow → Option Touch
-touch_set (Some now) row = if row.present then option_map (λ t. record { time = now; count = raised t.count }) row.before else None
+touch_set (Some now) row =
+    if row.present then option_map (λ t. record { time = now; count = raised t.count }) row.before else None
 touch_set None row = row.before
 
 abbrev pub with_touch : Touch → Row → Row
@@ -120,10 +121,16 @@ taken_back NoAck rows held = held
 taken_back History rows held = set_rows None rows held
 
 -- without the consumer, where the read made it
-abbrev pub without_made : Bool → List ℕ → Held → Held
+abbrev pub without_made : Bool → List ℕ → PendingList → PendingList
 without_made created consumer held =
-    if created then record { consumers = remove held.consumers consumer; rows = change (unless_owned consumer) held.rows } else held
+    if created then record {
+      consumers = remove held.consumers consumer;
+      rows = change (unless_owned consumer) held.rows;
+    } else held
 
-abbrev pub unmade : Delivery → Held → Held
+abbrev pub unmade : Delivery → PendingList → PendingList
 unmade delivery held =
-    without_made delivery.created delivery.consumer (record { consumers = held.consumers; rows = taken_back delivery.kind delivery.rows held.rows })
+    without_made delivery.created delivery.consumer (record {
+      consumers = held.consumers;
+      rows = taken_back delivery.kind delivery.rows held.rows;
+    })

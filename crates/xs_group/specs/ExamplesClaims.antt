@@ -4,10 +4,10 @@ use Rattle.std.specs.Prelude.{◌≡◌, ℕ, true, false, List, [], ◌∷◌, 
 use Rattle.xs_stream.specs.declared.id.Id.{Id}
 use Rattle.xs_stream.specs.Id.{is_same}
 use Rattle.xs_stream.specs.Examples.{at}
-use Rattle.xs_group.specs.declared.claim_rule.ClaimTime.TheVariants as time
+use Rattle.xs_group.specs.declared.claims.ClaimTime.TheVariants as time
 use Rattle.xs_group.specs.State.{Row}
 use Rattle.xs_group.specs.Claims.{Rule, is_idle, is_removed, is_taken, firsts, claim_of, from_start, is_hit, prefixes}
-use Rattle.xs_group.specs.Claims.{scanned, first_or_zero, scan_of, claim_time, claim_count, claimed_row, settled_by}
+use Rattle.xs_group.specs.Claims.{scanned, first_or_zero, scan_of, claim_time, claim_count, claimed_row, claimed_by}
 use Rattle.xs_group.specs.ExamplesRead.{pending, three, group, Is}
 
 -- a claim of what is idle for so long, without options
@@ -110,17 +110,17 @@ pub record TimesAndCounts : Type 0 where
 
 pub record Settled : Type 0 where
   pub taken_and_removed :
-      Is (settled_by (codes "d") 200 (idle_for 0) (record { take = at 3 0 ∷ at 1 0 ∷ []; removed = at 2 0 ∷ [] }) group)
+      Is (claimed_by (codes "d") 200 (idle_for 0) (record { take = at 3 0 ∷ at 1 0 ∷ []; removed = at 2 0 ∷ [] }) group)
       (at 3 0) (codes "a" ∷ codes "b" ∷ codes "c" ∷ codes "d" ∷ [])
       (pending (at 1 0) (codes "d") 200 2 ∷ pending (at 3 0) (codes "d") 200 2 ∷ [])
   pub others_stay :
-      Is (settled_by (codes "a") 200 (idle_for 0) (record { take = at 2 0 ∷ []; removed = [] }) group) (at 3 0)
+      Is (claimed_by (codes "a") 200 (idle_for 0) (record { take = at 2 0 ∷ []; removed = [] }) group) (at 3 0)
       (codes "a" ∷ codes "b" ∷ codes "c" ∷ [])
       (pending (at 1 0) (codes "a") 100 1 ∷ pending (at 2 0) (codes "a") 200 3 ∷ pending (at 3 0) (codes "a") 120 1
       ∷ [])
   pub several_removed :
-      Is (settled_by (codes "a") 200 (idle_for 0) (record { take = []; removed = at 2 0 ∷ at 3 0 ∷ [] }) group) (at 3 0)
+      Is (claimed_by (codes "a") 200 (idle_for 0) (record { take = []; removed = at 2 0 ∷ at 3 0 ∷ [] }) group) (at 3 0)
       (codes "a" ∷ codes "b" ∷ codes "c" ∷ []) (pending (at 1 0) (codes "a") 100 1 ∷ [])
   pub nothing_claimed :
-      Is (settled_by (codes "d") 200 (idle_for 0) (record { take = []; removed = [] }) group) (at 3 0)
+      Is (claimed_by (codes "d") 200 (idle_for 0) (record { take = []; removed = [] }) group) (at 3 0)
       (codes "a" ∷ codes "b" ∷ codes "c" ∷ codes "d" ∷ []) three

@@ -7,9 +7,9 @@ use Rattle.xs_stream.specs.Id.{is_same}
 use Rattle.xs_stream.specs.Examples.{at}
 use Rattle.xs_group.specs.declared.delivery.DeliveryRow.{DeliveryRow}
 use Rattle.xs_group.specs.declared.delivery.DeliveryKind.TheVariants as kind
-use Rattle.xs_group.specs.declared.verdict.Verdict.TheVariants.{Passed, Taken, Removed}
+use Rattle.xs_group.specs.declared.claims.Verdict.TheVariants.{Passed, Taken, Removed}
 use Rattle.xs_group.specs.State.{State, delivered_to, reread_by}
-use Rattle.xs_group.specs.Held.{Held, rows_of, is_owner, row_in, IsNamed}
+use Rattle.xs_group.specs.Indexes.{PendingList, rows_of, is_owner, indexed_row, IsNamed}
 use Rattle.xs_group.specs.Lawful.{IsUpTo}
 use Rattle.xs_group.specs.Count.{IsCount}
 use Rattle.xs_group.specs.Delivered.{delivery_of, history_of, set_rows, unmade}
@@ -69,11 +69,11 @@ pub record Answers : Type 0 where
         rows = own (at 3 0) 120 1 ∷ [];
       }
 
-abbrev pub held : State → Held
+abbrev pub held : State → PendingList
 held group = record { consumers = group.consumers; rows = group.rows }
 
 -- the consumers and the rows are those of the group before the read
-abbrev pub IsAsBefore : Held → Type 0
+abbrev pub IsAsBefore : PendingList → Type 0
 IsAsBefore held = (keys held.consumers ≡ codes "a" ∷ codes "b" ∷ codes "c" ∷ []) × (held.rows.entries ≡ three)
 
 pub record TakenBack : Type 0 where
@@ -128,9 +128,9 @@ pub record Lawful : Type 0 where
   pub apart : AreApart (at 2 0 ∷ at 1 0 ∷ at 3 0 ∷ [])
   pub not_apart : AreApart (at 2 0 ∷ at 1 0 ∷ at 2 0 ∷ []) → ⊥
   pub not_apart_at_the_end : AreApart (at 2 0 ∷ at 1 0 ∷ at 1 0 ∷ []) → ⊥
-  pub owner : is_owner (row_in three (at 2 0)) (codes "b") ≡ true
-  pub another : is_owner (row_in three (at 2 0)) (codes "a") ≡ false
-  pub nobody : is_owner (row_in three (at 4 0)) (codes "a") ≡ false
+  pub owner : is_owner (indexed_row three (at 2 0)) (codes "b") ≡ true
+  pub another : is_owner (indexed_row three (at 2 0)) (codes "a") ≡ false
+  pub nobody : is_owner (indexed_row three (at 4 0)) (codes "a") ≡ false
   pub above_the_cursor : IsUpTo (at 2 9) (rows_of three) → ⊥
   pub of_no_consumer : IsNamed (names_in (codes "a" ∷ codes "c" ∷ [])) (rows_of three) → ⊥
   pub greatest_count : IsCount (Some 9223372036854775807)

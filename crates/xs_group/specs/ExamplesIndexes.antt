@@ -5,7 +5,7 @@ use Rattle.xs_bytes.specs.SortedMap.{keys}
 use Rattle.xs_stream.specs.Id.{greatest_id}
 use Rattle.xs_stream.specs.Examples.{at}
 use Rattle.xs_group.specs.declared.delivery.DeliveryKind.TheVariants as kind
-use Rattle.xs_group.specs.Held.{Owners, rows_of, names_of, has_among, holds, AreFree}
+use Rattle.xs_group.specs.Indexes.{ConsumerIndex, rows_of, names_of, has_among, holds, AreFree}
 use Rattle.xs_group.specs.Delivered.{received, taken_back}
 use Rattle.xs_group.specs.Listing.{owners_told, is_told, rows_told, with_row, rows_among, rows_asked}
 use Rattle.xs_group.specs.Verdict.{AreSomeOf, AreAgreedBut}
@@ -15,7 +15,7 @@ use Rattle.xs_group.specs.ExamplesReport.{owner, told, everything, between}
 use Rattle.xs_group.specs.ExamplesDelivered.{own}
 
 -- the ids of a, of b, and none of c
-abbrev pub owners : Owners
+abbrev pub owners : ConsumerIndex
 owners =
     (codes "a", record { keys = at 1 0 ∷ at 3 0 ∷ [] }) ∷ (codes "b", record { keys = at 2 0 ∷ [] })
     ∷ (codes "c", record { keys = [] }) ∷ []

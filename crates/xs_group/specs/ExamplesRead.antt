@@ -9,7 +9,7 @@ use Rattle.xs_stream.specs.Examples.{at}
 use Rattle.xs_group.specs.State.{Row, Names, State, has_name, is_name, idle, greatest_count, raised, new_group}
 use Rattle.xs_group.specs.State.{joined, acked, without_consumer, delivers}
 use Rattle.xs_group.specs.State.{last_of, delivered_to, owned, shown, reread_by}
-use Rattle.xs_group.specs.Held.{rows_of}
+use Rattle.xs_group.specs.Indexes.{rows_of}
 
 abbrev pub pending : Id → List ℕ → ℕ → ℕ → Id × Row
 pending id consumer time count = (id, record { consumer = consumer; time = time; count = count })

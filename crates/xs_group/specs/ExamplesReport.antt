@@ -5,8 +5,8 @@ use Rattle.xs_stream.specs.declared.id.Id.{Id}
 use Rattle.xs_stream.specs.declared.range.Range.{Range}
 use Rattle.xs_stream.specs.Id.{zero_id, greatest_id}
 use Rattle.xs_stream.specs.Examples.{at}
-use Rattle.xs_group.specs.declared.report.OwnerCount.{OwnerCount}
-use Rattle.xs_group.specs.declared.report.PendingRow.{PendingRow}
+use Rattle.xs_group.specs.declared.reports.OwnerCount.{OwnerCount}
+use Rattle.xs_group.specs.declared.reports.PendingRow.{PendingRow}
 use Rattle.xs_group.specs.State.{new_group}
 use Rattle.xs_group.specs.Report.{owned_count, summary_of, pending_of}
 use Rattle.xs_group.specs.ExamplesRead.{group}

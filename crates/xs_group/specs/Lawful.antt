@@ -4,7 +4,7 @@ use Rattle.xs_bytes.specs.SortedMap.{has_key}
 use Rattle.xs_stream.specs.declared.id.Id.{Id}
 use Rattle.xs_stream.specs.Id.{is_below}
 use Rattle.xs_group.specs.State.{Rows, State}
-use Rattle.xs_group.specs.Held.{IsNamed}
+use Rattle.xs_group.specs.Indexes.{IsNamed}
 
 -- no row is above the cursor
 abbrev pub IsUpTo : Id → Rows → Type 0

@@ -1,7 +1,7 @@
 pub mod State
 pub mod Claims
 pub mod Report
-pub mod Held
+pub mod Indexes
 pub mod Lawful
 pub mod Delivered
 pub mod Verdict

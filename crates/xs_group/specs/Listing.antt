@@ -4,11 +4,11 @@ use Rattle.xs_bytes.specs.SortedMap.{keys}
 use Rattle.xs_stream.specs.declared.id.Id.{Id}
 use Rattle.xs_stream.specs.declared.range.Range.{Range}
 use Rattle.xs_stream.specs.Kept.{is_within}
-use Rattle.xs_group.specs.declared.report.OwnerCount.{OwnerCount}
-use Rattle.xs_group.specs.declared.report.PendingRow.{PendingRow}
+use Rattle.xs_group.specs.declared.reports.OwnerCount.{OwnerCount}
+use Rattle.xs_group.specs.declared.reports.PendingRow.{PendingRow}
 use Rattle.xs_group.specs.State.{Row, Rows, Names, idle}
 use Rattle.xs_group.specs.Report.{counted, pending_row, is_asked}
-use Rattle.xs_group.specs.Held.{row_in}
+use Rattle.xs_group.specs.Indexes.{indexed_row}
 
 -- the consumers that have rows
 abbrev pub owners_told : Names → Rows → List OwnerCount
@@ -29,8 +29,9 @@ with_row x (Some row) rest = (x, row) ∷ rest
 -- the rows of these ids
 abbrev pub rows_among : List (Id × Row) → List Id → List (Id × Row)
 rows_among rows [] = []
-rows_among rows (x ∷ xs) = with_row x (row_in rows x) (rows_among rows xs)
+rows_among rows (x ∷ xs) = with_row x (indexed_row rows x) (rows_among rows xs)
 
 -- the first of the rows that are asked for
 abbrev pub rows_asked : Range → ℕ → ℕ → ℕ → Option (List ℕ) → List (Id × Row) → List PendingRow
-rows_asked range min_idle now limit consumer rows = take limit (map (pending_row now) (filter (is_asked range min_idle now consumer) rows))
+rows_asked range min_idle now limit consumer rows =
+    take limit (map (pending_row now) (filter (is_asked range min_idle now consumer) rows))

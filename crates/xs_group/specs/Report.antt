@@ -5,9 +5,9 @@ use Rattle.xs_bytes.specs.SortedMap.{keys}
 use Rattle.xs_stream.specs.declared.id.Id.{Id}
 use Rattle.xs_stream.specs.declared.range.Range.{Range}
 use Rattle.xs_stream.specs.Kept.{is_within}
-use Rattle.xs_group.specs.declared.report.OwnerCount.{OwnerCount}
-use Rattle.xs_group.specs.declared.report.GroupSummary.{GroupSummary}
-use Rattle.xs_group.specs.declared.report.PendingRow.{PendingRow}
+use Rattle.xs_group.specs.declared.reports.OwnerCount.{OwnerCount}
+use Rattle.xs_group.specs.declared.reports.GroupSummary.{GroupSummary}
+use Rattle.xs_group.specs.declared.reports.PendingRow.{PendingRow}
 use Rattle.xs_group.specs.State.{Row, State, is_name, idle, owned}
 
 abbrev pub first_id : List (Id × Row) → Option Id

@@ -1,13 +1,14 @@
 -- What a claim makes of one id, and the scanned part met one id after another.
-use Rattle.std.specs.Prelude.{◌≡◌, ℕ, ◌+◌, ◌*◌, Bool, true, false, ◌||◌, ◌&&◌, ◌⊎◌, List, [], ◌∷◌, ◌++◌, nat_le, Option, Some, None, if◌then◌else◌}
+use Rattle.std.specs.Prelude.{◌≡◌, ℕ, ◌+◌, ◌*◌, Bool, true, false, ◌||◌, ◌&&◌, ◌⊎◌, List, [], ◌∷◌, ◌++◌, nat_le, Option}
+use Rattle.std.specs.Prelude.{Some, None, if◌then◌else◌}
 use Rattle.xs_stream.specs.declared.id.Id.{Id}
 use Rattle.xs_stream.specs.Id.{has_id}
-use Rattle.xs_group.specs.declared.claim.Claim.{Claim}
-use Rattle.xs_group.specs.declared.verdict.Verdict.{Verdict}
-use Rattle.xs_group.specs.declared.verdict.Verdict.TheVariants.{Passed, Taken, Removed}
+use Rattle.xs_group.specs.declared.claims.Claim.{Claim}
+use Rattle.xs_group.specs.declared.claims.Verdict.{Verdict}
+use Rattle.xs_group.specs.declared.claims.Verdict.TheVariants.{Passed, Taken, Removed}
 use Rattle.xs_group.specs.Claims.{Rule, is_idle, claim_of, scan_of, claimed_row}
 use Rattle.xs_group.specs.State.{Row, State, is_name}
-use Rattle.xs_group.specs.Held.{Owners, holds, is_owner, row_in}
+use Rattle.xs_group.specs.Indexes.{ConsumerIndex, holds, is_owner, indexed_row}
 
 abbrev pub is_taken_by : Verdict → Bool
 is_taken_by Taken = true
@@ -25,7 +26,8 @@ hits_of _ = 1
 -- the verdict on a row, or on an id that has none
 abbrev pub verdict_of : Option Row → Bool → ℕ → Rule → Verdict
 verdict_of None present now rule = Passed
-verdict_of (Some row) present now rule = if present then (if is_idle now rule (Some row) then Taken else Passed) else Removed
+verdict_of (Some row) present now rule =
+    if present then (if is_idle now rule (Some row) then Taken else Passed) else Removed
 
 abbrev pub with_taken : Verdict → List Id → Id → List Id
 with_taken verdict ids id = if is_taken_by verdict then ids ++ id ∷ [] else ids
@@ -71,6 +73,6 @@ abbrev pub AreSomeOf : List Id → List Id → Type 0
 AreSomeOf done ids = (x : Id) → has_id done x ≡ true → has_id ids x ≡ true
 
 -- both indexes hold the same pairs, but for these ids, which the consumer has besides
-abbrev pub AreAgreedBut : List (Id × Row) → Owners → List ℕ → List Id → Type 0
+abbrev pub AreAgreedBut : List (Id × Row) → ConsumerIndex → List ℕ → List Id → Type 0
 AreAgreedBut rows owners name ids =
-    (n : List ℕ) → (x : Id) → holds owners n x ≡ (is_owner (row_in rows x) n || (is_name n name && has_id ids x))
+    (n : List ℕ) → (x : Id) → holds owners n x ≡ (is_owner (indexed_row rows x) n || (is_name n name && has_id ids x))

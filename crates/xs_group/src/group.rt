@@ -1,23 +1,23 @@
 //! A consumer group: its cursor, its consumers, and what is pending.
 ghost use Rattle.std.specs.Prelude.{◌≡◌, ◌+◌, not, length, IfOk, OnOk, OnErr};
-ghost use Rattle.xs_group.specs.State.{State, has_name, joined, new_group, acked, without_consumer, delivered_to, reread_by};
+ghost use Rattle.xs_group.specs.State.{State, has_name, joined, new_group, acked, without_consumer, delivered_to};
+ghost use Rattle.xs_group.specs.State.{reread_by};
 ghost use Rattle.xs_group.specs.Report.{owned_count, summary_of, pending_of};
 ghost use Rattle.xs_group.specs.Lawful.{IsLawful};
-ghost use Rattle.xs_group.specs.Claims.{claim_of, scan_of, settled_by};
+ghost use Rattle.xs_group.specs.Claims.{claim_of, scan_of, claimed_by};
 ghost use Rattle.xs_group.specs.Verdict.{IsClaimOn};
 ghost use Rattle.std.specs.Option.{option_map};
 ghost use Rattle.xs_group.specs.Delivered.{delivery_of, history_of, kind_of, received, IsMade};
 ghost use Rattle.xs_stream.specs.Kept.{ids_of, AllAbove, Ascends};
 
-use crate::claim::{Claim, Scan};
-use crate::claim_rule::ClaimRule;
-use crate::delivery::{Delivery, DeliveryKind, DeliveryRows};
+use crate::claims::{Claim, ClaimRule, Scan};
+use crate::delivery::{Delivery, DeliveryKind};
 use crate::pending::Pending;
-use crate::report::{GroupSummary, PendingRow};
-use crate::{claiming, reading};
+use crate::reports::{GroupSummary, PendingRow};
+use crate::{claims, reading};
 use std::alloc::{AllocError, Global};
 use std::marker::Model;
-use xs_bytes::Bytes;
+use xs_bytes::{Bytes, List};
 use xs_stream::{Id, Moment, Range, Stream};
 
 /// A consumer group. A contract sees its cursor, its consumers and its pending rows. A call that is
@@ -30,7 +30,7 @@ pub struct Group {
 
 impl Model for Group {
     ghost use Rattle.xs_group.specs.State.{State};
-    ghost use Rattle.xs_group.specs.Held.{coded_state};
+    ghost use Rattle.xs_group.specs.Indexes.{coded_state};
     ghost use Rattle.xs_group.specs.Lawful.{IsUpTo};
 
     ghost Value = { State };
@@ -112,8 +112,10 @@ impl Group {
         limit: Option<u64>,
         noack: bool,
     ) -> Result<Delivery, AllocError>
-        ensures answer { IfOk result (λ d. d ≡ delivery_of consumer.now limit noack (ids_of stream.now.entries) self.old) }
-        ensures ok { OnOk result (self.new ≡ delivered_to consumer.now now limit noack (ids_of stream.now.entries) self.old) }
+        ensures answer { IfOk result (λ d. d
+            ≡ delivery_of consumer.now limit noack (ids_of stream.now.entries) self.old) }
+        ensures ok { OnOk result (self.new
+            ≡ delivered_to consumer.now now limit noack (ids_of stream.now.entries) self.old) }
         ensures err { OnErr result (self.new ≡ self.old) }
     {
         stream.lawful();
@@ -127,7 +129,7 @@ impl Group {
             created,
             cursor_before,
             kind: kind_of(noack),
-            rows: DeliveryRows::new(rows),
+            rows: List::new(rows),
         })
     }
 
@@ -142,8 +144,10 @@ impl Group {
         from: Id,
         limit: Option<u64>,
     ) -> Result<Delivery, AllocError>
-        ensures answer { IfOk result (λ d. d ≡ history_of consumer.now limit from (ids_of stream.now.entries) self.old) }
-        ensures ok { OnOk result (self.new ≡ reread_by consumer.now now limit from (ids_of stream.now.entries) self.old) }
+        ensures answer { IfOk result (λ d. d
+            ≡ history_of consumer.now limit from (ids_of stream.now.entries) self.old) }
+        ensures ok { OnOk result (self.new
+            ≡ reread_by consumer.now now limit from (ids_of stream.now.entries) self.old) }
         ensures err { OnErr result (self.new ≡ self.old) }
     {
         let cursor_before = self.cursor;
@@ -157,7 +161,7 @@ impl Group {
             created,
             cursor_before,
             kind: DeliveryKind::History,
-            rows: DeliveryRows::new(rows),
+            rows: List::new(rows),
         })
     }
 
@@ -180,9 +184,10 @@ impl Group {
         rule: &ClaimRule,
         ids: &[Id],
     ) -> Result<Claim, AllocError>
-        ensures { IfOk result (λ claim. claim ≡ claim_of self.now.rows.entries (ids_of stream.now.entries) now rule.now ids.now) }
+        ensures { IfOk result (λ claim. claim
+            ≡ claim_of self.now.rows.entries (ids_of stream.now.entries) now rule.now ids.now) }
     {
-        let firsts = claiming::firsts(alloc, ids)?;
+        let firsts = claims::firsts(alloc, ids)?;
         self.pending
             .claim_among(alloc, stream, now, rule, firsts.as_slice())
     }
@@ -199,7 +204,8 @@ impl Group {
         start: Id,
         limit: u64,
     ) -> Result<Scan, AllocError>
-        ensures { IfOk result (λ scan. scan ≡ scan_of self.now.rows.entries (ids_of stream.now.entries) now rule.now start limit) }
+        ensures { IfOk result (λ scan. scan
+            ≡ scan_of self.now.rows.entries (ids_of stream.now.entries) now rule.now start limit) }
     {
         self.pending.scan(alloc, stream, now, rule, start, limit)
     }
@@ -215,7 +221,7 @@ impl Group {
         claim: &Claim,
     ) -> Result<(), AllocError>
         requires { IsClaimOn self.old now rule.now claim.now }
-        ensures ok { OnOk result (self.new ≡ settled_by consumer.now now rule.now claim.now self.old) }
+        ensures ok { OnOk result (self.new ≡ claimed_by consumer.now now rule.now claim.now self.old) }
         ensures err { OnErr result (self.new ≡ self.old) }
     {
         self.pending.settle(alloc, consumer, now, rule, claim)?;
@@ -241,8 +247,10 @@ impl Group {
         limit: u64,
         consumer: Option<&Bytes>,
     ) -> Result<Vec<PendingRow>, AllocError>
-        ensures { IfOk result (λ rows. rows.items ≡ pending_of range min_idle now limit (option_map (λ c. c.now) consumer.entry) self.now) }
+        ensures { IfOk result (λ rows. rows.items
+            ≡ pending_of range min_idle now limit (option_map (λ c. c.now) consumer.entry) self.now) }
     {
+        // A look at a field brings in what holds of the whole group.
         let _cursor = &self.cursor;
         if range.high < range.low {
             return Ok(Vec::new(alloc));

@@ -2,29 +2,24 @@
 //! Streams", and of the pages of the XGROUP commands, XREADGROUP, XACK, XPENDING, XCLAIM and XAUTOCLAIM.
 #![tactic(auto)]
 
-mod arriving;
 pub mod callers;
-pub mod claim;
-pub mod claim_rule;
-mod claiming;
+pub mod claims;
+mod consumer_index;
 pub mod delivery;
-mod entry;
 pub mod examples;
 pub mod group;
+mod id_index;
 mod moving;
 mod name;
-mod owners;
 mod pending;
+mod pending_entry;
 mod reading;
-pub mod report;
-mod reporting;
-mod verdict;
+pub mod reports;
 
-pub use claim::{Claim, Scan};
-pub use claim_rule::{ClaimRule, ClaimTime};
-pub use delivery::{Delivery, DeliveryKind, DeliveryRow, DeliveryRows, Touch};
+pub use claims::{Claim, ClaimRule, ClaimTime, Scan};
+pub use delivery::{Delivery, DeliveryKind, DeliveryRow, Touch};
 pub use group::Group;
-pub use report::{GroupSummary, OwnerCount, OwnerCounts, PendingRow};
+pub use reports::{GroupSummary, OwnerCount, PendingRow};
 
 #[cfg(test)]
 mod tests;

@@ -1,16 +1,17 @@
 //! Pending entries that go to another consumer.
-ghost use Rattle.std.specs.Prelude.{◌≡◌, ◌∷◌, [], ◌&&◌, ℕ, List, Option, true, false, not, map, is_some, option_and_then, IfOk, IfSome, if◌then◌else◌, OnOk, OnErr, IsSome};
+ghost use Rattle.std.specs.Prelude.{◌≡◌, ◌∷◌, [], ◌&&◌, ℕ, List, Option, true, false, not, map, is_some};
+ghost use Rattle.std.specs.Prelude.{option_and_then, IfOk, IfSome, if◌then◌else◌, OnOk, OnErr, IsSome};
 ghost use Rattle.xs_stream.specs.declared.id.Id.{Id};
 ghost use Rattle.xs_stream.specs.Id.{is_same, has_id};
 ghost use Rattle.xs_group.specs.State.{is_name};
-ghost use Rattle.xs_group.specs.Held.{holds, ids_at, is_owner, row_in, IsAgreed};
+ghost use Rattle.xs_group.specs.Indexes.{holds, ids_at, is_owner, indexed_row, IsAgreed};
 ghost use Rattle.xs_group.specs.Verdict.{moved, AreApart, AreAgreedBut, AreSomeOf};
 
-use crate::claim_rule::ClaimRule;
-use crate::entry::Entry;
+use crate::claims::ClaimRule;
+use crate::consumer_index::{self, ConsumerIndex};
+use crate::id_index::IdIndex;
 use crate::name::Name;
-use crate::owners::{self, Owners};
-use crate::pending::Rows;
+use crate::pending_entry::PendingEntry;
 use std::alloc::{AllocError, Global};
 use xs_bytes::Bytes;
 use xs_stream::{Id, Moment};
@@ -23,9 +24,14 @@ fn is_same_name(a: &Bytes, b: &Bytes) -> bool
 }
 
 /// A row of a consumer, where it has one.
-pub(crate) fn row_of<'a>(rows: &'a Rows, owners: &Owners, name: &Bytes) -> Option<&'a Entry>
+pub(crate) fn row_of<'a>(
+    rows: &'a IdIndex,
+    owners: &ConsumerIndex,
+    name: &Bytes,
+) -> Option<&'a PendingEntry>
     ensures whose { IfSome result (λ entry. entry.now.consumer ≡ name.now) }
-    ensures found { IsAgreed rows.now.entries owners.now.entries → (x : Id) → is_owner (row_in rows.now.entries x) name.now ≡ true → IsSome result }
+    ensures found { IsAgreed rows.now.entries owners.now.entries → (x : Id)
+        → is_owner (indexed_row rows.now.entries x) name.now ≡ true → IsSome result }
 {
     let ids = owners.get(name)?;
     let id = ids.first()?;
@@ -48,8 +54,8 @@ pub(crate) fn shares(alloc: Global, name: &Name, ids: &[Id]) -> Result<Vec<Name>
 }
 
 /// The row of an id is this consumer's.
-fn is_row_of(rows: &Rows, name: &Bytes, id: Id) -> bool
-    ensures { result ≡ is_owner (row_in rows.now.entries id) name.now }
+fn is_row_of(rows: &IdIndex, name: &Bytes, id: Id) -> bool
+    ensures { result ≡ is_owner (indexed_row rows.now.entries id) name.now }
 {
     match rows.get(&id) {
         Some(entry) => is_same_name(entry.consumer(), name),
@@ -58,20 +64,22 @@ fn is_row_of(rows: &Rows, name: &Bytes, id: Id) -> bool
 }
 
 /// Takes an id from a consumer, unless its row is that consumer's.
-fn take_back_one(rows: &Rows, owners: &mut Owners, name: &Bytes, id: Id)
+fn take_back_one(rows: &IdIndex, owners: &mut ConsumerIndex, name: &Bytes, id: Id)
     ensures names { (n : List ℕ) → is_some (ids_at owners.new.entries n) ≡ is_some (ids_at owners.old.entries n) }
     ensures ids { (n : List ℕ) → (x : Id) → holds owners.new.entries n x
-        ≡ (holds owners.old.entries n x && not (is_name n name.now && (is_same x id && not (is_owner (row_in rows.now.entries x) name.now)))) }
+        ≡ (holds owners.old.entries n x
+        && not (is_name n name.now && (is_same x id && not (is_owner (indexed_row rows.now.entries x) name.now)))) }
 {
     if is_row_of(rows, name, id) {
         return;
     }
-    owners::remove_id(owners, name, id);
+    consumer_index::remove_id(owners, name, id);
 }
 
 /// Takes ids from a consumer whose rows aren't that consumer's. It takes no memory.
-pub(crate) fn take_back(rows: &Rows, owners: &mut Owners, name: &Bytes, ids: &[Id])
-    requires { (done : List Id) × AreSomeOf done ids.now × AreAgreedBut rows.now.entries owners.old.entries name.now done }
+pub(crate) fn take_back(rows: &IdIndex, owners: &mut ConsumerIndex, name: &Bytes, ids: &[Id])
+    requires { (done : List Id) × AreSomeOf done ids.now
+        × AreAgreedBut rows.now.entries owners.old.entries name.now done }
     ensures names { (n : List ℕ) → is_some (ids_at owners.new.entries n) ≡ is_some (ids_at owners.old.entries n) }
     ensures agreed { IsAgreed rows.now.entries owners.new.entries }
 {
@@ -82,8 +90,8 @@ pub(crate) fn take_back(rows: &Rows, owners: &mut Owners, name: &Bytes, ids: &[I
 
 /// Gives a consumer these ids, though their rows don't say so yet, or none of them.
 pub(crate) fn add_ids(
-    rows: &Rows,
-    owners: &mut Owners,
+    rows: &IdIndex,
+    owners: &mut ConsumerIndex,
     name: &Bytes,
     ids: &[Id],
 ) -> Result<(), AllocError>
@@ -93,7 +101,7 @@ pub(crate) fn add_ids(
     ensures ok { OnOk result (AreAgreedBut rows.now.entries owners.new.entries name.now ids.now) }
     ensures err { OnErr result (IsAgreed rows.now.entries owners.new.entries) }
 {
-    let Ok(()) = owners::put_ids(owners, name, ids) else {
+    let Ok(()) = consumer_index::put_ids(owners, name, ids) else {
         take_back(rows, owners, name, ids);
         return Err(AllocError);
     };
@@ -101,7 +109,7 @@ pub(crate) fn add_ids(
 }
 
 /// Takes an id from the consumer whose it was, unless that is the one who gets it.
-fn leave_owner(owners: &mut Owners, old: &Bytes, name: &Bytes, id: Id)
+fn leave_owner(owners: &mut ConsumerIndex, old: &Bytes, name: &Bytes, id: Id)
     ensures names { (n : List ℕ) → is_some (ids_at owners.new.entries n) ≡ is_some (ids_at owners.old.entries n) }
     ensures ids { (n : List ℕ) → (x : Id) → holds owners.new.entries n x
         ≡ (if is_name old.now name.now then holds owners.old.entries n x
@@ -110,13 +118,13 @@ fn leave_owner(owners: &mut Owners, old: &Bytes, name: &Bytes, id: Id)
     if is_same_name(old, name) {
         return;
     }
-    owners::remove_id(owners, old, id);
+    consumer_index::remove_id(owners, old, id);
 }
 
 /// Gives one row to a consumer that has its id already. Those of `rest` follow.
 fn move_row(
-    rows: &mut Rows,
-    owners: &mut Owners,
+    rows: &mut IdIndex,
+    owners: &mut ConsumerIndex,
     name: &Bytes,
     share: Name,
     now: Moment,
@@ -127,13 +135,14 @@ fn move_row(
     requires share { share ≡ name.now }
     requires apart { has_id rest.now id ≡ false }
     requires agreed { AreAgreedBut rows.old.entries owners.old.entries name.now (id ∷ rest.now) }
-    ensures rows { (x : Id) → row_in rows.new.entries x
-        ≡ (if is_same x id then option_and_then (moved name.now now rule.now (id ∷ []) x) (row_in rows.old.entries x) else row_in rows.old.entries x) }
+    ensures rows { (x : Id) → indexed_row rows.new.entries x
+        ≡ (if is_same x id then option_and_then (moved name.now now rule.now (id
+        ∷ []) x) (indexed_row rows.old.entries x) else indexed_row rows.old.entries x) }
     ensures agreed { AreAgreedBut rows.new.entries owners.new.entries name.now rest.now }
     ensures names { (n : List ℕ) → is_some (ids_at owners.new.entries n) ≡ is_some (ids_at owners.old.entries n) }
 {
     let Some(entry) = rows.get_mut(&id) else {
-        owners::remove_id(owners, name, id);
+        consumer_index::remove_id(owners, name, id);
         return;
     };
     leave_owner(owners, entry.consumer(), name, id);
@@ -142,8 +151,8 @@ fn move_row(
 
 /// Gives rows to a consumer that has their ids already. It takes no memory.
 pub(crate) fn move_rows(
-    rows: &mut Rows,
-    owners: &mut Owners,
+    rows: &mut IdIndex,
+    owners: &mut ConsumerIndex,
     name: &Bytes,
     names: Vec<Name>,
     now: Moment,
@@ -153,7 +162,8 @@ pub(crate) fn move_rows(
     requires names { names.items ≡ map (λ x. name.now) ids.now }
     requires apart { AreApart ids.now }
     requires agreed { AreAgreedBut rows.old.entries owners.old.entries name.now ids.now }
-    ensures rows { (x : Id) → row_in rows.new.entries x ≡ option_and_then (moved name.now now rule.now ids.now x) (row_in rows.old.entries x) }
+    ensures rows { (x : Id) → indexed_row rows.new.entries x
+        ≡ option_and_then (moved name.now now rule.now ids.now x) (indexed_row rows.old.entries x) }
     ensures agreed { IsAgreed rows.new.entries owners.new.entries }
     ensures names { (n : List ℕ) → is_some (ids_at owners.new.entries n) ≡ is_some (ids_at owners.old.entries n) }
 {

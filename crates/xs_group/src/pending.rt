@@ -6,42 +6,40 @@ ghost use Rattle.xs_group.specs.Report.{summary_of};
 ghost use Rattle.xs_group.specs.Listing.{rows_asked};
 ghost use Rattle.xs_group.specs.Claims.{claim_among, scan_of, claimed};
 ghost use Rattle.xs_group.specs.Verdict.{verdict_of, moved, AreApart};
-ghost use Rattle.xs_group.specs.State.{has_name, with_name, first_row, owned, with_rows, shown, unless_acked, unless_owned};
-ghost use Rattle.xs_group.specs.Held.{IsNamed, AreFree};
+ghost use Rattle.xs_group.specs.State.{has_name, with_name, first_row, owned, with_rows, shown, unless_acked};
+ghost use Rattle.xs_group.specs.State.{unless_owned};
+ghost use Rattle.xs_group.specs.Indexes.{IsNamed, AreFree};
 ghost use Rattle.xs_stream.specs.Kept.{ids_of};
-ghost use Rattle.xs_group.specs.Delivered.{touch_of, shown_rows, set_one, set_rows, touch_set, row_ids, taken_back, unmade};
+ghost use Rattle.xs_group.specs.Delivered.{touch_of, shown_rows, set_one, set_rows, touch_set, row_ids, taken_back};
+ghost use Rattle.xs_group.specs.Delivered.{unmade};
 
-use crate::claim::{Claim, Scan};
-use crate::claim_rule::ClaimRule;
+use crate::claims::{Claim, ClaimRule, Found, Scan, Verdict};
+use crate::consumer_index::{self, ConsumerIndex};
 use crate::delivery::{Delivery, DeliveryKind, DeliveryRow, Touch};
-use crate::entry::Entry;
+use crate::id_index::{self, IdIndex};
 use crate::name::Name;
-use crate::owners::{self, Owners};
-use crate::report::{GroupSummary, OwnerCounts, PendingRow};
-use crate::verdict::{Found, Verdict};
-use crate::{arriving, claiming, moving, reading, reporting};
+use crate::pending_entry::PendingEntry;
+use crate::reports::{GroupSummary, PendingRow};
+use crate::{claims, moving, reading, reports};
 use std::alloc::{AllocError, Global};
 use std::collections::{BTreeMap, BTreeSet};
 use std::marker::Model;
-use xs_bytes::Bytes;
-use xs_stream::{Id, Ids, Moment, Range, Stream};
-
-/// The pending entries by id.
-pub(crate) type Rows = BTreeMap<Id, Entry>;
+use xs_bytes::{Bytes, List};
+use xs_stream::{Id, Moment, Range, Stream};
 
 /// The consumers and the pending entries. Both indexes hold the same pairs of a consumer and an id.
 #[derive(Drop)]
 pub(crate) struct Pending {
-    rows: Rows,
-    owners: Owners,
+    rows: IdIndex,
+    owners: ConsumerIndex,
 }
 
 impl Model for Pending {
-    ghost use Rattle.xs_group.specs.Held.{rows_of, Held, coded_held, names_of, IsAgreed};
+    ghost use Rattle.xs_group.specs.Indexes.{rows_of, PendingList, coded_pending_list, names_of, IsAgreed};
 
-    ghost Value = { Held };
+    ghost Value = { PendingList };
 
-    ghost coded = { coded_held };
+    ghost coded = { coded_pending_list };
 
     ghost view = { λ p. record { consumers = names_of p.owners.entries; rows = rows_of p.rows.entries } };
 
@@ -86,7 +84,7 @@ impl Pending {
         ensures { self.new ≡ record self.old { rows = remove self.old.rows id } }
     {
         if let Some(entry) = self.rows.remove(&id) {
-            owners::remove_id(&mut self.owners, entry.consumer(), id);
+            consumer_index::remove_id(&mut self.owners, entry.consumer(), id);
         }
     }
 
@@ -110,12 +108,13 @@ impl Pending {
     ) -> Result<(), AllocError>
         requires there { has_name self.old.consumers name.now ≡ true }
         requires free { AreFree self.old.rows ids.now }
-        ensures ok { OnOk result (self.new ≡ record self.old { rows = with_rows ids.now (first_row name.now now) self.old.rows }) }
+        ensures ok { OnOk result (self.new
+            ≡ record self.old { rows = with_rows ids.now (first_row name.now now) self.old.rows }) }
         ensures err { OnErr result (self.new ≡ self.old) }
     {
         let shared = self.shared_name(alloc, name)?;
         moving::add_ids(&self.rows, &mut self.owners, name, ids)?;
-        let Ok(()) = arriving::put_rows(&mut self.rows, &shared, now, ids) else {
+        let Ok(()) = id_index::put_rows(&mut self.rows, &shared, now, ids) else {
             moving::take_back(&self.rows, &mut self.owners, name, ids);
             return Err(AllocError);
         };
@@ -156,12 +155,13 @@ impl Pending {
         name: &Bytes,
         from: Id,
         limit: Option<u64>,
-    ) -> Result<Ids, AllocError>
+    ) -> Result<List<Id>, AllocError>
         ensures { IfOk result (λ ids. ids ≡ shown name.now limit from self.now.rows.entries) }
     {
         let Some(ids) = self.owners.get(name) else {
-            return Ok(Ids::new(Vec::new(alloc)));
+            return Ok(List::new(Vec::new(alloc)));
         };
+        // The proof needs that the ids ascend, which a call on the set tells it.
         let _len = ids.len();
         reading::limited_above(alloc, ids, from, limit)
     }
@@ -262,7 +262,7 @@ impl Pending {
         ensures { result ≡ verdict_of (get self.now.rows id) (has_id (ids_of stream.now.entries) id) now rule.now }
     {
         match self.rows.get(&id) {
-            Some(entry) => claiming::judge(entry, stream, now, rule, id),
+            Some(entry) => claims::judge(entry, stream, now, rule, id),
             None => Verdict::Passed,
         }
     }
@@ -276,7 +276,8 @@ impl Pending {
         rule: &ClaimRule,
         ids: &[Id],
     ) -> Result<Claim, AllocError>
-        ensures { IfOk result (λ claim. claim ≡ claim_among self.now.rows.entries (ids_of stream.now.entries) now rule.now ids.now) }
+        ensures { IfOk result (λ claim. claim
+            ≡ claim_among self.now.rows.entries (ids_of stream.now.entries) now rule.now ids.now) }
     {
         let mut found = Found::new(alloc);
         for id in ids {
@@ -296,10 +297,12 @@ impl Pending {
         start: Id,
         limit: u64,
     ) -> Result<Scan, AllocError>
-        ensures { IfOk result (λ scan. scan ≡ scan_of self.now.rows.entries (ids_of stream.now.entries) now rule.now start limit) }
+        ensures { IfOk result (λ scan. scan
+            ≡ scan_of self.now.rows.entries (ids_of stream.now.entries) now rule.now start limit) }
     {
+        // The proof needs that the rows are in the order of their ids, which a call on the map tells it.
         let _len = self.rows.len();
-        claiming::scan_rows(alloc, &self.rows, stream, now, rule, start, limit)
+        claims::scan_rows(alloc, &self.rows, stream, now, rule, start, limit)
     }
 
     /// Gives these entries to a consumer, as a claim does.
@@ -313,7 +316,8 @@ impl Pending {
     ) -> Result<(), AllocError>
         requires there { has_name self.old.consumers name.now ≡ true }
         requires apart { AreApart ids.now }
-        ensures ok { OnOk result (self.new ≡ record self.old { rows = change (moved name.now now rule.now ids.now) self.old.rows }) }
+        ensures ok { OnOk result (self.new
+            ≡ record self.old { rows = change (moved name.now now rule.now ids.now) self.old.rows }) }
         ensures err { OnErr result (self.new ≡ self.old) }
     {
         let shared = self.shared_name(alloc, name)?;
@@ -361,16 +365,18 @@ impl Pending {
 
     /// How many are pending, the least and the greatest id, and whose they are.
     pub(crate) fn summary(&self, alloc: Global) -> Result<GroupSummary, AllocError>
-        ensures { IfOk result (λ summary. summary ≡ summary_of (record { cursor = zero_id; consumers = self.now.consumers; rows = self.now.rows })) }
+        ensures { IfOk result (λ summary. summary
+            ≡ summary_of (record { cursor = zero_id; consumers = self.now.consumers; rows = self.now.rows })) }
     {
         let total = self.rows.len() as u64;
+        // The proof needs that the consumers are in the order of their names, which a call on the map tells it.
         let _consumers = self.owners.len();
-        let owners = reporting::owner_counts(alloc, &self.rows, &self.owners)?;
+        let owners = reports::owner_counts(alloc, &self.rows, &self.owners)?;
         Ok(GroupSummary {
             total,
-            least: reporting::least(&self.rows),
-            greatest: reporting::greatest(&self.rows),
-            owners: OwnerCounts::new(owners),
+            least: reports::least(&self.rows),
+            greatest: reports::greatest(&self.rows),
+            owners: List::new(owners),
         })
     }
 
@@ -386,8 +392,9 @@ impl Pending {
         requires { is_below range.high range.low ≡ false }
         ensures { IfOk result (λ found. found.items ≡ rows_asked range min_idle now limit None self.now.rows.entries) }
     {
+        // The proof needs that the rows are in the order of their ids, which a call on the map tells it.
         let _len = self.rows.len();
-        reporting::rows_within(alloc, &self.rows, range, min_idle, now, limit)
+        reports::rows_within(alloc, &self.rows, range, min_idle, now, limit)
     }
 
     /// Those of one consumer.
@@ -401,14 +408,17 @@ impl Pending {
         name: &Bytes,
     ) -> Result<Vec<PendingRow>, AllocError>
         requires { is_below range.high range.low ≡ false }
-        ensures { IfOk result (λ found. found.items ≡ rows_asked range min_idle now limit (Some name.now) self.now.rows.entries) }
+        ensures { IfOk result (λ found. found.items
+            ≡ rows_asked range min_idle now limit (Some name.now) self.now.rows.entries) }
     {
+        // The proof needs that the rows are in the order of their ids, which a call on the map tells it.
         let _len = self.rows.len();
         let Some(ids) = self.owners.get(name) else {
             return Ok(Vec::new(alloc));
         };
+        // The same of the consumer's ids.
         let _count = ids.len();
-        reporting::rows_of_ids(alloc, &self.rows, ids, range, min_idle, now, limit)
+        reports::rows_of_ids(alloc, &self.rows, ids, range, min_idle, now, limit)
     }
 
     /// Takes these ids out.
@@ -432,7 +442,7 @@ impl Pending {
             return 0;
         };
         let count = ids.len();
-        owners::remove_rows(&mut self.rows, &ids);
+        consumer_index::remove_rows(&mut self.rows, &ids);
         count as u64
     }
 
@@ -447,6 +457,7 @@ impl Pending {
     pub(crate) fn lawful(&self)
         ensures { IsNamed self.now.consumers self.now.rows }
     {
+        // A look at a field brings in what holds of all of them.
         let _ = &self.rows;
     }
 }

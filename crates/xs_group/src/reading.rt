@@ -6,11 +6,12 @@ ghost use Rattle.xs_group.specs.State.{last_of};
 ghost use Rattle.xs_group.specs.Delivered.{new_rows, touch_set};
 
 use crate::delivery::{DeliveryRow, Touch};
-use crate::entry::raised;
+use crate::pending_entry::raised;
 use std::alloc::{AllocError, Global};
 use std::collections::BTreeSet;
 use std::ops::Bound;
-use xs_stream::{Id, Ids, Moment, Stream};
+use xs_bytes::List;
+use xs_stream::{Id, Moment, Stream};
 
 /// The last of these ids, or the one before them.
 pub(crate) fn last_id(before: Id, ids: &[Id]) -> Id
@@ -52,11 +53,11 @@ pub(crate) fn limited_above(
     ids: &BTreeSet<Id>,
     from: Id,
     limit: Option<u64>,
-) -> Result<Ids, AllocError>
+) -> Result<List<Id>, AllocError>
     ensures { IfOk result (λ above. above ≡ limited limit (filter (λ x. is_below from x) ids.now.keys)) }
 {
     let above = ids_above(alloc, ids, from, limit.unwrap_or(u64::MAX))?;
-    Ok(Ids::new(above))
+    Ok(List::new(above))
 }
 
 /// The ids of a set above this one, in their order, at most this many.

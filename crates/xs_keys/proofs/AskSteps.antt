@@ -10,7 +10,7 @@ use Rattle.xs_stream.specs.declared.id.Id.{Id}
 use Rattle.xs_stream.specs.declared.field.Field.{Field}
 use Rattle.xs_stream.specs.Kept.{Kept, ids_of}
 use Rattle.xs_group.specs.State.{State}
-use Rattle.xs_keys.specs.Turn.{Ask}
+use Rattle.xs_keys.specs.GroupEvent.{Ask}
 use Rattle.xs_keys.specs.Content.{Content, Key, asked, group_after, with_group, group_in, entries_in}
 use Rattle.xs_keys.specs.Codes.{content_of, groups_of}
 use Rattle.xs_resp.specs.declared.reply.Reply.{Reply}

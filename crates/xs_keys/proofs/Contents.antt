@@ -14,10 +14,10 @@ use Rattle.xs_command.specs.declared.command.Command.{Command}
 use Rattle.xs_command.specs.declared.command.Command.TheVariants.{Ping, Quit, Add, Delete, TrimTo, Len, Scan, GroupCreate, GroupDestroy, ConsumerCreate, ConsumerDelete, ReadGroup, Ack, Pending, PendingRows, Claim, AutoClaim, DropKeys}
 use Rattle.xs_command.specs.declared.command.GroupCreateCommand.{GroupCreateCommand}
 use Rattle.xs_command.specs.declared.command.ReadGroupCommand.{ReadGroupCommand}
-use Rattle.xs_command.specs.declared.reads.ReadOne.{ReadOne}
-use Rattle.xs_keys.specs.Life.{Change, added, deleted, trimmed_to, has_name, opened, key_life}
-use Rattle.xs_keys.specs.Turn.{Ask, join, leave, ack, claim, auto_claim}
-use Rattle.xs_keys.specs.GroupLife.{GroupLife, present_in, start_of, life_opened, life_created, life_asked, read_ask, life_read, group_life}
+use Rattle.xs_command.specs.declared.command.ReadOne.{ReadOne}
+use Rattle.xs_keys.specs.Life.{Change, added, deleted, trimmed_to, is_listed, opened, key_life}
+use Rattle.xs_keys.specs.GroupEvent.{Ask, join, leave, ack, claim, auto_claim}
+use Rattle.xs_keys.specs.GroupLife.{GroupLife, present_in, starting_id, life_opened, life_created, life_asked, read_ask, life_read, group_life}
 use Rattle.xs_keys.specs.Content.{Key, Content, IsGroup, GroupHolds, KeyHolds, IsContent, new_key, made, stream_after, key_after, changed, without_keys, group_after, with_group, asked, created, group_in, serves, read_each, after}
 use Rattle.xs_keys.proofs.Names.{is_name-eq, get-insert, get-remove, same_map, same_names}
 use Rattle.xs_keys.proofs.Streams.{stream-step, ascends-live}
@@ -68,9 +68,9 @@ holds-addition c name change make (Some key) (Some changes) lives q e h same = r
 holds-addition c name change make None (Some changes) lives q e h same = absurd h
 holds-addition c name change make (Some key) None lives q e h same = absurd h
 
-pub get-without_keys : (names : List (List ℕ)) (c : Content) (q : List ℕ) → get (without_keys names c) q ≡ cond (has_name names q) None (get c q)
+pub get-without_keys : (names : List (List ℕ)) (c : Content) (q : List ℕ) → get (without_keys names c) q ≡ cond (is_listed names q) None (get c q)
 get-without_keys [] c q = refl
-get-without_keys (name ∷ names) c q = get-without_keys names (remove c name) q ∙ ap (cond (has_name names q) None) (get-remove c name q) ∙ by (is_name q name) (has_name names q) where
+get-without_keys (name ∷ names) c q = get-without_keys names (remove c name) q ∙ ap (cond (is_listed names q) None) (get-remove c name q) ∙ by (is_name q name) (is_listed names q) where
   by : (one others : Bool) → cond others None (cond one None (get c q)) ≡ cond (one || others) None (get c q)
   by true true = refl
   by true false = refl
@@ -208,7 +208,7 @@ serves-known (one ∷ more) c past group h =
 
 -- a new group among others
 begins : (groups : NameMap State) (lives : List ℕ → Option GroupLife) (create : GroupCreateCommand) (stream : Option (List Change)) (start : Id) → GroupsHold groups lives
-    → get groups create.group ≡ None → life_opened create stream ≡ Some (record { start = start; turns = [] })
+    → get groups create.group ≡ None → life_opened create stream ≡ Some (record { start = start; events = [] })
     → GroupsHold (insert groups create.group (new_group start)) (λ g. cond (is_name g create.group) (life_created create stream (lives g)) (lives g))
 begins groups lives create stream start h none opens = λ g. subst (λ x. GroupHolds x (cond (is_name g create.group) (life_created create stream (lives g)) (lives g))) (sym (get-insert groups create.group (new_group start) g)) (by g (is_name g create.group) refl) where
   by : (g : List ℕ) (t : Bool) → is_name g create.group ≡ t → GroupHolds (cond t (Some (new_group start)) (get groups g)) (cond t (life_created create stream (lives g)) (lives g))
@@ -231,11 +231,11 @@ stays groups lives create stream s h is = λ g. by g (is_name g create.group) re
   by g false e = h g
 
 makes : (c : Content) (create : GroupCreateCommand)
-    → created c create (Some new_key) ≡ insert c create.key (with_group new_key create.group (new_group (start_of create.start new_key.stream.top)))
+    → created c create (Some new_key) ≡ insert c create.key (with_group new_key create.group (new_group (starting_id create.start new_key.stream.top)))
 makes c create =
-    ap (λ s. cond (is_some s) c (insert c create.key (with_group new_key create.group (new_group (start_of create.start new_key.stream.top))))) (get-empty _ create.group)
+    ap (λ s. cond (is_some s) c (insert c create.key (with_group new_key create.group (new_group (starting_id create.start new_key.stream.top))))) (get-empty _ create.group)
 
-opens_new : (create : GroupCreateCommand) → create.make ≡ true → life_opened create None ≡ Some (record { start = start_of create.start new_key.stream.top; turns = [] })
+opens_new : (create : GroupCreateCommand) → create.make ≡ true → life_opened create None ≡ Some (record { start = starting_id create.start new_key.stream.top; events = [] })
 opens_new create m = rw m refl
 
 opens_none : (create : GroupCreateCommand) → create.make ≡ false → life_opened create None ≡ None
@@ -243,21 +243,21 @@ opens_none create m = rw m refl
 
 creates-key : (c : Content) (create : GroupCreateCommand) (key : Key) (changes : List Change) (lives : List ℕ → Option GroupLife) (s : Option State) (q : List ℕ)
     → get key.groups create.group ≡ s → get c create.key ≡ Some key → is_name q create.key ≡ true → KeyHolds (Some key) (Some changes) lives
-    → KeyHolds (get (cond (is_some s) c (insert c create.key (with_group key create.group (new_group (start_of create.start key.stream.top))))) q)
+    → KeyHolds (get (cond (is_some s) c (insert c create.key (with_group key create.group (new_group (starting_id create.start key.stream.top))))) q)
     (Some changes) (λ g. cond (is_name g create.group) (life_created create (Some changes) (lives g)) (lives g))
 creates-key c create key changes lives (Some s) q found is same h = rw (is_name-eq q create.key same, is) (h.0, stays key.groups lives create (Some changes) s h.1 found)
 creates-key c create key changes lives None q none is same h =
-    rw (get-insert c create.key (with_group key create.group (new_group (start_of create.start key.stream.top))) q, same)
-    (h.0, begins key.groups lives create (Some changes) (start_of create.start key.stream.top) h.1 none (ap (λ k. Some (record { start = start_of create.start k.top; turns = [] })) (sym h.0)))
+    rw (get-insert c create.key (with_group key create.group (new_group (starting_id create.start key.stream.top))) q, same)
+    (h.0, begins key.groups lives create (Some changes) (starting_id create.start key.stream.top) h.1 none (ap (λ k. Some (record { start = starting_id create.start k.top; events = [] })) (sym h.0)))
 
 creates-here : (c : Content) (create : GroupCreateCommand) (make : Bool) → create.make ≡ make → (key : Option Key) (stream : Option (List Change)) (lives : List ℕ → Option GroupLife) (q : List ℕ)
     → get c create.key ≡ key → is_name q create.key ≡ true → KeyHolds key stream lives
     → KeyHolds (get (created c create (made make key)) q) (opened make stream) (λ g. cond (is_name g create.group) (life_created create stream (lives g)) (lives g))
 creates-here c create true m None None lives q none same h =
     subst (λ k. KeyHolds k (Some []) (λ g. cond (is_name g create.group) (life_created create None (lives g)) (lives g)))
-    (sym (ap (λ k. get k q) (makes c create) ∙ get-insert c create.key (with_group new_key create.group (new_group (start_of create.start new_key.stream.top))) q
-    ∙ ap (λ b. cond b (Some (with_group new_key create.group (new_group (start_of create.start new_key.stream.top)))) (get c q)) same))
-    (refl, begins empty lives create None (start_of create.start new_key.stream.top) (no_groups lives h) (get-empty _ create.group) (opens_new create m))
+    (sym (ap (λ k. get k q) (makes c create) ∙ get-insert c create.key (with_group new_key create.group (new_group (starting_id create.start new_key.stream.top))) q
+    ∙ ap (λ b. cond b (Some (with_group new_key create.group (new_group (starting_id create.start new_key.stream.top)))) (get c q)) same))
+    (refl, begins empty lives create None (starting_id create.start new_key.stream.top) (no_groups lives h) (get-empty _ create.group) (opens_new create m))
 creates-here c create false m None None lives q none same h =
     subst (λ k. KeyHolds k None (λ g. cond (is_name g create.group) (life_created create None (lives g)) (lives g)))
     (sym (ap (get c) (is_name-eq q create.key same) ∙ none)) (λ g. by g (is_name g create.group)) where
@@ -272,9 +272,9 @@ creates-here c create make m (Some key) None lives q is same h = absurd h
 created-other : (c : Content) (create : GroupCreateCommand) (key : Option Key) (q : List ℕ) → is_name q create.key ≡ false → get (created c create key) q ≡ get c q
 created-other c create None q other = refl
 created-other c create (Some key) q other = by (has_key key.groups create.group) where
-  by : (t : Bool) → get (cond t c (insert c create.key (with_group key create.group (new_group (start_of create.start key.stream.top))))) q ≡ get c q
+  by : (t : Bool) → get (cond t c (insert c create.key (with_group key create.group (new_group (starting_id create.start key.stream.top))))) q ≡ get c q
   by true = refl
-  by false = rw (get-insert c create.key (with_group key create.group (new_group (start_of create.start key.stream.top))) q, other) refl
+  by false = rw (get-insert c create.key (with_group key create.group (new_group (starting_id create.start key.stream.top))) q, other) refl
 
 abbrev without_group : Content → List ℕ → List ℕ → Option Key → Content
 without_group c name group key = option_map_or (λ k. insert c name (record k { groups = remove k.groups group })) key c
@@ -324,8 +324,8 @@ module _ (c : Content) (past : List (ℕ × Command)) (h : IsContent c past) (q 
     by true e = holds-addition c name change make (get c name) (key_life past q) (λ g. group_life past q g) q refl (at_name name e) e
     by false e = rw (changed-other c name change (made make (get c name)) q e) (h q)
 
-  step-dropped : (names : List (List ℕ)) → KeyHolds (get (without_keys names c) q) (cond (has_name names q) None (key_life past q)) (λ g. cond (has_name names q) None (group_life past q g))
-  step-dropped names = rw (get-without_keys names c q) (holds-dropped (has_name names q) (get c q) (key_life past q) (λ g. group_life past q g) (h q))
+  step-dropped : (names : List (List ℕ)) → KeyHolds (get (without_keys names c) q) (cond (is_listed names q) None (key_life past q)) (λ g. cond (is_listed names q) None (group_life past q g))
+  step-dropped names = rw (get-without_keys names c q) (holds-dropped (is_listed names q) (get c q) (key_life past q) (λ g. group_life past q g) (h q))
 
   step-created : (create : GroupCreateCommand)
       → KeyHolds (get (created c create (made create.make (get c create.key))) q) (cond (is_name q create.key) (opened create.make (key_life past q)) (key_life past q))

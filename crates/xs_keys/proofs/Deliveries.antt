@@ -5,16 +5,16 @@ use Rattle.xs_stream.specs.declared.id.Id.{Id}
 use Rattle.xs_stream.specs.Id.{is_below, has_id}
 use Rattle.xs_stream.specs.Kept.{Ascends, AllAbove}
 use Rattle.xs_keys.specs.Life.{greatest}
-use Rattle.xs_keys.specs.Turn.{Ask, Turn, read_new, read_own, ack, join, leave, claim, auto_claim, asked_new, delivered, cursor, delivers_at}
+use Rattle.xs_keys.specs.GroupEvent.{Ask, GroupEvent, read_new, read_own, ack, join, leave, claim, auto_claim, asked_new, delivered, cursor, delivers_at}
 use Rattle.xs_keys.specs.Headline.{HadItsTurn}
 use Rattle.xs_keys.proofs.IdLists.{above-delivers, ascends-delivers, ascends-append, above-lower, not_above, has_id-append, delivers-up_to, above-append, not_among}
 use Rattle.xs_keys.proofs.Streams.{greatest-up}
 use Rattle.xs_keys.proofs.GroupSteps.{up_to-delivered, cursor-step}
 
--- the ids in the stream at each turn ascend
-abbrev pub PresentAscends : List Turn → Type 0
+-- the ids in the stream at each event ascend
+abbrev pub PresentAscends : List GroupEvent → Type 0
 PresentAscends [] = Unit {0}
-PresentAscends (turn ∷ past) = Ascends turn.present × PresentAscends past
+PresentAscends (event ∷ past) = Ascends event.present × PresentAscends past
 
 above-asked : (ask : Ask) (present : List Id) (a : Id) → AllAbove a (asked_new ask present a)
 above-asked (read_new consumer limit noack) present a = above-delivers limit a present
@@ -34,30 +34,30 @@ ascends-asked (leave consumer) present a h = tt
 ascends-asked (claim consumer rule ids) present a h = tt
 ascends-asked (auto_claim consumer rule start limit) present a h = tt
 
--- what a turn delivers is above the cursor
-pub above-after : (start : Id) (past : List Turn) (turn : Turn) → AllAbove (cursor start past) (delivers_at turn (cursor start past))
-above-after start past turn = above-asked turn.ask turn.present (cursor start past)
+-- what an event delivers is above the cursor
+pub above-after : (start : Id) (past : List GroupEvent) (event : GroupEvent) → AllAbove (cursor start past) (delivers_at event (cursor start past))
+above-after start past event = above-asked event.ask event.present (cursor start past)
 
-pub start-up : (start : Id) (past : List Turn) → is_below (cursor start past) start ≡ false
+pub start-up : (start : Id) (past : List GroupEvent) → is_below (cursor start past) start ≡ false
 start-up start past = greatest-up start (delivered start past)
 
 -- deliveries ascend
-pub ascends-delivered : (start : Id) (turns : List Turn) → PresentAscends turns → Ascends (delivered start turns)
+pub ascends-delivered : (start : Id) (events : List GroupEvent) → PresentAscends events → Ascends (delivered start events)
 ascends-delivered start [] h = tt
-ascends-delivered start (turn ∷ past) h =
-    ascends-append (cursor start past) (delivered start past) (delivers_at turn (cursor start past)) (ascends-delivered start past h.1) (up_to-delivered start past)
-    (ascends-asked turn.ask turn.present (cursor start past) h.0) (above-after start past turn)
+ascends-delivered start (event ∷ past) h =
+    ascends-append (cursor start past) (delivered start past) (delivers_at event (cursor start past)) (ascends-delivered start past h.1) (up_to-delivered start past)
+    (ascends-asked event.ask event.present (cursor start past) h.0) (above-after start past event)
 
 -- and are past the start
-pub past-start : (start : Id) (turns : List Turn) → AllAbove start (delivered start turns)
+pub past-start : (start : Id) (events : List GroupEvent) → AllAbove start (delivered start events)
 past-start start [] = tt
-past-start start (turn ∷ past) =
-    above-append start (delivered start past) (delivers_at turn (cursor start past)) (past-start start past)
-    (above-lower start (cursor start past) (delivers_at turn (cursor start past)) (start-up start past) (above-after start past turn))
+past-start start (event ∷ past) =
+    above-append start (delivered start past) (delivers_at event (cursor start past)) (past-start start past)
+    (above-lower start (cursor start past) (delivers_at event (cursor start past)) (start-up start past) (above-after start past event))
 
 -- ---- their turn
 
--- an id that the cursor passes at a turn is delivered exactly where it is in the stream
+-- an id that the cursor passes at an event is delivered exactly where it is in the stream
 exactly-at : (ask : Ask) (present : List Id) (a x : Id) → Ascends present → is_below a x ≡ true → is_below (greatest a (asked_new ask present a)) x ≡ false
     → has_id (asked_new ask present a) x ≡ has_id present x
 exactly-at (read_new consumer limit noack) present a x asc low high = delivers-up_to limit present a x asc low high
@@ -71,16 +71,16 @@ exactly-at (auto_claim consumer rule start limit) present a x asc low high = abs
 both_turns : (a b : Bool) → a ≡ true → b ≡ false → (a && not b) ≡ true
 both_turns a b p q = rw (p, q) refl
 
--- the cursor passes each id between the start and itself at one of the turns
-pub had-turn : (start : Id) (turns : List Turn) (x : Id) → PresentAscends turns → is_below start x ≡ true → is_below (cursor start turns) x ≡ false → HadItsTurn start turns x
-had-turn start [] x h low high = absurd (false≢true (sym high ∙ low))
-had-turn start (turn ∷ past) x h low high = by (is_below (cursor start past) x) refl (λ up. had-turn start past x h.1 low up) where
+-- the cursor passes each id between the start and itself at one of the events
+pub had-event : (start : Id) (events : List GroupEvent) (x : Id) → PresentAscends events → is_below start x ≡ true → is_below (cursor start events) x ≡ false → HadItsTurn start events x
+had-event start [] x h low high = absurd (false≢true (sym high ∙ low))
+had-event start (event ∷ past) x h low high = by (is_below (cursor start past) x) refl (λ up. had-event start past x h.1 low up) where
   new : List Id
-  new = delivers_at turn (cursor start past)
+  new = delivers_at event (cursor start past)
 
   -- an id up to the cursor before isn't delivered anew
   not_new : is_below (cursor start past) x ≡ false → has_id new x ≡ false
-  not_new up = not_above (cursor start past) x new up (above-after start past turn)
+  not_new up = not_above (cursor start past) x new up (above-after start past event)
 
   or-none : (a b : Bool) → b ≡ false → (a || b) ≡ a
   or-none true b e = refl
@@ -93,23 +93,23 @@ had-turn start (turn ∷ past) x h low high = by (is_below (cursor start past) x
   not_old : is_below (cursor start past) x ≡ true → has_id (delivered start past) x ≡ false
   not_old e = not_among (cursor start past) (delivered start past) x e (up_to-delivered start past)
 
-  by : (t : Bool) → is_below (cursor start past) x ≡ t → (is_below (cursor start past) x ≡ false → HadItsTurn start past x) → HadItsTurn start (turn ∷ past) x
+  by : (t : Bool) → is_below (cursor start past) x ≡ t → (is_below (cursor start past) x ≡ false → HadItsTurn start past x) → HadItsTurn start (event ∷ past) x
   by true e before = record {
     later = [];
-    turn = turn;
+    event = event;
     earlier = past;
     among = refl;
-    theirs = both_turns (is_below (cursor start past) x) (is_below (cursor start (turn ∷ past)) x) e high;
+    theirs = both_turns (is_below (cursor start past) x) (is_below (cursor start (event ∷ past)) x) e high;
     exactly = has_id-append (delivered start past) new x ∙ none-or _ (has_id new x) (not_old e)
-        ∙ exactly-at turn.ask turn.present (cursor start past) x h.0 e (ap (λ c. is_below c x) (sym (cursor-step start turn past)) ∙ high);
+        ∙ exactly-at event.ask event.present (cursor start past) x h.0 e (ap (λ c. is_below c x) (sym (cursor-step start event past)) ∙ high);
   }
   by false e before =
       let had = before e in
       record {
-        later = turn ∷ had.later;
-        turn = had.turn;
+        later = event ∷ had.later;
+        event = had.event;
         earlier = had.earlier;
-        among = ap (λ ts. turn ∷ ts) had.among;
+        among = ap (λ ts. event ∷ ts) had.among;
         theirs = had.theirs;
         exactly = has_id-append (delivered start past) new x ∙ or-none _ (has_id new x) (not_new e) ∙ had.exactly;
       }

@@ -12,7 +12,7 @@ use Rattle.xs_resp.specs.declared.reply.Simple.TheVariants.{Okay}
 use Rattle.xs_resp.specs.declared.fault.Fault.TheVariants.{Memory}
 use Rattle.xs_command.specs.declared.command.GroupCreateCommand.{GroupCreateCommand}
 use Rattle.xs_command.specs.declared.command.Command.TheVariants.{GroupCreate}
-use Rattle.xs_keys.specs.GroupLife.{start_of}
+use Rattle.xs_keys.specs.GroupLife.{starting_id}
 use Rattle.xs_keys.specs.Content.{Content, Key, new_key, with_group}
 use Rattle.xs_keys.specs.Codes.{content_of}
 use Rattle.xs_keys.specs.Grouping.{Creates}
@@ -54,7 +54,7 @@ refused-step old new now create make missing same = inr (record {
 
 -- the key is made with its group
 pub makes-step : (m n : BTreeMap (List ℕ) Key) (now : ℕ) (create : GroupCreateCommand) (key : Key) → create.make ≡ true → get (content_of m.entries) create.key ≡ None
-    → key ≡ with_group new_key create.group (new_group (start_of create.start new_key.stream.top))
+    → key ≡ with_group new_key create.group (new_group (starting_id create.start new_key.stream.top))
     → UpdatesBy (slice_cmp nat_cmp) (slice_cmp nat_cmp create.key) m n (Some key)
     → Step (content_of m.entries) now (GroupCreate create) (Simple Okay) (content_of n.entries)
 makes-step m n now create key make missing is written = inl (record {

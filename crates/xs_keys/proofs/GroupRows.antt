@@ -2,14 +2,14 @@
 use Rattle.std.proofs.Common.{◌≡◌, Bool, true, false, ◌||◌, List, [], ◌∷◌, ◌++◌, map, Option, Some, None, option_and_then, sym, ap, subst, ◌∙◌, refl, append_assoc}
 use Rattle.std.proofs.lemmas.List.{append-nil}
 use Rattle.std.specs.FinMap.Entries.{put, by_order}
-use Rattle.xs_bytes.specs.Each.{kept, each}
+use Rattle.xs_bytes.specs.Each.{with_some, each}
 use Rattle.xs_bytes.specs.SortedMap.{insert_by}
 use Rattle.xs_stream.specs.declared.id.Id.{Id}
 use Rattle.xs_stream.specs.Id.{id_cmp, is_below, is_same, has_id}
 use Rattle.xs_stream.specs.Kept.{Ascends, AllAbove, AllUpTo}
 use Rattle.xs_stream.proofs.Order.{above-greater, up_to-below, below-not_back, below-irrefl, is_same-refl}
 use Rattle.xs_group.specs.State.{Row, Rows, ids_total, with_rows}
-use Rattle.xs_keys.specs.Turn.{rows_among}
+use Rattle.xs_keys.specs.GroupEvent.{rows_among}
 use Rattle.xs_keys.proofs.IdLists.{up_to-append, up_to-raise}
 
 or-true : (b : Bool) → (b || true) ≡ true
@@ -24,21 +24,21 @@ pub each-among : (f : Id → Row → Option Row) (row_of : Id → Option Row) (i
 each-among f row_of [] = refl
 each-among f row_of (x ∷ xs) = by (row_of x) (each-among f row_of xs) where
   by : (r : Option Row) → each f (rows_among row_of xs) ≡ rows_among (λ y. option_and_then (f y) (row_of y)) xs
-      → each f (kept x r (rows_among row_of xs)) ≡ kept x (option_and_then (f x) r) (rows_among (λ y. option_and_then (f y) (row_of y)) xs)
+      → each f (with_some x r (rows_among row_of xs)) ≡ with_some x (option_and_then (f x) r) (rows_among (λ y. option_and_then (f y) (row_of y)) xs)
   by None e = e
-  by (Some row) e = ap (kept x (f x row)) e
+  by (Some row) e = ap (with_some x (f x row)) e
 
 pub among-append : (row_of : Id → Option Row) (xs ys : List Id) → rows_among row_of (xs ++ ys) ≡ rows_among row_of xs ++ rows_among row_of ys
 among-append row_of [] ys = refl
 among-append row_of (x ∷ xs) ys = by (row_of x) (among-append row_of xs ys) where
-  by : (r : Option Row) → rows_among row_of (xs ++ ys) ≡ rows_among row_of xs ++ rows_among row_of ys → kept x r (rows_among row_of (xs ++ ys)) ≡ kept x r (rows_among row_of xs) ++ rows_among row_of ys
+  by : (r : Option Row) → rows_among row_of (xs ++ ys) ≡ rows_among row_of xs ++ rows_among row_of ys → with_some x r (rows_among row_of (xs ++ ys)) ≡ with_some x r (rows_among row_of xs) ++ rows_among row_of ys
   by None e = e
   by (Some row) e = ap (λ es. (x, row) ∷ es) e
 
 -- rows that are told alike for each id up to a
 pub among-alike : (a : Id) (one other : Id → Option Row) → ((x : Id) → is_below a x ≡ false → one x ≡ other x) → (xs : List Id) → AllUpTo a xs → rows_among one xs ≡ rows_among other xs
 among-alike a one other same [] h = refl
-among-alike a one other same (x ∷ xs) h = λ i. kept x (same x h.0 i) (among-alike a one other same xs h.1 i)
+among-alike a one other same (x ∷ xs) h = λ i. with_some x (same x h.0 i) (among-alike a one other same xs h.1 i)
 
 -- rows that are told alike for each of these ids
 pub among-known : (all : List Id) (one other : Id → Option Row) → ((x : Id) → has_id all x ≡ true → one x ≡ other x)
@@ -47,7 +47,7 @@ among-known all one other same [] sub = refl
 among-known all one other same (x ∷ xs) sub =
     let here = same x (sub x (rw (is_same-refl x) refl)) in
     let rest = among-known all one other same xs (λ y e. sub y (rw e (or-true (is_same y x)))) in
-    λ i. kept x (here i) (rest i)
+    λ i. with_some x (here i) (rest i)
 
 pub among-none : (xs : List Id) → rows_among (λ x. None) xs ≡ []
 among-none [] = refl
@@ -64,7 +64,7 @@ among-all row (x ∷ xs) = ap (λ es. (x, row) ∷ es) (among-all row xs)
 pub up_to-among : (a : Id) (row_of : Id → Option Row) (xs : List Id) → AllUpTo a xs → AllUpTo a (row_ids (rows_among row_of xs))
 up_to-among a row_of [] h = tt
 up_to-among a row_of (x ∷ xs) h = by (row_of x) (up_to-among a row_of xs h.1) where
-  by : (r : Option Row) → AllUpTo a (row_ids (rows_among row_of xs)) → AllUpTo a (row_ids (kept x r (rows_among row_of xs)))
+  by : (r : Option Row) → AllUpTo a (row_ids (rows_among row_of xs)) → AllUpTo a (row_ids (with_some x r (rows_among row_of xs)))
   by None rest = rest
   by (Some row) rest = (h.0, rest)
 

@@ -1,4 +1,4 @@
--- A group by looking back, and a group turn by turn: they are the same.
+-- A group by looking back, and a group event by event: they are the same.
 use Rattle.std.proofs.Common.{◌≡◌, ℕ, Bool, true, false, cond, List, [], ◌∷◌, ◌++◌, Option, Some, None, option_and_then, is_some, sym, ap, subst, ◌∙◌, refl}
 use Rattle.std.proofs.lemmas.List.{append-nil}
 use Rattle.xs_bytes.specs.Each.{each}
@@ -10,7 +10,7 @@ use Rattle.xs_stream.specs.Kept.{Ascends, AllAbove, AllUpTo}
 use Rattle.xs_group.specs.State.{Row, Rows, State, Names, is_name, has_name, with_name, delivers, last_of, first_row, with_rows, delivered_to, shown, reread, reread_by, new_group, acked, unless_acked, unless_owned, without_consumer}
 use Rattle.xs_group.specs.Claims.{Rule, claimed, claim_of, scan_of}
 use Rattle.xs_keys.specs.Life.{greatest}
-use Rattle.xs_keys.specs.Turn.{Ask, Turn, read_new, read_own, ack, join, leave, claim, auto_claim, delivers_at, delivered, cursor, is_consumer, rows_among, holding, rows}
+use Rattle.xs_keys.specs.GroupEvent.{Ask, GroupEvent, read_new, read_own, ack, join, leave, claim, auto_claim, delivers_at, delivered, cursor, is_consumer, rows_among, holding, rows}
 use Rattle.xs_keys.specs.GroupLife.{GroupLife}
 use Rattle.xs_keys.specs.Content.{IsGroup, group_after}
 use Rattle.xs_keys.proofs.Names.{get-insert, get-remove}
@@ -20,29 +20,29 @@ use Rattle.xs_keys.proofs.GroupRows.{row_ids, each_row, each-among, among-append
 
 -- ---- the cursor and what was delivered
 
-pub up_to-delivered : (start : Id) (past : List Turn) → AllUpTo (cursor start past) (delivered start past)
+pub up_to-delivered : (start : Id) (past : List GroupEvent) → AllUpTo (cursor start past) (delivered start past)
 up_to-delivered start past = up_to-greatest start (delivered start past)
 
-pub cursor-step : (start : Id) (t : Turn) (past : List Turn) → cursor start (t ∷ past) ≡ greatest (cursor start past) (delivers_at t (cursor start past))
+pub cursor-step : (start : Id) (t : GroupEvent) (past : List GroupEvent) → cursor start (t ∷ past) ≡ greatest (cursor start past) (delivers_at t (cursor start past))
 cursor-step start t past = greatest-append start (delivered start past) (delivers_at t (cursor start past))
 
 -- ---- rows
 
-pub up_to-rows : (start : Id) (past : List Turn) → AllUpTo (cursor start past) (row_ids (rows start past))
+pub up_to-rows : (start : Id) (past : List GroupEvent) → AllUpTo (cursor start past) (row_ids (rows start past))
 up_to-rows start past = up_to-among (cursor start past) (λ x. holding start past x) (delivered start past) (up_to-delivered start past)
 
--- a turn that delivers nothing changes rows that are there
-rows-changed : (start : Id) (past : List Turn) (f : Id → Row → Option Row) (r : Rows) → r.entries ≡ rows start past
+-- an event that delivers nothing changes rows that are there
+rows-changed : (start : Id) (past : List GroupEvent) (f : Id → Row → Option Row) (r : Rows) → r.entries ≡ rows start past
     → (change f r).entries ≡ rows_among (λ x. option_and_then (f x) (holding start past x)) (delivered start past ++ [])
 unfolding change
 rows-changed start past f r e =
     ap (each f) e ∙ each-among f (λ x. holding start past x) (delivered start past)
     ∙ ap (rows_among (λ x. option_and_then (f x) (holding start past x))) (sym (append-nil (delivered start past)))
 
-rows-same : (start : Id) (past : List Turn) (r : Rows) → r.entries ≡ rows start past → r.entries ≡ rows_among (λ x. holding start past x) (delivered start past ++ [])
+rows-same : (start : Id) (past : List GroupEvent) (r : Rows) → r.entries ≡ rows start past → r.entries ≡ rows_among (λ x. holding start past x) (delivered start past ++ [])
 rows-same start past r e = e ∙ ap (rows_among (λ x. holding start past x)) (sym (append-nil (delivered start past)))
 
-module _ (start : Id) (past : List Turn) (consumer : List ℕ) (now : ℕ) (new : List Id) (above : AllAbove (cursor start past) new) (asc : Ascends new) where
+module _ (start : Id) (past : List GroupEvent) (consumer : List ℕ) (now : ℕ) (new : List Id) (above : AllAbove (cursor start past) new) (asc : Ascends new) where
   -- what a delivery makes of a row
   row_after : Bool → Id → Option Row
   row_after noack x = cond (has_id new x) (cond noack None (Some (first_row consumer now))) (holding start past x)
@@ -90,59 +90,59 @@ left-names names consumer q = ap is_some (get-remove names consumer q) ∙ by (i
   by true = refl
   by false = refl
 
--- ---- one turn
+-- ---- one event
 
 module _ (life : GroupLife) (g : State) (h : IsGroup g life) (now : ℕ) (present : List Id) (asc : Ascends present) where
-  turn : Ask → Turn
-  turn ask = record { now = now; present = present; ask = ask }
+  event : Ask → GroupEvent
+  event ask = record { now = now; present = present; ask = ask }
 
   lived : Ask → GroupLife
-  lived ask = record { start = life.start; turns = turn ask ∷ life.turns }
+  lived ask = record { start = life.start; events = event ask ∷ life.events }
 
-  joins : (consumer : List ℕ) (q : List ℕ) → has_name (with_name g.consumers consumer) q ≡ cond (is_name q consumer) true (is_consumer life.turns q)
+  joins : (consumer : List ℕ) (q : List ℕ) → has_name (with_name g.consumers consumer) q ≡ cond (is_name q consumer) true (is_consumer life.events q)
   joins consumer q = joined-names g.consumers consumer q ∙ ap (cond (is_name q consumer) true) (h.consumers_are q)
 
-  still : g.cursor ≡ greatest life.start (delivered life.start life.turns ++ [])
-  still = h.cursor_is ∙ ap (greatest life.start) (sym (append-nil (delivered life.start life.turns)))
+  still : g.cursor ≡ greatest life.start (delivered life.start life.events ++ [])
+  still = h.cursor_is ∙ ap (greatest life.start) (sym (append-nil (delivered life.start life.events)))
 
-  changed_rows : (f : Id → Row → Option Row) → (change f g.rows).entries ≡ rows_among (λ x. option_and_then (f x) (holding life.start life.turns x)) (delivered life.start life.turns ++ [])
-  changed_rows f = rows-changed life.start life.turns f g.rows h.rows_are
+  changed_rows : (f : Id → Row → Option Row) → (change f g.rows).entries ≡ rows_among (λ x. option_and_then (f x) (holding life.start life.events x)) (delivered life.start life.events ++ [])
+  changed_rows f = rows-changed life.start life.events f g.rows h.rows_are
 
   step-read_new : (consumer : List ℕ) (limit : Option ℕ) (noack : Bool) → IsGroup (delivered_to consumer now limit noack present g) (lived (read_new consumer limit noack))
-  unfolding turn lived row_after
+  unfolding event lived row_after
   step-read_new consumer limit noack =
-      let at_cursor = cursor life.start life.turns in
+      let at_cursor = cursor life.start life.events in
       let above = above-delivers limit at_cursor present in
       let ascends = ascends-delivers limit at_cursor present asc in
       let new_cursor = ap (λ c. last_of c (delivers limit c present)) h.cursor_is
       ∙ sym (greatest-last at_cursor (delivers limit at_cursor present) above ascends)
-      ∙ sym (cursor-step life.start (turn (read_new consumer limit noack)) life.turns) in
+      ∙ sym (cursor-step life.start (event (read_new consumer limit noack)) life.events) in
       record {
         cursor_is = new_cursor;
         consumers_are = joins consumer;
         rows_are = ap (λ c. (cond noack g.rows (with_rows (delivers limit c present) (first_row consumer now) g.rows)).entries) h.cursor_is
-            ∙ rows-delivered life.start life.turns consumer now (delivers limit at_cursor present) above ascends noack g.rows h.rows_are;
+            ∙ rows-delivered life.start life.events consumer now (delivers limit at_cursor present) above ascends noack g.rows h.rows_are;
       }
 
   step-read_own : (consumer : List ℕ) (limit : Option ℕ) (from : Id) → IsGroup (reread_by consumer now limit from present g) (lived (read_own consumer limit from))
-  unfolding turn lived
+  unfolding event lived
   step-read_own consumer limit from = record {
     cursor_is = still;
     consumers_are = joins consumer;
     rows_are = ap (λ es. (change (reread now (shown consumer limit from es) present) g.rows).entries) h.rows_are
-        ∙ changed_rows (reread now (shown consumer limit from (rows life.start life.turns)) present);
+        ∙ changed_rows (reread now (shown consumer limit from (rows life.start life.events)) present);
   }
 
   step-ack : (ids : List Id) → IsGroup (acked ids g) (lived (ack ids))
-  unfolding turn lived
+  unfolding event lived
   step-ack ids = record { cursor_is = still; consumers_are = h.consumers_are; rows_are = changed_rows (unless_acked ids) }
 
   step-join : (consumer : List ℕ) → IsGroup (group_after now present (join consumer) g) (lived (join consumer))
-  unfolding turn lived
-  step-join consumer = record { cursor_is = still; consumers_are = joins consumer; rows_are = rows-same life.start life.turns g.rows h.rows_are }
+  unfolding event lived
+  step-join consumer = record { cursor_is = still; consumers_are = joins consumer; rows_are = rows-same life.start life.events g.rows h.rows_are }
 
   step-leave : (consumer : List ℕ) → IsGroup (without_consumer consumer g) (lived (leave consumer))
-  unfolding turn lived
+  unfolding event lived
   step-leave consumer = record {
     cursor_is = still;
     consumers_are = λ q. left-names g.consumers consumer q ∙ ap (cond (is_name q consumer) false) (h.consumers_are q);
@@ -150,27 +150,27 @@ module _ (life : GroupLife) (g : State) (h : IsGroup g life) (now : ℕ) (presen
   }
 
   step-claim : (consumer : List ℕ) (rule : Rule) (ids : List Id) → IsGroup (group_after now present (claim consumer rule ids) g) (lived (claim consumer rule ids))
-  unfolding turn lived
+  unfolding event lived
   step-claim consumer rule ids = record {
     cursor_is = still;
     consumers_are = joins consumer;
     rows_are = ap (λ es. (change (claimed consumer now rule (claim_of es present now rule ids)) g.rows).entries) h.rows_are
-        ∙ changed_rows (claimed consumer now rule (claim_of (rows life.start life.turns) present now rule ids));
+        ∙ changed_rows (claimed consumer now rule (claim_of (rows life.start life.events) present now rule ids));
   }
 
   step-auto_claim : (consumer : List ℕ) (rule : Rule) (start : Id) (limit : ℕ) → IsGroup (group_after now present (auto_claim consumer rule start limit) g) (lived (auto_claim consumer rule start limit))
-  unfolding turn lived
+  unfolding event lived
   step-auto_claim consumer rule start limit = record {
     cursor_is = still;
     consumers_are = joins consumer;
     rows_are = ap (λ es. (change (claimed consumer now rule (scan_of es present now rule start limit).claim) g.rows).entries) h.rows_are
-        ∙ changed_rows (claimed consumer now rule (scan_of (rows life.start life.turns) present now rule start limit).claim);
+        ∙ changed_rows (claimed consumer now rule (scan_of (rows life.start life.events) present now rule start limit).claim);
   }
 
--- the group after one more turn is what the turn makes of the group
+-- the group after one more event is what the event makes of the group
 pub group-step : (life : GroupLife) (g : State) → IsGroup g life → (now : ℕ) (present : List Id) → Ascends present → (ask : Ask)
-    → IsGroup (group_after now present ask g) (record { start = life.start; turns = record { now = now; present = present; ask = ask } ∷ life.turns })
-unfolding lived turn
+    → IsGroup (group_after now present ask g) (record { start = life.start; events = record { now = now; present = present; ask = ask } ∷ life.events })
+unfolding lived event
 group-step life g h now present asc (read_new consumer limit noack) = step-read_new life g h now present asc consumer limit noack
 group-step life g h now present asc (read_own consumer limit from) = step-read_own life g h now present asc consumer limit from
 group-step life g h now present asc (ack ids) = step-ack life g h now present asc ids
@@ -180,6 +180,6 @@ group-step life g h now present asc (claim consumer rule ids) = step-claim life 
 group-step life g h now present asc (auto_claim consumer rule start limit) = step-auto_claim life g h now present asc consumer rule start limit
 
 -- a group that begins
-pub group-new : (start : Id) → IsGroup (new_group start) (record { start = start; turns = [] })
+pub group-new : (start : Id) → IsGroup (new_group start) (record { start = start; events = [] })
 unfolding empty
 group-new start = record { cursor_is = refl; consumers_are = λ q. ap is_some (get-empty _ q); rows_are = refl }

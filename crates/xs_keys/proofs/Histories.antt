@@ -1,4 +1,4 @@
--- What holds of the lives of a history: the ids in the stream ascend at each turn.
+-- What holds of the lives of a history: the ids in the stream ascend at each event.
 use Rattle.std.proofs.Common.{◌≡◌, ℕ, Bool, true, false, cond, ◌&&◌, List, [], ◌∷◌, Option, Some, None, is_some, subst, refl}
 use Rattle.std.specs.List.{list_all}
 use Rattle.xs_stream.specs.declared.id.Id.{Id}
@@ -8,9 +8,9 @@ use Rattle.xs_command.specs.declared.command.Command.{Command}
 use Rattle.xs_command.specs.declared.command.Command.TheVariants.{Ping, Quit, Add, Delete, TrimTo, Len, Scan, GroupCreate, GroupDestroy, ConsumerCreate, ConsumerDelete, ReadGroup, Ack, Pending, PendingRows, Claim, AutoClaim, DropKeys}
 use Rattle.xs_command.specs.declared.command.GroupCreateCommand.{GroupCreateCommand}
 use Rattle.xs_command.specs.declared.command.ReadGroupCommand.{ReadGroupCommand}
-use Rattle.xs_command.specs.declared.reads.ReadOne.{ReadOne}
-use Rattle.xs_keys.specs.Life.{Change, has_name, key_life}
-use Rattle.xs_keys.specs.Turn.{Ask, join, leave, ack, claim, auto_claim}
+use Rattle.xs_command.specs.declared.command.ReadOne.{ReadOne}
+use Rattle.xs_keys.specs.Life.{Change, is_listed, key_life}
+use Rattle.xs_keys.specs.GroupEvent.{Ask, join, leave, ack, claim, auto_claim}
 use Rattle.xs_keys.specs.GroupLife.{GroupLife, present_in, life_opened, life_created, life_asked, read_ask, life_read, group_lived, reads_of, group_of, group_life}
 use Rattle.xs_keys.proofs.Streams.{ascends-live}
 use Rattle.xs_keys.proofs.Deliveries.{PresentAscends}
@@ -18,7 +18,7 @@ use Rattle.xs_keys.proofs.Deliveries.{PresentAscends}
 -- a life whose turns meet ids that ascend, or none
 abbrev pub MeetsAscending : Option GroupLife → Type 0
 MeetsAscending None = Unit {0}
-MeetsAscending (Some life) = PresentAscends life.turns
+MeetsAscending (Some life) = PresentAscends life.events
 
 present-ascends : (stream : Option (List Change)) → Ascends (present_in stream)
 present-ascends None = tt
@@ -69,7 +69,7 @@ meets-lived now (Claim c) key group served stream life h =
 meets-lived now (AutoClaim c) key group served stream life h =
     either (is_name key c.key && is_name group c.group) (life_asked now (present_in stream) (auto_claim c.consumer c.rule c.start c.limit) life) life
     (meets-asked now (present_in stream) (auto_claim c.consumer c.rule c.start c.limit) life (present-ascends stream) h) h
-meets-lived now (DropKeys keys) key group served stream life h = either (has_name keys key) None life tt h
+meets-lived now (DropKeys keys) key group served stream life h = either (is_listed keys key) None life tt h
 meets-lived now (Ping message) key group served stream life h = h
 meets-lived now Quit key group served stream life h = h
 meets-lived now (Add add) key group served stream life h = h
@@ -85,5 +85,5 @@ meets-life [] key group = tt
 meets-life (e ∷ past) key group =
     meets-lived e.0 e.1 key group (list_all (λ one. is_some (group_life past one.key (group_of e.1))) (reads_of e.1)) (key_life past key) (group_life past key group) (meets-life past key group)
 
-pub present-in-life : (past : List (ℕ × Command)) (key group : List ℕ) (life : GroupLife) → group_life past key group ≡ Some life → PresentAscends life.turns
+pub present-in-life : (past : List (ℕ × Command)) (key group : List ℕ) (life : GroupLife) → group_life past key group ≡ Some life → PresentAscends life.events
 present-in-life past key group life e = subst MeetsAscending e (meets-life past key group)

@@ -1,7 +1,7 @@
 -- Every content of a history is lawful.
 use Rattle.std.proofs.Common.{◌≡◌, ℕ, Bool, true, false, cond, List, [], ◌∷◌, Option, Some, None, is_some, option_and_then, ◌&&◌, sym, ap, subst, ◌∙◌, refl}
 use Rattle.std.proofs.lemmas.Bool.{false≢true}
-use Rattle.xs_bytes.specs.Each.{kept}
+use Rattle.xs_bytes.specs.Each.{with_some}
 use Rattle.xs_bytes.specs.SortedMap.{get}
 use Rattle.xs_stream.specs.declared.id.Id.{Id}
 use Rattle.xs_stream.specs.Id.{has_id}
@@ -9,7 +9,7 @@ use Rattle.xs_stream.specs.Kept.{Ascends, AllAbove, AllUpTo}
 use Rattle.xs_group.specs.State.{Row, State, is_name, delivers, first_row, shown, again, unless_owned}
 use Rattle.xs_command.specs.declared.command.Command.{Command}
 use Rattle.xs_keys.specs.Life.{Change, key_life, stream_of}
-use Rattle.xs_keys.specs.Turn.{Ask, Turn, read_new, read_own, ack, join, leave, claim, auto_claim, delivered, cursor, is_consumer, asked_row, rows_among, holding, rows}
+use Rattle.xs_keys.specs.GroupEvent.{Ask, GroupEvent, read_new, read_own, ack, join, leave, claim, auto_claim, delivered, cursor, is_consumer, asked_row, rows_among, holding, rows}
 use Rattle.xs_keys.specs.GroupLife.{GroupLife, group_life}
 use Rattle.xs_keys.specs.Content.{Key, Content, IsGroup, GroupHolds, KeyHolds, IsContent, IsLawfulStream, IsLawfulGroup, IsLawfulKey, IsLawfulContent}
 use Rattle.xs_keys.proofs.Streams.{ascends-live, up_to-live}
@@ -24,14 +24,14 @@ use Rattle.xs_group.specs.Claims.{Rule, row_at, claim_of, scan_of, claimed_row}
 above-among : (a : Id) (row_of : Id → Option Row) (xs : List Id) → AllAbove a xs → AllAbove a (row_ids (rows_among row_of xs))
 above-among a row_of [] h = tt
 above-among a row_of (x ∷ xs) h = by (row_of x) (above-among a row_of xs h.1) where
-  by : (r : Option Row) → AllAbove a (row_ids (rows_among row_of xs)) → AllAbove a (row_ids (kept x r (rows_among row_of xs)))
+  by : (r : Option Row) → AllAbove a (row_ids (rows_among row_of xs)) → AllAbove a (row_ids (with_some x r (rows_among row_of xs)))
   by None rest = rest
   by (Some row) rest = (h.0, rest)
 
 ascends-among : (row_of : Id → Option Row) (xs : List Id) → Ascends xs → Ascends (row_ids (rows_among row_of xs))
 ascends-among row_of [] h = tt
 ascends-among row_of (x ∷ xs) h = by (row_of x) (ascends-among row_of xs h.1) where
-  by : (r : Option Row) → Ascends (row_ids (rows_among row_of xs)) → Ascends (row_ids (kept x r (rows_among row_of xs)))
+  by : (r : Option Row) → Ascends (row_ids (rows_among row_of xs)) → Ascends (row_ids (with_some x r (rows_among row_of xs)))
   by None rest = rest
   by (Some row) rest = (above-among x row_of xs h.0, rest)
 
@@ -54,10 +54,10 @@ still drops false before d b = rw d b
 brought : (drops brings before : Bool) → drops ≡ false → brings ≡ true → cond drops false (cond brings true before) ≡ true
 brought drops brings before d b = rw (d, b) refl
 
-abbrev IsOfConsumers : List Turn → Option Row → Type 0
+abbrev IsOfConsumers : List GroupEvent → Option Row → Type 0
 IsOfConsumers past r = (row : Row) → r ≡ Some row → is_consumer past row.consumer ≡ true
 
-module _ (past : List Turn) (now : ℕ) (present : List Id) (a : Id) (es : List (Id × Row)) (x : Id) where
+module _ (past : List GroupEvent) (now : ℕ) (present : List Id) (a : Id) (es : List (Id × Row)) (x : Id) where
   of-new : (consumer : List ℕ) (limit : Option ℕ) (noack d : Bool) (r : Option Row) → IsOfConsumers past r
       → (row : Row) → cond d (cond noack None (Some (first_row consumer now))) r ≡ Some row
       → cond (is_name row.consumer consumer) true (is_consumer past row.consumer) ≡ true
@@ -106,20 +106,20 @@ module _ (past : List Turn) (now : ℕ) (present : List Id) (a : Id) (es : List 
   of-asked (auto_claim consumer rule start limit) r h = λ row e.
       let c = (scan_of es present now rule start limit).claim in of-claim consumer rule (has_id c.removed x) (has_id c.take x) r h row e
 
-of-consumers : (start : Id) (turns : List Turn) (x : Id) → IsOfConsumers turns (holding start turns x)
+of-consumers : (start : Id) (events : List GroupEvent) (x : Id) → IsOfConsumers events (holding start events x)
 of-consumers start [] x = λ row e. absurd (false≢true (ap is_some e))
-of-consumers start (turn ∷ past) x =
-    of-asked past turn.now turn.present (cursor start past) (rows start past) x turn.ask (holding start past x) (of-consumers start past x)
+of-consumers start (event ∷ past) x =
+    of-asked past event.now event.present (cursor start past) (rows start past) x event.ask (holding start past x) (of-consumers start past x)
 
 -- ---- groups, keys, contents
 
-lawful-group : (g : State) (life : GroupLife) → IsGroup g life → PresentAscends life.turns → IsLawfulGroup g
+lawful-group : (g : State) (life : GroupLife) → IsGroup g life → PresentAscends life.events → IsLawfulGroup g
 unfolding get
 lawful-group g life h asc = record {
-  ascends = subst (λ es. Ascends (row_ids es)) (sym h.rows_are) (ascends-among (λ x. holding life.start life.turns x) (delivered life.start life.turns) (ascends-delivered life.start life.turns asc));
-  up_to_cursor = subst (λ es. AllUpTo g.cursor (row_ids es)) (sym h.rows_are) (subst (λ c. AllUpTo c (row_ids (rows life.start life.turns))) (sym h.cursor_is) (up_to-rows life.start life.turns));
+  ascends = subst (λ es. Ascends (row_ids es)) (sym h.rows_are) (ascends-among (λ x. holding life.start life.events x) (delivered life.start life.events) (ascends-delivered life.start life.events asc));
+  up_to_cursor = subst (λ es. AllUpTo g.cursor (row_ids es)) (sym h.rows_are) (subst (λ c. AllUpTo c (row_ids (rows life.start life.events))) (sym h.cursor_is) (up_to-rows life.start life.events));
   of_consumers = λ x row e.
-      h.consumers_are row.consumer ∙ of-consumers life.start life.turns x row (sym (row-found life.start life.turns x) ∙ ap (λ es. row_at es x) (sym h.rows_are) ∙ e);
+      h.consumers_are row.consumer ∙ of-consumers life.start life.events x row (sym (row-found life.start life.events x) ∙ ap (λ es. row_at es x) (sym h.rows_are) ∙ e);
 }
 
 lawful-held : (s : Option State) (life : Option GroupLife) → GroupHolds s life → MeetsAscending life → (g : State) → s ≡ Some g → IsLawfulGroup g

@@ -12,11 +12,11 @@ use Rattle.xs_command.specs.declared.command.Command.{Command}
 use Rattle.xs_command.specs.declared.command.Command.TheVariants.{Ping, Quit, Add, Delete, TrimTo, Len, Scan, GroupCreate, GroupDestroy, ConsumerCreate, ConsumerDelete, ReadGroup, Ack, Pending, PendingRows, Claim, AutoClaim, DropKeys}
 use Rattle.xs_command.specs.declared.command.GroupCreateCommand.{GroupCreateCommand}
 use Rattle.xs_command.specs.declared.command.ReadGroupCommand.{ReadGroupCommand}
-use Rattle.xs_command.specs.declared.reads.ReadOne.{ReadOne}
-use Rattle.xs_command.specs.declared.reads.ReadFrom.{ReadFrom}
-use Rattle.xs_command.specs.declared.reads.ReadFrom.TheVariants.{New, After}
-use Rattle.xs_keys.specs.Life.{Change, has_name, key_life}
-use Rattle.xs_keys.specs.Turn.{Ask, join, leave, ack, claim, auto_claim, asked_new, delivered, cursor}
+use Rattle.xs_command.specs.declared.command.ReadOne.{ReadOne}
+use Rattle.xs_command.specs.declared.command.ReadFrom.{ReadFrom}
+use Rattle.xs_command.specs.declared.command.ReadFrom.TheVariants.{New, After}
+use Rattle.xs_keys.specs.Life.{Change, is_listed, key_life}
+use Rattle.xs_keys.specs.GroupEvent.{Ask, join, leave, ack, claim, auto_claim, asked_new, delivered, cursor}
 use Rattle.xs_keys.specs.GroupLife.{GroupLife, limit_of, present_in, life_opened, life_created, life_asked, read_ask, life_read, group_of, group_life, is_new, asks_new, acts, delivered_by, GoesOn}
 use Rattle.xs_keys.proofs.Names.{is_name-eq}
 
@@ -24,7 +24,7 @@ use Rattle.xs_keys.proofs.Names.{is_name-eq}
 
 stays : (life : Option GroupLife) → GoesOn life [] life
 stays None = refl
-stays (Some life) = (refl, sym (append-nil (delivered life.start life.turns)))
+stays (Some life) = (refl, sym (append-nil (delivered life.start life.events)))
 
 either : (t : Bool) (before one other : Option GroupLife) → GoesOn before [] one → GoesOn before [] other → GoesOn before [] (cond t one other)
 either true before one other h k = h
@@ -37,7 +37,7 @@ ended (Some life) = refl
 -- an ask that delivers nothing
 asks-none : (now : ℕ) (present : List Id) (ask : Ask) (life : Option GroupLife) → ((a : Id) → asked_new ask present a ≡ []) → GoesOn life [] (life_asked now present ask life)
 asks-none now present ask None none = refl
-asks-none now present ask (Some life) none = (refl, ap (λ new. delivered life.start life.turns ++ new) (none (cursor life.start life.turns)))
+asks-none now present ask (Some life) none = (refl, ap (λ new. delivered life.start life.events ++ new) (none (cursor life.start life.events)))
 
 opens : (make : Bool) (create : GroupCreateCommand) → create.make ≡ make → (stream : Option (List Change)) → GoesOn None [] (life_opened create stream)
 opens make create m (Some changes) = (refl, refl)
@@ -58,7 +58,7 @@ no-life-read now present read key (one ∷ more) = by (is_name key one.key) (no-
   by false e = e
 
 abbrev delivered_in : Command → List Id → Option GroupLife → List Id
-delivered_in command present life = option_map_or (λ l. delivers (limit_of command) (cursor l.start l.turns) present) life []
+delivered_in command present life = option_map_or (λ l. delivers (limit_of command) (cursor l.start l.events) present) life []
 
 -- reads of other keys
 abbrev pub absent : List ℕ → List ReadOne → Bool
@@ -92,18 +92,18 @@ others-absent key a (one ∷ more) same h = rw (other-name key a one.key same h.
 
 -- the reads of a life that is open
 reads-on : (now : ℕ) (present : List Id) (read : ReadGroupCommand) (key : List ℕ) (reads : List ReadOne) (b : GroupLife) → IsDistinct bytes_eq (keys_of reads)
-    → GoesOn (Some b) (cond (list_any (λ one. is_name key one.key && is_new one.from) reads) (delivers read.limit (cursor b.start b.turns) present) []) (life_read now present read key reads (Some b))
+    → GoesOn (Some b) (cond (list_any (λ one. is_name key one.key && is_new one.from) reads) (delivers read.limit (cursor b.start b.events) present) []) (life_read now present read key reads (Some b))
 unfolding IsDistinct
-reads-on now present read key [] b distinct = (refl, sym (append-nil (delivered b.start b.turns)))
+reads-on now present read key [] b distinct = (refl, sym (append-nil (delivered b.start b.events)))
 reads-on now present read key (one ∷ more) b distinct = by (is_name key one.key) refl (reads-on now present read key more b distinct.1) where
   here : (from : ReadFrom) → list_any (λ o. is_name key o.key && is_new o.from) more ≡ false
-      → GoesOn (Some b) (cond (is_new from || list_any (λ o. is_name key o.key && is_new o.from) more) (delivers read.limit (cursor b.start b.turns) present) []) (life_asked now present (read_ask read from) (Some b))
+      → GoesOn (Some b) (cond (is_new from || list_any (λ o. is_name key o.key && is_new o.from) more) (delivers read.limit (cursor b.start b.events) present) []) (life_asked now present (read_ask read from) (Some b))
   here New e = (refl, refl)
   here (After id) e = rw e (refl, refl)
 
   by : (t : Bool) → is_name key one.key ≡ t
-      → GoesOn (Some b) (cond (list_any (λ o. is_name key o.key && is_new o.from) more) (delivers read.limit (cursor b.start b.turns) present) []) (life_read now present read key more (Some b))
-      → GoesOn (Some b) (cond ((t && is_new one.from) || list_any (λ o. is_name key o.key && is_new o.from) more) (delivers read.limit (cursor b.start b.turns) present) [])
+      → GoesOn (Some b) (cond (list_any (λ o. is_name key o.key && is_new o.from) more) (delivers read.limit (cursor b.start b.events) present) []) (life_read now present read key more (Some b))
+      → GoesOn (Some b) (cond ((t && is_new one.from) || list_any (λ o. is_name key o.key && is_new o.from) more) (delivers read.limit (cursor b.start b.events) present) [])
       (life_read now present read key more (cond t (life_asked now present (read_ask read one.from) (Some b)) (Some b)))
   by true e rest =
       let gone = others-absent key one.key more e distinct.0 in
@@ -160,7 +160,7 @@ goes-on past now (Ack k g ids) key group formed = quiet past now key group k g (
 goes-on past now (Claim c) key group formed = quiet past now key group c.key c.group (claim c.consumer c.rule c.ids) (λ a. refl)
 goes-on past now (AutoClaim c) key group formed = quiet past now key group c.key c.group (auto_claim c.consumer c.rule c.start c.limit) (λ a. refl)
 goes-on past now (DropKeys keys) key group formed =
-    either (has_name keys key) (group_life past key group) None (group_life past key group) (ended (group_life past key group)) (stays (group_life past key group))
+    either (is_listed keys key) (group_life past key group) None (group_life past key group) (ended (group_life past key group)) (stays (group_life past key group))
 goes-on past now (Ping message) key group formed = stays (group_life past key group)
 goes-on past now Quit key group formed = stays (group_life past key group)
 goes-on past now (Add add) key group formed = stays (group_life past key group)

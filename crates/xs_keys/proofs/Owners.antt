@@ -1,14 +1,14 @@
--- The owner, by the last assigning turn and what settled since, is that of the row; and what one turn makes of it.
+-- The owner, by the last assigning event and what settled since, is that of the row; and what one event makes of it.
 use Rattle.std.proofs.Common.{◌≡◌, ℕ, Bool, true, false, not, cond, ◌&&◌, ◌||◌, ◌⊎◌, inl, inr, List, [], ◌∷◌, ◌++◌, Option, Some, None, option_and_then, option_map, is_some, sym, ap, subst, ◌∙◌, refl}
 use Rattle.std.proofs.lemmas.Bool.{false≢true}
-use Rattle.xs_bytes.specs.Each.{kept}
+use Rattle.xs_bytes.specs.Each.{with_some}
 use Rattle.xs_stream.specs.declared.id.Id.{Id}
 use Rattle.xs_stream.specs.Id.{is_below, is_same, has_id}
 use Rattle.xs_stream.proofs.Order.{is_same-eq}
-use Rattle.xs_group.specs.declared.claim.Claim.{Claim}
+use Rattle.xs_group.specs.declared.claims.Claim.{Claim}
 use Rattle.xs_group.specs.Claims.{Rule, row_at, is_idle, is_removed, is_taken, claim_among, firsts, claim_of, from_start, is_hit, scanned, scan_of, claimed, claimed_row}
 use Rattle.xs_group.specs.State.{Row, is_name, delivers, first_row, shown, again, reread, unless_acked, unless_owned}
-use Rattle.xs_keys.specs.Turn.{Ask, Turn, read_new, read_own, ack, join, leave, claim, auto_claim, asked_new, asked_claim, consumer_of, keeps_pending, acks, drops_consumer, delivered, cursor, delivers_at, asked_row, rows_among, holding, rows, delivers_pending, takes, assigns, last_assigned, removes, settles, is_settled, owner}
+use Rattle.xs_keys.specs.GroupEvent.{Ask, GroupEvent, read_new, read_own, ack, join, leave, claim, auto_claim, asked_new, asked_claim, consumer_of, keeps_pending, acks, drops_consumer, delivered, cursor, delivers_at, asked_row, rows_among, holding, rows, delivers_pending, takes, assigns, last_assigned, removes, settles, is_settled, owner}
 use Rattle.xs_keys.specs.Headline.{OwnerAfter, NoOwnerAfter, settled_in, OwnedUntilSettled, ChangesByClaims}
 use Rattle.xs_keys.proofs.IdLists.{has_id-append, has_id-where, not_above, not_among}
 use Rattle.xs_keys.proofs.GroupSteps.{up_to-delivered}
@@ -16,11 +16,11 @@ use Rattle.xs_keys.proofs.Deliveries.{above-after}
 
 -- ---- rows are found where they are held
 
-find-kept : (q x : Id) (r : Option Row) (es : List (Id × Row)) → is_same q x ≡ false → row_at (kept x r es) q ≡ row_at es q
+find-kept : (q x : Id) (r : Option Row) (es : List (Id × Row)) → is_same q x ≡ false → row_at (with_some x r es) q ≡ row_at es q
 find-kept q x None es e = refl
 find-kept q x (Some row) es e = rw e refl
 
-find-here : (q x : Id) (r : Option Row) (es : List (Id × Row)) → is_same q x ≡ true → r ≡ None → row_at (kept x r es) q ≡ row_at es q
+find-here : (q x : Id) (r : Option Row) (es : List (Id × Row)) → is_same q x ≡ true → r ≡ None → row_at (with_some x r es) q ≡ row_at es q
 find-here q x None es e n = refl
 find-here q x (Some row) es e n = absurd (subst (λ o. cond (is_some o) (Unit {0}) ⊥) n tt)
 
@@ -32,7 +32,7 @@ find-among row_of (x ∷ xs) q = by (is_same q x) refl (row_of x) refl (find-amo
   again false r e = refl
 
   by : (t : Bool) → is_same q x ≡ t → (r : Option Row) → row_of x ≡ r → row_at (rows_among row_of xs) q ≡ cond (has_id xs q) (row_of q) None
-      → row_at (kept x r (rows_among row_of xs)) q ≡ cond (t || has_id xs q) (row_of q) None
+      → row_at (with_some x r (rows_among row_of xs)) q ≡ cond (t || has_id xs q) (row_of q) None
   by true e None f rest =
       let none : row_of q ≡ None = ap row_of (is_same-eq q x e) ∙ f in
       rest ∙ again (has_id xs q) (row_of q) none ∙ sym none
@@ -41,8 +41,8 @@ find-among row_of (x ∷ xs) q = by (is_same q x) refl (row_of x) refl (find-amo
 
 -- ---- what has a row was delivered
 
-Delivered : Id → List Turn → Id → Option Row → Type 0
-Delivered start turns x r = is_some r ≡ true → has_id (delivered start turns) x ≡ true
+Delivered : Id → List GroupEvent → Id → Option Row → Type 0
+Delivered start events x r = is_some r ≡ true → has_id (delivered start events) x ≡ true
 
 nothing : (f : Row → Option Row) (r : Option Row) → is_some (option_and_then f r) ≡ true → is_some r ≡ true
 nothing f None e = e
@@ -68,40 +68,40 @@ asked-held (leave consumer) now present a es x r e = inr (nothing (unless_owned 
 asked-held (claim consumer rule ids) now present a es x r e = inr (nothing (claimed consumer now rule (claim_of es present now rule ids) x) r e)
 asked-held (auto_claim consumer rule start limit) now present a es x r e = inr (nothing (claimed consumer now rule (scan_of es present now rule start limit).claim x) r e)
 
-pub held-delivered : (start : Id) (turns : List Turn) (x : Id) → is_some (holding start turns x) ≡ true → has_id (delivered start turns) x ≡ true
+pub held-delivered : (start : Id) (events : List GroupEvent) (x : Id) → is_some (holding start events x) ≡ true → has_id (delivered start events) x ≡ true
 held-delivered start [] x e = absurd (false≢true e)
-held-delivered start (turn ∷ past) x e =
-    has_id-append (delivered start past) (delivers_at turn (cursor start past)) x
-    ∙ by (asked-held turn.ask turn.now turn.present (cursor start past) (rows start past) x (holding start past x) e) (held-delivered start past x)
+held-delivered start (event ∷ past) x e =
+    has_id-append (delivered start past) (delivers_at event (cursor start past)) x
+    ∙ by (asked-held event.ask event.now event.present (cursor start past) (rows start past) x (holding start past x) e) (held-delivered start past x)
   where
-    by : (has_id (delivers_at turn (cursor start past)) x ≡ true) ⊎ (is_some (holding start past x) ≡ true) → (is_some (holding start past x) ≡ true → has_id (delivered start past) x ≡ true)
-        → (has_id (delivered start past) x || has_id (delivers_at turn (cursor start past)) x) ≡ true
+    by : (has_id (delivers_at event (cursor start past)) x ≡ true) ⊎ (is_some (holding start past x) ≡ true) → (is_some (holding start past x) ≡ true → has_id (delivered start past) x ≡ true)
+        → (has_id (delivered start past) x || has_id (delivers_at event (cursor start past)) x) ≡ true
     by (inl new) before = or-right _ _ new
     by (inr held) before = or-left _ _ (before held)
 
 -- what was delivered isn't delivered again
-pub not-again : (start : Id) (past : List Turn) (turn : Turn) (x : Id) → has_id (delivered start past) x ≡ true → has_id (delivers_at turn (cursor start past)) x ≡ false
-not-again start past turn x d = by (is_below (cursor start past) x) refl where
-  by : (t : Bool) → is_below (cursor start past) x ≡ t → has_id (delivers_at turn (cursor start past)) x ≡ false
-  by false up = not_above (cursor start past) x (delivers_at turn (cursor start past)) up (above-after start past turn)
+pub not-again : (start : Id) (past : List GroupEvent) (event : GroupEvent) (x : Id) → has_id (delivered start past) x ≡ true → has_id (delivers_at event (cursor start past)) x ≡ false
+not-again start past event x d = by (is_below (cursor start past) x) refl where
+  by : (t : Bool) → is_below (cursor start past) x ≡ t → has_id (delivers_at event (cursor start past)) x ≡ false
+  by false up = not_above (cursor start past) x (delivers_at event (cursor start past)) up (above-after start past event)
   by true up = absurd (false≢true (sym (not_among (cursor start past) (delivered start past) x up (up_to-delivered start past)) ∙ d))
 
 -- what is delivered now had no row
-pub not-held : (start : Id) (past : List Turn) (turn : Turn) (x : Id) → has_id (delivers_at turn (cursor start past)) x ≡ true → holding start past x ≡ None
-not-held start past turn x e = by (holding start past x) refl where
+pub not-held : (start : Id) (past : List GroupEvent) (event : GroupEvent) (x : Id) → has_id (delivers_at event (cursor start past)) x ≡ true → holding start past x ≡ None
+not-held start past event x e = by (holding start past x) refl where
   by : (r : Option Row) → holding start past x ≡ r → r ≡ None
   by None f = refl
-  by (Some row) f = absurd (false≢true (sym (not-again start past turn x (held-delivered start past x (ap is_some f))) ∙ e))
+  by (Some row) f = absurd (false≢true (sym (not-again start past event x (held-delivered start past x (ap is_some f))) ∙ e))
 
-unheld : (start : Id) (turns : List Turn) (x : Id) → has_id (delivered start turns) x ≡ false → (r : Option Row) → holding start turns x ≡ r → None ≡ r
-unheld start turns x e None f = refl
-unheld start turns x e (Some row) f = absurd (false≢true (sym e ∙ held-delivered start turns x (ap is_some f)))
+unheld : (start : Id) (events : List GroupEvent) (x : Id) → has_id (delivered start events) x ≡ false → (r : Option Row) → holding start events x ≡ r → None ≡ r
+unheld start events x e None f = refl
+unheld start events x e (Some row) f = absurd (false≢true (sym e ∙ held-delivered start events x (ap is_some f)))
 
-pub row-found : (start : Id) (turns : List Turn) (x : Id) → row_at (rows start turns) x ≡ holding start turns x
-row-found start turns x = find-among (λ y. holding start turns y) (delivered start turns) x ∙ by (has_id (delivered start turns) x) refl where
-  by : (t : Bool) → has_id (delivered start turns) x ≡ t → cond t (holding start turns x) None ≡ holding start turns x
+pub row-found : (start : Id) (events : List GroupEvent) (x : Id) → row_at (rows start events) x ≡ holding start events x
+row-found start events x = find-among (λ y. holding start events y) (delivered start events) x ∙ by (has_id (delivered start events) x) refl where
+  by : (t : Bool) → has_id (delivered start events) x ≡ t → cond t (holding start events x) None ≡ holding start events x
   by true e = refl
-  by false e = unheld start turns x e (holding start turns x) refl
+  by false e = unheld start events x e (holding start events x) refl
 
 -- ---- what a claim takes and removes
 
@@ -164,7 +164,7 @@ claimed-over : (ask : Ask) (now : ℕ) (present : List Id) (es : List (Id × Row
 unfolding IsOver
 claimed-over ask now present es x e = asked-over ask now present es x e
 
--- ---- one turn
+-- ---- one event
 
 -- the owner that a row tells
 abbrev pub of_row : Option Row → Option (List ℕ)
@@ -176,26 +176,26 @@ owner-by true settles settled asking last = refl
 owner-by false true settled asking last = refl
 owner-by false false settled asking last = refl
 
--- what a turn makes of the owner
-pub owner-step : (start : Id) (past : List Turn) (turn : Turn) (x : Id)
-    → owner start (turn ∷ past) x ≡ cond (assigns start past turn x) (consumer_of turn.ask) (cond (settles start past turn x) None (owner start past x))
-owner-step start past turn x = owner-by (assigns start past turn x) (settles start past turn x) (is_settled start past x) (consumer_of turn.ask) (last_assigned start past x)
+-- what an event makes of the owner
+pub owner-step : (start : Id) (past : List GroupEvent) (event : GroupEvent) (x : Id)
+    → owner start (event ∷ past) x ≡ cond (assigns start past event x) (consumer_of event.ask) (cond (settles start past event x) None (owner start past x))
+owner-step start past event x = owner-by (assigns start past event x) (settles start past event x) (is_settled start past x) (consumer_of event.ask) (last_assigned start past x)
 
 stays-settled : (s : Bool) → s ≡ false → (o : Option (List ℕ)) → cond s None o ≡ o
 stays-settled s e o = rw e refl
 
--- a turn that isn't XGROUP DELCONSUMER removes none
-removes-none : (turn : Turn) → ((name : List ℕ) → drops_consumer turn.ask name ≡ false) → (last : Option (List ℕ)) → removes turn last ≡ false
-removes-none turn none None = refl
-removes-none turn none (Some name) = none name
+-- an event that isn't XGROUP DELCONSUMER removes none
+removes-none : (event : GroupEvent) → ((name : List ℕ) → drops_consumer event.ask name ≡ false) → (last : Option (List ℕ)) → removes event last ≡ false
+removes-none event none None = refl
+removes-none event none (Some name) = none name
 
 settles-none : (a b c : Bool) → a ≡ false → b ≡ false → c ≡ false → (a || (b || c)) ≡ false
 settles-none a b c p q r = rw (p, q, r) refl
 
 -- ---- the owner is that of the row
 
-module _ (start : Id) (past : List Turn) (now : ℕ) (present : List Id) (x : Id) (ih : owner start past x ≡ of_row (holding start past x)) where
-  t : Ask → Turn
+module _ (start : Id) (past : List GroupEvent) (now : ℕ) (present : List Id) (x : Id) (ih : owner start past x ≡ of_row (holding start past x)) where
+  t : Ask → GroupEvent
   t ask = record { now = now; present = present; ask = ask }
 
   Agrees : Ask → Type 0
@@ -308,7 +308,7 @@ module _ (start : Id) (past : List Turn) (now : ℕ) (present : List Id) (x : Id
       ∙ agree-claims consumer rule (scan_of (rows start past) present now rule from limit).claim (asked-over (auto_claim consumer rule from limit) now present (rows start past) x)
       (settles start past (t (auto_claim consumer rule from limit)) x) (none-or (removes (t (auto_claim consumer rule from limit)) (last_assigned start past x)) _ (removes-none (t (auto_claim consumer rule from limit)) (λ _. refl) (last_assigned start past x)))
 
-agree-asked : (start : Id) (past : List Turn) (now : ℕ) (present : List Id) (ask : Ask) (x : Id) → owner start past x ≡ of_row (holding start past x)
+agree-asked : (start : Id) (past : List GroupEvent) (now : ℕ) (present : List Id) (ask : Ask) (x : Id) → owner start past x ≡ of_row (holding start past x)
     → owner start (record { now = now; present = present; ask = ask } ∷ past) x ≡ of_row (holding start (record { now = now; present = present; ask = ask } ∷ past) x)
 unfolding Agrees t
 agree-asked start past now present (read_new consumer limit noack) x ih = agree-new start past now present x ih consumer limit noack
@@ -320,9 +320,9 @@ agree-asked start past now present (claim consumer rule ids) x ih = agree-claim 
 agree-asked start past now present (auto_claim consumer rule from limit) x ih = agree-auto_claim start past now present x ih consumer rule from limit
 
 -- the owner by looking back is that of the row
-pub owner-row : (start : Id) (turns : List Turn) (x : Id) → owner start turns x ≡ of_row (holding start turns x)
+pub owner-row : (start : Id) (events : List GroupEvent) (x : Id) → owner start events x ≡ of_row (holding start events x)
 owner-row start [] x = refl
-owner-row start (turn ∷ past) x = agree-asked start past turn.now turn.present turn.ask x (owner-row start past x)
+owner-row start (event ∷ past) x = agree-asked start past event.now event.present event.ask x (owner-row start past x)
 
 -- ---- the owner changes only by a claim
 
@@ -340,50 +340,50 @@ taken-unsettled (auto_claim consumer rule from limit) now present es x last e =
     settles-none false _ _ refl (removes-none (record { now = now; present = present; ask = auto_claim consumer rule from limit }) (λ _. refl) last) (claimed-over (auto_claim consumer rule from limit) now present es x e).1
 
 -- what is taken has an owner
-taken-owned : (start : Id) (past : List Turn) (turn : Turn) (x : Id) → takes start past turn x ≡ true → is_some (owner start past x) ≡ true
-taken-owned start past turn x e =
+taken-owned : (start : Id) (past : List GroupEvent) (event : GroupEvent) (x : Id) → takes start past event x ≡ true → is_some (owner start past x) ≡ true
+taken-owned start past event x e =
     ap is_some (owner-row start past x) ∙ some-row (holding start past x)
-    ∙ ap is_some (sym (row-found start past x)) ∙ (claimed-over turn.ask turn.now turn.present (rows start past) x e).0
+    ∙ ap is_some (sym (row-found start past x)) ∙ (claimed-over event.ask event.now event.present (rows start past) x e).0
   where
     some-row : (r : Option Row) → is_some (of_row r) ≡ is_some r
     some-row None = refl
     some-row (Some row) = refl
 
 -- what has an owner was delivered
-owned-delivered : (start : Id) (past : List Turn) (x : Id) → is_some (owner start past x) ≡ true → has_id (delivered start past) x ≡ true
+owned-delivered : (start : Id) (past : List GroupEvent) (x : Id) → is_some (owner start past x) ≡ true → has_id (delivered start past) x ≡ true
 owned-delivered start past x e = held-delivered start past x (some-row (holding start past x) (ap is_some (sym (owner-row start past x)) ∙ e)) where
   some-row : (r : Option Row) → is_some (of_row r) ≡ true → is_some r ≡ true
   some-row None f = f
   some-row (Some row) f = refl
 
 -- what was delivered is assigned by claims alone
-assigned-again : (start : Id) (past : List Turn) (turn : Turn) (x : Id) → has_id (delivered start past) x ≡ true → assigns start past turn x ≡ takes start past turn x
-assigned-again start past turn x d = ap (λ b. (keeps_pending turn.ask && b) || takes start past turn x) (not-again start past turn x d) ∙ by (keeps_pending turn.ask) where
-  by : (k : Bool) → ((k && false) || takes start past turn x) ≡ takes start past turn x
+assigned-again : (start : Id) (past : List GroupEvent) (event : GroupEvent) (x : Id) → has_id (delivered start past) x ≡ true → assigns start past event x ≡ takes start past event x
+assigned-again start past event x d = ap (λ b. (keeps_pending event.ask && b) || takes start past event x) (not-again start past event x d) ∙ by (keeps_pending event.ask) where
+  by : (k : Bool) → ((k && false) || takes start past event x) ≡ takes start past event x
   by true = refl
   by false = refl
 
-pub owner-after : (start : Id) (past : List Turn) (turn : Turn) (x : Id) (name : List ℕ) → owner start past x ≡ Some name → OwnerAfter start past turn x name
-owner-after start past turn x name e = by (takes start past turn x) refl (settles start past turn x) refl where
-  step : owner start (turn ∷ past) x ≡ cond (takes start past turn x) (consumer_of turn.ask) (cond (settles start past turn x) None (owner start past x))
-  step = owner-step start past turn x ∙ ap (λ b. cond b (consumer_of turn.ask) (cond (settles start past turn x) None (owner start past x))) (assigned-again start past turn x (owned-delivered start past x (ap is_some e)))
+pub owner-after : (start : Id) (past : List GroupEvent) (event : GroupEvent) (x : Id) (name : List ℕ) → owner start past x ≡ Some name → OwnerAfter start past event x name
+owner-after start past event x name e = by (takes start past event x) refl (settles start past event x) refl where
+  step : owner start (event ∷ past) x ≡ cond (takes start past event x) (consumer_of event.ask) (cond (settles start past event x) None (owner start past x))
+  step = owner-step start past event x ∙ ap (λ b. cond b (consumer_of event.ask) (cond (settles start past event x) None (owner start past x))) (assigned-again start past event x (owned-delivered start past x (ap is_some e)))
 
-  by : (taken : Bool) → takes start past turn x ≡ taken → (settled : Bool) → settles start past turn x ≡ settled → OwnerAfter start past turn x name
-  by true t settled s = inr (inr (t, step ∙ ap (λ b. cond b (consumer_of turn.ask) (cond (settles start past turn x) None (owner start past x))) t))
-  by false t true s = inr (inl (s, step ∙ (λ i. cond (t i) (consumer_of turn.ask) (cond (s i) None (owner start past x)))))
-  by false t false s = inl (step ∙ (λ i. cond (t i) (consumer_of turn.ask) (cond (s i) None (owner start past x))) ∙ e)
+  by : (taken : Bool) → takes start past event x ≡ taken → (settled : Bool) → settles start past event x ≡ settled → OwnerAfter start past event x name
+  by true t settled s = inr (inr (t, step ∙ ap (λ b. cond b (consumer_of event.ask) (cond (settles start past event x) None (owner start past x))) t))
+  by false t true s = inr (inl (s, step ∙ (λ i. cond (t i) (consumer_of event.ask) (cond (s i) None (owner start past x)))))
+  by false t false s = inl (step ∙ (λ i. cond (t i) (consumer_of event.ask) (cond (s i) None (owner start past x))) ∙ e)
 
-pub no-owner-after : (start : Id) (past : List Turn) (turn : Turn) (x : Id) → owner start past x ≡ None → NoOwnerAfter start past turn x
-no-owner-after start past turn x e = by (delivers_pending start past turn x) refl (takes start past turn x) refl where
+pub no-owner-after : (start : Id) (past : List GroupEvent) (event : GroupEvent) (x : Id) → owner start past x ≡ None → NoOwnerAfter start past event x
+no-owner-after start past event x e = by (delivers_pending start past event x) refl (takes start past event x) refl where
   none : (s : Bool) → cond s None (owner start past x) ≡ None
   none true = refl
   none false = e
 
-  by : (new : Bool) → delivers_pending start past turn x ≡ new → (taken : Bool) → takes start past turn x ≡ taken → NoOwnerAfter start past turn x
-  by true d taken t = inr (d, owner-step start past turn x ∙ ap (λ b. cond (b || takes start past turn x) (consumer_of turn.ask) (cond (settles start past turn x) None (owner start past x))) d)
-  by false d true t = absurd (false≢true (sym (ap is_some e) ∙ taken-owned start past turn x t))
+  by : (new : Bool) → delivers_pending start past event x ≡ new → (taken : Bool) → takes start past event x ≡ taken → NoOwnerAfter start past event x
+  by true d taken t = inr (d, owner-step start past event x ∙ ap (λ b. cond (b || takes start past event x) (consumer_of event.ask) (cond (settles start past event x) None (owner start past x))) d)
+  by false d true t = absurd (false≢true (sym (ap is_some e) ∙ taken-owned start past event x t))
   by false d false t =
-      inl (owner-step start past turn x ∙ (λ i. cond (d i || t i) (consumer_of turn.ask) (cond (settles start past turn x) None (owner start past x))) ∙ none (settles start past turn x))
+      inl (owner-step start past event x ∙ (λ i. cond (d i || t i) (consumer_of event.ask) (cond (settles start past event x) None (owner start past x))) ∙ none (settles start past event x))
 
 -- ---- one owner until settled
 
@@ -406,27 +406,27 @@ claim-named (claim consumer rule ids) now present es x e = refl
 claim-named (auto_claim consumer rule from limit) now present es x e = refl
 
 -- what was delivered stays so
-still-delivered : (start : Id) (later : List Turn) (before : List Turn) (x : Id) → has_id (delivered start before) x ≡ true → has_id (delivered start (later ++ before)) x ≡ true
+still-delivered : (start : Id) (later : List GroupEvent) (before : List GroupEvent) (x : Id) → has_id (delivered start before) x ≡ true → has_id (delivered start (later ++ before)) x ≡ true
 still-delivered start [] before x d = d
 still-delivered start (u ∷ later) before x d =
     has_id-append (delivered start (later ++ before)) (delivers_at u (cursor start (later ++ before))) x ∙ or-left _ _ (still-delivered start later before x d)
 
-delivered-now : (start : Id) (past : List Turn) (turn : Turn) (x : Id) → delivers_pending start past turn x ≡ true → has_id (delivered start (turn ∷ past)) x ≡ true
-delivered-now start past turn x e =
-    has_id-append (delivered start past) (delivers_at turn (cursor start past)) x ∙ or-right _ _ (and-second (keeps_pending turn.ask) _ e)
+delivered-now : (start : Id) (past : List GroupEvent) (event : GroupEvent) (x : Id) → delivers_pending start past event x ≡ true → has_id (delivered start (event ∷ past)) x ≡ true
+delivered-now start past event x e =
+    has_id-append (delivered start past) (delivers_at event (cursor start past)) x ∙ or-right _ _ (and-second (keeps_pending event.ask) _ e)
 
-pub until-settled : (start : Id) (later : List Turn) (turn : Turn) (earlier : List Turn) (x : Id) → delivers_pending start earlier turn x ≡ true
-    → is_some (owner start (later ++ turn ∷ earlier) x) ≡ not (settled_in start later (turn ∷ earlier) x)
-until-settled start [] turn earlier x e =
-    ap is_some (owner-step start earlier turn x ∙ ap (λ b. cond (b || takes start earlier turn x) (consumer_of turn.ask) (cond (settles start earlier turn x) None (owner start earlier x))) e)
-    ∙ pending-named turn.ask (and-first (keeps_pending turn.ask) _ e)
-until-settled start (u ∷ later) turn earlier x e = by (takes start past u x) refl (until-settled start later turn earlier x e) where
-  past : List Turn
-  past = later ++ turn ∷ earlier
+pub until-settled : (start : Id) (later : List GroupEvent) (event : GroupEvent) (earlier : List GroupEvent) (x : Id) → delivers_pending start earlier event x ≡ true
+    → is_some (owner start (later ++ event ∷ earlier) x) ≡ not (settled_in start later (event ∷ earlier) x)
+until-settled start [] event earlier x e =
+    ap is_some (owner-step start earlier event x ∙ ap (λ b. cond (b || takes start earlier event x) (consumer_of event.ask) (cond (settles start earlier event x) None (owner start earlier x))) e)
+    ∙ pending-named event.ask (and-first (keeps_pending event.ask) _ e)
+until-settled start (u ∷ later) event earlier x e = by (takes start past u x) refl (until-settled start later event earlier x e) where
+  past : List GroupEvent
+  past = later ++ event ∷ earlier
 
   step : owner start (u ∷ past) x ≡ cond (takes start past u x) (consumer_of u.ask) (cond (settles start past u x) None (owner start past x))
   step = owner-step start past u x
-      ∙ ap (λ b. cond b (consumer_of u.ask) (cond (settles start past u x) None (owner start past x))) (assigned-again start past u x (still-delivered start later (turn ∷ earlier) x (delivered-now start earlier turn x e)))
+      ∙ ap (λ b. cond b (consumer_of u.ask) (cond (settles start past u x) None (owner start past x))) (assigned-again start past u x (still-delivered start later (event ∷ earlier) x (delivered-now start earlier event x e)))
 
   kept_or_not : (s : Bool) (o : Option (List ℕ)) (b : Bool) → is_some o ≡ not b → is_some (cond s None o) ≡ not (s || b)
   kept_or_not true o b h = refl
@@ -436,20 +436,20 @@ until-settled start (u ∷ later) turn earlier x e = by (takes start past u x) r
   unsettled true h = h
   unsettled false h = refl
 
-  by : (taken : Bool) → takes start past u x ≡ taken → is_some (owner start past x) ≡ not (settled_in start later (turn ∷ earlier) x)
-      → is_some (owner start (u ∷ past) x) ≡ not (settles start past u x || settled_in start later (turn ∷ earlier) x)
+  by : (taken : Bool) → takes start past u x ≡ taken → is_some (owner start past x) ≡ not (settled_in start later (event ∷ earlier) x)
+      → is_some (owner start (u ∷ past) x) ≡ not (settles start past u x || settled_in start later (event ∷ earlier) x)
   by true t ih =
       let free = taken-unsettled u.ask u.now u.present (rows start past) x (last_assigned start past x) t in
-      let none = unsettled (settled_in start later (turn ∷ earlier) x) (sym (taken-owned start past u x t) ∙ ih) in
+      let none = unsettled (settled_in start later (event ∷ earlier) x) (sym (taken-owned start past u x t) ∙ ih) in
       ap is_some (step ∙ ap (λ b. cond b (consumer_of u.ask) (cond (settles start past u x) None (owner start past x))) t)
       ∙ claim-named u.ask u.now u.present (rows start past) x t ∙ sym (λ i. not (free i || none i))
   by false t ih =
       ap is_some (step ∙ ap (λ b. cond b (consumer_of u.ask) (cond (settles start past u x) None (owner start past x))) t)
-      ∙ kept_or_not (settles start past u x) (owner start past x) (settled_in start later (turn ∷ earlier) x) ih
+      ∙ kept_or_not (settles start past u x) (owner start past x) (settled_in start later (event ∷ earlier) x) ih
 
-pub owned-until-settled : (start : Id) (turns : List Turn) → OwnedUntilSettled start turns
-owned-until-settled start turns = λ later turn earlier x e d.
-    ap (λ ts. is_some (owner start ts x)) e ∙ until-settled start later turn earlier x d
+pub owned-until-settled : (start : Id) (events : List GroupEvent) → OwnedUntilSettled start events
+owned-until-settled start events = λ later event earlier x e d.
+    ap (λ ts. is_some (owner start ts x)) e ∙ until-settled start later event earlier x d
 
-pub changes-by-claims : (start : Id) (turns : List Turn) → ChangesByClaims start turns
-changes-by-claims start turns = λ later turn earlier x e. (λ name o. owner-after start earlier turn x name o, λ o. no-owner-after start earlier turn x o)
+pub changes-by-claims : (start : Id) (events : List GroupEvent) → ChangesByClaims start events
+changes-by-claims start events = λ later event earlier x e. (λ name o. owner-after start earlier event x name o, λ o. no-owner-after start earlier event x o)

@@ -12,11 +12,11 @@ use Rattle.xs_group.specs.declared.delivery.Delivery.{Delivery}
 use Rattle.xs_group.specs.State.{State, Rows, is_name, delivers}
 use Rattle.xs_group.specs.Delivered.{row_ids, new_rows, shown_rows, IsMade}
 use Rattle.xs_command.specs.declared.command.ReadGroupCommand.{ReadGroupCommand}
-use Rattle.xs_command.specs.declared.reads.ReadOne.{ReadOne}
-use Rattle.xs_command.specs.declared.reads.ReadFrom.{ReadFrom}
-use Rattle.xs_command.specs.declared.reads.ReadFrom.TheVariants.{New, After}
+use Rattle.xs_command.specs.declared.command.ReadOne.{ReadOne}
+use Rattle.xs_command.specs.declared.command.ReadFrom.{ReadFrom}
+use Rattle.xs_command.specs.declared.command.ReadFrom.TheVariants.{New, After}
 use Rattle.xs_keys.specs.declared.xreadgroup.Served.{Served}
-use Rattle.xs_keys.specs.Turn.{Ask}
+use Rattle.xs_keys.specs.GroupEvent.{Ask}
 use Rattle.xs_keys.specs.GroupLife.{read_ask}
 use Rattle.xs_keys.specs.Content.{Content, Key, asked, read_each, group_after, with_group, group_in, entries_in}
 use Rattle.xs_resp.specs.declared.reply.Reply.{Reply}

@@ -8,7 +8,7 @@ use Rattle.xs_keys.specs.Told.{IsTold}
 use Rattle.xs_keys.specs.Headline.{Step, Follows, Answers, Headline, RunsOn, DeliversNew, HasOneOwner}
 use Rattle.xs_keys.specs.GroupLife.{GroupLife, group_life}
 use Rattle.xs_keys.proofs.Lawfulness.{content-lawful}
-use Rattle.xs_keys.proofs.Deliveries.{ascends-delivered, past-start, had-turn}
+use Rattle.xs_keys.proofs.Deliveries.{ascends-delivered, past-start, had-event}
 use Rattle.xs_keys.proofs.Histories.{present-in-life}
 use Rattle.xs_keys.proofs.Takings.{in-full, claims-idle}
 use Rattle.xs_keys.proofs.Touches.{is-last-touched}
@@ -69,19 +69,19 @@ pub delivers-new : (past : List (ℕ × Command)) (key group : List ℕ) (life :
 delivers-new past key group life e =
     let asc = present-in-life past key group life e in
     record {
-      ascend = ascends-delivered life.start life.turns asc;
-      past_start = past-start life.start life.turns;
-      at_their_turn = λ x low high. had-turn life.start life.turns x asc low high;
-      in_full = in-full life.start life.turns;
+      ascend = ascends-delivered life.start life.events asc;
+      past_start = past-start life.start life.events;
+      at_their_turn = λ x low high. had-event life.start life.events x asc low high;
+      in_full = in-full life.start life.events;
     }
 
 pub has-one-owner : (life : GroupLife) → HasOneOwner life
 has-one-owner life = record {
-  is_pending = λ x. owner-row life.start life.turns x ∙ sym (ap of_row (row-found life.start life.turns x));
-  is_last_touched = is-last-touched life.start life.turns;
-  claims_idle = claims-idle life.start life.turns;
-  until_settled = owned-until-settled life.start life.turns;
-  by_claims = changes-by-claims life.start life.turns;
+  is_pending = λ x. owner-row life.start life.events x ∙ sym (ap of_row (row-found life.start life.events x));
+  is_last_touched = is-last-touched life.start life.events;
+  claims_idle = claims-idle life.start life.events;
+  until_settled = owned-until-settled life.start life.events;
+  by_claims = changes-by-claims life.start life.events;
 }
 
 pub headline : (past events : List (ℕ × Command)) (replies : List Reply) (history : List (ℕ × Command)) → Answers past events replies history → Headline past events replies history

@@ -9,7 +9,7 @@ use Rattle.xs_stream.specs.Id.{is_below, has_id}
 use Rattle.xs_group.specs.State.{Row, idle, delivers}
 use Rattle.xs_group.specs.Claims.{Rule, row_at, is_idle, is_taken, is_removed, is_hit, firsts, scanned, from_start}
 use Rattle.xs_keys.specs.Life.{greatest}
-use Rattle.xs_keys.specs.Turn.{Ask, Turn, read_new, read_own, ack, join, leave, claim, auto_claim, asked_claim, rows, takes, asked_new, delivers_at, cursor, owner}
+use Rattle.xs_keys.specs.GroupEvent.{Ask, GroupEvent, read_new, read_own, ack, join, leave, claim, auto_claim, asked_claim, rows, takes, asked_new, delivers_at, cursor, owner}
 use Rattle.xs_keys.specs.Taken.{least_idle, removes_pending, IsTakenWhenIdle, IsRemovedWhenGone, ClaimsWhatIsIdle}
 use Rattle.xs_keys.specs.Headline.{DeliversInFull}
 use Rattle.xs_keys.proofs.IdLists.{has_id-where, not_among}
@@ -85,29 +85,29 @@ asked-removed (auto_claim consumer rule start limit) now present entries x h =
     removed entries present (scanned (is_hit entries present now rule) limit (from_start start entries)) x h
 
 -- whose row is there has an owner
-owned : (start : Id) (past : List Turn) (x : Id) → is_some (row_at (rows start past) x) ≡ true → is_some (owner start past x) ≡ true
+owned : (start : Id) (past : List GroupEvent) (x : Id) → is_some (row_at (rows start past) x) ≡ true → is_some (owner start past x) ≡ true
 owned start past x h =
     ap is_some (owner-row start past x ∙ sym (ap of_row (row-found start past x))) ∙ by (row_at (rows start past) x) h where
       by : (row : Option Row) → is_some row ≡ true → is_some (of_row row) ≡ true
       by None e = absurd (false≢true e)
       by (Some row) e = refl
 
-taken-when-idle : (start : Id) (past : List Turn) (turn : Turn) (x : Id) → takes start past turn x ≡ true → IsTakenWhenIdle start past turn x
-taken-when-idle start past turn x h =
-    let t = asked-taken turn.ask turn.now turn.present (rows start past) x h in
+taken-when-idle : (start : Id) (past : List GroupEvent) (event : GroupEvent) (x : Id) → takes start past event x ≡ true → IsTakenWhenIdle start past event x
+taken-when-idle start past event x h =
+    let t = asked-taken event.ask event.now event.present (rows start past) x h in
     record {
       owned = owned start past x (ap is_some t.found);
       present = t.there;
-      idle = subst (λ (time : ℕ). least_idle turn.ask ≤ turn.now - time) (is-last-touched start past x t.row t.found).0 t.idle;
+      idle = subst (λ (time : ℕ). least_idle event.ask ≤ event.now - time) (is-last-touched start past x t.row t.found).0 t.idle;
     }
 
-removed-when-gone : (start : Id) (past : List Turn) (turn : Turn) (x : Id) → removes_pending start past turn x ≡ true → IsRemovedWhenGone start past turn x
-removed-when-gone start past turn x h =
-    let t = asked-removed turn.ask turn.now turn.present (rows start past) x h in
+removed-when-gone : (start : Id) (past : List GroupEvent) (event : GroupEvent) (x : Id) → removes_pending start past event x ≡ true → IsRemovedWhenGone start past event x
+removed-when-gone start past event x h =
+    let t = asked-removed event.ask event.now event.present (rows start past) x h in
     record { owned = owned start past x t.found; gone = t.gone }
 
-pub claims-idle : (start : Id) (turns : List Turn) → ClaimsWhatIsIdle start turns
-claims-idle start turns = λ later turn earlier x e. (taken-when-idle start earlier turn x, removed-when-gone start earlier turn x)
+pub claims-idle : (start : Id) (events : List GroupEvent) → ClaimsWhatIsIdle start events
+claims-idle start events = λ later event earlier x e. (taken-when-idle start earlier event x, removed-when-gone start earlier event x)
 
 -- ---- reads
 
@@ -145,15 +145,15 @@ full (Some n) a present = by (nat_le n (length above)) refl where
       let few : length above ≤ n = grind (arith, nat_tests, t) in
       inr (λ x h. ap (λ ids. is_below (greatest a ids) x) (take_all n above few) ∙ none-left a present x h)
 
-pub in-full : (start : Id) (turns : List Turn) → DeliversInFull start turns
-in-full start turns = λ later turn earlier e consumer limit noack asks.
+pub in-full : (start : Id) (events : List GroupEvent) → DeliversInFull start events
+in-full start events = λ later event earlier e consumer limit noack asks.
     let a = cursor start earlier in
-    let same : delivers_at turn a ≡ delivers limit a turn.present = ap (λ (ask : Ask). asked_new ask turn.present a) asks in
-    by turn earlier limit same (full limit a turn.present) where
-      by : (turn : Turn) (earlier : List Turn) (limit : Option ℕ) → delivers_at turn (cursor start earlier) ≡ delivers limit (cursor start earlier) turn.present
-          → (limit ≡ Some (length (delivers limit (cursor start earlier) turn.present)))
-          ⊎ ((x : Id) → has_id turn.present x ≡ true → is_below (greatest (cursor start earlier) (delivers limit (cursor start earlier) turn.present)) x ≡ false)
-          → (limit ≡ Some (length (delivers_at turn (cursor start earlier)))) ⊎ ((x : Id) → has_id turn.present x ≡ true → is_below (cursor start (turn ∷ earlier)) x ≡ false)
-      by turn earlier limit same (inl e) = inl (e ∙ ap (λ (ids : List Id). Some (length ids)) (sym same))
-      by turn earlier limit same (inr f) =
-          inr (λ x h. ap (λ (c : Id). is_below c x) (cursor-step start turn earlier ∙ ap (greatest (cursor start earlier)) same) ∙ f x h)
+    let same : delivers_at event a ≡ delivers limit a event.present = ap (λ (ask : Ask). asked_new ask event.present a) asks in
+    by event earlier limit same (full limit a event.present) where
+      by : (event : GroupEvent) (earlier : List GroupEvent) (limit : Option ℕ) → delivers_at event (cursor start earlier) ≡ delivers limit (cursor start earlier) event.present
+          → (limit ≡ Some (length (delivers limit (cursor start earlier) event.present)))
+          ⊎ ((x : Id) → has_id event.present x ≡ true → is_below (greatest (cursor start earlier) (delivers limit (cursor start earlier) event.present)) x ≡ false)
+          → (limit ≡ Some (length (delivers_at event (cursor start earlier)))) ⊎ ((x : Id) → has_id event.present x ≡ true → is_below (cursor start (event ∷ earlier)) x ≡ false)
+      by event earlier limit same (inl e) = inl (e ∙ ap (λ (ids : List Id). Some (length ids)) (sym same))
+      by event earlier limit same (inr f) =
+          inr (λ x h. ap (λ (c : Id). is_below c x) (cursor-step start event earlier ∙ ap (greatest (cursor start earlier)) same) ∙ f x h)

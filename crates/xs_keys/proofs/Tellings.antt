@@ -18,11 +18,11 @@ use Rattle.xs_command.specs.WellFormed.{IsWellFormed, keys_of}
 use Rattle.xs_command.specs.declared.command.Command.{Command}
 use Rattle.xs_command.specs.declared.command.Command.TheVariants.{Ping, Quit, Add, Delete, TrimTo, Len, Scan, GroupCreate, GroupDestroy, ConsumerCreate, ConsumerDelete, ReadGroup, Ack, Pending, PendingRows, Claim, AutoClaim, DropKeys}
 use Rattle.xs_command.specs.declared.command.ReadGroupCommand.{ReadGroupCommand}
-use Rattle.xs_command.specs.declared.reads.ReadOne.{ReadOne}
-use Rattle.xs_command.specs.declared.reads.ReadFrom.{ReadFrom}
-use Rattle.xs_command.specs.declared.reads.ReadFrom.TheVariants.{New, After}
+use Rattle.xs_command.specs.declared.command.ReadOne.{ReadOne}
+use Rattle.xs_command.specs.declared.command.ReadFrom.{ReadFrom}
+use Rattle.xs_command.specs.declared.command.ReadFrom.TheVariants.{New, After}
 use Rattle.xs_keys.specs.Life.{Change, key_life, given_in, live, stands, stream_of}
-use Rattle.xs_keys.specs.Turn.{cursor, rows, claim, auto_claim}
+use Rattle.xs_keys.specs.GroupEvent.{cursor, rows, claim, auto_claim}
 use Rattle.xs_keys.specs.GroupLife.{GroupLife, group_life, is_new, asks_new, acts, delivered_by, read_ask}
 use Rattle.xs_keys.specs.Content.{Content, Key, IsContent, IsGroup, GroupHolds, KeyHolds, group_in, entries_in, asked, serves}
 use Rattle.xs_keys.specs.Reply.{reply, array, id_reply, field_replies, entry_reply, entries_reply, new_part, shown_by, parts, taken_reply, scan_shown}
@@ -159,15 +159,15 @@ told-claim : (c : Content) (past : List (ℕ × Command)) (now : ℕ) (name grou
     ≡ taken_reply rule.just_id (given_at past name) (taken_by past now name group (claim consumer rule ids))
 told-claim c past now name group consumer rule ids t =
     rw (t.changes_are, t.life_is, t.holds.rows_are, t.stream_is)
-    (taken-live rule.just_id t.changes (claim_of (rows t.life.start t.life.turns) (ids_of (live t.changes)) now rule ids).take
-    (taken-among (rows t.life.start t.life.turns) (ids_of (live t.changes)) now rule (firsts ids)))
+    (taken-live rule.just_id t.changes (claim_of (rows t.life.start t.life.events) (ids_of (live t.changes)) now rule ids).take
+    (taken-among (rows t.life.start t.life.events) (ids_of (live t.changes)) now rule (firsts ids)))
 
 -- what XAUTOCLAIM tells
 told-scan : (c : Content) (past : List (ℕ × Command)) (now : ℕ) (name group consumer : List ℕ) (rule : Rule) (start : Id) (limit : ℕ) (t : IsThere c past name group)
     → taken_reply rule.just_id t.key.stream.entries (scan_of t.state.rows.entries (ids_of t.key.stream.entries) now rule start limit).claim.take
     ≡ taken_reply rule.just_id (given_at past name) (taken_by past now name group (auto_claim consumer rule start limit))
 told-scan c past now name group consumer rule start limit t =
-    let es = rows t.life.start t.life.turns in
+    let es = rows t.life.start t.life.events in
     let present = ids_of (live t.changes) in
     rw (t.changes_are, t.life_is, t.holds.rows_are, t.stream_is)
     (taken-live rule.just_id t.changes (scan_of es present now rule start limit).claim.take
@@ -178,7 +178,7 @@ told-scan c past now name group consumer rule start limit t =
 -- what a read with `>` delivers in a group that is there
 delivers-there : (c : Content) (past : List (ℕ × Command)) (read : ReadGroupCommand) (name : List ℕ) (t : IsThere c past name read.group)
     → acts past (ReadGroup read) ≡ true → asks_new (ReadGroup read) name ≡ true
-    → delivered_by past (ReadGroup read) name read.group ≡ delivers read.limit (cursor t.life.start t.life.turns) (ids_of (live t.changes))
+    → delivered_by past (ReadGroup read) name read.group ≡ delivers read.limit (cursor t.life.start t.life.events) (ids_of (live t.changes))
 delivers-there c past read name t act new = rw (new, act, is_name-refl read.group, t.life_is, t.changes_are) refl
 
 -- one read of those that are left: its key and its group are as they were before the event
@@ -191,7 +191,7 @@ told-read c next past read one t same act asks = by one.from asks where
       → TellsRead past (ReadGroup read) one.key from (option_map_or (shown_by read one.key from (entries_in (get next one.key))) (group_in (get next one.key) read.group) [])
   by New new =
       rw (same, t.key_is, t.state_is, t.stream_is, t.holds.cursor_is, delivers-there c past read one.key t act (new refl), t.changes_are)
-      (part-live one.key t.changes (delivers read.limit (cursor t.life.start t.life.turns) (ids_of (live t.changes))) (delivers-among read.limit (cursor t.life.start t.life.turns) (ids_of (live t.changes))))
+      (part-live one.key t.changes (delivers read.limit (cursor t.life.start t.life.events) (ids_of (live t.changes))) (delivers-among read.limit (cursor t.life.start t.life.events) (ids_of (live t.changes))))
   by (After id) new = rw (same, t.key_is, t.state_is) (entries_reply t.key.stream.entries (shown read.consumer read.limit id t.state.rows.entries), refl)
 
 -- the reads that are left

@@ -1,11 +1,11 @@
--- Time and count of a row are those of the last turn that touched it.
+-- Time and count of a row are those of the last event that touched it.
 use Rattle.std.proofs.Common.{◌≡◌, ℕ, Bool, true, false, not, cond, ◌&&◌, ◌||◌, List, [], ◌∷◌, Option, Some, None, option_and_then, is_some, ◌⊎◌, inl, inr, sym, ap, subst, ◌∙◌, refl}
 use Rattle.xs_stream.specs.declared.id.Id.{Id}
 use Rattle.xs_stream.specs.Id.{has_id}
-use Rattle.xs_group.specs.declared.claim.Claim.{Claim}
+use Rattle.xs_group.specs.declared.claims.Claim.{Claim}
 use Rattle.xs_group.specs.Claims.{Rule, claim_of, scan_of, claimed, claimed_row, claim_time, claim_count}
 use Rattle.xs_group.specs.State.{Row, is_name, delivers, first_row, shown, again, raised, unless_acked, unless_owned}
-use Rattle.xs_keys.specs.Turn.{Ask, Turn, read_new, read_own, ack, join, leave, claim, auto_claim, cursor, asked_row, asked_new, asked_claim, keeps_pending, holding, rows}
+use Rattle.xs_keys.specs.GroupEvent.{Ask, GroupEvent, read_new, read_own, ack, join, leave, claim, auto_claim, cursor, asked_row, asked_new, asked_claim, keeps_pending, holding, rows}
 use Rattle.xs_keys.specs.Touched.{shown_again, time_given, count_given, time_of, count_of, IsLastTouched}
 use Rattle.xs_keys.proofs.Owners.{row-found}
 
@@ -94,12 +94,12 @@ asked-touched (auto_claim consumer rule start limit) now present a es x r time c
     let c = (scan_of es present now rule start limit).claim in
     subst (λ t. Has (option_and_then (claimed consumer now rule c x) r) (cond t (claim_time rule.when now) time) (cond t (claim_count rule.retry rule.just_id count) count)) (sym (or-false (has_id c.take x))) (claim-has consumer now rule c x r time count h)
 
-held-touched : (start : Id) (turns : List Turn) (x : Id) → Has (holding start turns x) (time_of start turns x) (count_of start turns x)
+held-touched : (start : Id) (events : List GroupEvent) (x : Id) → Has (holding start events x) (time_of start events x) (count_of start events x)
 unfolding Touched asked_touch
 held-touched start [] x = none-has _ _
-held-touched start (turn ∷ past) x =
-    asked-touched turn.ask turn.now turn.present (cursor start past) (rows start past) x (holding start past x) (time_of start past x) (count_of start past x) (held-touched start past x)
+held-touched start (event ∷ past) x =
+    asked-touched event.ask event.now event.present (cursor start past) (rows start past) x (holding start past x) (time_of start past x) (count_of start past x) (held-touched start past x)
 
-pub is-last-touched : (start : Id) (turns : List Turn) → IsLastTouched start turns
+pub is-last-touched : (start : Id) (events : List GroupEvent) → IsLastTouched start events
 unfolding Has
-is-last-touched start turns x row e = held-touched start turns x row (sym (row-found start turns x) ∙ e)
+is-last-touched start events x row e = held-touched start events x row (sym (row-found start events x) ∙ e)

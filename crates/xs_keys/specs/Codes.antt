@@ -5,7 +5,7 @@ use Rattle.xs_bytes.specs.MapOf.{from_entries}
 use Rattle.xs_bytes.specs.MapCode.{coded_map}
 use Rattle.std.specs.Coded.{Coded, code_by, coded×, coded_list, coded_ℕ}
 use Rattle.xs_group.specs.State.{State}
-use Rattle.xs_group.specs.Held.{coded_id, coded_state}
+use Rattle.xs_group.specs.Indexes.{coded_id, coded_state}
 use Rattle.xs_stream.specs.declared.id.Id.{Id}
 use Rattle.xs_stream.specs.declared.field.Field.{Field}
 use Rattle.xs_stream.specs.Kept.{Kept}

@@ -4,12 +4,13 @@ use Rattle.std.specs.Prelude.{Ok, Err, is_some, if◌then◌else◌}
 use Rattle.xs_keys.specs.Ground.{list_all, option_or, option_map_or, NameMap, get, Id, Kept, Ascends, AllUpTo, ids_of}
 use Rattle.xs_keys.specs.Ground.{Row, State, has_name, Command, empty, has_key, insert, remove, Field, Trim, AddError}
 use Rattle.xs_keys.specs.Ground.{zero_id, assigned, trimmed, without, joined, delivered_to, reread_by, claim_of}
-use Rattle.xs_keys.specs.Ground.{scan_of, settled_by, new_group, acked, without_consumer, Add, Delete, TrimTo}
+use Rattle.xs_keys.specs.Ground.{scan_of, claimed_by, new_group, acked, without_consumer, Add, Delete, TrimTo}
 use Rattle.xs_keys.specs.Ground.{GroupCreate, GroupDestroy, ConsumerCreate, ConsumerDelete, ReadGroup, Ack, Claim}
 use Rattle.xs_keys.specs.Ground.{AutoClaim, DropKeys, GroupCreateCommand, ReadGroupCommand, ReadOne}
 use Rattle.xs_keys.specs.Life.{Change, key_life, stream_of, added, deleted, trimmed_to}
-use Rattle.xs_keys.specs.Turn.{Ask, read_new, read_own, ack, join, leave, claim, auto_claim, cursor, is_consumer, rows}
-use Rattle.xs_keys.specs.GroupLife.{GroupLife, group_life, start_of, read_ask}
+use Rattle.xs_keys.specs.GroupEvent.{Ask, read_new, read_own, ack, join, leave, claim, auto_claim, cursor, is_consumer}
+use Rattle.xs_keys.specs.GroupEvent.{rows}
+use Rattle.xs_keys.specs.GroupLife.{GroupLife, group_life, starting_id, read_ask}
 
 -- what a key holds: its stream, and its groups by name
 pub record Key : Type 0 where
@@ -22,9 +23,9 @@ Content = NameMap Key
 
 -- a group's cursor, consumers and rows are those of its life
 pub record IsGroup (group : State) (life : GroupLife) : Type 0 where
-  pub cursor_is : group.cursor ≡ cursor life.start life.turns
-  pub consumers_are : (name : List ℕ) → has_name group.consumers name ≡ is_consumer life.turns name
-  pub rows_are : group.rows.entries ≡ rows life.start life.turns
+  pub cursor_is : group.cursor ≡ cursor life.start life.events
+  pub consumers_are : (name : List ℕ) → has_name group.consumers name ≡ is_consumer life.events name
+  pub rows_are : group.rows.entries ≡ rows life.start life.events
 
 -- a group is there exactly where its life is open
 abbrev pub GroupHolds : Option State → Option GroupLife → Type 0
@@ -73,16 +74,16 @@ made make key = option_or key (if make then Some new_key else None)
 
 -- an entry is added first, and then the stream is trimmed; a refused addition changes nothing
 abbrev pub stream_with : Result Id AddError → List Field → Option Trim → Kept → Kept
-stream_with (Ok id) fields trim kept =
-    let entries = kept.entries ++ (id, fields) ∷ [] in
+stream_with (Ok id) fields trim stream =
+    let entries = stream.entries ++ (id, fields) ∷ [] in
     record { top = id; entries = option_map_or (λ t. trimmed t entries) trim entries }
-stream_with (Err refusal) fields trim kept = kept
+stream_with (Err refusal) fields trim stream = stream
 
 -- a stream after a change
 abbrev pub stream_after : Change → Kept → Kept
-stream_after (added now id fields trim) kept = stream_with (assigned now kept.top id) fields trim kept
-stream_after (deleted ids) kept = record kept { entries = without ids kept.entries }
-stream_after (trimmed_to trim) kept = record kept { entries = trimmed trim kept.entries }
+stream_after (added now id fields trim) stream = stream_with (assigned now stream.top id) fields trim stream
+stream_after (deleted ids) stream = record stream { entries = without ids stream.entries }
+stream_after (trimmed_to trim) stream = record stream { entries = trimmed trim stream.entries }
 
 abbrev pub key_after : Change → Key → Key
 key_after change key = record key { stream = stream_after change key.stream }
@@ -104,9 +105,9 @@ group_after now present (ack ids) group = acked ids group
 group_after now present (join consumer) group = joined consumer group
 group_after now present (leave consumer) group = without_consumer consumer group
 group_after now present (claim consumer rule ids) group =
-    settled_by consumer now rule (claim_of group.rows.entries present now rule ids) group
+    claimed_by consumer now rule (claim_of group.rows.entries present now rule ids) group
 group_after now present (auto_claim consumer rule start limit) group =
-    settled_by consumer now rule (scan_of group.rows.entries present now rule start limit).claim group
+    claimed_by consumer now rule (scan_of group.rows.entries present now rule start limit).claim group
 
 -- a key with this group
 abbrev pub with_group : Key → List ℕ → State → Key
@@ -124,7 +125,7 @@ abbrev pub created : Content → GroupCreateCommand → Option Key → Content
 created content create None = content
 created content create (Some key) =
     if has_key key.groups create.group then content
-    else insert content create.key (with_group key create.group (new_group (start_of create.start key.stream.top)))
+    else insert content create.key (with_group key create.group (new_group (starting_id create.start key.stream.top)))
 
 -- the group of a key, and the entries of a key
 abbrev pub group_in : Option Key → List ℕ → Option State

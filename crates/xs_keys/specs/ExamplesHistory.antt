@@ -6,7 +6,7 @@ use Rattle.std.specs.Option.{option_map}
 use Rattle.xs_stream.specs.declared.id.Id.{Id}
 use Rattle.xs_stream.specs.Kept.{ids_of}
 use Rattle.xs_stream.specs.Examples.{at}
-use Rattle.xs_group.specs.declared.claim_rule.ClaimTime.TheVariants as time
+use Rattle.xs_group.specs.declared.claims.ClaimTime.TheVariants as time
 use Rattle.xs_group.specs.Claims.{Rule}
 use Rattle.xs_resp.specs.declared.fault.Fault.{Fault}
 use Rattle.xs_command.specs.declared.command.Command.{Command}
@@ -14,7 +14,7 @@ use Rattle.xs_command.specs.Read.{reads}
 use Rattle.xs_command.specs.Examples.{line}
 use Rattle.xs_command.specs.ExamplesStreams.{field}
 use Rattle.xs_keys.specs.Life.{Change, key_life, given_in, top, live, stream_of}
-use Rattle.xs_keys.specs.Turn.{delivered, cursor, claim, auto_claim}
+use Rattle.xs_keys.specs.GroupEvent.{delivered, cursor, claim, auto_claim}
 use Rattle.xs_keys.specs.GroupLife.{GroupLife, group_life, delivered_by}
 use Rattle.xs_keys.specs.Headline.{takes_memory}
 use Rattle.xs_keys.specs.Told.{given_at, taken_by}
@@ -44,10 +44,10 @@ abbrev pub live_ids : List Change → List Id
 live_ids life = ids_of (live life)
 
 abbrev pub delivered_ids : GroupLife → List Id
-delivered_ids life = delivered life.start life.turns
+delivered_ids life = delivered life.start life.events
 
 abbrev pub cursor_of : GroupLife → Id
-cursor_of life = cursor life.start life.turns
+cursor_of life = cursor life.start life.events
 
 abbrev pub starts_at : GroupLife → Id
 starts_at life = life.start
@@ -87,6 +87,7 @@ pub record Keys : Type 0 where
   pub not_by_nomkstream : of_key (codes "XADD s NOMKSTREAM 1-0 f v" ∷ []) top ≡ None
   pub not_by_a_deletion : of_key (codes "XDEL s 1-0" ∷ codes "XTRIM s MAXLEN 0" ∷ []) top ≡ None
   pub by_a_group : of_key (codes "XGROUP CREATE s g $ MKSTREAM" ∷ []) top ≡ Some (at 0 0)
+  pub not_by_another_s_group : of_key (codes "XGROUP CREATE t g $ MKSTREAM" ∷ []) top ≡ None
   pub not_without_mkstream : of_key (codes "XGROUP CREATE s g $" ∷ []) top ≡ None
   pub ends : of_key (three_and (codes "DEL t s" ∷ [])) top ≡ None
   pub another_ends : of_key (three_and (codes "DEL t" ∷ [])) top ≡ Some (at 3 0)

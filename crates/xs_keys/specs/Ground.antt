@@ -1,7 +1,7 @@
 -- The words of the other crates that the model is written in.
 pub use Rattle.std.specs.List.{flat_map, list_all, list_any}
 pub use Rattle.std.specs.Option.{option_map, option_map_or, option_or}
-pub use Rattle.xs_bytes.specs.Each.{kept}
+pub use Rattle.xs_bytes.specs.Each.{with_some}
 pub use Rattle.xs_bytes.specs.SortedMap.{NameMap, get, empty, has_key, insert, remove}
 pub use Rattle.xs_stream.specs.declared.id.Id.{Id}
 pub use Rattle.xs_stream.specs.declared.add.AddId.{AddId}
@@ -14,10 +14,10 @@ pub use Rattle.xs_stream.specs.Kept.{Ascends, AllUpTo, AllAbove}
 pub use Rattle.xs_group.specs.State.{is_name, Row, State, has_name, new_group, joined, unless_acked, acked}
 pub use Rattle.xs_group.specs.State.{unless_owned, without_consumer, delivers, first_row, delivered_to, shown, reread}
 pub use Rattle.xs_group.specs.State.{reread_by}
-pub use Rattle.xs_group.specs.Claims.{Rule, claim_of, scan_of, claimed, settled_by}
-pub use Rattle.xs_group.specs.declared.report.OwnerCount.{OwnerCount}
-pub use Rattle.xs_group.specs.declared.report.GroupSummary.{GroupSummary}
-pub use Rattle.xs_group.specs.declared.report.PendingRow.{PendingRow}
+pub use Rattle.xs_group.specs.Claims.{Rule, claim_of, scan_of, claimed, claimed_by}
+pub use Rattle.xs_group.specs.declared.reports.OwnerCount.{OwnerCount}
+pub use Rattle.xs_group.specs.declared.reports.GroupSummary.{GroupSummary}
+pub use Rattle.xs_group.specs.declared.reports.PendingRow.{PendingRow}
 pub use Rattle.xs_group.specs.Report.{owned_count, summary_of, pending_of}
 pub use Rattle.xs_command.specs.declared.command.Command.{Command}
 pub use Rattle.xs_command.specs.declared.command.Command.TheVariants.{Ping, Quit, Add, Delete, TrimTo, Len, Scan}
@@ -28,9 +28,9 @@ pub use Rattle.xs_command.specs.declared.command.GroupStart.{GroupStart}
 pub use Rattle.xs_command.specs.declared.command.GroupStart.TheVariants.{Top, At}
 pub use Rattle.xs_command.specs.declared.command.GroupCreateCommand.{GroupCreateCommand}
 pub use Rattle.xs_command.specs.declared.command.ReadGroupCommand.{ReadGroupCommand}
-pub use Rattle.xs_command.specs.declared.reads.ReadOne.{ReadOne}
-pub use Rattle.xs_command.specs.declared.reads.ReadFrom.{ReadFrom}
-pub use Rattle.xs_command.specs.declared.reads.ReadFrom.TheVariants.{New, After}
+pub use Rattle.xs_command.specs.declared.command.ReadOne.{ReadOne}
+pub use Rattle.xs_command.specs.declared.command.ReadFrom.{ReadFrom}
+pub use Rattle.xs_command.specs.declared.command.ReadFrom.TheVariants.{New, After}
 pub use Rattle.xs_resp.specs.declared.reply.Reply.{Reply}
 pub use Rattle.xs_resp.specs.declared.reply.Reply.TheVariants.{Simple, Error, Int, Bulk, NullBulk, Array, NullArray}
 pub use Rattle.xs_resp.specs.declared.reply.Simple.TheVariants.{Okay, Pong}

@@ -5,13 +5,14 @@ use Rattle.xs_keys.specs.Ground.{option_map, option_map_or, option_or, list_all,
 use Rattle.xs_keys.specs.Ground.{delivers, Command, GroupCreate, GroupDestroy, ConsumerCreate, ConsumerDelete}
 use Rattle.xs_keys.specs.Ground.{ReadGroup, Ack, Claim, AutoClaim, DropKeys, GroupStart, Top, At, GroupCreateCommand}
 use Rattle.xs_keys.specs.Ground.{ReadGroupCommand, ReadOne, ReadFrom, New, After}
-use Rattle.xs_keys.specs.Life.{Change, has_name, opened, key_life, live, top}
-use Rattle.xs_keys.specs.Turn.{Ask, Turn, read_new, read_own, ack, join, leave, claim, auto_claim, delivered, cursor}
+use Rattle.xs_keys.specs.Life.{Change, is_listed, opened, key_life, live, top}
+use Rattle.xs_keys.specs.GroupEvent.{Ask, GroupEvent, read_new, read_own, ack, join, leave, claim, auto_claim}
+use Rattle.xs_keys.specs.GroupEvent.{delivered, cursor}
 
 -- a life of a group: the id behind which it starts, and its turns, newest first
 pub record GroupLife : Type 0 where
   pub start : Id
-  pub turns : List Turn
+  pub events : List GroupEvent
 
 -- the ids in the stream
 abbrev pub present_in : Option (List Change) → List Id
@@ -19,25 +20,25 @@ present_in None = []
 present_in (Some changes) = ids_of (live changes)
 
 -- where a group starts: the written id, or the top
-abbrev pub start_of : GroupStart → Id → Id
-start_of Top top = top
-start_of (At id) top = id
+abbrev pub starting_id : GroupStart → Id → Id
+starting_id Top top = top
+starting_id (At id) top = id
 
 -- a new life; a missing key must be made with it
 abbrev pub life_opened : GroupCreateCommand → Option (List Change) → Option GroupLife
 life_opened create stream =
-    let begin : Id → GroupLife = λ id. record { start = start_of create.start id; turns = [] } in
+    let begin : Id → GroupLife = λ id. record { start = starting_id create.start id; events = [] } in
     option_map (λ changes. begin (top changes)) (opened create.make stream)
 
 -- a life that is open goes on
 abbrev pub life_created : GroupCreateCommand → Option (List Change) → Option GroupLife → Option GroupLife
 life_created create stream life = option_or life (life_opened create stream)
 
--- one turn more
+-- one event more
 abbrev pub life_asked : ℕ → List Id → Ask → Option GroupLife → Option GroupLife
 life_asked now present ask life =
-    let turn : Turn = record { now = now; present = present; ask = ask } in
-    option_map (λ l. record { start = l.start; turns = turn ∷ l.turns }) life
+    let event : GroupEvent = record { now = now; present = present; ask = ask } in
+    option_map (λ l. record { start = l.start; events = event ∷ l.events }) life
 
 -- what a read asks of one stream
 abbrev pub read_ask : ReadGroupCommand → ReadFrom → Ask
@@ -72,7 +73,7 @@ group_lived now (Claim c) key group served stream life =
 group_lived now (AutoClaim c) key group served stream life =
     if is_name key c.key && is_name group c.group
     then life_asked now (present_in stream) (auto_claim c.consumer c.rule c.start c.limit) life else life
-group_lived now (DropKeys keys) key group served stream life = if has_name keys key then None else life
+group_lived now (DropKeys keys) key group served stream life = if is_listed keys key then None else life
 group_lived now _ key group served stream life = life
 
 -- each key and group of a read is there; other commands read none
@@ -111,7 +112,7 @@ limit_of _ = None
 abbrev pub delivered_by : List (ℕ × Command) → Command → List ℕ → List ℕ → List Id
 delivered_by past command key group =
     let present = present_in (key_life past key) in
-    let new : GroupLife → List Id = λ life. delivers (limit_of command) (cursor life.start life.turns) present in
+    let new : GroupLife → List Id = λ life. delivers (limit_of command) (cursor life.start life.events) present in
     if asks_new command key && (is_name group (group_of command) && acts past command)
     then option_map_or new (group_life past key group) [] else []
 
@@ -119,6 +120,6 @@ delivered_by past command key group =
 -- or it begins, and the event delivers nothing; or there is none behind the event, and the event delivers nothing
 abbrev pub GoesOn : Option GroupLife → List Id → Option GroupLife → Type 0
 GoesOn (Some before) new (Some life) =
-    (life.start ≡ before.start) × (delivered life.start life.turns ≡ delivered before.start before.turns ++ new)
-GoesOn None new (Some life) = (life.turns ≡ []) × (new ≡ [])
+    (life.start ≡ before.start) × (delivered life.start life.events ≡ delivered before.start before.events ++ new)
+GoesOn None new (Some life) = (life.events ≡ []) × (new ≡ [])
 GoesOn before new None = new ≡ []

@@ -3,12 +3,12 @@ use Rattle.std.specs.Prelude.{◌≡◌, true, false, ◌⊎◌}
 use Rattle.xs_keys.specs.Ground.{NameMap, has_key, insert, Id, State, new_group, Reply, Simple, Error, Okay, Busy}
 use Rattle.xs_keys.specs.Ground.{Memory}
 use Rattle.xs_keys.specs.Ground.{GroupCreateCommand}
-use Rattle.xs_keys.specs.GroupLife.{start_of}
+use Rattle.xs_keys.specs.GroupLife.{starting_id}
 
 -- among the groups of a key with this top: it is there already, or it is made, or memory ran out
 abbrev pub Creates : GroupCreateCommand → Id → NameMap State → Reply → NameMap State → Type 0
 Creates create top old answer new =
     ((has_key old create.group ≡ true) × (answer ≡ Error Busy) × (new ≡ old))
     ⊎ (((has_key old create.group ≡ false) × (answer ≡ Simple Okay)
-    × (new ≡ insert old create.group (new_group (start_of create.start top))))
+    × (new ≡ insert old create.group (new_group (starting_id create.start top))))
     ⊎ ((has_key old create.group ≡ false) × (answer ≡ Error Memory) × (new ≡ old)))

@@ -14,8 +14,8 @@ use Rattle.xs_keys.specs.Content.{Content, IsContent, IsLawfulContent, after}
 use Rattle.xs_keys.specs.Reply.{reply}
 use Rattle.xs_keys.specs.Touched.{IsLastTouched}
 use Rattle.xs_keys.specs.Taken.{ClaimsWhatIsIdle}
-use Rattle.xs_keys.specs.Turn.{Turn, read_new, consumer_of, delivered, delivers_at, cursor, is_their_turn}
-use Rattle.xs_keys.specs.Turn.{delivers_pending, takes, settles, owner, rows}
+use Rattle.xs_keys.specs.GroupEvent.{GroupEvent, read_new, consumer_of, delivered, delivers_at, cursor, is_their_turn}
+use Rattle.xs_keys.specs.GroupEvent.{delivers_pending, takes, settles, owner, rows}
 use Rattle.xs_keys.specs.GroupLife.{GroupLife, group_life, delivered_by, GoesOn}
 use Rattle.xs_keys.specs.Told.{IsTold}
 
@@ -56,76 +56,78 @@ Step old now command answer new = Applied old now command answer new ⊎ OutOfMe
 abbrev pub StepAtAnyTime : Content → Command → Reply → Content → Type 0
 StepAtAnyTime old command answer new = (now : ℕ) → Step old now command answer new
 
--- one of the turns is their turn, and the id is delivered exactly where it is in the stream then
-pub record HadItsTurn (start : Id) (turns : List Turn) (x : Id) : Type 0 where
-  pub later : List Turn
-  pub turn : Turn
-  pub earlier : List Turn
-  pub among : turns ≡ later ++ turn ∷ earlier
-  pub theirs : is_their_turn start earlier turn x ≡ true
-  pub exactly : has_id (delivered start turns) x ≡ has_id turn.present x
+-- one of the events is their turn, and the id is delivered exactly where it is in the stream then
+pub record HadItsTurn (start : Id) (events : List GroupEvent) (x : Id) : Type 0 where
+  pub later : List GroupEvent
+  pub event : GroupEvent
+  pub earlier : List GroupEvent
+  pub among : events ≡ later ++ event ∷ earlier
+  pub theirs : is_their_turn start earlier event x ≡ true
+  pub exactly : has_id (delivered start events) x ≡ has_id event.present x
 
 -- a read of new entries delivers as many as it asks for, or leaves no entry in the stream past the cursor
-abbrev pub DeliversInFull : Id → List Turn → Type 0
-DeliversInFull start turns =
-    (later : List Turn) (turn : Turn) (earlier : List Turn) → turns ≡ later ++ turn ∷ earlier
-    → (consumer : List ℕ) (limit : Option ℕ) (noack : Bool) → turn.ask ≡ read_new consumer limit noack
-    → (limit ≡ Some (length (delivers_at turn (cursor start earlier))))
-    ⊎ ((x : Id) → has_id turn.present x ≡ true → is_below (cursor start (turn ∷ earlier)) x ≡ false)
+abbrev pub DeliversInFull : Id → List GroupEvent → Type 0
+DeliversInFull start events =
+    (later : List GroupEvent) (event : GroupEvent) (earlier : List GroupEvent) → events ≡ later ++ event ∷ earlier
+    → (consumer : List ℕ) (limit : Option ℕ) (noack : Bool) → event.ask ≡ read_new consumer limit noack
+    → (limit ≡ Some (length (delivers_at event (cursor start earlier))))
+    ⊎ ((x : Id) → has_id event.present x ≡ true → is_below (cursor start (event ∷ earlier)) x ≡ false)
 
 -- new deliveries: in id order and each once, past the start, exactly the entries in the stream at their turn, and as
 -- many as are asked for
 pub record DeliversNew (life : GroupLife) : Type 0 where
-  pub ascend : Ascends (delivered life.start life.turns)
-  pub past_start : AllAbove life.start (delivered life.start life.turns)
-  pub at_their_turn : (x : Id) → is_below life.start x ≡ true → is_below (cursor life.start life.turns) x ≡ false
-      → HadItsTurn life.start life.turns x
-  pub in_full : DeliversInFull life.start life.turns
+  pub ascend : Ascends (delivered life.start life.events)
+  pub past_start : AllAbove life.start (delivered life.start life.events)
+  pub at_their_turn : (x : Id) → is_below life.start x ≡ true → is_below (cursor life.start life.events) x ≡ false
+      → HadItsTurn life.start life.events x
+  pub in_full : DeliversInFull life.start life.events
 
--- one of these later turns settles it
-abbrev pub settled_in : Id → List Turn → List Turn → Id → Bool
+-- one of these later events settles it
+abbrev pub settled_in : Id → List GroupEvent → List GroupEvent → Id → Bool
 settled_in start [] before x = false
-settled_in start (turn ∷ later) before x = settles start (later ++ before) turn x || settled_in start later before x
+settled_in start (event ∷ later) before x = settles start (later ++ before) event x || settled_in start later before x
 
 -- after a delivery without NOACK there is an owner exactly as long as nothing has settled the entry
-abbrev pub OwnedUntilSettled : Id → List Turn → Type 0
-OwnedUntilSettled start turns =
-    (later : List Turn) (turn : Turn) (earlier : List Turn) (x : Id) → turns ≡ later ++ turn ∷ earlier
-    → delivers_pending start earlier turn x ≡ true
-    → is_some (owner start turns x) ≡ not (settled_in start later (turn ∷ earlier) x)
+abbrev pub OwnedUntilSettled : Id → List GroupEvent → Type 0
+OwnedUntilSettled start events =
+    (later : List GroupEvent) (event : GroupEvent) (earlier : List GroupEvent) (x : Id)
+    → events ≡ later ++ event ∷ earlier
+    → delivers_pending start earlier event x ≡ true
+    → is_some (owner start events x) ≡ not (settled_in start later (event ∷ earlier) x)
 
--- what one turn makes of an owner: it stays, or the turn settles the entry and there is none, or a claim takes it
-abbrev pub OwnerAfter : Id → List Turn → Turn → Id → List ℕ → Type 0
-OwnerAfter start past turn x name =
-    (owner start (turn ∷ past) x ≡ Some name)
-    ⊎ (((settles start past turn x ≡ true) × (owner start (turn ∷ past) x ≡ None))
-    ⊎ ((takes start past turn x ≡ true) × (owner start (turn ∷ past) x ≡ consumer_of turn.ask)))
+-- what one event makes of an owner: it stays, or the event settles the entry and there is none, or a claim takes it
+abbrev pub OwnerAfter : Id → List GroupEvent → GroupEvent → Id → List ℕ → Type 0
+OwnerAfter start past event x name =
+    (owner start (event ∷ past) x ≡ Some name)
+    ⊎ (((settles start past event x ≡ true) × (owner start (event ∷ past) x ≡ None))
+    ⊎ ((takes start past event x ≡ true) × (owner start (event ∷ past) x ≡ consumer_of event.ask)))
 
--- without an owner there is none, unless the turn delivers the entry
-abbrev pub NoOwnerAfter : Id → List Turn → Turn → Id → Type 0
-NoOwnerAfter start past turn x =
-    (owner start (turn ∷ past) x ≡ None)
-    ⊎ ((delivers_pending start past turn x ≡ true) × (owner start (turn ∷ past) x ≡ consumer_of turn.ask))
+-- without an owner there is none, unless the event delivers the entry
+abbrev pub NoOwnerAfter : Id → List GroupEvent → GroupEvent → Id → Type 0
+NoOwnerAfter start past event x =
+    (owner start (event ∷ past) x ≡ None)
+    ⊎ ((delivers_pending start past event x ≡ true) × (owner start (event ∷ past) x ≡ consumer_of event.ask))
 
 -- the owner changes only by a claim, and comes only by a delivery
-abbrev pub ChangesByClaims : Id → List Turn → Type 0
-ChangesByClaims start turns =
-    (later : List Turn) (turn : Turn) (earlier : List Turn) (x : Id) → turns ≡ later ++ turn ∷ earlier
-    → ((name : List ℕ) → owner start earlier x ≡ Some name → OwnerAfter start earlier turn x name)
-    × (owner start earlier x ≡ None → NoOwnerAfter start earlier turn x)
+abbrev pub ChangesByClaims : Id → List GroupEvent → Type 0
+ChangesByClaims start events =
+    (later : List GroupEvent) (event : GroupEvent) (earlier : List GroupEvent) (x : Id)
+    → events ≡ later ++ event ∷ earlier
+    → ((name : List ℕ) → owner start earlier x ≡ Some name → OwnerAfter start earlier event x name)
+    × (owner start earlier x ≡ None → NoOwnerAfter start earlier event x)
 
 -- an entry has an owner exactly where it is pending, and the owner is the consumer of its pending row
-abbrev pub IsPendingWithOwner : Id → List Turn → Type 0
-IsPendingWithOwner start turns =
-    (x : Id) → owner start turns x ≡ option_map (λ row. row.consumer) (row_at (rows start turns) x)
+abbrev pub IsPendingWithOwner : Id → List GroupEvent → Type 0
+IsPendingWithOwner start events =
+    (x : Id) → owner start events x ≡ option_map (λ row. row.consumer) (row_at (rows start events) x)
 
 -- one owner until settled, and a claim takes only what has been idle for as long as it asks
 pub record HasOneOwner (life : GroupLife) : Type 0 where
-  pub is_pending : IsPendingWithOwner life.start life.turns
-  pub is_last_touched : IsLastTouched life.start life.turns
-  pub claims_idle : ClaimsWhatIsIdle life.start life.turns
-  pub until_settled : OwnedUntilSettled life.start life.turns
-  pub by_claims : ChangesByClaims life.start life.turns
+  pub is_pending : IsPendingWithOwner life.start life.events
+  pub is_last_touched : IsLastTouched life.start life.events
+  pub claims_idle : ClaimsWhatIsIdle life.start life.events
+  pub until_settled : OwnedUntilSettled life.start life.events
+  pub by_claims : ChangesByClaims life.start life.events
 
 -- an event of the history: its reply is the model's, at the content of the events before it; and what it tells a
 -- consumer of entries is what it delivers or claims

@@ -1,6 +1,6 @@
 pub mod Ground
 pub mod Life
-pub mod Turn
+pub mod GroupEvent
 pub mod Touched
 pub mod Taken
 pub mod GroupLife
@@ -15,4 +15,7 @@ pub mod Codes
 pub mod Played
 pub mod Examples
 pub mod ExamplesHistory
-pub mod ExamplesTurns
+pub mod ExamplesGroupEvents
+pub mod ExamplesAsked
+pub mod ExamplesContent
+pub mod ExamplesHeadline

@@ -6,8 +6,8 @@ use Rattle.xs_keys.specs.Ground.{Command, Add, Delete, TrimTo, GroupCreate, Drop
 use Rattle.xs_keys.specs.Ground.{zero_id, is_trimmed, assigned, Kept, ids_of}
 
 -- keys, groups and consumers have names, lists of bytes
-abbrev pub has_name : List (List ℕ) → List ℕ → Bool
-has_name names name = list_any (is_name name) names
+abbrev pub is_listed : List (List ℕ) → List ℕ → Bool
+is_listed names name = list_any (is_name name) names
 
 -- what an event, a command at a moment, asks of the stream of a key: an addition at a moment, a deletion, a trim
 pub data Change : Type 0 where
@@ -29,7 +29,7 @@ key_lived now (Delete name ids) key life =
 key_lived now (TrimTo name trim) key life =
     if is_name key name then option_map (λ changes. trimmed_to trim ∷ changes) life else life
 key_lived now (GroupCreate create) key life = if is_name key create.key then opened create.make life else life
-key_lived now (DropKeys keys) key life = if has_name keys key then None else life
+key_lived now (DropKeys keys) key life = if is_listed keys key then None else life
 key_lived now _ key life = life
 
 -- the open life of a key, looking back over all events

@@ -10,7 +10,7 @@ use Rattle.xs_keys.specs.Ground.{Claim, AutoClaim, DropKeys, ReadGroupCommand, R
 use Rattle.xs_keys.specs.Ground.{OwnerCount, GroupSummary, PendingRow, State, has_name, delivers, shown, claim_of}
 use Rattle.xs_keys.specs.Ground.{scan_of, acked, owned_count, summary_of, pending_of}
 use Rattle.xs_stream.specs.declared.add.AddError.TheVariants as add_error
-use Rattle.xs_group.specs.declared.claim.Scan as scans
+use Rattle.xs_group.specs.declared.claims.Scan as scans
 use Rattle.xs_keys.specs.Life.{Change, deleted, trimmed_to}
 use Rattle.xs_keys.specs.GroupLife.{read_ask}
 use Rattle.xs_keys.specs.Content.{Content, Key, stream_after, made, asked, serves, group_in, entries_in}

@@ -1,7 +1,7 @@
 -- What claims take and what they remove, by looking back. (Redis, XCLAIM and XAUTOCLAIM.)
 use Rattle.std.specs.Prelude.{◌≡◌, ℕ, ◌≤◌, ◌-◌, Bool, true, false, List, ◌∷◌, ◌++◌, is_some}
 use Rattle.xs_keys.specs.Ground.{Id, has_id}
-use Rattle.xs_keys.specs.Turn.{Ask, Turn, claim, auto_claim, claims_of, rows, takes, owner}
+use Rattle.xs_keys.specs.GroupEvent.{Ask, GroupEvent, claim, auto_claim, claims_of, rows, takes, owner}
 use Rattle.xs_keys.specs.Touched.{time_of}
 
 -- the least idle time that is asked for
@@ -11,23 +11,24 @@ least_idle (auto_claim consumer rule start limit) = rule.min_idle
 least_idle _ = 0
 
 -- a claim removes it from what is pending
-abbrev pub removes_pending : Id → List Turn → Turn → Id → Bool
-removes_pending start past turn x = has_id (claims_of turn (rows start past)).removed x
+abbrev pub removes_pending : Id → List GroupEvent → GroupEvent → Id → Bool
+removes_pending start past event x = has_id (claims_of event (rows start past)).removed x
 
 -- an entry that is taken has an owner, is in the stream, and was last touched as long ago as the claim asks
-pub record IsTakenWhenIdle (start : Id) (past : List Turn) (turn : Turn) (x : Id) : Type 0 where
+pub record IsTakenWhenIdle (start : Id) (past : List GroupEvent) (event : GroupEvent) (x : Id) : Type 0 where
   pub owned : is_some (owner start past x) ≡ true
-  pub present : has_id turn.present x ≡ true
-  pub idle : least_idle turn.ask ≤ turn.now - time_of start past x
+  pub present : has_id event.present x ≡ true
+  pub idle : least_idle event.ask ≤ event.now - time_of start past x
 
 -- an entry that is removed has an owner, and is no longer in the stream
-pub record IsRemovedWhenGone (start : Id) (past : List Turn) (turn : Turn) (x : Id) : Type 0 where
+pub record IsRemovedWhenGone (start : Id) (past : List GroupEvent) (event : GroupEvent) (x : Id) : Type 0 where
   pub owned : is_some (owner start past x) ≡ true
-  pub gone : has_id turn.present x ≡ false
+  pub gone : has_id event.present x ≡ false
 
 -- so it is with each claim of a life
-abbrev pub ClaimsWhatIsIdle : Id → List Turn → Type 0
-ClaimsWhatIsIdle start turns =
-    (later : List Turn) (turn : Turn) (earlier : List Turn) (x : Id) → turns ≡ later ++ turn ∷ earlier
-    → (takes start earlier turn x ≡ true → IsTakenWhenIdle start earlier turn x)
-    × (removes_pending start earlier turn x ≡ true → IsRemovedWhenGone start earlier turn x)
+abbrev pub ClaimsWhatIsIdle : Id → List GroupEvent → Type 0
+ClaimsWhatIsIdle start events =
+    (later : List GroupEvent) (event : GroupEvent) (earlier : List GroupEvent) (x : Id)
+    → events ≡ later ++ event ∷ earlier
+    → (takes start earlier event x ≡ true → IsTakenWhenIdle start earlier event x)
+    × (removes_pending start earlier event x ≡ true → IsRemovedWhenGone start earlier event x)

@@ -4,7 +4,7 @@ use Rattle.std.specs.Prelude.{◌≡◌, ℕ, true, List, [], ◌∷◌, ◌++�
 use Rattle.xs_keys.specs.Ground.{option_map_or, Id, Field, Command, ReadGroup, Claim, AutoClaim, ReadOne, ReadFrom}
 use Rattle.xs_keys.specs.Ground.{New, After, Reply, Bulk}
 use Rattle.xs_keys.specs.Life.{key_life, given_in}
-use Rattle.xs_keys.specs.Turn.{Ask, Turn, claim, auto_claim, claims_of, rows}
+use Rattle.xs_keys.specs.GroupEvent.{Ask, GroupEvent, claim, auto_claim, claims_of, rows}
 use Rattle.xs_keys.specs.GroupLife.{group_life, group_of, present_in, acts, delivered_by}
 use Rattle.xs_keys.specs.Reply.{array, array_or_null, new_part, taken_reply}
 
@@ -29,8 +29,8 @@ TellsReads past command (one ∷ more) told =
 -- the ids that a claim takes in a group
 abbrev pub taken_by : List (ℕ × Command) → ℕ → List ℕ → List ℕ → Ask → List Id
 taken_by past now key group ask =
-    let turn : Turn = record { now = now; present = present_in (key_life past key); ask = ask } in
-    option_map_or (λ life. (claims_of turn (rows life.start life.turns)).take) (group_life past key group) []
+    let event : GroupEvent = record { now = now; present = present_in (key_life past key); ask = ask } in
+    option_map_or (λ life. (claims_of event (rows life.start life.events)).take) (group_life past key group) []
 
 -- an accepted read tells what it delivers, and an accepted claim what it takes
 abbrev pub IsTold : List (ℕ × Command) → ℕ → Command → Reply → Type 0

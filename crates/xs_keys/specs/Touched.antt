@@ -1,23 +1,23 @@
--- The time and the delivery count of a pending entry, by looking back for the last turn that touched it. (Redis
+-- The time and the delivery count of a pending entry, by looking back for the last event that touched it. (Redis
 -- Streams, "Consumer groups": the pending entries list; XPENDING; XCLAIM.)
 use Rattle.std.specs.Prelude.{◌≡◌, ℕ, Bool, List, [], ◌∷◌, Some, ◌&&◌, ◌||◌, if◌then◌else◌}
 use Rattle.xs_group.specs.Claims.{row_at, claim_time, claim_count}
 use Rattle.xs_group.specs.State.{raised}
 use Rattle.xs_keys.specs.Ground.{Id, Row, has_id, shown}
-use Rattle.xs_keys.specs.Turn.{Ask, Turn, read_new, read_own, claim, auto_claim, rows, assigns}
+use Rattle.xs_keys.specs.GroupEvent.{Ask, GroupEvent, read_new, read_own, claim, auto_claim, rows, assigns}
 
 -- the own pending entries that an ask shows once more, over the rows it meets
 abbrev pub shown_again : Ask → List (Id × Row) → List Id
 shown_again (read_own consumer limit from) rows = shown consumer limit from rows
 shown_again _ rows = []
 
--- the turn delivers it once more to the consumer who has it: it is shown, and still in the stream
-abbrev pub redelivers : Id → List Turn → Turn → Id → Bool
-redelivers start past turn x = has_id (shown_again turn.ask (rows start past)) x && has_id turn.present x
+-- the event delivers it once more to the consumer who has it: it is shown, and still in the stream
+abbrev pub redelivers : Id → List GroupEvent → GroupEvent → Id → Bool
+redelivers start past event x = has_id (shown_again event.ask (rows start past)) x && has_id event.present x
 
 -- it is delivered without NOACK, taken by a claim, or delivered once more
-abbrev pub touches : Id → List Turn → Turn → Id → Bool
-touches start past turn x = assigns start past turn x || redelivers start past turn x
+abbrev pub touches : Id → List GroupEvent → GroupEvent → Id → Bool
+touches start past event x = assigns start past event x || redelivers start past event x
 
 -- the time that it gets: that of the claim, else now
 abbrev pub time_given : Ask → ℕ → ℕ
@@ -32,20 +32,20 @@ count_given (claim consumer rule ids) count = claim_count rule.retry rule.just_i
 count_given (auto_claim consumer rule start limit) count = claim_count rule.retry rule.just_id count
 count_given _ count = raised count
 
--- the time that it got from the last turn that touched it
-abbrev pub time_of : Id → List Turn → Id → ℕ
+-- the time that it got from the last event that touched it
+abbrev pub time_of : Id → List GroupEvent → Id → ℕ
 time_of start [] x = 0
-time_of start (turn ∷ past) x =
-    if touches start past turn x then time_given turn.ask turn.now else time_of start past x
+time_of start (event ∷ past) x =
+    if touches start past event x then time_given event.ask event.now else time_of start past x
 
--- the count that it got from the last turn that touched it
-abbrev pub count_of : Id → List Turn → Id → ℕ
+-- the count that it got from the last event that touched it
+abbrev pub count_of : Id → List GroupEvent → Id → ℕ
 count_of start [] x = 0
-count_of start (turn ∷ past) x =
-    if touches start past turn x then count_given turn.ask (count_of start past x) else count_of start past x
+count_of start (event ∷ past) x =
+    if touches start past event x then count_given event.ask (count_of start past x) else count_of start past x
 
--- time and count of a pending row are those of the last turn that touched it
-abbrev pub IsLastTouched : Id → List Turn → Type 0
-IsLastTouched start turns =
-    (x : Id) (row : Row) → row_at (rows start turns) x ≡ Some row
-    → (row.time ≡ time_of start turns x) × (row.count ≡ count_of start turns x)
+-- time and count of a pending row are those of the last event that touched it
+abbrev pub IsLastTouched : Id → List GroupEvent → Type 0
+IsLastTouched start events =
+    (x : Id) (row : Row) → row_at (rows start events) x ≡ Some row
+    → (row.time ≡ time_of start events x) × (row.count ≡ count_of start events x)

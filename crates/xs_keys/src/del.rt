@@ -6,8 +6,8 @@ ghost use Rattle.xs_keys.specs.Reply.{existing};
 ghost use Rattle.xs_keys.specs.Headline.{StepAtAnyTime};
 
 use crate::keys::Keys;
-use xs_bytes::Bytes;
-use xs_command::{Command, Names};
+use xs_bytes::{Bytes, List};
+use xs_command::Command;
 use xs_resp::Reply;
 
 /// Removes keys, and counts those that were there, each once.
@@ -25,7 +25,7 @@ fn remove_all(keys: &mut Keys, names: &[Bytes]) -> u64
 }
 
 /// Removes keys with their groups, and says how many of them there were, each counted once.
-pub fn delete(keys: &mut Keys, names: &Names) -> Reply
+pub fn delete(keys: &mut Keys, names: &List<Bytes>) -> Reply
     ensures { let old = content_of keys.old.entries in
         StepAtAnyTime old (Command.DropKeys names.now) result (content_of keys.new.entries) }
 {

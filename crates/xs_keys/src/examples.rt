@@ -1,7 +1,10 @@
 //! Examples of what clients see, computed from the definitions of the model.
 ghost use Rattle.xs_keys.specs.Examples.{Streams, Words, Deliveries, Claims, Lives, Reads, Reports, Edges};
 ghost use Rattle.xs_keys.specs.ExamplesHistory as history;
-ghost use Rattle.xs_keys.specs.ExamplesTurns as turns;
+ghost use Rattle.xs_keys.specs.ExamplesGroupEvents as group_events;
+ghost use Rattle.xs_keys.specs.ExamplesAsked as asked;
+ghost use Rattle.xs_keys.specs.ExamplesContent as content;
+ghost use Rattle.xs_keys.specs.ExamplesHeadline as headline;
 
 /// Ids, ranges and trims.
 pub fn streams()
@@ -75,25 +78,60 @@ pub fn told()
 
 /// Whose turn it was.
 pub fn turns_of_entries()
-    ensures { turns.Turns }
+    ensures { group_events.Turns }
 {}
 
 /// Consumers by looking back.
 pub fn consumers()
-    ensures { turns.Consumers }
+    ensures { group_events.Consumers }
 {}
 
 /// Who has an entry.
 pub fn owners()
-    ensures { turns.Owners }
+    ensures { group_events.Owners }
 {}
 
 /// What settles an entry.
 pub fn settling()
-    ensures { turns.Settling }
+    ensures { group_events.Settling }
 {}
 
 /// What is pending.
 pub fn rows()
-    ensures { turns.Rows }
+    ensures { group_events.Rows }
+{}
+
+/// What each command asks of its own group, and of no other.
+pub fn asked_of_a_group()
+    ensures { asked.Asked }
+{}
+
+/// What last touched an entry, and what a claim asks for.
+pub fn last_touches()
+    ensures { asked.Touches }
+{}
+
+/// When a content is that of a history, and when it isn't.
+pub fn contents()
+    ensures { content.Contents }
+{}
+
+/// Each way in which an owner goes on.
+pub fn owners_go_on()
+    ensures { headline.OwnersGoOn }
+{}
+
+/// How a life goes on with what an event delivers.
+pub fn lives_go_on()
+    ensures { headline.LivesGoOn }
+{}
+
+/// What is an answer to an event.
+pub fn answers_go_on()
+    ensures { headline.AnswersGoOn }
+{}
+
+/// How an addition and the making of a group may end.
+pub fn endings()
+    ensures { headline.Endings }
 {}

@@ -10,7 +10,7 @@ ghost use Rattle.xs_group.specs.State.{is_name};
 ghost use Rattle.xs_command.specs.declared.command.Command.{Command};
 ghost use Rattle.xs_command.specs.WellFormed.{IsWellFormed};
 ghost use Rattle.xs_keys.specs.Life.{Change, key_life, given_in, live, top};
-ghost use Rattle.xs_keys.specs.Turn.{delivered, cursor, holding, owner};
+ghost use Rattle.xs_keys.specs.GroupEvent.{delivered, cursor, holding, owner};
 ghost use Rattle.xs_keys.specs.GroupLife.{GroupLife, group_life, group_of, asks_new, delivered_by, GoesOn};
 ghost use Rattle.xs_keys.specs.Content.{Content, IsContent, after, IsLawfulContent};
 ghost use Rattle.xs_keys.specs.Reply.{reply};
@@ -40,28 +40,28 @@ pub fn ids_ascend()
 
 /// The ids delivered in the life of a group ascend over all its reads, and are past its start.
 pub fn deliveries_ascend()
-    ensures ascend { OfEachLife (λ life. Ascends (delivered life.start life.turns)) }
-    ensures past_start { OfEachLife (λ life. AllAbove life.start (delivered life.start life.turns)) }
+    ensures ascend { OfEachLife (λ life. Ascends (delivered life.start life.events)) }
+    ensures past_start { OfEachLife (λ life. AllAbove life.start (delivered life.start life.events)) }
 {}
 
 /// An id above the start and not above the cursor has had its turn, and was delivered exactly where it
 /// was in the stream then.
 pub fn delivered_exactly_where_live_at_its_turn()
     ensures { OfEachLife (λ life. (x : Id) →
-        is_below life.start x ≡ true → is_below (cursor life.start life.turns) x ≡ false
-        → HadItsTurn life.start life.turns x) }
+        is_below life.start x ≡ true → is_below (cursor life.start life.events) x ≡ false
+        → HadItsTurn life.start life.events x) }
 {}
 
 /// A read of new entries delivers as many as it asks for, or leaves no entry in the stream past the cursor.
 pub fn a_read_delivers_in_full()
-    ensures { OfEachLife (λ life. DeliversInFull life.start life.turns) }
+    ensures { OfEachLife (λ life. DeliversInFull life.start life.events) }
 {}
 
-/// After a delivery without NOACK an entry has an owner up to the first turn that settles it, and none
+/// After a delivery without NOACK an entry has an owner up to the first event that settles it, and none
 /// after it; the owner changes only by a claim, and comes only by a delivery.
 pub fn one_owner_until_settled()
-    ensures until_settled { OfEachLife (λ life. OwnedUntilSettled life.start life.turns) }
-    ensures by_claims { OfEachLife (λ life. ChangesByClaims life.start life.turns) }
+    ensures until_settled { OfEachLife (λ life. OwnedUntilSettled life.start life.events) }
+    ensures by_claims { OfEachLife (λ life. ChangesByClaims life.start life.events) }
 {}
 
 /// An event delivers nothing of a life of a group where it is on another key or group, or where no life
@@ -86,22 +86,22 @@ pub fn what_is_told_is_what_was_delivered()
         IsContent content past → IsWellFormed command → IsTold past now command (reply content now command) }
 {}
 
-/// The owner, searched for by looking back for the last turn that assigned the entry and for a later one
+/// The owner, searched for by looking back for the last event that assigned the entry and for a later one
 /// that settled it, is the consumer of the row that the proofs go over.
 pub fn owner_is_of_the_row()
     ensures holding { OfEachLife (λ life. (x : Id) →
-        owner life.start life.turns x ≡ option_map (λ row. row.consumer) (holding life.start life.turns x)) }
-    ensures pending { OfEachLife (λ life. IsPendingWithOwner life.start life.turns) }
+        owner life.start life.events x ≡ option_map (λ row. row.consumer) (holding life.start life.events x)) }
+    ensures pending { OfEachLife (λ life. IsPendingWithOwner life.start life.events) }
 {}
 
-/// The time and the delivery count of a pending row, carried from turn to turn, are those that the last turn gave that
-/// touched the entry: that delivered it, claimed it, or showed it once more to its consumer.
+/// The time and the delivery count of a pending row, carried from event to event, are those that the last event
+/// gave that touched the entry: that delivered it, claimed it, or showed it once more to its consumer.
 pub fn time_and_count_are_of_the_last_touch()
-    ensures { OfEachLife (λ life. IsLastTouched life.start life.turns) }
+    ensures { OfEachLife (λ life. IsLastTouched life.start life.events) }
 {}
 
 /// A claim takes an entry only where it has an owner, is in the stream, and was last touched as long ago as the claim
 /// asks; and it removes a pending entry only where that is no longer in the stream.
 pub fn a_claim_takes_what_is_idle()
-    ensures { OfEachLife (λ life. ClaimsWhatIsIdle life.start life.turns) }
+    ensures { OfEachLife (λ life. ClaimsWhatIsIdle life.start life.events) }
 {}

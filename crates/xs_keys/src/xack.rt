@@ -3,13 +3,13 @@ ghost use Rattle.xs_keys.specs.Codes.{content_of};
 ghost use Rattle.xs_keys.specs.Headline.{StepAtAnyTime};
 
 use crate::keys::Keys;
-use xs_bytes::Bytes;
+use xs_bytes::{Bytes, List};
 use xs_command::Command;
 use xs_resp::Reply;
-use xs_stream::Ids;
+use xs_stream::Id;
 
 /// Takes these ids out of what is pending in a group, and says how many were.
-pub fn acknowledge(keys: &mut Keys, key: &Bytes, group: &Bytes, ids: &Ids) -> Reply
+pub fn acknowledge(keys: &mut Keys, key: &Bytes, group: &Bytes, ids: &List<Id>) -> Reply
     ensures { let old = content_of keys.old.entries in
         StepAtAnyTime old (Command.Ack key.now group.now ids.now) result (content_of keys.new.entries) }
 {

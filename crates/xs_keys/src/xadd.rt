@@ -16,7 +16,7 @@ use std::collections::BTreeMap;
 use xs_bytes::Bytes;
 use xs_command::{AddCommand, Command};
 use xs_resp::{Fault, Reply};
-use xs_stream::{AddError, Moment, Stream};
+use xs_stream::{AddError, Moment, Stream, copy_fields};
 
 /// Adds an entry to a stream and trims it then. The text of the id is made first, so that a refusal of
 /// memory leaves the stream as it was.
@@ -41,7 +41,7 @@ fn try_add(
     let Ok(text) = id.text(alloc) else {
         return Err(AddError::Memory);
     };
-    let Ok(fields) = add.fields.copy(alloc) else {
+    let Ok(fields) = copy_fields(alloc, add.fields.as_slice()) else {
         return Err(AddError::Memory);
     };
     match stream.add(now, add.id, fields) {

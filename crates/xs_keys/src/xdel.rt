@@ -3,13 +3,13 @@ ghost use Rattle.xs_keys.specs.Codes.{content_of};
 ghost use Rattle.xs_keys.specs.Headline.{StepAtAnyTime};
 
 use crate::keys::Keys;
-use xs_bytes::Bytes;
+use xs_bytes::{Bytes, List};
 use xs_command::Command;
 use xs_resp::Reply;
-use xs_stream::Ids;
+use xs_stream::Id;
 
 /// Removes entries of a key, and says how many there were.
-pub fn delete(keys: &mut Keys, key: &Bytes, ids: &Ids) -> Reply
+pub fn delete(keys: &mut Keys, key: &Bytes, ids: &List<Id>) -> Reply
     ensures { let old = content_of keys.old.entries in
         StepAtAnyTime old (Command.Delete key.now ids.now) result (content_of keys.new.entries) }
 {

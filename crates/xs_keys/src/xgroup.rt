@@ -1,7 +1,7 @@
 //! XGROUP: groups and their consumers.
 ghost use Rattle.std.specs.Prelude.{◌≡◌, None, if◌then◌else◌};
 ghost use Rattle.xs_bytes.specs.SortedMap as map;
-ghost use Rattle.xs_keys.specs.GroupLife.{start_of};
+ghost use Rattle.xs_keys.specs.GroupLife.{starting_id};
 ghost use Rattle.xs_keys.specs.Codes.{content_of, groups_of};
 ghost use Rattle.xs_keys.specs.Grouping.{Creates};
 ghost use Rattle.xs_keys.specs.Headline.{StepAtAnyTime};
@@ -17,7 +17,7 @@ use xs_stream::{Id, Stream};
 
 /// The id behind which a group starts, in a stream with this top.
 fn start_id(start: GroupStart, top: Id) -> Id
-    ensures { result ≡ start_of start top }
+    ensures { result ≡ starting_id start top }
 {
     match start {
         GroupStart::Top => top,

@@ -1,7 +1,9 @@
 -- The texts of errors.
 use Rattle.std.specs.Prelude.{ℕ, List, codes}
 use Rattle.xs_resp.specs.declared.fault.Fault.{Fault}
-use Rattle.xs_resp.specs.declared.fault.Fault.TheVariants.{UnknownCommand, Arity, Syntax, BadId, NotInteger, ZeroId, SmallId, Exhausted, NoKey, Busy, NoGroup, Unsupported, Memory, Protocol}
+use Rattle.xs_resp.specs.declared.fault.Fault.TheVariants.{UnknownCommand, Arity, Syntax, BadId, NotInteger, ZeroId}
+use Rattle.xs_resp.specs.declared.fault.Fault.TheVariants.{SmallId, Exhausted, NoKey, Busy, NoGroup, Unsupported}
+use Rattle.xs_resp.specs.declared.fault.Fault.TheVariants.{Memory, Protocol}
 
 -- what an error reply says, without its marker and its line end
 unfoldable pub fault_text : Fault → List ℕ

@@ -1,5 +1,6 @@
 -- What a reader of requests holds, and what its calls do.
-use Rattle.std.specs.Prelude.{◌≡◌, ℕ, ◌==◌, Bool, false, not, List, ◌++◌, length, drop, Option, Some, None, Result, Ok, Err, ◌⊎◌}
+use Rattle.std.specs.Prelude.{◌≡◌, ℕ, ◌==◌, Bool, false, not, List, ◌++◌, length, drop, Option, Some, None, Result, Ok}
+use Rattle.std.specs.Prelude.{Err, ◌⊎◌}
 use Rattle.xs_resp.specs.declared.read_fault.Wrong.{Wrong}
 use Rattle.xs_resp.specs.declared.read_fault.ReadFault.{ReadFault}
 use Rattle.xs_resp.specs.declared.read_fault.ReadFault.TheVariants.{Memory}

@@ -13,7 +13,8 @@ Rests (Err wrong) bytes held = held ≡ Err wrong
 -- these requests are taken from the bytes, one after another, until none is whole
 abbrev pub Reads : List ℕ → List (List (List ℕ)) → Held → Type 0
 Reads bytes [] held = Rests (request bytes) bytes held
-Reads bytes (words ∷ others) held = (end : ℕ) × ((request bytes ≡ Ok (Some (record { words = words; end = end }))) × Reads (drop end bytes) others held)
+Reads bytes (words ∷ others) held =
+    (end : ℕ) × ((request bytes ≡ Ok (Some (record { words = words; end = end }))) × Reads (drop end bytes) others held)
 
 -- the same of what a reader holds: of a failed one nothing is taken
 abbrev pub ReadsHeld : Held → List (List (List ℕ)) → Held → Type 0
@@ -21,7 +22,8 @@ ReadsHeld (Ok bytes) requests held = Reads bytes requests held
 ReadsHeld (Err wrong) requests held = (requests ≡ []) × (held ≡ Err wrong)
 
 -- the requests that are taken behind the first piece, and those behind the others
-pub record Turn (old : Held) (requests : List (List (List ℕ))) (rest : List (List (List ℕ)) → Held → Type 0) : Type 0 where
+pub record Turn (old : Held) (requests : List (List (List ℕ))) (rest : List (List (List ℕ)) → Held → Type 0) :
+    Type 0 where
   pub first : List (List (List ℕ))
   pub others : List (List (List ℕ))
   pub between : Held
@@ -32,4 +34,5 @@ pub record Turn (old : Held) (requests : List (List (List ℕ))) (rest : List (L
 -- these requests are taken from a reader that is fed these pieces
 abbrev pub ReadsPieces : Held → List (List ℕ) → List (List (List ℕ)) → Held → Type 0
 ReadsPieces old [] requests held = (requests ≡ []) × (held ≡ old)
-ReadsPieces old (piece ∷ pieces) requests held = Turn (fed old piece) requests (λ others between. ReadsPieces between pieces others held)
+ReadsPieces old (piece ∷ pieces) requests held =
+    Turn (fed old piece) requests (λ others between. ReadsPieces between pieces others held)

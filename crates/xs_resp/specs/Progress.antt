@@ -6,7 +6,9 @@ use Rattle.xs_resp.specs.Reading.{after, words, request}
 
 -- behind these words, whatever bytes follow decide what the request is
 abbrev pub Passes : List ℕ → Progress → List (List ℕ) → Type 0
-Passes bytes progress passed = (more : List ℕ) → request (bytes ++ more) ≡ after passed progress.at (words progress.left (drop progress.at bytes ++ more))
+Passes bytes progress passed =
+    (more : List ℕ) → request (bytes ++ more)
+    ≡ after passed progress.at (words progress.left (drop progress.at bytes ++ more))
 
 -- some words were met, and stand within the bytes
 pub record Follows (bytes : List ℕ) (progress : Progress) : Type 0 where

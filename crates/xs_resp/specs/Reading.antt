@@ -1,5 +1,6 @@
 -- How words and requests are read from the front of some bytes.
-use Rattle.std.specs.Prelude.{◌≡◌, ℕ, ◌+◌, ◌-◌, ◌==◌, List, [], ◌∷◌, ◌++◌, take, drop, zero, suc, Some, None, Ok, Err, if◌then◌else◌}
+use Rattle.std.specs.Prelude.{◌≡◌, ℕ, ◌+◌, ◌-◌, ◌==◌, List, [], ◌∷◌, ◌++◌, take, drop, zero, suc, Some, None, Ok, Err}
+use Rattle.std.specs.Prelude.{if◌then◌else◌}
 use Rattle.xs_resp.specs.declared.header.Part.TheVariants.{Count, Size}
 use Rattle.xs_resp.specs.declared.word.Span.{Span}
 use Rattle.xs_resp.specs.declared.read_fault.Wrong.TheVariants.{Shape}
@@ -15,7 +16,8 @@ pub record Found : Type 0 where
 abbrev pub closed : ℕ → ℕ → List ℕ → Outcome Span
 closed start end [] = Ok None
 closed start end (cr ∷ []) = if cr == 13 then Ok None else Err Shape
-closed start end (cr ∷ lf ∷ rest) = if cr == 13 then (if lf == 10 then Ok (Some (record { start = start; end = end })) else Err Shape) else Err Shape
+closed start end (cr ∷ lf ∷ rest) =
+    if cr == 13 then (if lf == 10 then Ok (Some (record { start = start; end = end })) else Err Shape) else Err Shape
 
 -- a header, that many bytes, and CR LF
 unfoldable pub word : List ℕ → Outcome Span
@@ -32,7 +34,8 @@ after words end rest = rest >>= λ found. Ok (Some (record { words = words ++ fo
 -- this many words
 unfoldable pub words : ℕ → List ℕ → Outcome Found
 words zero bytes = Ok (Some (record { words = []; end = 0 }))
-words (suc n) bytes = word bytes >>= λ span. after (text_in bytes span ∷ []) (span.end + 2) (words n (drop (span.end + 2) bytes))
+words (suc n) bytes =
+    word bytes >>= λ span. after (text_in bytes span ∷ []) (span.end + 2) (words n (drop (span.end + 2) bytes))
 
 -- a request: a header, and that many words
 unfoldable pub request : List ℕ → Outcome Found

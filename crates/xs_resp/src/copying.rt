@@ -4,12 +4,11 @@ ghost use Rattle.xs_resp.specs.Reading.{words, request, IsWhole, HasWords};
 
 use crate::header::{Part, read_header};
 use crate::word::{read_word, rest_of};
-use crate::words::Words;
 use std::alloc::{AllocError, Global};
-use xs_bytes::Bytes;
+use xs_bytes::{Bytes, List};
 
 /// Copies the words of the request at the front, each at its exact size.
-pub fn words_of(alloc: Global, bytes: &[u8]) -> Result<Words, AllocError>
+pub fn words_of(alloc: Global, bytes: &[u8]) -> Result<List<Bytes>, AllocError>
     requires { IsWhole (request bytes.now) }
     ensures { IfOk result (HasWords (request bytes.now)) }
 {
@@ -18,7 +17,7 @@ pub fn words_of(alloc: Global, bytes: &[u8]) -> Result<Words, AllocError>
 }
 
 /// Copies this many words.
-fn copy_words(alloc: Global, bytes: &[u8], number: usize) -> Result<Words, AllocError>
+fn copy_words(alloc: Global, bytes: &[u8], number: usize) -> Result<List<Bytes>, AllocError>
     requires { IsWhole (words number bytes.now) }
     ensures { IfOk result (HasWords (words number bytes.now)) }
 {
@@ -29,5 +28,5 @@ fn copy_words(alloc: Global, bytes: &[u8], number: usize) -> Result<Words, Alloc
         copies.push(Bytes::from_slice(alloc, &rest[span.start..span.end])?)?;
         rest = rest_of(rest, span.end + 2);
     }
-    Ok(Words::new(copies))
+    Ok(List::new(copies))
 }

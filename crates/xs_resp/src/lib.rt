@@ -12,7 +12,6 @@ pub mod reply;
 pub mod requests;
 pub mod token;
 mod word;
-pub mod words;
 pub mod writing;
 
 pub use fault::Fault;
@@ -20,5 +19,4 @@ pub use read_fault::{ReadFault, Wrong};
 pub use reply::{Replies, Reply, Simple};
 pub use requests::Requests;
 pub use token::Token;
-pub use words::Words;
 pub use writing::encode;

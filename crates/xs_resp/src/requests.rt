@@ -6,9 +6,9 @@ use crate::copying::words_of;
 use crate::progress::{Progress, read_on};
 use crate::read_fault::{ReadFault, Wrong};
 use crate::word::rest_of;
-use crate::words::Words;
 use std::alloc::{AllocError, Global};
 use std::marker::Model;
+use xs_bytes::{Bytes, List};
 
 /// Where a reader stands.
 #[derive(Clone, Copy, Debug, PartialEq, Eq)]
@@ -79,7 +79,7 @@ impl Requests {
     /// # Errors
     /// `Memory`, and the reader is unchanged; else what is wrong with the bytes, for good.
     #[tactic(auto, using(crate::proofs::Nexts::next_stays))]
-    pub fn next(&mut self) -> Result<Option<Words>, ReadFault>
+    pub fn next(&mut self) -> Result<Option<List<Bytes>>, ReadFault>
         ensures next { Next self.old result self.new }
         ensures stays { (more : List ℕ) → result ≢ Ok None → Next (fed self.old more) result (fed self.new more) }
     {

@@ -26,7 +26,8 @@ pub fn rest_of(bytes: &[u8], at: usize) -> &[u8]
 #[tactic(auto, using(crate::proofs::Reading::header_ends), unfolding(crate::specs::Reading::word))]
 pub fn read_word(bytes: &[u8]) -> Result<Option<Span>, Wrong>
     ensures value { result ≡ word bytes.now }
-    ensures ends { IfOk result (λ found. IfSome found (λ span. (span.start ≤ span.end) × (span.end + 2 ≤ length bytes.now))) }
+    ensures ends { IfOk result (λ found. IfSome found (λ span. (span.start ≤ span.end)
+        × (span.end + 2 ≤ length bytes.now))) }
 {
     let Some(header) = read_header(Part::Size, bytes)? else {
         return Ok(None);

@@ -6,9 +6,9 @@ use Rattle.xs_command.specs.declared.command.Command.{Command}
 use Rattle.xs_keys.specs.Content.{Content}
 use Rattle.xs_keys.specs.Headline.{Step, RunsOn}
 use Rattle.xs_keys.proofs.Runs.{RunsSoFar, runs-none, runs-more, runs-all}
-use Rattle.xs_server.specs.declared.ending.Ending.{Ending}
-use Rattle.xs_server.specs.declared.ending.ServeFault.{ServeFault}
-use Rattle.xs_server.specs.declared.ending.ServeFault.TheVariants as fault
+use Rattle.xs_server.specs.declared.connections.ending.Ending.{Ending}
+use Rattle.xs_server.specs.declared.connections.ending.ServeFault.{ServeFault}
+use Rattle.xs_server.specs.declared.connections.ending.ServeFault.TheVariants as fault
 use Rattle.xs_server.specs.Answering.{Answered}
 use Rattle.xs_server.specs.Exchange.{Exchange, Run}
 use Rattle.xs_server.specs.Serve.{Serves, Ends}

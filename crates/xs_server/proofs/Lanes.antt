@@ -5,9 +5,9 @@ use Rattle.xs_command.specs.declared.command.Command.{Command}
 use Rattle.xs_desk.specs.Asking.{Asker, Asks, Fails}
 use Rattle.xs_desk.specs.Keeping.{KeepsSide}
 use Rattle.xs_desk.proofs.Sides.{side_again, ask_keeps_side}
-use Rattle.xs_server.specs.declared.ending.Ending.{Ending}
-use Rattle.xs_server.specs.declared.ending.ServeFault.{ServeFault}
-use Rattle.xs_server.specs.declared.ending.ServeFault.TheVariants as fault
+use Rattle.xs_server.specs.declared.connections.ending.Ending.{Ending}
+use Rattle.xs_server.specs.declared.connections.ending.ServeFault.{ServeFault}
+use Rattle.xs_server.specs.declared.connections.ending.ServeFault.TheVariants as fault
 use Rattle.xs_server.specs.Answering.{Answered}
 use Rattle.xs_server.specs.Exchange.{Exchange, Run}
 use Rattle.xs_server.specs.Serve.{Serves, Ends}

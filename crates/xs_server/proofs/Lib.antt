@@ -3,7 +3,7 @@ pub mod LineEnds
 pub mod ScriptLines
 pub mod Sessions
 pub mod CommandLines
-pub mod Connections
+pub mod Exchanges
 pub mod AloneRuns
 pub mod Modelling
 pub mod Lanes

@@ -3,9 +3,9 @@ use Rattle.std.proofs.Common.{ℕ, List, [], ◌∷◌, Option, Some, None, Resu
 use Rattle.xs_resp.specs.declared.reply.Reply.{Reply}
 use Rattle.xs_command.specs.declared.command.Command.{Command}
 use Rattle.xs_keys.specs.Content.{Content, IsContent}
-use Rattle.xs_server.specs.declared.ending.Ending.{Ending}
-use Rattle.xs_server.specs.declared.ending.ServeFault.{ServeFault}
-use Rattle.xs_server.specs.declared.ending.ServeFault.TheVariants as fault
+use Rattle.xs_server.specs.declared.connections.ending.Ending.{Ending}
+use Rattle.xs_server.specs.declared.connections.ending.ServeFault.{ServeFault}
+use Rattle.xs_server.specs.declared.connections.ending.ServeFault.TheVariants as fault
 use Rattle.xs_server.specs.Answering.{Answered}
 use Rattle.xs_server.specs.Exchange.{Exchange, Run}
 use Rattle.xs_server.specs.Serve.{Serves, Ends}

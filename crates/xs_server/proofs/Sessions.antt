@@ -12,12 +12,12 @@ use Rattle.xs_keys.specs.Headline.{Follows, Answers}
 use Rattle.xs_keys.proofs.Runs.{step-follows, headline}
 use Rattle.xs_server.specs.Script.{Script, Served, AreServed, events_of, answers_of, IsScript, with_end}
 use Rattle.xs_server.specs.Serving.{StepAt}
-use Rattle.xs_server.specs.declared.session.Session.{Session}
-use Rattle.xs_server.specs.declared.script_fault.ScriptFault.{ScriptFault}
-use Rattle.xs_server.specs.declared.script_fault.ScriptFault.TheVariants.{Line, Read, Write}
-use Rattle.xs_server.specs.declared.script_fault.ScriptFault.TheVariants as script_fault
+use Rattle.xs_server.specs.declared.script.session.Session.{Session}
+use Rattle.xs_server.specs.declared.script.fault.ScriptFault.{ScriptFault}
+use Rattle.xs_server.specs.declared.script.fault.ScriptFault.TheVariants.{Line, Read, Write}
+use Rattle.xs_server.specs.declared.script.fault.ScriptFault.TheVariants as script_fault
 use Rattle.xs_server.specs.Session.{Stands, Sent, PartSent, Sends, SendsAll, ServesNext, HasWriteCause, EndsBy, IsRead, IsInHand, IsReadOut, piece}
-use Rattle.xs_server.specs.declared.taken.LineFault.TheVariants.{Long}
+use Rattle.xs_server.specs.declared.lines.taken.LineFault.TheVariants.{Long}
 use Rattle.xs_server.specs.Taking.{FailsLine}
 use Rattle.xs_server.proofs.ScriptLines.{long-line, read-lines}
 use Rattle.std.specs.List.{flat_map}

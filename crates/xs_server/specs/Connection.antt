@@ -10,18 +10,18 @@ use Rattle.xs_resp.specs.Held.{Held, fed}
 use Rattle.xs_resp.specs.Grammar.{SpellsAll}
 use Rattle.xs_command.specs.declared.command.Command.{Command}
 use Rattle.xs_command.specs.Read.{reads}
-use Rattle.xs_server.specs.declared.ending.Ending.{Ending}
-use Rattle.xs_server.specs.declared.ending.Ending.TheVariants as ending
-use Rattle.xs_server.specs.declared.ending.ServeFault.{ServeFault}
-use Rattle.xs_server.specs.declared.ending.ServeFault.TheVariants as fault
-use Rattle.xs_server.specs.declared.inbox.FillFault.{FillFault}
-use Rattle.xs_server.specs.declared.inbox.FillFault.TheVariants as fill
-use Rattle.xs_server.specs.declared.connection.SendFault.{SendFault}
-use Rattle.xs_server.specs.declared.connection.SendFault.TheVariants as send
+use Rattle.xs_server.specs.declared.connections.ending.Ending.{Ending}
+use Rattle.xs_server.specs.declared.connections.ending.Ending.TheVariants as ending
+use Rattle.xs_server.specs.declared.connections.ending.ServeFault.{ServeFault}
+use Rattle.xs_server.specs.declared.connections.ending.ServeFault.TheVariants as fault
+use Rattle.xs_server.specs.declared.connections.inbox.FillFault.{FillFault}
+use Rattle.xs_server.specs.declared.connections.inbox.FillFault.TheVariants as fill
+use Rattle.xs_server.specs.declared.connections.connection.SendFault.{SendFault}
+use Rattle.xs_server.specs.declared.connections.connection.SendFault.TheVariants as send
 use Rattle.xs_server.specs.Device.{capped}
 use Rattle.xs_server.specs.Answering.{Answered}
 use Rattle.xs_server.specs.Exchange.{Exchange, Run, texts, is_quit, quits}
-use Rattle.xs_server.specs.declared.connection.Connection.{Connection}
+use Rattle.xs_server.specs.declared.connections.connection.Connection.{Connection}
 use Rattle.xs_server.specs.Serve.{IsPart, Serves, reads_limit}
 
 -- all requests that were taken are answered, and the answers are written; these bytes are held

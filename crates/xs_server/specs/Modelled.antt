@@ -4,8 +4,8 @@ use Rattle.xs_resp.specs.declared.reply.Reply.{Reply}
 use Rattle.xs_command.specs.declared.command.Command.{Command}
 use Rattle.xs_keys.specs.Content.{Content, IsContent}
 use Rattle.xs_keys.specs.Headline.{Follows, OfEachGroup, DeliversNew, HasOneOwner}
-use Rattle.xs_server.specs.declared.ending.Ending.{Ending}
-use Rattle.xs_server.specs.declared.ending.ServeFault.{ServeFault}
+use Rattle.xs_server.specs.declared.connections.ending.Ending.{Ending}
+use Rattle.xs_server.specs.declared.connections.ending.ServeFault.{ServeFault}
 use Rattle.xs_server.specs.Serve.{Serves}
 
 -- the model's reply at some moment

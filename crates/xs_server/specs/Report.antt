@@ -1,10 +1,10 @@
 -- What the program says at its end.
 use Rattle.std.specs.Prelude.{◌≡◌, ℕ, ◌⊎◌, Bool, true, List, [], ◌++◌, codes, decimal, Option, Result, Ok, Err}
 use Rattle.std.specs.Io.KnownBytes.{Appends}
-use Rattle.xs_server.specs.declared.script_fault.ScriptFault.{ScriptFault}
-use Rattle.xs_server.specs.declared.script_fault.ScriptFault.TheVariants.{Line, Read, Write, Memory}
-use Rattle.xs_server.specs.declared.work_fault.WorkFault.{WorkFault}
-use Rattle.xs_server.specs.declared.work_fault.WorkFault.TheVariants as work
+use Rattle.xs_server.specs.declared.script.fault.ScriptFault.{ScriptFault}
+use Rattle.xs_server.specs.declared.script.fault.ScriptFault.TheVariants.{Line, Read, Write, Memory}
+use Rattle.xs_server.specs.declared.work.fault.WorkFault.{WorkFault}
+use Rattle.xs_server.specs.declared.work.fault.WorkFault.TheVariants as work
 use Rattle.xs_desk.specs.declared.opening.DeskError.TheVariants as desk
 
 -- the status of the program where a script ends before its end: 2 for a line that is no script line, and 1 for a
@@ -51,4 +51,5 @@ text_of_run (Err fault) = fault_text fault
 
 -- a writer takes this text, or a part of it where it fails
 abbrev pub Says : List ℕ → Option (List ℕ) → Option (List ℕ) → Bool → Type 0
-Says text old new broken = (part rest : List ℕ) × (text ≡ part ++ rest) × Appends old new part × ((rest ≡ []) ⊎ (broken ≡ true))
+Says text old new broken =
+    (part rest : List ℕ) × (text ≡ part ++ rest) × Appends old new part × ((rest ≡ []) ⊎ (broken ≡ true))

@@ -51,8 +51,8 @@ abbrev pub answers_of : List Served → List Reply
 answers_of [] = []
 answers_of (one ∷ more) = onto_answer one.asked one.answer (answers_of more)
 
--- a whole script: each line is answered, of the commands that were asked the headline holds, and the text is that of all
--- the answers
+-- a whole script: each line is answered, of the commands that were asked the headline holds, and the text is that of
+-- all the answers
 pub record IsScript (lines : List (List ℕ)) (out : List ℕ) : Type 0 where
   pub served : List Served
   pub are_served : AreServed lines served

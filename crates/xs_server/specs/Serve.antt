@@ -10,10 +10,10 @@ use Rattle.xs_resp.specs.ReplyText.{text}
 use Rattle.xs_resp.specs.Grammar.{Spells, SpellsAll, FaultIn, IsOpen}
 use Rattle.xs_command.specs.declared.command.Command.{Command}
 use Rattle.xs_command.specs.Read.{reads}
-use Rattle.xs_server.specs.declared.ending.Ending.{Ending}
-use Rattle.xs_server.specs.declared.ending.Ending.TheVariants as ending
-use Rattle.xs_server.specs.declared.ending.ServeFault.{ServeFault}
-use Rattle.xs_server.specs.declared.ending.ServeFault.TheVariants as fault
+use Rattle.xs_server.specs.declared.connections.ending.Ending.{Ending}
+use Rattle.xs_server.specs.declared.connections.ending.Ending.TheVariants as ending
+use Rattle.xs_server.specs.declared.connections.ending.ServeFault.{ServeFault}
+use Rattle.xs_server.specs.declared.connections.ending.ServeFault.TheVariants as fault
 use Rattle.xs_server.specs.Device.{capped}
 use Rattle.xs_server.specs.Exchange.{Exchange, Run, texts, is_quit, quits}
 

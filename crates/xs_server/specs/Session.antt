@@ -1,13 +1,14 @@
 -- A script while it runs, and how it ends.
-use Rattle.std.specs.Prelude.{◌≡◌, ℕ, ◌+◌, ◌<◌, ◌≤◌, true, false, ◌⊎◌, Bool, List, [], ◌∷◌, ◌++◌, length, Option, None, Result, Ok, Err}
+use Rattle.std.specs.Prelude.{◌≡◌, ℕ, ◌+◌, ◌<◌, ◌≤◌, true, false, ◌⊎◌, Bool, List, [], ◌∷◌, ◌++◌, length, Option, None}
+use Rattle.std.specs.Prelude.{Result, Ok, Err}
 use Rattle.std.specs.Io.KnownBytes.{IsAtEnd}
 use Rattle.std.specs.List.{flat_map, list_any}
 use Rattle.xs_command.specs.declared.command.Command.{Command}
 use Rattle.xs_bytes.specs.SortedMap as map
 use Rattle.xs_keys.specs.Content.{IsContent}
-use Rattle.xs_server.specs.declared.session.Session.{Session}
-use Rattle.xs_server.specs.declared.script_fault.ScriptFault.{ScriptFault}
-use Rattle.xs_server.specs.declared.script_fault.ScriptFault.TheVariants.{Line, Read, Write, Memory}
+use Rattle.xs_server.specs.declared.script.session.Session.{Session}
+use Rattle.xs_server.specs.declared.script.fault.ScriptFault.{ScriptFault}
+use Rattle.xs_server.specs.declared.script.fault.ScriptFault.TheVariants.{Line, Read, Write, Memory}
 use Rattle.xs_server.specs.Device.{capped}
 use Rattle.xs_server.specs.Line.{is_line_end, script_lines, line_of, line_limit}
 use Rattle.xs_server.specs.Script.{Script, IsScript, with_end, AreLines}
@@ -35,7 +36,8 @@ IsInHand read lines line behind =
 -- the line in hand was read up to its LF, or to the end of the input, or past the limit
 abbrev pub IsReadOut : List ℕ → List ℕ → Option (List ℕ) → Bool → Type 0
 IsReadOut line behind rest ended =
-    ((unused : List ℕ) × (behind ≡ 10 ∷ unused)) ⊎ ((behind ≡ []) × IsAtEnd rest × (ended ≡ true)) ⊎ (line_limit < length line)
+    ((unused : List ℕ) × (behind ≡ 10 ∷ unused)) ⊎ ((behind ≡ []) × IsAtEnd rest × (ended ≡ true))
+    ⊎ (line_limit < length line)
 
 -- a reader is asked for so many bytes at once
 abbrev pub piece : ℕ
@@ -44,7 +46,8 @@ piece = 65536
 -- how a script ends that has read and sent these bytes, and whose reader has these left
 abbrev pub EndsBy : ScriptFault → List ℕ → List ℕ → Option (List ℕ) → Bool → Type 0
 EndsBy (Line number written) read sent rest ended =
-    (lines : List (List ℕ)) × (line behind : List ℕ) × IsInHand read lines line behind × IsReadOut line behind rest ended
+    (lines : List (List ℕ)) × (line behind : List ℕ) × IsInHand read lines line behind
+    × IsReadOut line behind rest ended
     × (line_of line ≡ None) × (number ≡ capped (length lines + 1)) × Sent lines sent written
 EndsBy (Read written) read sent rest ended =
     (lines : List (List ℕ)) × (line : List ℕ) × IsInHand read lines line [] × Sent lines sent written
@@ -70,9 +73,11 @@ IsLast read lines line = IsRead read lines line × (list_any is_line_end line �
 -- a line that was served isn't answered, and so the script ends; or it is
 abbrev pub ServesNext : Result (Unit {0}) ScriptFault → List (List ℕ) → List ℕ → List ℕ → Session → Bool → Type 0
 ServesNext (Ok done) lines line sent session broken = Stands (lines ++ line ∷ []) sent session
-ServesNext (Err (Line number written)) lines line sent session broken = (line_of line ≡ None) × (number ≡ capped (length lines + 1)) × Sent lines sent written
+ServesNext (Err (Line number written)) lines line sent session broken =
+    (line_of line ≡ None) × (number ≡ capped (length lines + 1)) × Sent lines sent written
 ServesNext (Err (Read written)) lines line sent session broken = ⊥
-ServesNext (Err (Write written)) lines line sent session broken = (PartSent lines sent written ⊎ PartSent (lines ++ line ∷ []) sent written) × (broken ≡ true)
+ServesNext (Err (Write written)) lines line sent session broken =
+    (PartSent lines sent written ⊎ PartSent (lines ++ line ∷ []) sent written) × (broken ≡ true)
 ServesNext (Err (Memory written)) lines line sent session broken = Sent lines sent written
 
 -- all is sent, or the writer failed
@@ -84,7 +89,8 @@ SendsAll (Err _) rest written broken = ⊥
 -- these first bytes of the replies that were held are sent, and none is held any more
 abbrev pub Sends : Result (Unit {0}) ScriptFault → Session → Session → List ℕ → Bool → Type 0
 Sends result old new part broken =
-    (rest : List ℕ) × (old.out.items ≡ part ++ rest) × (new.out.items ≡ []) × (new.written ≡ capped (old.written + length part)) × SendsAll result rest new.written broken
+    (rest : List ℕ) × (old.out.items ≡ part ++ rest) × (new.out.items ≡ [])
+    × (new.written ≡ capped (old.written + length part)) × SendsAll result rest new.written broken
 
 -- serving fails to write only where the writer has failed, and never reads
 abbrev pub HasWriteCause : {A : Type 0} → Result A ScriptFault → Bool → Type 0
@@ -99,7 +105,8 @@ Steps (Ok true) lines read sent session rest ended =
 Steps (Ok false) lines read sent session rest ended = Sent (script_lines read) sent session.written
 Steps (Err fault) lines read sent session rest ended = EndsBy fault read sent rest ended
 
--- a writer's fault comes only from a writer that has failed; a reader's from one that has failed, or after so many reads
+-- a writer's fault comes only from a writer that has failed; a reader's from one that has failed, or after so many
+-- reads
 abbrev pub HasCause : Result Bool ScriptFault → Bool → Bool → ℕ → Type 0
 HasCause (Err (Write written)) reader writer left = writer ≡ true
 HasCause (Err (Read written)) reader writer left = (reader ≡ true) ⊎ (left ≡ 0)
@@ -112,7 +119,8 @@ reads_limit = 1000000000000
 -- the same of a whole script
 abbrev pub RunsByCause : Result ℕ ScriptFault → Bool → Bool → ℕ → ℕ → Type 0
 RunsByCause (Err (Write written)) reader writer before calls = writer ≡ true
-RunsByCause (Err (Read written)) reader writer before calls = (reader ≡ true) ⊎ (capped calls ≡ capped (before + reads_limit))
+RunsByCause (Err (Read written)) reader writer before calls =
+    (reader ≡ true) ⊎ (capped calls ≡ capped (before + reads_limit))
 RunsByCause _ reader writer before calls = Unit {0}
 
 -- nothing is read, served or held

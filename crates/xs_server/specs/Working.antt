@@ -7,12 +7,12 @@ use Rattle.xs_desk.specs.History.{ServedCall, Desk, IsHistory, events_of, replie
 use Rattle.xs_desk.specs.Callers.{Caller}
 use Rattle.xs_desk.specs.Closing.{SumUp}
 use Rattle.xs_desk.specs.Opening.{IsDeskError, IsLaneCount, IsDepth}
-use Rattle.xs_server.specs.declared.work_fault.WorkFault.{WorkFault}
-use Rattle.xs_server.specs.declared.work_fault.WorkFault.TheVariants as fault
+use Rattle.xs_server.specs.declared.work.fault.WorkFault.{WorkFault}
+use Rattle.xs_server.specs.declared.work.fault.WorkFault.TheVariants as fault
 
--- A desk of n lanes was closed. The summary has a part for each lane, which counts what its two sides tell; the calls that
--- were served, in the order of their places, are the history of the desk; and they are a run from the empty keyspace on,
--- which gave these replies and left the summary's keyspace.
+-- A desk of n lanes was closed. The summary has a part for each lane, which counts what its two sides tell; the calls
+-- that were served, in the order of their places, are the history of the desk; and they are a run from the empty
+-- keyspace on, which gave these replies and left the summary's keyspace.
 pub record IsClosed (n : ℕ) (summary : Summary) : Type 0 where
   pub desk : Desk
   pub ends : List Caller

@@ -43,7 +43,8 @@ const ABOUT_SERVE: &str = "Listens on a port of 127.0.0.1 and serves connections
 /// Whether the words run a script: no error means that they do.
 fn parse(alloc: Global, words: &[String]) -> Result<(), Error>
     ensures ok { IfOk result (λ _. AsksScript (map (λ word. string_bytes word) words.now)) }
-    ensures err { AsksScript (map (λ word. string_bytes word) words.now) → IfErr result (λ error. kind_of error ≡ ErrorKind.OutOfMemory) }
+    ensures err { AsksScript (map (λ word. string_bytes word) words.now) → IfErr result
+        (λ error. kind_of error ≡ ErrorKind.OutOfMemory) }
 {
     let script = Command::new(alloc, "script").about(ABOUT_SCRIPT);
     let program = Command::new(alloc, "xs_server")
@@ -135,7 +136,8 @@ fn read_others(rt: &HostRuntime, words: &[String]) -> Asked
 /// them.
 pub fn read_words(rt: &HostRuntime, words: &[String]) -> Asked
     ensures script { result ≡ Asked.Script → AsksScript (map (λ word. string_bytes word) words.now) }
-    ensures others { AsksScript (map (λ word. string_bytes word) words.now) → (result ≡ Asked.Script) ⊎ (result ≡ Asked.Memory) }
+    ensures others { AsksScript (map (λ word. string_bytes word) words.now) → (result ≡ Asked.Script)
+        ⊎ (result ≡ Asked.Memory) }
 {
     match parse(rt.alloc(), words) {
         Ok(()) => Asked::Script,

@@ -2,7 +2,7 @@
 //! the reader waits, and where the writer is dropped.
 ghost use Rattle.std.specs.Prelude.{◌≤◌, length, IfOk, None};
 
-use crate::device::{Failed, Sink, Source};
+use crate::devices::device::{Failed, Sink, Source};
 use std::alloc::{AllocError, Global};
 use std::io;
 use std::io::{ErrorKind, Read, Write};

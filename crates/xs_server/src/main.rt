@@ -2,43 +2,22 @@
 //! a script on standard input and writes the replies on standard output.
 #![tactic(auto)]
 
-mod answering;
-mod chunk;
 mod command_line;
-mod connection;
-mod crew;
-mod device;
-mod ending;
-mod gate;
+mod connections;
+mod devices;
 mod halves;
-mod inbox;
-mod keeping;
 mod lines;
-mod parts;
 mod report;
-mod run;
 mod script;
-mod script_command;
-mod script_fault;
-mod script_of_bytes;
-mod sending;
-mod serve;
-mod serve_alone;
 mod serve_command;
-mod serving;
-mod session;
-mod signals;
-mod taken;
 mod tcp;
 mod wall_clock;
-mod work_fault;
-mod worker;
-mod working;
+mod work;
 
 use command_line::{Asked, read_command_line};
-use device::{FromRead, ToWrite};
+use devices::device::{FromRead, ToWrite};
 use report::report_memory;
-use script_command::run_and_report;
+use script::command::run_and_report;
 use serve_command::serve_and_report;
 use std::process::ExitCode;
 

@@ -1,12 +1,13 @@
 //! What the program says on standard error, and its status.
 ghost use Rattle.std.specs.Prelude.{◌≡◌, true, false};
 ghost use Rattle.std.specs.Io.KnownBytes.{Appends};
-ghost use Rattle.xs_server.specs.Report.{status_of, fault_text, memory_text, line_text, listening_text, work_text, Says};
+ghost use Rattle.xs_server.specs.Report.{status_of, fault_text, memory_text, line_text, listening_text, work_text};
+ghost use Rattle.xs_server.specs.Report.{Says};
 
-use crate::device::Sink;
-use crate::script_fault::ScriptFault;
-use crate::sending::write_all;
-use crate::work_fault::WorkFault;
+use crate::devices::device::Sink;
+use crate::devices::sending::write_all;
+use crate::script::fault::ScriptFault;
+use crate::work::fault::WorkFault;
 use itoa::Buffer;
 use xs_desk::DeskError;
 

@@ -1,12 +1,12 @@
 //! The program's command `serve`.
 
 use crate::command_line::ServeOptions;
-use crate::device::Sink;
+use crate::devices::device::Sink;
+use crate::devices::sending::write_all;
 use crate::report::{report_listening, report_memory, report_work};
-use crate::sending::write_all;
 use crate::tcp::TcpGate;
 use crate::wall_clock::WallClock;
-use crate::working::work;
+use crate::work::working::work;
 use itoa::Buffer;
 use std::alloc::{AllocError, Global};
 use std::io::ErrorKind;
@@ -44,8 +44,8 @@ fn say_listening<W: Sink>(out: &mut W, port: u16) {
     }
 }
 
-/// Listens on a port of 127.0.0.1, says so, and serves the connections that come, as many as the options say. It gives the
-/// status of the program.
+/// Listens on a port of 127.0.0.1, says so, and serves the connections that come, as many as the options say. It gives
+/// the status of the program.
 pub fn serve_and_report<
     W: Sink,
     E: Sink,

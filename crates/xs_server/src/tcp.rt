@@ -1,6 +1,6 @@
 //! Connections over TCP.
-use crate::gate::{Gate, GateFault};
 use crate::halves::{Incoming, Outgoing, halves_of};
+use crate::work::gate::{Gate, GateFault};
 use std::alloc::Global;
 use std::io::ErrorKind;
 use std::net::{TcpListener, TcpStream};
@@ -25,7 +25,8 @@ impl TcpGate {
     }
 }
 
-/// Waits for the next connection. A call that was interrupted, and one whose connection has gone meanwhile, is made again.
+/// Waits for the next connection. A call that was interrupted, and one whose connection has gone meanwhile, is made
+/// again.
 fn accept(listener: &TcpListener) -> Result<TcpStream, GateFault> {
     for _ in 0..u64::MAX {
         match listener.accept() {
@@ -45,16 +46,16 @@ impl Gate for TcpGate {
     type Writer = Outgoing;
 
     fn open_next<R: Wait>(&mut self, _rt: &R) -> Result<Option<(Incoming, Outgoing)>, GateFault> {
-        if self.left == 0 {
-            return Ok(None);
+        for _ in 0..self.left {
+            self.left = self.left.saturating_sub(1);
+            let stream = accept(&self.listener)?;
+            // Without it replies may be late. So a fault here is no reason to refuse the connection.
+            let _ = stream.set_nodelay(true);
+            // A connection that there is no memory for ends here, and the next one is taken.
+            if let Ok(halves) = halves_of(self.alloc, stream) {
+                return Ok(Some(halves));
+            }
         }
-        self.left -= 1;
-        let stream = accept(&self.listener)?;
-        // Without it replies may be late. So a fault here is no reason to refuse the connection.
-        let _ = stream.set_nodelay(true);
-        match halves_of(self.alloc, stream) {
-            Ok(halves) => Ok(Some(halves)),
-            Err(_) => Err(GateFault::Refused),
-        }
+        Ok(None)
     }
 }

@@ -2,10 +2,10 @@
 ghost use Rattle.std.specs.Prelude.{None};
 
 use super::*;
-use crate::device::{Failed, Sink, Source};
+use crate::devices::device::{Failed, Sink, Source};
 use crate::report::report_script;
-use crate::run::run_script;
-use crate::script_fault::ScriptFault;
+use crate::script::fault::ScriptFault;
+use crate::script::run::run_script;
 use std::alloc::{AllocError, Global};
 use std::test::Fail;
 

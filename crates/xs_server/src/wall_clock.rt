@@ -6,7 +6,8 @@ use std::time::SystemTime;
 use xs_keys::Clock;
 use xs_stream::Moment;
 
-/// The time of the system, in milliseconds since 1970. Where it can't be read the last moment is given again, at first 0.
+/// The time of the system, in milliseconds since 1970. Where it can't be read the last moment is given again, at first
+/// 0.
 #[derive(Drop)]
 pub struct WallClock<S: time::Clock + Drop> {
     system: S,

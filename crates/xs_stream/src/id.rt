@@ -5,7 +5,6 @@ ghost use Rattle.xs_stream.specs.IdText.{next_id, previous_id, id_number, parse_
 
 use itoa::Buffer;
 use std::alloc::{AllocError, Global};
-use std::marker::Model;
 use xs_bytes::{Bytes, number, push_decimal};
 
 /// The id of an entry. Ids are ordered by milliseconds, then by sequence.
@@ -136,42 +135,4 @@ fn parse_number(text: &[u8]) -> Option<u64>
         return None;
     }
     number(text)
-}
-
-/// A list of ids, in the order in which they stand. A contract sees it as that list.
-#[derive(Debug, Drop)]
-pub struct Ids {
-    items: Vec<Id>,
-}
-
-impl Model for Ids {
-    ghost use Rattle.std.specs.Prelude.{List};
-    ghost use Rattle.xs_stream.specs.declared.id.Id.{Id};
-
-    ghost Value = { List Id };
-
-    ghost view = { λ ids. ids.items.items };
-}
-
-impl Ids {
-    /// The list of these ids. It takes no memory.
-    pub fn new(items: Vec<Id>) -> Self
-        ensures { result ≡ items.items }
-    {
-        Self { items }
-    }
-
-    /// Gives the ids back. It takes no memory.
-    pub fn into_vec(self) -> Vec<Id>
-        ensures { result.items ≡ self }
-    {
-        let Self { items } = self;
-        items
-    }
-
-    pub fn as_slice(&self) -> &[Id]
-        ensures { result.now ≡ self.now }
-    {
-        self.items.as_slice()
-    }
 }

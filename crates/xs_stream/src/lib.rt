@@ -13,8 +13,8 @@ pub mod stream;
 pub mod trim;
 
 pub use add::{AddError, AddId};
-pub use field::{Field, Fields};
-pub use id::{Id, Ids};
+pub use field::{Field, copy_fields};
+pub use id::Id;
 pub use moment::Moment;
 pub use range::Range;
 pub use stream::Stream;

@@ -1,13 +1,14 @@
 //! A stream: its top id and its entries, in the order of their ids.
-ghost use Rattle.std.specs.Prelude.{◌≡◌, ◌↔◌, ◌+◌, ◌-◌, ◌++◌, ◌∷◌, [], false, Ok, Err, IfOk, OnErr, IsErrOf, length, filter, take, drop, reverse};
+ghost use Rattle.std.specs.Prelude.{◌≡◌, ◌↔◌, ◌+◌, ◌-◌, ◌++◌, ◌∷◌, [], false, Ok, Err, IfOk, OnErr, IsErrOf, length};
+ghost use Rattle.std.specs.Prelude.{filter, take, drop, reverse};
 ghost use Rattle.std.specs.Option.{option_map};
 ghost use Rattle.xs_stream.specs.Id.{zero_id, is_below, assigned};
 ghost use Rattle.xs_stream.specs.Kept.{is_within, Ascends, ids_of, fields_at, without, trimmed, ids_within, limited};
 ghost use Rattle.xs_stream.specs.Lawful.{IsLawful};
 
 use crate::add::{AddError, AddId};
-use crate::field::{Field, Fields};
-use crate::id::{Id, Ids};
+use crate::field::Field;
+use crate::id::Id;
 use crate::moment::Moment;
 use crate::range::Range;
 use crate::trim::Trim;
@@ -15,12 +16,13 @@ use std::alloc::{AllocError, Global};
 use std::collections::BTreeMap;
 use std::marker::Model;
 use std::ops::Bound;
+use xs_bytes::List;
 
 /// A stream of entries. A contract sees its top id and the list of its entries.
 #[derive(Drop)]
 pub struct Stream {
     top: Id,
-    entries: BTreeMap<Id, Fields>,
+    entries: BTreeMap<Id, List<Field>>,
 }
 
 impl Model for Stream {
@@ -49,6 +51,7 @@ impl Stream {
     pub fn lawful(&self)
         ensures { IsLawful self.now }
     {
+        // A look at a field brings in what holds of the whole stream.
         let _ = &self.top;
     }
 
@@ -84,11 +87,12 @@ impl Stream {
     }
 
     /// Adds an entry above all that were ever added (XADD). The stream is unchanged on each error.
-    pub fn add(&mut self, now: Moment, id: AddId, fields: Fields) -> Result<Id, AddError>
+    pub fn add(&mut self, now: Moment, id: AddId, fields: List<Field>) -> Result<Id, AddError>
         ensures ok { IfOk result (λ given. (assigned now self.old.top id ≡ Ok given)
             × (self.new ≡ record { top = given; entries = self.old.entries ++ (given, fields) ∷ [] })) }
         ensures small { IsErrOf result AddError.Small ↔ (assigned now self.old.top id ≡ Err AddError.Small) }
-        ensures exhausted { IsErrOf result AddError.Exhausted ↔ (assigned now self.old.top id ≡ Err AddError.Exhausted) }
+        ensures exhausted { IsErrOf result AddError.Exhausted ↔ (assigned now self.old.top id
+            ≡ Err AddError.Exhausted) }
         ensures err { OnErr result (self.new ≡ self.old) }
     {
         let given = self.assign(now, id)?;
@@ -131,11 +135,11 @@ impl Stream {
         range: Range,
         limit: Option<u64>,
         reversed: bool,
-    ) -> Result<Ids, AllocError>
+    ) -> Result<List<Id>, AllocError>
         ensures { IfOk result (λ ids. ids ≡ limited limit (ids_within range reversed self.now.entries)) }
     {
         if range.high < range.low {
-            return Ok(Ids::new(Vec::new(alloc)));
+            return Ok(List::new(Vec::new(alloc)));
         }
         let most = limit.unwrap_or(u64::MAX);
         let ids = if reversed {
@@ -143,19 +147,24 @@ impl Stream {
         } else {
             ids_up(alloc, &self.entries, range, most)?
         };
-        Ok(Ids::new(ids))
+        Ok(List::new(ids))
     }
 
     /// The ids above a cursor, in their order, at most `limit` of them.
-    pub fn past(&self, alloc: Global, cursor: Id, limit: Option<u64>) -> Result<Ids, AllocError>
+    pub fn past(
+        &self,
+        alloc: Global,
+        cursor: Id,
+        limit: Option<u64>,
+    ) -> Result<List<Id>, AllocError>
         ensures { IfOk result (λ ids. ids ≡ limited limit (filter (λ x. is_below cursor x) (ids_of self.now.entries))) }
     {
         let ids = ids_past(alloc, &self.entries, cursor, limit.unwrap_or(u64::MAX))?;
-        Ok(Ids::new(ids))
+        Ok(List::new(ids))
     }
 }
 
-type Entries = BTreeMap<Id, Fields>;
+type Entries = BTreeMap<Id, List<Field>>;
 
 /// How many entries there are beyond the most that may stay.
 fn surplus(entries: &Entries, most: u64) -> usize
@@ -218,7 +227,8 @@ fn ids_up(alloc: Global, entries: &Entries, range: Range, most: u64) -> Result<V
 
 /// The ids above a cursor, at most this many.
 fn ids_past(alloc: Global, entries: &Entries, cursor: Id, most: u64) -> Result<Vec<Id>, AllocError>
-    ensures { IfOk result (λ ids. ids.items ≡ take most (filter (λ x. is_below cursor x) (ids_of entries.now.entries))) }
+    ensures { IfOk result (λ ids. ids.items
+        ≡ take most (filter (λ x. is_below cursor x) (ids_of entries.now.entries))) }
 {
     let mut ids = Vec::new(alloc);
     let past = entries.range((Bound::Excluded(cursor), Bound::Unbounded));
@@ -239,7 +249,8 @@ fn ids_down(
     most: u64,
 ) -> Result<Vec<Id>, AllocError>
     requires { is_below range.high range.low ≡ false }
-    ensures { IfOk result (λ ids. ids.items ≡ take most (reverse (filter (is_within range) (ids_of entries.now.entries)))) }
+    ensures { IfOk result (λ ids. ids.items
+        ≡ take most (reverse (filter (is_within range) (ids_of entries.now.entries)))) }
 {
     let mut ids = Vec::new(alloc);
     let bounds = (Bound::Included(range.low), Bound::Included(range.high));

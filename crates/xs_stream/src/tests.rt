@@ -1,18 +1,18 @@
 use super::*;
 use std::alloc::{AllocError, Global};
 use std::test::Fail;
-use xs_bytes::Bytes;
+use xs_bytes::{Bytes, List};
 
-fn new_fields(alloc: Global) -> Result<Fields, AllocError> {
+fn new_fields(alloc: Global) -> Result<List<Field>, AllocError> {
     let name = Bytes::from_slice(alloc, b"f")?;
     let value = Bytes::from_slice(alloc, b"v")?;
     let mut items = Vec::with_capacity(alloc, 1)?;
     items.push(Field { name, value })?;
-    Ok(Fields::new(items))
+    Ok(List::new(items))
 }
 
 /// The field f with the value v, made once more where memory was refused.
-fn fields(alloc: Global) -> Result<Fields, AllocError> {
+fn fields(alloc: Global) -> Result<List<Field>, AllocError> {
     match new_fields(alloc) {
         Ok(fields) => Ok(fields),
         Err(AllocError) => new_fields(alloc),
@@ -68,7 +68,7 @@ fn ids(
     range: Range,
     limit: Option<u64>,
     reversed: bool,
-) -> Result<Ids, AllocError> {
+) -> Result<List<Id>, AllocError> {
     match stream.range(alloc, range, limit, reversed) {
         Ok(ids) => Ok(ids),
         Err(AllocError) => stream.range(alloc, range, limit, reversed),

@@ -2,9 +2,9 @@
 use crate::*;
 use std::alloc::{AllocError, Global};
 use std::fmt::Write;
-use xs_bytes::Bytes;
+use xs_bytes::{Bytes, List};
 use xs_group::{ClaimRule, ClaimTime};
-use xs_stream::{AddId, Fields, Id, Ids, Range, Trim};
+use xs_stream::{AddId, Field, Id, Range, Trim};
 
 type Written = Result<(), AllocError>;
 
@@ -75,7 +75,7 @@ fn show_id(out: &mut String, id: Id) -> Written {
     write!(out, " {ms}-{seq}")
 }
 
-fn show_ids(out: &mut String, ids: &Ids) -> Written {
+fn show_ids(out: &mut String, ids: &List<Id>) -> Written {
     for id in ids.as_slice() {
         show_id(out, *id)?;
     }
@@ -108,7 +108,7 @@ fn show_flag(out: &mut String, flag: bool, name: &str) -> Written {
     if flag { write!(out, " {name}") } else { Ok(()) }
 }
 
-fn show_fields(out: &mut String, fields: &Fields) -> Written {
+fn show_fields(out: &mut String, fields: &List<Field>) -> Written {
     for field in fields.as_slice() {
         show_name(out, &field.name)?;
         show_name(out, &field.value)?;

@@ -111,7 +111,8 @@ fn run_all<J: Job + Send + Drop, R: Threads + Wait + Sync>(
     seated: Vec<Seated<J>>,
 ) -> Result<Vec<Seated<J>>, AllocError>
     ensures len { IfOk result (λ v. length v.items ≡ length seated.items) }
-    ensures each { IfOk result (λ v. (i : ℕ) (s : _) (e : _) → i < length seated.items → KeepsSide (slice_index_or seated.items i s).client (slice_index_or v.items i e).client) }
+    ensures each { IfOk result (λ v. (i : ℕ) (s : _) (e : _) → i < length seated.items
+        → KeepsSide (slice_index_or seated.items i s).client (slice_index_or v.items i e).client) }
 {
     thread::map_vec(
         rt,
@@ -142,7 +143,9 @@ fn run_both<J: Job + Send + Drop, C: Clock + Send + Drop, R: Threads + Wait + Sy
 ) -> Result<(Keeper, Vec<Seated<J>>), AllocError>
     ensures keeper { IfOk result (λ r. KeepsRings keeper r.0) }
     ensures len { IfOk result (λ r. length r.1.items ≡ length seated.items) }
-    ensures each { IfOk result (λ r. (i : ℕ) (s : _) (e : _) → i < length seated.items → KeepsSide (slice_index_or seated.items i s).client (slice_index_or r.1.items i e).client) }
+    ensures each { IfOk result
+        (λ r. (i : ℕ) (s : _) (e : _) → i < length seated.items
+        → KeepsSide (slice_index_or seated.items i s).client (slice_index_or r.1.items i e).client) }
 {
     let waker = keeper.waker()?;
     let stop = AtomicBool::new(false);
@@ -153,7 +156,9 @@ fn run_both<J: Job + Send + Drop, C: Clock + Send + Drop, R: Threads + Wait + Sy
         move |scope| -> Result<(Keeper, Vec<Seated<J>>), AllocError>
             ensures keeper { IfOk result (λ r. KeepsRings keeper r.0) }
             ensures len { IfOk result (λ r. length r.1.items ≡ length seated.items) }
-            ensures each { IfOk result (λ r. (i : ℕ) (s : _) (e : _) → i < length seated.items → KeepsSide (slice_index_or seated.items i s).client (slice_index_or r.1.items i e).client) }
+            ensures each { IfOk result
+                (λ r. (i : ℕ) (s : _) (e : _) → i < length seated.items
+                → KeepsSide (slice_index_or seated.items i s).client (slice_index_or r.1.items i e).client) }
         {
             let promise = SameRings(Snapshot::of(&keeper));
             let Ok(kept) = scope.spawn_with(promise, move || keep(rt, keeper, clock, rest, stop))

@@ -2,7 +2,8 @@ use super::shown::{is_same, show_again};
 use super::*;
 use crate::callers::{claim_from, claim_ids, deliver_and_undo, history_and_undo};
 use std::process::Abort;
-use xs_stream::{AddId, Field, Fields, Ids, Moment, Stream};
+use xs_bytes::List;
+use xs_stream::{AddId, Field, Moment, Stream};
 
 pub(super) const ALL: Range = Range {
     low: Id::ZERO,
@@ -35,7 +36,8 @@ pub(super) enum Step<'a> {
     Claim(u8, u64, u64, &'a [u64], &'a [u64], &'a [u64]),
     /// Claims the entry 1-0: consumer, now, time, count, JUSTID.
     Set(u8, u64, ClaimTime, Option<u64>, bool),
-    /// Claims from a start: consumer, now, start, limit, each idle for 10 or longer; the cursor, those taken, those removed.
+    /// Claims from a start: consumer, now, start, limit, each idle for 10 or longer; the cursor, those taken, those
+    /// removed.
     Scan(u8, u64, Id, u64, u64, &'a [u64], &'a [u64]),
     /// What is pending at a moment: id, consumer, idle time, count.
     Rows(u64, &'a [(u64, u8, u64, u64)]),
@@ -71,7 +73,7 @@ pub(super) fn add(alloc: Global, stream: &mut Stream, k: u64) -> Result<(), Allo
     let (name, value) = (name(alloc, b'f')?, name(alloc, b'v')?);
     items.push(Field { name, value })?;
     let now = at(1)?;
-    match stream.add(now, AddId::Exact(id(k)), Fields::new(items)) {
+    match stream.add(now, AddId::Exact(id(k)), List::new(items)) {
         Ok(_) => Ok(()),
         Err(_) => Err(AllocError),
     }
@@ -86,7 +88,7 @@ pub(super) fn filled(alloc: Global, n: u64) -> Result<Stream, AllocError> {
     Ok(stream)
 }
 
-pub(super) fn are_ids(ids: &Ids, wanted: &[u64]) -> bool {
+pub(super) fn are_ids(ids: &List<Id>, wanted: &[u64]) -> bool {
     let ids = ids.as_slice();
     let mut same = ids.len() == wanted.len();
     for (found, want) in ids.iter().zip(wanted) {

@@ -1,4 +1,5 @@
-//! Calls that take no memory: each test runs with all allocations refused from the first on, from the second on, and so on.
+//! Calls that take no memory: each test runs with all allocations refused from the first on, from
+//! the second on, and so on.
 use super::scene::{at, filled, id, ids_of, name, rule};
 use super::*;
 use crate::callers::{claim_ids, deliver_and_undo, history_and_undo};

@@ -1,6 +1,7 @@
 use super::*;
 use std::process::Abort;
 use std::test::Fail;
+use xs_bytes::List;
 
 const REQUESTS: &[u8] = b"*1\r\n$4\r\nPING\r\n*0\r\n*-1\r\n*2\r\n$4\r\nping\r\n$2\r\nhi\r\n";
 
@@ -171,7 +172,7 @@ fn feed_again(rt: &impl Abort, reader: &mut Requests, piece: &[u8]) {
 }
 
 /// Takes the next request, once more where memory was refused.
-fn next_again(reader: &mut Requests) -> Result<Option<Words>, ReadFault> {
+fn next_again(reader: &mut Requests) -> Result<Option<List<Bytes>>, ReadFault> {
     match reader.next() {
         Err(ReadFault::Memory) => reader.next(),
         read => read,

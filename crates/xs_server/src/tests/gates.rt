@@ -2,10 +2,10 @@
 ghost use Rattle.std.specs.Prelude.{None};
 
 use super::*;
-use crate::gate::{Gate, GateFault};
 use crate::report::report_work;
-use crate::work_fault::WorkFault;
-use crate::working::work;
+use crate::work::fault::WorkFault;
+use crate::work::gate::{Gate, GateFault};
+use crate::work::working::work;
 use std::sync::atomic::{AtomicU64, Ordering};
 use std::sync::{Arc, Wait};
 use std::thread;

@@ -2,10 +2,10 @@
 ghost use Rattle.std.specs.Prelude.{None};
 
 use super::*;
-use crate::connection::send;
-use crate::device::ToWrite;
-use crate::ending::{Ending, ServeFault};
-use crate::serve_alone::serve_alone;
+use crate::connections::connection::send;
+use crate::connections::ending::{Ending, ServeFault};
+use crate::connections::serve_alone::serve_alone;
+use crate::devices::device::ToWrite;
 use std::cell::Cell;
 use std::sync::Wait;
 use xs_bytes::Bytes;

@@ -1,7 +1,7 @@
 //! Readers and writers of std that give and take a few bytes at a time: the wrappers invent no fault.
 use super::*;
-use crate::device::{FromRead, ToWrite};
-use crate::script_of_bytes::run_bytes;
+use crate::devices::device::{FromRead, ToWrite};
+use crate::script::of_bytes::run_bytes;
 use std::io::{self, Read, Write};
 
 /// Gives so many bytes at a time.

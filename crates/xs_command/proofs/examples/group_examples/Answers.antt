@@ -1,7 +1,7 @@
 use Rattle.std.proofs.Common.{refl}
 use Rattle.xs_command.specs.Words.{is_word, word, integer, natural, id, low, high}
 use Rattle.xs_command.specs.Options.{up_to}
-use Rattle.xs_command.specs.Name.{name_of}
+use Rattle.xs_command.specs.CommandName.{name_of}
 use Rattle.xs_command.specs.Syntax.{only, leading_ids, ids}
 use Rattle.xs_command.specs.Xgroup.{xgroup, subcommand_of, create, destroy, create_consumer, delete_consumer, create_option, group_start}
 use Rattle.xs_command.specs.Streams.{streams, each_from, is_distinct, read_from}

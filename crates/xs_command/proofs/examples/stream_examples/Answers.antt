@@ -1,7 +1,7 @@
 use Rattle.std.proofs.Common.{refl}
 use Rattle.xs_command.specs.Words.{is_word, word, behind_sign, integer, natural, id, low, high}
 use Rattle.xs_command.specs.Options.{up_to}
-use Rattle.xs_command.specs.Name.{name_of}
+use Rattle.xs_command.specs.CommandName.{name_of}
 use Rattle.xs_command.specs.Syntax.{only, leading_ids, ids}
 use Rattle.xs_command.specs.Trim.{max_len, min_id, trim_option}
 use Rattle.xs_command.specs.AddId.{add_id}

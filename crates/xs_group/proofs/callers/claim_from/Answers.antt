@@ -1,6 +1,6 @@
 use Rattle.std.proofs.Common.{inr, ap}
 use Rattle.xs_stream.specs.Kept.{ids_of}
-use Rattle.xs_group.specs.declared.claim.Scan.{Scan}
+use Rattle.xs_group.specs.declared.claims.Scan.{Scan}
 use Rattle.xs_group.proofs.callers.claim_from.Goals as goal
 
 pub settle-requires : goal.settle-requires

@@ -3,8 +3,8 @@ use Rattle.std.specs.BTreeMap.{UpdatesBy}
 use Rattle.xs_stream.specs.Id.{id_cmp, is_same}
 use Rattle.xs_group.specs.State.{Row, is_name}
 use Rattle.xs_group.specs.Claims.{claimed_row}
-use Rattle.xs_group.specs.Held.{holds}
-use Rattle.xs_group.proofs.Handing.{moved-some, row-moved}
+use Rattle.xs_group.specs.Indexes.{holds}
+use Rattle.xs_group.proofs.MovedRows.{moved-some, row-moved}
 use Rattle.xs_group.proofs.moving.move_row.Goals as goal
 
 pub returns-clause-rows : goal.returns-clause-rows

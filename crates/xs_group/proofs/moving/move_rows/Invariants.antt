@@ -1,7 +1,7 @@
 use Rattle.std.proofs.Common.{◌≡◌, ℕ, List, map, is_some, option_and_then}
 use Rattle.std.specs.Vec.Iter.{into_iter_items}
 use Rattle.xs_stream.specs.declared.id.Id.{Id}
-use Rattle.xs_group.specs.Held.{ids_at, row_in}
+use Rattle.xs_group.specs.Indexes.{ids_at, indexed_row}
 use Rattle.xs_group.specs.Verdict.{moved, AreApart, AreAgreedBut}
 use Rattle.xs_group.proofs.moving.move_rows.Given as goal
 
@@ -11,6 +11,6 @@ invariant-loop-share l = record {
   left : into_iter_items l.share-iterator ≡ map (λ x. l.fn.name) l.todo;
   apart : AreApart l.todo;
   agreed : AreAgreedBut l.rows.entries l.owners.entries l.fn.name l.todo;
-  rows : (x : Id) → option_and_then (moved l.fn.name l.fn.now l.fn.rule l.todo x) (row_in l.rows.entries x) ≡ option_and_then (moved l.fn.name l.fn.now l.fn.rule l.fn.ids x) (row_in l.fn.rows.entries x);
+  rows : (x : Id) → option_and_then (moved l.fn.name l.fn.now l.fn.rule l.todo x) (indexed_row l.rows.entries x) ≡ option_and_then (moved l.fn.name l.fn.now l.fn.rule l.fn.ids x) (indexed_row l.fn.rows.entries x);
   names : (n : List ℕ) → is_some (ids_at l.owners.entries n) ≡ is_some (ids_at l.fn.owners.entries n);
 }

@@ -2,7 +2,7 @@ use Rattle.std.proofs.Common.{refl}
 use Rattle.xs_bytes.specs.SortedMap.{empty, get, insert_by, remove, change}
 use Rattle.xs_command.specs.Words.{is_word, word, behind_sign, integer, natural, id, low, high}
 use Rattle.xs_command.specs.Options.{up_to}
-use Rattle.xs_command.specs.Name.{name_of}
+use Rattle.xs_command.specs.CommandName.{name_of}
 use Rattle.xs_command.specs.Syntax.{only, leading_ids, ids}
 use Rattle.xs_command.specs.Xgroup.{xgroup, subcommand_of, create, destroy, create_consumer, delete_consumer, create_option, group_start}
 use Rattle.xs_command.specs.Streams.{streams, each_from, is_distinct, read_from}
@@ -45,6 +45,7 @@ returns c = record {
   not_by_nomkstream = refl;
   not_by_a_deletion = refl;
   by_a_group = refl;
+  not_by_another_s_group = refl;
   not_without_mkstream = refl;
   ends = refl;
   another_ends = refl;

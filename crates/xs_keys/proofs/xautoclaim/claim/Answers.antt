@@ -3,7 +3,7 @@ use Rattle.xs_bytes.specs.SortedMap.{get}
 use Rattle.xs_stream.specs.Kept.{ids_of}
 use Rattle.xs_group.specs.Claims.{scan_of}
 use Rattle.xs_command.specs.declared.command.Command.TheVariants.{AutoClaim}
-use Rattle.xs_keys.specs.Turn.{auto_claim}
+use Rattle.xs_keys.specs.GroupEvent.{auto_claim}
 use Rattle.xs_keys.specs.Reply.{reply, scan_shown}
 use Rattle.xs_keys.specs.Headline.{is_error}
 use Rattle.xs_keys.specs.Content.{Key, group_in}

@@ -3,7 +3,7 @@ use Rattle.xs_bytes.specs.SortedMap.{empty, insert}
 use Rattle.xs_stream.specs.Id.{zero_id}
 use Rattle.xs_stream.specs.Kept.{Kept}
 use Rattle.xs_group.specs.State.{new_group}
-use Rattle.xs_keys.specs.GroupLife.{start_of}
+use Rattle.xs_keys.specs.GroupLife.{starting_id}
 use Rattle.xs_keys.proofs.Maps.{content-insert}
 use Rattle.xs_keys.specs.Codes.{content_of, groups_of}
 use Rattle.xs_keys.proofs.GroupMaking.{refused-step, makes-step}
@@ -24,9 +24,9 @@ returns-in-Ok-insert-2 c = λ now.
     let key : c.in-Ok.key ≡ create.key = c.in-Ok.ensures ∙ c.as_slice.ensures in
     let name : c.in-Ok-from_slice.name ≡ create.group = c.in-Ok-from_slice.ensures ∙ c.as_slice-2.ensures in
     let none : groups_of c.new-groups.result.entries ≡ empty = ap groups_of c.new-groups.ensures.empty in
-    let begins : c.new-group.result ≡ new_group (start_of create.start zero_id) =
-    c.new-group.ensures ∙ ap new_group (c.start_id.ensures ∙ ap (start_of create.start) (c.top.ensures ∙ ap (λ (s : Kept). s.top) c.new-stream.ensures)) in
-    let groups : groups_of c.insert.new.self.entries ≡ insert empty create.group (new_group (start_of create.start zero_id)) =
+    let begins : c.new-group.result ≡ new_group (starting_id create.start zero_id) =
+    c.new-group.ensures ∙ ap new_group (c.start_id.ensures ∙ ap (starting_id create.start) (c.top.ensures ∙ ap (λ (s : Kept). s.top) c.new-stream.ensures)) in
+    let groups : groups_of c.insert.new.self.entries ≡ insert empty create.group (new_group (starting_id create.start zero_id)) =
     content-insert c.new-groups.result c.insert.new.self create.group c.new-group.result (rw name at c.in-Ok-insert.ensures.updates)
     ∙ (λ i. insert (none i) create.group (begins i)) in
     makes-step c.args.keys.now c.insert-2.new.self now create (record { stream = c.new-stream.result; groups = groups_of c.insert.new.self.entries }) c.if-not-command.false c.requires

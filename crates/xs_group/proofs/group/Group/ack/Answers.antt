@@ -1,7 +1,7 @@
 use Rattle.std.proofs.Common.{length, ap, arith}
 use Rattle.xs_group.specs.State.{unless_acked}
 use Rattle.xs_group.proofs.group.Group.ack.Goals as goal
-use Rattle.xs_group.proofs.Leaving.{length-change, up_to-change}
+use Rattle.xs_group.proofs.RemovedRows.{length-change, up_to-change}
 
 pub overflow_sub-result : goal.overflow_sub-result
 overflow_sub-result c =

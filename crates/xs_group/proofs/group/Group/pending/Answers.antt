@@ -2,7 +2,7 @@ use Rattle.std.proofs.Common.{◌≡◌, true, sym, ◌∙◌}
 use Rattle.std.specs.Option.{option_map}
 use Rattle.xs_stream.specs.Id.{is_below}
 use Rattle.xs_stream.proofs.Order.{partial-below}
-use Rattle.xs_group.proofs.Telling.{asked-none}
+use Rattle.xs_group.proofs.ReportRows.{asked-none}
 use Rattle.xs_group.proofs.group.Group.pending.Goals as goal
 
 pub returns-then-lt : goal.returns-then-lt

@@ -1,6 +1,6 @@
 use Rattle.xs_group.specs.Claims.{claimed}
 use Rattle.xs_group.proofs.group.Group.settle.Goals as goal
-use Rattle.xs_group.proofs.Leaving.{up_to-change}
+use Rattle.xs_group.proofs.RemovedRows.{up_to-change}
 use Rattle.xs_group.proofs.Settling.{apart-claim}
 
 pub settle-requires : goal.settle-requires

@@ -1,9 +1,9 @@
 use Rattle.std.proofs.Common.{◌≡◌, IfOk, filter, map, take, sym, ap, ◌∙◌, subst}
 use Rattle.xs_group.specs.Report.{pending_row}
-use Rattle.xs_group.specs.Held.{rows_of}
+use Rattle.xs_group.specs.Indexes.{rows_of}
 use Rattle.xs_group.specs.Listing.{is_told}
 use Rattle.xs_group.proofs.Ordered.{entries-rows_of}
-use Rattle.xs_group.proofs.Telling.{asked-all}
+use Rattle.xs_group.proofs.ReportRows.{asked-all}
 use Rattle.xs_group.proofs.pending.Pending.all_within.Goals as goal
 
 pub returns : goal.returns

@@ -3,7 +3,7 @@ use Rattle.xs_bytes.specs.SortedMap.{change, remove}
 use Rattle.xs_group.specs.State.{has_name, unless_owned}
 use Rattle.xs_group.proofs.pending.Pending.deliver.Goals as goal
 use Rattle.xs_group.proofs.Agreeing.{held-again}
-use Rattle.xs_group.proofs.Putting.{held-back, name-there, was_there}
+use Rattle.xs_group.proofs.NewRows.{held-back, name-there, was_there}
 
 pub put_all-requires-clause-there : goal.put_all-requires-clause-there
 put_all-requires-clause-there c = ap (λ held. has_name held.consumers c.args.name.now) c.in_ok-made.ensures.ok ∙ name-there c.args.self.now.consumers c.args.name.now

@@ -1,10 +1,10 @@
 use Rattle.std.proofs.Common.{◌≡◌, IfOk, [], filter, map, take, sym, ap, ◌∙◌, subst}
 use Rattle.xs_group.specs.Report.{pending_row}
-use Rattle.xs_group.specs.Held.{rows_of}
+use Rattle.xs_group.specs.Indexes.{rows_of}
 use Rattle.xs_group.specs.Listing.{is_told, rows_among}
 use Rattle.xs_group.proofs.OwnIds.{owned-none, owned-some}
 use Rattle.xs_group.proofs.Ordered.{entries-rows_of}
-use Rattle.xs_group.proofs.Telling.{asked-owned, take-none}
+use Rattle.xs_group.proofs.ReportRows.{asked-owned, take-none}
 use Rattle.xs_group.proofs.pending.Pending.owned_within.Goals as goal
 
 pub returns-in_default : goal.returns-in_default

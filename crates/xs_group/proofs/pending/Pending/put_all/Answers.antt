@@ -3,12 +3,12 @@ use Rattle.xs_bytes.specs.SortedMap.{has_key}
 use Rattle.xs_stream.specs.Id.{has_id}
 use Rattle.xs_stream.specs.declared.id.Id.{Id}
 use Rattle.xs_group.specs.State.{has_name, first_row, with_rows}
-use Rattle.xs_group.specs.Held.{rows_of, names_of, row_in, AreFree}
+use Rattle.xs_group.specs.Indexes.{rows_of, names_of, indexed_row, AreFree}
 use Rattle.xs_group.proofs.pending.Pending.put_all.Goals as goal
 use Rattle.xs_group.proofs.pending.Pending.put_all.Goals.{In-Ok}
 use Rattle.xs_group.proofs.Views.{has_name-names_of, names-same, rows-same}
 use Rattle.xs_group.proofs.Agreeing.{held-by, refused-as}
-use Rattle.xs_group.proofs.Putting.{agreed-all, agreed-but, rows-all}
+use Rattle.xs_group.proofs.NewRows.{agreed-all, agreed-but, rows-all}
 
 pub add_ids-requires-clause-there : goal.add_ids-requires-clause-there
 add_ids-requires-clause-there c =
@@ -20,8 +20,8 @@ returns-in_err-add_ids-clause-err c = refused-as c.from_residual-in_err-add_ids.
 
 -- the rows are of this consumer, since the shared name is its name
 put_is : (c : In-Ok) (x : Id)
-    → row_in c.put_rows.new.rows.entries x ≡ cond (has_id c.args.ids.now x) (Some (first_row c.args.name.now c.args.now)) (row_in c.self.inside.rows.entries x)
-put_is c x = c.in-Ok.ensures.ok x ∙ ap (λ k. cond (has_id c.args.ids.now x) (Some (first_row k c.args.now)) (row_in c.self.inside.rows.entries x)) c.in_ok-shared.ensures
+    → indexed_row c.put_rows.new.rows.entries x ≡ cond (has_id c.args.ids.now x) (Some (first_row c.args.name.now c.args.now)) (indexed_row c.self.inside.rows.entries x)
+put_is c x = c.in-Ok.ensures.ok x ∙ ap (λ k. cond (has_id c.args.ids.now x) (Some (first_row k c.args.now)) (indexed_row c.self.inside.rows.entries x)) c.in_ok-shared.ensures
 
 free : (c : In-Ok) → AreFree (rows_of c.self.inside.rows.entries) c.args.ids.now
 free c x e = ap (λ held. has_key held.rows x) c.self.view_is ∙ c.requires.free x e

@@ -1,12 +1,12 @@
 use Rattle.std.proofs.Common.{[], Option, sym, ap, ◌∙◌, length}
 use Rattle.std.specs.BTreeSet.{BTreeSet}
 use Rattle.xs_stream.specs.declared.id.Id.{Id}
-use Rattle.xs_group.specs.Held.{rows_of, names_of, is_owner, has_among}
+use Rattle.xs_group.specs.Indexes.{rows_of, names_of, is_owner, has_among}
 use Rattle.xs_group.proofs.pending.Pending.remove_consumer.Goals as goal
 use Rattle.xs_group.proofs.Views.{get-rows_of}
 use Rattle.xs_group.proofs.Ordered.{ids-owned, sorted-none}
 use Rattle.xs_group.proofs.Agreeing.{held-by}
-use Rattle.xs_group.proofs.Leaving.{rows-without, agreed-without, names-without, left-none, left-some}
+use Rattle.xs_group.proofs.RemovedRows.{rows-without, agreed-without, names-without, left-none, left-some}
 
 pub returns-in_default-clause-rows : goal.returns-in_default-clause-rows
 returns-in_default-clause-rows c =

@@ -4,7 +4,7 @@ use Rattle.xs_group.specs.State.{has_name, with_name, unless_acked, unless_owned
 use Rattle.xs_group.specs.Verdict.{moved}
 use Rattle.xs_group.proofs.pending.Pending.settle.Goals as goal
 use Rattle.xs_group.proofs.Agreeing.{held-again}
-use Rattle.xs_group.proofs.Putting.{held-back, name-there, was_there}
+use Rattle.xs_group.proofs.NewRows.{held-back, name-there, was_there}
 use Rattle.xs_group.proofs.Settling.{rows-settled}
 
 pub reassign-requires-clause-there : goal.reassign-requires-clause-there

@@ -1,6 +1,6 @@
 use Rattle.std.proofs.Common.{◌&&◌, sym, ap, ◌∙◌, not}
 use Rattle.xs_stream.specs.Id.{is_same}
-use Rattle.xs_group.specs.Held.{names_of, holds}
+use Rattle.xs_group.specs.Indexes.{names_of, holds}
 use Rattle.xs_group.specs.State.{is_name}
 use Rattle.xs_group.proofs.pending.Pending.take.Goals as goal
 use Rattle.xs_group.proofs.Views.{names-same, rows-remove}

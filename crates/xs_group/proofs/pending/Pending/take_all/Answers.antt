@@ -3,7 +3,7 @@ use Rattle.std.proofs.lemmas.List.{take_more}
 use Rattle.xs_bytes.specs.SortedMap.{change, remove}
 use Rattle.xs_group.specs.State.{unless_acked}
 use Rattle.xs_group.proofs.pending.Pending.take_all.Goals as goal
-use Rattle.xs_group.proofs.Leaving.{acked-none, acked-more}
+use Rattle.xs_group.proofs.RemovedRows.{acked-none, acked-more}
 
 pub loop-id-init : goal.loop-id-init
 loop-id-init c = ap (λ rows. record { consumers = c.args.self.now.consumers; rows = rows }) (sym (acked-none c.args.self.now.rows))

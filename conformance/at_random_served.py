@@ -1,0 +1,82 @@
+#!/usr/bin/env python3
+"""Asks the program as a server and a real Redis 7.0 the same commands, made at random, over 8 connections at once.
+
+    at_random_served.py [--seed N] [--rounds N] [--counts] PROGRAM
+
+In each round each connection asks 400 commands as conformance/at_random.py makes them, of keys of its own, which it
+has removed first. The first connection sends one at a time, the next 3 together, then 5, and so on to 15. Both servers
+have the clock of the machine. A reply has to be that of Redis, as there. `--counts` shows how often each kind of reply
+of each command came. The last line is 'N passed, M failed', by commands; the status is 1 where M > 0.
+"""
+import argparse
+import sys
+from concurrent.futures import ThreadPoolExecutor
+
+import commands
+import kinds
+import real_redis
+from at_random import COMMANDS, lines_of, same_in_round
+from served import free_port, serving
+
+CONNECTIONS = 8
+# A wrong word may stand where a key does.
+KEYS = ["s", "t", "u", "odd", *commands.WRONG]
+
+
+def places_of_keys(words):
+    """Where the keys stand in a command, or would stand."""
+    upper = [word.upper() for word in words]
+    if upper[0] == "XREADGROUP":
+        behind = upper.index("STREAMS") + 1 if "STREAMS" in upper else len(words)
+        return range(behind, behind + (len(words) - behind) // 2)
+    if upper[0] == "DEL":
+        return range(1, len(words))
+    place = 2 if upper[0] == "XGROUP" else 1
+    return range(place, min(place + 1, len(words)))
+
+
+def of_its_own(lines, connection):
+    """The commands with the keys of the connection."""
+    made = []
+    for words in lines:
+        places = places_of_keys(words)
+        made.append([f"{word}:{connection}" if place in places else word for place, word in enumerate(words)])
+    return made
+
+
+def replies_at_once(pool, port, asked):
+    """What each connection was answered."""
+    def ask(connection):
+        opening = ["DEL", *(f"{key}:{connection}" for key in KEYS)]
+        return real_redis.ask(port, asked[connection], opening, together=2 * connection + 1)
+
+    return list(pool.map(ask, range(CONNECTIONS)))
+
+
+def main():
+    parser = argparse.ArgumentParser(description=__doc__, formatter_class=argparse.RawDescriptionHelpFormatter)
+    parser.add_argument("--seed", type=int, default=1)
+    parser.add_argument("--rounds", type=int, default=32)
+    parser.add_argument("--counts", action="store_true")
+    parser.add_argument("program")
+    given = parser.parse_args()
+    passed, failed, counts = 0, 0, kinds.Counts()
+    with (serving(given.program, workers=CONNECTIONS) as server, real_redis.started(port=free_port()) as port,
+          ThreadPoolExecutor(CONNECTIONS) as pool):
+        for number in range(given.rounds):
+            seeds = [f"served {given.seed} {number} {connection}" for connection in range(CONNECTIONS)]
+            asked = [of_its_own(lines_of(seed), connection) for connection, seed in enumerate(seeds)]
+            here, there = replies_at_once(pool, server.port, asked), replies_at_once(pool, port, asked)
+            for connection in range(CONNECTIONS):
+                same = same_in_round(asked[connection], here[connection], there[connection], counts)
+                passed, failed = passed + same, failed + (same < COMMANDS)
+                if same < COMMANDS:
+                    print(f"  in round {number} of seed {given.seed}, connection {connection}", flush=True)
+    if given.counts:
+        counts.show()
+    print(f"{passed} passed, {failed} failed")
+    return 1 if failed else 0
+
+
+if __name__ == "__main__":
+    sys.exit(main())

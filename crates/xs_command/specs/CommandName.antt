@@ -1,0 +1,56 @@
+-- The names of the commands, and how many words each has.
+use Rattle.std.specs.Prelude.{ℕ, ◌&&◌, ◌||◌, ◌==◌, not, Bool, true, List, [], ◌∷◌, codes, nat_le, Option, Some, None}
+use Rattle.std.specs.Prelude.{find}
+use Rattle.std.specs.Option.{option_map}
+use Rattle.xs_command.specs.declared.command_name.CommandName.{CommandName}
+use Rattle.xs_command.specs.declared.command_name.CommandName.TheVariants.{Ping, Quit, Xadd, Xdel, Xtrim, Xlen, Xrange}
+use Rattle.xs_command.specs.declared.command_name.CommandName.TheVariants.{Xrevrange, Xgroup, Xreadgroup, Xack}
+use Rattle.xs_command.specs.declared.command_name.CommandName.TheVariants.{Xpending, Xclaim, Xautoclaim, Del}
+use Rattle.xs_command.specs.Words.{is_word}
+
+-- the names
+abbrev pub names : List (List ℕ × CommandName)
+names =
+    (codes "ping", Ping) ∷ (codes "quit", Quit) ∷ (codes "xadd", Xadd) ∷ (codes "xdel", Xdel) ∷ (codes "xtrim", Xtrim)
+    ∷ (codes "xlen", Xlen) ∷ (codes "xrange", Xrange) ∷ (codes "xrevrange", Xrevrange) ∷ (codes "xgroup", Xgroup)
+    ∷ (codes "xreadgroup", Xreadgroup) ∷ (codes "xack", Xack) ∷ (codes "xpending", Xpending) ∷ (codes "xclaim", Xclaim)
+    ∷ (codes "xautoclaim", Xautoclaim) ∷ (codes "del", Del) ∷ []
+
+-- the one of these names that a word is, in upper or lower case
+abbrev pub among : List (List ℕ × CommandName) → List ℕ → Option CommandName
+among table word = option_map (λ entry. entry.1) (find (λ entry. is_word entry.0 word) table)
+
+-- the command that a word names
+unfoldable pub name_of : List ℕ → Option CommandName
+name_of word = among names word
+
+-- a length that few names have
+abbrev pub has_another_length : ℕ → Bool
+has_another_length n = not (n == 4 || n == 6 || n == 10)
+
+-- how many words a command has, its name included: at least the first number, at most the second where there is one
+abbrev pub counts : CommandName → ℕ × Option ℕ
+counts Ping = (1, Some 2)
+counts Quit = (1, None)
+counts Xadd = (5, None)
+counts Xdel = (3, None)
+counts Xtrim = (4, None)
+counts Xlen = (2, Some 2)
+counts Xrange = (4, None)
+counts Xrevrange = (4, None)
+counts Xgroup = (2, None)
+counts Xreadgroup = (7, None)
+counts Xack = (4, None)
+counts Xpending = (3, None)
+counts Xclaim = (6, None)
+counts Xautoclaim = (6, None)
+counts Del = (2, None)
+
+-- at most so many
+abbrev pub is_at_most : Option ℕ → ℕ → Bool
+is_at_most None count = true
+is_at_most (Some most) count = nat_le count most
+
+-- so many words are neither too few nor too many
+abbrev pub fits : ℕ × Option ℕ → ℕ → Bool
+fits bounds count = nat_le bounds.0 count && is_at_most bounds.1 count

@@ -1,0 +1,185 @@
+-- What is told of pending rows.
+use Rattle.std.proofs.Common.{◌≡◌, ℕ, ◌-◌, ◌<◌, ◌≤◌, suc, zero, Bool, true, false, cond, not, ◌&&◌, ◌⊎◌, inl, inr, leb, List, [], ◌∷◌, ◌++◌, map, filter, take, length, Option, Some, None, IsSome, ◌↔◌, sym, ap, ◌∙◌, refl, subst, arith, append-nil, take_all, Ordering}
+use Rattle.std.proofs.lemmas.Bool.{false≢true}
+use Rattle.std.proofs.Math.Dec.{T}
+use Rattle.std.proofs.Math.Seq.{take-append_seam}
+use Rattle.std.specs.List.{AllByRecursion, slice_get}
+use Rattle.std.specs.List.Sorted.{IsStrictlySortedBy}
+use Rattle.std.specs.Map.{keys_of}
+use Rattle.std.specs.BTreeMap.{IsOrdered}
+use Rattle.std.specs.BTreeMap.Range.{range_contains, entries_between}
+use Rattle.std.specs.BTreeSet.{BTreeSet}
+use Rattle.std.specs.declared.ops.Bound.TheVariants.{Included}
+use Rattle.std.specs.FinMap.Entries.{below_all, is_sorted, same_entries}
+use Rattle.std.specs.Ordering.{nat_cmp, is_lt, is_eq}
+use Rattle.std.specs.Cmp.Lexicographic.{slice_cmp, nat_list_cmp_total}
+use Rattle.std.specs.declared.cmp.Ordering.TheVariants.{Less, Equal, Greater}
+use Rattle.std.proofs.lemmas.Map.Lookups.{exact_bytes}
+use Rattle.xs_bytes.specs.SortedMap.{get, keys}
+use Rattle.xs_bytes.proofs.SortedMaps.{get-of_entries}
+use Rattle.xs_stream.specs.declared.id.Id.{Id}
+use Rattle.xs_stream.specs.declared.range.Range.{Range}
+use Rattle.xs_stream.specs.Id.{id_cmp, is_below}
+use Rattle.xs_stream.specs.Kept.{is_within}
+use Rattle.xs_stream.proofs.Entries.{between-within, filter-filter}
+use Rattle.xs_group.specs.declared.reports.PendingRow.{PendingRow}
+use Rattle.xs_group.specs.State.{Row, Rows, is_name, idle, owned}
+use Rattle.xs_group.specs.Indexes.{ConsumerIndex, names_of, ids_at, indexed_row}
+use Rattle.xs_group.specs.Report.{first_id, last_id, pending_row, is_of, is_asked}
+use Rattle.xs_group.specs.Listing.{is_told, with_row, rows_among}
+use Rattle.xs_group.proofs.ByConsumer.{Index, is_name-symm, is_name-refl}
+use Rattle.xs_group.proofs.Ordered.{is_sorted-from, first, second}
+use Rattle.xs_group.proofs.Views.{find-lookup}
+use Rattle.xs_group.proofs.Scanning.{AreFound, found-all, found-filter}
+use Rattle.xs_stream.proofs.Order.{below-not_below}
+
+-- ---- the least and the greatest id
+
+pub first-told : (es : List (Id × Row)) (x : Id) (row : Row) → slice_get es 0 ≡ Some (x, row) → Some x ≡ first_id es
+first-told [] x row e = cc
+first-told (f ∷ es) x row e = cc
+
+pub first-none : (es : List (Id × Row)) → (IsSome {T = Id} None ↔ (0 < length es)) → None ≡ first_id es
+first-none [] v = refl
+first-none (f ∷ es) v = absurd (false≢true (v.1 (omega arith)))
+
+pub last-told : (es : List (Id × Row)) (x : Id) (row : Row) → slice_get es (length es - 1) ≡ Some (x, row) → Some x ≡ last_id es
+last-told [] x row e = cc
+last-told (f ∷ []) x row e = cc
+last-told (f ∷ g ∷ es) x row e =
+    let k : suc (suc (length es)) - 1 ≡ suc (suc (length es) - 1) = omega arith in
+    last-told (g ∷ es) x row (sym (ap (slice_get (f ∷ g ∷ es)) k) ∙ e)
+
+pub last-none : (es : List (Id × Row)) → (IsSome {T = Id} None ↔ (0 < length es)) → None ≡ last_id es
+last-none [] v = refl
+last-none (f ∷ es) v = absurd (false≢true (v.1 (omega arith)))
+
+-- ---- the consumers
+
+-- each entry is the one that a look-up finds
+abbrev pub AreHeld : ConsumerIndex → ConsumerIndex → Type 0
+AreHeld owners es = AllByRecursion (λ e. Some e.1 ≡ ids_at owners e.0) es
+
+held-later : (e : List ℕ × BTreeSet Id) (owners es : ConsumerIndex) → T (below_all (slice_cmp nat_cmp) e.0 es) → AreHeld owners es → AreHeld (e ∷ owners) es
+held-later e owners [] b a = tt
+held-later e owners (f ∷ fs) b a = (a.0 ∙ ap (λ t. cond t (Some e.1) (ids_at owners f.0)) (sym (is_name-symm f.0 e.0 ∙ less _ (first _ _ b))), held-later e owners fs (second _ _ b) a.1) where
+  less : (o : Ordering) → T (is_lt o) → is_eq o ≡ false
+  less Less p = refl
+  less Equal p = absurd p
+  less Greater p = absurd p
+
+held-sorted : (owners : ConsumerIndex) → T (is_sorted (slice_cmp nat_cmp) owners) → AreHeld owners owners
+held-sorted [] s = tt
+held-sorted (e ∷ es) s = (ap (λ t. cond t (Some e.1) (ids_at es e.0)) (sym (is_name-refl e.0)), held-later e es es (first _ _ s) (held-sorted es (second _ _ s)))
+
+pub held-all : (m : Index) → IsOrdered (slice_cmp nat_cmp) m → AreHeld m.entries m.entries
+held-all m o = held-sorted m.entries (is_sorted-from (slice_cmp nat_cmp) m.entries o)
+
+abbrev named : List ℕ × BTreeSet Id → List ℕ × Unit {0}
+named e = (e.0, tt)
+
+keys-units : (es : ConsumerIndex) → keys_of (map named es) ≡ keys_of es
+keys-units [] = refl
+keys-units (e ∷ es) = ap (λ rest. e.0 ∷ rest) (keys-units es)
+
+pub keys-names_of : (m : Index) → IsOrdered (slice_cmp nat_cmp) m → keys (names_of m.entries) ≡ keys_of m.entries
+unfolding get
+keys-names_of m o =
+    ap (λ (es : List (List ℕ × Unit {0})). map (λ e. e.0) es) (same_entries (slice_cmp nat_cmp) nat_list_cmp_total exact_bytes (names_of m.entries).entries (map named m.entries) (names_of m.entries).sorted
+    (is_sorted-from (slice_cmp nat_cmp) (map named m.entries) (subst (IsStrictlySortedBy (slice_cmp nat_cmp)) (sym (keys-units m.entries)) o))
+    (λ q. get-of_entries nat_list_cmp_total (map named m.entries) q))
+    ∙ keys-units m.entries
+
+-- ---- rows
+
+pub told : (xs ys all : List PendingRow) (n : ℕ) → xs ++ ys ≡ all → length xs ≤ n → (ys ≡ []) ⊎ (n ≤ length xs) → xs ≡ take n all
+told xs ys all n e few (inl none) = let whole : xs ≡ all = sym (append-nil xs) ∙ ap (λ rest. xs ++ rest) (sym none) ∙ e in
+    whole ∙ sym (take_all n all (subst (λ l. length l ≤ n) whole few))
+told xs ys all n e few (inr full) =
+    let exact : length xs ≡ n = omega arith in
+    sym (take-append_seam xs ys) ∙ ap (λ k. take k (xs ++ ys)) exact ∙ ap (take n) e
+
+filter-same : (p q : Id × Row → Bool) (es : List (Id × Row)) → ((e : Id × Row) → p e ≡ q e) → filter p es ≡ filter q es
+filter-same p q [] is = refl
+filter-same p q (e ∷ es) is = λ i. cond (is e i) (e ∷ filter-same p q es is i) (filter-same p q es is i)
+
+pub rows-between : (range : Range) (min now : ℕ) (rows : List (Id × Row))
+    → filter (λ e. leb min (idle now e.1.time)) (entries_between id_cmp (Included range.low) (Included range.high) rows) ≡ filter (is_told range min now) rows
+rows-between range min now rows =
+    filter-filter (λ (e : Id × Row). range_contains id_cmp (Included range.low) (Included range.high) e.0) (λ e. leb min (idle now e.1.time)) (is_told range min now)
+    (λ e. ap (λ b. b && leb min (idle now e.1.time)) (sym (between-within range e.0))) rows
+
+-- the rows of the ids in a range
+pub among-between : (range : Range) (rows : List (Id × Row)) (ids : List Id)
+    → rows_among rows (filter (range_contains id_cmp (Included range.low) (Included range.high)) ids) ≡ filter (λ e. is_within range e.0) (rows_among rows ids)
+among-between range rows [] = refl
+among-between range rows (x ∷ xs) =
+    split (range_contains id_cmp (Included range.low) (Included range.high) x)
+    ∙ ap (λ t. cond t (with_row x (indexed_row rows x) (rows_among rows (filter (range_contains id_cmp (Included range.low) (Included range.high)) xs))) (rows_among rows (filter (range_contains id_cmp (Included range.low) (Included range.high)) xs))) (between-within range x)
+    ∙ one (is_within range x) refl (indexed_row rows x) (rows_among rows (filter (range_contains id_cmp (Included range.low) (Included range.high)) xs)) (rows_among rows xs) (among-between range rows xs) where
+      split : (t : Bool) → rows_among rows (cond t (x ∷ filter (range_contains id_cmp (Included range.low) (Included range.high)) xs) (filter (range_contains id_cmp (Included range.low) (Included range.high)) xs))
+          ≡ cond t (with_row x (indexed_row rows x) (rows_among rows (filter (range_contains id_cmp (Included range.low) (Included range.high)) xs))) (rows_among rows (filter (range_contains id_cmp (Included range.low) (Included range.high)) xs))
+      split true = refl
+      split false = refl
+
+      one : (t : Bool) → is_within range x ≡ t → (o : Option Row) (a b : List (Id × Row)) → a ≡ filter (λ e. is_within range e.0) b
+          → cond t (with_row x o a) a ≡ filter (λ e. is_within range e.0) (with_row x o b)
+      one true e None a b r = r
+      one true e (Some row) a b r = ap (λ rest. (x, row) ∷ rest) r ∙ ap (λ t. cond t ((x, row) ∷ filter (λ e. is_within range e.0) b) (filter (λ e. is_within range e.0) b)) (sym e)
+      one false e None a b r = r
+      one false e (Some row) a b r = r ∙ ap (λ t. cond t ((x, row) ∷ filter (λ e. is_within range e.0) b) (filter (λ e. is_within range e.0) b)) (sym e)
+
+pub among-told : (range : Range) (min now : ℕ) (rows : List (Id × Row)) (ids : List Id)
+    → filter (λ e. leb min (idle now e.1.time)) (rows_among rows (filter (range_contains id_cmp (Included range.low) (Included range.high)) ids))
+    ≡ filter (is_told range min now) (rows_among rows ids)
+among-told range min now rows ids = ap (filter (λ e. leb min (idle now e.1.time))) (among-between range rows ids)
+    ∙ filter-filter (λ (e : Id × Row). is_within range e.0) (λ e. leb min (idle now e.1.time)) (is_told range min now) (λ e. refl) (rows_among rows ids)
+
+among-found : (rows es : List (Id × Row)) → AreFound rows es → rows_among rows (keys_of es) ≡ es
+among-found rows [] a = refl
+among-found rows (e ∷ es) a = (λ i. with_row e.0 (sym (a.0 ∙ find-lookup id_cmp e.0 rows) i) (rows_among rows (keys_of es))) ∙ ap (λ rest. e ∷ rest) (among-found rows es a.1)
+
+-- ---- what is asked
+
+pub asked-all : (range : Range) (min now : ℕ) (rows : List (Id × Row)) → filter (is_told range min now) rows ≡ filter (is_asked range min now None) rows
+asked-all range min now rows = filter-same (is_told range min now) (is_asked range min now None) rows (λ e. ap (λ b. is_within range e.0 && b) (yes (leb min (idle now e.1.time)))) where
+  yes : (b : Bool) → b ≡ (b && true)
+  yes true = refl
+  yes false = refl
+
+pub asked-owned : (range : Range) (min now : ℕ) (name : List ℕ) (rows : Rows) (ids : List Id) → ids ≡ owned name rows.entries
+    → filter (is_told range min now) (rows_among rows.entries ids) ≡ filter (is_asked range min now (Some name)) rows.entries
+asked-owned range min now name rows ids is =
+    ap (λ k. filter (is_told range min now) (rows_among rows.entries k)) is
+    ∙ ap (filter (is_told range min now)) (among-found rows.entries (filter (λ e. is_name e.1.consumer name) rows.entries)
+    (found-filter rows.entries rows.entries (λ e. is_name e.1.consumer name) (found-all rows.entries rows.sorted)))
+    ∙ filter-filter (λ (e : Id × Row). is_name e.1.consumer name) (is_told range min now) (is_asked range min now (Some name))
+    (λ e. turned (is_within range e.0) (leb min (idle now e.1.time)) (is_name e.1.consumer name)) rows.entries where
+      turned : (w i n : Bool) → (w && (i && n)) ≡ (n && (w && i))
+      turned true true true = refl
+      turned true true false = refl
+      turned true false true = refl
+      turned true false false = refl
+      turned false i true = refl
+      turned false i false = refl
+
+not_within : (range : Range) → is_below range.high range.low ≡ true → (x : Id) → is_within range x ≡ false
+not_within range h x = by (is_below x range.low) refl where
+  by : (t : Bool) → is_below x range.low ≡ t → (not t && not (is_below range.high x)) ≡ false
+  by true e = refl
+  by false e = ap not (below-not_below range.high range.low x h e)
+
+pub asked-none : (range : Range) (min now limit : ℕ) (consumer : Option (List ℕ)) (rows : List (Id × Row)) → is_below range.high range.low ≡ true
+    → [] ≡ take limit (map (pending_row now) (filter (is_asked range min now consumer) rows))
+asked-none range min now limit consumer rows h = sym (ap (λ es. take limit (map (pending_row now) es)) (none rows) ∙ nothing limit) where
+  none : (es : List (Id × Row)) → filter (is_asked range min now consumer) es ≡ []
+  none [] = refl
+  none (e ∷ es) = ap (λ b. cond (b && (leb min (idle now e.1.time) && is_of consumer e.1)) (e ∷ filter (is_asked range min now consumer) es) (filter (is_asked range min now consumer) es)) (not_within range h e.0) ∙ none es
+
+  nothing : (n : ℕ) → take n (map (pending_row now) []) ≡ []
+  nothing zero = refl
+  nothing (suc n) = refl
+
+pub take-none : (n : ℕ) → ◌≡◌ {A = List PendingRow} (take n []) []
+take-none zero = refl
+take-none (suc n) = refl

@@ -1,0 +1,9 @@
+use Rattle.std.proofs.Common.{◌≡◌, cond, None}
+use Rattle.xs_stream.specs.declared.id.Id.{Id}
+use Rattle.xs_stream.specs.Id.{has_id}
+use Rattle.xs_group.specs.Indexes.{indexed_row}
+use Rattle.xs_group.proofs.consumer_index.remove_rows.Given as goal
+
+-- without the ids still to come, what is left is what will be left
+abbrev pub invariant-loop-id : goal.invariant-loop-id
+invariant-loop-id l = (x : Id) → cond (has_id l.id-iterator x) None (indexed_row l.rows.entries x) ≡ cond (has_id l.ids.keys x) None (indexed_row l.fn.rows.entries x)

@@ -1,0 +1,9 @@
+use Rattle.std.proofs.Common.{◌≡◌, cond, take, None}
+use Rattle.xs_stream.specs.declared.id.Id.{Id}
+use Rattle.xs_stream.specs.Id.{has_id}
+use Rattle.xs_group.specs.Indexes.{indexed_row}
+use Rattle.xs_group.proofs.id_index.remove_rows.Given as goal
+
+-- the rows of the ids so far are out
+abbrev pub invariant-loop-id : goal.invariant-loop-id
+invariant-loop-id l = (x : Id) → indexed_row l.rows.entries x ≡ cond (has_id (take l.id-index l.ids) x) None (indexed_row l.fn.rows.entries x)

@@ -1,0 +1,14 @@
+use Rattle.std.proofs.Common.{leb, map, filter, ap, ◌∙◌, arith}
+use Rattle.xs_group.specs.State.{idle}
+use Rattle.xs_group.specs.Report.{pending_row}
+use Rattle.xs_group.proofs.ReportRows.{rows-between}
+use Rattle.xs_group.proofs.reports.rows_within.Goals as goal
+
+pub loop-id-init : goal.loop-id-init
+loop-id-init c =
+    let is = c.into_iter-id-iterator.ensures.into_iter_gives ∙ c.range-within.ensures.between tt in
+    rw (c.in_ok-found.ensures.items) (
+      ap (λ es. map (pending_row c.args.now) (filter (λ e. leb c.args.min_idle (idle c.args.now e.1.time)) es)) is
+          ∙ ap (map (pending_row c.args.now)) (rows-between c.args.range c.args.min_idle c.args.now c.args.rows.now.entries),
+      omega arith,
+    )

@@ -1,0 +1,89 @@
+-- The consumers and the pending rows of a group, and what the two indexes of rows have in common.
+use Rattle.std.specs.Prelude.{◌≡◌, ℕ, Bool, true, false, List, map, Option, Some, None, refl}
+use Rattle.std.specs.Coded.{Coded, code_by, coded×, coded_list, coded_ℕ}
+use Rattle.std.specs.Map.{lookup}
+use Rattle.std.specs.BTreeMap.{is_at}
+use Rattle.std.specs.BTreeSet.{BTreeSet, contains}
+use Rattle.std.specs.Ordering.{nat_cmp}
+use Rattle.std.specs.Cmp.Lexicographic.{slice_cmp}
+use Rattle.xs_bytes.specs.MapCode.{coded_map}
+use Rattle.xs_bytes.specs.MapOf.{of_entries, from_entries}
+use Rattle.xs_bytes.specs.SortedMap.{get, has_key}
+use Rattle.xs_stream.specs.declared.id.Id.{Id}
+use Rattle.xs_stream.specs.Id.{id_cmp, has_id}
+use Rattle.xs_group.specs.State.{Row, Rows, Names, State, ids_total, is_name, has_name}
+
+abbrev pub rows_of : List (Id × Row) → Rows
+rows_of entries = of_entries ids_total entries
+
+pub record PendingList : Type 0 where
+  pub consumers : Names
+  pub rows : Rows
+
+abbrev pub coded_id : Coded Id
+coded_id =
+    code_by (ℕ × ℕ) (coded× coded_ℕ coded_ℕ) (λ i. (i.ms, i.seq)) (λ p. record { ms = p.0; seq = p.1 }) (λ _. refl)
+
+abbrev pub coded_row : Coded Row
+coded_row =
+    code_by (List ℕ × (ℕ × ℕ)) (coded× (coded_list coded_ℕ) (coded× coded_ℕ coded_ℕ))
+    (λ r. (r.consumer, (r.time, r.count)))
+    (λ p. record { consumer = p.0; time = p.1.0; count = p.1.1 }) (λ _. refl)
+
+abbrev pub coded_unit : Coded (Unit {0})
+coded_unit = code_by ℕ coded_ℕ (λ _. 0) (λ _. tt) (λ _. refl)
+
+abbrev pub coded_names : Coded Names
+coded_names = coded_map (coded_list coded_ℕ) coded_unit
+
+abbrev pub coded_rows : Coded Rows
+coded_rows = coded_map coded_id coded_row
+
+abbrev pub coded_pending_list : Coded PendingList
+coded_pending_list =
+    code_by (Names × Rows) (coded× coded_names coded_rows) (λ h. (h.consumers, h.rows))
+    (λ p. record { consumers = p.0; rows = p.1 }) (λ _. refl)
+
+abbrev pub coded_state : Coded State
+coded_state =
+    code_by (Id × (Names × Rows)) (coded× coded_id (coded× coded_names coded_rows))
+    (λ g. (g.cursor, (g.consumers, g.rows)))
+    (λ p. record { cursor = p.0; consumers = p.1.0; rows = p.1.1 }) (λ _. refl)
+
+-- the ids of each consumer
+abbrev pub ConsumerIndex : Type 0
+ConsumerIndex = List (List ℕ × BTreeSet Id)
+
+abbrev pub names_of : ConsumerIndex → Names
+names_of owners = from_entries (map (λ e. (e.0, tt)) owners)
+
+abbrev pub ids_at : ConsumerIndex → List ℕ → Option (BTreeSet Id)
+ids_at owners name = lookup (is_at (slice_cmp nat_cmp name)) owners
+
+abbrev pub has_among : Option (BTreeSet Id) → Id → Bool
+has_among None x = false
+has_among (Some ids) x = contains id_cmp ids x
+
+-- the index by consumer has the id with this name
+abbrev pub holds : ConsumerIndex → List ℕ → Id → Bool
+holds owners name x = has_among (ids_at owners name) x
+
+abbrev pub is_owner : Option Row → List ℕ → Bool
+is_owner None name = false
+is_owner (Some row) name = is_name row.consumer name
+
+-- the index by id
+abbrev pub indexed_row : List (Id × Row) → Id → Option Row
+indexed_row rows x = lookup (is_at (id_cmp x)) rows
+
+-- both indexes hold the same pairs
+abbrev pub IsAgreed : List (Id × Row) → ConsumerIndex → Type 0
+IsAgreed rows owners = (name : List ℕ) → (x : Id) → holds owners name x ≡ is_owner (indexed_row rows x) name
+
+-- each row's consumer is one of these
+abbrev pub IsNamed : Names → Rows → Type 0
+IsNamed names rows = (name : List ℕ) → (x : Id) → is_owner (get rows x) name ≡ true → has_name names name ≡ true
+
+-- none of these ids is pending
+abbrev pub AreFree : Rows → List Id → Type 0
+AreFree rows ids = (x : Id) → has_id ids x ≡ true → has_key rows x ≡ false

@@ -1,0 +1,211 @@
+//! Claims: which pending entries go to another consumer, and what becomes of them (Redis, XCLAIM and XAUTOCLAIM).
+ghost use Rattle.std.specs.BTreeMap.{IsOrdered};
+ghost use Rattle.std.specs.Prelude.{IfOk, OnOk, Some, [], ◌≡◌};
+ghost use Rattle.xs_group.specs.Claims.{firsts, scan_of};
+ghost use Rattle.xs_group.specs.Verdict.{hits_of, verdict_of, with_removed, with_taken};
+ghost use Rattle.xs_stream.specs.Id.{has_id, id_cmp};
+ghost use Rattle.xs_stream.specs.Kept.{ids_of};
+
+use crate::id_index::IdIndex;
+use crate::pending_entry::PendingEntry;
+use crate::reading;
+use std::alloc::{AllocError, Global};
+use std::collections::BTreeSet;
+use std::marker::Model;
+use std::ops::Bound;
+use xs_bytes::List;
+use xs_stream::{Id, Moment, Stream};
+
+/// The time that a claimed entry gets, from which its idle time is counted.
+#[derive(Clone, Copy, Debug, PartialEq, Eq)]
+pub enum ClaimTime {
+    /// The moment of the claim.
+    Now,
+    /// That many milliseconds before the moment of the claim, and 0 where the moment is less.
+    Idle(u64),
+    /// This moment in milliseconds, and that of the claim where this one is past it.
+    At(u64),
+}
+
+/// Which pending entries a claim takes, and what it makes of them.
+#[derive(Clone, Copy, Debug, PartialEq, Eq)]
+pub struct ClaimRule {
+    /// The idle time in milliseconds from which an entry is taken.
+    pub min_idle: u64,
+    /// The time that it gets.
+    pub when: ClaimTime,
+    /// The count of deliveries that it gets, at most 9223372036854775807. With None the count goes
+    /// up by one, unless `just_id` is set.
+    pub retry: Option<u64>,
+    /// The reply has ids alone, and the count stays.
+    pub just_id: bool,
+}
+
+impl Model for ClaimRule {
+    ghost use Rattle.xs_group.specs.Claims.{Rule};
+    ghost use Rattle.xs_group.specs.Count.{IsCount};
+
+    ghost Value = { Rule };
+
+    ghost view = { λ r. record { min_idle = r.min_idle; when = r.when; retry = r.retry; just_id = r.just_id } };
+
+    ghost invariant = { λ r. IsCount r.retry };
+
+    ghost inverse = { λ r. record { min_idle = r.min_idle; when = r.when; retry = r.retry; just_id = r.just_id } };
+}
+
+/// What a claim takes and removes, each in the order in which it was met.
+#[derive(Debug, Drop)]
+pub struct Claim {
+    /// The entries that get the new consumer.
+    pub take: List<Id>,
+    /// The pending entries that are no longer in the stream.
+    pub removed: List<Id>,
+}
+
+/// What a scan finds.
+#[derive(Debug, Drop)]
+pub struct Scan {
+    /// Where the next scan goes on, `0-0` at the end.
+    pub cursor: Id,
+    pub claim: Claim,
+}
+
+/// What a claim makes of an id.
+#[derive(Clone, Copy, Debug, PartialEq, Eq)]
+pub(crate) enum Verdict {
+    /// It isn't pending, or hasn't been for long enough.
+    Passed,
+    /// It gets the new consumer.
+    Taken,
+    /// It is no longer in the stream, and goes.
+    Removed,
+}
+
+impl Verdict {
+    /// 1 where a scan claims or removes the id, else 0.
+    pub(crate) fn hits(self) -> u64
+        ensures { result ≡ hits_of self }
+    {
+        match self {
+            Verdict::Passed => 0,
+            Verdict::Taken | Verdict::Removed => 1,
+        }
+    }
+}
+
+/// A claim as it grows.
+#[derive(Drop)]
+pub(crate) struct Found {
+    take: Vec<Id>,
+    removed: Vec<Id>,
+}
+
+impl Found {
+    pub(crate) fn new(alloc: Global) -> Self
+        ensures take { result.take.items ≡ [] }
+        ensures removed { result.removed.items ≡ [] }
+    {
+        Self {
+            take: Vec::new(alloc),
+            removed: Vec::new(alloc),
+        }
+    }
+
+    /// Puts an id where its verdict says.
+    pub(crate) fn add(&mut self, verdict: Verdict, id: Id) -> Result<(), AllocError>
+        ensures take { OnOk result (self.new.take.items ≡ with_taken verdict self.old.take.items id) }
+        ensures removed { OnOk result (self.new.removed.items ≡ with_removed verdict self.old.removed.items id) }
+    {
+        match verdict {
+            Verdict::Passed => Ok(()),
+            Verdict::Taken => match self.take.push(id) {
+                Ok(()) => Ok(()),
+                Err(_) => Err(AllocError),
+            },
+            Verdict::Removed => match self.removed.push(id) {
+                Ok(()) => Ok(()),
+                Err(_) => Err(AllocError),
+            },
+        }
+    }
+
+    pub(crate) fn into_claim(self) -> Claim
+        ensures { result ≡ record { take = self.take.items; removed = self.removed.items } }
+    {
+        let Self { take, removed } = self;
+        Claim {
+            take: List::new(take),
+            removed: List::new(removed),
+        }
+    }
+}
+
+/// The verdict on a pending entry.
+pub(crate) fn judge(
+    entry: &PendingEntry,
+    stream: &Stream,
+    now: Moment,
+    rule: &ClaimRule,
+    id: Id,
+) -> Verdict
+    ensures { result ≡ verdict_of (Some entry.now) (has_id (ids_of stream.now.entries) id) now rule.now }
+{
+    if !reading::is_present(stream, id) {
+        return Verdict::Removed;
+    }
+    if entry.idle(now) < rule.min_idle {
+        return Verdict::Passed;
+    }
+    Verdict::Taken
+}
+
+/// Each id at its first place.
+pub(crate) fn firsts(alloc: Global, ids: &[Id]) -> Result<Vec<Id>, AllocError>
+    ensures { IfOk result (λ kept. kept.items ≡ firsts ids.now) }
+{
+    let mut seen = BTreeSet::new(alloc);
+    let mut kept = Vec::new(alloc);
+    for id in ids {
+        if seen.insert(*id)? {
+            kept.push(*id)?;
+        }
+    }
+    Ok(kept)
+}
+
+/// What a claim makes of the rows from a start upwards, until there are enough.
+pub(crate) fn scan_rows(
+    alloc: Global,
+    rows: &IdIndex,
+    stream: &Stream,
+    now: Moment,
+    rule: &ClaimRule,
+    start: Id,
+    limit: u64,
+) -> Result<Scan, AllocError>
+    requires { IsOrdered id_cmp rows.now }
+    ensures { IfOk result (λ scan. scan
+        ≡ scan_of rows.now.entries (ids_of stream.now.entries) now rule.now start limit) }
+{
+    let mut found = Found::new(alloc);
+    let mut hits = 0u64;
+    let mut seen = 0u64;
+    let past = rows.range((Bound::Included(start), Bound::Unbounded));
+    for (id, entry) in past {
+        if hits >= limit || seen / 10 >= limit {
+            return Ok(Scan {
+                cursor: *id,
+                claim: found.into_claim(),
+            });
+        }
+        let verdict = judge(entry, stream, now, rule, *id);
+        hits += verdict.hits();
+        seen += 1;
+        found.add(verdict, *id)?;
+    }
+    Ok(Scan {
+        cursor: Id::ZERO,
+        claim: found.into_claim(),
+    })
+}

@@ -1,0 +1,130 @@
+//! A pending entry.
+ghost use Rattle.std.specs.Prelude.{◌≡◌, IfOk};
+ghost use Rattle.xs_group.specs.State.{raised, idle};
+ghost use Rattle.xs_group.specs.Claims.{claimed_row, claim_time, claim_count};
+
+use crate::claims::{ClaimRule, ClaimTime};
+use crate::delivery::Touch;
+use crate::name::Name;
+use std::alloc::AllocError;
+use std::marker::Model;
+use xs_bytes::Bytes;
+use xs_stream::Moment;
+
+/// The greatest count of deliveries.
+const GREATEST_COUNT: u64 = 9_223_372_036_854_775_807;
+
+/// One delivery more.
+pub(crate) fn raised(count: u64) -> u64
+    ensures { result ≡ raised count }
+{
+    if count < GREATEST_COUNT {
+        return count + 1;
+    }
+    GREATEST_COUNT
+}
+
+/// A pending entry: whose it is, when it was last delivered, and how often.
+#[derive(Drop)]
+pub(crate) struct PendingEntry {
+    consumer: Name,
+    time: Moment,
+    count: u64,
+}
+
+impl Model for PendingEntry {
+    ghost use Rattle.xs_group.specs.State.{Row};
+    ghost use Rattle.xs_group.specs.Indexes.{coded_row};
+
+    ghost Value = { Row };
+
+    ghost coded = { coded_row };
+
+    ghost view = { λ e. record { consumer = e.consumer; time = e.time; count = e.count } };
+}
+
+impl PendingEntry {
+    pub(crate) fn new(consumer: Name, time: Moment, count: u64) -> Self
+        ensures { result ≡ record { consumer = consumer; time = time; count = count } }
+    {
+        Self {
+            consumer,
+            time,
+            count,
+        }
+    }
+
+    pub(crate) fn consumer(&self) -> &Bytes
+        ensures { result.now ≡ self.now.consumer }
+    {
+        self.consumer.text()
+    }
+
+    /// The name of the consumer once more.
+    pub(crate) fn share_name(&self) -> Result<Name, AllocError>
+        ensures { IfOk result (λ name. name ≡ self.now.consumer) }
+    {
+        self.consumer.share()
+    }
+
+    pub(crate) fn touch(&self) -> Touch
+        ensures { result ≡ record { time = self.now.time; count = self.now.count } }
+    {
+        Touch {
+            time: self.time,
+            count: self.count,
+        }
+    }
+
+    pub(crate) fn set_touch(&mut self, touch: Touch)
+        ensures { self.new ≡ record { consumer = self.old.consumer; time = touch.time; count = touch.count } }
+    {
+        self.time = touch.time;
+        self.count = touch.count;
+    }
+
+    /// For how many milliseconds the entry has been with its consumer.
+    pub(crate) fn idle(&self, now: Moment) -> u64
+        ensures { result ≡ idle now self.now.time }
+    {
+        now.get().saturating_sub(self.time.get())
+    }
+
+    /// What a claim makes of the entry.
+    pub(crate) fn claim(&mut self, consumer: Name, now: Moment, rule: &ClaimRule)
+        ensures { self.new ≡ claimed_row consumer now rule.now self.old }
+    {
+        self.consumer = consumer;
+        self.time = claim_time(rule.when, now);
+        self.count = claim_count(rule.retry, rule.just_id, self.count);
+    }
+}
+
+/// The time that a claimed entry gets.
+fn claim_time(when: ClaimTime, now: Moment) -> Moment
+    ensures { result ≡ claim_time when now }
+{
+    match when {
+        ClaimTime::Now => now,
+        ClaimTime::Idle(millis) => { Moment::new(now.get().saturating_sub(millis)).unwrap_or(now) }
+        ClaimTime::At(millis) => {
+            if now.get() <= millis {
+                return now;
+            }
+            Moment::new(millis).unwrap_or(now)
+        }
+    }
+}
+
+/// The count that a claimed entry gets.
+fn claim_count(retry: Option<u64>, just_id: bool, count: u64) -> u64
+    ensures { result ≡ claim_count retry just_id count }
+{
+    if let Some(retry) = retry {
+        return retry;
+    }
+    if just_id {
+        return count;
+    }
+    raised(count)
+}

@@ -1,0 +1,43 @@
+use Rattle.std.proofs.Common.{refl}
+use Rattle.xs_bytes.specs.SortedMap.{empty, get, insert_by, remove, change}
+use Rattle.xs_keys.proofs.examples.last_touches.Goals as goal
+
+pub returns : goal.returns
+unfolding empty get insert_by remove change
+returns c = record {
+  at_its_delivery = refl;
+  not_with_noack = refl;
+  by_a_claim = refl;
+  not_by_a_claim_of_another = refl;
+  shown_again = refl;
+  touched_again = refl;
+  not_shown_to_another = refl;
+  not_past_its_count = refl;
+  not_a_deleted_one = refl;
+  not_by_an_acknowledgement = refl;
+  time_of_delivery = refl;
+  time_of_a_claim = refl;
+  time_of_one_that_was_not_claimed = refl;
+  time_of_an_own_read = refl;
+  time_asked_for = refl;
+  idle_time_asked_for = refl;
+  time_of_a_scan = refl;
+  count_of_a_delivery = refl;
+  count_of_an_own_read = refl;
+  count_of_two_own_reads = refl;
+  count_of_a_claim = refl;
+  count_asked_for = refl;
+  count_with_ids_alone = refl;
+  count_of_a_scan = refl;
+  least_of_a_claim = refl;
+  least_of_a_scan = refl;
+  removed_when_deleted = refl;
+  not_removed_when_there = refl;
+  turn_after_an_own_read = refl;
+  turn_after_the_first = refl;
+  turn_at_the_second = refl;
+  nothing_settled_at_first = refl;
+  not_settled_before_its_delivery = refl;
+  acknowledged_before_its_delivery = refl;
+  no_owner_before_its_delivery = refl;
+}

@@ -1,0 +1,13 @@
+use Rattle.std.proofs.Common.{refl, inl, inr}
+use Rattle.xs_bytes.specs.SortedMap.{empty, get, insert_by, remove, change}
+use Rattle.xs_keys.proofs.examples.owners_go_on.Goals as goal
+
+pub returns : goal.returns
+unfolding empty get insert_by remove change
+returns c = record {
+  stays = inl refl;
+  is_settled = inr (inl (refl, refl));
+  is_claimed = inr (inr (refl, refl));
+  none_yet = inl refl;
+  comes_by_a_delivery = inr (refl, refl);
+}

@@ -1,0 +1,89 @@
+-- The relations that the headline and the contracts are made of, by examples: each way in which an owner goes on, how a
+-- life goes on with what an event delivers, what is an answer to an event, and how an addition and the making of a
+-- group may end. (Redis, XREADGROUP, XACK, XCLAIM, XADD and XGROUP CREATE.)
+use Rattle.std.specs.Prelude.{◌≡◌, ℕ, true, false, List, [], ◌∷◌, codes, Option, Some, None}
+use Rattle.xs_bytes.specs.SortedMap.{empty, insert}
+use Rattle.xs_stream.specs.declared.id.Id.{Id}
+use Rattle.xs_stream.specs.declared.add.AddId.TheVariants as add
+use Rattle.xs_stream.specs.Examples.{at}
+use Rattle.xs_group.specs.State.{new_group}
+use Rattle.xs_command.specs.ExamplesStreams.{field}
+use Rattle.xs_command.specs.declared.command.AddCommand.{AddCommand}
+use Rattle.xs_keys.specs.Ground.{Kept, Simple, Error, Int, NullBulk, Okay, Pong, Memory, NoKey, Busy, Command, Ping}
+use Rattle.xs_keys.specs.Ground.{GroupCreateCommand, At, Reply}
+use Rattle.xs_keys.specs.GroupEvent.{GroupEvent, read_new, ack, join, leave}
+use Rattle.xs_keys.specs.GroupLife.{GroupLife, GoesOn}
+use Rattle.xs_keys.specs.Headline.{is_error, OwnerAfter, NoOwnerAfter, Follows, Answers}
+use Rattle.xs_keys.specs.Adding.{Adds}
+use Rattle.xs_keys.specs.Grouping.{Creates}
+use Rattle.xs_keys.specs.Played.{id}
+use Rattle.xs_keys.specs.ExamplesGroupEvents.{start, event, read_by_a, noack_by_b, first_by_a, claim_by_b}
+
+-- b reads one more
+abbrev pub next_by_b : GroupEvent
+next_by_b = event 150 (read_new (codes "b") (Some 1) false)
+
+pub record OwnersGoOn : Type 0 where
+  pub stays : OwnerAfter start (read_by_a ∷ []) claim_by_b (at 3 0) (codes "a")
+  pub is_settled : OwnerAfter start (read_by_a ∷ []) (event 200 (ack (at 2 0 ∷ []))) (at 2 0) (codes "a")
+  pub is_claimed : OwnerAfter start (read_by_a ∷ []) claim_by_b (at 2 0) (codes "a")
+  pub none_yet : NoOwnerAfter start (first_by_a ∷ []) (event 150 (join (codes "c"))) (at 3 0)
+  pub comes_by_a_delivery : NoOwnerAfter start (first_by_a ∷ []) next_by_b (at 3 0)
+
+abbrev pub life : List GroupEvent → GroupLife
+life events = record { start = start; events = events }
+
+pub record LivesGoOn : Type 0 where
+  pub with_what_is_delivered :
+      GoesOn (Some (life (first_by_a ∷ []))) (at 3 0 ∷ []) (Some (life (next_by_b ∷ first_by_a ∷ [])))
+  pub with_nothing :
+      GoesOn (Some (life (read_by_a ∷ []))) [] (Some (life (claim_by_b ∷ read_by_a ∷ [])))
+  pub not_without_it : GoesOn (Some (life (first_by_a ∷ []))) [] (Some (life (next_by_b ∷ first_by_a ∷ []))) → ⊥
+  pub begins : GoesOn None [] (Some (life []))
+  pub begins_with_no_event : GoesOn None [] (Some (life (noack_by_b ∷ []))) → ⊥
+  pub begins_with_no_delivery : GoesOn None (at 2 0 ∷ []) (Some (life [])) → ⊥
+  pub ends : GoesOn (Some (life (read_by_a ∷ []))) [] None
+  pub ends_with_no_delivery : GoesOn (Some (life (first_by_a ∷ []))) (at 3 0 ∷ []) None → ⊥
+
+-- a PING at a moment
+abbrev pub ping : ℕ → ℕ × Command
+ping now = (now, Ping None)
+
+pub record AnswersGoOn : Type 0 where
+  pub an_error : is_error (Error NoKey) ≡ true
+  pub a_number : is_error (Int 0) ≡ false
+  pub nothing : is_error NullBulk ≡ false
+  pub follows : Follows 5 (ping 4 ∷ []) (Ping None) (Simple Pong) (ping 5 ∷ ping 4 ∷ [])
+  pub none : Answers (ping 4 ∷ []) [] [] (ping 4 ∷ [])
+  pub two : Answers [] (ping 4 ∷ ping 5 ∷ []) (Simple Pong ∷ Simple Pong ∷ []) (ping 5 ∷ ping 4 ∷ [])
+  pub not_one_for_two : Answers [] (ping 4 ∷ ping 5 ∷ []) (Simple Pong ∷ []) (ping 4 ∷ []) → ⊥
+  pub not_two_for_one : Answers [] (ping 4 ∷ []) (Simple Pong ∷ Simple Pong ∷ []) (ping 4 ∷ []) → ⊥
+
+-- an addition of the id 2-0, and a stream whose top is 1-0
+abbrev pub addition : AddCommand
+addition =
+    record {
+      key = codes "s";
+      make = true;
+      trim = None;
+      id = add.Exact (at 2 0);
+      fields = field (codes "f") (codes "v") ∷ [];
+    }
+
+abbrev pub stream : Kept
+stream = record { top = at 1 0; entries = [] }
+
+abbrev pub creation : GroupCreateCommand
+creation = record { key = codes "s"; group = codes "g"; start = At (at 1 0); make = false }
+
+pub record Endings : Type 0 where
+  pub added :
+      Adds stream 5 addition (id 2 0)
+      (record { top = at 2 0; entries = (at 2 0, field (codes "f") (codes "v") ∷ []) ∷ [] })
+  pub out_of_memory : Adds stream 5 addition (Error Memory) stream
+  pub created :
+      Creates creation (at 3 0) empty (Simple Okay) (insert empty (codes "g") (new_group (at 1 0)))
+  pub there_already :
+      Creates creation (at 3 0) (insert empty (codes "g") (new_group (at 2 0))) (Error Busy)
+      (insert empty (codes "g") (new_group (at 2 0)))
+  pub not_created_without_memory : Creates creation (at 3 0) empty (Error Memory) empty

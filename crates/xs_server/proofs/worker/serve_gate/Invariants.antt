@@ -1,5 +1,0 @@
-use Rattle.xs_desk.specs.Keeping.{KeepsSide}
-use Rattle.xs_server.proofs.worker.serve_gate.Given as goal
-
-abbrev pub invariant-loop : goal.invariant-loop
-invariant-loop g l = KeepsSide l.initial.lane.client l.lane.client

@@ -1,0 +1,7 @@
+//! Connections: requests in, replies out, over any port.
+pub mod answering;
+pub mod connection;
+pub mod ending;
+pub mod inbox;
+pub mod serve;
+pub mod serve_alone;

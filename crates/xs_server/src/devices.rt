@@ -1,0 +1,4 @@
+//! Devices: where bytes come from and go to.
+pub mod chunk;
+pub mod device;
+pub mod sending;

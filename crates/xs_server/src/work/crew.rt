@@ -1,0 +1,116 @@
+//! The workers, each in a thread of its own.
+ghost use Rattle.std.specs.Prelude.{◌≡◌, ◌≤◌, true, [], length, map, vec_capacity, IfOk, IfSome};
+ghost use Rattle.xs_desk.specs.Keeping.{KeepsSide, KeepSides};
+
+use crate::work::gate::Gate;
+use crate::work::signals::Signals;
+use crate::work::worker::{Worked, run_worker};
+use std::alloc::{AllocError, Global};
+use std::snapshot::Snapshot;
+use std::sync::{Arc, Wait};
+use std::thread;
+use std::thread::{Promise, PromisedHandle, Threads};
+use xs_desk::{Client, Ended};
+
+/// A worker before its thread is started.
+#[derive(Drop)]
+pub struct Worker<G> {
+    pub client: Client,
+    pub gate: G,
+}
+
+/// The lane's end that comes back is that of this client.
+#[derive(Drop)]
+pub struct SameSide(pub Snapshot<Client>);
+
+impl Promise<Worked> for SameSide {
+    ghost use Rattle.xs_desk.specs.Keeping.{KeepsSide};
+
+    ghost kept_by = { λ p worked. KeepsSide p.0.value worked.ended };
+}
+
+/// A worker in its thread.
+pub type Started = PromisedHandle<Worked, SameSide>;
+
+/// A worker for each gate, as far as there are gates.
+pub fn seat_all<G: Drop>(
+    alloc: Global,
+    clients: Vec<Client>,
+    gates: Vec<G>,
+) -> Result<Vec<Worker<G>>, AllocError>
+    ensures { IfOk result (λ workers. map (λ w. w.client) workers.items ≡ clients.items) }
+{
+    let mut gates = gates.into_iter();
+    let mut workers = Vec::with_capacity(alloc, clients.len())?;
+    for client in clients {
+        let Some(gate) = gates.next() else {
+            return Err(AllocError);
+        };
+        workers.push(Worker { client, gate })?;
+    }
+    Ok(workers)
+}
+
+fn start<G: Gate + Send + Drop + 'static, R: Threads + Wait + Copy + Send + 'static>(
+    rt: &R,
+    alloc: Global,
+    worker: Worker<G>,
+    signals: Arc<Signals>,
+) -> Option<Started>
+    ensures { IfSome result (λ started. started.promise.0.value ≡ worker.client) }
+{
+    let handle = *rt;
+    let Worker { client, gate } = worker;
+    let promise = SameSide(Snapshot::of(&client));
+    match thread::spawn_with(rt, promise, move || {
+        run_worker(&handle, alloc, client, gate, &signals)
+    }) {
+        Ok(started) => Some(started),
+        Err(_) => None,
+    }
+}
+
+/// Starts a thread for each worker, up to the first that can't be started, and says whether all were. The room for them
+/// was made before.
+pub fn start_all<G: Gate + Send + Drop + 'static, R: Threads + Wait + Copy + Send + 'static>(
+    rt: &R,
+    alloc: Global,
+    workers: Vec<Worker<G>>,
+    signals: &Arc<Signals>,
+    started: &mut Vec<Started>,
+) -> bool
+    requires room { (started.old.items ≡ []) × (length workers.items ≤ vec_capacity started.old) }
+    ensures count { length started.new.items ≤ length workers.items }
+    ensures all { result ≡ true → map (λ s. s.promise.0.value) started.new.items ≡ map (λ w. w.client) workers.items }
+{
+    for worker in workers {
+        let Ok(told) = Arc::try_clone(signals) else {
+            return false;
+        };
+        let Some(one) = start(rt, alloc, worker, told) else {
+            return false;
+        };
+        if started.push(one).is_err() {
+            unreachable!();
+        }
+    }
+    true
+}
+
+/// Waits for the end of each worker, and says whether a gate refused a connection. The room for the ends was made
+/// before.
+pub fn join_all<R: Threads>(rt: &R, started: Vec<Started>, ended: &mut Vec<Ended>) -> bool
+    requires room { (ended.old.items ≡ []) × (length started.items ≤ vec_capacity ended.old) }
+    ensures count { length ended.new.items ≡ length started.items }
+    ensures sides { KeepSides (map (λ s. s.promise.0.value) started.items) ended.new.items }
+{
+    let mut refused = false;
+    for one in started {
+        let worked = one.join(rt);
+        refused = refused || worked.refused;
+        if ended.push(worked.ended).is_err() {
+            unreachable!();
+        }
+    }
+    refused
+}

@@ -1,0 +1,62 @@
+//! The keeper in a thread of its own.
+ghost use Rattle.std.specs.Prelude.{◌≡◌, IfSome};
+ghost use Rattle.xs_desk.specs.Keeping.{KeepsRings};
+
+use crate::work::signals::Signals;
+use std::snapshot::Snapshot;
+use std::sync::{Arc, Wait};
+use std::thread;
+use std::thread::{Promise, PromisedHandle, Threads};
+use xs_desk::Keeper;
+use xs_keys::Clock;
+
+/// The keeper that comes back has the rings of this one.
+#[derive(Drop)]
+pub struct SameRings(pub Snapshot<Keeper>);
+
+impl Promise<Keeper> for SameRings {
+    ghost use Rattle.xs_desk.specs.Keeping.{KeepsRings};
+
+    ghost kept_by = { λ p keeper. KeepsRings p.0.value keeper };
+}
+
+/// A keeper in its thread.
+pub type Kept = PromisedHandle<Keeper, SameRings>;
+
+/// Serves turn after turn, until all workers have ended and nobody is left to serve, or there is no further place.
+fn keep<C: Clock + Drop, R: Wait>(rt: &R, keeper: Keeper, clock: C, signals: &Signals) -> Keeper
+    ensures { KeepsRings keeper result }
+{
+    let mut keeper = keeper;
+    let mut clock = clock;
+    for _ in rt.forever() {
+        match keeper.turn(&mut clock) {
+            Ok(0) => {
+                if signals.has_ended() {
+                    break;
+                }
+                keeper.idle(rt);
+            }
+            Ok(_) => {}
+            Err(_) => break,
+        }
+    }
+    keeper
+}
+
+/// Starts the keeper's thread, or gives None where it can't be started.
+pub fn start_keeper<C: Clock + Send + Drop + 'static, R: Threads + Wait + Copy + Send + 'static>(
+    rt: &R,
+    keeper: Keeper,
+    clock: C,
+    signals: Arc<Signals>,
+) -> Option<Kept>
+    ensures { IfSome result (λ kept. kept.promise.0.value ≡ keeper) }
+{
+    let handle = *rt;
+    let promise = SameRings(Snapshot::of(&keeper));
+    match thread::spawn_with(rt, promise, move || keep(&handle, keeper, clock, &signals)) {
+        Ok(kept) => Some(kept),
+        Err(_) => None,
+    }
+}

@@ -1,0 +1,67 @@
+//! A worker: it serves the connections of one gate through one lane.
+ghost use Rattle.std.specs.Prelude.{◌≡◌};
+ghost use Rattle.xs_desk.specs.Keeping.{KeepsSide};
+
+use crate::connections::ending::ServeFault;
+use crate::connections::serve::serve;
+use crate::work::gate::{Gate, GateFault};
+use crate::work::signals::Signals;
+use std::alloc::Global;
+use std::sync::Wait;
+use xs_desk::{Client, Ended, Lane};
+
+/// What is left of a worker.
+#[derive(Drop)]
+pub struct Worked {
+    /// The end of its lane.
+    pub ended: Ended,
+    /// Its gate refused a connection.
+    pub refused: bool,
+}
+
+/// Serves the connections of a gate, one after the other, up to the last. The fault of a connection ends that
+/// connection alone; but where nobody answers any more there is no further one.
+fn serve_gate<G: Gate, R: Wait>(
+    rt: &R,
+    alloc: Global,
+    gate: &mut G,
+    lane: &mut Lane,
+) -> Result<(), GateFault>
+    ensures { KeepsSide lane.old.client lane.new.client }
+{
+    for _ in rt.forever() {
+        let Some((mut reader, mut writer)) = gate.open_next(rt)? else {
+            return Ok(());
+        };
+        let served = serve(rt, alloc, &mut reader, &mut writer, lane);
+        if matches!(served, Err(ServeFault::Port { .. })) {
+            return Ok(());
+        }
+    }
+    unreachable!()
+}
+
+/// Waits for the word to begin, serves the gate, and ends the client.
+pub fn run_worker<G: Gate + Drop, R: Wait>(
+    rt: &R,
+    alloc: Global,
+    client: Client,
+    gate: G,
+    signals: &Signals,
+) -> Worked
+    ensures { KeepsSide client result.ended }
+{
+    if !signals.begins(rt) {
+        return Worked {
+            ended: client.finish(),
+            refused: false,
+        };
+    }
+    let mut gate = gate;
+    let mut lane = Lane::new(client);
+    let served = serve_gate(rt, alloc, &mut gate, &mut lane);
+    Worked {
+        ended: lane.end().finish(),
+        refused: served.is_err(),
+    }
+}

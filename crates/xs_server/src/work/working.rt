@@ -1,0 +1,162 @@
+//! Work over gates: a thread for each, and one for the keeper of their desk.
+ghost use Rattle.std.specs.Prelude.{◌≡◌, ◌<◌, ◌≤◌, ℕ, [], length, map, vec_capacity, IfOk, IfErr, IfSome};
+ghost use Rattle.xs_desk.specs.Callers.{AreEnds, HasEnd};
+ghost use Rattle.xs_desk.specs.Keeping.{KeepsRings, KeepSides};
+ghost use Rattle.xs_desk.specs.Opening.{AreNew, IsLaneCount, IsDepth};
+ghost use Rattle.xs_server.specs.Working.{IsClosed, IsWorkFault};
+
+use crate::work::crew::{Started, Worker, join_all, seat_all, start_all};
+use crate::work::fault::WorkFault;
+use crate::work::gate::Gate;
+use crate::work::keeping::start_keeper;
+use crate::work::signals::Signals;
+use std::alloc::{AllocError, Global};
+use std::sync::{Arc, Wait};
+use std::thread::Threads;
+use xs_desk::{Client, CloseError, Ended, Keeper, Summary, Waker, close, desk};
+use xs_keys::Clock;
+
+/// All that work needs, made before the first thread is started.
+#[derive(Drop)]
+struct Crew<G> {
+    workers: Vec<Worker<G>>,
+    started: Vec<Started>,
+    ended: Vec<Ended>,
+    signals: Arc<Signals>,
+    waker: Waker,
+}
+
+fn gather<G: Drop>(
+    alloc: Global,
+    keeper: &Keeper,
+    clients: Vec<Client>,
+    gates: Vec<G>,
+) -> Result<Crew<G>, AllocError>
+    ensures workers { IfOk result (λ crew. map (λ w. w.client) crew.workers.items ≡ clients.items) }
+    ensures started { IfOk result (λ crew. (crew.started.items ≡ [])
+        × (length crew.workers.items ≤ vec_capacity crew.started)) }
+    ensures ended { IfOk result (λ crew. (crew.ended.items ≡ [])
+        × (length crew.workers.items ≤ vec_capacity crew.ended)) }
+{
+    let count = clients.len();
+    let started = Vec::with_capacity(alloc, count)?;
+    let ended = Vec::with_capacity(alloc, count)?;
+    let signals = Arc::new(alloc, Signals::new())?;
+    let waker = keeper.waker()?;
+    let workers = seat_all(alloc, clients, gates)?;
+    Ok(Crew {
+        workers,
+        started,
+        ended,
+        signals,
+        waker,
+    })
+}
+
+/// What came back from the threads.
+#[derive(Drop)]
+struct Done {
+    keeper: Keeper,
+    ended: Vec<Ended>,
+    refused: bool,
+}
+
+/// Runs the keeper and the workers, each in a thread of its own, to their ends. Where a thread can't be started nobody
+/// is served.
+fn run_all<
+    G: Gate + Send + Drop + 'static,
+    C: Clock + Send + Drop + 'static,
+    R: Threads + Wait + Copy + Send + 'static,
+>(rt: &R, alloc: Global, keeper: Keeper, clock: C, crew: Crew<G>) -> Option<Done>
+    requires started { (crew.started.items ≡ []) × (length crew.workers.items ≤ vec_capacity crew.started) }
+    requires ended { (crew.ended.items ≡ []) × (length crew.workers.items ≤ vec_capacity crew.ended) }
+    ensures keeper { IfSome result (λ done. KeepsRings keeper done.keeper) }
+    ensures sides { IfSome result (λ done. KeepSides (map (λ w. w.client) crew.workers.items) done.ended.items) }
+    ensures count { IfSome result (λ done. length done.ended.items ≡ length crew.workers.items) }
+{
+    let Crew {
+        workers,
+        mut started,
+        mut ended,
+        signals,
+        waker,
+    } = crew;
+    let told = Arc::try_clone(&signals).ok()?;
+    let kept = start_keeper(rt, keeper, clock, told)?;
+    let all = start_all(rt, alloc, workers, &signals, &mut started);
+    if all {
+        signals.begin();
+    } else {
+        signals.give_up();
+    }
+    let refused = join_all(rt, started, &mut ended);
+    signals.end();
+    waker.wake();
+    let keeper = kept.join(rt);
+    if !all {
+        return None;
+    }
+    Some(Done {
+        keeper,
+        ended,
+        refused,
+    })
+}
+
+/// Closes the desk. All ends are there.
+fn conclude(alloc: Global, done: Done) -> Result<Summary, WorkFault>
+    requires ends { AreEnds done.keeper.lanes done.ended.items }
+    requires all { (k : ℕ) → k < length done.keeper.lanes → HasEnd done.ended.items k }
+    ensures closed { IfOk result (IsClosed (length done.keeper.lanes)) }
+    ensures fault { (n depth : ℕ) → IsLaneCount n × IsDepth depth → IfErr result (IsWorkFault n depth) }
+{
+    let Done {
+        keeper,
+        ended,
+        refused,
+    } = done;
+    let closed = close(alloc, keeper, ended);
+    if refused {
+        return Err(WorkFault::Gate);
+    }
+    match closed {
+        Ok(summary) => Ok(summary),
+        Err(CloseError::Unfinished(_, _)) => Err(WorkFault::Close),
+        Err(CloseError::Memory(_, _)) => Err(WorkFault::Memory),
+    }
+}
+
+fn open(alloc: Global, n: usize, depth: usize) -> Result<(Keeper, Vec<Client>), WorkFault>
+    ensures new { IfOk result (λ r. AreNew 0 depth r.0.lanes r.1.items × (length r.0.lanes ≡ n)) }
+    ensures count { IfOk result (λ _. IsLaneCount n × IsDepth depth) }
+    ensures fault { IfErr result (IsWorkFault n depth) }
+{
+    match desk(alloc, n, depth) {
+        Ok(made) => Ok(made),
+        Err(fault) => Err(WorkFault::Desk(fault)),
+    }
+}
+
+/// Serves the connections of gates: each gate has a thread, which serves its connections one after the other through a
+/// lane of its own, and the keeper of the lanes has one too. When all gates have come to their ends, the desk is
+/// closed. The fault of a connection ends that connection alone.
+///
+/// # Errors
+/// A `WorkFault`.
+pub fn work<
+    G: Gate + Send + Drop + 'static,
+    C: Clock + Send + Drop + 'static,
+    R: Threads + Wait + Copy + Send + 'static,
+>(rt: &R, alloc: Global, gates: Vec<G>, depth: usize, clock: C) -> Result<Summary, WorkFault>
+    ensures closed { IfOk result (IsClosed (length gates.items)) }
+    ensures fault { IfErr result (IsWorkFault (length gates.items) depth) }
+{
+    let (keeper, clients) = open(alloc, gates.len(), depth)?;
+    let Ok(crew) = gather(alloc, &keeper, clients, gates) else {
+        return Err(WorkFault::Memory);
+    };
+    let Some(done) = run_all(rt, alloc, keeper, clock, crew) else {
+        return Err(WorkFault::Start);
+    };
+    conclude(alloc, done)
+}
