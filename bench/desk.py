@@ -17,7 +17,6 @@ import re
 import shutil
 import subprocess
 import sys
-import tempfile
 import time
 
 import laid_down
@@ -116,7 +115,7 @@ def main():
     parser.add_argument("--spins", nargs="+", type=int, default=[None])
     parser.add_argument("--idle", action="store_true")
     asked = parser.parse_args()
-    with tempfile.TemporaryDirectory() as folder:
+    with laid_down.new_folder() as folder:
         if asked.idle:
             program = build_desks(folder, [None])[None]
             for lanes in map(int, asked.lanes.split(",")):

@@ -18,7 +18,6 @@ import os
 import re
 import statistics
 import subprocess
-import tempfile
 
 import laid_down
 
@@ -90,7 +89,7 @@ def main():
     parser.add_argument("--runs", type=int, default=8)
     parser.add_argument("--instructions", action="store_true")
     asked = parser.parse_args()
-    with tempfile.TemporaryDirectory() as folder:
+    with laid_down.new_folder() as folder:
         programs = {
             "here": laid_down.build(folder, "groups", BELOW, ["10000", "stream"]),
             "plain": laid_down.build_plain(folder, "groups", "plain.rs"),

@@ -3,9 +3,34 @@ import argparse
 import os
 import shutil
 import subprocess
+import tempfile
 
 HERE = os.path.dirname(os.path.abspath(__file__))
 TOP = os.path.dirname(HERE)
+
+
+def new_folder():
+    """A folder for a while, on the device of the repository, so that `link` copies nothing."""
+    place = os.path.join(TOP, "out")
+    os.makedirs(place, exist_ok=True)
+    return tempfile.TemporaryDirectory(dir=place)
+
+
+def link(source, copy):
+    """Gives a file one more name, or copies it where it lies on another device."""
+    try:
+        os.link(source, copy)
+    except OSError:
+        shutil.copy2(source, copy)
+
+
+def copy_crate(source, copy):
+    """Copies the sources of a crate. What was proved of it is gigabytes, which rt replaces and never writes to, so it
+    has its files only once."""
+    shutil.copytree(source, copy, ignore=shutil.ignore_patterns("out"))
+    proved = os.path.join(source, "out")
+    if os.path.isdir(proved):
+        shutil.copytree(proved, os.path.join(copy, "out"), copy_function=link)
 
 
 def lay_down(folder, crates, further=()):
@@ -15,7 +40,7 @@ def lay_down(folder, crates, further=()):
     with open(os.path.join(folder, "crates.txt"), "w", encoding="utf-8") as out:
         out.write("\n".join([*kept, *further, ""]))
     for crate in crates:
-        shutil.copytree(os.path.join(TOP, "crates", crate), os.path.join(folder, "crates", crate))
+        copy_crate(os.path.join(TOP, "crates", crate), os.path.join(folder, "crates", crate))
     subprocess.run(["git", "init", "-q"], cwd=folder, check=True)
 
 

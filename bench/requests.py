@@ -10,7 +10,6 @@ run, with copies of the crates xs_bytes and xs_resp as they are built here. Proc
 import os
 import statistics
 import subprocess
-import tempfile
 
 import laid_down
 
@@ -41,7 +40,7 @@ def spread(values):
 
 def main():
     runs = laid_down.runs(__doc__)
-    with tempfile.TemporaryDirectory() as folder:
+    with laid_down.new_folder() as folder:
         programs = {
             "here": laid_down.build(folder, "requests", BELOW, ["16384"]),
             "hiredis": build_hiredis(folder),

@@ -14,7 +14,6 @@ import argparse
 import os
 import re
 import subprocess
-import tempfile
 
 import laid_down
 from bench import VALUE
@@ -99,7 +98,7 @@ def main():
     parser.add_argument("--instructions", action="store_true")
     parser.add_argument("program")
     asked = parser.parse_args()
-    with tempfile.TemporaryDirectory() as folder:
+    with laid_down.new_folder() as folder:
         programs = Programs(folder, os.path.abspath(asked.program))
         if asked.instructions:
             by_instructions(programs)

@@ -16,7 +16,6 @@ import random
 import struct
 import subprocess
 import sys
-import tempfile
 
 HERE = os.path.dirname(os.path.abspath(__file__))
 sys.path.append(os.path.join(os.path.dirname(HERE), "bench"))
@@ -199,7 +198,7 @@ def main():
     parser.add_argument("--bytes", type=int, default=100_000_000)
     parser.add_argument("--seed", type=int, default=1)
     asked = parser.parse_args()
-    with tempfile.TemporaryDirectory() as folder:
+    with laid_down.new_folder() as folder:
         place = {name: os.path.join(folder, name) for name in ("given", "wanted", "got")}
         # in a process of its own: the peak of a child that is started counts what its parent had
         with concurrent.futures.ProcessPoolExecutor(max_workers=1) as maker:

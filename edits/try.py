@@ -13,10 +13,11 @@ import os
 import shutil
 import subprocess
 import sys
-import tempfile
 
 HERE = os.path.dirname(os.path.abspath(__file__))
 TOP = os.path.dirname(HERE)
+sys.path.append(os.path.join(TOP, "bench"))
+import laid_down  # noqa: E402
 
 
 def edits_of(crate, only):
@@ -26,11 +27,10 @@ def edits_of(crate, only):
 
 def lay_down(folder, chosen):
     """A copy of the repository in which the edits of each crate are the chosen ones."""
-    for name in ("crates", "HANDLES", "crates.txt"):
-        copy = shutil.copytree if name == "crates" else shutil.copy2
-        copy(os.path.join(TOP, name), os.path.join(folder, name))
-    subprocess.run(["git", "init", "-q", folder], check=True)
-    for crate in os.listdir(os.path.join(folder, "crates")):
+    shutil.copy2(os.path.join(TOP, "HANDLES"), folder)
+    crates = os.listdir(os.path.join(TOP, "crates"))
+    laid_down.lay_down(folder, crates)
+    for crate in crates:
         place = os.path.join(folder, "crates", crate, "must-fail")
         shutil.rmtree(place, ignore_errors=True)
         os.mkdir(place)
@@ -46,7 +46,7 @@ def main():
     there = sorted(name for name in os.listdir(HERE) if os.path.isdir(os.path.join(HERE, name)))
     chosen = {crate: edits_of(crate, asked.only) for crate in asked.crates or there}
     crates = [crate for crate, edits in chosen.items() if edits]
-    with tempfile.TemporaryDirectory() as folder:
+    with laid_down.new_folder() as folder:
         lay_down(folder, chosen)
         done = subprocess.run(["rt", "must-fail", *crates], cwd=folder)
     print(f"{sum(map(len, chosen.values()))} tried, {'all refused' if done.returncode == 0 else 'not all refused'}")

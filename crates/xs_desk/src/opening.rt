@@ -8,7 +8,7 @@ use crate::answer::{Answer, Formed};
 use crate::client::Client;
 use crate::keeper::Keeper;
 use crate::seat::Seat;
-use crate::waiting::Sleeper;
+use crate::waiting::{LAST_LOOK_OF_KEEPER, LAST_LOOK_OF_LANE, Sleeper};
 use rtrb::RingBuffer;
 use std::alloc::{AllocError, Global};
 use std::sync::Arc;
@@ -49,7 +49,7 @@ fn open_lane(
 {
     let (to_keeper, calls) = RingBuffer::<Command>::with_protocol::<Global, Formed>(alloc, depth)?;
     let (answers, from_keeper) = RingBuffer::<Answer>::new(alloc, depth)?;
-    let sleeper = Sleeper::new(alloc)?;
+    let sleeper = Sleeper::new(alloc, LAST_LOOK_OF_LANE)?;
     let bell = sleeper.bell()?;
     let seat = Seat {
         calls,
@@ -88,7 +88,7 @@ fn open_desk(alloc: Global, count: usize, depth: usize) -> Result<(Keeper, Vec<C
     ensures { IfOk result (λ r. AreNew 0 depth r.0.lanes r.1.items × (length r.0.lanes ≡ count) × (r.0.keyspace ≡ empty)
         × (r.0.place ≡ 0)) }
 {
-    let sleeper = Sleeper::new(alloc)?;
+    let sleeper = Sleeper::new(alloc, LAST_LOOK_OF_KEEPER)?;
     let gone = Arc::new(alloc, AtomicBool::new(false))?;
     let (seats, clients) = open_lanes(alloc, count, depth, &sleeper, &gone)?;
     Ok((

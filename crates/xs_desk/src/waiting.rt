@@ -21,17 +21,25 @@ use std::{hint, thread};
 /// How many looks that find nothing are made one right after the other.
 const SPINS: u32 = 20;
 
-/// How many more are made where calls follow fast, each after the processor was yielded.
-const YIELDS: u32 = 10;
+/// How many more a lane makes where calls follow fast, each after the processor was yielded: its answer is on its way.
+const YIELDS_OF_LANE: u32 = 10;
 
-/// The look after which a side parks, where it finds nothing.
-const LAST_LOOK: u32 = SPINS + YIELDS + 1;
+/// The same of the keeper: its next call comes from a client, who may be behind a socket.
+const YIELDS_OF_KEEPER: u32 = 100;
+
+/// The look after which a lane parks, where it finds nothing.
+pub(crate) const LAST_LOOK_OF_LANE: u32 = SPINS + YIELDS_OF_LANE + 1;
+
+/// The look after which the keeper parks, where it finds nothing.
+pub(crate) const LAST_LOOK_OF_KEEPER: u32 = SPINS + YIELDS_OF_KEEPER + 1;
 
 /// One side's own waiting.
 #[derive(Drop)]
 pub(crate) struct Sleeper {
-    // Looks that found nothing, one after the other, with the one begun; at most LAST_LOOK.
+    // Looks that found nothing, one after the other, with the one begun; at most `last_look`.
     looks: u32,
+    // The look after which it parks.
+    last_look: u32,
     sleeps: Arc<AtomicBool>,
     parker: Parker,
     pace: Arc<Pace>,
@@ -45,12 +53,13 @@ pub(crate) struct Bell {
 }
 
 impl Sleeper {
-    pub fn new(alloc: Global) -> Result<Sleeper, AllocError> {
+    pub fn new(alloc: Global, last_look: u32) -> Result<Sleeper, AllocError> {
         let sleeps = Arc::new(alloc, AtomicBool::new(false))?;
         let parker = Parker::new(alloc)?;
         let pace = Arc::new(alloc, Pace::new())?;
         Ok(Sleeper {
             looks: 0,
+            last_look,
             sleeps,
             parker,
             pace,
@@ -70,20 +79,20 @@ impl Sleeper {
 
     /// Begins a look. It stands before the look itself.
     pub fn begin_look(&mut self) {
-        if self.looks < LAST_LOOK {
+        if self.looks < self.last_look {
             self.looks += 1;
         }
         if self.looks > SPINS && !self.pace.is_swift() {
-            self.looks = LAST_LOOK;
+            self.looks = self.last_look;
         }
-        if self.looks == LAST_LOOK {
+        if self.looks == self.last_look {
             self.sleeps.store(true, Ordering::SeqCst);
         }
     }
 
     /// The look has found something.
     pub fn found(&mut self) {
-        if self.looks == LAST_LOOK {
+        if self.looks == self.last_look {
             self.sleeps.store(false, Ordering::SeqCst);
         }
         self.looks = 0;
@@ -91,7 +100,7 @@ impl Sleeper {
 
     /// Waits a little where the look has found nothing; after the last look it waits for the token.
     pub fn rest<R: Wait>(&self, rt: &R) {
-        if self.looks == LAST_LOOK {
+        if self.looks == self.last_look {
             self.parker.park(rt);
         } else if self.looks > SPINS {
             thread::yield_now();

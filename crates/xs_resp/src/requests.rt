@@ -122,7 +122,7 @@ impl Requests {
 }
 
 /// How many bytes of memory a buffer keeps that a great request made large.
-const KEPT: usize = 65_536;
+const KEPT: usize = 262_144;
 
 /// Fewer bytes than these aren't worth a move of those behind them.
 const FEW: usize = 4_096;

@@ -10,7 +10,7 @@ use std::net::TcpStream;
 use std::sync::{Arc, Mutex};
 
 /// How many bytes of replies are gathered.
-const ROOM: usize = 16_384;
+const ROOM: usize = 65_536;
 
 /// What both halves share.
 #[derive(Drop)]

@@ -128,8 +128,8 @@ pub fn take_in<R: Source>(
     ensures counted { capped (R.calls reader.new + connection.new.left)
         ≡ capped (R.calls reader.old + connection.old.left) }
     ensures replies { connection.new.replies ≡ connection.old.replies }
-    ensures fuel { result ≡ Ok None → connection.new.left * 16385 + held_length connection.new.inbox
-        < connection.old.left * 16385 + held_length connection.old.inbox }
+    ensures fuel { result ≡ Ok None → connection.new.left * 65537 + held_length connection.new.inbox
+        < connection.old.left * 65537 + held_length connection.old.inbox }
 {
     let replies = connection.replies;
     if connection.left == 0 {

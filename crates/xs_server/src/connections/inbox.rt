@@ -12,7 +12,7 @@ use xs_bytes::{Bytes, List};
 use xs_resp::{ReadFault, Requests};
 
 /// How many bytes are read at once.
-const PIECE: usize = 16_384;
+const PIECE: usize = 65_536;
 
 /// Why nothing came in.
 #[derive(Clone, Copy, Debug, PartialEq, Eq)]
@@ -38,7 +38,7 @@ impl Model for Inbox {
 
     ghost view = { λ i. i.requests };
 
-    ghost invariant = { λ i. length i.piece.items ≡ 16384 };
+    ghost invariant = { λ i. length i.piece.items ≡ 65536 };
 }
 
 impl Inbox {
@@ -70,7 +70,7 @@ impl Inbox {
     /// Reads a piece, and says whether there was one.
     pub fn fill<R: Source>(&mut self, reader: &mut R) -> Result<bool, FillFault>
         ensures bytes { (got : List ℕ) × Consumes (R.rest reader.old) (R.rest reader.new) got
-            × (length got ≤ 16384) × Fills result self.old got self.new }
+            × (length got ≤ 65536) × Fills result self.old got self.new }
         ensures end { result ≡ Ok false → IsAtEnd (R.rest reader.new) × (R.ended reader.new ≡ true) }
         ensures counted { R.calls reader.new ≡ capped (R.calls reader.old + 1) }
         ensures err { result ≡ Err FillFault.Read → R.broken reader.new ≡ true }

@@ -50,8 +50,8 @@ fn step<R: Source, W: Sink, P: Port, T: Wait>(
         (W.broken writer.new) (P.gone port.new) connection.new.left }
     ensures counted { capped (R.calls reader.new + connection.new.left)
         ≡ capped (R.calls reader.old + connection.old.left) }
-    ensures fuel { result ≡ Ok None → connection.new.left * 16385 + held_length connection.new.inbox
-        < connection.old.left * 16385 + held_length connection.old.inbox }
+    ensures fuel { result ≡ Ok None → connection.new.left * 65537 + held_length connection.new.inbox
+        < connection.old.left * 65537 + held_length connection.old.inbox }
 {
     match connection.inbox.next() {
         Ok(Some(words)) => {

@@ -15,4 +15,4 @@ invariant-requests g l =
     × (capped (g.R.Source.calls l.reader + l.connection.left) ≡ capped (g.R.Source.calls l.initial.reader + reads_limit))
 
 abbrev pub decreases-requests : goal.decreases-requests
-decreases-requests g l = l.connection.left * 16385 + held_length l.connection.inbox
+decreases-requests g l = l.connection.left * 65537 + held_length l.connection.inbox
