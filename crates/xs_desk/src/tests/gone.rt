@@ -31,32 +31,38 @@ fn ask_until_gone<R: Wait>(rt: &R, client: Client) -> Option<u64> {
     None
 }
 
-/// Turns until so many calls are served, or more, and says how many.
-pub fn serve(keeper: &mut Keeper, wanted: u64, clock: &mut Still) -> u64 {
+/// Turns until so many calls are served, or more, and says how many. It is idle after a turn that served nobody.
+pub fn serve<R: Wait>(rt: &R, keeper: &mut Keeper, wanted: u64, clock: &mut Still) -> u64 {
     let mut served = 0u64;
     for _ in 0..MOST_TURNS {
-        served = served.saturating_add(keeper.turn(clock).unwrap_or(0));
+        match keeper.turn(clock) {
+            Ok(0) => keeper.idle(rt),
+            Ok(count) => served = served.saturating_add(count),
+            Err(_) => break,
+        }
         if served >= wanted {
             break;
         }
-        thread::yield_now();
     }
     served
 }
 
-// Each lane has the answers to its calls that were served, and is then told that the keeper is gone.
+// Each lane has the answers to its calls that were served, and is then told that the keeper is gone: where all of them
+// wait as it is dropped, and where it is dropped as soon as it has served.
 #[test]
 fn lanes_that_wait_are_told(rt: HostRuntime) -> Result<(), Fail> {
     let alloc = rt.alloc();
     let mut clock = Still::at(1000).ok_or("a moment")?;
-    for depth in [1, 4] {
+    for (depth, late) in [(1, true), (4, true), (1, false), (4, false)] {
         let (mut keeper, clients) = desk(alloc, 8, depth)?;
         let mut lanes = Vec::new(alloc);
         for client in clients {
             lanes.push(thread::spawn(&rt, move || ask_until_gone(&rt, client))?)?;
         }
-        let mut served = serve(&mut keeper, 1000, &mut clock);
-        thread::sleep(&rt, Duration::from_millis(100));
+        let mut served = serve(&rt, &mut keeper, 1000, &mut clock);
+        if late {
+            thread::sleep(&rt, Duration::from_millis(100));
+        }
         drop(keeper);
         for lane in lanes {
             let answered = lane.join(&rt).ok_or("a wrong answer")?;

@@ -1,13 +1,13 @@
 //! Desks that find no memory.
 use super::gone::serve;
+use super::older::are_answered;
 use super::trial::{Still, Trial};
-use crate::client::{Client, Full};
+use crate::client::Full;
 use crate::lane::Lane;
 use crate::opening::{DeskError, desk};
 use crate::port::{Port, PortFault};
 use crate::summary::LaneSummary;
 use std::alloc::Global;
-use std::sync::Wait;
 use std::test::Fail;
 use std::thread;
 use xs_command::Command;
@@ -75,15 +75,6 @@ fn calls_of_a_desk_take_no_memory(rt: HostRuntime) -> Result<(), Fail> {
     Ok(())
 }
 
-/// Whether each of ten calls is answered.
-fn is_answered<R: Wait>(rt: &R, client: Client) -> bool {
-    let mut lane = Lane::new(client);
-    (0..10).all(|_| matches!(
-        lane.ask(rt, Command::Ping(None)),
-        Ok(Reply::Simple(Simple::Pong))
-    ))
-}
-
 // The same of a lane that is answered.
 #[test]
 fn asking_takes_no_memory(rt: HostRuntime) -> Result<(), Fail> {
@@ -92,10 +83,10 @@ fn asking_takes_no_memory(rt: HostRuntime) -> Result<(), Fail> {
         return Ok(());
     };
     let client = clients.pop().ok_or("a client")?;
-    let Ok(lane) = thread::spawn(&rt, move || is_answered(&rt, client)) else {
+    let Ok(lane) = thread::spawn(&rt, move || are_answered(&rt, client, 10)) else {
         return Ok(());
     };
-    assert_eq!(rt; serve(&mut keeper, 10, &mut clock), 10);
+    assert_eq!(rt; serve(&rt, &mut keeper, 10, &mut clock), 10);
     assert!(rt; lane.join(&rt));
     Ok(())
 }
