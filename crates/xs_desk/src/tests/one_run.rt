@@ -14,6 +14,9 @@ use xs_keys::{Clock, Keyspace};
 use xs_resp::Reply;
 use xs_stream::Moment;
 
+/// How many calls there are places for, over all lanes.
+const ON_THEIR_WAY: usize = 256;
+
 /// A clock that goes on slowly, and back.
 #[derive(Clone, Copy)]
 struct Slow {
@@ -104,7 +107,7 @@ pub fn ask_at_random<R: Threads + Wait + Sync>(
     seed: u64,
 ) -> Option<(Seen, Summary)> {
     let jobs = askers(alloc, lanes, each, seed).ok()?;
-    let trial = Trial::new(alloc, lanes, 4).ok()?;
+    let trial = Trial::new(alloc, lanes, ON_THEIR_WAY / lanes.max(1)).ok()?;
     let (trial, jobs) = trial
         .together(rt, alloc, Slow { calls: 0 }, Rest::Yield, jobs)
         .ok()?;
