@@ -15,7 +15,7 @@ use xs_resp::Reply;
 use xs_stream::Moment;
 
 /// How many calls there are places for, over all lanes.
-const ON_THEIR_WAY: usize = 256;
+const ON_THEIR_WAY: usize = 1024;
 
 /// A clock that goes on slowly, and back.
 #[derive(Clone, Copy)]
