@@ -9,7 +9,6 @@ use crate::answer::Answer;
 use crate::client::Client;
 use std::alloc::{AllocError, Global};
 use std::sync::Wait;
-use std::thread;
 use xs_command::Command;
 use xs_stream::Moment;
 
@@ -103,15 +102,17 @@ impl Asking {
 
 impl Job for Asking {
     #[tactic(auto, using(crate::proofs::Sides::side_again))]
-    fn run<R: Wait>(&mut self, _rt: &R, client: Client) -> Client {
+    fn run<R: Wait>(&mut self, rt: &R, client: Client) -> Client {
         let mut client = client;
         for _ in 0..MOST_TURNS {
+            client.begin_look();
             self.submit(&mut client);
-            if !self.take(&mut client) {
-                if self.told.len() as u64 >= self.times {
-                    break;
-                }
-                thread::yield_now();
+            if self.take(&mut client) {
+                client.found();
+            } else if self.told.len() as u64 >= self.times {
+                break;
+            } else {
+                client.rest(rt);
             }
         }
         client

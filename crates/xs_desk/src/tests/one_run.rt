@@ -109,7 +109,7 @@ pub fn ask_at_random<R: Threads + Wait + Sync>(
     let jobs = askers(alloc, lanes, each, seed).ok()?;
     let trial = Trial::new(alloc, lanes, ON_THEIR_WAY / lanes.max(1)).ok()?;
     let (trial, jobs) = trial
-        .together(rt, alloc, Slow { calls: 0 }, Rest::Yield, jobs)
+        .together(rt, alloc, Slow { calls: 0 }, Rest::Idle, jobs)
         .ok()?;
     let summary = trial.close(alloc)?;
     if !jobs.iter().all(|job| is_in_order(job, 0)) {

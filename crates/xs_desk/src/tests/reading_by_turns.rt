@@ -116,7 +116,7 @@ fn read_by_turns<R: Abort + Threads + Wait + Sync>(
     let mut clock = Still::at(1000).ok_or("a moment")?;
     let trial = with_entries(alloc, lanes, depth, &mut clock)?;
     let jobs = readers(alloc, lanes, each)?;
-    let (trial, jobs) = trial.together(rt, alloc, clock, Rest::Yield, jobs)?;
+    let (trial, jobs) = trial.together(rt, alloc, clock, Rest::Idle, jobs)?;
     assert!(rt; are_in_order(&jobs));
     reads_all(rt, alloc, &by_place(alloc, jobs)?)?;
     let mut keyspace = closes(rt, alloc, trial, each)?;
