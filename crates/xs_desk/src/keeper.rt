@@ -7,8 +7,10 @@ use crate::seat::{Look, Seat};
 use crate::waiting::{Bell, Sleeper};
 use std::alloc::AllocError;
 use std::marker::Model;
+use std::snapshot::Snapshot;
 use std::sync::atomic::{AtomicBool, Ordering};
 use std::sync::{Arc, Wait};
+use std::thread::Promise;
 use thiserror::Error;
 use xs_keys::{Clock, Keyspace};
 
@@ -57,6 +59,16 @@ impl Drop for Keeper {
         } = self;
         say_gone(&seats, &gone);
     }
+}
+
+/// What a thread promises that hands its keeper back: it has the rings of this one.
+#[derive(Drop)]
+pub struct SameRings(pub Snapshot<Keeper>);
+
+impl Promise<Keeper> for SameRings {
+    ghost use Rattle.xs_desk.specs.Keeping.{KeepsRings};
+
+    ghost kept_by = { λ p keeper. KeepsRings p.0.value keeper };
 }
 
 /// Wakes an idle keeper.

@@ -20,7 +20,7 @@ pub use alone::Alone;
 pub use answer::Answer;
 pub use client::{Client, Ended, Full};
 pub use closing::{CloseError, close};
-pub use keeper::{Keeper, KeeperError, Waker};
+pub use keeper::{Keeper, KeeperError, SameRings, Waker};
 pub use lane::Lane;
 pub use opening::{DeskError, desk};
 pub use port::{Port, PortFault};

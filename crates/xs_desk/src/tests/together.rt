@@ -4,13 +4,13 @@ ghost use Rattle.xs_desk.specs.Keeping.{KeepsRings, KeepsSide, KeepSides};
 
 use super::asking::MOST_TURNS;
 use crate::client::Client;
-use crate::keeper::Keeper;
+use crate::keeper::{Keeper, SameRings};
 use std::alloc::{AllocError, Global};
 use std::snapshot::Snapshot;
 use std::sync::Wait;
 use std::sync::atomic::{AtomicBool, Ordering};
 use std::thread;
-use std::thread::{Promise, Threads};
+use std::thread::Threads;
 use xs_keys::Clock;
 
 /// What a thread does with its client.
@@ -121,16 +121,6 @@ fn run_all<J: Job + Send + Drop, R: Threads + Wait + Sync>(
             ensures { KeepsSide s.client result.client }
         { run_one(rt, s) },
     )
-}
-
-/// The keeper that comes back has the rings of this one.
-#[derive(Drop)]
-struct SameRings(Snapshot<Keeper>);
-
-impl Promise<Keeper> for SameRings {
-    ghost use Rattle.xs_desk.specs.Keeping.{KeepsRings};
-
-    ghost kept_by = { λ p keeper. KeepsRings p.0.value keeper };
 }
 
 /// The keeper and the jobs at once, until all jobs have ended.

@@ -6,19 +6,9 @@ use crate::work::signals::Signals;
 use std::snapshot::Snapshot;
 use std::sync::{Arc, Wait};
 use std::thread;
-use std::thread::{Promise, PromisedHandle, Threads};
-use xs_desk::Keeper;
+use std::thread::{PromisedHandle, Threads};
+use xs_desk::{Keeper, SameRings};
 use xs_keys::Clock;
-
-/// The keeper that comes back has the rings of this one.
-#[derive(Drop)]
-pub struct SameRings(pub Snapshot<Keeper>);
-
-impl Promise<Keeper> for SameRings {
-    ghost use Rattle.xs_desk.specs.Keeping.{KeepsRings};
-
-    ghost kept_by = { λ p keeper. KeepsRings p.0.value keeper };
-}
 
 /// A keeper in its thread.
 pub type Kept = PromisedHandle<Keeper, SameRings>;
