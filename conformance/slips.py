@@ -157,15 +157,24 @@ def rests(body):
             yield found.end(), end, "[]"
 
 
-def cases(body, name):
-    """A case's result in the place of its neighbour's."""
+def lacks(head, other, result, imported):
+    """Whether the result names a variable of the other case's head, which this one lacks."""
+    words = r"(?<![\w.])[a-z]\w*(?![\w.]*\w\.)"
+    alone = set(re.findall(words, other)) - set(re.findall(words, head)) - imported
+    return any(re.search(rf"(?<![\w.]){word}\b(?! = )", result) for word in alone)
+
+
+def cases(body, name, imported):
+    """A case's result in the place of its neighbour's, where it has all that the result names."""
     starts = [found.start() for found in re.finditer(rf"^{re.escape(name)}\b", body, re.M)] + [len(body)]
-    places = [(start + body[start:end].find(" =") + 2, end) for start, end in zip(starts, starts[1:])]
-    for (start, end), (other, last) in zip(places, places[1:]):
+    places = [(at, at + body[at:end].find(" =") + 2, end) for at, end in zip(starts, starts[1:])]
+    for (at, start, end), (place, other, last) in zip(places, places[1:]):
         result, neighbour = body[start:end].rstrip(), body[other:last].rstrip()
         if result.split() != neighbour.split():
-            yield start, start + len(result), neighbour
-            yield other, other + len(neighbour), result
+            if not lacks(body[at:start], body[place:other], neighbour, imported):
+                yield start, start + len(result), neighbour
+            if not lacks(body[place:other], body[at:start], result, imported):
+                yield other, other + len(neighbour), result
 
 
 def with_words(text):
@@ -183,17 +192,22 @@ def with_words(text):
 
 def turns(text, wanted):
     """Each turn of a file's definitions."""
+    imported = set(re.findall(r"[\w◌]+", " ".join(re.findall(r"^use [^{\n]*(.*)", text, re.M))))
     for name, start, end in definitions(text):
         if wanted not in name:
             continue
-        body = text[start:end]
+        body, seen = text[start:end], []
         heads = {at for found in re.finditer(r"^\S.*? =(?=\s)", body, re.M) for at in range(*found.span())}
-        kinds = [numbers, siblings, texts, negations, orders, branches, rests, lambda whole: cases(whole, name)]
+        kinds = [numbers, siblings, texts, negations, orders, branches, rests,
+                 lambda whole: cases(whole, name, imported)]
         for one, other, new in (place for kind in kinds for place in kind(body)):
             if one in heads or body[one:other] == new:
                 continue
             line = body[:one].rfind("\n") + 1
             turned = body[:one] + new + body[other:]
+            if turned.split() in seen:
+                continue
+            seen.append(turned.split())
             shown = turned[line:].split("\n")[0]
             yield Turn(name, f"{body[one:other].strip()!r} is {new.strip()!r} in: {shown.strip()}",
                        with_words(text[:start] + turned + text[end:]))
