@@ -51,6 +51,7 @@ pub record Faults : Type 0 where
   pub no_lf_in_a_word : request (wire (codes "*1^$1") ++ 13 ∷ codes "x") ≡ Err Shape
   pub no_cr_behind_a_word : request (wire (codes "*1^$4^PINGx")) ≡ Err Shape
   pub no_lf_behind_a_word : request (wire (codes "*1^$1^a") ++ 13 ∷ codes "x") ≡ Err Shape
+  pub no_cr_before_an_lf : request (wire (codes "*1^$1^a") ++ 120 ∷ 10 ∷ []) ≡ Err Shape
   pub in_the_second_word : request (wire (codes "*2^$1^a^*1^")) ≡ Err Shape
   pub no_number : request (wire (codes "*^")) ≡ Err Length
   pub below_null : request (wire (codes "*-2^")) ≡ Err Length

@@ -14,6 +14,7 @@ returns c = record {
   no_lf_in_a_word = refl;
   no_cr_behind_a_word = refl;
   no_lf_behind_a_word = refl;
+  no_cr_before_an_lf = refl;
   in_the_second_word = refl;
   no_number = refl;
   below_null = refl;
