@@ -80,6 +80,9 @@ of_an_hour = record { min_idle = 3600000; when = time.At 120; retry = Some 7; ju
 abbrev pub ids_alone : Rule
 ids_alone = record { min_idle = 0; when = time.Idle 30; retry = None; just_id = true }
 
+abbrev pub now_and_ids_alone : Rule
+now_and_ids_alone = record { min_idle = 0; when = time.Now; retry = None; just_id = true }
+
 pub record Touches : Type 0 where
   pub at_its_delivery : touches start [] read_by_a (at 2 0) ≡ true
   pub not_with_noack : touches start [] noack_by_b (at 2 0) ≡ false
@@ -111,6 +114,9 @@ pub record Touches : Type 0 where
   pub count_with_ids_alone : count_of start (event 180 (claims ids_alone) ∷ read_by_a ∷ []) (at 2 0) ≡ 1
   pub count_of_a_scan :
       count_of start (event 180 (auto_claim (codes "b") any_idle_time (at 0 0) 9) ∷ read_by_a ∷ []) (at 2 0) ≡ 2
+  pub count_of_one_that_was_not_claimed : count_of start (claim_by_b ∷ read_by_a ∷ []) (at 3 0) ≡ 1
+  pub count_of_a_scan_with_ids_alone :
+      count_of start (event 180 (auto_claim (codes "b") now_and_ids_alone (at 0 0) 9) ∷ read_by_a ∷ []) (at 2 0) ≡ 1
   pub least_of_a_claim : least_idle (claims of_an_hour) ≡ 3600000
   pub least_of_a_scan : least_idle (auto_claim (codes "b") of_an_hour (at 0 0) 9) ≡ 3600000
   pub removed_when_deleted :

@@ -57,6 +57,7 @@ pub record Contents : Type 0 where
   pub not_without_its_group : KeyHolds (Some (key (at 2 0))) (Some changes) some_group → ⊥
   pub no_group_without_a_key : KeyHolds None None some_group → ⊥
   pub of_no_group : GroupHolds None None
+  pub of_a_new_group : GroupHolds (Some (new_group (at 1 0))) (Some (life []))
   pub not_a_group_without_a_life : GroupHolds (Some (new_group (at 1 0))) None → ⊥
   pub not_a_life_without_a_group : GroupHolds None (Some (life [])) → ⊥
   pub not_another_start : GroupHolds (Some (new_group (at 2 0))) (Some (life [])) → ⊥

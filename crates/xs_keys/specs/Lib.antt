@@ -19,3 +19,4 @@ pub mod ExamplesGroupEvents
 pub mod ExamplesAsked
 pub mod ExamplesContent
 pub mod ExamplesHeadline
+pub mod ExamplesTold

@@ -5,6 +5,7 @@ ghost use Rattle.xs_keys.specs.ExamplesGroupEvents as group_events;
 ghost use Rattle.xs_keys.specs.ExamplesAsked as asked;
 ghost use Rattle.xs_keys.specs.ExamplesContent as content;
 ghost use Rattle.xs_keys.specs.ExamplesHeadline as headline;
+ghost use Rattle.xs_keys.specs.ExamplesTold.{ToldReads, ToldClaims};
 
 /// Ids, ranges and trims.
 pub fn streams()
@@ -134,4 +135,14 @@ pub fn answers_go_on()
 /// How an addition and the making of a group may end.
 pub fn endings()
     ensures { headline.Endings }
+{}
+
+/// What the replies to reads of groups tell.
+pub fn told_reads()
+    ensures { ToldReads }
+{}
+
+/// What the replies to claims tell.
+pub fn told_claims()
+    ensures { ToldClaims }
 {}

@@ -16,6 +16,7 @@ returns c = record {
   not_without_its_group = λ h. h.1 (codes "g");
   no_group_without_a_key = λ h. h (codes "g");
   of_no_group = tt;
+  of_a_new_group = record { cursor_is = refl; consumers_are = λ name. refl; rows_are = refl };
   not_a_group_without_a_life = λ h. h;
   not_a_life_without_a_group = λ h. h;
   not_another_start = λ h. omega (arith, ap (λ i. i.ms) (IsGroup.cursor_is h));

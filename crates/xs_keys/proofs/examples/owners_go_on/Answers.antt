@@ -1,4 +1,6 @@
-use Rattle.std.proofs.Common.{refl, inl, inr}
+use Rattle.std.proofs.Common.{refl, inl, inr, sym, subst, T}
+use Rattle.std.proofs.Math.Logic.{⊎_elim}
+use Rattle.std.proofs.lemmas.Option.{none-some}
 use Rattle.xs_bytes.specs.SortedMap.{empty, get, insert_by, remove, change}
 use Rattle.xs_keys.proofs.examples.owners_go_on.Goals as goal
 
@@ -10,4 +12,5 @@ returns c = record {
   is_claimed = inr (inr (refl, refl));
   none_yet = inl refl;
   comes_by_a_delivery = inr (refl, refl);
+  none_where_there_is_one = ⊎_elim (λ h. none-some _ (sym h)) (λ h. subst T (sym h.0) tt);
 }

@@ -1,0 +1,59 @@
+-- What the replies to reads and claims tell, by examples: the replies that a real Redis 7.0 gives after the same lines
+-- (XREADGROUP, XCLAIM, XAUTOCLAIM), and others that it doesn't give.
+use Rattle.std.specs.Prelude.{ℕ, List, [], ◌∷◌, codes}
+use Rattle.xs_command.specs.Read.{reads}
+use Rattle.xs_command.specs.Examples.{line}
+use Rattle.xs_keys.specs.Ground.{Command, Reply, Error, Int, NoGroup, NullArray}
+use Rattle.xs_keys.specs.Reply.{array}
+use Rattle.xs_keys.specs.Told.{IsTold}
+use Rattle.xs_keys.specs.Played.{name, id, entry, stream}
+use Rattle.xs_keys.specs.ExamplesHistory.{event, events, group_and}
+
+-- the reply to the event of some words tells what was delivered or taken, behind those lines
+abbrev pub tells : List (ℕ × Command) → List (List ℕ) → Reply → Type 0
+tells [] lines answer = ⊥
+tells (e ∷ es) lines answer = IsTold (events 5 lines) e.0 e.1 answer
+
+abbrev pub Tells : List (List ℕ) → List ℕ → Reply → Type 0
+Tells lines words answer = tells (event 9 (reads (line words))) lines answer
+
+-- 2-0 as it was given
+abbrev pub second : Reply
+second = array (id 2 0 ∷ array (name (codes "g") ∷ name (codes "w") ∷ name (codes "h") ∷ name (codes "x") ∷ []) ∷ [])
+
+-- two groups, of the keys s and t
+abbrev pub two_groups : List (List ℕ)
+two_groups = group_and (codes "XADD t 7-0 f v" ∷ codes "XGROUP CREATE t g 0" ∷ [])
+
+-- the consumer a has read 2-0 and 3-0
+abbrev pub read_by_a : List (List ℕ)
+read_by_a = group_and (codes "XREADGROUP GROUP g a STREAMS s >" ∷ [])
+
+pub record ToldReads : Type 0 where
+  pub new :
+      Tells (group_and []) (codes "XREADGROUP GROUP g a STREAMS s >")
+      (array (stream (codes "s") (second ∷ entry 3 0 ∷ []) ∷ []))
+  pub own : Tells (group_and []) (codes "XREADGROUP GROUP g a STREAMS s 0") (array (stream (codes "s") [] ∷ []))
+  pub own_and_new :
+      Tells two_groups (codes "XREADGROUP GROUP g a STREAMS t s 0 >")
+      (array (stream (codes "t") [] ∷ stream (codes "s") (second ∷ entry 3 0 ∷ []) ∷ []))
+  pub in_the_order_written :
+      Tells two_groups (codes "XREADGROUP GROUP g a STREAMS t s > >")
+      (array (stream (codes "t") (entry 7 0 ∷ []) ∷ stream (codes "s") (second ∷ entry 3 0 ∷ []) ∷ []))
+  pub nothing_new : Tells read_by_a (codes "XREADGROUP GROUP g b STREAMS s >") NullArray
+  pub not_nothing : Tells (group_and []) (codes "XREADGROUP GROUP g a STREAMS s >") NullArray → ⊥
+  pub refused : Tells read_by_a (codes "XREADGROUP GROUP h b STREAMS s >") (Error NoGroup)
+
+pub record ToldClaims : Type 0 where
+  pub claimed : Tells read_by_a (codes "XCLAIM s g b 0 2") (array (second ∷ []))
+  pub claimed_ids : Tells read_by_a (codes "XCLAIM s g b 0 2 JUSTID") (array (id 2 0 ∷ []))
+  pub not_none_of_them : Tells read_by_a (codes "XCLAIM s g b 0 2") (array []) → ⊥
+  pub no_claim : Tells read_by_a (codes "XCLAIM s h b 0 2") (Error NoGroup)
+  pub scanned :
+      Tells read_by_a (codes "XAUTOCLAIM s g b 0 2-1") (array (id 0 0 ∷ array (entry 3 0 ∷ []) ∷ array [] ∷ []))
+  pub scanned_without_a_deleted_one :
+      Tells (group_and (codes "XREADGROUP GROUP g a STREAMS s >" ∷ codes "XDEL s 2" ∷ []))
+      (codes "XAUTOCLAIM s g b 0 0") (array (id 0 0 ∷ array (entry 3 0 ∷ []) ∷ array (id 2 0 ∷ []) ∷ []))
+  pub not_nothing_scanned : Tells read_by_a (codes "XAUTOCLAIM s g b 0 2-1") NullArray → ⊥
+  pub no_scan : Tells read_by_a (codes "XAUTOCLAIM s h b 0 0") (Error NoGroup)
+  pub anything_else : Tells read_by_a (codes "XLEN s") (Int 3)
