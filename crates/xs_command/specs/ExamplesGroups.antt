@@ -109,6 +109,7 @@ pub record Reads : Type 0 where
   pub nothing_to_read : HasFault (codes "XREADGROUP GROUP g c COUNT 1 STREAMS") Syntax
   pub no_streams : HasFault (codes "XREADGROUP GROUP g c COUNT 1 NOACK") Syntax
   pub another_option : HasFault (codes "XREADGROUP GROUP g c FORCE STREAMS k >") Syntax
+  pub another_word_for_streams : HasFault (codes "XREADGROUP GROUP g c STREAM k >") Syntax
   pub no_group : HasFault (codes "XREADGROUP COUNT 1 STREAMS a b c d") Syntax
   pub no_consumer : HasFault (codes "XREADGROUP COUNT 1 BLOCK 0 GROUP g") Syntax
   pub count_is_none : HasFault (codes "XREADGROUP GROUP g c COUNT x STREAMS k >") NotInteger

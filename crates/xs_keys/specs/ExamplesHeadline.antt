@@ -5,6 +5,7 @@ use Rattle.std.specs.Prelude.{◌≡◌, ℕ, true, false, List, [], ◌∷◌, 
 use Rattle.xs_bytes.specs.SortedMap.{empty, insert}
 use Rattle.xs_stream.specs.declared.id.Id.{Id}
 use Rattle.xs_stream.specs.declared.add.AddId.TheVariants as add
+use Rattle.xs_stream.specs.declared.add.AddError.TheVariants as add_error
 use Rattle.xs_stream.specs.Examples.{at}
 use Rattle.xs_group.specs.State.{new_group}
 use Rattle.xs_command.specs.ExamplesStreams.{field}
@@ -16,6 +17,7 @@ use Rattle.xs_keys.specs.GroupLife.{GroupLife, GoesOn}
 use Rattle.xs_keys.specs.Headline.{is_error, OwnerAfter, NoOwnerAfter, Follows, Answers}
 use Rattle.xs_keys.specs.Adding.{Adds}
 use Rattle.xs_keys.specs.Grouping.{Creates}
+use Rattle.xs_keys.specs.Reply.{fault_of}
 use Rattle.xs_keys.specs.Played.{id}
 use Rattle.xs_keys.specs.ExamplesGroupEvents.{start, event, read_by_a, noack_by_b, first_by_a, claim_by_b}
 
@@ -88,3 +90,4 @@ pub record Endings : Type 0 where
       Creates creation (at 3 0) (insert empty (codes "g") (new_group (at 2 0))) (Error Busy)
       (insert empty (codes "g") (new_group (at 2 0)))
   pub not_created_without_memory : Creates creation (at 3 0) empty (Error Memory) empty
+  pub memory_told_own : fault_of add_error.Memory ≡ Memory

@@ -16,7 +16,7 @@ use Rattle.xs_command.specs.ExamplesStreams.{field}
 use Rattle.xs_keys.specs.Life.{Change, key_life, given_in, top, live, stream_of}
 use Rattle.xs_keys.specs.GroupEvent.{delivered, cursor, claim, auto_claim}
 use Rattle.xs_keys.specs.GroupLife.{GroupLife, group_life, delivered_by}
-use Rattle.xs_keys.specs.Headline.{takes_memory}
+use Rattle.xs_keys.specs.Headline.{takes_memory, OfEachGroup}
 use Rattle.xs_keys.specs.Told.{given_at, taken_by}
 
 -- an event, where the words say a command
@@ -106,6 +106,8 @@ pub record Groups : Type 0 where
   pub another_is_destroyed :
       of_group (group_and (codes "XGROUP DESTROY s h" ∷ codes "XGROUP DESTROY t g" ∷ [])) starts_at ≡ Some (at 1 0)
   pub goes_with_its_key : of_group (group_and (codes "DEL t s" ∷ codes "XADD s 1-0 f v" ∷ [])) starts_at ≡ None
+  pub lives_that_are_over_too :
+      OfEachGroup (events 5 (codes "XGROUP CREATE s g $ MKSTREAM" ∷ codes "DEL s" ∷ [])) (λ life. ⊥) → ⊥
   pub another_key_goes : of_group (group_and (codes "DEL t" ∷ [])) starts_at ≡ Some (at 1 0)
   pub begins_anew :
       of_group (group_and (codes "XREADGROUP GROUP g c STREAMS s >" ∷ codes "XGROUP DESTROY s g"

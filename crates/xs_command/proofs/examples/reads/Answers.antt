@@ -33,6 +33,7 @@ returns c = record {
   nothing_to_read = refl;
   no_streams = refl;
   another_option = refl;
+  another_word_for_streams = refl;
   no_group = refl;
   no_consumer = refl;
   count_is_none = refl;

@@ -10,4 +10,5 @@ returns c = record {
   created = inr (inl (refl, refl, refl));
   there_already = inl (refl, refl, refl);
   not_created_without_memory = inr (inr (refl, refl, refl));
+  memory_told_own = refl;
 }

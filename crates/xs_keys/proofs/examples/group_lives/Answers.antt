@@ -1,4 +1,4 @@
-use Rattle.std.proofs.Common.{refl}
+use Rattle.std.proofs.Common.{[], ◌∷◌, codes, refl}
 use Rattle.xs_bytes.specs.SortedMap.{empty, get, insert_by, remove, change}
 use Rattle.xs_command.specs.Words.{is_word, word, behind_sign, integer, natural, id, low, high}
 use Rattle.xs_command.specs.Options.{up_to}
@@ -22,6 +22,7 @@ use Rattle.xs_command.specs.Xlen.{xlen}
 use Rattle.xs_command.specs.Xrange.{xrange, xrevrange, scan_option}
 use Rattle.xs_command.specs.Del.{del}
 use Rattle.xs_command.specs.Read.{reads}
+use Rattle.xs_keys.specs.ExamplesHistory.{events}
 use Rattle.xs_keys.proofs.examples.group_lives.Goals as goal
 
 pub returns : goal.returns
@@ -37,6 +38,8 @@ returns c = record {
   is_destroyed = refl;
   another_is_destroyed = refl;
   goes_with_its_key = refl;
+  lives_that_are_over_too =
+      λ h. h (events 5 (codes "DEL s" ∷ [])) (events 5 (codes "XGROUP CREATE s g $ MKSTREAM" ∷ [])) refl (codes "s") (codes "g") _ refl;
   another_key_goes = refl;
   begins_anew = refl;
 }
