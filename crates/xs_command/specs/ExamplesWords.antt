@@ -1,15 +1,17 @@
 -- Numbers, ids and the number of words of each command, as the pages of the commands tell it and a real Redis 7.0
 -- answers.
-use Rattle.std.specs.Prelude.{◌≡◌, [], codes, Some, None, Ok, Err}
+use Rattle.std.specs.Prelude.{◌≡◌, ℕ, [], codes, Some, None, Ok, Err}
 use Rattle.xs_stream.specs.declared.add.AddId.TheVariants.{Auto, AutoSeq, Exact}
 use Rattle.xs_stream.specs.Id.{zero_id}
 use Rattle.xs_stream.specs.Examples.{at}
-use Rattle.xs_resp.specs.declared.fault.Fault.TheVariants.{Arity, BadId, ZeroId, UnknownCommand}
+use Rattle.xs_resp.specs.declared.fault.Fault.TheVariants.{Arity, BadId, Syntax, ZeroId, UnknownCommand}
 use Rattle.xs_command.specs.declared.integer.Integer.TheVariants.{Negative, Natural}
 use Rattle.xs_command.specs.declared.command.Command.TheVariants as command
+use Rattle.xs_command.specs.declared.refusal.Refusal.TheVariants.{Said, Memory}
 use Rattle.xs_command.specs.Integer.{integer_of, at_least_zero}
 use Rattle.xs_command.specs.AddId.{add_id_of}
 use Rattle.xs_command.specs.WellFormed.{IsAddId}
+use Rattle.xs_command.specs.Words.{Gives}
 use Rattle.xs_command.specs.Examples.{Spells, HasFault}
 
 pub record Integers : Type 0 where
@@ -62,7 +64,9 @@ pub record Counts : Type 0 where
   pub a_part_of_a_name : HasFault (codes "XAD k * f v") UnknownCommand
   pub ping_alone : Spells (codes "PING") (command.Ping None)
   pub quit_alone : Spells (codes "QUIT") command.Quit
+  pub quit_and_more : Spells (codes "QUIT a b") command.Quit
   pub xadd : HasFault (codes "XADD k * f") Arity
+  pub xadd_before_its_id : HasFault (codes "XADD k x f") Arity
   pub xadd_without_fields : HasFault (codes "XADD k NOMKSTREAM MAXLEN 3 *") Arity
   pub xdel : HasFault (codes "XDEL k") Arity
   pub xtrim : HasFault (codes "XTRIM k MAXLEN") Arity
@@ -78,3 +82,13 @@ pub record Counts : Type 0 where
   pub xpending : HasFault (codes "XPENDING k") Arity
   pub xclaim : HasFault (codes "XCLAIM k g c 0") Arity
   pub xautoclaim : HasFault (codes "XAUTOCLAIM k g c 0") Arity
+
+-- what a call that reads may answer: what is read, the fault that is read, or want of memory (own)
+pub record Given : Type 0 where
+  pub what_is_read : Gives {A = ℕ} (Ok 5) (Ok 5)
+  pub nothing_else : Gives {A = ℕ} (Ok 5) (Ok 6) → ⊥
+  pub nothing_for_a_fault : Gives {A = ℕ} (Ok 5) (Err Syntax) → ⊥
+  pub the_fault : Gives {A = ℕ} (Err (Said Syntax)) (Err Syntax)
+  pub no_other_fault : Gives {A = ℕ} (Err (Said Syntax)) (Err Arity) → ⊥
+  pub no_fault_for_what_is_read : Gives {A = ℕ} (Err (Said Syntax)) (Ok 5) → ⊥
+  pub no_memory : Gives {A = ℕ} (Err Memory) (Ok 5)

@@ -1,6 +1,6 @@
 //! Examples of what words say, proved of the definition that `read_command` follows.
 ghost use Rattle.xs_command.specs.Examples.{StreamExamples, GroupExamples};
-ghost use Rattle.xs_command.specs.ExamplesWords.{Integers, AddIds, Counts};
+ghost use Rattle.xs_command.specs.ExamplesWords.{Integers, AddIds, Counts, Given};
 ghost use Rattle.xs_command.specs.ExamplesStreams.{Additions, Removals, Scans};
 ghost use Rattle.xs_command.specs.ExamplesGroups as groups;
 ghost use Rattle.xs_command.specs.ExamplesFormed.{Formed};
@@ -28,6 +28,11 @@ pub fn add_ids()
 /// How many words a command has.
 pub fn counts()
     ensures { Counts }
+{}
+
+/// What a call that reads may answer.
+pub fn given()
+    ensures { Given }
 {}
 
 /// XADD.
