@@ -1,7 +1,8 @@
 #!/usr/bin/env python3
 """Lists the definitions that can be turned with no example broken.
 
-    slips.py [--only WORD] [--file WORD] [--from N] [--most N] [--step N] [--folder FOLDER] [--list] CRATE
+    slips.py [--only WORD] [--file WORD] [--from N] [--most N] [--step N] [--together N] [--folder FOLDER] CRATE
+    slips.py --list .. CRATE
     slips.py --by-hand [--only WORD] [--folder FOLDER] CRATE      both need the toolchain
 
 A slip that is made alike in a definition and in the code that is proved against it passes every proof. What guards
@@ -10,8 +11,9 @@ definition of crates/CRATE/specs at a time: a number by one, `<` for `<=`, `and`
 the other, an order, the first of a list for the whole, a result for its neighbour's, a letter of a text. Then it
 checks the examples of the crate alone (`rt check --only examples`), some seconds for each turn. A turn that no example
 refuses is shown; one that isn't well typed, or that a proof within specs/ refuses, isn't counted. The last line is
-'N refused, M passed, K not read'. It may run for hours, and belongs to no gate. With --by-hand it tries the slips of
-slips.txt instead, which are made by hand.
+'N refused, M passed, K not read'. With --together it tries so many turns in one check, which takes a third of the time:
+each turned file, with the files and the examples above it, stands beside the others under names of its own. It may run
+for hours, and belongs to no gate. With --by-hand it tries the slips of slips.txt instead, which are made by hand.
 """
 import argparse
 import os
@@ -46,9 +48,17 @@ SIBLINGS = [
 ]
 # where a word comes from that a turn brings in
 HOMES = {
-    "Prelude": ["nat_le", "nat_lt", "true", "false", "take", "drop", "[]", "◌&&◌", "◌||◌", "◌∷◌", "◌==◌", "◌+◌", "◌-◌",
-                "◌++◌", "bytes_eq", "length", "filter", "Some", "None", "if◌then◌else◌"],
-    "List": ["list_any", "list_all"],
+    "Rattle.std.specs.Prelude": [
+        "nat_le", "nat_lt", "true", "false", "take", "drop", "[]", "◌&&◌", "◌||◌", "◌∷◌", "◌==◌", "◌+◌", "◌-◌", "◌++◌",
+        "bytes_eq", "length", "filter", "Some", "None", "if◌then◌else◌"],
+    "Rattle.std.specs.List": ["list_any", "list_all"],
+    "Rattle.xs_resp.specs.declared.fault.Fault.TheVariants": [
+        "Syntax", "Arity", "BadId", "NotInteger", "ZeroId", "Unsupported", "UnknownCommand", "SmallId", "NoKey",
+        "NoGroup", "Busy"],
+    "Rattle.xs_resp.specs.declared.read_fault.Wrong.TheVariants": ["Length", "Shape", "Limit"],
+    "Rattle.xs_resp.specs.declared.reply.Simple.TheVariants": ["Okay", "Pong"],
+    "Rattle.xs_resp.specs.declared.reply.Reply.TheVariants": ["NullBulk", "NullArray"],
+    "Rattle.xs_stream.specs.Id": ["zero_id", "greatest_id"],
 }
 BEGINS = re.compile(r"^(?:abbrev|unfoldable) pub (\S+) *:", re.M)
 STOPS = [" then ", " else ", " in ", ";", " ≡ ", " ↦ ", "\n  pub ", " ++ "]
@@ -184,8 +194,10 @@ def with_words(text):
     for home, words in HOMES.items():
         for word in words:
             plain = word.strip("◌").split("◌")[0]
-            if re.search(rf"(?<![\w.]){re.escape(plain)}(?!\w)", text[len(head):]) and not re.search(rf"[{{, ]{re.escape(word)}[,}}]", head):
-                missing.append(f"use Rattle.std.specs.{home}.{{{word}}}\n")
+            is_used = re.search(rf"(?<![\w.]){re.escape(plain)}(?!\w)", text[len(head):])
+            is_there = re.search(rf"[{{, ]{re.escape(word)}[,}}]", head) or f" pub {word} " in text
+            if is_used and not is_there:
+                missing.append(f"use {home}.{{{word}}}\n")
     first = text.find("use ")
     return text[:first] + "".join(missing) + text[first:]
 
@@ -230,23 +242,123 @@ def by_hand(asked):
             yield file, Turn(name, "by hand", with_words(text))
 
 
-def judge(folder, path, turned):
+def checked(folder):
+    """What a check of the examples says."""
+    told = subprocess.run(["rt", "check", "--only", "examples"], cwd=folder, capture_output=True, text=True)
+    return told.stdout + told.stderr
+
+
+def judge(folder, file, turn):
     """'refused', 'passed', or 'not read'."""
-    with open(path, encoding="utf-8") as source:
-        before = source.read()
+    path = os.path.join(folder, "specs", file)
+    before = text_of(path)
     try:
-        with open(path, "w", encoding="utf-8") as out:
-            out.write(turned)
-        words = ["rt", "check", "--only", "examples"]
-        told = subprocess.run(words, cwd=folder, capture_output=True, text=True)
+        write(path, turn.text)
+        said = checked(folder)
     finally:
-        with open(path, "w", encoding="utf-8") as out:
-            out.write(before)
-    said = told.stdout + told.stderr
+        write(path, before)
     counts = re.search(r"^only=(\d+) proved=(\d+)", said, re.M)
     if not counts or re.search(r"^\./specs/\S+: error", said, re.M):
         return "not read"
     return "passed" if counts.group(1) == counts.group(2) else "refused"
+
+
+def text_of(path):
+    with open(path, encoding="utf-8") as source:
+        return source.read()
+
+
+def write(path, text):
+    os.makedirs(os.path.dirname(path), exist_ok=True)
+    with open(path, "w", encoding="utf-8") as out:
+        out.write(text)
+
+
+class Examples:
+    """The files of a crate's specs, the examples that stand on each, and how they are written under names of a turn."""
+
+    def __init__(self, crate):
+        self.crate, self.name = crate, os.path.basename(crate)
+        folder = os.path.join(crate, "specs")
+        files = [file for file in os.listdir(folder) if file != "Lib.antt"]
+        self.specs = {file[:-5]: text_of(os.path.join(folder, file)) for file in files}
+        text = text_of(os.path.join(crate, "src", "examples.rt"))
+        self.head = text[:text.index("///")]
+        homes = {}
+        for home, words, other in re.findall(r"^ghost use \S+\.specs\.(\w+)(?:\.\{(.*)\}| as (\w+));", self.head, re.M):
+            homes.update({word.strip(): home for word in (words or other).split(",")})
+        functions = re.findall(r"((?:^///.*\n)+^pub fn (\w+)\(\)\n    ensures \{ (\w+)\S* \}\n\{\}\n)", text, re.M)
+        self.functions = {name: (body, homes[said]) for body, name, said in functions}
+
+    def above(self, file):
+        """The file, and those that use it or one of these."""
+        got, more = set(), {file}
+        while more:
+            got |= more
+            more = {name for name, text in self.specs.items() if got & set(self.used(text))} - got
+        return got
+
+    def used(self, text):
+        return re.findall(rf"Rattle\.{self.name}\.specs\.(\w+)", text)
+
+    def renamed(self, text, files, turn):
+        """The text with the names that these files have for a turn, a number."""
+        own = lambda found: found.group(1) + found.group(2) + (f"v{turn}" if found.group(2) in files else "")
+        text = re.sub(rf"(Rattle\.{self.name}\.specs\.)(\w+)", own, text)
+        return text.replace(f"{self.name}.proofs.examples.", f"{self.name}.proofs.examples.v{turn}.")
+
+    def put(self, turn, file, turned):
+        """Writes the turned file and all above it, and says which examples these are."""
+        files = self.above(file)
+        for name in files:
+            text = turned if name == file else self.specs[name]
+            write(os.path.join(self.crate, "specs", f"{name}v{turn}.antt"), self.renamed(text, files, turn))
+        names = [name for name, (body, home) in self.functions.items() if home in files]
+        body = self.head + "\n".join(self.functions[name][0] for name in names)
+        write(os.path.join(self.crate, "src", "examples", f"v{turn}.rt"), self.renamed(body, files, turn))
+        for name in names:
+            self.put_proofs(turn, files, name)
+        return sorted(f"{name}v{turn}" for name in files), set(names)
+
+    def put_proofs(self, turn, files, name):
+        """Writes the proofs of an example."""
+        proofs = os.path.join(self.crate, "proofs", "examples")
+        folder = os.path.join(proofs, name)
+        for file in os.listdir(folder) if os.path.isdir(folder) else []:
+            text = self.renamed(text_of(os.path.join(folder, file)), files, turn)
+            write(os.path.join(proofs, f"v{turn}", name, file), text)
+
+
+def judge_together(examples, found):
+    """The verdict of each of these turns, from one check."""
+    crate = examples.crate
+    kept = tempfile.mkdtemp(prefix="kept")
+    parts = ["specs", "src", "proofs"]
+    for part in parts:
+        shutil.copytree(os.path.join(crate, part), os.path.join(kept, part))
+    try:
+        lib, root = os.path.join(crate, "specs", "Lib.antt"), os.path.join(crate, "src", "examples.rt")
+        names = []
+        for turn, (file, turned) in enumerate(found):
+            files, wanted = examples.put(turn, file[:-5], turned.text)
+            write(lib, text_of(lib) + "".join(f"pub mod {name}\n" for name in files))
+            write(root, text_of(root) + f"\npub mod v{turn};\n")
+            names.append(wanted)
+        said = checked(crate)
+    finally:
+        for part in parts:
+            shutil.rmtree(os.path.join(crate, part))
+            shutil.move(os.path.join(kept, part), os.path.join(crate, part))
+        os.rmdir(kept)
+    return [verdict_of(said, turn, wanted) for turn, wanted in enumerate(names)]
+
+
+def verdict_of(said, turn, wanted):
+    """The verdict of a turn, where these examples were to be proved of it."""
+    proved = set(re.findall(rf"^fn \w+::examples::v{turn}::(\w+): proved", said, re.M))
+    if not re.search(r"^only=", said, re.M) or re.search(rf"^\./specs/\w+v{turn}\.antt\S*: error", said, re.M):
+        return "not read"
+    return "passed" if proved == wanted else "refused"
 
 
 def copied(folder):
@@ -258,6 +370,15 @@ def copied(folder):
     shutil.copytree(os.path.join(TOP, "crates"), os.path.join(folder, "crates"))
     subprocess.run(["git", "init", "-q"], cwd=folder, check=True)
     return folder
+
+
+def judged(crate, found, asked):
+    """The verdict of each."""
+    if asked.list:
+        return ["passed" for turn in found]
+    if asked.together > 1:
+        return judge_together(Examples(crate), found)
+    return [judge(crate, file, turn) for file, turn in found]
 
 
 def slips(crate, asked):
@@ -275,6 +396,7 @@ def main():
     parser.add_argument("--from", type=int, default=0, dest="first", help="how many turns to pass over")
     parser.add_argument("--most", type=int, default=10**9, help="how many turns")
     parser.add_argument("--step", type=int, default=1, help="one turn of so many")
+    parser.add_argument("--together", type=int, default=1, help="so many turns in one check")
     parser.add_argument("--folder", help="a copy of the repository to work in")
     parser.add_argument("--by-hand", action="store_true", help="the slips of slips.txt")
     parser.add_argument("--list", action="store_true", help="shows the turns and tries none")
@@ -283,12 +405,14 @@ def main():
     counts = {"refused": 0, "passed": 0, "not read": 0}
     folder = TOP if asked.list else copied(asked.folder)
     crate = os.path.join(folder, "crates", asked.crate)
-    found = by_hand(asked) if asked.by_hand else slips(crate, asked)
-    for file, turn in list(found)[asked.first:asked.first + asked.most:asked.step]:
-        verdict = "passed" if asked.list else judge(crate, os.path.join(crate, "specs", file), turn.text)
-        counts[verdict] += 1
-        if verdict == "passed" or asked.by_hand and verdict != "refused":
-            print(verdict + ":" if asked.by_hand else "", f"{file} {turn.name}: {turn.shown}", flush=True)
+    found = list(by_hand(asked) if asked.by_hand else slips(crate, asked))
+    found = found[asked.first:asked.first + asked.most:asked.step]
+    for place in range(0, len(found), asked.together):
+        part = found[place:place + asked.together]
+        for (file, turn), verdict in zip(part, judged(crate, part, asked)):
+            counts[verdict] += 1
+            if verdict == "passed" or asked.by_hand and verdict != "refused":
+                print(verdict + ":" if asked.by_hand else "", f"{file} {turn.name}: {turn.shown}", flush=True)
     print(f"{counts['refused']} refused, {counts['passed']} passed, {counts['not read']} not read")
     return 0
 
