@@ -16,6 +16,7 @@ each turned file, with the files and the examples above it, stands beside the ot
 for hours, and belongs to no gate. With --by-hand it tries the slips of slips.txt instead, which are made by hand.
 """
 import argparse
+import contextlib
 import os
 import re
 import shutil
@@ -25,6 +26,8 @@ import tempfile
 
 HERE = os.path.dirname(os.path.abspath(__file__))
 TOP = os.path.dirname(HERE)
+sys.path.append(os.path.join(TOP, "bench"))
+import laid_down  # noqa: E402
 
 # words that may stand for one another, each turned into the next one
 SIBLINGS = [
@@ -361,15 +364,15 @@ def verdict_of(said, turn, wanted):
     return "passed" if proved == wanted else "refused"
 
 
+@contextlib.contextmanager
 def copied(folder):
-    """The folder, or a copy of the repository in a new one."""
+    """The folder, or a copy of the repository for a while."""
     if folder:
-        return folder
-    folder = tempfile.mkdtemp(prefix="slips")
-    shutil.copy(os.path.join(TOP, "crates.txt"), folder)
-    shutil.copytree(os.path.join(TOP, "crates"), os.path.join(folder, "crates"))
-    subprocess.run(["git", "init", "-q"], cwd=folder, check=True)
-    return folder
+        yield folder
+        return
+    with laid_down.new_folder() as folder:
+        laid_down.lay_down(folder, os.listdir(os.path.join(TOP, "crates")))
+        yield folder
 
 
 def judged(crate, found, asked):
@@ -389,6 +392,21 @@ def slips(crate, asked):
                 yield from ((file, turn) for turn in turns(source.read(), asked.only))
 
 
+def tell(folder, asked):
+    """Tries the slips that are asked for in this copy, and tells what passed."""
+    counts = {"refused": 0, "passed": 0, "not read": 0}
+    crate = os.path.join(folder, "crates", asked.crate)
+    found = list(by_hand(asked) if asked.by_hand else slips(crate, asked))
+    found = found[asked.first:asked.first + asked.most:asked.step]
+    for place in range(0, len(found), asked.together):
+        part = found[place:place + asked.together]
+        for (file, turn), verdict in zip(part, judged(crate, part, asked)):
+            counts[verdict] += 1
+            if verdict == "passed" or asked.by_hand and verdict != "refused":
+                print(verdict + ":" if asked.by_hand else "", f"{file} {turn.name}: {turn.shown}", flush=True)
+    print(f"{counts['refused']} refused, {counts['passed']} passed, {counts['not read']} not read")
+
+
 def main():
     parser = argparse.ArgumentParser(description=__doc__, formatter_class=argparse.RawDescriptionHelpFormatter)
     parser.add_argument("--only", default="", help="the definitions whose names have this word")
@@ -402,18 +420,11 @@ def main():
     parser.add_argument("--list", action="store_true", help="shows the turns and tries none")
     parser.add_argument("crate")
     asked = parser.parse_args()
-    counts = {"refused": 0, "passed": 0, "not read": 0}
-    folder = TOP if asked.list else copied(asked.folder)
-    crate = os.path.join(folder, "crates", asked.crate)
-    found = list(by_hand(asked) if asked.by_hand else slips(crate, asked))
-    found = found[asked.first:asked.first + asked.most:asked.step]
-    for place in range(0, len(found), asked.together):
-        part = found[place:place + asked.together]
-        for (file, turn), verdict in zip(part, judged(crate, part, asked)):
-            counts[verdict] += 1
-            if verdict == "passed" or asked.by_hand and verdict != "refused":
-                print(verdict + ":" if asked.by_hand else "", f"{file} {turn.name}: {turn.shown}", flush=True)
-    print(f"{counts['refused']} refused, {counts['passed']} passed, {counts['not read']} not read")
+    if asked.list:
+        tell(TOP, asked)
+    else:
+        with copied(asked.folder) as folder:
+            tell(folder, asked)
     return 0
 
 
