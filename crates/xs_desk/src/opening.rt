@@ -8,7 +8,7 @@ use crate::answer::{Answer, Formed};
 use crate::client::Client;
 use crate::keeper::Keeper;
 use crate::seat::Seat;
-use crate::waiting::{LAST_LOOK_OF_KEEPER, Sleeper, last_look_of_lane};
+use crate::waiting::{LAST_LOOK_OF_KEEPER, LAST_LOOK_OF_LANE, Sleeper};
 use rtrb::RingBuffer;
 use std::alloc::{AllocError, Global};
 use std::sync::Arc;
@@ -42,7 +42,6 @@ fn open_lane(
     alloc: Global,
     lane: usize,
     depth: usize,
-    last_look: u32,
     keeper: &Sleeper,
     gone: &Arc<AtomicBool>,
 ) -> Result<(Seat, Client), AllocError>
@@ -50,7 +49,7 @@ fn open_lane(
 {
     let (to_keeper, calls) = RingBuffer::<Command>::with_protocol::<Global, Formed>(alloc, depth)?;
     let (answers, from_keeper) = RingBuffer::<Answer>::new(alloc, depth)?;
-    let sleeper = Sleeper::new(alloc, last_look)?;
+    let sleeper = Sleeper::new(alloc, LAST_LOOK_OF_LANE)?;
     let bell = sleeper.bell()?;
     let seat = Seat {
         calls,
@@ -76,9 +75,8 @@ fn open_lanes(
 {
     let mut seats = Vec::with_capacity(alloc, count)?;
     let mut clients = Vec::with_capacity(alloc, count)?;
-    let last_look = last_look_of_lane(count);
     for lane in 0..count {
-        let (seat, client) = open_lane(alloc, lane, depth, last_look, keeper, gone)?;
+        let (seat, client) = open_lane(alloc, lane, depth, keeper, gone)?;
         seats.push(seat)?;
         clients.push(client)?;
     }

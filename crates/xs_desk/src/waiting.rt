@@ -27,20 +27,11 @@ const YIELDS_OF_LANE: u32 = 10;
 /// The same of the keeper: its next call comes from a client, who may be behind a socket.
 const YIELDS_OF_KEEPER: u32 = 100;
 
-/// From so many lanes on a yield hands over to another lane more often than to the keeper, and no lane makes one.
-const MANY: usize = 32;
+/// The look after which a lane parks, where it finds nothing.
+pub(crate) const LAST_LOOK_OF_LANE: u32 = SPINS + YIELDS_OF_LANE + 1;
 
 /// The look after which the keeper parks, where it finds nothing.
 pub(crate) const LAST_LOOK_OF_KEEPER: u32 = SPINS + YIELDS_OF_KEEPER + 1;
-
-/// The look after which one of so many lanes parks, where it finds nothing.
-pub(crate) fn last_look_of_lane(lanes: usize) -> u32 {
-    if lanes < MANY {
-        SPINS + YIELDS_OF_LANE + 1
-    } else {
-        SPINS + 1
-    }
-}
 
 /// One side's own waiting.
 #[derive(Drop)]
