@@ -82,6 +82,23 @@ def endings(server):
             assert read_to_end(stream)[0] == reply, sent
 
 
+def in_two_parts(server):
+    """Whole connections have the same replies wherever they are cut into two parts."""
+    pings = b"*1\r\n$4\r\nPING\r\n*0\r\n*-1\r\n*2\r\n$4\r\nping\r\n$2\r\nhi\r\n"
+    for sent, replies in ((pings, b"+PONG\r\n$2\r\nhi\r\n"), (b"*1\r\n$4\r\nPI", b""), (b"PING\r\n", PROTOCOL),
+                          (b"*1\r\n$03\r\n", PROTOCOL), (b"*1048577\r\n", PROTOCOL),
+                          (b"*1\r\n$4\r\nQUIT\r\n*1\r\n$4\r\nPING\r\n", b"+OK\r\n")):
+        for count in range(len(sent) + 1):
+            with raw(server.port) as stream:
+                stream.sendall(sent[:count])
+                time.sleep(0.001)
+                # the connection may have ended within the first part
+                with contextlib.suppress(OSError):
+                    stream.sendall(sent[count:])
+                    stream.shutdown(socket.SHUT_WR)
+                assert read_to_end(stream)[0] == replies, (sent, count)
+
+
 def fill(server, key, count, size):
     """Adds entries whose values have this size, and gives the reply that lists them all."""
     with raw(server.port) as stream:
@@ -555,8 +572,8 @@ def main(arguments):
         return 2
     program, results = arguments[0], []
     with serving(program, workers=WORKERS) as server:
-        for case in (cut_everywhere, at_once, endings, never_reads, byte_by_byte, slow_reader_of_much, random_bytes,
-                     random_value, almost_requests, great_promises, most_words, vanished,
+        for case in (cut_everywhere, in_two_parts, at_once, endings, never_reads, byte_by_byte, slow_reader_of_much,
+                     random_bytes, random_value, almost_requests, great_promises, most_words, vanished,
                      killed_in_reply, with_pauses, greedy):
             results.append(tried(case, server))
     for case in (as_many_as_workers, more_than_workers, taken, options, ends, too_little_to_start,

@@ -4,12 +4,13 @@ ghost use Rattle.std.specs.Prelude.{None};
 use super::*;
 use crate::connections::connection::send;
 use crate::connections::ending::{Ending, ServeFault};
+use crate::connections::serve::serve;
 use crate::connections::serve_alone::serve_alone;
 use crate::devices::device::ToWrite;
 use std::cell::Cell;
 use std::sync::Wait;
 use xs_bytes::Bytes;
-use xs_desk::Alone;
+use xs_desk::{Alone, Lane, desk};
 use xs_keys::{Clock, Keyspace};
 use xs_resp::Reply;
 use xs_stream::Moment;
@@ -264,5 +265,20 @@ fn gives_a_great_buffer_back(rt: HostRuntime) -> Result<(), Fail> {
     assert_eq!(rt; send(&mut writer, &mut out, &reply), Ok(()));
     assert_eq!(rt; writer.into_inner().len(), 1_000_012);
     assert!(rt; out.capacity() <= 65_536);
+    Ok(())
+}
+
+// A request that a keeper can't serve any more has no reply.
+#[test]
+fn ends_where_the_keeper_is_gone(rt: HostRuntime) -> Result<(), Fail> {
+    let alloc = rt.alloc();
+    let (keeper, mut clients) = desk(alloc, 1, 1)?;
+    drop(keeper);
+    let mut lane = Lane::new(clients.pop().ok_or("a client")?);
+    let mut reader = Dribble::new(PINGS.as_bytes(), 0);
+    let mut writer = Held::new(alloc, 0);
+    let served = serve(&rt, alloc, &mut reader, &mut writer, &mut lane);
+    assert_eq!(rt; served, Err(ServeFault::Port { replies: 0 }));
+    assert!(rt; writer.bytes.is_empty());
     Ok(())
 }
