@@ -16,7 +16,7 @@ serve:
 # Proves everything from nothing, tries the edits that have to fail, and runs the tests, the worked cases, and sessions
 # made at random.
 test:
-	RT_SECONDS=240 rt ci
+	rt ci
 	cd crates/xs_server && rt run -- script < stdin > /dev/null
 	python3 conformance/run.py $(PROGRAM) script
 	python3 conformance/great.py $(PROGRAM)
