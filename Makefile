@@ -13,23 +13,26 @@ serve:
 	@cd crates/xs_server && rt run -- script < stdin > /dev/null
 	@$(PROGRAM) serve --port 6379 --workers 16 --each 1000000
 
-# Proves everything from nothing, tries the edits that have to fail, and runs the tests, the worked cases, and sessions
-# made at random.
+# Proves everything from nothing, and runs the tests and the program that it built: the worked cases, the great scripts.
+# Then it tries the edits that have to fail, and sessions made at random, over what is proved once more and kept.
 test:
 	rt ci
-	cd crates/xs_server && rt run -- script < stdin > /dev/null
 	python3 conformance/run.py $(PROGRAM) script
 	python3 conformance/great.py $(PROGRAM)
+	rt all check
+	python3 edits/try.py
 	python3 conformance/sessions.py --bytes 5000000
 
-# Proves what has changed, and runs the worked cases: what one runs while working.
+# Proves what has changed, looks whether each edit has its place, and runs the worked cases: what one runs while working.
 check:
 	rt all check
+	python3 edits/try.py --places
 	cd crates/xs_server && rt run -- script < stdin > /dev/null
 	python3 conformance/run.py $(PROGRAM) script
 
-# Tries the wrong bodies that the gate leaves out, hours of them.
+# Tries the wrong bodies of all crates: the prover has to refuse each.
 edits:
+	rt all check
 	python3 edits/try.py
 
 # Runs the tests that say so, and the worked cases, with each allocation refused in turn. Needs cc.

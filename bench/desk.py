@@ -1,15 +1,16 @@
 #!/usr/bin/env python3
 """Measures round trips between the lanes of a desk and its keeper, beside plain Rust.
 
-    desk.py [--runs N] [--lanes N,N,..] [--calls N] [--busy N] [--spins N ..]    needs the toolchain and rustc
+    desk.py [--runs N] [--lanes N,N,..] [--calls N] [--each N] [--busy N] [--spins N ..]    needs the toolchain and rustc
     desk.py --idle      how much processor time a keeper takes that nobody asks
 
-Each lane has a thread, and asks as soon as it has its reply; all lanes together ask so many calls. Beside them threads
-of plain Rust ask for the same over channels of std::sync::mpsc, one for all calls and one for the answers of each, or
-under one Mutex (bench/desk/beside.rs). All are run in turn. The table tells calls a second, processor time for a call,
-of the whole process up to the last reply, and how long a call waited: in the middle, at 99 % and at worst. Each is the
-middle one of the runs, with the least and the greatest; at worst it is the greatest of all. With --busy so many other
-processes only count meanwhile. --spins tries other numbers in place of the one of waiting.rt.
+Each lane has a thread, and asks as soon as it has its reply: all lanes together so many calls, but each at least so
+many, 20,000 by itself, since a lane parks without a yield in its first thousand (pace.rt). Beside them threads of plain
+Rust ask for the same over channels of std::sync::mpsc, one for all calls and one for the answers of each, or under one
+Mutex (bench/desk/beside.rs). All are run in turn, with each number of lanes. The table tells calls a second, processor
+time for a call, of the whole process up to the last reply, and how long a call waited: in the middle, at 99 % and at
+worst. Each is the middle one of the runs, with the least and the greatest; at worst it is the greatest of all. With
+--busy so many other processes only count meanwhile. --spins tries other numbers in place of the one of waiting.rt.
 """
 import argparse
 import os
@@ -86,13 +87,14 @@ def row(name, lanes, taken):
           f"| {spread(most, '.1f')} | {max(worst):,.0f} |", flush=True)
 
 
-def measure(sides, lanes, asked):
-    each = asked.calls // lanes
-    taken = {name: [] for name in sides}
+def measure(sides, numbers, asked):
+    """All sides with each of these numbers of lanes, in turn, so often as runs are asked for."""
+    taken = {(name, lanes): [] for lanes in numbers for name in sides}
     for _ in range(asked.runs):
-        for name, words in sides.items():
-            taken[name].append(run([*words, str(lanes), str(each)], each * lanes))
-    for name, values in taken.items():
+        for name, lanes in taken:
+            each = max(asked.calls // lanes, asked.each)
+            taken[name, lanes].append(run([*sides[name], str(lanes), str(each)], each * lanes))
+    for (name, lanes), values in taken.items():
         row(name, lanes, values)
 
 
@@ -111,6 +113,7 @@ def main():
     parser.add_argument("--runs", type=int, default=8)
     parser.add_argument("--lanes", default="1,2,4,8,16,64")
     parser.add_argument("--calls", type=int, default=200_000)
+    parser.add_argument("--each", type=int, default=20_000)
     parser.add_argument("--busy", type=int, default=0)
     parser.add_argument("--spins", nargs="+", type=int, default=[None])
     parser.add_argument("--idle", action="store_true")
@@ -126,8 +129,7 @@ def main():
         print("| Who asks for what | Lanes | Calls a second | Processor time for a call, in µs "
               "| Waits in the middle, in µs | at 99 % | at worst |\n|---|---|---|---|---|---|---|", flush=True)
         with busy(asked.busy):
-            for lanes in map(int, asked.lanes.split(",")):
-                measure(sides, lanes, asked)
+            measure(sides, [int(lanes) for lanes in asked.lanes.split(",")], asked)
 
 
 if __name__ == "__main__":

@@ -1,15 +1,21 @@
 #!/usr/bin/env python3
-"""Tries the wrong bodies of this folder: each must be refused by the prover.
+"""Tries the wrong bodies of this folder: the prover has to refuse each.
 
-    try.py [--only WORD] [CRATE..]      needs the toolchain
+    try.py [--only WORD] [CRATE..]      needs the toolchain, and what `rt all check` keeps in out/
+    try.py --places                     looks only whether each edit still has its place in the sources
 
-edits/CRATE/NAME.edit turns one thing of one body of crates/CRATE, as the files of its must-fail/ do, which `rt ci`
-tries. Those here show no clause that none of the others shows; an edit takes half a minute or more, so they belong to
-no gate. In a copy of the repository they stand in the place of the others, and `rt must-fail` tries them. The last line
-is 'N tried, all refused', or says that not all were.
+edits/CRATE/NAME.edit turns one thing of one body of crates/CRATE: below a line `file: PATH`, the text of a line
+`old: TEXT`, which stands in that file once, becomes that of the line `new: TEXT` behind it. In a copy of the crate as
+many edits as may be stand at once, no two of them in one function, and `rt check --only` proves the functions that they
+change. An edit is refused where its function isn't proved. Where that is only since the function calls another one
+that isn't, the edit is tried again with the next ones. So edits share what a check has to load, which takes longer than
+the proof of a function. The last line is 'N refused, M failed'; the status is 1 where M > 0.
 """
 import argparse
+import collections
+import concurrent.futures
 import os
+import re
 import shutil
 import subprocess
 import sys
@@ -19,38 +25,191 @@ TOP = os.path.dirname(HERE)
 sys.path.append(os.path.join(TOP, "bench"))
 import laid_down  # noqa: E402
 
+MEMORY_OF_A_CHECK = 4 * 2**30
 
-def edits_of(crate, only):
+Change = collections.namedtuple("Change", "file old new")
+Edit = collections.namedtuple("Edit", "name changes")
+Tried = collections.namedtuple("Tried", "edit is_refused why")
+
+
+class Misplaced(Exception):
+    """The text that an edit changes doesn't stand in its file just once."""
+
+
+def crates_in(folder):
+    return sorted(name for name in os.listdir(folder) if os.path.isdir(os.path.join(folder, name)))
+
+
+def edits_of(crate, word=""):
+    """The edits of a crate that have this word in their names."""
     folder = os.path.join(HERE, crate)
-    return [os.path.join(folder, name) for name in sorted(os.listdir(folder)) if name.endswith(".edit") and only in name]
+    names = sorted(name for name in os.listdir(folder) if name.endswith(".edit") and word in name)
+    return [Edit(name[:-5], list(changes_in(os.path.join(folder, name)))) for name in names]
 
 
-def lay_down(folder, chosen):
-    """A copy of the repository in which the edits of each crate are the chosen ones."""
-    shutil.copy2(os.path.join(TOP, "HANDLES"), folder)
-    crates = os.listdir(os.path.join(TOP, "crates"))
-    laid_down.lay_down(folder, crates)
-    for crate in crates:
-        place = os.path.join(folder, "crates", crate, "must-fail")
-        shutil.rmtree(place, ignore_errors=True)
-        os.mkdir(place)
-        for edit in chosen.get(crate, []):
-            shutil.copy2(edit, place)
+def changes_in(path):
+    file = old = None
+    for line in text_of(path).splitlines():
+        key, _, text = line.partition(":")
+        text = text.removeprefix(" ")
+        if key == "file":
+            file = text
+        elif key == "old":
+            old = text
+        elif key == "new":
+            yield Change(file, old, text)
+
+
+def text_of(path):
+    with open(path, encoding="utf-8") as source:
+        return source.read()
+
+
+def applied(edit, crate, texts):
+    """The texts of the files that are changed, with these changes too."""
+    texts = dict(texts)
+    for file, old, new in edit.changes:
+        text = texts.get(file) or text_of(os.path.join(TOP, "crates", crate, file))
+        if text.count(old) != 1:
+            raise Misplaced(f"{file} has it {text.count(old)} times: {old}")
+        texts[file] = text.replace(old, new)
+    return texts
+
+
+def functions_of(edit, crate, known):
+    """The functions that an edit changes, by their paths; none where it changes what isn't of one function."""
+    found = set()
+    for file, old, _ in edit.changes:
+        before, stands, _ = text_of(os.path.join(TOP, "crates", crate, file)).partition(old)
+        heads = re.findall(r"^ *(?:pub(?:\(\w+\))? )?(?:const )?fn (\w+)|^(\S)", before + old, re.M)
+        module = [part for part in re.sub(r"^src/|\.rt$", "", file).split("/") if part not in ("lib", "main")]
+        within = "".join(f"{part}::" for part in [crate, *module])
+        names = [name for name, other in heads if name or other not in "(){}#/"]
+        if stands and names and names[-1]:
+            found |= {path for path in known if path.startswith(within) and path.split("::")[-1] == names[-1]}
+    return frozenset(found)
+
+
+class Copy:
+    """A copy of a crate in which edits stand for a while."""
+
+    def __init__(self, folder, crate):
+        shutil.copy2(os.path.join(TOP, "HANDLES"), folder)
+        laid_down.lay_down(folder, os.listdir(os.path.join(TOP, "crates")))
+        self.crate, self.folder = crate, os.path.join(folder, "crates", crate)
+
+    def check(self, functions, texts):
+        """What a check tells of each function, with these texts in the place of the crate's own, and how it ended."""
+        try:
+            self.write(texts)
+            asked = [word for path in sorted(functions) for word in ("--only", path.partition("::")[2])]
+            words = ["rt", "check", "--jobs", "1", *asked]
+            said = subprocess.run(words, cwd=self.folder, capture_output=True, text=True).stdout
+        finally:
+            self.write({file: text_of(os.path.join(TOP, "crates", self.crate, file)) for file in texts})
+        ends = re.search(r"^(only=|logic=proved|logic=not-proved)", said, re.M)
+        return dict(re.findall(r"^fn (\S+): (.*)", said, re.M)), ends and ends.group(1), said
+
+    def write(self, texts):
+        for file, text in texts.items():
+            with open(os.path.join(self.folder, file), "w", encoding="utf-8") as out:
+                out.write(text)
+
+
+def chosen(left, crate):
+    """Edits that may stand at once, and the texts with them; one that is of no function stands alone."""
+    batch, texts, taken = [], {}, set()
+    for edit, functions in left:
+        if (batch and not functions) or functions & taken:
+            continue
+        try:
+            texts = applied(edit, crate, texts)
+        except Misplaced:
+            continue
+        batch.append((edit, functions))
+        taken |= functions
+        if not functions:
+            break
+    return batch, texts, taken
+
+
+def judged(edit, functions, told):
+    """What a check tells of an edit, or nothing where a function that it calls stood in its way."""
+    why = {path: word for path, word in told.items() if path in functions or not functions}
+    unproved = {path: word for path, word in why.items() if word != "proved"}
+    if not unproved:
+        return Tried(edit, False, "its function is still proved")
+    own = {path: word for path, word in unproved.items() if "it calls" not in word}
+    if not own:
+        return None
+    path, word = next(iter(own.items()))
+    return Tried(edit, word.startswith(("no proof", "not proved")), f"{path}: {word}")
+
+
+def tried_together(copy, left):
+    """Tries as many of these edits as may stand at once."""
+    batch, texts, functions = chosen(left, copy.crate)
+    told, ends, said = copy.check(functions, texts)
+    if ends and (functions or ends == "logic=not-proved"):
+        return [tried for edit, of_edit in batch if (tried := judged(edit, of_edit, told))]
+    if len(batch) > 1:
+        return [tried for one in batch for tried in tried_together(copy, [one])]
+    error = next((line for line in said.splitlines() if "error" in line), "the check said nothing of it")
+    return [Tried(batch[0][0], False, f"not read: {error}")]
+
+
+def try_all(crate, edits):
+    """Tries each of these edits of a crate, and tells of it."""
+    with laid_down.new_folder() as folder:
+        copy = Copy(folder, crate)
+        known, ends, _ = copy.check((), {})
+        if ends != "logic=proved":
+            return [Tried(edit, False, f"{crate} isn't proved as it is") for edit in edits]
+        left = [(edit, functions_of(edit, crate, known)) for edit in edits]
+        done = []
+        while left:
+            tried = tried_together(copy, left)
+            for edit, is_refused, why in tried:
+                print(f"{crate}/{edit.name}: {'refused' if is_refused else 'NOT REFUSED'}: {why}", flush=True)
+            names = {it.edit.name for it in tried}
+            left = [it for it in left if it[0].name not in names]
+            done += tried or [Tried(edit, False, "was not tried") for edit, _ in left]
+            left = left if tried else []
+    return done
+
+
+def misplaced(crate, edits):
+    """The edits that have no place in the sources as they are, and why."""
+    for edit in edits:
+        try:
+            applied(edit, crate, {})
+        except Misplaced as why:
+            yield f"{crate}/{edit.name}: {why}"
+
+
+def lanes():
+    """How many checks may run at once."""
+    with open("/proc/meminfo", encoding="ascii") as lines:
+        free = 1024 * int(next(line for line in lines if line.startswith("MemAvailable")).split()[1])
+    return max(1, min(len(os.sched_getaffinity(0)), free // MEMORY_OF_A_CHECK))
 
 
 def main():
     parser = argparse.ArgumentParser(description=__doc__, formatter_class=argparse.RawDescriptionHelpFormatter)
     parser.add_argument("--only", default="", help="only the edits with this in their name")
+    parser.add_argument("--places", action="store_true", help="tries nothing")
     parser.add_argument("crates", nargs="*")
     asked = parser.parse_args()
-    there = sorted(name for name in os.listdir(HERE) if os.path.isdir(os.path.join(HERE, name)))
-    chosen = {crate: edits_of(crate, asked.only) for crate in asked.crates or there}
-    crates = [crate for crate, edits in chosen.items() if edits]
-    with laid_down.new_folder() as folder:
-        lay_down(folder, chosen)
-        done = subprocess.run(["rt", "must-fail", *crates], cwd=folder)
-    print(f"{sum(map(len, chosen.values()))} tried, {'all refused' if done.returncode == 0 else 'not all refused'}")
-    sys.exit(done.returncode)
+    edits = {crate: edits_of(crate, asked.only) for crate in asked.crates or crates_in(HERE)}
+    lost = [why for crate, found in edits.items() for why in misplaced(crate, found)]
+    if lost or asked.places:
+        print("\n".join([*lost, f"{sum(map(len, edits.values())) - len(lost)} in place, {len(lost)} failed"]))
+        sys.exit(bool(lost))
+    with concurrent.futures.ThreadPoolExecutor(lanes()) as pool:
+        done = [tried for found in pool.map(try_all, edits, edits.values()) for tried in found]
+    failed = sum(not it.is_refused for it in done)
+    print(f"{len(done) - failed} refused, {failed} failed")
+    sys.exit(failed > 0)
 
 
 if __name__ == "__main__":

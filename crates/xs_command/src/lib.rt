@@ -32,6 +32,3 @@ pub use command::{
 };
 pub use read::read_command;
 pub use refusal::Refusal;
-
-#[cfg(test)]
-mod tests;

@@ -227,4 +227,5 @@ fn reports_each_fault(rt: HostRuntime) -> Result<(), Fail> {
 
 mod gates;
 mod sessions;
+mod tcp;
 mod wrapped;

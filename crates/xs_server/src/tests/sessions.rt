@@ -17,7 +17,7 @@ use xs_stream::Moment;
 
 /// A clock that stands still.
 #[derive(Drop)]
-struct Still {
+pub struct Still {
     moment: Moment,
 }
 
@@ -30,7 +30,7 @@ impl Clock for Still {
 }
 
 /// An empty keyspace at moment 1000.
-fn new_alone(alloc: Global) -> Alone<Still> {
+pub fn new_alone(alloc: Global) -> Alone<Still> {
     Alone {
         keyspace: Keyspace::new(alloc),
         clock: Still {
@@ -122,11 +122,9 @@ const PINGS: &str = "*1\r\n$4\r\nPING\r\n*0\r\n*-1\r\n*2\r\n$4\r\nping\r\n$2\r\n
 
 const PONGS: &str = "+PONG\r\n$2\r\nhi\r\n";
 
-// Cut at every place into two.
-#[test]
-fn serves_whole_connections(rt: HostRuntime) -> Result<(), Fail> {
-    let alloc = rt.alloc();
-    for (input, output, ending) in [
+/// Whole connections: what is read, what is written, and how each ends.
+pub fn whole_connections() -> [(&'static str, &'static str, Ending); 12] {
+    [
         (PINGS, PONGS, Ending::Closed),
         ("", "", Ending::Closed),
         ("*1\r\n$03\r\n", "-ERR Protocol error\r\n", Ending::Protocol),
@@ -148,9 +146,31 @@ fn serves_whole_connections(rt: HostRuntime) -> Result<(), Fail> {
             "-ERR unknown command\r\n",
             Ending::Closed,
         ),
-    ] {
-        for cut in 0..input.len() + 1 {
-            let (first, others) = input.as_bytes().split_at(cut);
+        (
+            "*1\r\n$0\r\n\r\n*2\r\n$6\r\nXGROUP\r\n$0\r\n\r\n",
+            "-ERR unknown command\r\n-ERR unknown command\r\n",
+            Ending::Closed,
+        ),
+        (
+            "*7\r\n$4\r\nXADD\r\n$1\r\nk\r\n$6\r\nMAXLEN\r\n$0\r\n\r\n$3\r\n1-0\r\n$1\r\nf\r\n$1\r\nv\r\n",
+            "-ERR value is not an integer or out of range\r\n",
+            Ending::Closed,
+        ),
+        (
+            "*5\r\n$4\r\nXADD\r\n$0\r\n\r\n$3\r\n1-0\r\n$1\r\nf\r\n$0\r\n\r\n*2\r\n$4\r\nXLEN\r\n$0\r\n\r\n",
+            "$3\r\n1-0\r\n:1\r\n",
+            Ending::Closed,
+        ),
+    ]
+}
+
+// Cut at every place into two.
+#[test]
+fn serves_whole_connections(rt: HostRuntime) -> Result<(), Fail> {
+    let alloc = rt.alloc();
+    for (input, output, ending) in whole_connections() {
+        for cut in 0..input.len().saturating_add(1) {
+            let (first, others) = input.as_bytes().split_at(cut.min(input.len()));
             let written = Cell::new(0);
             let mut reader = InTwo::new(first, others, 0, &written);
             let mut writer = Held::new(alloc, 0);

@@ -11,7 +11,7 @@ use xs_desk::{Keeper, SameRings};
 use xs_keys::Clock;
 
 /// A keeper in its thread.
-pub type Kept = PromisedHandle<Keeper, SameRings>;
+pub type KeeperThread = PromisedHandle<Keeper, SameRings>;
 
 /// Serves turn after turn, until all workers have ended and nobody is left to serve, or there is no further place.
 fn keep<C: Clock + Drop, R: Wait>(rt: &R, keeper: Keeper, clock: C, signals: &Signals) -> Keeper
@@ -40,13 +40,13 @@ pub fn start_keeper<C: Clock + Send + Drop + 'static, R: Threads + Wait + Copy +
     keeper: Keeper,
     clock: C,
     signals: Arc<Signals>,
-) -> Option<Kept>
-    ensures { IfSome result (λ kept. kept.promise.0.value ≡ keeper) }
+) -> Option<KeeperThread>
+    ensures { IfSome result (λ thread. thread.promise.0.value ≡ keeper) }
 {
     let handle = *rt;
     let promise = SameRings(Snapshot::of(&keeper));
     match thread::spawn_with(rt, promise, move || keep(&handle, keeper, clock, &signals)) {
-        Ok(kept) => Some(kept),
+        Ok(thread) => Some(thread),
         Err(_) => None,
     }
 }
