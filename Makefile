@@ -30,10 +30,10 @@ check:
 	cd crates/xs_server && rt run -- script < stdin > /dev/null
 	python3 conformance/run.py $(PROGRAM) script
 
-# Tries the wrong bodies of all crates: the prover has to refuse each.
+# Tries all wrong bodies, those too that the gate leaves out: the prover has to refuse each.
 edits:
 	rt all check
-	python3 edits/try.py
+	python3 edits/try.py --further
 
 # Runs the tests that say so, and the worked cases, with each allocation refused in turn. Needs cc.
 refusals:

@@ -1,15 +1,16 @@
 #!/usr/bin/env python3
 """Tries the wrong bodies of this folder: the prover has to refuse each.
 
-    try.py [--only WORD] [CRATE..]      needs the toolchain, and what `rt all check` keeps in out/
-    try.py --places                     looks only whether each edit still has its place in the sources
+    try.py [--further] [--only WORD] [CRATE..]      needs the toolchain, and what `rt all check` keeps in out/
+    try.py --places         looks only whether each edit still has its place in the sources
 
 edits/CRATE/NAME.edit turns one thing of one body of crates/CRATE: below a line `file: PATH`, the text of a line
 `old: TEXT`, which stands in that file once, becomes that of the line `new: TEXT` behind it. In a copy of the crate as
 many edits as may be stand at once, no two of them in one function, and `rt check --only` proves the functions that they
-change. An edit is refused where its function isn't proved. Where that is only since the function calls another one
-that isn't, the edit is tried again with the next ones. So edits share what a check has to load, which takes longer than
-the proof of a function. The last line is 'N refused, M failed'; the status is 1 where M > 0.
+change. The gate tries those; --further tries those of edits/CRATE/further too, whose clause another one of the gate
+shows. An edit is refused where its function isn't proved. Where that is only since the function calls another one
+that isn't, the edit is tried again with the next ones. So edits share what a check has to load. The last line is
+'N refused, M failed'; the status is 1 where M > 0.
 """
 import argparse
 import collections
@@ -40,11 +41,12 @@ def crates_in(folder):
     return sorted(name for name in os.listdir(folder) if os.path.isdir(os.path.join(folder, name)))
 
 
-def edits_of(crate, word=""):
+def edits_of(crate, has_further, word):
     """The edits of a crate that have this word in their names."""
-    folder = os.path.join(HERE, crate)
-    names = sorted(name for name in os.listdir(folder) if name.endswith(".edit") and word in name)
-    return [Edit(name[:-5], list(changes_in(os.path.join(folder, name)))) for name in names]
+    folders = [os.path.join(HERE, crate), *([os.path.join(HERE, crate, "further")] if has_further else [])]
+    paths = [os.path.join(folder, name) for folder in folders for name in sorted(os.listdir(folder))]
+    edits = [Edit(os.path.basename(path)[:-5], list(changes_in(path))) for path in paths if path.endswith(".edit")]
+    return [edit for edit in edits if word in edit.name]
 
 
 def changes_in(path):
@@ -136,7 +138,7 @@ def chosen(left, crate):
 def judged(edit, functions, told):
     """What a check tells of an edit, or nothing where a function that it calls stood in its way."""
     why = {path: word for path, word in told.items() if path in functions or not functions}
-    unproved = {path: word for path, word in why.items() if word != "proved"}
+    unproved = {path: word for path, word in why.items() if not word.startswith("proved")}
     if not unproved:
         return Tried(edit, False, "its function is still proved")
     own = {path: word for path, word in unproved.items() if "it calls" not in word}
@@ -150,7 +152,7 @@ def tried_together(copy, left):
     """Tries as many of these edits as may stand at once."""
     batch, texts, functions = chosen(left, copy.crate)
     told, ends, said = copy.check(functions, texts)
-    if ends and (functions or ends == "logic=not-proved"):
+    if ends:
         return [tried for edit, of_edit in batch if (tried := judged(edit, of_edit, told))]
     if len(batch) > 1:
         return [tried for one in batch for tried in tried_together(copy, [one])]
@@ -196,11 +198,13 @@ def lanes():
 
 def main():
     parser = argparse.ArgumentParser(description=__doc__, formatter_class=argparse.RawDescriptionHelpFormatter)
+    parser.add_argument("--further", action="store_true", help="those too that the gate leaves out")
     parser.add_argument("--only", default="", help="only the edits with this in their name")
     parser.add_argument("--places", action="store_true", help="tries nothing")
     parser.add_argument("crates", nargs="*")
     asked = parser.parse_args()
-    edits = {crate: edits_of(crate, asked.only) for crate in asked.crates or crates_in(HERE)}
+    has_further = asked.further or asked.places or bool(asked.only)
+    edits = {crate: edits_of(crate, has_further, asked.only) for crate in asked.crates or crates_in(HERE)}
     lost = [why for crate, found in edits.items() for why in misplaced(crate, found)]
     if lost or asked.places:
         print("\n".join([*lost, f"{sum(map(len, edits.values())) - len(lost)} in place, {len(lost)} failed"]))
