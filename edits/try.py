@@ -5,12 +5,12 @@
     try.py --places         looks only whether each edit still has its place in the sources
 
 edits/CRATE/NAME.edit turns one thing of one body of crates/CRATE: below a line `file: PATH`, the text of a line
-`old: TEXT`, which stands in that file once, becomes that of the line `new: TEXT` behind it. In a copy of the crate as
-many edits as may be stand at once, no two of them in one function, and `rt check --only` proves the functions that they
-change. The gate tries those; --further tries those of edits/CRATE/further too, whose clause another one of the gate
-shows. An edit is refused where its function isn't proved. Where that is only since the function calls another one
-that isn't, the edit is tried again with the next ones. So edits share what a check has to load. The last line is
-'N refused, M failed'; the status is 1 where M > 0.
+`old: TEXT`, which stands in that file once, becomes that of the line `new: TEXT` behind it. Those of edits/CRATE/further
+have a clause that an edit of edits/CRATE shows; --further tries them too. In a copy of the crate as many edits as may be
+stand at once, no two of them in one function, and `rt check --only` proves the functions that they change. An edit is
+refused where its function isn't proved. Where that is only since the function calls another one that isn't, the edit is
+tried again with the next ones. So edits share what a check has to load. The last line is 'N refused, M failed'; the
+status is 1 where M > 0.
 """
 import argparse
 import collections
@@ -83,10 +83,10 @@ def functions_of(edit, crate, known):
     found = set()
     for file, old, _ in edit.changes:
         before, stands, _ = text_of(os.path.join(TOP, "crates", crate, file)).partition(old)
-        heads = re.findall(r"^ *(?:pub(?:\(\w+\))? )?(?:const )?fn (\w+)|^(\S)", before + old, re.M)
+        heads = re.findall(r"^ *(?:pub(?:\(\w+\))? )?(?:const )?fn (\w+)|^(?!where)(\S)", before + old, re.M)
         module = [part for part in re.sub(r"^src/|\.rt$", "", file).split("/") if part not in ("lib", "main")]
         within = "".join(f"{part}::" for part in [crate, *module])
-        names = [name for name, other in heads if name or other not in "(){}#/"]
+        names = [name for name, other in heads if name or other not in "(){}#/>"]
         if stands and names and names[-1]:
             found |= {path for path in known if path.startswith(within) and path.split("::")[-1] == names[-1]}
     return frozenset(found)
@@ -198,7 +198,7 @@ def lanes():
 
 def main():
     parser = argparse.ArgumentParser(description=__doc__, formatter_class=argparse.RawDescriptionHelpFormatter)
-    parser.add_argument("--further", action="store_true", help="those too that the gate leaves out")
+    parser.add_argument("--further", action="store_true", help="those of the folders further too")
     parser.add_argument("--only", default="", help="only the edits with this in their name")
     parser.add_argument("--places", action="store_true", help="tries nothing")
     parser.add_argument("crates", nargs="*")
