@@ -3,19 +3,27 @@
 
     refusals.py [CRATE ..]      the tests of these crates, or of all
 
-It builds the tests of a crate by `rt test`, and then runs its test program with refuse.c loaded into it (`cc` makes a
-library of that file). A test whose name says `a_refused` or `a_refusal` runs with its first allocation refused, then
-with its second, and so on, until a run asks for fewer; one whose name says `take_no_memory` or `takes_no_memory` with
-all refused from the first on, then from the second on, and so on. Each run has to pass.
+The tests of a crate that only refusals can fail stand in conformance/refusals/CRATE, so that the gate doesn't prove the
+crate once more for them: they are laid down in a copy of the crate. Those of the other crates stand in the crate. It
+builds the tests by `rt test`, and then runs the test program with refuse.c loaded into it (`cc` makes a library of that
+file). A test whose name says `a_refused` or `a_refusal` runs with its first allocation refused, then with its second,
+and so on, until a run asks for fewer; one whose name says `take_no_memory` or `takes_no_memory` with all refused from
+the first on, then from the second on, and so on. Each run has to pass.
 The last line is 'N passed, M failed', by runs; the status is 1 where M > 0 or nothing ran.
 """
 import os
+import shutil
 import subprocess
 import sys
 import tempfile
 
 HERE = os.path.dirname(os.path.abspath(__file__))
-CRATES = os.path.join(os.path.dirname(HERE), "crates")
+TOP = os.path.dirname(HERE)
+sys.path.append(os.path.join(TOP, "bench"))
+import laid_down  # noqa: E402
+
+CRATES = os.path.join(TOP, "crates")
+APART = os.path.join(HERE, "refusals")
 MANY = 1_000_000_000
 
 
@@ -54,12 +62,30 @@ def step(program, test, library, told):
     return passed, failed
 
 
-def refuse(crate, library, told):
-    folder = os.path.join(CRATES, crate)
-    if subprocess.run(["rt", "test"], cwd=folder, stdout=subprocess.DEVNULL).returncode != 0:
-        print(f"{crate}: its tests don't pass with memory")
-        return 0, 1
-    program = os.path.join(folder, "out", f"{crate}_tests")
+def with_tests(folder, crate):
+    """A copy of the crate with its tests that stand apart."""
+    shutil.copy2(os.path.join(TOP, "HANDLES"), folder)
+    laid_down.lay_down(folder, os.listdir(CRATES))
+    copy, tests = os.path.join(folder, "crates", crate), os.path.join(APART, crate)
+    for at, _, names in os.walk(tests):
+        to = os.path.join(copy, "src", os.path.relpath(at, tests))
+        os.makedirs(to, exist_ok=True)
+        for name in names:
+            shutil.copy(os.path.join(at, name), os.path.join(to, name.removesuffix(".txt")))
+    with open(os.path.join(copy, "src", "lib.rt"), "a", encoding="utf-8") as root:
+        root.write("\n#[cfg(test)]\nmod tests;\n")
+    return copy
+
+
+def built(folder, crate):
+    """The test program of a crate, or None where its tests don't pass with ample memory."""
+    is_apart = os.path.isdir(os.path.join(APART, crate))
+    place = with_tests(folder, crate) if is_apart else os.path.join(CRATES, crate)
+    done = subprocess.run(["rt", "test"], cwd=place, stdout=subprocess.DEVNULL)
+    return os.path.join(place, "out", f"{crate}_tests") if done.returncode == 0 else None
+
+
+def refuse(program, crate, library, told):
     listed = subprocess.run([program, "--list"], capture_output=True, text=True, check=True).stdout.splitlines()
     tests = [line.removesuffix(": test") for line in listed if line.endswith(": test")]
     passed = failed = 0
@@ -70,9 +96,18 @@ def refuse(crate, library, told):
     return passed, failed
 
 
+def build_and_refuse(crate, library, told):
+    with laid_down.new_folder() as folder:
+        program = built(folder, crate)
+        if program:
+            return refuse(program, crate, library, told)
+        print(f"{crate}: its tests don't pass with memory")
+        return 0, 1
+
+
 def has_tests(crate):
     source = os.path.join(CRATES, crate, "src")
-    return any("tests.rt" in names for _, _, names in os.walk(source))
+    return os.path.isdir(os.path.join(APART, crate)) or any("tests.rt" in names for _, _, names in os.walk(source))
 
 
 def main(asked):
@@ -80,7 +115,7 @@ def main(asked):
     with tempfile.TemporaryDirectory() as folder:
         library, told = os.path.join(folder, "refuse.so"), os.path.join(folder, "told")
         subprocess.run(["cc", "-O2", "-shared", "-fPIC", "-o", library, os.path.join(HERE, "refuse.c")], check=True)
-        counts = [refuse(crate, library, told) for crate in crates]
+        counts = [build_and_refuse(crate, library, told) for crate in crates]
     passed, failed = (sum(count) for count in zip(*counts))
     print(f"{passed} passed, {failed} failed")
     return 1 if failed or not passed else 0

@@ -1,6 +1,6 @@
 //! The keeper's side of a lane.
-ghost use Rattle.std.specs.Prelude.{◌≡◌, ◌+◌, ◌^◌, ◌≤◌, Some, None, nat_lt, if◌then◌else◌, length};
-ghost use Rattle.rtrb.specs.Ring.{sent};
+ghost use Rattle.std.specs.Prelude.{◌≡◌, ◌+◌, ◌^◌, ◌≤◌, ◌<◌, Some, None, nat_lt, if◌then◌else◌, length};
+ghost use Rattle.rtrb.specs.Ring.{sent, known_items, known_free};
 
 use crate::answer::{Answer, Formed};
 use crate::pace::Pace;
@@ -53,9 +53,26 @@ impl Seat {
         ensures { Looks C.gives result (scene self.old keyspace.old place.old clock.old)
             (scene self.new keyspace.new place.new clock.new) }
     {
-        if self.answers.is_full() || self.calls.is_empty() {
+        if self.calls.is_empty() || self.answers.is_full() {
             return Look::Idle;
         }
+        self.serve_next(keyspace, place, clock)
+    }
+
+    /// Serves the next call of a lane that is known to have one, and a free place for its answer. It is apart, so that
+    /// the many looks that find nothing don't clear room for a command and an answer.
+    #[inline(never)]
+    fn serve_next<C: Clock>(
+        &mut self,
+        keyspace: &mut Keyspace,
+        place: &mut u64,
+        clock: &mut C,
+    ) -> Look
+        requires { (length (sent self.old.answers) ≤ place.old) × (0 < length (known_items self.old.calls))
+            × (0 < known_free self.old.answers) }
+        ensures { Looks C.gives result (scene self.old keyspace.old place.old clock.old)
+            (scene self.new keyspace.new place.new clock.new) }
+    {
         let Some(next) = next_place(*place) else {
             return Look::Exhausted;
         };

@@ -20,6 +20,3 @@ pub use claims::{Claim, ClaimRule, ClaimTime, Scan};
 pub use delivery::{Delivery, DeliveryKind, DeliveryRow, Touch};
 pub use group::Group;
 pub use reports::{GroupSummary, OwnerCount, PendingRow};
-
-#[cfg(test)]
-mod tests;

@@ -23,6 +23,3 @@ mod xtrim;
 
 pub use clock::Clock;
 pub use keyspace::Keyspace;
-
-#[cfg(test)]
-mod tests;

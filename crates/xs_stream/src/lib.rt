@@ -19,6 +19,3 @@ pub use moment::Moment;
 pub use range::Range;
 pub use stream::Stream;
 pub use trim::Trim;
-
-#[cfg(test)]
-mod tests;
