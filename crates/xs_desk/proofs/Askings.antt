@@ -25,3 +25,6 @@ takes_last c m a c' t e = (t.0, a, e ∙ ap (λ (x : Caller). with_taken x (x.ta
 
 pub takes_submits : (c m : Caller) (command : Command) (c' : Caller) → Takes c m → c' ≡ record m { submitted = m.submitted ++ command ∷ [] } → Submits c command c'
 takes_submits c m command c' t e = (t.0, e ∙ ap (λ (x : Caller). let y : Caller = record x { submitted = x.submitted ++ command ∷ [] } in y) t.1)
+
+-- the steps of a lane that asks
+pub ruleset steps = (takes_none, takes_more, takes_last, takes_submits, takes_same)

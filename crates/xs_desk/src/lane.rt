@@ -47,7 +47,7 @@ impl Lane {
 }
 
 /// Submits the command; while there is no place for it, it takes an older answer, or waits.
-#[tactic(auto, using(crate::proofs::Askings::takes_none, crate::proofs::Askings::takes_more, crate::proofs::Askings::takes_last, crate::proofs::Askings::takes_submits, crate::proofs::Askings::takes_same))]
+#[tactic(auto, using(crate::proofs::Askings::steps))]
 fn submit<R: Wait>(rt: &R, client: &mut Client, command: Command) -> Result<u64, PortFault>
     requires { IsWellFormed command }
     ensures { MatchResult result
@@ -75,7 +75,7 @@ fn submit<R: Wait>(rt: &R, client: &mut Client, command: Command) -> Result<u64,
 }
 
 /// Takes answers up to the one with the ticket, and waits for it.
-#[tactic(auto, using(crate::proofs::Askings::takes_none, crate::proofs::Askings::takes_more, crate::proofs::Askings::takes_last, crate::proofs::Askings::takes_submits, crate::proofs::Askings::takes_same))]
+#[tactic(auto, using(crate::proofs::Askings::steps))]
 fn receive<R: Wait>(rt: &R, client: &mut Client, ticket: u64) -> Result<Reply, PortFault>
     ensures { MatchResult result (λ reply. Receives client.old ticket reply client.new)
         (λ _. Takes client.old client.new) }
