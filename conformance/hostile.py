@@ -248,17 +248,6 @@ def killed_in_reply(server):
     say_at(server, "DEL killed", number(1))
 
 
-def send_in_pieces(stream, data, made):
-    """Sends the bytes cut at random, and the end; a peer that has ended the connection is passed over."""
-    most, at = made.choice([20, 1000, 16_384, 100_000]), 0
-    with contextlib.suppress(OSError):
-        while at < len(data):
-            piece = data[at:at + made.randrange(1, most + 1)]
-            stream.sendall(piece)
-            at += len(piece)
-        stream.shutdown(socket.SHUT_WR)
-
-
 def almost_requests(server):
     """Connections as conformance/sessions.py makes them, from 8 clients at once: whole requests, wrong, changed and
     cut ones. Each is answered what the plain reader there says."""
@@ -266,12 +255,7 @@ def almost_requests(server):
         made = random.Random(place)
         for turn in range(60):
             data = sessions.connection(made)
-            want = sessions.served(data).rpartition(b"= ")[0]
-            with raw(server.port) as stream:
-                sender = threading.Thread(target=send_in_pieces, args=(stream, data, random.Random(turn)))
-                sender.start()
-                got, _ = read_to_end(stream)
-                sender.join()
+            got, want = sessions.answered(server.port, data, made), sessions.served(data)
             assert got == want, f"client {place}, connection {turn}: {len(got)} bytes came, not {len(want)}"
 
     together(WORKERS, work)

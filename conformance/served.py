@@ -43,6 +43,11 @@ class Server:
         with open(f"/proc/{self.child.pid}/statm", encoding="ascii") as statm:
             return int(statm.read().split()[1]) * 4096
 
+    def peak(self):
+        """The most bytes of memory that the process has had in use."""
+        with open(f"/proc/{self.child.pid}/status", encoding="ascii") as status:
+            return int(next(line for line in status if line.startswith("VmHWM:")).split()[1]) * 1024
+
 
 @contextlib.contextmanager
 def serving(program, workers=4, each=1_000_000):

@@ -1,25 +1,21 @@
 #!/usr/bin/env python3
-"""Sends connections made at random to `serve`, over memory, and compares what is answered and how each one ends.
+"""Sends connections made at random to the program as a server, and compares what is answered.
 
-    sessions.py [--bytes N] [--seed N]      needs the toolchain
+    sessions.py [--bytes N] [--seed N] PROGRAM
 
 A connection is a list of almost-requests: whole ones with words of any bytes, requests of no words, wrong headers,
-requests with a byte changed or some left out, and a cut end. It is given to `serve` in pieces made at random. The
-program over `serve`, conformance/sessions/main.rt.txt, stands in a copy of the repository in the place of the one of
-xs_server. What is wanted is what the plain reader below makes of the whole list of bytes.
+requests with a byte changed or some left out, and a cut end. It is sent in pieces made at random, while the replies are
+read. What is wanted is what the plain reader below makes of the whole list of bytes.
 The last line is 'N connections, M bytes, peak P MiB'; the status is 1 where an answer differs or the peak is 64 MiB.
 """
 import argparse
-import concurrent.futures
-import os
+import contextlib
 import random
-import struct
-import subprocess
+import socket
 import sys
+import threading
 
-HERE = os.path.dirname(os.path.abspath(__file__))
-sys.path.append(os.path.join(os.path.dirname(HERE), "bench"))
-import laid_down  # noqa: E402
+from served import raw, read_to_end, serving
 
 MOST_WORDS, MOST_BYTES, LONGEST_HEADER = 1_048_576, 536_870_912, 31
 PEAK = 64 * 2**20
@@ -90,20 +86,21 @@ def reply(words):
 
 
 def served(data):
-    """What a connection is answered, and how it ends."""
+    """What a connection is answered, up to its end."""
     at, answers = 0, []
     while at < len(data):
         try:
             words, at = request(data, at)
         except Wrong:
-            return b"".join([*answers, b"-ERR Protocol error\r\n= protocol\n"])
+            answers.append(b"-ERR Protocol error\r\n")
+            break
         except Unfinished:
-            return b"".join([*answers, b"= cut\n"])
+            break
         if words:
             answers.append(reply(words))
             if words[0].lower() == b"quit":
-                return b"".join([*answers, b"= quit\n"])
-    return b"".join([*answers, b"= closed\n"])
+                break
+    return b"".join(answers)
 
 
 # ---- the maker
@@ -161,59 +158,54 @@ def connection(made):
     return data[: made.randrange(1, len(data) + 1)] if made.randrange(2) else data
 
 
-def pieces(made, data):
-    """The bytes, cut at random, each piece behind its length."""
-    most = made.choice([2, 20, 1000, 16_384, 100_000])
-    at = 0
-    while at < len(data):
-        piece = data[at : at + made.randrange(1, most + 1)]
-        yield struct.pack("<I", len(piece)) + piece
-        at += len(piece)
-    yield struct.pack("<I", 0)
+# ---- the sender
 
 
-def make(seed, size, place):
-    """Writes connections of so many bytes in all, and what is wanted, and says how many there are."""
-    made, written, count = random.Random(seed), 0, 0
-    with open(place["given"], "wb") as given, open(place["wanted"], "wb") as wanted:
-        while written < size:
-            data = connection(made)
-            given.write(b"".join(pieces(made, data)))
-            wanted.write(served(data))
-            written, count = written + len(data), count + 1
-    return count, written
+def send(stream, data, made):
+    """Sends the bytes cut at random, and the end; a peer that has ended the connection is passed over."""
+    most, at = made.choice([2, 20, 1000, 16_384, 100_000]), 0
+    with contextlib.suppress(OSError):
+        while at < len(data):
+            piece = data[at : at + made.randrange(1, most + 1)]
+            stream.sendall(piece)
+            at += len(piece)
+        stream.shutdown(socket.SHUT_WR)
 
 
-def same(got, wanted):
-    """Whether both have the same lines, and the first that differs."""
-    for number, (one, other) in enumerate(zip(got, wanted), 1):
-        if one != other:
-            print(f"line {number}: got {one[:200]}, wanted {other[:200]}")
-            return False
-    return not (got.read(1) or wanted.read(1))
+def answered(port, data, made):
+    """What the server on this port answers a connection of these bytes."""
+    with raw(port) as stream:
+        stream.setsockopt(socket.IPPROTO_TCP, socket.TCP_NODELAY, True)
+        sender = threading.Thread(target=send, args=(stream, data, made))
+        sender.start()
+        got, _ = read_to_end(stream)
+        sender.join()
+    return got
+
+
+def first_difference(got, wanted):
+    at = next((at for at, (one, other) in enumerate(zip(got, wanted)) if one != other), min(len(got), len(wanted)))
+    return f"at byte {at} of the answer: got {got[at : at + 60]}, wanted {wanted[at : at + 60]}"
 
 
 def main():
     parser = argparse.ArgumentParser(description=__doc__, formatter_class=argparse.RawDescriptionHelpFormatter)
     parser.add_argument("--bytes", type=int, default=100_000_000)
     parser.add_argument("--seed", type=int, default=1)
+    parser.add_argument("program")
     asked = parser.parse_args()
-    with laid_down.new_folder() as folder:
-        place = {name: os.path.join(folder, name) for name in ("given", "wanted", "got")}
-        # in a process of its own: the peak of a child that is started counts what its parent had
-        with concurrent.futures.ProcessPoolExecutor(max_workers=1) as maker:
-            count, written = maker.submit(make, asked.seed, asked.bytes, place).result()
-        program = laid_down.replace(folder, os.path.join(HERE, "sessions", "main.rt.txt"))
-        with open(place["given"], "rb") as given, open(place["got"], "wb") as got:
-            child = subprocess.Popen([program], stdin=given, stdout=got)
-            _, status, used = os.wait4(child.pid, 0)
-            child.returncode = os.waitstatus_to_exitcode(status)
-        with open(place["got"], "rb") as got, open(place["wanted"], "rb") as wanted:
-            passes = child.returncode == 0 and same(got, wanted)
-    peak = used.ru_maxrss * 1024
-    print("as wanted" if passes else f"differs, status {child.returncode}")
-    print(f"{count} connections, {written} bytes, peak {peak / 2**20:.1f} MiB")
-    return 0 if passes and peak < PEAK else 1
+    made, sent, count, failed = random.Random(asked.seed), 0, 0, 0
+    with serving(asked.program) as server:
+        while sent < asked.bytes:
+            data = connection(made)
+            got, wanted = answered(server.port, data, made), served(data)
+            if got != wanted:
+                print(f"connection {count} differs {first_difference(got, wanted)}")
+                failed += 1
+            sent, count = sent + len(data), count + 1
+        peak = server.peak()
+    print(f"{count} connections, {sent} bytes, peak {peak / 2**20:.1f} MiB")
+    return 1 if failed or peak >= PEAK else 0
 
 
 if __name__ == "__main__":

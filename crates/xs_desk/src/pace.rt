@@ -24,11 +24,14 @@ impl Pace {
         }
     }
 
-    /// A call was applied at a moment.
+    /// A call was applied at a moment. Nothing is stored that is there already: a store takes the cache line, and what
+    /// else lies on it, from the other threads.
     pub fn call_at(&self, moment: Moment) {
         let now = moment.get();
         let last = self.last.load(Ordering::Relaxed);
-        self.last.store(now, Ordering::Relaxed);
+        if now != last {
+            self.last.store(now, Ordering::Relaxed);
+        }
         if now.abs_diff(last) > NEAR {
             self.swift.store(0, Ordering::Relaxed);
             return;
