@@ -3,6 +3,7 @@ ghost use Rattle.std.specs.Prelude.{◌≡◌, ◌++◌, ◌∷◌, [], ◌<◌,
 
 use crate::answer::{Answer, Formed};
 use crate::waiting::{Bell, Sleeper};
+use crate::watch::Notice;
 use rtrb::{Consumer, Producer, PushError};
 use std::alloc::Global;
 use std::marker::Model;
@@ -23,6 +24,7 @@ pub struct Client {
     answers: Consumer<Answer>,
     lane: usize,
     ticket: u64,
+    notice: Notice,
     sleeper: Sleeper,
     // Wakes the keeper.
     bell: Bell,
@@ -73,6 +75,7 @@ impl Client {
         lane: usize,
         calls: Producer<Command, Global, Formed>,
         answers: Consumer<Answer>,
+        notice: Notice,
         sleeper: Sleeper,
         bell: Bell,
         gone: Arc<AtomicBool>,
@@ -85,6 +88,7 @@ impl Client {
             answers,
             lane,
             ticket: 0,
+            notice,
             sleeper,
             bell,
             gone,
@@ -109,6 +113,7 @@ impl Client {
         match self.calls.push(command) {
             Ok(()) => {
                 self.ticket = next;
+                self.notice.give();
                 Ok(ticket)
             }
             Err(PushError::Full(back)) => Err(Full(back)),
@@ -120,7 +125,9 @@ impl Client {
         ensures { MatchOption result (self.new ≡ self.old)
             (λ answer. self.new ≡ record self.old { taken = self.old.taken ++ answer ∷ [] }) }
     {
-        self.answers.pop().ok()
+        let answer = self.answers.pop().ok()?;
+        self.notice.give();
+        Some(answer)
     }
 
     /// Ends the client: it makes no further call.

@@ -5,6 +5,7 @@ ghost use Rattle.xs_desk.specs.Seats.{desk_of};
 
 use crate::seat::{Look, Seat};
 use crate::waiting::{Bell, Sleeper};
+use crate::watch::Notices;
 use std::alloc::AllocError;
 use std::marker::Model;
 use std::snapshot::Snapshot;
@@ -28,6 +29,7 @@ pub struct Keeper {
     seats: Vec<Seat>,
     keyspace: Keyspace,
     place: u64,
+    notices: Notices,
     sleeper: Sleeper,
     // Set once nobody is served any more.
     gone: Arc<AtomicBool>,
@@ -54,6 +56,7 @@ impl Drop for Keeper {
             seats,
             keyspace: _keyspace,
             place: _,
+            notices: _notices,
             sleeper: _sleeper,
             gone,
         } = self;
@@ -93,9 +96,10 @@ fn say_gone(seats: &Vec<Seat>, gone: &Arc<AtomicBool>) {
     }
 }
 
-/// Looks at each lane once, in order.
+/// Looks at each lane once, in order; `notices` has a bit for each.
 fn serve_each<C: Clock>(
     seats: &mut Vec<Seat>,
+    notices: u64,
     keyspace: &mut Keyspace,
     place: &mut u64,
     clock: &mut C,
@@ -109,9 +113,12 @@ fn serve_each<C: Clock>(
         (desk_of seats.new.items keyspace.new place.new) clock.new × (place.new + 1 ≡ 2 ^ 64)) }
 {
     let mut served = 0;
+    let mut notices = notices;
     for k in 0..seats.len() {
         let seat = &mut seats[k];
-        match seat.serve(keyspace, place, clock) {
+        let has_notice = notices & 1 == 1;
+        notices >>= 1;
+        match seat.serve(has_notice, keyspace, place, clock) {
             Look::Idle => {}
             Look::Served => served += 1,
             Look::Exhausted => return Err(KeeperError::Exhausted),
@@ -131,6 +138,7 @@ impl Keeper {
     pub(crate) fn new(
         seats: Vec<Seat>,
         keyspace: Keyspace,
+        notices: Notices,
         sleeper: Sleeper,
         gone: Arc<AtomicBool>,
     ) -> Keeper
@@ -141,6 +149,7 @@ impl Keeper {
             seats,
             keyspace,
             place: 0,
+            notices,
             sleeper,
             gone,
         }
@@ -167,7 +176,14 @@ impl Keeper {
         ensures rings { KeepsRings self.old self.new }
     {
         self.sleeper.begin_look();
-        let served = serve_each(&mut self.seats, &mut self.keyspace, &mut self.place, clock);
+        let notices = self.notices.take();
+        let served = serve_each(
+            &mut self.seats,
+            notices,
+            &mut self.keyspace,
+            &mut self.place,
+            clock,
+        );
         match served {
             Ok(0) => {}
             Ok(_) => self.sleeper.found(),
@@ -197,6 +213,7 @@ impl Keeper {
             seats,
             keyspace,
             place: _,
+            notices: _notices,
             sleeper: _sleeper,
             gone,
         } = self;

@@ -15,6 +15,7 @@ pub mod port;
 mod seat;
 pub mod summary;
 mod waiting;
+mod watch;
 
 pub use alone::Alone;
 pub use answer::Answer;

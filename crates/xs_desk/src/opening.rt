@@ -9,6 +9,7 @@ use crate::client::Client;
 use crate::keeper::Keeper;
 use crate::seat::Seat;
 use crate::waiting::{LAST_LOOK_OF_KEEPER, LAST_LOOK_OF_LANE, Sleeper};
+use crate::watch::Notices;
 use rtrb::RingBuffer;
 use std::alloc::{AllocError, Global};
 use std::sync::Arc;
@@ -42,6 +43,7 @@ fn open_lane(
     alloc: Global,
     lane: usize,
     depth: usize,
+    notices: &Notices,
     keeper: &Sleeper,
     gone: &Arc<AtomicBool>,
 ) -> Result<(Seat, Client), AllocError>
@@ -51,15 +53,25 @@ fn open_lane(
     let (answers, from_keeper) = RingBuffer::<Answer>::new(alloc, depth)?;
     let sleeper = Sleeper::new(alloc, LAST_LOOK_OF_LANE)?;
     let bell = sleeper.bell()?;
+    let (watch, notice) = notices.watch(alloc, lane)?;
     let seat = Seat {
         calls,
         answers,
         ticket: 0,
+        watch,
         bell,
         pace: Arc::try_clone(keeper.pace())?,
     };
     let gone = Arc::try_clone(gone)?;
-    let client = Client::new(lane, to_keeper, from_keeper, sleeper, keeper.bell()?, gone);
+    let client = Client::new(
+        lane,
+        to_keeper,
+        from_keeper,
+        notice,
+        sleeper,
+        keeper.bell()?,
+        gone,
+    );
     Ok((seat, client))
 }
 
@@ -68,6 +80,7 @@ fn open_lanes(
     alloc: Global,
     count: usize,
     depth: usize,
+    notices: &Notices,
     keeper: &Sleeper,
     gone: &Arc<AtomicBool>,
 ) -> Result<(Vec<Seat>, Vec<Client>), AllocError>
@@ -76,7 +89,7 @@ fn open_lanes(
     let mut seats = Vec::with_capacity(alloc, count)?;
     let mut clients = Vec::with_capacity(alloc, count)?;
     for lane in 0..count {
-        let (seat, client) = open_lane(alloc, lane, depth, keeper, gone)?;
+        let (seat, client) = open_lane(alloc, lane, depth, notices, keeper, gone)?;
         seats.push(seat)?;
         clients.push(client)?;
     }
@@ -90,9 +103,10 @@ fn open_desk(alloc: Global, count: usize, depth: usize) -> Result<(Keeper, Vec<C
 {
     let sleeper = Sleeper::new(alloc, LAST_LOOK_OF_KEEPER)?;
     let gone = Arc::new(alloc, AtomicBool::new(false))?;
-    let (seats, clients) = open_lanes(alloc, count, depth, &sleeper, &gone)?;
+    let notices = Notices::new(alloc)?;
+    let (seats, clients) = open_lanes(alloc, count, depth, &notices, &sleeper, &gone)?;
     Ok((
-        Keeper::new(seats, Keyspace::new(alloc), sleeper, gone),
+        Keeper::new(seats, Keyspace::new(alloc), notices, sleeper, gone),
         clients,
     ))
 }

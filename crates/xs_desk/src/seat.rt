@@ -5,6 +5,7 @@ ghost use Rattle.rtrb.specs.Ring.{sent, known_items, known_free};
 use crate::answer::{Answer, Formed};
 use crate::pace::Pace;
 use crate::waiting::Bell;
+use crate::watch::Watch;
 use rtrb::{Consumer, Producer};
 use std::alloc::Global;
 use std::sync::Arc;
@@ -17,6 +18,7 @@ pub(crate) struct Seat {
     pub calls: Consumer<Command, Global, Formed>,
     pub answers: Producer<Answer>,
     pub ticket: u64,
+    pub watch: Watch,
     // Wakes the client of the lane.
     pub bell: Bell,
     // The keeper's.
@@ -42,9 +44,11 @@ pub(crate) fn next_place(place: u64) -> Option<u64>
 impl Seat {
     ghost use Rattle.xs_desk.specs.Seats.{scene, Looks};
 
-    /// Serves the next call of the lane, if there is one and its answer has a free place.
+    /// Serves the next call of the lane, if there is one and its answer has a free place. A lane at rest isn't looked
+    /// at, unless its client has given notice.
     pub fn serve<C: Clock>(
         &mut self,
+        has_notice: bool,
         keyspace: &mut Keyspace,
         place: &mut u64,
         clock: &mut C,
@@ -53,9 +57,13 @@ impl Seat {
         ensures { Looks C.gives result (scene self.old keyspace.old place.old clock.old)
             (scene self.new keyspace.new place.new clock.new) }
     {
+        if !self.watch.begins_look(has_notice) {
+            return Look::Idle;
+        }
         if self.calls.is_empty() || self.answers.is_full() {
             return Look::Idle;
         }
+        self.watch.found();
         self.serve_next(keyspace, place, clock)
     }
 

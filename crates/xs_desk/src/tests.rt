@@ -12,5 +12,6 @@ mod one_thread;
 mod parking;
 mod reading_by_turns;
 mod refusals;
+mod resting;
 mod together;
 mod trial;

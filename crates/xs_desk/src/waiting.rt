@@ -19,7 +19,7 @@ use std::sync::{Arc, Wait};
 use std::{hint, thread};
 
 /// How many looks that find nothing are made one right after the other.
-const SPINS: u32 = 48;
+const SPINS: u32 = 96;
 
 /// How many more a lane makes where calls follow fast, each after the processor was yielded: its answer is on its way.
 const YIELDS_OF_LANE: u32 = 10;

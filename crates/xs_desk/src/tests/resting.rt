@@ -1,0 +1,70 @@
+//! Lanes that have had no call for so long that the keeper looks at them only once their clients give notice.
+use super::commands::read;
+use super::trial::{Still, Trial};
+use std::process::Abort;
+use std::test::Fail;
+use xs_command::Command;
+
+/// More turns than it takes until a lane is at rest.
+const MANY: u64 = 1000;
+
+/// Turns that serve nobody.
+fn pass<R: Abort>(rt: &R, trial: &mut Trial, clock: &mut Still) {
+    for _ in 0..MANY {
+        assert_eq!(rt; trial.turn(clock), Ok(0));
+    }
+}
+
+// A lane at rest is served in the first turn after its call, and in the next ones.
+#[test]
+fn a_lane_at_rest_is_served_at_once(rt: HostRuntime) -> Result<(), Fail> {
+    let alloc = rt.alloc();
+    let mut clock = Still::at(1000).ok_or("a moment")?;
+    for lane in [0, 1, 31, 32, 63] {
+        let mut trial = Trial::new(alloc, 64, 1)?;
+        for place in 0..3 {
+            pass(&rt, &mut trial, &mut clock);
+            for later in 0..2u64 {
+                let answer = trial
+                    .call(lane, &mut clock, Command::Ping(None))
+                    .ok_or("an answer")?;
+                assert_eq!(rt; answer.place, later + 2 * place);
+            }
+        }
+    }
+    Ok(())
+}
+
+// All lanes at rest that have called are served in one turn, in their order.
+#[test]
+fn lanes_at_rest_are_served_in_order(rt: HostRuntime) -> Result<(), Fail> {
+    let alloc = rt.alloc();
+    let mut clock = Still::at(1000).ok_or("a moment")?;
+    let mut trial = Trial::new(alloc, 64, 1)?;
+    pass(&rt, &mut trial, &mut clock);
+    for lane in (0..64).rev() {
+        assert!(rt; trial.submit(lane, Command::Ping(None)).is_ok());
+    }
+    assert_eq!(rt; trial.turn(&mut clock), Ok(64));
+    for lane in 0..64 {
+        let answer = trial.take(lane).ok_or("an answer")?;
+        assert_eq!(rt; answer.place, lane as u64);
+    }
+    Ok(())
+}
+
+// A call that waited at a lane at rest for a place for its answer is served once the place is free.
+#[test]
+fn a_free_place_ends_the_rest(rt: HostRuntime) -> Result<(), Fail> {
+    let alloc = rt.alloc();
+    let mut clock = Still::at(1000).ok_or("a moment")?;
+    let mut trial = Trial::new(alloc, 2, 1)?;
+    assert!(rt; trial.submit(1, read(alloc, "PING")?).is_ok());
+    assert_eq!(rt; trial.turn(&mut clock), Ok(1));
+    assert!(rt; trial.submit(1, read(alloc, "PING")?).is_ok());
+    pass(&rt, &mut trial, &mut clock);
+    assert!(rt; trial.take(1).is_some());
+    assert_eq!(rt; trial.turn(&mut clock), Ok(1));
+    assert!(rt; trial.take(1).is_some());
+    Ok(())
+}
