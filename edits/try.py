@@ -9,7 +9,7 @@ edits/CRATE/NAME.edit turns one thing of one body of crates/CRATE: below a line 
 have a clause that an edit of edits/CRATE shows; --further tries them too. In a copy of the crate as many edits as may be
 stand at once, no two of them in one function, and `rt check --only` proves the functions that they change. An edit is
 refused where its function isn't proved. Where that is only since the function calls another one that isn't, the edit is
-tried again with the next ones. So edits share what a check has to load. The last line is 'N refused, M failed'; the
+tried again once all others were. So edits share what a check has to load. The last line is 'N refused, M failed'; the
 status is 1 where M > 0.
 """
 import argparse
@@ -149,19 +149,34 @@ def judged(edit, functions, told):
 
 
 def tried_together(copy, left):
-    """Tries as many of these edits as may stand at once."""
+    """Tries as many of these edits as may stand at once: what came of them, and those that another one blocks."""
     batch, texts, functions = chosen(left, copy.crate)
     told, ends, said = copy.check(functions, texts)
     if ends:
-        return [tried for edit, of_edit in batch if (tried := judged(edit, of_edit, told))]
+        came = [(it, judged(*it, told)) for it in batch]
+        return [tried for _, tried in came if tried], [it for it, tried in came if not tried]
     if len(batch) > 1:
-        return [tried for one in batch for tried in tried_together(copy, [one])]
+        each = [tried_together(copy, [one]) for one in batch]
+        return [it for tried, _ in each for it in tried], [it for _, blocked in each for it in blocked]
     error = next((line for line in said.splitlines() if "error" in line), "the check said nothing of it")
-    return [Tried(batch[0][0], False, f"not read: {error}")]
+    return [Tried(batch[0][0], False, f"not read: {error}")], []
+
+
+def tried_once(copy, left):
+    """Tries each of these edits once, and tells of it: what came of them, and those that were blocked."""
+    done, put_off = [], []
+    while left:
+        tried, blocked = tried_together(copy, left)
+        for edit, is_refused, why in tried:
+            print(f"{copy.crate}/{edit.name}: {'refused' if is_refused else 'NOT REFUSED'}: {why}", flush=True)
+        names = {edit.name for edit, _, _ in tried} | {edit.name for edit, _ in blocked}
+        left = [it for it in left if it[0].name not in names]
+        done, put_off = done + tried, put_off + blocked
+    return done, put_off
 
 
 def try_all(crate, edits):
-    """Tries each of these edits of a crate, and tells of it."""
+    """Tries each of these edits of a crate."""
     with laid_down.new_folder() as folder:
         copy = Copy(folder, crate)
         known, ends, _ = copy.check((), {})
@@ -170,13 +185,9 @@ def try_all(crate, edits):
         left = [(edit, functions_of(edit, crate, known)) for edit in edits]
         done = []
         while left:
-            tried = tried_together(copy, left)
-            for edit, is_refused, why in tried:
-                print(f"{crate}/{edit.name}: {'refused' if is_refused else 'NOT REFUSED'}: {why}", flush=True)
-            names = {it.edit.name for it in tried}
-            left = [it for it in left if it[0].name not in names]
-            done += tried or [Tried(edit, False, "was not tried") for edit, _ in left]
-            left = left if tried else []
+            tried, blocked = tried_once(copy, left)
+            done += tried or [Tried(edit, False, "was not tried") for edit, _ in blocked]
+            left = blocked if tried else []
     return done
 
 

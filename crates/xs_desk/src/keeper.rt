@@ -96,7 +96,7 @@ fn say_gone(seats: &Vec<Seat>, gone: &Arc<AtomicBool>) {
     }
 }
 
-/// Looks at each lane once, in order; `notices` has a bit for each.
+/// Looks at each lane once, in order; `notices` has a bit for each, the lowest for lane 0.
 fn serve_each<C: Clock>(
     seats: &mut Vec<Seat>,
     notices: u64,
@@ -163,8 +163,9 @@ impl Keeper {
     }
 
     /// Looks at each lane once, in order, and serves at most one call of each, at the moment that the clock gives. A
-    /// call whose answer has no free place stays in its lane. It takes no memory but that of `Keyspace::apply`, whose
-    /// refusal is the reply `OOM`. It answers how many calls it served.
+    /// lane that has had no call for long is passed over until its client gives notice of one. A call whose answer has
+    /// no free place stays in its lane. It takes no memory but that of `Keyspace::apply`, whose refusal is the reply
+    /// `OOM`. It answers how many calls it served.
     ///
     /// # Errors
     /// `Exhausted`, and nobody is served any more. What the turn served before stands.

@@ -9,13 +9,14 @@
 //! push, so did its store: the client finds the lane at rest, and gives notice before its call ends. Where the look
 //! came after the push, it has found what was pushed.
 use crate::opening::MAX_LANES;
+use crate::waiting::LAST_LOOK_OF_KEEPER;
 use std::alloc::{AllocError, Global};
 use std::sync::Arc;
 use std::sync::atomic::{AtomicBool, AtomicU64, Ordering};
 
 /// The look after which a lane is at rest, where it finds nothing; more than the keeper makes before it parks, so that
 /// a client alone at its desk gives no notice.
-const LAST_LOOK: u32 = 200;
+const LAST_LOOK: u32 = LAST_LOOK_OF_KEEPER + 1;
 
 /// The lanes whose clients gave notice: a bit for each, the lowest for lane 0. The keeper takes them.
 #[derive(Drop)]
