@@ -255,7 +255,7 @@ def almost_requests(server):
         made = random.Random(place)
         for turn in range(60):
             data = sessions.connection(made)
-            got, want = sessions.answered(server.port, data, made), sessions.served(data)
+            got, want = sessions.answered(server.port, data, turn), sessions.served(data)
             assert got == want, f"client {place}, connection {turn}: {len(got)} bytes came, not {len(want)}"
 
     together(WORKERS, work)

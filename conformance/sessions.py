@@ -172,11 +172,11 @@ def send(stream, data, made):
         stream.shutdown(socket.SHUT_WR)
 
 
-def answered(port, data, made):
-    """What the server on this port answers a connection of these bytes."""
+def answered(port, data, seed):
+    """What the server on this port answers a connection of these bytes, cut as the seed says."""
     with raw(port) as stream:
         stream.setsockopt(socket.IPPROTO_TCP, socket.TCP_NODELAY, True)
-        sender = threading.Thread(target=send, args=(stream, data, made))
+        sender = threading.Thread(target=send, args=(stream, data, random.Random(seed)))
         sender.start()
         got, _ = read_to_end(stream)
         sender.join()
@@ -198,7 +198,7 @@ def main():
     with serving(asked.program) as server:
         while sent < asked.bytes:
             data = connection(made)
-            got, wanted = answered(server.port, data, made), served(data)
+            got, wanted = answered(server.port, data, made.random()), served(data)
             if got != wanted:
                 print(f"connection {count} differs {first_difference(got, wanted)}")
                 failed += 1
