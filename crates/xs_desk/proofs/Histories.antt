@@ -9,7 +9,8 @@ use Rattle.xs_bytes.specs.SortedMap.{empty}
 use Rattle.xs_resp.specs.declared.reply.Reply.{Reply}
 use Rattle.xs_command.specs.declared.command.Command.{Command}
 use Rattle.xs_keys.specs.Content.{Content}
-use Rattle.xs_keys.specs.Headline.{Step, Follows, Answers, RunsOn}
+use Rattle.xs_keys.specs.Headline.{Follows, Answers, RunsOn}
+use Rattle.xs_keys.specs.Step.{Step}
 use Rattle.xs_keys.proofs.Lawfulness.{content-lawful}
 use Rattle.xs_keys.proofs.Runs.{step-follows, headline}
 use Rattle.xs_desk.specs.History.{ServedCall, LaneOf, Desk, of_lane, commands_of, answers_of, events_of, replies_of, CountUp, IsHistory}

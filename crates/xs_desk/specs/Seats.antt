@@ -3,7 +3,7 @@ use Rattle.std.specs.Prelude.{◌≡◌, ℕ, ◌+◌, ◌^◌, List, [], ◌∷
 use Rattle.rtrb.specs.Ring.{sent, received}
 use Rattle.xs_command.specs.declared.command.Command.{Command}
 use Rattle.xs_keys.specs.Content.{Content}
-use Rattle.xs_keys.specs.Headline.{Step}
+use Rattle.xs_keys.specs.Step.{Step}
 use Rattle.xs_desk.specs.declared.answer.Answer.{Answer}
 use Rattle.xs_desk.specs.declared.seat.Look.{Look}
 use Rattle.xs_desk.specs.declared.seat.Look.TheVariants.{Idle, Served, Exhausted}

@@ -1,6 +1,6 @@
 -- What one call, and one turn, make of a desk.
 use Rattle.std.specs.Prelude.{◌≡◌, ℕ, ◌+◌, ◌≤◌, List, [], ◌∷◌, ◌++◌, length, slice_get, slice_set, Some}
-use Rattle.xs_keys.specs.Headline.{Step}
+use Rattle.xs_keys.specs.Step.{Step}
 use Rattle.xs_desk.specs.History.{ServedCall, LaneOf, Desk}
 
 -- a lane with one call more

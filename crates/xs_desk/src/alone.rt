@@ -1,6 +1,6 @@
 //! A keyspace and a clock, without a keeper.
 ghost use Rattle.std.specs.Prelude.{◌≡◌, ℕ, false};
-ghost use Rattle.xs_keys.specs.Headline.{Step};
+ghost use Rattle.xs_keys.specs.Step.{Step};
 
 use crate::port::{Port, PortFault};
 use std::sync::Wait;

@@ -18,7 +18,7 @@ use Rattle.xs_keys.specs.Life.{added}
 use Rattle.xs_keys.specs.Content.{Key, new_key, stream_after}
 use Rattle.xs_keys.specs.Codes.{content_of}
 use Rattle.xs_keys.specs.Reply.{assigned_reply}
-use Rattle.xs_keys.specs.Headline.{Step, is_error}
+use Rattle.xs_keys.specs.Step.{Step, is_error}
 use Rattle.xs_keys.specs.Adding.{Adds, text_of}
 use Rattle.xs_keys.proofs.Names.{insert-same}
 use Rattle.xs_keys.proofs.Maps.{content-insert}

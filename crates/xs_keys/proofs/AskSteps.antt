@@ -17,7 +17,7 @@ use Rattle.xs_resp.specs.declared.reply.Reply.{Reply}
 use Rattle.xs_resp.specs.declared.reply.Reply.TheVariants.{Error}
 use Rattle.xs_resp.specs.declared.fault.Fault.TheVariants.{NoGroup}
 use Rattle.xs_keys.specs.Reply.{of_group, taken_reply}
-use Rattle.xs_keys.specs.Headline.{is_error}
+use Rattle.xs_keys.specs.Step.{is_error}
 use Rattle.xs_keys.proofs.Maps.{get-content_of, content-insert}
 use Rattle.xs_keys.proofs.Names.{insert-same}
 use Rattle.xs_keys.proofs.ReadSteps.{asked-at}

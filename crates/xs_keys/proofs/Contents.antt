@@ -1,7 +1,7 @@
 -- The content that a history leaves: the empty one, one event more, and that there is one.
 use Rattle.std.proofs.Common.{◌≡◌, ℕ, Bool, true, false, cond, ◌||◌, ◌&&◌, List, [], ◌∷◌, Option, Some, None, is_some, sym, ap, ◌∙◌, refl, subst}
 use Rattle.std.proofs.lemmas.Bool.{false≢true}
-use Rattle.std.specs.Option.{option_map, option_map_or}
+use Rattle.std.specs.Option.{option_map, option_map_or, option_or}
 use Rattle.std.specs.List.{list_all}
 use Rattle.xs_bytes.specs.SortedMap.{NameMap, empty, get, has_key, insert, remove}
 use Rattle.xs_bytes.proofs.SortedMaps.{get-empty, same_entries_map}
@@ -17,7 +17,7 @@ use Rattle.xs_command.specs.declared.command.ReadGroupCommand.{ReadGroupCommand}
 use Rattle.xs_command.specs.declared.command.ReadOne.{ReadOne}
 use Rattle.xs_keys.specs.Life.{Change, added, deleted, trimmed_to, is_listed, opened, key_life}
 use Rattle.xs_keys.specs.GroupEvent.{Ask, join, leave, ack, claim, auto_claim}
-use Rattle.xs_keys.specs.GroupLife.{GroupLife, present_in, starting_id, life_opened, life_created, life_asked, read_ask, life_read, group_life}
+use Rattle.xs_keys.specs.GroupLife.{GroupLife, present_in, starting_id, life_opened, life_asked, read_ask, life_read, group_life}
 use Rattle.xs_keys.specs.Content.{Key, Content, IsGroup, GroupHolds, KeyHolds, IsContent, new_key, made, stream_after, key_after, changed, without_keys, group_after, with_group, asked, created, group_in, serves, read_each, after}
 use Rattle.xs_keys.proofs.Names.{is_name-eq, get-insert, get-remove, same_map, same_names}
 use Rattle.xs_keys.proofs.Streams.{stream-step, ascends-live}
@@ -209,24 +209,24 @@ serves-known (one ∷ more) c past group h =
 -- a new group among others
 begins : (groups : NameMap State) (lives : List ℕ → Option GroupLife) (create : GroupCreateCommand) (stream : Option (List Change)) (start : Id) → GroupsHold groups lives
     → get groups create.group ≡ None → life_opened create stream ≡ Some (record { start = start; events = [] })
-    → GroupsHold (insert groups create.group (new_group start)) (λ g. cond (is_name g create.group) (life_created create stream (lives g)) (lives g))
-begins groups lives create stream start h none opens = λ g. subst (λ x. GroupHolds x (cond (is_name g create.group) (life_created create stream (lives g)) (lives g))) (sym (get-insert groups create.group (new_group start) g)) (by g (is_name g create.group) refl) where
-  by : (g : List ℕ) (t : Bool) → is_name g create.group ≡ t → GroupHolds (cond t (Some (new_group start)) (get groups g)) (cond t (life_created create stream (lives g)) (lives g))
+    → GroupsHold (insert groups create.group (new_group start)) (λ g. cond (is_name g create.group) (option_or (lives g) (life_opened create stream)) (lives g))
+begins groups lives create stream start h none opens = λ g. subst (λ x. GroupHolds x (cond (is_name g create.group) (option_or (lives g) (life_opened create stream)) (lives g))) (sym (get-insert groups create.group (new_group start) g)) (by g (is_name g create.group) refl) where
+  by : (g : List ℕ) (t : Bool) → is_name g create.group ≡ t → GroupHolds (cond t (Some (new_group start)) (get groups g)) (cond t (option_or (lives g) (life_opened create stream)) (lives g))
   by g true e =
       let gone : lives g ≡ None = no_life (lives g) (subst (λ s. GroupHolds s (lives g)) (ap (get groups) (is_name-eq g create.group e) ∙ none) (h g)) in
-      subst (GroupHolds (Some (new_group start))) (sym (ap (life_created create stream) gone ∙ opens)) (group-new start)
+      subst (GroupHolds (Some (new_group start))) (sym (ap (λ l. option_or l (life_opened create stream)) gone ∙ opens)) (group-new start)
   by g false e = h g
 
 -- a group that is there already stays
 stays : (groups : NameMap State) (lives : List ℕ → Option GroupLife) (create : GroupCreateCommand) (stream : Option (List Change)) (s : State) → GroupsHold groups lives → get groups create.group ≡ Some s
-    → GroupsHold groups (λ g. cond (is_name g create.group) (life_created create stream (lives g)) (lives g))
+    → GroupsHold groups (λ g. cond (is_name g create.group) (option_or (lives g) (life_opened create stream)) (lives g))
 stays groups lives create stream s h is = λ g. by g (is_name g create.group) refl where
-  open_life : (x : Option State) (l : Option GroupLife) → is_some x ≡ true → GroupHolds x l → GroupHolds x (life_created create stream l)
+  open_life : (x : Option State) (l : Option GroupLife) → is_some x ≡ true → GroupHolds x l → GroupHolds x (option_or l (life_opened create stream))
   open_life (Some s) (Some l) e h = h
   open_life (Some s) None e h = absurd h
   open_life None l e h = absurd (false≢true e)
 
-  by : (g : List ℕ) (t : Bool) → is_name g create.group ≡ t → GroupHolds (get groups g) (cond t (life_created create stream (lives g)) (lives g))
+  by : (g : List ℕ) (t : Bool) → is_name g create.group ≡ t → GroupHolds (get groups g) (cond t (option_or (lives g) (life_opened create stream)) (lives g))
   by g true e = open_life (get groups g) (lives g) (ap (λ n. is_some (get groups n)) (is_name-eq g create.group e) ∙ ap is_some is) (h g)
   by g false e = h g
 
@@ -244,7 +244,7 @@ opens_none create m = rw m refl
 creates-key : (c : Content) (create : GroupCreateCommand) (key : Key) (changes : List Change) (lives : List ℕ → Option GroupLife) (s : Option State) (q : List ℕ)
     → get key.groups create.group ≡ s → get c create.key ≡ Some key → is_name q create.key ≡ true → KeyHolds (Some key) (Some changes) lives
     → KeyHolds (get (cond (is_some s) c (insert c create.key (with_group key create.group (new_group (starting_id create.start key.stream.top))))) q)
-    (Some changes) (λ g. cond (is_name g create.group) (life_created create (Some changes) (lives g)) (lives g))
+    (Some changes) (λ g. cond (is_name g create.group) (option_or (lives g) (life_opened create (Some changes))) (lives g))
 creates-key c create key changes lives (Some s) q found is same h = rw (is_name-eq q create.key same, is) (h.0, stays key.groups lives create (Some changes) s h.1 found)
 creates-key c create key changes lives None q none is same h =
     rw (get-insert c create.key (with_group key create.group (new_group (starting_id create.start key.stream.top))) q, same)
@@ -252,17 +252,17 @@ creates-key c create key changes lives None q none is same h =
 
 creates-here : (c : Content) (create : GroupCreateCommand) (make : Bool) → create.make ≡ make → (key : Option Key) (stream : Option (List Change)) (lives : List ℕ → Option GroupLife) (q : List ℕ)
     → get c create.key ≡ key → is_name q create.key ≡ true → KeyHolds key stream lives
-    → KeyHolds (get (created c create (made make key)) q) (opened make stream) (λ g. cond (is_name g create.group) (life_created create stream (lives g)) (lives g))
+    → KeyHolds (get (created c create (made make key)) q) (opened make stream) (λ g. cond (is_name g create.group) (option_or (lives g) (life_opened create stream)) (lives g))
 creates-here c create true m None None lives q none same h =
-    subst (λ k. KeyHolds k (Some []) (λ g. cond (is_name g create.group) (life_created create None (lives g)) (lives g)))
+    subst (λ k. KeyHolds k (Some []) (λ g. cond (is_name g create.group) (option_or (lives g) (life_opened create None)) (lives g)))
     (sym (ap (λ k. get k q) (makes c create) ∙ get-insert c create.key (with_group new_key create.group (new_group (starting_id create.start new_key.stream.top))) q
     ∙ ap (λ b. cond b (Some (with_group new_key create.group (new_group (starting_id create.start new_key.stream.top)))) (get c q)) same))
     (refl, begins empty lives create None (starting_id create.start new_key.stream.top) (no_groups lives h) (get-empty _ create.group) (opens_new create m))
 creates-here c create false m None None lives q none same h =
-    subst (λ k. KeyHolds k None (λ g. cond (is_name g create.group) (life_created create None (lives g)) (lives g)))
+    subst (λ k. KeyHolds k None (λ g. cond (is_name g create.group) (option_or (lives g) (life_opened create None)) (lives g)))
     (sym (ap (get c) (is_name-eq q create.key same) ∙ none)) (λ g. by g (is_name g create.group)) where
-      by : (g : List ℕ) (t : Bool) → GroupHolds None (cond t (life_created create None (lives g)) (lives g))
-      by g true = subst (GroupHolds None) (sym (ap (life_created create None) (no_life (lives g) (h g)) ∙ opens_none create m)) tt
+      by : (g : List ℕ) (t : Bool) → GroupHolds None (cond t (option_or (lives g) (life_opened create None)) (lives g))
+      by g true = subst (GroupHolds None) (sym (ap (λ l. option_or l (life_opened create None)) (no_life (lives g) (h g)) ∙ opens_none create m)) tt
       by g false = h g
 creates-here c create make m (Some key) (Some changes) lives q is same h =
     creates-key c create key changes lives (get key.groups create.group) q refl is same h
@@ -329,10 +329,10 @@ module _ (c : Content) (past : List (ℕ × Command)) (h : IsContent c past) (q 
 
   step-created : (create : GroupCreateCommand)
       → KeyHolds (get (created c create (made create.make (get c create.key))) q) (cond (is_name q create.key) (opened create.make (key_life past q)) (key_life past q))
-      (λ g. cond (is_name q create.key && is_name g create.group) (life_created create (key_life past q) (group_life past q g)) (group_life past q g))
+      (λ g. cond (is_name q create.key && is_name g create.group) (option_or (group_life past q g) (life_opened create (key_life past q))) (group_life past q g))
   step-created create = by (is_name q create.key) refl where
     by : (t : Bool) → is_name q create.key ≡ t → KeyHolds (get (created c create (made create.make (get c create.key))) q) (cond t (opened create.make (key_life past q)) (key_life past q))
-        (λ g. cond (t && is_name g create.group) (life_created create (key_life past q) (group_life past q g)) (group_life past q g))
+        (λ g. cond (t && is_name g create.group) (option_or (group_life past q g) (life_opened create (key_life past q))) (group_life past q g))
     by true e = creates-here c create create.make refl (get c create.key) (key_life past q) (λ g. group_life past q g) q refl e (at_name create.key e)
     by false e = subst (λ k. KeyHolds k (key_life past q) (λ g. group_life past q g)) (sym (created-other c create (made create.make (get c create.key)) q e)) (h q)
 

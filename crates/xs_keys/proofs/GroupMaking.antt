@@ -16,7 +16,7 @@ use Rattle.xs_keys.specs.GroupLife.{starting_id}
 use Rattle.xs_keys.specs.Content.{Content, Key, new_key, with_group}
 use Rattle.xs_keys.specs.Codes.{content_of}
 use Rattle.xs_keys.specs.Grouping.{Creates}
-use Rattle.xs_keys.specs.Headline.{Step}
+use Rattle.xs_keys.specs.Step.{Step}
 use Rattle.xs_keys.proofs.Names.{insert-same}
 use Rattle.xs_keys.proofs.Maps.{content-insert}
 

@@ -11,7 +11,8 @@ use Rattle.xs_command.specs.declared.command.ReadGroupCommand.{ReadGroupCommand}
 use Rattle.xs_command.specs.declared.command.ReadOne.{ReadOne}
 use Rattle.xs_keys.specs.Life.{Change, is_listed, key_life}
 use Rattle.xs_keys.specs.GroupEvent.{Ask, join, leave, ack, claim, auto_claim}
-use Rattle.xs_keys.specs.GroupLife.{GroupLife, present_in, life_opened, life_created, life_asked, read_ask, life_read, group_lived, reads_of, group_of, group_life}
+use Rattle.std.specs.Option.{option_or}
+use Rattle.xs_keys.specs.GroupLife.{GroupLife, present_in, life_opened, life_asked, read_ask, life_read, group_lived, reads_of, group_of, group_life}
 use Rattle.xs_keys.proofs.Streams.{ascends-live}
 use Rattle.xs_keys.proofs.Deliveries.{PresentAscends}
 
@@ -43,7 +44,7 @@ meets-opened make create m (Some changes) = tt
 meets-opened true create m None = rw m tt
 meets-opened false create m None = rw m tt
 
-meets-created : (create : GroupCreateCommand) (stream : Option (List Change)) (life : Option GroupLife) → MeetsAscending life → MeetsAscending (life_created create stream life)
+meets-created : (create : GroupCreateCommand) (stream : Option (List Change)) (life : Option GroupLife) → MeetsAscending life → MeetsAscending (option_or life (life_opened create stream))
 meets-created create stream None h = meets-opened create.make create refl stream
 meets-created create stream (Some life) h = h
 
@@ -53,7 +54,7 @@ either false one other h k = k
 
 meets-lived : (now : ℕ) (command : Command) (key group : List ℕ) (served : Bool) (stream : Option (List Change)) (life : Option GroupLife) → MeetsAscending life
     → MeetsAscending (group_lived now command key group served stream life)
-meets-lived now (GroupCreate create) key group served stream life h = either (is_name key create.key && is_name group create.group) (life_created create stream life) life (meets-created create stream life h) h
+meets-lived now (GroupCreate create) key group served stream life h = either (is_name key create.key && is_name group create.group) (option_or life (life_opened create stream)) life (meets-created create stream life h) h
 meets-lived now (GroupDestroy k g) key group served stream life h = either (is_name key k && is_name group g) None life tt h
 meets-lived now (ConsumerCreate k g consumer) key group served stream life h =
     either (is_name key k && is_name group g) (life_asked now (present_in stream) (join consumer) life) life (meets-asked now (present_in stream) (join consumer) life (present-ascends stream) h) h

@@ -4,7 +4,7 @@ use Rattle.std.proofs.lemmas.Bool.{false≢true}
 use Rattle.std.proofs.lemmas.List.{append-nil}
 use Rattle.std.proofs.lemmas.Slice.Eq.{bytes_eq-Decides}
 use Rattle.std.specs.List.{list_all, list_any, IsDistinct, AllByRecursion}
-use Rattle.std.specs.Option.{option_map_or}
+use Rattle.std.specs.Option.{option_map_or, option_or}
 use Rattle.xs_stream.specs.declared.id.Id.{Id}
 use Rattle.xs_group.specs.State.{is_name, delivers}
 use Rattle.xs_command.specs.WellFormed.{IsWellFormed, keys_of}
@@ -17,7 +17,7 @@ use Rattle.xs_command.specs.declared.command.ReadFrom.{ReadFrom}
 use Rattle.xs_command.specs.declared.command.ReadFrom.TheVariants.{New, After}
 use Rattle.xs_keys.specs.Life.{Change, is_listed, key_life}
 use Rattle.xs_keys.specs.GroupEvent.{Ask, join, leave, ack, claim, auto_claim, asked_new, delivered, cursor}
-use Rattle.xs_keys.specs.GroupLife.{GroupLife, limit_of, present_in, life_opened, life_created, life_asked, read_ask, life_read, group_of, group_life, is_new, asks_new, acts, delivered_by, GoesOn}
+use Rattle.xs_keys.specs.GroupLife.{GroupLife, limit_of, present_in, life_opened, life_asked, read_ask, life_read, group_of, group_life, is_new, asks_new, acts, delivered_by, GoesOn}
 use Rattle.xs_keys.proofs.Names.{is_name-eq}
 
 -- ---- events that deliver nothing
@@ -44,7 +44,7 @@ opens make create m (Some changes) = (refl, refl)
 opens true create m None = rw m (refl, refl)
 opens false create m None = rw m refl
 
-creates : (create : GroupCreateCommand) (stream : Option (List Change)) (life : Option GroupLife) → GoesOn life [] (life_created create stream life)
+creates : (create : GroupCreateCommand) (stream : Option (List Change)) (life : Option GroupLife) → GoesOn life [] (option_or life (life_opened create stream))
 creates create stream None = opens create.make create refl stream
 creates create stream (Some life) = stays (Some life)
 
@@ -147,7 +147,7 @@ quiet past now key group k g ask none =
 pub goes-on : (past : List (ℕ × Command)) (now : ℕ) (command : Command) (key group : List ℕ) → IsWellFormed command
     → GoesOn (group_life past key group) (delivered_by past command key group) (group_life ((now, command) ∷ past) key group)
 goes-on past now (GroupCreate create) key group formed =
-    either (is_name key create.key && is_name group create.group) (group_life past key group) (life_created create (key_life past key) (group_life past key group)) (group_life past key group)
+    either (is_name key create.key && is_name group create.group) (group_life past key group) (option_or (group_life past key group) (life_opened create (key_life past key))) (group_life past key group)
     (creates create (key_life past key) (group_life past key group)) (stays (group_life past key group))
 goes-on past now (GroupDestroy k g) key group formed =
     either (is_name key k && is_name group g) (group_life past key group) None (group_life past key group) (ended (group_life past key group)) (stays (group_life past key group))

@@ -22,7 +22,7 @@ use Rattle.xs_keys.specs.Content.{Content, Key, asked, read_each, group_after, w
 use Rattle.xs_resp.specs.declared.reply.Reply.{Reply}
 use Rattle.xs_resp.specs.declared.token.Token.{Token}
 use Rattle.xs_resp.specs.ReplyItems.{tokens_of}
-use Rattle.xs_keys.specs.Headline.{is_error}
+use Rattle.xs_keys.specs.Step.{is_error}
 use Rattle.xs_keys.specs.Reply.{shown_by, new_part, parts, array_or_null}
 use Rattle.xs_keys.specs.Reading.{ids_shown, part_of, IsShown, IsServedAt, IsMadeIn, IsMadeAt, AreMade}
 use Rattle.xs_keys.proofs.Names.{get-insert, is_name-eq, is_name-refl, same_map}

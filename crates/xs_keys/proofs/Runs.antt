@@ -5,7 +5,8 @@ use Rattle.xs_resp.specs.declared.reply.Reply.{Reply}
 use Rattle.xs_command.specs.declared.command.Command.{Command}
 use Rattle.xs_keys.specs.Content.{Content, IsContent}
 use Rattle.xs_keys.specs.Told.{IsTold}
-use Rattle.xs_keys.specs.Headline.{Step, Follows, Answers, Headline, RunsOn, DeliversNew, HasOneOwner}
+use Rattle.xs_keys.specs.Headline.{Follows, Answers, Headline, RunsOn, DeliversNew, HasOneOwner}
+use Rattle.xs_keys.specs.Step.{Step}
 use Rattle.xs_keys.specs.GroupLife.{GroupLife, group_life}
 use Rattle.xs_keys.proofs.Lawfulness.{content-lawful}
 use Rattle.xs_keys.proofs.Deliveries.{ascends-delivered, past-start, had-event}

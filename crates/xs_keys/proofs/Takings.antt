@@ -9,8 +9,8 @@ use Rattle.xs_stream.specs.Id.{is_below, has_id}
 use Rattle.xs_group.specs.State.{Row, idle, delivers}
 use Rattle.xs_group.specs.Claims.{Rule, row_at, is_idle, is_taken, is_removed, is_hit, firsts, scanned, from_start}
 use Rattle.xs_keys.specs.Life.{greatest}
-use Rattle.xs_keys.specs.GroupEvent.{Ask, GroupEvent, read_new, read_own, ack, join, leave, claim, auto_claim, asked_claim, rows, takes, asked_new, delivers_at, cursor, owner}
-use Rattle.xs_keys.specs.Taken.{least_idle, removes_pending, IsTakenWhenIdle, IsRemovedWhenGone, ClaimsWhatIsIdle}
+use Rattle.xs_keys.specs.GroupEvent.{Ask, GroupEvent, read_new, read_own, ack, join, leave, claim, auto_claim, asked_claim, rows, takes, removes_pending, asked_new, delivers_at, cursor, owner}
+use Rattle.xs_keys.specs.Taken.{least_idle, IsTakenWhenIdle, IsRemovedWhenGone, ClaimsWhatIsIdle}
 use Rattle.xs_keys.specs.Headline.{DeliversInFull}
 use Rattle.xs_keys.proofs.IdLists.{has_id-where, not_among}
 use Rattle.xs_stream.proofs.Order.{not_above-trans}

@@ -10,9 +10,9 @@ use Rattle.xs_group.specs.Claims.{Rule}
 use Rattle.xs_group.specs.State.{Row}
 use Rattle.xs_group.specs.ExamplesRead.{pending}
 use Rattle.xs_keys.specs.GroupEvent.{Ask, read_new, read_own, ack, join, claim, auto_claim, rows, is_consumer}
-use Rattle.xs_keys.specs.GroupEvent.{leave, is_their_turn, is_settled, settles, owner}
+use Rattle.xs_keys.specs.GroupEvent.{leave, is_their_turn, is_settled, settles, owner, removes_pending}
 use Rattle.xs_keys.specs.Touched.{redelivers, touches, time_of, count_of}
-use Rattle.xs_keys.specs.Taken.{least_idle, removes_pending}
+use Rattle.xs_keys.specs.Taken.{least_idle}
 use Rattle.xs_keys.specs.ExamplesHistory.{of_group, group_and}
 use Rattle.xs_keys.specs.ExamplesGroupEvents.{start, event, event_without, read_by_a, noack_by_b, first_by_a}
 use Rattle.xs_keys.specs.ExamplesGroupEvents.{claim_by_b}

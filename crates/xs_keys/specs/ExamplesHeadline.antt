@@ -14,7 +14,8 @@ use Rattle.xs_keys.specs.Ground.{Kept, Simple, Error, Int, NullBulk, Okay, Pong,
 use Rattle.xs_keys.specs.Ground.{GroupCreateCommand, At, Reply}
 use Rattle.xs_keys.specs.GroupEvent.{GroupEvent, read_new, ack, join, leave}
 use Rattle.xs_keys.specs.GroupLife.{GroupLife, GoesOn}
-use Rattle.xs_keys.specs.Headline.{is_error, OwnerAfter, NoOwnerAfter, Follows, Answers}
+use Rattle.xs_keys.specs.Headline.{OwnerAfter, NoOwnerAfter, Follows, Answers}
+use Rattle.xs_keys.specs.Step.{is_error}
 use Rattle.xs_keys.specs.Adding.{Adds}
 use Rattle.xs_keys.specs.Grouping.{Creates}
 use Rattle.xs_keys.specs.Reply.{fault_of}

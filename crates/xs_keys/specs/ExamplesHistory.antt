@@ -16,7 +16,8 @@ use Rattle.xs_command.specs.ExamplesStreams.{field}
 use Rattle.xs_keys.specs.Life.{Change, key_life, given_in, top, live, stream_of}
 use Rattle.xs_keys.specs.GroupEvent.{delivered, cursor, claim, auto_claim}
 use Rattle.xs_keys.specs.GroupLife.{GroupLife, group_life, delivered_by}
-use Rattle.xs_keys.specs.Headline.{takes_memory, OfEachGroup}
+use Rattle.xs_keys.specs.Headline.{OfEachGroup}
+use Rattle.xs_keys.specs.Step.{takes_memory}
 use Rattle.xs_keys.specs.Told.{given_at, taken_by}
 
 -- an event, where the words say a command

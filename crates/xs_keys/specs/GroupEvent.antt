@@ -3,9 +3,8 @@
 use Rattle.std.specs.Prelude.{ℕ, Bool, false, not, List, [], Option, Some, None, true, ◌&&◌, ◌||◌, ◌∷◌, ◌++◌}
 use Rattle.std.specs.Prelude.{option_and_then, if◌then◌else◌}
 use Rattle.xs_group.specs.declared.claims.Claim.{Claim}
-use Rattle.xs_keys.specs.Ground.{Id, has_id, Rule, Row, is_name, delivers, claim_of, scan_of, with_some, is_below}
-use Rattle.xs_keys.specs.Ground.{first_row}
-use Rattle.xs_keys.specs.Ground.{shown, reread, claimed, unless_acked, unless_owned}
+use Rattle.xs_keys.specs.Ground.{option_map_or, Id, has_id, Rule, Row, is_name, delivers, claim_of, scan_of, with_some}
+use Rattle.xs_keys.specs.Ground.{is_below, first_row, shown, reread, claimed, unless_acked, unless_owned}
 use Rattle.xs_keys.specs.Life.{greatest}
 
 -- what is asked; each but an acknowledgement names a consumer
@@ -52,6 +51,12 @@ consumer_of (leave consumer) = Some consumer
 consumer_of (claim consumer rule ids) = Some consumer
 consumer_of (auto_claim consumer rule start limit) = Some consumer
 
+-- the rule of a claim
+abbrev pub rule_of : Ask → Option Rule
+rule_of (claim consumer rule ids) = Some rule
+rule_of (auto_claim consumer rule start limit) = Some rule
+rule_of _ = None
+
 -- a read of new entries without NOACK
 abbrev pub keeps_pending : Ask → Bool
 keeps_pending (read_new consumer limit noack) = not noack
@@ -64,12 +69,8 @@ acks _ x = false
 
 -- it puts the consumer in
 abbrev pub brings : Ask → List ℕ → Bool
-brings (read_new consumer limit noack) name = is_name name consumer
-brings (read_own consumer limit from) name = is_name name consumer
-brings (join consumer) name = is_name name consumer
-brings (claim consumer rule ids) name = is_name name consumer
-brings (auto_claim consumer rule start limit) name = is_name name consumer
-brings _ name = false
+brings (leave consumer) name = false
+brings ask name = option_map_or (is_name name) (consumer_of ask) false
 
 -- it takes the consumer out
 abbrev pub drops_consumer : Ask → List ℕ → Bool
@@ -146,14 +147,16 @@ last_assigned start (event ∷ past) x =
 
 -- this consumer is removed
 abbrev pub removes : GroupEvent → Option (List ℕ) → Bool
-removes event None = false
-removes event (Some consumer) = drops_consumer event.ask consumer
+removes event consumer = option_map_or (drops_consumer event.ask) consumer false
+
+-- a claim removes it from what is pending
+abbrev pub removes_pending : Id → List GroupEvent → GroupEvent → Id → Bool
+removes_pending start past event x = has_id (claims_of event (rows start past)).removed x
 
 -- it is acknowledged, the consumer to whom it was last assigned is removed, or a claim removes it
 abbrev pub settles : Id → List GroupEvent → GroupEvent → Id → Bool
 settles start past event x =
-    acks event.ask x
-    || (removes event (last_assigned start past x) || has_id (claims_of event (rows start past)).removed x)
+    acks event.ask x || (removes event (last_assigned start past x) || removes_pending start past event x)
 
 -- an event has settled it since it was last assigned
 abbrev pub is_settled : Id → List GroupEvent → Id → Bool

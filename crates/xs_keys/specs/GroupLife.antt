@@ -9,15 +9,14 @@ use Rattle.xs_keys.specs.Life.{Change, is_listed, opened, key_life, live, top}
 use Rattle.xs_keys.specs.GroupEvent.{Ask, GroupEvent, read_new, read_own, ack, join, leave, claim, auto_claim}
 use Rattle.xs_keys.specs.GroupEvent.{delivered, cursor}
 
--- a life of a group: the id behind which it starts, and its turns, newest first
+-- a life of a group: the id behind which it starts, and its events, newest first
 pub record GroupLife : Type 0 where
   pub start : Id
   pub events : List GroupEvent
 
 -- the ids in the stream
 abbrev pub present_in : Option (List Change) → List Id
-present_in None = []
-present_in (Some changes) = ids_of (live changes)
+present_in stream = option_map_or (λ changes. ids_of (live changes)) stream []
 
 -- where a group starts: the written id, or the top
 abbrev pub starting_id : GroupStart → Id → Id
@@ -29,10 +28,6 @@ abbrev pub life_opened : GroupCreateCommand → Option (List Change) → Option 
 life_opened create stream =
     let begin : Id → GroupLife = λ id. record { start = starting_id create.start id; events = [] } in
     option_map (λ changes. begin (top changes)) (opened create.make stream)
-
--- a life that is open goes on
-abbrev pub life_created : GroupCreateCommand → Option (List Change) → Option GroupLife → Option GroupLife
-life_created create stream life = option_or life (life_opened create stream)
 
 -- one event more
 abbrev pub life_asked : ℕ → List Id → Ask → Option GroupLife → Option GroupLife
@@ -52,11 +47,12 @@ life_read now present read key (one ∷ more) life =
     let next = if is_name key one.key then life_asked now present (read_ask read one.from) life else life in
     life_read now present read key more next
 
--- the life of a group after an event, from whether a read is served whole, and the lives of its key and its own before
+-- the life of a group after an event, from whether a read is served whole, and the lives of its key and its own before;
+-- one that is open goes on where the group is to be created
 abbrev pub group_lived :
     ℕ → Command → List ℕ → List ℕ → Bool → Option (List Change) → Option GroupLife → Option GroupLife
 group_lived now (GroupCreate create) key group served stream life =
-    if is_name key create.key && is_name group create.group then life_created create stream life else life
+    if is_name key create.key && is_name group create.group then option_or life (life_opened create stream) else life
 group_lived now (GroupDestroy k g) key group served stream life =
     if is_name key k && is_name group g then None else life
 group_lived now (ConsumerCreate k g consumer) key group served stream life =

@@ -1,60 +1,21 @@
--- One call: applied, or refused for want of memory. The headline, of a run of commands over a history; and what it
--- promises of the ids of each key, and of each life of a group: new deliveries, and one owner until an entry is
--- settled.
+-- The headline, of a run of commands over a history; and what it promises of the ids of each key, and of each life of
+-- a group: new deliveries, and one owner until an entry is settled.
 use Rattle.std.specs.Prelude.{◌≡◌, ℕ, Bool, true, false, ◌⊎◌, Option, Some, not, ◌||◌, List, [], ◌∷◌, ◌++◌, None}
-use Rattle.std.specs.Prelude.{is_some}
-use Rattle.std.specs.Prelude.{length}
-use Rattle.xs_keys.specs.Ground.{Memory, Reply, Error, Command, Ping, Add, Scan}
-use Rattle.xs_keys.specs.Ground.{GroupCreate, ConsumerCreate, ReadGroup, Pending, PendingRows, Claim, AutoClaim}
-use Rattle.xs_keys.specs.Ground.{Id, is_below, has_id, Ascends, AllAbove, ids_of, option_map}
+use Rattle.std.specs.Prelude.{is_some, length}
+use Rattle.xs_keys.specs.Ground.{Memory, Reply, Error, Command, Id, is_below, has_id, Ascends, AllAbove, ids_of}
+use Rattle.xs_keys.specs.Ground.{option_map}
 use Rattle.xs_group.specs.Claims.{row_at}
 use Rattle.xs_command.specs.WellFormed.{IsWellFormed}
 use Rattle.xs_keys.specs.Life.{Change, key_life, given_in}
 use Rattle.xs_keys.specs.Content.{Content, IsContent, IsLawfulContent, after}
 use Rattle.xs_keys.specs.Reply.{reply}
+use Rattle.xs_keys.specs.Step.{takes_memory, is_error}
 use Rattle.xs_keys.specs.Touched.{IsLastTouched}
 use Rattle.xs_keys.specs.Taken.{ClaimsWhatIsIdle}
 use Rattle.xs_keys.specs.GroupEvent.{GroupEvent, read_new, consumer_of, delivered, delivers_at, cursor, is_their_turn}
 use Rattle.xs_keys.specs.GroupEvent.{delivers_pending, takes, settles, owner, rows}
 use Rattle.xs_keys.specs.GroupLife.{GroupLife, group_life, delivered_by, GoesOn}
 use Rattle.xs_keys.specs.Told.{IsTold}
-
--- the commands that may find no memory
-abbrev pub takes_memory : Command → Bool
-takes_memory (Ping (Some message)) = true
-takes_memory (Add add) = true
-takes_memory (Scan scan) = true
-takes_memory (GroupCreate create) = true
-takes_memory (ConsumerCreate key group consumer) = true
-takes_memory (ReadGroup read) = true
-takes_memory (Pending key group) = true
-takes_memory (PendingRows pending) = true
-takes_memory (Claim claim) = true
-takes_memory (AutoClaim claim) = true
-takes_memory _ = false
-
-abbrev pub is_error : Reply → Bool
-is_error (Error fault) = true
-is_error _ = false
-
--- the reply is the model's, and so is what is left
-pub record Applied (old : Content) (now : ℕ) (command : Command) (answer : Reply) (new : Content) : Type 0 where
-  pub answer_is : answer ≡ reply old now command
-  pub content_is : new ≡ after old now command
-
--- memory ran out, where the command takes some and the model refuses nothing: nothing has changed
-pub record OutOfMemory (old : Content) (now : ℕ) (command : Command) (answer : Reply) (new : Content) : Type 0 where
-  pub takes : takes_memory command ≡ true
-  pub no_other : is_error (reply old now command) ≡ false
-  pub answer_is : answer ≡ Error Memory
-  pub content_is : new ≡ old
-
-abbrev pub Step : Content → ℕ → Command → Reply → Content → Type 0
-Step old now command answer new = Applied old now command answer new ⊎ OutOfMemory old now command answer new
-
--- the same at any moment: the command doesn't ask for the time
-abbrev pub StepAtAnyTime : Content → Command → Reply → Content → Type 0
-StepAtAnyTime old command answer new = (now : ℕ) → Step old now command answer new
 
 -- one of the events is their turn, and the id is delivered exactly where it is in the stream then
 pub record HadItsTurn (start : Id) (events : List GroupEvent) (x : Id) : Type 0 where

@@ -7,6 +7,7 @@ pub mod GroupLife
 pub mod Content
 pub mod Reply
 pub mod Told
+pub mod Step
 pub mod Headline
 pub mod Adding
 pub mod Reading

@@ -1,18 +1,12 @@
 -- What claims take and what they remove, by looking back. (Redis, XCLAIM and XAUTOCLAIM.)
 use Rattle.std.specs.Prelude.{◌≡◌, ℕ, ◌≤◌, ◌-◌, Bool, true, false, List, ◌∷◌, ◌++◌, is_some}
-use Rattle.xs_keys.specs.Ground.{Id, has_id}
-use Rattle.xs_keys.specs.GroupEvent.{Ask, GroupEvent, claim, auto_claim, claims_of, rows, takes, owner}
+use Rattle.xs_keys.specs.Ground.{option_map_or, Id, has_id}
+use Rattle.xs_keys.specs.GroupEvent.{Ask, GroupEvent, rule_of, takes, removes_pending, owner}
 use Rattle.xs_keys.specs.Touched.{time_of}
 
 -- the least idle time that is asked for
 abbrev pub least_idle : Ask → ℕ
-least_idle (claim consumer rule ids) = rule.min_idle
-least_idle (auto_claim consumer rule start limit) = rule.min_idle
-least_idle _ = 0
-
--- a claim removes it from what is pending
-abbrev pub removes_pending : Id → List GroupEvent → GroupEvent → Id → Bool
-removes_pending start past event x = has_id (claims_of event (rows start past)).removed x
+least_idle ask = option_map_or (λ rule. rule.min_idle) (rule_of ask) 0
 
 -- an entry that is taken has an owner, is in the stream, and was last touched as long ago as the claim asks
 pub record IsTakenWhenIdle (start : Id) (past : List GroupEvent) (event : GroupEvent) (x : Id) : Type 0 where

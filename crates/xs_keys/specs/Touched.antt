@@ -3,8 +3,8 @@
 use Rattle.std.specs.Prelude.{◌≡◌, ℕ, Bool, List, [], ◌∷◌, Some, ◌&&◌, ◌||◌, if◌then◌else◌}
 use Rattle.xs_group.specs.Claims.{row_at, claim_time, claim_count}
 use Rattle.xs_group.specs.State.{raised}
-use Rattle.xs_keys.specs.Ground.{Id, Row, has_id, shown}
-use Rattle.xs_keys.specs.GroupEvent.{Ask, GroupEvent, read_new, read_own, claim, auto_claim, rows, assigns}
+use Rattle.xs_keys.specs.Ground.{option_map_or, Id, Row, has_id, shown}
+use Rattle.xs_keys.specs.GroupEvent.{Ask, GroupEvent, read_new, read_own, rule_of, rows, assigns}
 
 -- the own pending entries that an ask shows once more, over the rows it meets
 abbrev pub shown_again : Ask → List (Id × Row) → List Id
@@ -21,16 +21,12 @@ touches start past event x = assigns start past event x || redelivers start past
 
 -- the time that it gets: that of the claim, else now
 abbrev pub time_given : Ask → ℕ → ℕ
-time_given (claim consumer rule ids) now = claim_time rule.when now
-time_given (auto_claim consumer rule start limit) now = claim_time rule.when now
-time_given _ now = now
+time_given ask now = option_map_or (λ rule. claim_time rule.when now) (rule_of ask) now
 
 -- the count that it gets: 1 at its delivery, that of the claim, else one more
 abbrev pub count_given : Ask → ℕ → ℕ
 count_given (read_new consumer limit noack) count = 1
-count_given (claim consumer rule ids) count = claim_count rule.retry rule.just_id count
-count_given (auto_claim consumer rule start limit) count = claim_count rule.retry rule.just_id count
-count_given _ count = raised count
+count_given ask count = option_map_or (λ r. claim_count r.retry r.just_id count) (rule_of ask) (raised count)
 
 -- the time that it got from the last event that touched it
 abbrev pub time_of : Id → List GroupEvent → Id → ℕ

@@ -3,7 +3,7 @@ ghost use Rattle.std.specs.Prelude.{◌≡◌};
 ghost use Rattle.xs_keys.specs.Content.{without_keys};
 ghost use Rattle.xs_keys.specs.Codes.{content_of};
 ghost use Rattle.xs_keys.specs.Reply.{existing};
-ghost use Rattle.xs_keys.specs.Headline.{StepAtAnyTime};
+ghost use Rattle.xs_keys.specs.Step.{StepAtAnyTime};
 
 use crate::keys::Keys;
 use xs_bytes::{Bytes, List};

@@ -3,7 +3,8 @@ ghost use Rattle.std.specs.Prelude.{◌≡◌, IfOk, OnErr, All};
 ghost use Rattle.xs_bytes.specs.SortedMap as map;
 ghost use Rattle.xs_command.specs.WellFormed.{IsWellFormed};
 ghost use Rattle.xs_keys.specs.Codes.{content_of};
-ghost use Rattle.xs_keys.specs.Headline.{Step, RunsOn};
+ghost use Rattle.xs_keys.specs.Headline.{RunsOn};
+ghost use Rattle.xs_keys.specs.Step.{Step};
 
 use crate::keys::Keys;
 use crate::{

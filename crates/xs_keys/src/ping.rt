@@ -1,6 +1,6 @@
 //! PING.
 ghost use Rattle.xs_keys.specs.Content.{Content};
-ghost use Rattle.xs_keys.specs.Headline.{StepAtAnyTime};
+ghost use Rattle.xs_keys.specs.Step.{StepAtAnyTime};
 
 use std::alloc::{AllocError, Global};
 use xs_bytes::Bytes;

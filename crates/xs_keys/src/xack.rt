@@ -1,6 +1,6 @@
 //! XACK.
 ghost use Rattle.xs_keys.specs.Codes.{content_of};
-ghost use Rattle.xs_keys.specs.Headline.{StepAtAnyTime};
+ghost use Rattle.xs_keys.specs.Step.{StepAtAnyTime};
 
 use crate::keys::Keys;
 use xs_bytes::{Bytes, List};

@@ -8,7 +8,7 @@ ghost use Rattle.xs_keys.specs.Content.{stream_after};
 ghost use Rattle.xs_keys.specs.Adding.{text_of, Adds};
 ghost use Rattle.xs_keys.specs.Codes.{content_of};
 ghost use Rattle.xs_keys.specs.Reply.{fault_of};
-ghost use Rattle.xs_keys.specs.Headline.{Step};
+ghost use Rattle.xs_keys.specs.Step.{Step};
 
 use crate::keys::{Keys, Slot};
 use std::alloc::Global;

@@ -7,7 +7,7 @@ ghost use Rattle.xs_keys.specs.Content.{group_after};
 ghost use Rattle.xs_keys.specs.Codes.{content_of};
 ghost use Rattle.xs_resp.specs.ReplyItems.{tokens_of};
 ghost use Rattle.xs_keys.specs.Reply.{array, id_reply, scan_shown, taken_reply};
-ghost use Rattle.xs_keys.specs.Headline.{Step};
+ghost use Rattle.xs_keys.specs.Step.{Step};
 
 use crate::keys::Keys;
 use crate::showing::{push_entries, push_id, push_ids};

@@ -6,7 +6,7 @@ ghost use Rattle.xs_keys.specs.GroupEvent.{claim};
 ghost use Rattle.xs_keys.specs.Content.{group_after};
 ghost use Rattle.xs_keys.specs.Codes.{content_of};
 ghost use Rattle.xs_keys.specs.Reply.{array, id_reply, taken_reply};
-ghost use Rattle.xs_keys.specs.Headline.{Step};
+ghost use Rattle.xs_keys.specs.Step.{Step};
 
 use crate::keys::Keys;
 use crate::showing::{entries_shown, push_ids};

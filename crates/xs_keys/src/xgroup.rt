@@ -4,7 +4,7 @@ ghost use Rattle.xs_bytes.specs.SortedMap as map;
 ghost use Rattle.xs_keys.specs.GroupLife.{starting_id};
 ghost use Rattle.xs_keys.specs.Codes.{content_of, groups_of};
 ghost use Rattle.xs_keys.specs.Grouping.{Creates};
-ghost use Rattle.xs_keys.specs.Headline.{StepAtAnyTime};
+ghost use Rattle.xs_keys.specs.Step.{StepAtAnyTime};
 
 use crate::keys::{Groups, Keys, Slot};
 use std::alloc::{AllocError, Global};

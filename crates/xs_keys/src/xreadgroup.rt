@@ -13,7 +13,7 @@ ghost use Rattle.xs_resp.specs.ReplyItems.{tokens_of};
 ghost use Rattle.xs_keys.specs.Reply.{array_or_null, entry_reply, part, parts};
 ghost use Rattle.xs_keys.specs.Reading.{ids_shown, part_of, IsShown, IsServed, IsServedIn, IsServedAt, IsMadeIn};
 ghost use Rattle.xs_keys.specs.Reading.{IsMadeAt, AreMade};
-ghost use Rattle.xs_keys.specs.Headline.{Step};
+ghost use Rattle.xs_keys.specs.Step.{Step};
 
 use crate::keys::{Groups, Keys, group_at};
 use crate::showing::{ENTRY_TOKENS, push_bytes, push_entry};

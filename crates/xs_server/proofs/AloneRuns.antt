@@ -4,7 +4,8 @@ use Rattle.std.proofs.lemmas.List.{append-nil}
 use Rattle.xs_resp.specs.declared.reply.Reply.{Reply}
 use Rattle.xs_command.specs.declared.command.Command.{Command}
 use Rattle.xs_keys.specs.Content.{Content}
-use Rattle.xs_keys.specs.Headline.{Step, RunsOn}
+use Rattle.xs_keys.specs.Headline.{RunsOn}
+use Rattle.xs_keys.specs.Step.{Step}
 use Rattle.xs_keys.proofs.Runs.{RunsSoFar, runs-none, runs-more, runs-all}
 use Rattle.xs_server.specs.declared.connections.ending.Ending.{Ending}
 use Rattle.xs_server.specs.declared.connections.ending.ServeFault.{ServeFault}

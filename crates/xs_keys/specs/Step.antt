@@ -1,0 +1,43 @@
+-- One call: applied, or refused for want of memory.
+use Rattle.std.specs.Prelude.{◌≡◌, ℕ, Bool, true, false, ◌⊎◌, Some}
+use Rattle.xs_keys.specs.Ground.{Memory, Reply, Error, Command, Ping, Add, Scan}
+use Rattle.xs_keys.specs.Ground.{GroupCreate, ConsumerCreate, ReadGroup, Pending, PendingRows, Claim, AutoClaim}
+use Rattle.xs_keys.specs.Content.{Content, after}
+use Rattle.xs_keys.specs.Reply.{reply}
+
+-- the commands that may find no memory
+abbrev pub takes_memory : Command → Bool
+takes_memory (Ping (Some message)) = true
+takes_memory (Add add) = true
+takes_memory (Scan scan) = true
+takes_memory (GroupCreate create) = true
+takes_memory (ConsumerCreate key group consumer) = true
+takes_memory (ReadGroup read) = true
+takes_memory (Pending key group) = true
+takes_memory (PendingRows pending) = true
+takes_memory (Claim claim) = true
+takes_memory (AutoClaim claim) = true
+takes_memory _ = false
+
+abbrev pub is_error : Reply → Bool
+is_error (Error fault) = true
+is_error _ = false
+
+-- the reply is the model's, and so is what is left
+pub record Applied (old : Content) (now : ℕ) (command : Command) (answer : Reply) (new : Content) : Type 0 where
+  pub answer_is : answer ≡ reply old now command
+  pub content_is : new ≡ after old now command
+
+-- memory ran out, where the command takes some and the model refuses nothing: nothing has changed
+pub record OutOfMemory (old : Content) (now : ℕ) (command : Command) (answer : Reply) (new : Content) : Type 0 where
+  pub takes : takes_memory command ≡ true
+  pub no_other : is_error (reply old now command) ≡ false
+  pub answer_is : answer ≡ Error Memory
+  pub content_is : new ≡ old
+
+abbrev pub Step : Content → ℕ → Command → Reply → Content → Type 0
+Step old now command answer new = Applied old now command answer new ⊎ OutOfMemory old now command answer new
+
+-- the same at any moment: the command doesn't ask for the time
+abbrev pub StepAtAnyTime : Content → Command → Reply → Content → Type 0
+StepAtAnyTime old command answer new = (now : ℕ) → Step old now command answer new
