@@ -15,14 +15,13 @@ serve:
 	@$(PROGRAM) serve --port 6379 --workers 16 --each 1000000
 
 # Proves everything from nothing, and runs the tests and the program that it built: the worked cases, the great scripts,
-# connections made at random. Then it tries the edits that have to fail, over what is proved once more and kept: the
-# crates below the desk. The edits of xs_desk and xs_server take a minute and more each, and are left to `make edits`.
+# connections made at random. Then it tries the edits that have to fail, over the libraries that `rt ci` built: those of
+# the crates below the desk. The edits of xs_desk and xs_server take a minute and more each, and are left to `make edits`.
 test:
 	rt ci
 	python3 conformance/run.py $(PROGRAM) script
 	python3 conformance/great.py $(PROGRAM)
 	python3 conformance/sessions.py --bytes 5000000 $(PROGRAM)
-	cd crates/xs_keys && rt check > /dev/null
 	python3 edits/try.py $(BELOW_THE_DESK)
 
 # Proves what has changed, looks whether each edit has its place, and runs the worked cases: what one runs while working.

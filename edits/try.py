@@ -1,15 +1,17 @@
 #!/usr/bin/env python3
 """Tries the wrong bodies of this folder: the prover has to refuse each.
 
-    try.py [--further] [--only WORD] [CRATE..]      needs the toolchain, and what `rt all check` keeps in out/
+    try.py [--further] [--only WORD] [CRATE..]      needs the toolchain, and the crates below as `rt ci` or `rt all
+                            check` built them
     try.py --places         looks only whether each edit still has its place in the sources
 
 edits/CRATE/NAME.edit turns one thing of one body of crates/CRATE: below a line `file: PATH`, the text of a line
 `old: TEXT`, which stands in that file once, becomes that of the line `new: TEXT` behind it. Those of edits/CRATE/further
 have a clause that an edit of edits/CRATE shows; --further tries them too. In a copy of the crate as many edits as may be
-stand at once, no two of them in one function, and `rt check --only` proves the functions that they change. An edit is
-refused where its function isn't proved. Where that is only since the function calls another one that isn't, the edit is
-tried again once all others were. So edits share what a check has to load. The last line is 'N refused, M failed'; the
+stand at once, no two of them in one function, and `rattle check --only` proves the functions that they change, and those
+that these call. An edit is refused where its function isn't proved. Where that is only since the function calls another
+one that isn't, the edit is tried again once all others were. So edits share what a check has to load, and nothing is
+proved that no edit reaches. That the crate is proved as it is `rt ci` shows. The last line is 'N refused, M failed'; the
 status is 1 where M > 0.
 """
 import argparse
@@ -26,6 +28,7 @@ TOP = os.path.dirname(HERE)
 sys.path.append(os.path.join(TOP, "bench"))
 import laid_down  # noqa: E402
 
+KIT = os.path.dirname(os.path.dirname(os.path.realpath(shutil.which("rt"))))
 MEMORY_OF_A_CHECK = 4 * 2**30
 
 Change = collections.namedtuple("Change", "file old new")
@@ -78,44 +81,75 @@ def applied(edit, crate, texts):
     return texts
 
 
-def functions_of(edit, crate, known):
+def functions_of(edit, crate):
     """The functions that an edit changes, by their paths; none where it changes what isn't of one function."""
     found = set()
     for file, old, _ in edit.changes:
         before, stands, _ = text_of(os.path.join(TOP, "crates", crate, file)).partition(old)
         heads = re.findall(r"^ *(?:pub(?:\(\w+\))? )?(?:const )?fn (\w+)|^(?!where)(\S)", before + old, re.M)
-        module = [part for part in re.sub(r"^src/|\.rt$", "", file).split("/") if part not in ("lib", "main")]
-        within = "".join(f"{part}::" for part in [crate, *module])
         names = [name for name, other in heads if name or other not in "(){}#/>"]
         if stands and names and names[-1]:
-            found |= {path for path in known if path.startswith(within) and path.split("::")[-1] == names[-1]}
+            module = [part for part in re.sub(r"^src/|\.rt$", "", file).split("/") if part not in ("lib", "main")]
+            found.add("::".join([*module, *impl_at(before + old), names[-1]]))
     return frozenset(found)
 
 
+def impl_at(text):
+    """The name that the prover gives to the impl in which this text ends, if it ends in one."""
+    heads = re.findall(r"^(?:(impl)(?:<.*?>)? (?:(\w+)(?:<.*>)? for )?(\w+)|[}])", text, re.M)
+    return [heads[-1][2] + heads[-1][1]] if heads and heads[-1][0] else []
+
+
 class Copy:
-    """A copy of a crate in which edits stand for a while."""
+    """A copy of a crate in which edits stand for a while, over the crates below as they were built, and over what
+    `rt check` kept of this one."""
 
     def __init__(self, folder, crate):
-        shutil.copy2(os.path.join(TOP, "HANDLES"), folder)
-        laid_down.lay_down(folder, os.listdir(os.path.join(TOP, "crates")))
-        self.crate, self.folder = crate, os.path.join(folder, "crates", crate)
+        self.crate, self.folder = crate, folder
+        source, kept = os.path.join(TOP, "crates", crate), os.path.join(folder, "kept")
+        for part in ("src", "specs", "proofs"):
+            shutil.copytree(os.path.join(source, part), os.path.join(folder, part))
+        if os.path.isdir(os.path.join(source, "out", "incremental")):
+            shutil.copytree(os.path.join(source, "out", "incremental"), kept, copy_function=laid_down.link)
+        self.words = [*words_of(crate), "--incremental", kept, "--jobs", "1"]
 
     def check(self, functions, texts):
         """What a check tells of each function, with these texts in the place of the crate's own, and how it ended."""
         try:
             self.write(texts)
-            asked = [word for path in sorted(functions) for word in ("--only", path.partition("::")[2])]
-            words = ["rt", "check", "--jobs", "1", *asked]
-            said = subprocess.run(words, cwd=self.folder, capture_output=True, text=True).stdout
+            asked = [word for path in sorted(functions) for word in ("--only", path)]
+            both = {"stdout": subprocess.PIPE, "stderr": subprocess.STDOUT}
+            said = subprocess.run([*self.words, *asked], cwd=self.folder, text=True, **both).stdout
         finally:
             self.write({file: text_of(os.path.join(TOP, "crates", self.crate, file)) for file in texts})
         ends = re.search(r"^(only=|logic=proved|logic=not-proved)", said, re.M)
-        return dict(re.findall(r"^fn (\S+): (.*)", said, re.M)), ends and ends.group(1), said
+        told = re.findall(rf"^fn {self.crate}::(\S+): (.*)", said, re.M)
+        return dict(told), ends and ends.group(1), said
 
     def write(self, texts):
         for file, text in texts.items():
             with open(os.path.join(self.folder, file), "w", encoding="utf-8") as out:
                 out.write(text)
+
+
+def libraries_of(crate):
+    """The libraries that a crate uses, by its line of crates.txt."""
+    lines = text_of(os.path.join(TOP, "crates.txt")).splitlines()
+    return next(line.partition(":")[2].split() for line in lines if re.match(rf"{crate}\b", line))
+
+
+def words_of(crate):
+    """The words of a check of this crate, over the crates below as they were built."""
+    own = crates_in(os.path.join(TOP, "crates"))
+    built = {name: os.path.join(TOP, "crates", name, "out", "rlib") for name in own}
+    root = "main.rt" if os.path.exists(os.path.join(TOP, "crates", crate, "src", "main.rt")) else "lib.rt"
+    words = [os.path.join(KIT, "bin", "rattle"), "check", "--crate-name", crate, f"src/{root}", "--links", f"{crate}="]
+    for name in ["std", *libraries_of(crate)]:
+        words += ["--extern", f"{name}={built.get(name, os.path.join(KIT, 'rlibs'))}/{name}.rlib"]
+    for folder in [os.path.join(KIT, "rlibs"), *built.values()]:
+        words += ["-L", f"dependency={folder}"]
+    words += ["--antt-project", os.path.join(KIT, "rattle", "logic", "antt-project.json")]
+    return [*words, "--logic-built", os.path.join(KIT, "logic_built")]
 
 
 def chosen(left, crate):
@@ -175,14 +209,19 @@ def tried_once(copy, left):
     return done, put_off
 
 
+def is_proved(copy, functions):
+    """Whether these functions are proved as they are: else nothing is shown where one isn't with an edit."""
+    told, _, _ = copy.check(functions, {})
+    return bool(told) and all(word.startswith("proved") for word in told.values())
+
+
 def try_all(crate, edits):
     """Tries each of these edits of a crate."""
     with laid_down.new_folder() as folder:
         copy = Copy(folder, crate)
-        known, ends, _ = copy.check((), {})
-        if ends != "logic=proved":
+        left = [(edit, functions_of(edit, crate)) for edit in edits]
+        if not all(is_proved(copy, functions) for _, functions in left[:1]):
             return [Tried(edit, False, f"{crate} isn't proved as it is") for edit in edits]
-        left = [(edit, functions_of(edit, crate, known)) for edit in edits]
         done = []
         while left:
             tried, blocked = tried_once(copy, left)
