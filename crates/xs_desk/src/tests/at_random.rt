@@ -11,6 +11,13 @@ use std::time::{Clock, SystemTime};
 /// How many commands are made for each number of lanes.
 const COMMANDS: u64 = 1_000_000;
 
+/// A number that another run hardly has.
+fn seed<R: Clock>(rt: &R) -> Result<u64, Fail> {
+    let since = SystemTime::now(rt)?.duration_since(SystemTime::UNIX_EPOCH)?;
+    let nanos = since.as_secs().wrapping_mul(1_000_000_000);
+    Ok(nanos.wrapping_add(u64::from(since.subsec_nanos())))
+}
+
 /// Asks all commands from so many lanes at once, as many from each.
 fn are_one_run<R: Abort + Clock + Print + Threads + Wait + Sync>(
     rt: &R,
@@ -18,11 +25,7 @@ fn are_one_run<R: Abort + Clock + Print + Threads + Wait + Sync>(
     lanes: usize,
     each: u64,
 ) -> Result<(), Fail> {
-    let since = SystemTime::now(rt)?.duration_since(SystemTime::UNIX_EPOCH)?;
-    let seed = since
-        .as_secs()
-        .wrapping_mul(1_000_000_000)
-        .wrapping_add(u64::from(since.subsec_nanos()));
+    let seed = seed(rt)?;
     println!(rt; "seed {seed}")?;
     let (seen, summary) = ask_at_random(rt, alloc, lanes, each, seed).ok_or("a desk")?;
     let Seen::OneRun { calls, errors } = seen else {

@@ -94,6 +94,10 @@ impl Dice {
         words[(self.next() % words.len() as u64) as usize]
     }
 
+    fn kind(&mut self) -> &'static str {
+        self.one_of(&KINDS)
+    }
+
     /// The word that stands in the place of this one.
     fn word(&mut self, alloc: Global, word: &[u8]) -> Result<Bytes, AllocError> {
         let one = match word {
@@ -120,7 +124,7 @@ fn at_random(alloc: Global, seed: u64) -> Result<Command, Refusal>
     let mut dice = Dice { state: seed };
     dice.state = dice.next();
     let mut words = Vec::new(alloc);
-    for word in dice.one_of(&KINDS).split(' ') {
+    for word in dice.kind().split(' ') {
         words.push(dice.word(alloc, word.as_bytes())?)?;
     }
     read_words(alloc, words.as_slice())

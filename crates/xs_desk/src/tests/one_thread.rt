@@ -1,14 +1,13 @@
 //! One desk in one thread.
 use super::commands::{read, text_of};
 use super::trial::{Still, Trial};
-use crate::client::Full;
 use crate::opening::{DeskError, desk};
 use crate::seat::next_place;
 use crate::summary::LaneSummary;
 use std::alloc::Global;
 use std::process::Abort;
 use std::test::Fail;
-use xs_command::{Command, Refusal};
+use xs_command::Refusal;
 use xs_resp::Reply;
 
 /// The summary of a lane.
@@ -51,10 +50,8 @@ fn submits<R: Abort>(
     line: &str,
     wanted: u64,
 ) -> Result<(), Fail> {
-    match trial.submit(lane, read(alloc, line)?) {
-        Ok(ticket) => assert_eq!(rt; ticket, wanted),
-        Err(Full(_)) => assert!(rt; false),
-    }
+    let command = read(alloc, line)?;
+    assert_eq!(rt; trial.submit(lane, command).ok(), Some(wanted));
     Ok(())
 }
 
@@ -74,17 +71,17 @@ fn takes<R: Abort>(
     Ok(())
 }
 
-/// Submits an addition where there is no place for it, and has it back.
-fn is_handed_back(alloc: Global, trial: &mut Trial) -> Result<bool, Refusal> {
-    let told = trial.submit(0, read(alloc, ADDITION)?);
-    Ok(matches!(told, Err(Full(Command::Add(_)))))
+/// Submits an addition where there is no place for it.
+fn is_full(alloc: Global, trial: &mut Trial) -> Result<bool, Refusal> {
+    let command = read(alloc, ADDITION)?;
+    Ok(trial.submit(0, command).is_err())
 }
 
 /// A desk whose lane 0 has answered two additions, and has a third that waits for a place for its answer.
 fn three_additions<R: Abort>(rt: &R, alloc: Global, clock: &mut Still) -> Result<Trial, Fail> {
     let mut trial = Trial::new(alloc, 2, 1)?;
     submits(rt, alloc, &mut trial, 0, ADDITION, 0)?;
-    assert!(rt; is_handed_back(alloc, &mut trial)?);
+    assert!(rt; is_full(alloc, &mut trial)?);
     assert_eq!(rt; trial.turn(clock), Ok(1));
     takes(rt, alloc, &mut trial, 0, (0, 0), b"$6\r\n1000-0\r\n")?;
     assert!(rt; trial.take(0).is_none());
@@ -95,8 +92,8 @@ fn three_additions<R: Abort>(rt: &R, alloc: Global, clock: &mut Still) -> Result
     Ok(trial)
 }
 
-// Lane 0 has a place for one command and one answer: a second command is handed back, and a call whose answer has no
-// place stays where it is.
+// Lane 0 has a place for one command and one answer: a second command has none, and a call whose answer has no place
+// stays where it is.
 #[test]
 fn serves_one_call_after_the_other(rt: HostRuntime) -> Result<(), Fail> {
     let alloc = rt.alloc();

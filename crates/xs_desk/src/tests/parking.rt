@@ -5,9 +5,10 @@ use super::trial::{Still, Trial};
 use crate::client::Client;
 use crate::lane::Lane;
 use crate::port::Port;
-use std::alloc::Global;
+use std::alloc::{AllocError, Global};
 use std::sync::Wait;
 use std::test::Fail;
+use xs_command::Refusal;
 use xs_resp::Reply;
 
 /// How often each client asks.
@@ -37,25 +38,41 @@ impl Job for Adding {
     }
 }
 
+fn adders(alloc: Global, lanes: u64) -> Result<Vec<Adding>, AllocError> {
+    let mut jobs = Vec::new(alloc);
+    for _ in 0..lanes {
+        jobs.push(Adding { alloc, answered: 0 })?;
+    }
+    Ok(jobs)
+}
+
+/// Asks for the length of the stream, and tells it with the place of the call.
+fn length(
+    alloc: Global,
+    trial: &mut Trial,
+    clock: &mut Still,
+) -> Result<Option<(u64, u64)>, Refusal> {
+    let command = read(alloc, "XLEN s")?;
+    let Some(answer) = trial.call(0, clock, command) else {
+        return Ok(None);
+    };
+    match answer.reply {
+        Reply::Int(length) => Ok(Some((answer.place, length))),
+        _ => Ok(None),
+    }
+}
+
 #[test]
 fn each_call_is_answered_once(rt: HostRuntime) -> Result<(), Fail> {
     let alloc = rt.alloc();
     let mut clock = Still::at(1000).ok_or("a moment")?;
     for (lanes, depth) in [(1, 1), (2, 16), (8, 1), (64, 4)] {
-        let mut jobs = Vec::new(alloc);
-        for _ in 0..lanes {
-            jobs.push(Adding { alloc, answered: 0 })?;
-        }
-        let trial = Trial::new(alloc, lanes, depth)?;
+        let jobs = adders(alloc, lanes)?;
+        let trial = Trial::new(alloc, lanes as usize, depth)?;
         let (mut trial, jobs) = trial.together(&rt, alloc, clock, Rest::Idle, jobs)?;
-        for job in &jobs {
-            assert_eq!(rt; job.answered, TIMES);
-        }
-        let length = trial
-            .call(0, &mut clock, read(alloc, "XLEN s")?)
-            .ok_or("an answer")?;
-        assert_eq!(rt; length.place, TIMES * lanes as u64);
-        assert!(rt; matches!(length.reply, Reply::Int(n) if n == TIMES * lanes as u64));
+        assert!(rt; jobs.iter().all(|job| job.answered == TIMES));
+        let all = lanes.saturating_mul(TIMES);
+        assert_eq!(rt; length(alloc, &mut trial, &mut clock)?, Some((all, all)));
     }
     Ok(())
 }

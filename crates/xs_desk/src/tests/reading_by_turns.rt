@@ -9,6 +9,7 @@ use std::process::Abort;
 use std::sync::Wait;
 use std::test::Fail;
 use std::thread::Threads;
+use xs_command::Refusal;
 use xs_keys::Keyspace;
 
 /// The read of each lane.
@@ -28,8 +29,20 @@ const ENTRIES: u64 = 150;
 
 const ALL_READS: u64 = 200;
 
+/// Whether a line has its answer on lane 0, in one turn.
+fn is_answered(
+    alloc: Global,
+    trial: &mut Trial,
+    clock: &mut Still,
+    line: &str,
+) -> Result<bool, Refusal> {
+    let command = read(alloc, line)?;
+    Ok(trial.call(0, clock, command).is_some())
+}
+
 /// A desk with a stream of all entries, from 1-0 on, and a group that has read none.
-fn with_entries(
+fn with_entries<R: Abort>(
+    rt: &R,
     alloc: Global,
     lanes: usize,
     depth: usize,
@@ -38,13 +51,9 @@ fn with_entries(
     let mut trial = Trial::new(alloc, lanes, depth)?;
     for millis in 1..ENTRIES + 1 {
         let line = format!(in alloc; "XADD s {millis}-0 f v")?;
-        trial
-            .call(0, clock, read(alloc, line.as_str())?)
-            .ok_or("an answer")?;
+        assert!(rt; is_answered(alloc, &mut trial, clock, line.as_str())?);
     }
-    trial
-        .call(0, clock, read(alloc, "XGROUP CREATE s g 0")?)
-        .ok_or("an answer")?;
+    assert!(rt; is_answered(alloc, &mut trial, clock, "XGROUP CREATE s g 0")?);
     Ok(trial)
 }
 
@@ -114,7 +123,7 @@ fn read_by_turns<R: Abort + Threads + Wait + Sync>(
     each: u64,
 ) -> Result<(), Fail> {
     let mut clock = Still::at(1000).ok_or("a moment")?;
-    let trial = with_entries(alloc, lanes, depth, &mut clock)?;
+    let trial = with_entries(rt, alloc, lanes, depth, &mut clock)?;
     let jobs = readers(alloc, lanes, each)?;
     let (trial, jobs) = trial.together(rt, alloc, clock, Rest::Idle, jobs)?;
     assert!(rt; are_in_order(&jobs));
