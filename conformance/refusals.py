@@ -4,9 +4,9 @@
     refusals.py [CRATE ..]      the tests of these crates, or of all
 
 The tests of a crate that only refusals can fail stand in conformance/refusals/CRATE, so that the gate doesn't prove the
-crate once more for them: they are laid down in a copy of the crate. Those of the other crates stand in the crate. It
-builds the tests by `rt test`, and then runs the test program with refuse.c loaded into it (`cc` makes a library of that
-file). A test whose name says `a_refused` or `a_refusal` runs with its first allocation refused, then with its second,
+crate once more for them: they are laid down in a copy of the crate, a file tests.rt.txt beside the file of the module
+whose tests it has. Those of the other crates stand in the crate. It builds the tests by `rt test`, and then runs the test
+program with refuse.c loaded into it (`cc` makes a library of that file). A test whose name says `a_refused` or `a_refusal` runs with its first allocation refused, then with its second,
 and so on, until a run asks for fewer; one whose name says `take_no_memory` or `takes_no_memory` with all refused from
 the first on, then from the second on, and so on. Each run has to pass.
 The last line is 'N passed, M failed', by runs; the status is 1 where M > 0 or nothing ran.
@@ -68,12 +68,14 @@ def with_tests(folder, crate):
     laid_down.lay_down(folder, os.listdir(CRATES))
     copy, tests = os.path.join(folder, "crates", crate), os.path.join(APART, crate)
     for at, _, names in os.walk(tests):
-        to = os.path.join(copy, "src", os.path.relpath(at, tests))
+        to = os.path.normpath(os.path.join(copy, "src", os.path.relpath(at, tests)))
         os.makedirs(to, exist_ok=True)
         for name in names:
             shutil.copy(os.path.join(at, name), os.path.join(to, name.removesuffix(".txt")))
-    with open(os.path.join(copy, "src", "lib.rt"), "a", encoding="utf-8") as root:
-        root.write("\n#[cfg(test)]\nmod tests;\n")
+        if "tests.rt.txt" in names:
+            module = os.path.join(to, "lib.rt") if at == tests else f"{to}.rt"
+            with open(module, "a", encoding="utf-8") as source:
+                source.write("\n#[cfg(test)]\nmod tests;\n")
     return copy
 
 

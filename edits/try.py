@@ -1,7 +1,7 @@
 #!/usr/bin/env python3
 """Tries the wrong bodies of this folder: the prover has to refuse each.
 
-    try.py [--further] [--only WORD] [CRATE..]      needs the toolchain, and the crates below as `rt ci` or `rt all
+    try.py [--further] [--only NAME,..] [CRATE..]   needs the toolchain, and the crates below as `rt ci` or `rt all
                             check` built them
     try.py --places         looks only whether each edit still has its place in the sources
 
@@ -44,12 +44,12 @@ def crates_in(folder):
     return sorted(name for name in os.listdir(folder) if os.path.isdir(os.path.join(folder, name)))
 
 
-def edits_of(crate, has_further, word):
-    """The edits of a crate that have this word in their names."""
+def edits_of(crate, has_further, names):
+    """The edits of a crate, or those of them that have these names."""
     folders = [os.path.join(HERE, crate), *([os.path.join(HERE, crate, "further")] if has_further else [])]
     paths = [os.path.join(folder, name) for folder in folders for name in sorted(os.listdir(folder))]
     edits = [Edit(os.path.basename(path)[:-5], list(changes_in(path))) for path in paths if path.endswith(".edit")]
-    return [edit for edit in edits if word in edit.name]
+    return [edit for edit in edits if not names or edit.name in names]
 
 
 def changes_in(path):
@@ -249,12 +249,13 @@ def lanes():
 def main():
     parser = argparse.ArgumentParser(description=__doc__, formatter_class=argparse.RawDescriptionHelpFormatter)
     parser.add_argument("--further", action="store_true", help="those of the folders further too")
-    parser.add_argument("--only", default="", help="only the edits with this in their name")
+    parser.add_argument("--only", default="", help="only the edits of these names, with commas between them")
     parser.add_argument("--places", action="store_true", help="tries nothing")
     parser.add_argument("crates", nargs="*")
     asked = parser.parse_args()
     has_further = asked.further or asked.places or bool(asked.only)
-    edits = {crate: edits_of(crate, has_further, asked.only) for crate in asked.crates or crates_in(HERE)}
+    names = asked.only.split(",") if asked.only else []
+    edits = {crate: edits_of(crate, has_further, names) for crate in asked.crates or crates_in(HERE)}
     lost = [why for crate, found in edits.items() for why in misplaced(crate, found)]
     if lost or asked.places:
         print("\n".join([*lost, f"{sum(map(len, edits.values())) - len(lost)} in place, {len(lost)} failed"]))

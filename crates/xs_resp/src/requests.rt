@@ -150,6 +150,3 @@ fn make_room(bytes: &mut Vec<u8>, start: usize) -> usize
     bytes.shrink_to(KEPT);
     start
 }
-
-#[cfg(test)]
-mod tests;

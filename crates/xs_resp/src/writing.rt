@@ -110,6 +110,3 @@ fn write_fault(fault: Fault, out: &mut Vec<u8>) -> Result<(), AllocError>
     out.extend_from_slice(fault.text().as_bytes())?;
     out.extend_from_slice(b"\r\n")
 }
-
-#[cfg(test)]
-mod tests;
