@@ -95,9 +95,14 @@ def functions_of(edit, crate):
 
 
 def impl_at(text):
-    """The name that the prover gives to the impl in which this text ends, if it ends in one."""
-    heads = re.findall(r"^(?:(impl)(?:<.*?>)? (?:(\w+)(?:<.*>)? for )?(\w+)|[}])", text, re.M)
-    return [heads[-1][2] + heads[-1][1]] if heads and heads[-1][0] else []
+    """The name that the prover gives to the impl in which this text ends, if it ends in one: the words of its type, then
+    those of its trait, without parameters."""
+    heads = re.findall(r"^(?:(impl)(?:<(.*?)>)? (?:(.*) for )?(.*?) ?\{|\})$", text, re.M)
+    if not heads or not heads[-1][0]:
+        return []
+    _, parameters, of_trait, of_type = heads[-1]
+    passed_over = re.findall(r"(?:^|,)\W*(\w+)", parameters)
+    return ["".join(word for word in re.findall(r"\w+", f"{of_type} {of_trait}") if word not in passed_over)]
 
 
 class Copy:
