@@ -10,7 +10,6 @@ use std::marker::Model;
 use std::sync::atomic::{AtomicBool, Ordering};
 use std::sync::{Arc, Wait};
 use xs_command::Command;
-use xs_stream::Moment;
 
 /// There is no free place for the command, or no further ticket. It hands the command back.
 #[derive(Debug, Drop)]
@@ -95,7 +94,8 @@ impl Client {
         }
     }
 
-    /// Submits a command. It answers the ticket: 0, 1, 2, .. in this lane. It takes no memory.
+    /// Submits a command, and wakes the keeper if it sleeps. It answers the ticket: 0, 1, 2, .. in this lane. It takes
+    /// no memory.
     ///
     /// # Errors
     /// `Full`, with the command. Nothing has changed.
@@ -113,21 +113,43 @@ impl Client {
         match self.calls.push(command) {
             Ok(()) => {
                 self.ticket = next;
-                self.notice.give();
+                self.sleeper.found();
+                self.tell_keeper();
                 Ok(ticket)
             }
             Err(PushError::Full(back)) => Err(Full(back)),
         }
     }
 
-    /// The next answer, if it has come. It takes no memory.
+    /// The next answer, if it has come. It wakes the keeper if it sleeps, since a place has come free for it, and takes
+    /// no memory.
     pub fn take(&mut self) -> Option<Answer>
         ensures { MatchOption result (self.new ≡ self.old)
             (λ answer. self.new ≡ record self.old { taken = self.old.taken ++ answer ∷ [] }) }
     {
+        self.sleeper.begin_look();
         let answer = self.answers.pop().ok()?;
-        self.notice.give();
+        self.sleeper.found();
+        self.sleeper.pace().call_at(answer.moment);
+        self.tell_keeper();
         Some(answer)
+    }
+
+    /// Waits after a `take` that gave nothing. After many such in a row it parks until the keeper has answered or is
+    /// gone; before that it comes back at once, for another `take`.
+    pub fn idle<R: Wait>(&self, rt: &R) {
+        self.sleeper.rest(rt);
+    }
+
+    /// Whether the keeper is gone. Where it is, and a `take` after that gives nothing, no answer comes any more.
+    pub fn is_gone(&self) -> bool {
+        self.gone.load(Ordering::SeqCst)
+    }
+
+    /// Tells the keeper of a call, or of a free place, if it doesn't look.
+    fn tell_keeper(&self) {
+        self.notice.give();
+        self.bell.ring();
     }
 
     /// Ends the client: it makes no further call.
@@ -145,34 +167,5 @@ impl Client {
             answers,
             lane,
         }
-    }
-
-    /// Begins a look for an answer or a place, and says whether nobody is served any more.
-    pub(crate) fn begin_look(&mut self) -> bool
-        ensures { self.new ≡ self.old }
-    {
-        self.sleeper.begin_look();
-        self.gone.load(Ordering::SeqCst)
-    }
-
-    /// The look has found what it was for. The keeper is told where a command was submitted.
-    pub(crate) fn found(&mut self)
-        ensures { self.new ≡ self.old }
-    {
-        self.sleeper.found();
-        self.bell.ring();
-    }
-
-    /// An answer was taken that was applied at this moment.
-    pub(crate) fn answered_at(&mut self, moment: Moment)
-        ensures { self.new ≡ self.old }
-    {
-        self.sleeper.pace().call_at(moment);
-    }
-
-    /// Waits where the look has found nothing. The keeper is told first: a place may have come free for it.
-    pub(crate) fn rest<R: Wait>(&self, rt: &R) {
-        self.bell.ring();
-        self.sleeper.rest(rt);
     }
 }

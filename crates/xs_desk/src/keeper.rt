@@ -5,7 +5,7 @@ ghost use Rattle.xs_desk.specs.Seats.{desk_of};
 
 use crate::seat::{Look, Seat};
 use crate::waiting::{Bell, Sleeper};
-use crate::watch::Notices;
+use crate::watch::Awake;
 use std::alloc::AllocError;
 use std::marker::Model;
 use std::snapshot::Snapshot;
@@ -29,7 +29,7 @@ pub struct Keeper {
     seats: Vec<Seat>,
     keyspace: Keyspace,
     place: u64,
-    notices: Notices,
+    awake: Awake,
     sleeper: Sleeper,
     // Set once nobody is served any more.
     gone: Arc<AtomicBool>,
@@ -56,7 +56,7 @@ impl Drop for Keeper {
             seats,
             keyspace: _keyspace,
             place: _,
-            notices: _notices,
+            awake: _awake,
             sleeper: _sleeper,
             gone,
         } = self;
@@ -96,10 +96,10 @@ fn say_gone(seats: &Vec<Seat>, gone: &Arc<AtomicBool>) {
     }
 }
 
-/// Looks at each lane once, in order; `notices` has a bit for each, the lowest for lane 0.
+/// Looks once at each lane that isn't at rest, in order.
 fn serve_each<C: Clock>(
     seats: &mut Vec<Seat>,
-    notices: u64,
+    awake: &mut Awake,
     keyspace: &mut Keyspace,
     place: &mut u64,
     clock: &mut C,
@@ -113,13 +113,20 @@ fn serve_each<C: Clock>(
         (desk_of seats.new.items keyspace.new place.new) clock.new × (place.new + 1 ≡ 2 ^ 64)) }
 {
     let mut served = 0;
-    let mut notices = notices;
-    for k in 0..seats.len() {
+    // The lowest bit is that of the lane `next`, the lowest that hasn't had its turn.
+    let mut lanes = awake.lanes();
+    let mut next = 0;
+    while lanes != 0 {
+        let resting = lanes.trailing_zeros();
+        let k = next + resting as usize;
+        if k >= seats.len() {
+            break;
+        }
+        lanes = lanes.wrapping_shr(resting) >> 1;
+        next = k + 1;
         let seat = &mut seats[k];
-        let has_notice = notices & 1 == 1;
-        notices >>= 1;
-        match seat.serve(has_notice, keyspace, place, clock) {
-            Look::Idle => {}
+        match seat.serve(keyspace, place, clock) {
+            Look::Idle => awake.found_nothing(k, &seat.watch),
             Look::Served => served += 1,
             Look::Exhausted => return Err(KeeperError::Exhausted),
         }
@@ -138,7 +145,7 @@ impl Keeper {
     pub(crate) fn new(
         seats: Vec<Seat>,
         keyspace: Keyspace,
-        notices: Notices,
+        awake: Awake,
         sleeper: Sleeper,
         gone: Arc<AtomicBool>,
     ) -> Keeper
@@ -149,7 +156,7 @@ impl Keeper {
             seats,
             keyspace,
             place: 0,
-            notices,
+            awake,
             sleeper,
             gone,
         }
@@ -177,10 +184,9 @@ impl Keeper {
         ensures rings { KeepsRings self.old self.new }
     {
         self.sleeper.begin_look();
-        let notices = self.notices.take();
         let served = serve_each(
             &mut self.seats,
-            notices,
+            &mut self.awake,
             &mut self.keyspace,
             &mut self.place,
             clock,
@@ -214,7 +220,7 @@ impl Keeper {
             seats,
             keyspace,
             place: _,
-            notices: _notices,
+            awake: _awake,
             sleeper: _sleeper,
             gone,
         } = self;

@@ -56,19 +56,16 @@ fn submit<R: Wait>(rt: &R, client: &mut Client, command: Command) -> Result<u64,
 {
     let mut command = command;
     for _ in rt.forever() {
-        let gone = client.begin_look();
         match client.submit(command) {
-            Ok(ticket) => {
-                client.found();
-                return Ok(ticket);
-            }
+            Ok(ticket) => return Ok(ticket),
             Err(Full(back)) => command = back,
         }
+        let gone = client.is_gone();
         if client.take().is_none() {
             if gone {
                 return Err(PortFault::Gone);
             }
-            client.rest(rt);
+            client.idle(rt);
         }
     }
     unreachable!()
@@ -81,12 +78,10 @@ fn receive<R: Wait>(rt: &R, client: &mut Client, ticket: u64) -> Result<Reply, P
         (λ _. Takes client.old client.new) }
 {
     for _ in rt.forever() {
-        let gone = client.begin_look();
+        let gone = client.is_gone();
         match client.take() {
             Some(answer) => {
                 if answer.ticket == ticket {
-                    client.answered_at(answer.moment);
-                    client.found();
                     return Ok(answer.reply);
                 }
             }
@@ -94,7 +89,7 @@ fn receive<R: Wait>(rt: &R, client: &mut Client, ticket: u64) -> Result<Reply, P
                 if gone {
                     return Err(PortFault::Gone);
                 }
-                client.rest(rt);
+                client.idle(rt);
             }
         }
     }

@@ -26,6 +26,3 @@ pub use lane::Lane;
 pub use opening::{DeskError, desk};
 pub use port::{Port, PortFault};
 pub use summary::{LaneSummary, Summary};
-
-#[cfg(test)]
-mod tests;

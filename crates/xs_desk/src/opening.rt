@@ -9,7 +9,7 @@ use crate::client::Client;
 use crate::keeper::Keeper;
 use crate::seat::Seat;
 use crate::waiting::{LAST_LOOK_OF_KEEPER, LAST_LOOK_OF_LANE, Sleeper};
-use crate::watch::Notices;
+use crate::watch::Awake;
 use rtrb::RingBuffer;
 use std::alloc::{AllocError, Global};
 use std::sync::Arc;
@@ -43,7 +43,7 @@ fn open_lane(
     alloc: Global,
     lane: usize,
     depth: usize,
-    notices: &Notices,
+    awake: &mut Awake,
     keeper: &Sleeper,
     gone: &Arc<AtomicBool>,
 ) -> Result<(Seat, Client), AllocError>
@@ -53,7 +53,7 @@ fn open_lane(
     let (answers, from_keeper) = RingBuffer::<Answer>::new(alloc, depth)?;
     let sleeper = Sleeper::new(alloc, LAST_LOOK_OF_LANE)?;
     let bell = sleeper.bell()?;
-    let (watch, notice) = notices.watch(alloc, lane)?;
+    let (watch, notice) = awake.watch(alloc, lane)?;
     let seat = Seat {
         calls,
         answers,
@@ -80,7 +80,7 @@ fn open_lanes(
     alloc: Global,
     count: usize,
     depth: usize,
-    notices: &Notices,
+    awake: &mut Awake,
     keeper: &Sleeper,
     gone: &Arc<AtomicBool>,
 ) -> Result<(Vec<Seat>, Vec<Client>), AllocError>
@@ -89,7 +89,7 @@ fn open_lanes(
     let mut seats = Vec::with_capacity(alloc, count)?;
     let mut clients = Vec::with_capacity(alloc, count)?;
     for lane in 0..count {
-        let (seat, client) = open_lane(alloc, lane, depth, notices, keeper, gone)?;
+        let (seat, client) = open_lane(alloc, lane, depth, awake, keeper, gone)?;
         seats.push(seat)?;
         clients.push(client)?;
     }
@@ -103,10 +103,10 @@ fn open_desk(alloc: Global, count: usize, depth: usize) -> Result<(Keeper, Vec<C
 {
     let sleeper = Sleeper::new(alloc, LAST_LOOK_OF_KEEPER)?;
     let gone = Arc::new(alloc, AtomicBool::new(false))?;
-    let notices = Notices::new(alloc)?;
-    let (seats, clients) = open_lanes(alloc, count, depth, &notices, &sleeper, &gone)?;
+    let mut awake = Awake::new(alloc)?;
+    let (seats, clients) = open_lanes(alloc, count, depth, &mut awake, &sleeper, &gone)?;
     Ok((
-        Keeper::new(seats, Keyspace::new(alloc), notices, sleeper, gone),
+        Keeper::new(seats, Keyspace::new(alloc), awake, sleeper, gone),
         clients,
     ))
 }

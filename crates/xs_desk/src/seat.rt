@@ -44,11 +44,9 @@ pub(crate) fn next_place(place: u64) -> Option<u64>
 impl Seat {
     ghost use Rattle.xs_desk.specs.Seats.{scene, Looks};
 
-    /// Serves the next call of the lane, if there is one and its answer has a free place. A lane at rest isn't looked
-    /// at, unless its client has given notice.
+    /// Serves the next call of the lane, if there is one and its answer has a free place.
     pub fn serve<C: Clock>(
         &mut self,
-        has_notice: bool,
         keyspace: &mut Keyspace,
         place: &mut u64,
         clock: &mut C,
@@ -57,9 +55,7 @@ impl Seat {
         ensures { Looks C.gives result (scene self.old keyspace.old place.old clock.old)
             (scene self.new keyspace.new place.new clock.new) }
     {
-        if !self.watch.begins_look(has_notice) {
-            return Look::Idle;
-        }
+        self.watch.begin_look();
         if self.calls.is_empty() || self.answers.is_full() {
             return Look::Idle;
         }

@@ -18,10 +18,12 @@ use std::sync::atomic::{AtomicBool, AtomicU64, Ordering};
 /// a client alone at its desk gives no notice.
 const LAST_LOOK: u32 = LAST_LOOK_OF_KEEPER + 1;
 
-/// The lanes whose clients gave notice: a bit for each, the lowest for lane 0. The keeper takes them.
+/// The lanes that the keeper looks at: a bit for each, the lowest for lane 0.
 #[derive(Drop)]
-pub(crate) struct Notices {
-    lanes: Arc<AtomicU64>,
+pub(crate) struct Awake {
+    lanes: u64,
+    // Those at rest whose clients gave notice; the keeper takes them.
+    notices: Arc<AtomicU64>,
 }
 
 /// The keeper's side of one lane.
@@ -36,63 +38,79 @@ pub(crate) struct Watch {
 #[derive(Drop)]
 pub(crate) struct Notice {
     rests: Arc<AtomicBool>,
-    lanes: Arc<AtomicU64>,
+    notices: Arc<AtomicU64>,
     lane: u64,
 }
 
-impl Notices {
-    pub fn new(alloc: Global) -> Result<Notices, AllocError> {
-        let lanes = Arc::new(alloc, AtomicU64::new(0))?;
-        Ok(Notices { lanes })
+/// The bit of a lane.
+fn bit_of(lane: usize) -> u64 {
+    1u64.wrapping_shl((lane % MAX_LANES) as u32)
+}
+
+impl Awake {
+    /// No lane is looked at.
+    pub fn new(alloc: Global) -> Result<Awake, AllocError> {
+        let notices = Arc::new(alloc, AtomicU64::new(0))?;
+        Ok(Awake { lanes: 0, notices })
     }
 
-    /// Both sides of a lane, which is looked at.
-    pub fn watch(&self, alloc: Global, lane: usize) -> Result<(Watch, Notice), AllocError> {
+    /// Both sides of a lane, which is looked at from now on.
+    pub fn watch(&mut self, alloc: Global, lane: usize) -> Result<(Watch, Notice), AllocError> {
         let rests = Arc::new(alloc, AtomicBool::new(false))?;
+        let lane = bit_of(lane);
+        self.lanes |= lane;
         let watch = Watch {
             looks: 0,
             rests: Arc::try_clone(&rests)?,
         };
         let notice = Notice {
             rests,
-            lanes: Arc::try_clone(&self.lanes)?,
-            lane: 1u64.wrapping_shl((lane % MAX_LANES) as u32),
+            notices: Arc::try_clone(&self.notices)?,
+            lane,
         };
         Ok((watch, notice))
     }
 
-    /// The lanes that gave notice since they were taken last.
-    pub fn take(&self) -> u64 {
-        if self.lanes.load(Ordering::SeqCst) == 0 {
-            0
-        } else {
-            self.lanes.swap(0, Ordering::SeqCst)
+    /// The lanes to look at in this turn. Those that have given notice are looked at from now on.
+    pub fn lanes(&mut self) -> u64 {
+        if self.notices.load(Ordering::SeqCst) != 0 {
+            self.lanes |= self.notices.swap(0, Ordering::SeqCst);
+        }
+        self.lanes
+    }
+
+    /// A look at the lane has found nothing: it is passed over from now on, if it is at rest.
+    pub fn found_nothing(&mut self, lane: usize, watch: &Watch) {
+        if watch.is_at_rest() {
+            self.lanes &= !bit_of(lane);
         }
     }
 }
 
 impl Watch {
-    /// Begins a look at the lane, if there has to be one. It stands before the look itself.
-    pub fn begins_look(&mut self, has_notice: bool) -> bool {
-        if has_notice {
+    /// Begins a look at the lane. It stands before the look itself. A lane at rest is looked at since its client has
+    /// given notice.
+    pub fn begin_look(&mut self) {
+        if self.is_at_rest() {
             self.found();
         }
-        if self.looks >= LAST_LOOK {
-            return false;
-        }
-        self.looks += 1;
+        self.looks = self.looks.saturating_add(1);
         if self.looks == LAST_LOOK {
             self.rests.store(true, Ordering::SeqCst);
         }
-        true
     }
 
     /// The look has found a call, or the client has given notice.
     pub fn found(&mut self) {
-        if self.looks == LAST_LOOK {
+        if self.is_at_rest() {
             self.rests.store(false, Ordering::SeqCst);
         }
         self.looks = 0;
+    }
+
+    /// Whether the last look was made and has found nothing.
+    pub fn is_at_rest(&self) -> bool {
+        self.looks >= LAST_LOOK
     }
 }
 
@@ -100,7 +118,7 @@ impl Notice {
     /// Tells the keeper that there is a call or a place, if it doesn't look.
     pub fn give(&self) {
         if self.rests.load(Ordering::SeqCst) {
-            self.lanes.fetch_or(self.lane, Ordering::SeqCst);
+            self.notices.fetch_or(self.lane, Ordering::SeqCst);
         }
     }
 }

@@ -77,6 +77,7 @@ pub record Consumers : Type 0 where
   pub another : is_consumer (read_by_a ∷ []) (codes "b") ≡ false
   pub removed : is_consumer (event 200 (leave (codes "a")) ∷ read_by_a ∷ []) (codes "a") ≡ false
   pub another_removed : is_consumer (event 200 (leave (codes "b")) ∷ read_by_a ∷ []) (codes "a") ≡ true
+  pub not_by_another_s_removal : is_consumer (event 200 (leave (codes "a")) ∷ read_by_a ∷ []) (codes "b") ≡ false
   pub back_again : is_consumer (event 300 (join (codes "a")) ∷ event 200 (leave (codes "a")) ∷ []) (codes "a") ≡ true
   pub asks_by_a_read : consumer_of (read_new (codes "a") None true) ≡ Some (codes "a")
   pub asks_by_its_own : consumer_of (read_own (codes "a") None (at 0 0)) ≡ Some (codes "a")
@@ -176,6 +177,9 @@ pub record Rows : Type 0 where
       ≡ pending (at 2 0) (codes "a") 100 1 ∷ pending (at 3 0) (codes "a") 100 1 ∷ []
   pub acknowledged :
       rows start (event 150 (ack (at 2 0 ∷ [])) ∷ read_by_a ∷ []) ≡ pending (at 3 0) (codes "a") 100 1 ∷ []
+  pub made_again :
+      rows start (event 200 (join (codes "a")) ∷ read_by_a ∷ [])
+      ≡ pending (at 2 0) (codes "a") 100 1 ∷ pending (at 3 0) (codes "a") 100 1 ∷ []
   pub removed :
       rows start (event 200 (leave (codes "a")) ∷ claim_by_b ∷ read_by_a ∷ []) ≡ pending (at 2 0) (codes "b") 150 2 ∷ []
   pub deleted :

@@ -1,49 +1,74 @@
-use Rattle.std.proofs.Common.{◌≡◌, ◌<◌, ◌≤◌, length, arith}
+use lib.Count.{count_trailing_zeros}
+use Rattle.std.proofs.Common.{ℕ, ◌+◌, ◌<◌, ◌≤◌, length, arith}
 use Rattle.std.proofs.lemmas.List.{length-set}
 use Rattle.xs_desk.specs.Seats.{desk_of, lane_of}
 use Rattle.xs_desk.proofs.Turning.{turns-on, turns-few}
 use Rattle.xs_desk.proofs.Looking.{seat-at, rests-place, rests-turns, rests-places, answers-turns, answers-places}
 use Rattle.xs_desk.proofs.keeper.serve_each.Goals as goal
-use Rattle.xs_desk.proofs.keeper.serve_each.Goals.{in-Idle, in-Served}
+
+-- the lane of the lowest bit
+lane-at : ℕ → ℕ → ℕ
+lane-at next lanes = next + count_trailing_zeros 64 lanes
 
 pub serve-requires : goal.serve-requires
+unfolding lane-at
 serve-requires g c =
+    let k = lane-at c.loop-lanes.next c.loop-lanes.lanes in
     let s = c.index_mut-seat.result.now in
-    let lt : c.loop-k.k < length c.loop-k.seats.items = omega arith in
-    c.loop-k.invariant.room c.loop-k.k (lane_of s) (seat-at c.loop-k.seats.items c.loop-k.k s lt c.index_mut-seat.ensures.value)
+    let lt : k < length c.loop-lanes.seats.items = omega (arith, c.if-k-len.false) in
+    c.loop-lanes.invariant.room k (lane_of s) (seat-at c.loop-lanes.seats.items k s lt c.index_mut-seat.ensures.value)
 
 pub overflow_add-served : goal.overflow_add-served
 overflow_add-served g c =
-    let few = turns-few _ _ _ _ _ _ _ c.loop-k.invariant.turned in
-    omega arith
+    let few = turns-few _ _ _ _ _ _ _ c.loop-lanes.invariant.turned in
+    omega (arith, few, c.if-k-len.false)
 
 pub returns-in-Exhausted : goal.returns-in-Exhausted
+unfolding lane-at
 returns-in-Exhausted g c =
+    let k = lane-at c.loop-lanes.next c.loop-lanes.lanes in
     let s = c.index_mut-seat.result.now in
-    let lt : c.loop-k.k < length c.loop-k.seats.items = omega arith in
-    let le : c.loop-k.k ≤ length c.args.seats.now.items = omega arith in
+    let lt : k < length c.loop-lanes.seats.items = omega (arith, c.if-k-len.false) in
+    let le : c.loop-lanes.next ≤ length c.args.seats.now.items = omega (arith, c.loop-lanes.invariant.within, c.loop-lanes.invariant.lanes) in
     let rests = c.in-Exhausted.ensures.0 in
-    let place = rests-place g.C.Clock.gives (desk_of c.args.seats.now.items c.args.keyspace.now c.args.place.now) c.args.clock.now c.loop-k.served _ _ s c.serve.new.self _ _ _ _ _ _ lt c.index_mut-seat.ensures.value rests in (
-      c.loop-k.served,
-      turns-on _ _ _ _ _ _ _ _ (rests-turns _ _ _ _ _ _ s c.serve.new.self _ _ _ _ _ _ lt c.index_mut-seat.ensures.value _ c.loop-k.invariant.turned rests) le,
+    let place = rests-place g.C.Clock.gives (desk_of c.args.seats.now.items c.args.keyspace.now c.args.place.now) c.args.clock.now c.loop-lanes.served _ _ s c.serve.new.self _ _ _ _ _ _ lt c.index_mut-seat.ensures.value rests in (
+      c.loop-lanes.served,
+      turns-on _ _ _ _ _ _ _ _ (rests-turns _ _ _ _ _ _ s c.serve.new.self _ _ _ _ _ _ lt c.index_mut-seat.ensures.value _ c.loop-lanes.invariant.turned rests) le,
       omega (arith, place, c.in-Exhausted.ensures.1),
     )
 
-pub loop-k-preserved : goal.loop-k-preserved
-loop-k-preserved g c =
+pub loop-lanes-preserved-in-Idle : goal.loop-lanes-preserved-in-Idle
+unfolding lane-at
+loop-lanes-preserved-in-Idle g c =
+    let k = lane-at c.loop-lanes.next c.loop-lanes.lanes in
     let s = c.index_mut-seat.result.now in
     let h = c.index_mut-seat.ensures.value in
-    let lt : c.loop-k.k < length c.loop-k.seats.items = omega arith in
-    let n : length c.loop-k.seats.items ≡ length c.args.seats.now.items = c.loop-k.invariant.lanes in
-    elim c.match-serve.branch [
-      | in-Idle w ↦ rw w.served-is (record {
-        turned = turns-on _ _ _ _ _ _ _ _ (rests-turns _ _ _ _ _ _ s c.serve.new.self _ _ _ _ _ _ lt h _ c.loop-k.invariant.turned w.in-Idle.ensures) (omega arith);
-        room = rests-places g.C.Clock.gives (desk_of c.args.seats.now.items c.args.keyspace.now c.args.place.now) c.args.clock.now c.loop-k.served _ _ s c.serve.new.self _ _ _ _ _ _ lt h c.loop-k.invariant.room w.in-Idle.ensures;
-        lanes = omega (arith, length-set c.loop-k.seats.items c.loop-k.k c.serve.new.self);
-      })
-      | in-Served w ↦ rw w.served-is (record {
-        turned = answers-turns _ _ _ _ _ _ s c.serve.new.self _ _ _ _ _ _ lt h c.loop-k.invariant.turned w.in-Served.ensures;
-        room = answers-places g.C.Clock.gives (desk_of c.args.seats.now.items c.args.keyspace.now c.args.place.now) c.args.clock.now c.loop-k.served _ _ s c.serve.new.self _ _ _ _ _ _ lt h c.loop-k.invariant.room w.in-Served.ensures;
-        lanes = omega (arith, length-set c.loop-k.seats.items c.loop-k.k c.serve.new.self);
-      })
-    ]
+    let lt : k < length c.loop-lanes.seats.items = omega (arith, c.if-k-len.false) in
+    let n = length-set c.loop-lanes.seats.items k c.serve.new.self in record {
+      turned = turns-on _ _ _ _ _ _ _ _ (rests-turns _ _ _ _ _ _ s c.serve.new.self _ _ _ _ _ _ lt h _ c.loop-lanes.invariant.turned c.in-Idle.ensures) (omega arith);
+      room = rests-places g.C.Clock.gives (desk_of c.args.seats.now.items c.args.keyspace.now c.args.place.now) c.args.clock.now c.loop-lanes.served _ _ s c.serve.new.self _ _ _ _ _ _ lt h c.loop-lanes.invariant.room c.in-Idle.ensures;
+      lanes = omega (arith, n, c.loop-lanes.invariant.lanes);
+      within = omega (arith, n, lt);
+    }
+
+pub loop-lanes-preserved : goal.loop-lanes-preserved
+unfolding lane-at
+loop-lanes-preserved g c =
+    let k = lane-at c.loop-lanes.next c.loop-lanes.lanes in
+    let s = c.index_mut-seat.result.now in
+    let h = c.index_mut-seat.ensures.value in
+    let lt : k < length c.loop-lanes.seats.items = omega (arith, c.if-k-len.false) in
+    let n = length-set c.loop-lanes.seats.items k c.serve.new.self in record {
+      turned = answers-turns _ _ _ _ _ _ s c.serve.new.self _ _ _ _ _ _ lt h (turns-on _ _ _ _ _ _ _ k c.loop-lanes.invariant.turned (omega arith)) c.in-Served.ensures;
+      room = answers-places g.C.Clock.gives (desk_of c.args.seats.now.items c.args.keyspace.now c.args.place.now) c.args.clock.now c.loop-lanes.served _ _ s c.serve.new.self _ _ _ _ _ _ lt h c.loop-lanes.invariant.room c.in-Served.ensures;
+      lanes = omega (arith, n, c.loop-lanes.invariant.lanes);
+      within = omega (arith, n, lt);
+    }
+
+pub returns-after-loop-lanes : goal.returns-after-loop-lanes
+returns-after-loop-lanes g c =
+    turns-on _ _ _ _ _ _ _ _ c.loop-lanes.invariant.turned (omega (arith, c.loop-lanes.invariant.within, c.loop-lanes.invariant.lanes))
+
+pub returns-then-k-len : goal.returns-then-k-len
+returns-then-k-len g c =
+    turns-on _ _ _ _ _ _ _ _ c.loop-lanes.invariant.turned (omega (arith, c.loop-lanes.invariant.within, c.loop-lanes.invariant.lanes))

@@ -15,6 +15,7 @@ returns c = record {
   another = refl;
   removed = refl;
   another_removed = refl;
+  not_by_another_s_removal = refl;
   back_again = refl;
   asks_by_a_read = refl;
   asks_by_its_own = refl;

@@ -14,6 +14,7 @@ returns c = record {
   read_again = refl;
   read_again_by_another = refl;
   acknowledged = refl;
+  made_again = refl;
   removed = refl;
   deleted = refl;
 }

@@ -1,0 +1,5 @@
+use Rattle.xs_desk.specs.Keeping.{KeepsSide}
+use Rattle.xs_desk_tests.proofs.tests.parking.AddingJob.run.Given as goal
+
+abbrev pub invariant-loop : goal.invariant-loop
+invariant-loop g l = KeepsSide l.fn.client l.lane.client

@@ -1,0 +1,76 @@
+//! Clients that wait for each answer over their lanes, and a keeper that is idle.
+use super::commands::read;
+use super::together::Job;
+use super::trial::{Still, Trial};
+use std::alloc::{AllocError, Global};
+use std::sync::Wait;
+use std::test::Fail;
+use xs_command::Refusal;
+use xs_desk::{Client, Lane, Port};
+use xs_resp::Reply;
+
+/// How often each client asks.
+const TIMES: u64 = 500;
+
+/// Asks for additions, and counts the replies that are no error.
+#[derive(Drop)]
+struct Adding {
+    alloc: Global,
+    answered: u64,
+}
+
+impl Job for Adding {
+    #[tactic(auto, using(crate::proofs::Sides::steps))]
+    fn run<R: Wait>(&mut self, rt: &R, client: Client) -> Client {
+        let mut lane = Lane::new(client);
+        for _ in 0..TIMES {
+            let Ok(command) = read(self.alloc, "XADD s * f v") else {
+                break;
+            };
+            match lane.ask(rt, command) {
+                Ok(Reply::Error(_)) | Err(_) => {}
+                Ok(_) => self.answered = self.answered.saturating_add(1),
+            }
+        }
+        lane.end()
+    }
+}
+
+fn adders(alloc: Global, lanes: u64) -> Result<Vec<Adding>, AllocError> {
+    let mut jobs = Vec::new(alloc);
+    for _ in 0..lanes {
+        jobs.push(Adding { alloc, answered: 0 })?;
+    }
+    Ok(jobs)
+}
+
+/// Asks for the length of the stream, and tells it with the place of the call.
+fn length(
+    alloc: Global,
+    trial: &mut Trial,
+    clock: &mut Still,
+) -> Result<Option<(u64, u64)>, Refusal> {
+    let command = read(alloc, "XLEN s")?;
+    let Some(answer) = trial.call(0, clock, command) else {
+        return Ok(None);
+    };
+    match answer.reply {
+        Reply::Int(length) => Ok(Some((answer.place, length))),
+        _ => Ok(None),
+    }
+}
+
+#[test]
+fn each_call_is_answered_once(rt: HostRuntime) -> Result<(), Fail> {
+    let alloc = rt.alloc();
+    let mut clock = Still::at(1000).ok_or("a moment")?;
+    for (lanes, depth) in [(1, 1), (2, 16), (8, 1), (64, 4)] {
+        let jobs = adders(alloc, lanes)?;
+        let trial = Trial::new(alloc, lanes as usize, depth)?;
+        let (mut trial, jobs) = trial.together(&rt, alloc, clock, jobs)?;
+        assert!(rt; jobs.iter().all(|job| job.answered == TIMES));
+        let all = lanes.saturating_mul(TIMES);
+        assert_eq!(rt; length(alloc, &mut trial, &mut clock)?, Some((all, all)));
+    }
+    Ok(())
+}
