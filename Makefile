@@ -2,10 +2,6 @@
 
 PROGRAM = crates/xs_server/out/xs_server
 BELOW_THE_DESK = xs_bytes xs_stream xs_resp xs_group xs_command xs_keys
-# edits of xs_desk and xs_server that the gate tries
-OF_A_DESK = dropped_call,crossed_lanes,lanes_in_reverse,keyspace_forgotten,reply_invented
-OF_SESSIONS = executed_before_it_is_whole,serve_reads_nothing,invented_read_fault,invented_port_fault
-OF_SCRIPTS = reads_nothing,invented_device_fault
 
 # Proves and builds the program, and runs the script of two additions.
 run:
@@ -20,15 +16,13 @@ serve:
 
 # Proves everything from nothing, and runs the tests and the program that it built: the worked cases, the great scripts,
 # connections made at random. Then it tries the edits that have to fail, over the libraries that `rt ci` built: those of
-# the crates below the desk, and of the others the most telling ones. The rest takes a minute and more each, and is left
-# to `make edits`.
+# the crates below the desk. The edits of xs_desk and xs_server take a minute and more each, and are left to `make edits`.
 test:
 	rt ci
 	python3 conformance/run.py $(PROGRAM) script
 	python3 conformance/great.py $(PROGRAM)
 	python3 conformance/sessions.py --bytes 5000000 $(PROGRAM)
 	python3 edits/try.py $(BELOW_THE_DESK)
-	python3 edits/try.py --only $(OF_A_DESK),$(OF_SESSIONS),$(OF_SCRIPTS) xs_desk xs_server
 
 # Proves what has changed, looks whether each edit has its place, and runs the worked cases: what one runs while working.
 check:
