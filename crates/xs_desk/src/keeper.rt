@@ -114,7 +114,7 @@ fn serve_each<C: Clock>(
 {
     let mut served = 0;
     // The lowest bit is that of the lane `next`, the lowest that hasn't had its turn.
-    let mut lanes = awake.lanes();
+    let mut lanes = awake.begin_turn();
     let mut next = 0;
     while lanes != 0 {
         let resting = lanes.trailing_zeros();
@@ -126,8 +126,11 @@ fn serve_each<C: Clock>(
         next = k + 1;
         let seat = &mut seats[k];
         match seat.serve(keyspace, place, clock) {
-            Look::Idle => awake.found_nothing(k, &seat.watch),
-            Look::Served => served += 1,
+            Look::Idle => {}
+            Look::Served => {
+                served += 1;
+                awake.found(k);
+            }
             Look::Exhausted => return Err(KeeperError::Exhausted),
         }
     }
@@ -170,9 +173,9 @@ impl Keeper {
     }
 
     /// Looks at each lane once, in order, and serves at most one call of each, at the moment that the clock gives. A
-    /// lane that has had no call for long is passed over until its client gives notice of one. A call whose answer has
-    /// no free place stays in its lane. It takes no memory but that of `Keyspace::apply`, whose refusal is the reply
-    /// `OOM`. It answers how many calls it served.
+    /// lane that has had no call while others had many is passed over until its client gives notice of one. A call
+    /// whose answer has no free place stays in its lane. It takes no memory but that of `Keyspace::apply`, whose refusal
+    /// is the reply `OOM`. It answers how many calls it served.
     ///
     /// # Errors
     /// `Exhausted`, and nobody is served any more. What the turn served before stands.

@@ -53,12 +53,10 @@ fn open_lane(
     let (answers, from_keeper) = RingBuffer::<Answer>::new(alloc, depth)?;
     let sleeper = Sleeper::new(alloc, LAST_LOOK_OF_LANE)?;
     let bell = sleeper.bell()?;
-    let (watch, notice) = awake.watch(alloc, lane)?;
     let seat = Seat {
         calls,
         answers,
         ticket: 0,
-        watch,
         bell,
         pace: Arc::try_clone(keeper.pace())?,
     };
@@ -67,7 +65,7 @@ fn open_lane(
         lane,
         to_keeper,
         from_keeper,
-        notice,
+        awake.watch(lane)?,
         sleeper,
         keeper.bell()?,
         gone,

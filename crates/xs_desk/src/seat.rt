@@ -5,7 +5,6 @@ ghost use Rattle.rtrb.specs.Ring.{sent, known_items, known_free};
 use crate::answer::{Answer, Formed};
 use crate::pace::Pace;
 use crate::waiting::Bell;
-use crate::watch::Watch;
 use rtrb::{Consumer, Producer};
 use std::alloc::Global;
 use std::sync::Arc;
@@ -18,7 +17,6 @@ pub(crate) struct Seat {
     pub calls: Consumer<Command, Global, Formed>,
     pub answers: Producer<Answer>,
     pub ticket: u64,
-    pub watch: Watch,
     // Wakes the client of the lane.
     pub bell: Bell,
     // The keeper's.
@@ -55,11 +53,9 @@ impl Seat {
         ensures { Looks C.gives result (scene self.old keyspace.old place.old clock.old)
             (scene self.new keyspace.new place.new clock.new) }
     {
-        self.watch.begin_look();
         if self.calls.is_empty() || self.answers.is_full() {
             return Look::Idle;
         }
-        self.watch.found();
         self.serve_next(keyspace, place, clock)
     }
 

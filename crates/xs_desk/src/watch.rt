@@ -1,45 +1,49 @@
 //! Which lanes the keeper looks at. No promise rests on it.
 //!
-//! A lane that has had no call in many turns is at rest: the keeper looks at it again once its client gives notice, a
-//! bit of a word that all lanes share. So a turn over many lanes costs little more than those in use, and a client that
-//! calls again and again writes to no word but those of its rings.
+//! A lane that has had no call while others had a whole round of them is at rest: the keeper looks at it again once its
+//! client gives notice. Both are told by words that all lanes share, with a bit for each. So a turn over many lanes
+//! costs little more than those in use, and a client that calls again and again writes to no word but those of its
+//! rings.
 //!
-//! Nothing is missed, since all loads and stores have one order: before its last look at a lane the keeper stores that
-//! it is at rest; its client pushes or takes something, and then loads that. Where the keeper's look came before the
-//! push, so did its store: the client finds the lane at rest, and gives notice before its call ends. Where the look
-//! came after the push, it has found what was pushed.
+//! Nothing is missed, since all loads and stores have one order: before the last looks of a round the keeper stores
+//! which lanes are at rest unless these looks find a call; a client pushes or takes something, and then loads that.
+//! Where the keeper's look came before the push, so did its store: the client finds the lane at rest, and gives notice
+//! before its call ends. Where the look came after the push, it has found what was pushed.
 use crate::opening::MAX_LANES;
-use crate::waiting::LAST_LOOK_OF_KEEPER;
 use std::alloc::{AllocError, Global};
 use std::sync::Arc;
-use std::sync::atomic::{AtomicBool, AtomicU64, Ordering};
+use std::sync::atomic::{AtomicU64, Ordering};
 
-/// The look after which a lane is at rest, where it finds nothing; more than the keeper makes before it parks, so that
-/// a client alone at its desk gives no notice.
-const LAST_LOOK: u32 = LAST_LOOK_OF_KEEPER + 1;
+/// So many calls are a round, with the others of the turn in which the last of them is served.
+const ROUND: u32 = 64;
 
-/// The lanes that the keeper looks at: a bit for each, the lowest for lane 0.
+/// What the keeper and the clients tell each other: a bit for each lane, the lowest for lane 0.
+#[derive(Drop)]
+struct Rests {
+    // The lanes at rest; the keeper stores them.
+    resting: AtomicU64,
+    // Those of them whose clients gave notice; the keeper takes them.
+    notices: AtomicU64,
+}
+
+/// The lanes that the keeper looks at, by their bits.
 #[derive(Drop)]
 pub(crate) struct Awake {
     lanes: u64,
-    // Those at rest whose clients gave notice; the keeper takes them.
-    notices: Arc<AtomicU64>,
-}
-
-/// The keeper's side of one lane.
-#[derive(Drop)]
-pub(crate) struct Watch {
-    // Looks that found nothing, one after the other, with the one begun; at most LAST_LOOK.
-    looks: u32,
-    rests: Arc<AtomicBool>,
+    // Those that had a call in this round.
+    used: u64,
+    // How many calls the round has had.
+    calls: u32,
+    // Whether the round ends with this turn.
+    is_last: bool,
+    rests: Arc<Rests>,
 }
 
 /// The client's side of it.
 #[derive(Drop)]
 pub(crate) struct Notice {
-    rests: Arc<AtomicBool>,
-    notices: Arc<AtomicU64>,
     lane: u64,
+    rests: Arc<Rests>,
 }
 
 /// The bit of a lane.
@@ -50,75 +54,73 @@ fn bit_of(lane: usize) -> u64 {
 impl Awake {
     /// No lane is looked at.
     pub fn new(alloc: Global) -> Result<Awake, AllocError> {
-        let notices = Arc::new(alloc, AtomicU64::new(0))?;
-        Ok(Awake { lanes: 0, notices })
+        let rests = Rests {
+            resting: AtomicU64::new(0),
+            notices: AtomicU64::new(0),
+        };
+        Ok(Awake {
+            lanes: 0,
+            used: 0,
+            calls: 0,
+            is_last: false,
+            rests: Arc::new(alloc, rests)?,
+        })
     }
 
-    /// Both sides of a lane, which is looked at from now on.
-    pub fn watch(&mut self, alloc: Global, lane: usize) -> Result<(Watch, Notice), AllocError> {
-        let rests = Arc::new(alloc, AtomicBool::new(false))?;
+    /// The client's side of a lane, which is looked at from now on.
+    pub fn watch(&mut self, lane: usize) -> Result<Notice, AllocError> {
+        let rests = Arc::try_clone(&self.rests)?;
         let lane = bit_of(lane);
         self.lanes |= lane;
-        let watch = Watch {
-            looks: 0,
-            rests: Arc::try_clone(&rests)?,
-        };
-        let notice = Notice {
-            rests,
-            notices: Arc::try_clone(&self.notices)?,
-            lane,
-        };
-        Ok((watch, notice))
+        Ok(Notice { lane, rests })
     }
 
-    /// The lanes to look at in this turn. Those that have given notice are looked at from now on.
-    pub fn lanes(&mut self) -> u64 {
-        if self.notices.load(Ordering::SeqCst) != 0 {
-            self.lanes |= self.notices.swap(0, Ordering::SeqCst);
+    /// Begins a turn, and answers the lanes to look at in it.
+    pub fn begin_turn(&mut self) -> u64 {
+        if self.is_last {
+            self.end_round();
+        }
+        self.take_notices();
+        if self.calls >= ROUND {
+            self.is_last = true;
+            self.let_rest_all_but(self.used);
         }
         self.lanes
     }
 
-    /// A look at the lane has found nothing: it is passed over from now on, if it is at rest.
-    pub fn found_nothing(&mut self, lane: usize, watch: &Watch) {
-        if watch.is_at_rest() {
-            self.lanes &= !bit_of(lane);
-        }
-    }
-}
-
-impl Watch {
-    /// Begins a look at the lane. It stands before the look itself. A lane at rest is looked at since its client has
-    /// given notice.
-    pub fn begin_look(&mut self) {
-        if self.is_at_rest() {
-            self.found();
-        }
-        self.looks = self.looks.saturating_add(1);
-        if self.looks == LAST_LOOK {
-            self.rests.store(true, Ordering::SeqCst);
-        }
+    /// A look at the lane has found a call.
+    pub fn found(&mut self, lane: usize) {
+        self.used |= bit_of(lane);
+        self.calls = self.calls.saturating_add(1);
     }
 
-    /// The look has found a call, or the client has given notice.
-    pub fn found(&mut self) {
-        if self.is_at_rest() {
-            self.rests.store(false, Ordering::SeqCst);
-        }
-        self.looks = 0;
+    fn end_round(&mut self) {
+        self.lanes = self.used;
+        self.used = 0;
+        self.calls = 0;
+        self.is_last = false;
+        self.let_rest_all_but(self.lanes);
     }
 
-    /// Whether the last look was made and has found nothing.
-    pub fn is_at_rest(&self) -> bool {
-        self.looks >= LAST_LOOK
+    fn take_notices(&mut self) {
+        if self.rests.notices.load(Ordering::SeqCst) == 0 {
+            return;
+        }
+        let noticed = self.rests.notices.swap(0, Ordering::SeqCst);
+        self.lanes |= noticed;
+        self.let_rest_all_but(self.lanes);
+    }
+
+    fn let_rest_all_but(&self, lanes: u64) {
+        self.rests.resting.store(!lanes, Ordering::SeqCst);
     }
 }
 
 impl Notice {
     /// Tells the keeper that there is a call or a place, if it doesn't look.
     pub fn give(&self) {
-        if self.rests.load(Ordering::SeqCst) {
-            self.notices.fetch_or(self.lane, Ordering::SeqCst);
+        if self.rests.resting.load(Ordering::SeqCst) & self.lane != 0 {
+            self.rests.notices.fetch_or(self.lane, Ordering::SeqCst);
         }
     }
 }

@@ -1,17 +1,18 @@
-//! Lanes that have had no call for so long that the keeper looks at them only once their clients give notice.
+//! Lanes that have had no call while others had so many that the keeper looks at them only once their clients give
+//! notice.
 use super::commands::read;
 use super::trial::{Still, Trial};
 use std::process::Abort;
 use std::test::Fail;
 use xs_command::Command;
 
-/// More turns than it takes until a lane is at rest.
-const MANY: u64 = 1000;
+/// More calls than others have until a lane is at rest.
+const MANY: u64 = 200;
 
-/// Turns that serve nobody.
-fn pass<R: Abort>(rt: &R, trial: &mut Trial, clock: &mut Still) {
-    for _ in 0..MANY {
-        assert_eq!(rt; trial.turn(clock), Ok(0));
+/// The calls of one lane, each in a turn of its own.
+fn pass<R: Abort>(rt: &R, trial: &mut Trial, clock: &mut Still, lane: usize, calls: u64) {
+    for _ in 0..calls {
+        assert!(rt; trial.call(lane, clock, Command::Ping(None)).is_some());
     }
 }
 
@@ -22,33 +23,46 @@ fn a_lane_at_rest_is_served_at_once(rt: HostRuntime) -> Result<(), Fail> {
     let mut clock = Still::at(1000).ok_or("a moment")?;
     for lane in [0, 1, 31, 32, 63] {
         let mut trial = Trial::new(alloc, 64, 1)?;
-        for place in 0..3 {
-            pass(&rt, &mut trial, &mut clock);
+        for before in 0..3 {
+            pass(&rt, &mut trial, &mut clock, 2, MANY);
             for later in 0..2u64 {
                 let answer = trial
                     .call(lane, &mut clock, Command::Ping(None))
                     .ok_or("an answer")?;
-                assert_eq!(rt; answer.place, later + 2 * place);
+                assert_eq!(rt; answer.place, MANY + later + (MANY + 2) * before);
             }
         }
     }
     Ok(())
 }
 
-// All lanes at rest that have called are served in one turn, in their order.
+// A call is served in the next turn, whether the lane is at rest, comes to rest in that turn, or is awake.
+#[test]
+fn a_call_is_served_however_many_others_came_before(rt: HostRuntime) -> Result<(), Fail> {
+    let alloc = rt.alloc();
+    let mut clock = Still::at(1000).ok_or("a moment")?;
+    let mut trial = Trial::new(alloc, 2, 1)?;
+    for calls in 0..MANY {
+        pass(&rt, &mut trial, &mut clock, 0, calls);
+        pass(&rt, &mut trial, &mut clock, 1, 1);
+    }
+    Ok(())
+}
+
+// All lanes that call are served in one turn, in their order, and all but one were at rest.
 #[test]
 fn lanes_at_rest_are_served_in_order(rt: HostRuntime) -> Result<(), Fail> {
     let alloc = rt.alloc();
     let mut clock = Still::at(1000).ok_or("a moment")?;
     let mut trial = Trial::new(alloc, 64, 1)?;
-    pass(&rt, &mut trial, &mut clock);
+    pass(&rt, &mut trial, &mut clock, 2, MANY);
     for lane in (0..64).rev() {
         assert!(rt; trial.submit(lane, Command::Ping(None)).is_ok());
     }
     assert_eq!(rt; trial.turn(&mut clock), Ok(64));
     for lane in 0..64 {
         let answer = trial.take(lane).ok_or("an answer")?;
-        assert_eq!(rt; answer.place, lane as u64);
+        assert_eq!(rt; answer.place, MANY + lane as u64);
     }
     Ok(())
 }
@@ -62,7 +76,7 @@ fn a_free_place_ends_the_rest(rt: HostRuntime) -> Result<(), Fail> {
     assert!(rt; trial.submit(1, read(alloc, "PING")?).is_ok());
     assert_eq!(rt; trial.turn(&mut clock), Ok(1));
     assert!(rt; trial.submit(1, read(alloc, "PING")?).is_ok());
-    pass(&rt, &mut trial, &mut clock);
+    pass(&rt, &mut trial, &mut clock, 0, MANY);
     assert!(rt; trial.take(1).is_some());
     assert_eq!(rt; trial.turn(&mut clock), Ok(1));
     assert!(rt; trial.take(1).is_some());
