@@ -1,7 +1,6 @@
 .PHONY: run serve check test edits clients hostile refusals compare
 
 PROGRAM = crates/xs_server/out/xs_server
-BELOW_THE_DESK = xs_bytes xs_stream xs_resp xs_group xs_command xs_keys
 
 # Proves and builds the program, and runs the script of two additions.
 run:
@@ -15,14 +14,14 @@ serve:
 	@$(PROGRAM) serve --port 6379 --workers 16 --each 1000000
 
 # Proves everything from nothing, and runs the tests and the program that it built: the worked cases, the great scripts,
-# connections made at random. Then it tries the edits that have to fail, over the libraries that `rt ci` built: those of
-# the crates below the desk. The edits of xs_desk and xs_server take a minute and more each, and are left to `make edits`.
+# connections made at random. Then it tries the edits that have to fail, over the libraries that `rt ci` built; those of
+# the folders `further` are left to `make edits`.
 test:
 	rt ci
 	python3 conformance/run.py $(PROGRAM) script
 	python3 conformance/great.py $(PROGRAM)
 	python3 conformance/sessions.py --bytes 5000000 $(PROGRAM)
-	python3 edits/try.py $(BELOW_THE_DESK)
+	python3 edits/try.py
 
 # Proves what has changed, looks whether each edit has its place, and runs the worked cases: what one runs while working.
 check:

@@ -7,12 +7,12 @@
 
 edits/CRATE/NAME.edit turns one thing of one body of crates/CRATE: below a line `file: PATH`, the text of a line
 `old: TEXT`, which stands in that file once, becomes that of the line `new: TEXT` behind it. Those of edits/CRATE/further
-have a clause that an edit of edits/CRATE shows; --further tries them too. In a copy of the crate as many edits as may be
-stand at once, no two of them in one function, and `rattle check --only` proves the functions that they change, and those
-that these call. An edit is refused where its function isn't proved. Where that is only since the function calls another
-one that isn't, the edit is tried again once all others were. So edits share what a check has to load, and nothing is
-proved that no edit reaches. That the crate is proved as it is `rt ci` shows. The last line is 'N refused, M failed'; the
-status is 1 where M > 0.
+are left out of the gate; --further tries them too. In a copy of the crate as many edits as may be stand at once, no two
+of them in one function, and `rattle check --only` proves the functions that they change, and those that these call. An
+edit is refused where its function isn't proved. Where that is only since the function calls another one that isn't, the
+edit is tried again once all others were. So edits share what a check has to load, and nothing is proved that no edit
+reaches. That the crate is proved as it is `rt ci` shows; here a function has to be proved that no edit of its check
+changes, else nothing is shown where another isn't. The last line is 'N refused, M failed'; the status is 1 where M > 0.
 """
 import argparse
 import collections
@@ -107,10 +107,10 @@ def impl_at(text):
 
 class Copy:
     """A copy of a crate in which edits stand for a while, over the crates below as they were built, and over what
-    `rt check` kept of this one."""
+    `rt check` kept of this one. It knows whether a function was proved that didn't stand with an edit."""
 
     def __init__(self, folder, crate):
-        self.crate, self.folder = crate, folder
+        self.crate, self.folder, self.has_proved = crate, folder, False
         source, kept = os.path.join(TOP, "crates", crate), os.path.join(folder, "kept")
         for part in ("src", "specs", "proofs"):
             shutil.copytree(os.path.join(source, part), os.path.join(folder, part))
@@ -128,8 +128,9 @@ class Copy:
         finally:
             self.write({file: text_of(os.path.join(TOP, "crates", self.crate, file)) for file in texts})
         ends = re.search(r"^(only=|logic=proved|logic=not-proved)", said, re.M)
-        told = re.findall(rf"^fn {self.crate}::(\S+): (.*)", said, re.M)
-        return dict(told), ends and ends.group(1), said
+        told = dict(re.findall(rf"^fn {self.crate}::(\S+): (.*)", said, re.M))
+        self.has_proved |= any(word.startswith("proved") for path, word in told.items() if path not in functions)
+        return told, ends and ends.group(1), said
 
     def write(self, texts):
         for file, text in texts.items():
@@ -214,24 +215,19 @@ def tried_once(copy, left):
     return done, put_off
 
 
-def is_proved(copy, functions):
-    """Whether these functions are proved as they are: else nothing is shown where one isn't with an edit."""
-    told, _, _ = copy.check(functions, {})
-    return bool(told) and all(word.startswith("proved") for word in told.values())
-
-
 def try_all(crate, edits):
     """Tries each of these edits of a crate."""
     with laid_down.new_folder() as folder:
         copy = Copy(folder, crate)
         left = [(edit, functions_of(edit, crate)) for edit in edits]
-        if not all(is_proved(copy, functions) for _, functions in left[:1]):
-            return [Tried(edit, False, f"{crate} isn't proved as it is") for edit in edits]
         done = []
         while left:
             tried, blocked = tried_once(copy, left)
             done += tried or [Tried(edit, False, "was not tried") for edit, _ in blocked]
             left = blocked if tried else []
+    if done and not copy.has_proved:
+        print(f"{crate}: nothing was proved beside these edits, so that they were refused shows nothing", flush=True)
+        return [tried._replace(is_refused=False) for tried in done]
     return done
 
 
@@ -260,7 +256,9 @@ def main():
     asked = parser.parse_args()
     has_further = asked.further or asked.places or bool(asked.only)
     names = asked.only.split(",") if asked.only else []
-    edits = {crate: edits_of(crate, has_further, names) for crate in asked.crates or crates_in(HERE)}
+    # Those of the highest layers first, since their checks take longest.
+    crates = sorted(asked.crates or crates_in(HERE), key=lambda crate: -len(libraries_of(crate)))
+    edits = {crate: edits_of(crate, has_further, names) for crate in crates}
     lost = [why for crate, found in edits.items() for why in misplaced(crate, found)]
     if lost or asked.places:
         print("\n".join([*lost, f"{sum(map(len, edits.values())) - len(lost)} in place, {len(lost)} failed"]))
