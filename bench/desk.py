@@ -5,7 +5,7 @@
     desk.py --idle      how much processor time a keeper takes that nobody asks
 
 Each lane has a thread, and asks as soon as it has its reply: all lanes together so many calls, but each at least so
-many, 20,000 by itself, since a lane parks without a yield in its first thousand (pace.rt). Beside them threads of plain
+many, 20,000 by itself, so that the start of its thread doesn't count. Beside them threads of plain
 Rust ask for the same over channels of std::sync::mpsc, one for all calls and one for the answers of each, or under one
 Mutex (bench/desk/beside.rs). All are run in turn, with each number of lanes. The table tells calls a second, processor
 time for a call, of the whole process up to the last reply, and how long a call waited: in the middle, at 99 % and at

@@ -84,6 +84,7 @@ impl Bytes {
         Ok(Self::new(items))
     }
 
+    /// The bytes.
     pub fn as_slice(&self) -> &[u8]
         ensures { result.now ≡ self.now }
     {
@@ -93,6 +94,7 @@ impl Bytes {
         }
     }
 
+    /// How many bytes there are.
     pub fn len(&self) -> usize
         ensures { result ≡ length self.now }
     {

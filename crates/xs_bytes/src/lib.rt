@@ -1,4 +1,4 @@
-//! Byte strings, and the decimal numbers that stand in them.
+//! Byte strings, the decimal numbers that stand in them, lists, and maps as contracts see them.
 #![tactic(auto)]
 
 pub mod bytes;

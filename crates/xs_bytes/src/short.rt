@@ -34,6 +34,7 @@ impl Short {
         }
     }
 
+    /// The bytes.
     pub fn as_slice(&self) -> &[u8]
         ensures value { result.now ≡ self.now }
         ensures fits { length self.now ≤ 30 }

@@ -135,7 +135,9 @@ pub enum ReadFrom {
 /// One stream of a read.
 #[derive(Debug, Drop)]
 pub struct ReadOne {
+    /// The key of the stream.
     pub key: Bytes,
+    /// From where on it is read.
     pub from: ReadFrom,
 }
 

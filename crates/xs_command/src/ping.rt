@@ -1,4 +1,4 @@
-//! PING and QUIT.
+//! PING.
 ghost use Rattle.xs_command.specs.Words.{Gives};
 ghost use Rattle.xs_command.specs.Ping.{ping};
 

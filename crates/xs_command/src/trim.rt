@@ -1,6 +1,5 @@
 //! The options MAXLEN and MINID of XADD and XTRIM. Only one of them may stand in a command.
 ghost use Rattle.std.specs.Prelude.{◌≡◌};
-ghost use Rattle.xs_command.specs.Words.{Gives};
 ghost use Rattle.xs_command.specs.Trim.{max_len, min_id, first_trim, trim_option};
 
 use crate::options::Options;

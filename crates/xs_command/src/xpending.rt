@@ -68,7 +68,7 @@ fn read_rows(
     let (low, words) = words.low()?;
     let (high, words) = words.high()?;
     let (count, words) = words.integer()?;
-    let (consumer, words) = words.optional(alloc)?;
+    let (consumer, words) = optional(alloc, words)?;
     let rows = PendingRowsCommand {
         key,
         group,
@@ -80,16 +80,14 @@ fn read_rows(
     words.only(Command::PendingRows(rows), Fault::Syntax)
 }
 
-impl<'a> Words<'a> {
-    /// The next word as a name, where there is one.
-    #[tactic(auto, unfolding(crate::specs::Xpending::optional, crate::specs::Words::word))]
-    fn optional(self, alloc: Global) -> Result<(Option<Bytes>, Words<'a>), Refusal>
-        ensures { Gives result (optional self.entry) }
-    {
-        let Ok((word, words)) = self.word() else {
-            return Ok((None, self));
-        };
-        let name = word.copy(alloc)?;
-        Ok((Some(name), words))
-    }
+/// The next word as a name, where there is one.
+#[tactic(auto, unfolding(crate::specs::Xpending::optional, crate::specs::Words::word))]
+fn optional(alloc: Global, words: Words<'_>) -> Result<(Option<Bytes>, Words<'_>), Refusal>
+    ensures { Gives result (optional words.entry) }
+{
+    let Ok((word, behind)) = words.word() else {
+        return Ok((None, words));
+    };
+    let name = word.copy(alloc)?;
+    Ok((Some(name), behind))
 }

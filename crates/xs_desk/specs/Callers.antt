@@ -1,7 +1,7 @@
 -- A lane from its client's side.
 use Rattle.std.specs.Prelude.{◌≡◌, ℕ, List, slice_get, Some}
 use Rattle.std.specs.declared.alloc.Global.{Global}
-use Rattle.rtrb.specs.Ring.{sent, received, producer_capacity}
+use Rattle.rtrb.specs.Ring.{sent, received, producer_capacity, consumer_capacity}
 use Rattle.rtrb.specs.declared.AnyItems.{AnyItems}
 use Rattle.rtrb.specs.declared.producer.Producer.{Producer}
 use Rattle.rtrb.specs.declared.consumer.Consumer.{Consumer}
@@ -11,8 +11,8 @@ use Rattle.xs_desk.specs.declared.answer.Formed.{Formed}
 use Rattle.xs_desk.specs.History.{Ring, LaneOf}
 use Rattle.xs_desk.specs.Rings.{producer_ring, consumer_ring}
 
--- a client: the number of its lane, the commands submitted, the answers taken, the rings of both, and how many
--- commands the first has places for
+-- a client: the number of its lane, the commands submitted, the answers taken, the rings of both, and how many places
+-- each has
 pub record Caller : Type 0 where
   pub lane : ℕ
   pub submitted : List Command
@@ -20,6 +20,7 @@ pub record Caller : Type 0 where
   pub calls : Ring
   pub answers : Ring
   pub depth : ℕ
+  pub answer_depth : ℕ
 
 abbrev pub caller_of : ℕ → Producer Command Global Formed → Consumer Answer Global AnyItems → Caller
 caller_of lane calls answers =
@@ -30,6 +31,7 @@ caller_of lane calls answers =
       calls = producer_ring calls;
       answers = consumer_ring answers;
       depth = producer_capacity calls;
+      answer_depth = consumer_capacity answers;
     }
 
 -- the two sides of one lane

@@ -13,6 +13,7 @@ pub record IsNew (k depth : ℕ) (lane : LaneOf) (client : Caller) : Type 0 wher
   pub taken : client.taken ≡ []
   pub number : client.lane ≡ k
   pub depth_is : client.depth ≡ depth
+  pub answer_depth_is : client.answer_depth ≡ depth
   pub side : IsSide lane client
 
 -- lanes from number k on, which nobody has used yet, and their clients

@@ -11,7 +11,9 @@ use xs_resp::Reply;
 /// A keyspace that is asked at the moments of a clock. It is never gone.
 #[derive(Drop)]
 pub struct Alone<C: Clock + Drop> {
+    /// What is asked.
     pub keyspace: Keyspace,
+    /// What tells the moment of each call.
     pub clock: C,
 }
 

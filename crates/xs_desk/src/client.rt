@@ -16,7 +16,7 @@ use xs_command::Command;
 pub struct Full(pub Command);
 
 /// The client of a lane. Contracts see the number of the lane, the commands submitted, the answers taken, which rings
-/// they go through, and for how many commands there are places.
+/// they go through, and how many places these have.
 #[derive(Drop)]
 pub struct Client {
     calls: Producer<Command, Global, Formed>,
@@ -64,7 +64,7 @@ impl Model for Ended {
 }
 
 impl Client {
-    ghost use Rattle.std.specs.Prelude.{◌≡◌, ◌++◌, ◌∷◌, [], ◌<◌, length, IfOk, IfErr, IsOk, MatchOption};
+    ghost use Rattle.std.specs.Prelude.{◌≡◌, ◌^◌, ◌++◌, ◌∷◌, [], ◌<◌, length, IfOk, IfErr, IsOk, MatchOption};
     ghost use Rattle.rtrb.specs.Ring.{sent};
     ghost use Rattle.xs_command.specs.WellFormed.{IsWellFormed};
     ghost use Rattle.xs_desk.specs.Callers.{caller_of};
@@ -98,13 +98,14 @@ impl Client {
     /// no memory.
     ///
     /// # Errors
-    /// `Full`, with the command. Nothing has changed.
+    /// `Full`, with the command. Nothing has changed. A lane has at most 2^64 - 1 calls, and is full from then on.
     pub fn submit(&mut self, command: Command) -> Result<u64, Full>
         requires { IsWellFormed command }
         ensures ok { IfOk result (λ ticket. (ticket ≡ length self.old.submitted)
             × (self.new ≡ record self.old { submitted = self.old.submitted ++ command ∷ [] })) }
         ensures full { IfErr result (λ full. (full.0 ≡ command) × (self.new ≡ self.old)) }
         ensures room { length self.old.submitted < self.old.depth → IsOk result }
+        ensures last { length self.new.submitted < 2 ^ 64 }
     {
         let ticket = self.ticket;
         let Some(next) = ticket.checked_add(1) else {

@@ -138,7 +138,7 @@ fn serve_each<C: Clock>(
 }
 
 impl Keeper {
-    ghost use Rattle.std.specs.Prelude.{◌≡◌, ℕ, ◌+◌, ◌^◌, length, List, [], MatchResult};
+    ghost use Rattle.std.specs.Prelude.{◌≡◌, ℕ, ◌+◌, ◌^◌, ◌<◌, length, List, [], MatchResult};
     ghost use Rattle.xs_desk.specs.History.{ServedCall, IsHistory};
     ghost use Rattle.xs_desk.specs.Serving.{Turns};
     ghost use Rattle.xs_desk.specs.Seats.{desk_of};
@@ -174,17 +174,19 @@ impl Keeper {
 
     /// Looks at each lane once, in order, and serves at most one call of each, at the moment that the clock gives. A
     /// lane that has had no call while others had many is passed over until its client gives notice of one. A call
-    /// whose answer has no free place stays in its lane. It takes no memory but that of `Keyspace::apply`, whose refusal
-    /// is the reply `OOM`. It answers how many calls it served.
+    /// whose answer has no free place stays in its lane. It takes no memory but that of `Keyspace::apply`, whose
+    /// refusal is the reply `OOM`. It answers how many calls it served.
     ///
     /// # Errors
-    /// `Exhausted`, and nobody is served any more. What the turn served before stands.
+    /// `Exhausted` at the last place, 2^64 - 1, and nobody is served any more. What the turn served before
+    /// stands.
     pub fn turn<C: Clock>(&mut self, clock: &mut C) -> Result<u64, KeeperError>
         ensures served { MatchResult result
             (λ n. Turns C.gives self.old clock.old n (length self.old.lanes) self.new clock.new)
             (λ _. (n : ℕ) × Turns C.gives self.old clock.old n (length self.old.lanes) self.new clock.new
             × (self.new.place + 1 ≡ 2 ^ 64)) }
         ensures rings { KeepsRings self.old self.new }
+        ensures last { self.new.place < 2 ^ 64 }
     {
         self.sleeper.begin_look();
         let served = serve_each(
@@ -194,6 +196,8 @@ impl Keeper {
             &mut self.place,
             clock,
         );
+        // That the place is a number of 64 bits is known of it once it is read.
+        let _place = self.place;
         match served {
             Ok(0) => {}
             Ok(_) => self.sleeper.found(),

@@ -5,8 +5,11 @@ use xs_stream::Moment;
 /// Calls follow fast where no more milliseconds lie between them.
 const NEAR: u64 = 2;
 
-/// So many calls in a row have to follow fast.
+/// So many calls in a row have to follow fast, once one has not.
 const CALLS: u32 = 1000;
+
+/// Stands for the moment of the last call where there was none: no moment is so late.
+const NO_CALL: u64 = u64::MAX;
 
 /// How fast calls follow one another, told by their moments. One thread tells it of calls.
 #[derive(Drop)]
@@ -17,10 +20,11 @@ pub(crate) struct Pace {
 }
 
 impl Pace {
+    /// Calls are taken to follow fast until one has not.
     pub fn new() -> Pace {
         Pace {
-            last: AtomicU64::new(0),
-            swift: AtomicU32::new(0),
+            last: AtomicU64::new(NO_CALL),
+            swift: AtomicU32::new(CALLS),
         }
     }
 
@@ -32,7 +36,7 @@ impl Pace {
         if now != last {
             self.last.store(now, Ordering::Relaxed);
         }
-        if now.abs_diff(last) > NEAR {
+        if last != NO_CALL && now.abs_diff(last) > NEAR {
             self.swift.store(0, Ordering::Relaxed);
             return;
         }
@@ -42,7 +46,7 @@ impl Pace {
         }
     }
 
-    /// Whether the last calls all followed fast.
+    /// Whether the last calls all followed fast, or none has been slow yet.
     pub fn is_swift(&self) -> bool {
         self.swift.load(Ordering::Relaxed) >= CALLS
     }

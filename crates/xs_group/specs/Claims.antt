@@ -22,7 +22,7 @@ pub record Rule : Type 0 where
 abbrev pub row_at : List (Id × Row) → Id → Option Row
 row_at rows x = find id_cmp x rows
 
--- a row that has been with its consumer for the least idle time or longer
+-- a row that is idle for the least idle time or longer
 abbrev pub is_idle : ℕ → Rule → Option Row → Bool
 is_idle now rule None = false
 is_idle now rule (Some row) = nat_le rule.min_idle (idle now row.time)

@@ -42,7 +42,7 @@ has_name names name = has_key names name
 abbrev pub is_name : List ℕ → List ℕ → Bool
 is_name a b = eq_by_cmp (slice_cmp nat_cmp) a b
 
--- for how long a row has been with its consumer; 0 where the moment is before its time
+-- how long ago the time of a row is, that of its last delivery or what a claim gave it; 0 where the moment is before it
 abbrev pub idle : ℕ → ℕ → ℕ
 idle now time = now - time
 
@@ -81,7 +81,7 @@ without_consumer consumer group =
 abbrev pub delivers : Option ℕ → Id → List Id → List Id
 delivers limit cursor present = limited limit (filter (λ x. is_below cursor x) present)
 
--- the last of these, or the first one where there is none
+-- the last of these ids, or the id before them where there is none
 abbrev pub last_of : Id → List Id → Id
 last_of a [] = a
 last_of a (x ∷ xs) = last_of x xs

@@ -68,6 +68,7 @@ pub struct Claim {
 pub struct Scan {
     /// Where the next scan goes on, `0-0` at the end.
     pub cursor: Id,
+    /// What the scanned part takes and removes.
     pub claim: Claim,
 }
 

@@ -5,13 +5,16 @@ use xs_stream::{Id, Moment};
 /// When an entry was last delivered to its consumer, and how often it has been.
 #[derive(Clone, Copy, Debug, PartialEq, Eq)]
 pub struct Touch {
+    /// The moment from which its idle time is counted.
     pub time: Moment,
+    /// How often it was delivered.
     pub count: u64,
 }
 
 /// An entry that a read delivered or showed.
 #[derive(Clone, Copy, Debug, PartialEq, Eq)]
 pub struct DeliveryRow {
+    /// The id of the entry.
     pub id: Id,
     /// The entry is in the stream.
     pub present: bool,
@@ -39,6 +42,7 @@ pub struct Delivery {
     pub created: bool,
     /// The group's cursor before the read.
     pub cursor_before: Id,
+    /// What was read.
     pub kind: DeliveryKind,
     /// The entries delivered or shown.
     pub rows: List<DeliveryRow>,

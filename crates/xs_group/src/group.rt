@@ -67,6 +67,7 @@ impl Group {
         self.cursor
     }
 
+    /// Whether the consumer is one of the group.
     pub fn has_consumer(&self, consumer: &Bytes) -> bool
         ensures { result ≡ has_name self.now.consumers consumer.now }
     {
@@ -236,8 +237,8 @@ impl Group {
         self.pending.summary(alloc)
     }
 
-    /// The pending entries of a range that have been with their consumer for the least idle time or
-    /// longer, of one consumer where one is named, at most `limit` of them (XPENDING, long form).
+    /// The pending entries of a range that are idle for `min_idle` milliseconds or longer, of one
+    /// consumer where one is named, at most `limit` of them (XPENDING, long form).
     pub fn pending(
         &self,
         alloc: Global,

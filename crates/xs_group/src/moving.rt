@@ -1,4 +1,4 @@
-//! Pending entries that go to another consumer.
+//! Both indexes in step: entries that are given to a consumer, taken back, or go to another one.
 ghost use Rattle.std.specs.Prelude.{◌≡◌, ◌∷◌, [], ◌&&◌, ℕ, List, Option, true, false, not, map, is_some};
 ghost use Rattle.std.specs.Prelude.{option_and_then, IfOk, IfSome, if◌then◌else◌, OnOk, OnErr, IsSome};
 ghost use Rattle.xs_stream.specs.declared.id.Id.{Id};

@@ -83,7 +83,7 @@ impl PendingEntry {
         self.count = touch.count;
     }
 
-    /// For how many milliseconds the entry has been with its consumer.
+    /// For how many milliseconds the entry is idle: since its last delivery, or the time that a claim gave it.
     pub(crate) fn idle(&self, now: Moment) -> u64
         ensures { result ≡ idle now self.now.time }
     {

@@ -20,25 +20,33 @@ use xs_stream::{Id, Moment, Range};
 /// A consumer with the number of its pending entries.
 #[derive(Debug, Drop)]
 pub struct OwnerCount {
+    /// The name of the consumer.
     pub consumer: Bytes,
+    /// How many entries are pending with it.
     pub count: u64,
 }
 
 /// The short form: how many entries are pending, the least and the greatest of their ids, and whose they are.
 #[derive(Debug, Drop)]
 pub struct GroupSummary {
+    /// How many entries are pending.
     pub total: u64,
+    /// The least of their ids.
     pub least: Option<Id>,
+    /// The greatest of them.
     pub greatest: Option<Id>,
+    /// The consumers with pending entries, in the order of their names.
     pub owners: List<OwnerCount>,
 }
 
 /// A pending entry in the long form.
 #[derive(Debug, Drop)]
 pub struct PendingRow {
+    /// The id of the entry.
     pub id: Id,
+    /// Its consumer.
     pub consumer: Bytes,
-    /// For how many milliseconds the entry has been with its consumer.
+    /// For how many milliseconds it is idle: since its last delivery, or the time that a claim gave it.
     pub idle: u64,
     /// How often it was delivered.
     pub count: u64,

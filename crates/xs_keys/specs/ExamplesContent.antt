@@ -4,15 +4,14 @@
 use Rattle.std.specs.Prelude.{◌≡◌, ℕ, false, List, [], ◌∷◌, codes, Option, Some, None}
 use Rattle.xs_bytes.specs.SortedMap.{empty}
 use Rattle.xs_stream.specs.declared.id.Id.{Id}
-use Rattle.xs_stream.specs.Kept.{Kept}
 use Rattle.xs_stream.specs.Examples.{at}
 use Rattle.xs_group.specs.State.{State, joined, new_group, delivered_to}
 use Rattle.xs_command.specs.ExamplesStreams.{field}
 use Rattle.xs_keys.specs.Life.{Change, added}
 use Rattle.xs_stream.specs.declared.add.AddId.TheVariants as add
-use Rattle.xs_keys.specs.GroupEvent.{GroupEvent, read_new, join}
+use Rattle.xs_keys.specs.GroupEvent.{GroupEvent, read_new}
 use Rattle.xs_keys.specs.GroupLife.{GroupLife}
-use Rattle.xs_keys.specs.Content.{Key, IsGroup, GroupHolds, KeyHolds}
+use Rattle.xs_keys.specs.Content.{Key, GroupHolds, KeyHolds}
 
 -- 2-0 was added
 abbrev pub changes : List Change

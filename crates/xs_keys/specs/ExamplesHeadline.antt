@@ -1,9 +1,8 @@
 -- The relations that the headline and the contracts are made of, by examples: each way in which an owner goes on, how a
 -- life goes on with what an event delivers, what is an answer to an event, and how an addition and the making of a
 -- group may end. (Redis, XREADGROUP, XACK, XCLAIM, XADD and XGROUP CREATE.)
-use Rattle.std.specs.Prelude.{◌≡◌, ℕ, true, false, List, [], ◌∷◌, codes, Option, Some, None}
+use Rattle.std.specs.Prelude.{◌≡◌, ℕ, true, false, List, [], ◌∷◌, codes, Some, None}
 use Rattle.xs_bytes.specs.SortedMap.{empty, insert}
-use Rattle.xs_stream.specs.declared.id.Id.{Id}
 use Rattle.xs_stream.specs.declared.add.AddId.TheVariants as add
 use Rattle.xs_stream.specs.declared.add.AddError.TheVariants as add_error
 use Rattle.xs_stream.specs.Examples.{at}
@@ -11,8 +10,8 @@ use Rattle.xs_group.specs.State.{new_group}
 use Rattle.xs_command.specs.ExamplesStreams.{field}
 use Rattle.xs_command.specs.declared.command.AddCommand.{AddCommand}
 use Rattle.xs_keys.specs.Ground.{Kept, Simple, Error, Int, NullBulk, Okay, Pong, Memory, NoKey, Busy, Command, Ping}
-use Rattle.xs_keys.specs.Ground.{GroupCreateCommand, At, Reply}
-use Rattle.xs_keys.specs.GroupEvent.{GroupEvent, read_new, ack, join, leave}
+use Rattle.xs_keys.specs.Ground.{GroupCreateCommand, At}
+use Rattle.xs_keys.specs.GroupEvent.{GroupEvent, read_new, ack, join}
 use Rattle.xs_keys.specs.GroupLife.{GroupLife, GoesOn}
 use Rattle.xs_keys.specs.Headline.{OwnerAfter, NoOwnerAfter, Follows, Answers}
 use Rattle.xs_keys.specs.Step.{is_error}

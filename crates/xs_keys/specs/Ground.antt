@@ -36,5 +36,4 @@ pub use Rattle.xs_resp.specs.declared.reply.Reply.TheVariants.{Simple, Error, In
 pub use Rattle.xs_resp.specs.declared.reply.Simple.TheVariants.{Okay, Pong}
 pub use Rattle.xs_resp.specs.declared.fault.Fault.{Fault}
 pub use Rattle.xs_resp.specs.declared.fault.Fault.TheVariants.{SmallId, Exhausted, Memory, NoKey, Busy, NoGroup}
-pub use Rattle.xs_resp.specs.declared.fault.Fault.TheVariants.{Unsupported}
 pub use Rattle.xs_resp.specs.ReplyItems.{items_of}

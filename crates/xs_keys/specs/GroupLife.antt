@@ -72,7 +72,7 @@ group_lived now (AutoClaim c) key group served stream life =
 group_lived now (DropKeys keys) key group served stream life = if is_listed keys key then None else life
 group_lived now _ key group served stream life = life
 
--- each key and group of a read is there; other commands read none
+-- what a command reads of groups: each key, and from where on; other commands read none
 abbrev pub reads_of : Command → List ReadOne
 reads_of (ReadGroup read) = read.reads
 reads_of _ = []

@@ -5,7 +5,7 @@ use Rattle.xs_keys.specs.Ground.{option_map, option_map_or, option_or, list_any,
 use Rattle.xs_keys.specs.Ground.{Command, Add, Delete, TrimTo, GroupCreate, DropKeys, AddError, is_below, has_id}
 use Rattle.xs_keys.specs.Ground.{zero_id, is_trimmed, assigned, Kept, ids_of}
 
--- keys, groups and consumers have names, lists of bytes
+-- the name is one of these; names of keys, groups and consumers are lists of bytes
 abbrev pub is_listed : List (List ℕ) → List ℕ → Bool
 is_listed names name = list_any (is_name name) names
 

@@ -1,5 +1,5 @@
 -- What claims take and what they remove, by looking back. (Redis, XCLAIM and XAUTOCLAIM.)
-use Rattle.std.specs.Prelude.{◌≡◌, ℕ, ◌≤◌, ◌-◌, Bool, true, false, List, ◌∷◌, ◌++◌, is_some}
+use Rattle.std.specs.Prelude.{◌≡◌, ℕ, ◌≤◌, ◌-◌, true, false, List, ◌∷◌, ◌++◌, is_some}
 use Rattle.xs_keys.specs.Ground.{option_map_or, Id, has_id}
 use Rattle.xs_keys.specs.GroupEvent.{Ask, GroupEvent, rule_of, takes, removes_pending, owner}
 use Rattle.xs_keys.specs.Touched.{time_of}

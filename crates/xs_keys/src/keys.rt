@@ -17,7 +17,9 @@ pub type Groups = BTreeMap<Bytes, Group>;
 /// What a key holds: a stream, and its groups.
 #[derive(Drop)]
 pub struct Slot {
+    /// The stream.
     pub stream: Stream,
+    /// Its groups, by their names.
     pub groups: Groups,
 }
 

@@ -1,7 +1,7 @@
 //! XADD.
 ghost use Rattle.std.specs.Prelude.{◌≡◌, Some, Ok, Err, None, true, is_ok, IfOk, OnErr, IsErrOf};
 ghost use Rattle.xs_bytes.specs.SortedMap as map;
-ghost use Rattle.xs_stream.specs.Id.{printed, assigned};
+ghost use Rattle.xs_stream.specs.Id.{assigned};
 ghost use Rattle.xs_command.specs.WellFormed.{IsAddId};
 ghost use Rattle.xs_keys.specs.Life.{added};
 ghost use Rattle.xs_keys.specs.Content.{stream_after};

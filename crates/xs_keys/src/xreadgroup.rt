@@ -1,6 +1,6 @@
 //! XREADGROUP.
-ghost use Rattle.std.specs.Prelude.{◌≡◌, ◌++◌, true, is_some, map, length, IfOk, OnOk, OnErr};
-ghost use Rattle.std.specs.List.{flat_map, list_all};
+ghost use Rattle.std.specs.Prelude.{◌≡◌, ◌++◌, true, is_some, map, IfOk, OnOk, OnErr};
+ghost use Rattle.std.specs.List.{flat_map};
 ghost use Rattle.xs_bytes.specs.SortedMap as finmap;
 ghost use Rattle.xs_bytes.specs.SortedMap.{NameMap};
 ghost use Rattle.xs_stream.specs.Kept.{ids_of};

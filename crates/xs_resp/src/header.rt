@@ -1,6 +1,6 @@
 //! Headers of requests: a marker, a number, CR and LF (RESP protocol specification, version 2).
-ghost use Rattle.std.specs.Prelude.{◌≡◌, ◌≤◌, ◌<◌, ◌+◌, ◌-◌, ◌^◌, min, option_map, if◌then◌else◌, Some, None, IfOk};
-ghost use Rattle.std.specs.Prelude.{IfSome, length};
+ghost use Rattle.std.specs.Prelude.{◌≡◌, ◌≤◌, ◌<◌, ◌+◌, ◌-◌, ◌^◌, min, option_map, if◌then◌else◌, Some, None};
+ghost use Rattle.std.specs.Prelude.{length};
 ghost use Rattle.std.specs.List.{list_all};
 ghost use Rattle.xs_bytes.specs.Number.{is_digit, value_of};
 ghost use Rattle.xs_resp.specs.Part.{marker, limit, is_natural, number_in};

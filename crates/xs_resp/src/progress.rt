@@ -1,6 +1,5 @@
 //! How far the request at the front of some bytes is read.
-ghost use Rattle.std.specs.Prelude.{◌≡◌, ◌<◌, ◌≤◌, length, IfSome, Ok, Err, None, Some};
-ghost use Rattle.xs_resp.specs.Reading.{Found, request};
+ghost use Rattle.std.specs.Prelude.{◌≡◌, ◌<◌, ◌≤◌, IfSome, Ok, None, Some};
 ghost use Rattle.xs_resp.specs.Progress.{Follows, Begins, Goes, Reaches};
 
 use crate::header::{Part, read_header};

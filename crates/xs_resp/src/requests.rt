@@ -1,5 +1,5 @@
 //! The reader of requests, from bytes that come in pieces.
-ghost use Rattle.std.specs.Prelude.{◌≡◌, ◌≤◌, ◌-◌, length, drop, IsOk, IsErr, OnOk, OnErr, IfOk, Ok, Err};
+ghost use Rattle.std.specs.Prelude.{◌≡◌, ◌≤◌, ◌-◌, length, drop, IsOk, IsErr, OnOk, OnErr, Ok, Err};
 ghost use Rattle.xs_resp.specs.Held.{fed, is_partial, Next};
 
 use crate::copying::words_of;

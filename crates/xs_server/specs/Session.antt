@@ -36,8 +36,8 @@ IsInHand read lines line behind =
 -- the line in hand was read up to its LF, or to the end of the input, or past the limit
 abbrev pub IsReadOut : List ℕ → List ℕ → Option (List ℕ) → Bool → Type 0
 IsReadOut line behind rest ended =
-    ((unused : List ℕ) × (behind ≡ 10 ∷ unused)) ⊎ ((behind ≡ []) × IsAtEnd rest × (ended ≡ true))
-    ⊎ (line_limit < length line)
+    ((unused : List ℕ) × (behind ≡ 10 ∷ unused))
+    ⊎ ((behind ≡ []) × (0 < length line) × IsAtEnd rest × (ended ≡ true)) ⊎ (line_limit < length line)
 
 -- a reader is asked for so many bytes at once
 abbrev pub piece : ℕ
@@ -65,10 +65,6 @@ Runs (Err fault) read sent rest ended = EndsBy fault read sent rest ended
 -- what is read is these lines, and then what isn't used yet
 abbrev pub IsRead : List ℕ → List (List ℕ) → List ℕ → Type 0
 IsRead read lines unused = (read ≡ flat_map with_end lines ++ unused) × AreLines lines
-
--- what is read is these lines, and then a last line that lacks its end
-abbrev pub IsLast : List ℕ → List (List ℕ) → List ℕ → Type 0
-IsLast read lines line = IsRead read lines line × (list_any is_line_end line ≡ false) × (0 < length line)
 
 -- a line that was served isn't answered, and so the script ends; or it is
 abbrev pub ServesNext : Result (Unit {0}) ScriptFault → List (List ℕ) → List ℕ → List ℕ → Session → Bool → Type 0

@@ -22,11 +22,11 @@ previous_id id =
 abbrev pub id_number : List ℕ → Option ℕ
 id_number text = if nat_le (length text) 20 then number_of text else None
 
--- the id of two numbers, where id_of_parts are there
+-- the id of two numbers, where both are there
 abbrev pub id_of_parts : Option ℕ → Option ℕ → Option Id
 id_of_parts ms seq = option_and_then (λ m. option_map (λ s. record { ms = m; seq = s }) seq) ms
 
--- what stands at id_of_parts sides of a dash, or one number with no dash
+-- what stands at both sides of a dash, or one number with no dash
 abbrev pub parse_around : Option ℕ → List ℕ → ℕ → Option Id
 parse_around None text missing = id_of_parts (id_number text) (Some missing)
 parse_around (Some dash) text missing = id_of_parts (id_number (take dash text)) (id_number (drop (dash + 1) text))

@@ -7,7 +7,9 @@ use xs_bytes::{Bytes, List};
 /// A field of an entry. Names may repeat within an entry, and may be empty, as values may.
 #[derive(Debug, Drop)]
 pub struct Field {
+    /// Its name.
     pub name: Bytes,
+    /// Its value.
     pub value: Bytes,
 }
 

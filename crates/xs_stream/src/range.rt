@@ -7,7 +7,9 @@ use crate::id::Id;
 /// A range of ids. Both ends belong to it. It is empty where the low end is above the high one.
 #[derive(Clone, Copy, Debug, PartialEq, Eq)]
 pub struct Range {
+    /// The least id that may belong to it.
     pub low: Id,
+    /// The greatest one.
     pub high: Id,
 }
 

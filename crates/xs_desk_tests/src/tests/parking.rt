@@ -1,16 +1,33 @@
 //! Clients that wait for each answer over their lanes, and a keeper that is idle.
 use super::commands::read;
 use super::together::Job;
-use super::trial::{Still, Trial};
+use super::trial::Trial;
 use std::alloc::{AllocError, Global};
 use std::sync::Wait;
 use std::test::Fail;
 use xs_command::Refusal;
 use xs_desk::{Client, Lane, Port};
+use xs_keys::Clock;
 use xs_resp::Reply;
+use xs_stream::Moment;
 
 /// How often each client asks.
 const TIMES: u64 = 500;
+
+/// A clock that leaps on. Calls don't follow fast by it, so a side that waits parks without a yield.
+#[derive(Clone, Copy)]
+struct Leaping {
+    calls: u64,
+}
+
+impl Clock for Leaping {
+    ghost gives = { λ old now new. Unit {0} };
+
+    fn now(&mut self) -> Moment {
+        self.calls = self.calls.wrapping_add(1);
+        Moment::new(self.calls % 1_000_000 * 1000).unwrap()
+    }
+}
 
 /// Asks for additions, and counts the replies that are no error.
 #[derive(Drop)]
@@ -48,7 +65,7 @@ fn adders(alloc: Global, lanes: u64) -> Result<Vec<Adding>, AllocError> {
 fn length(
     alloc: Global,
     trial: &mut Trial,
-    clock: &mut Still,
+    clock: &mut Leaping,
 ) -> Result<Option<(u64, u64)>, Refusal> {
     let command = read(alloc, "XLEN s")?;
     let Some(answer) = trial.call(0, clock, command) else {
@@ -63,7 +80,7 @@ fn length(
 #[test]
 fn each_call_is_answered_once(rt: HostRuntime) -> Result<(), Fail> {
     let alloc = rt.alloc();
-    let mut clock = Still::at(1000).ok_or("a moment")?;
+    let mut clock = Leaping { calls: 0 };
     for (lanes, depth) in [(1, 1), (2, 16), (8, 1), (64, 4)] {
         let jobs = adders(alloc, lanes)?;
         let trial = Trial::new(alloc, lanes as usize, depth)?;

@@ -1,6 +1,6 @@
 //! A connection while it is served.
 ghost use Rattle.std.specs.Prelude.{◌≡◌, ◌≢◌, ◌<◌, ◌+◌, ◌*◌, None, Bool, ℕ, List, Option, Ok, length};
-ghost use Rattle.std.specs.Io.KnownBytes.{Appends, Consumes, IsAtEnd};
+ghost use Rattle.std.specs.Io.KnownBytes.{Appends, Consumes};
 ghost use Rattle.xs_resp.specs.Held.{held_length};
 ghost use Rattle.xs_resp.specs.ReplyText.{text};
 ghost use Rattle.xs_server.specs.Device.{capped};

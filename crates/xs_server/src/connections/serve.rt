@@ -1,9 +1,9 @@
 //! A whole connection.
-ghost use Rattle.std.specs.Prelude.{◌≡◌, ◌+◌, ◌*◌, ◌<◌, ◌++◌, [], List, ℕ, length, IfOk, Ok, Some, None};
+ghost use Rattle.std.specs.Prelude.{◌≡◌, ◌+◌, ◌*◌, ◌<◌, ◌++◌, [], List, ℕ, IfOk, Ok, Some, None};
 ghost use Rattle.std.specs.Io.KnownBytes.{Appends, Consumes};
 ghost use Rattle.xs_resp.specs.Held.{held_length};
 ghost use Rattle.xs_server.specs.Device.{capped};
-ghost use Rattle.xs_server.specs.Serve.{Serves, HasCause, reads_limit};
+ghost use Rattle.xs_server.specs.Serve.{Serves, HasCause};
 ghost use Rattle.xs_server.specs.Connection.{Stands, Steps, StepCause, IsNew};
 
 use crate::connections::connection::{Connection, exchange, refuse, take_in};

@@ -1,10 +1,10 @@
-//! Scripts: lines in, replies out.
-ghost use Rattle.std.specs.Prelude.{◌≡◌, ◌≢◌, ◌⊎◌, ◌<◌, ◌≤◌, ◌++◌, ◌∷◌, [], Bool, true, false, Ok, Err, IsErr, List};
+//! The line in hand of a script: it is answered and its reply is held, or the script is given up.
+ghost use Rattle.std.specs.Prelude.{◌≡◌, ◌≢◌, ◌⊎◌, ◌<◌, ◌≤◌, ◌++◌, ◌∷◌, [], Bool, true, Ok, Err, IsErr, List};
 ghost use Rattle.std.specs.Prelude.{Option, ℕ, length};
-ghost use Rattle.std.specs.Io.KnownBytes.{Appends, IsAtEnd};
-ghost use Rattle.xs_server.specs.Line.{line_limit, script_lines};
+ghost use Rattle.std.specs.Io.KnownBytes.{Appends};
+ghost use Rattle.xs_server.specs.Line.{line_limit};
 ghost use Rattle.xs_server.specs.Taking.{FailsLine};
-ghost use Rattle.xs_server.specs.Session.{Stands, IsRead, IsLast, Sends, ServesNext, Steps, HasWriteCause, piece};
+ghost use Rattle.xs_server.specs.Session.{Stands, IsRead, Sends, ServesNext, Steps, HasWriteCause};
 
 use crate::devices::device::Sink;
 use crate::devices::sending::write_all;

@@ -1,11 +1,15 @@
-use Rattle.std.proofs.Common.{◌≡◌, ℕ, List, [], ◌∷◌, ◌++◌, Ok, ap, ◌∙◌, refl, inl, inr, append_assoc, append-nil, arith}
-use Rattle.std.specs.List.{flat_map}
-use Rattle.xs_server.specs.Line.{script_lines}
+use Rattle.std.proofs.Common.{◌≡◌, ℕ, ◌<◌, false, List, [], ◌∷◌, ◌++◌, length, Ok, ap, ◌∙◌, refl, inl, inr, append_assoc, append-nil, arith}
+use Rattle.std.specs.List.{flat_map, list_any}
+use Rattle.xs_server.specs.Line.{is_line_end, script_lines}
 use Rattle.xs_server.specs.Script.{with_end}
-use Rattle.xs_server.specs.Session.{IsLast}
+use Rattle.xs_server.specs.Session.{IsRead}
 use Rattle.xs_server.proofs.ScriptLines.{read-more, read-line, read-lines, in-hand, in-hand-last, lines-last}
 use Rattle.xs_server.proofs.Sessions.{fault-ends, all-sent, sent-after, finish-fails}
 use Rattle.xs_server.proofs.script.run.step.Goals as goal
+
+-- what is read is these lines, and then a last line that lacks its end
+abbrev IsLast : List ℕ → List (List ℕ) → List ℕ → Type 0
+IsLast read lines line = IsRead read lines line × (list_any is_line_end line ≡ false) × (0 < length line)
 
 all : (read : List ℕ) (lines : List (List ℕ)) (line : List ℕ) → IsLast read lines line → script_lines read ≡ lines ++ line ∷ []
 all read lines line last = read-lines read lines line last.0 ∙ ap (λ ls. lines ++ ls) (lines-last line last.1 last.2)
@@ -70,7 +74,7 @@ returns-in-Err-serve-2-clause-steps g c = λ lines read sent stands is.
       bytes.1,
       served.1,
       fault-ends c.in-Err-serve-2.fault lines line [] [] (read ++ bytes.0) _ c.serve-in-Ok-Last.new.session _ _ _
-          (in-hand-last (read ++ bytes.0) lines line last.0 last.1) (inr (inl (refl, end.0, end.1))) (omega arith) (all (read ++ bytes.0) lines line last) served.2,
+          (in-hand-last (read ++ bytes.0) lines line last.0 last.1) (inr (inl (refl, last.2, end.0, end.1))) (omega arith) (all (read ++ bytes.0) lines line last) served.2,
     )
 
 pub returns-in-Ok-send-clause-steps : goal.returns-in-Ok-send-clause-steps
