@@ -2,6 +2,7 @@
 """Measures round trips between the lanes of a desk and its keeper, beside plain Rust.
 
     desk.py [--runs N] [--lanes N,N,..] [--calls N] [--each N] [--busy N] [--spins N ..]    needs the toolchain and rustc
+    desk.py --beside A,B [--runs N] [--calls N] [--spins N ..]      one number of lanes beside another
     desk.py --idle      how much processor time a keeper takes that nobody asks
 
 Each lane has a thread, and asks as soon as it has its reply: all lanes together so many calls, but each at least so
@@ -11,8 +12,16 @@ Mutex (bench/desk/beside.rs). All are run in turn, with each number of lanes. Th
 time for a call, of the whole process up to the last reply, and how long a call waited: in the middle, at 99 % and at
 worst. Each is the middle one of the runs, with the least and the greatest; at worst it is the greatest of all. With
 --busy so many other processes only count meanwhile. --spins tries other numbers in place of the one of waiting.rt.
+
+With --beside the desk alone runs in pairs, once with A lanes and once with B, which of them first in turn, and all lanes
+together have the same number of calls in both. Told are the rates, and B by A: the middle one of the pairs, with the
+least and the greatest, and between which two of them the middle one of endless pairs lies by 95 % or more.
+
+A virtual machine has less than its processors where its host gives them to others. What the host took the kernel tells
+(`steal` in /proc/stat), and a run of which it took more than a hundredth is made anew.
 """
 import argparse
+import math
 import os
 import re
 import shutil
@@ -26,6 +35,9 @@ from tcp import spread
 
 BELOW = ("xs_bytes", "xs_stream", "xs_resp", "xs_group", "xs_command", "xs_keys", "xs_desk")
 IDLE = 2.0
+# The most of the processors' time that the host may take from a run, and how often a run is made anew for it.
+TAKEN_AWAY = 0.01
+TRIES = 20
 
 
 def set_spins(folder, number):
@@ -56,7 +68,25 @@ def processor_time(pid):
     return time.clock_gettime((~pid << 3) | 2)
 
 
+def ticks():
+    """The time of all processors so far, and what the host took of it."""
+    with open("/proc/stat", encoding="ascii") as lines:
+        told = [int(number) for number in lines.readline().split()[1:9]]
+    return sum(told), told[7]
+
+
 def run(words, calls):
+    """A run of which the host took next to nothing."""
+    for _ in range(TRIES):
+        all_before, lost_before = ticks()
+        taken = run_once(words, calls)
+        all_after, lost_after = ticks()
+        if lost_after - lost_before <= TAKEN_AWAY * (all_after - all_before):
+            return taken
+    raise SystemExit(f"{words}: the host took processor time from each of {TRIES} runs")
+
+
+def run_once(words, calls):
     """Calls a second, processor time for a call, and the three waits; times in microseconds."""
     child = subprocess.Popen(words, stdin=subprocess.PIPE, stdout=subprocess.PIPE, text=True)
     taken = int(child.stdout.readline())
@@ -98,14 +128,45 @@ def measure(sides, numbers, asked):
         row(name, lanes, values)
 
 
-def sides_of(folder, spins):
-    """Who asks for what: a name, and the words that run it."""
+def middle_lies(values):
+    """Two of the values, in their order, between which the middle one of endless such values lies by 95 % or more."""
+    ranked, below, at = sorted(values), 0.0, 0
+    while 2 * (below + math.comb(len(ranked), at) / 2 ** len(ranked)) <= 0.05:
+        below += math.comb(len(ranked), at) / 2 ** len(ranked)
+        at += 1
+    return ranked[max(at - 1, 0)], ranked[-max(at, 1)]
+
+
+def measure_beside(sides, numbers, asked):
+    """The two numbers of lanes in turn, so often as runs are asked for."""
+    print("| Who asks for what | Calls in a run | Calls a second, lanes: " + " | ".join(map(str, numbers))
+          + " | the second by the first | the middle one lies |\n|---|---|---|---|---|---|", flush=True)
+    for name, words in sides.items():
+        rates = {lanes: [] for lanes in numbers}
+        for turn in range(asked.runs):
+            for lanes in numbers if turn % 2 == 0 else reversed(numbers):
+                each = asked.calls // lanes
+                rates[lanes].append(run([*words, str(lanes), str(each)], each * lanes)[0])
+        first, second = rates.values()
+        by = [one / other for one, other in zip(second, first)]
+        low, high = middle_lies(by)
+        print(f"| {name} | {asked.runs} of {asked.calls:,} | {spread(first, ',.0f')} | {spread(second, ',.0f')} "
+              f"| {spread(by, '.2f')} | {low:.2f} to {high:.2f} |", flush=True)
+
+
+def desks_of(folder, spins):
+    """Who asks a desk for what: a name, and the words that run it."""
     sides = {}
     for number, program in build_desks(folder, spins).items():
         name = "desk" if number is None else f"desk, {number} spins"
         sides |= {f"{name}, {command}": [program, command] for command in ("PING", "XADD")}
+    return sides
+
+
+def others_of(folder):
+    """The same of plain Rust."""
     beside = laid_down.build_plain(folder, "desk", "beside.rs")
-    return sides | {"channels, PING": [beside, "channels"], "Mutex, PING": [beside, "lock"]}
+    return {"channels, PING": [beside, "channels"], "Mutex, PING": [beside, "lock"]}
 
 
 def main():
@@ -117,6 +178,7 @@ def main():
     parser.add_argument("--busy", type=int, default=0)
     parser.add_argument("--spins", nargs="+", type=int, default=[None])
     parser.add_argument("--idle", action="store_true")
+    parser.add_argument("--beside", default="")
     asked = parser.parse_args()
     with laid_down.new_folder() as folder:
         if asked.idle:
@@ -125,7 +187,11 @@ def main():
                 taken = [idle(program, lanes) for _ in range(asked.runs)]
                 print(f"{lanes} lanes: {spread(taken, '.0f')} µs in {IDLE} s", flush=True)
             return
-        sides = sides_of(folder, asked.spins)
+        sides = desks_of(folder, asked.spins)
+        if asked.beside:
+            measure_beside(sides, [int(lanes) for lanes in asked.beside.split(",")], asked)
+            return
+        sides |= others_of(folder)
         print("| Who asks for what | Lanes | Calls a second | Processor time for a call, in µs "
               "| Waits in the middle, in µs | at 99 % | at worst |\n|---|---|---|---|---|---|---|", flush=True)
         with busy(asked.busy):

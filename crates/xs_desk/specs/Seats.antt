@@ -1,6 +1,6 @@
 -- A lane from the keeper's side.
-use Rattle.std.specs.Prelude.{◌≡◌, ℕ, ◌+◌, ◌^◌, List, [], ◌∷◌, ◌++◌, length, map}
-use Rattle.rtrb.specs.Ring.{sent, received}
+use Rattle.std.specs.Prelude.{◌≡◌, ℕ, ◌+◌, ◌^◌, ◌⊎◌, List, [], ◌∷◌, ◌++◌, length, map}
+use Rattle.rtrb.specs.Ring.{sent, received, known_items, known_free}
 use Rattle.xs_command.specs.declared.command.Command.{Command}
 use Rattle.xs_keys.specs.Content.{Content}
 use Rattle.xs_keys.specs.Step.{Step}
@@ -48,5 +48,10 @@ pub record Answers {C : Type 0} (gives : C → ℕ → C → Type 0) (old new : 
 -- what came of a look: nothing has changed, or one call was answered; or no further place is left
 abbrev pub Looks : {C : Type 0} → (C → ℕ → C → Type 0) → Look → Scene C → Scene C → Type 0
 Looks gives Idle old new = new ≡ old
-Looks gives Served old new = Answers gives old new
+Looks gives (Served _) old new = Answers gives old new
 Looks gives Exhausted old new = (new ≡ old) × (old.place + 1 ≡ 2 ^ 64)
+
+-- a look that finds nothing saw no call, or no room for its answer
+abbrev pub FindsNothing : Look → Seat → Type 0
+FindsNothing Idle seat = (length (known_items seat.calls) ≡ 0) ⊎ (known_free seat.answers ≡ 0)
+FindsNothing _ seat = Unit {0}

@@ -1,4 +1,6 @@
 //! What goes through the rings of a lane.
+ghost use Rattle.std.specs.Prelude.{◌≡◌, ◌+◌, ◌^◌, Some, None, nat_lt, if◌then◌else◌};
+
 use rtrb::Protocol;
 use xs_command::Command;
 use xs_resp::Reply;
@@ -15,6 +17,13 @@ pub struct Answer {
     pub moment: Moment,
     /// The reply of the keyspace.
     pub reply: Reply,
+}
+
+/// The place after a place. The greatest number has none, and a keeper whose next place it is serves nobody.
+pub fn next_place(place: u64) -> Option<u64>
+    ensures { result ≡ (if nat_lt (place + 1) (2 ^ 64) then Some (place + 1) else None) }
+{
+    place.checked_add(1)
 }
 
 /// The rule of a ring for calls: each command is well formed.

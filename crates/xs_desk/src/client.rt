@@ -2,7 +2,7 @@
 ghost use Rattle.std.specs.Prelude.{◌≡◌, ◌++◌, ◌∷◌, [], ◌<◌, length, IfOk, IfErr, IsOk, MatchOption};
 
 use crate::answer::{Answer, Formed};
-use crate::waiting::{Bell, Sleeper};
+use crate::waiting::Sleeper;
 use crate::watch::Notice;
 use rtrb::{Consumer, Producer, PushError};
 use std::alloc::Global;
@@ -11,7 +11,7 @@ use std::sync::atomic::{AtomicBool, Ordering};
 use std::sync::{Arc, Wait};
 use xs_command::Command;
 
-/// There is no free place for the command, or no further ticket. It hands the command back.
+/// There is no room for the command, or no further ticket. It hands the command back.
 #[derive(Debug, Drop)]
 pub struct Full(pub Command);
 
@@ -23,10 +23,9 @@ pub struct Client {
     answers: Consumer<Answer>,
     lane: usize,
     ticket: u64,
+    // Tells the keeper.
     notice: Notice,
     sleeper: Sleeper,
-    // Wakes the keeper.
-    bell: Bell,
     // Set once nobody is served any more.
     gone: Arc<AtomicBool>,
 }
@@ -76,7 +75,6 @@ impl Client {
         answers: Consumer<Answer>,
         notice: Notice,
         sleeper: Sleeper,
-        bell: Bell,
         gone: Arc<AtomicBool>,
     ) -> Client
         requires { sent calls ≡ [] }
@@ -89,7 +87,6 @@ impl Client {
             ticket: 0,
             notice,
             sleeper,
-            bell,
             gone,
         }
     }
@@ -114,30 +111,30 @@ impl Client {
         match self.calls.push(command) {
             Ok(()) => {
                 self.ticket = next;
-                self.sleeper.found();
-                self.tell_keeper();
+                self.sleeper.begin_anew();
+                self.notice.give();
                 Ok(ticket)
             }
             Err(PushError::Full(back)) => Err(Full(back)),
         }
     }
 
-    /// The next answer, if it has come. It wakes the keeper if it sleeps, since a place has come free for it, and takes
-    /// no memory.
+    /// The next answer, if it has come. It wakes the keeper if it sleeps, since there is room for a further one, and
+    /// takes no memory.
     pub fn take(&mut self) -> Option<Answer>
         ensures { MatchOption result (self.new ≡ self.old)
             (λ answer. self.new ≡ record self.old { taken = self.old.taken ++ answer ∷ [] }) }
     {
         self.sleeper.begin_look();
         let answer = self.answers.pop().ok()?;
-        self.sleeper.found();
-        self.sleeper.pace().call_at(answer.moment);
-        self.tell_keeper();
+        self.sleeper.found(answer.moment);
+        self.notice.give();
         Some(answer)
     }
 
-    /// Waits after a `take` that gave nothing. After many such in a row it parks until the keeper has answered or is
-    /// gone; before that it comes back at once, for another `take`.
+    /// Waits after a `take` that gave nothing, and only there: between two such calls a `take` has to look for an
+    /// answer. After many such in a row it parks until the keeper has answered or is gone; before that it comes back
+    /// at once, for another `take`.
     pub fn idle<R: Wait>(&self, rt: &R) {
         self.sleeper.rest(rt);
     }
@@ -145,12 +142,6 @@ impl Client {
     /// Whether the keeper is gone. Where it is, and a `take` after that gives nothing, no answer comes any more.
     pub fn is_gone(&self) -> bool {
         self.gone.load(Ordering::SeqCst)
-    }
-
-    /// Tells the keeper of a call, or of a free place, if it doesn't look.
-    fn tell_keeper(&self) {
-        self.notice.give();
-        self.bell.ring();
     }
 
     /// Ends the client: it makes no further call.

@@ -100,6 +100,7 @@ fn say_gone(seats: &Vec<Seat>, gone: &Arc<AtomicBool>) {
 fn serve_each<C: Clock>(
     seats: &mut Vec<Seat>,
     awake: &mut Awake,
+    sleeper: &mut Sleeper,
     keyspace: &mut Keyspace,
     place: &mut u64,
     clock: &mut C,
@@ -113,23 +114,24 @@ fn serve_each<C: Clock>(
         (desk_of seats.new.items keyspace.new place.new) clock.new × (place.new + 1 ≡ 2 ^ 64)) }
 {
     let mut served = 0;
-    // The lowest bit is that of the lane `next`, the lowest that hasn't had its turn.
+    // A bit for each lane to look at; the lowest is that of lane `next`, and those below it have had their turn.
     let mut lanes = awake.begin_turn();
     let mut next = 0;
     while lanes != 0 {
-        let resting = lanes.trailing_zeros();
-        let k = next + resting as usize;
+        let passed_over = lanes.trailing_zeros();
+        let k = next + passed_over as usize;
         if k >= seats.len() {
             break;
         }
-        lanes = lanes.wrapping_shr(resting) >> 1;
+        lanes = lanes.wrapping_shr(passed_over) >> 1;
         next = k + 1;
         let seat = &mut seats[k];
         match seat.serve(keyspace, place, clock) {
             Look::Idle => {}
-            Look::Served => {
+            Look::Served(moment) => {
                 served += 1;
                 awake.found(k);
+                sleeper.found(moment);
             }
             Look::Exhausted => return Err(KeeperError::Exhausted),
         }
@@ -173,9 +175,9 @@ impl Keeper {
     }
 
     /// Looks at each lane once, in order, and serves at most one call of each, at the moment that the clock gives. A
-    /// lane that has had no call while others had many is passed over until its client gives notice of one. A call
-    /// whose answer has no free place stays in its lane. It takes no memory but that of `Keyspace::apply`, whose
-    /// refusal is the reply `OOM`. It answers how many calls it served.
+    /// lane that has had no call while others had many is passed over until its client gives notice of a call, or of
+    /// room for an answer. A call whose answer has no room stays in its lane. It takes no memory but that of
+    /// `Keyspace::apply`, whose refusal is the reply `OOM`. It answers how many calls it served.
     ///
     /// # Errors
     /// `Exhausted` at the last place, 2^64 - 1, and nobody is served any more. What the turn served before
@@ -192,22 +194,23 @@ impl Keeper {
         let served = serve_each(
             &mut self.seats,
             &mut self.awake,
+            &mut self.sleeper,
             &mut self.keyspace,
             &mut self.place,
             clock,
         );
         // That the place is a number of 64 bits is known of it once it is read.
         let _place = self.place;
-        match served {
-            Ok(0) => {}
-            Ok(_) => self.sleeper.found(),
-            Err(KeeperError::Exhausted) => say_gone(&self.seats, &self.gone),
-        }
-        served
+        let Ok(count) = served else {
+            say_gone(&self.seats, &self.gone);
+            return Err(KeeperError::Exhausted);
+        };
+        Ok(count)
     }
 
-    /// Waits after a turn that served nobody. After many such turns in a row it parks until a lane or a waker gives the
-    /// keeper's token; before that it comes back at once, for another turn.
+    /// Waits after a turn that served nobody, and only there: between two such calls a turn has to look at the lanes.
+    /// After many such turns in a row it parks until a lane or a waker gives the keeper's token; before that it comes
+    /// back at once, for another turn.
     pub fn idle<R: Wait>(&self, rt: &R) {
         self.sleeper.rest(rt);
     }
@@ -218,7 +221,7 @@ impl Keeper {
         Ok(Waker { bell })
     }
 
-    /// Ends the keeper's work.
+    /// Takes the keeper apart, where nobody waits for it any more.
     pub(crate) fn into_parts(self) -> (Vec<Seat>, Keyspace)
         ensures parts { (place : ℕ) × (self ≡ desk_of result.0.items result.1 place) }
         ensures history { (history : List ServedCall) × IsHistory history self }
@@ -229,9 +232,8 @@ impl Keeper {
             place: _,
             awake: _awake,
             sleeper: _sleeper,
-            gone,
+            gone: _gone,
         } = self;
-        say_gone(&seats, &gone);
         (seats, keyspace)
     }
 }

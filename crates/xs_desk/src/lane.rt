@@ -1,8 +1,9 @@
 //! A client that waits for each answer.
-ghost use Rattle.std.specs.Prelude.{◌≡◌, length, MatchResult};
+ghost use Rattle.std.specs.Prelude.{◌≡◌, ◌++◌, ◌∷◌, [], length, MatchResult};
 ghost use Rattle.xs_command.specs.WellFormed.{IsWellFormed};
 ghost use Rattle.xs_desk.specs.Asking.{Submits, Takes, Receives, Asks, Fails};
 
+use crate::answer::Answer;
 use crate::client::{Client, Full};
 use crate::port::{Port, PortFault};
 use std::marker::Model;
@@ -46,7 +47,27 @@ impl Lane {
     }
 }
 
-/// Submits the command; while there is no place for it, it takes an older answer, or waits.
+/// The next answer, which it waits for.
+fn next_answer<R: Wait>(rt: &R, client: &mut Client) -> Result<Answer, PortFault>
+    ensures { MatchResult result
+        (λ answer. client.new ≡ record client.old { taken = client.old.taken ++ answer ∷ [] })
+        (λ _. client.new ≡ client.old) }
+{
+    for _ in rt.forever() {
+        let gone = client.is_gone();
+        if let Some(answer) = client.take() {
+            return Ok(answer);
+        }
+        if gone {
+            return Err(PortFault::Gone);
+        }
+        client.idle(rt);
+    }
+    unreachable!()
+}
+
+/// Submits the command; while there is no room for it, it takes an older answer: with each of them a call has left its
+/// ring.
 #[tactic(auto, using(crate::proofs::Askings::steps))]
 fn submit<R: Wait>(rt: &R, client: &mut Client, command: Command) -> Result<u64, PortFault>
     requires { IsWellFormed command }
@@ -60,37 +81,21 @@ fn submit<R: Wait>(rt: &R, client: &mut Client, command: Command) -> Result<u64,
             Ok(ticket) => return Ok(ticket),
             Err(Full(back)) => command = back,
         }
-        let gone = client.is_gone();
-        if client.take().is_none() {
-            if gone {
-                return Err(PortFault::Gone);
-            }
-            client.idle(rt);
-        }
+        let _older = next_answer(rt, client)?;
     }
     unreachable!()
 }
 
-/// Takes answers up to the one with the ticket, and waits for it.
+/// Takes answers up to the one with the ticket.
 #[tactic(auto, using(crate::proofs::Askings::steps))]
 fn receive<R: Wait>(rt: &R, client: &mut Client, ticket: u64) -> Result<Reply, PortFault>
     ensures { MatchResult result (λ reply. Receives client.old ticket reply client.new)
         (λ _. Takes client.old client.new) }
 {
     for _ in rt.forever() {
-        let gone = client.is_gone();
-        match client.take() {
-            Some(answer) => {
-                if answer.ticket == ticket {
-                    return Ok(answer.reply);
-                }
-            }
-            None => {
-                if gone {
-                    return Err(PortFault::Gone);
-                }
-                client.idle(rt);
-            }
+        let answer = next_answer(rt, client)?;
+        if answer.ticket == ticket {
+            return Ok(answer.reply);
         }
     }
     unreachable!()

@@ -1,5 +1,6 @@
 //! Whom commands are asked of: a keyspace alone, or a desk, whose keeper serves the calls of many clients, each over a
-//! lane of its own.
+//! lane of its own. What a desk has done is its history (`specs/History.antt`): the calls that its keeper served, each
+//! with its answer, in the order of their places.
 #![tactic(auto)]
 
 pub mod alone;
@@ -18,7 +19,7 @@ mod waiting;
 mod watch;
 
 pub use alone::Alone;
-pub use answer::Answer;
+pub use answer::{Answer, next_place};
 pub use client::{Client, Ended, Full};
 pub use closing::{CloseError, close};
 pub use keeper::{Keeper, KeeperError, SameRings, Waker};

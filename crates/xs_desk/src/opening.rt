@@ -58,16 +58,14 @@ fn open_lane(
         answers,
         ticket: 0,
         bell,
-        pace: Arc::try_clone(keeper.pace())?,
     };
     let gone = Arc::try_clone(gone)?;
     let client = Client::new(
         lane,
         to_keeper,
         from_keeper,
-        awake.watch(lane)?,
+        awake.watch(lane, keeper.bell()?)?,
         sleeper,
-        keeper.bell()?,
         gone,
     );
     Ok((seat, client))

@@ -1,15 +1,14 @@
 //! The keeper's side of a lane.
-ghost use Rattle.std.specs.Prelude.{◌≡◌, ◌+◌, ◌^◌, ◌≤◌, ◌<◌, Some, None, nat_lt, if◌then◌else◌, length};
+ghost use Rattle.std.specs.Prelude.{◌≡◌, ◌≤◌, ◌<◌, length};
 ghost use Rattle.rtrb.specs.Ring.{sent, known_items, known_free};
 
-use crate::answer::{Answer, Formed};
-use crate::pace::Pace;
+use crate::answer::{Answer, Formed, next_place};
 use crate::waiting::Bell;
 use rtrb::{Consumer, Producer};
 use std::alloc::Global;
-use std::sync::Arc;
 use xs_command::Command;
 use xs_keys::{Clock, Keyspace};
+use xs_stream::Moment;
 
 /// The keeper's ends of the rings of a lane.
 #[derive(Drop)]
@@ -19,8 +18,6 @@ pub(crate) struct Seat {
     pub ticket: u64,
     // Wakes the client of the lane.
     pub bell: Bell,
-    // The keeper's.
-    pub pace: Arc<Pace>,
     ghost counted: { ticket ≡ length (sent answers) },
 }
 
@@ -28,21 +25,16 @@ pub(crate) struct Seat {
 #[derive(Clone, Copy, Debug, PartialEq, Eq)]
 pub(crate) enum Look {
     Idle,
-    Served,
+    /// A call was served, at this moment.
+    Served(Moment),
     Exhausted,
 }
 
-/// The place after a place, if there is one.
-pub(crate) fn next_place(place: u64) -> Option<u64>
-    ensures { result ≡ (if nat_lt (place + 1) (2 ^ 64) then Some (place + 1) else None) }
-{
-    place.checked_add(1)
-}
-
 impl Seat {
-    ghost use Rattle.xs_desk.specs.Seats.{scene, Looks};
+    ghost use Rattle.xs_desk.specs.Seats.{scene, Looks, FindsNothing};
+    ghost use Rattle.xs_desk.specs.declared.seat.Look.TheVariants.{Idle};
 
-    /// Serves the next call of the lane, if there is one and its answer has a free place.
+    /// Serves the next call of the lane, if there is one and there is room for its answer.
     pub fn serve<C: Clock>(
         &mut self,
         keyspace: &mut Keyspace,
@@ -50,8 +42,9 @@ impl Seat {
         clock: &mut C,
     ) -> Look
         requires { length (sent self.old.answers) ≤ place.old }
-        ensures { Looks C.gives result (scene self.old keyspace.old place.old clock.old)
+        ensures looks { Looks C.gives result (scene self.old keyspace.old place.old clock.old)
             (scene self.new keyspace.new place.new clock.new) }
+        ensures idle { FindsNothing result self.new }
     {
         if self.calls.is_empty() || self.answers.is_full() {
             return Look::Idle;
@@ -59,8 +52,8 @@ impl Seat {
         self.serve_next(keyspace, place, clock)
     }
 
-    /// Serves the next call of a lane that is known to have one, and a free place for its answer. It is apart, so that
-    /// the many looks that find nothing don't clear room for a command and an answer.
+    /// Serves the next call of a lane that is known to have one, and room for its answer. It is apart, so that the many
+    /// looks that find nothing don't clear memory for a command and an answer.
     #[inline(never)]
     fn serve_next<C: Clock>(
         &mut self,
@@ -70,8 +63,9 @@ impl Seat {
     ) -> Look
         requires { (length (sent self.old.answers) ≤ place.old) × (0 < length (known_items self.old.calls))
             × (0 < known_free self.old.answers) }
-        ensures { Looks C.gives result (scene self.old keyspace.old place.old clock.old)
+        ensures looks { Looks C.gives result (scene self.old keyspace.old place.old clock.old)
             (scene self.new keyspace.new place.new clock.new) }
+        ensures busy { result ≡ Idle → ⊥ }
     {
         let Some(next) = next_place(*place) else {
             return Look::Exhausted;
@@ -87,8 +81,7 @@ impl Seat {
         });
         self.ticket += 1;
         *place = next;
-        self.pace.call_at(moment);
         self.bell.ring();
-        Look::Served
+        Look::Served(moment)
     }
 }

@@ -6,17 +6,19 @@
 //! calls don't follow fast any more, and the side parks without a yield until they have done so for a while.
 //!
 //! Before the look after which it may park it says that it sleeps, and the other side gives its token only then. No
-//! token is lost, since all loads and stores have one order: the sleeper stores the flag, looks, and parks; the other
-//! side pushes or takes something, and loads the flag. Where the look came before the push, so did the store, and the
-//! load finds the flag set: the token is given, and ends the park, even one that begins later. Where the look came
-//! after the push, it has found what was pushed. A token that nobody needed ends one park too early, after which the
-//! sleeper looks again.
+//! token is lost, since all loads and stores have one order, those of the rings too, which the ported `rtrb` makes so:
+//! the sleeper stores the flag, looks, and parks; the other side pushes or takes something, and loads the flag. Where
+//! the look came before the push, so did the store, and the load finds the flag set: the token is given, and ends the
+//! park, even one that begins later. Where the look came after the push, it has found what was pushed; at a lane at
+//! rest the keeper's look is one at its notice, which comes before the load too (`watch.rt`). A token that nobody
+//! needed ends one park too early, after which the sleeper looks again.
 use crate::pace::Pace;
 use crossbeam_utils::sync::{Parker, Unparker};
 use std::alloc::{AllocError, Global};
 use std::sync::atomic::{AtomicBool, Ordering};
 use std::sync::{Arc, Wait};
 use std::{hint, thread};
+use xs_stream::Moment;
 
 /// How many looks that find nothing are made one right after the other.
 const SPINS: u32 = 96;
@@ -42,7 +44,8 @@ pub(crate) struct Sleeper {
     last_look: u32,
     sleeps: Arc<AtomicBool>,
     parker: Parker,
-    pace: Arc<Pace>,
+    // Of the calls that this side serves or takes the answers to.
+    pace: Pace,
 }
 
 /// What wakes the other side.
@@ -56,13 +59,12 @@ impl Sleeper {
     pub fn new(alloc: Global, last_look: u32) -> Result<Sleeper, AllocError> {
         let sleeps = Arc::new(alloc, AtomicBool::new(false))?;
         let parker = Parker::new(alloc)?;
-        let pace = Arc::new(alloc, Pace::new())?;
         Ok(Sleeper {
             looks: 0,
             last_look,
             sleeps,
             parker,
-            pace,
+            pace: Pace::new(),
         })
     }
 
@@ -70,11 +72,6 @@ impl Sleeper {
         let sleeps = Arc::try_clone(&self.sleeps)?;
         let unparker = self.parker.unparker().clone()?;
         Ok(Bell { sleeps, unparker })
-    }
-
-    /// What is told of the calls that this side waits for.
-    pub fn pace(&self) -> &Arc<Pace> {
-        &self.pace
     }
 
     /// Begins a look. It stands before the look itself.
@@ -85,22 +82,33 @@ impl Sleeper {
         if self.looks > SPINS && !self.pace.is_swift() {
             self.looks = self.last_look;
         }
-        if self.looks == self.last_look {
+        if self.may_sleep() {
             self.sleeps.store(true, Ordering::SeqCst);
         }
     }
 
-    /// The look has found something.
-    pub fn found(&mut self) {
-        if self.looks == self.last_look {
+    /// The look has found a call, or the answer to one, that was applied at this moment.
+    pub fn found(&mut self, moment: Moment) {
+        self.begin_anew();
+        self.pace.call_at(moment);
+    }
+
+    /// From here on looks that find nothing are counted anew.
+    pub fn begin_anew(&mut self) {
+        if self.may_sleep() {
             self.sleeps.store(false, Ordering::SeqCst);
         }
         self.looks = 0;
     }
 
+    /// Whether this is the look after which it parks.
+    fn may_sleep(&self) -> bool {
+        self.looks == self.last_look
+    }
+
     /// Waits a little where the look has found nothing; after the last look it waits for the token.
     pub fn rest<R: Wait>(&self, rt: &R) {
-        if self.looks == self.last_look {
+        if self.may_sleep() {
             self.parker.park(rt);
         } else if self.looks > SPINS {
             thread::yield_now();

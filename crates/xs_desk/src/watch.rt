@@ -10,12 +10,17 @@
 //! Where the keeper's look came before the push, so did its store: the client finds the lane at rest, and gives notice
 //! before its call ends. Where the look came after the push, it has found what was pushed.
 use crate::opening::MAX_LANES;
+use crate::waiting::Bell;
 use std::alloc::{AllocError, Global};
 use std::sync::Arc;
 use std::sync::atomic::{AtomicU64, Ordering};
 
-/// So many calls are a round, with the others of the turn in which the last of them is served.
+/// So many calls are a round, with the others of the turn in which the last of them is served, and those of the turn
+/// after it, which looks a last time.
 const ROUND: u32 = 64;
+
+// Each lane has a bit of a word.
+const _: () = prove!(MAX_LANES == 64);
 
 /// What the keeper and the clients tell each other: a bit for each lane, the lowest for lane 0.
 #[derive(Drop)]
@@ -39,11 +44,13 @@ pub(crate) struct Awake {
     rests: Arc<Rests>,
 }
 
-/// The client's side of it.
+/// What the client of a lane tells the keeper by.
 #[derive(Drop)]
 pub(crate) struct Notice {
     lane: u64,
     rests: Arc<Rests>,
+    // Wakes the keeper.
+    bell: Bell,
 }
 
 /// The bit of a lane.
@@ -67,12 +74,12 @@ impl Awake {
         })
     }
 
-    /// The client's side of a lane, which is looked at from now on.
-    pub fn watch(&mut self, lane: usize) -> Result<Notice, AllocError> {
+    /// What tells the keeper, who has this bell, of a lane that is looked at from now on.
+    pub fn watch(&mut self, lane: usize, bell: Bell) -> Result<Notice, AllocError> {
         let rests = Arc::try_clone(&self.rests)?;
         let lane = bit_of(lane);
         self.lanes |= lane;
-        Ok(Notice { lane, rests })
+        Ok(Notice { lane, rests, bell })
     }
 
     /// Begins a turn, and answers the lanes to look at in it.
@@ -117,10 +124,13 @@ impl Awake {
 }
 
 impl Notice {
-    /// Tells the keeper that there is a call or a place, if it doesn't look.
+    /// Tells the keeper of a call, or of room for an answer, if it doesn't look. The bit comes before the bell: where
+    /// the keeper sleeps, the turn to which the bell wakes it finds the bit; where it doesn't yet, the look after which
+    /// it may sleep comes later than the bit.
     pub fn give(&self) {
         if self.rests.resting.load(Ordering::SeqCst) & self.lane != 0 {
             self.rests.notices.fetch_or(self.lane, Ordering::SeqCst);
         }
+        self.bell.ring();
     }
 }

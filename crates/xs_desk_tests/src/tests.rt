@@ -11,5 +11,6 @@ mod parking;
 mod reading_by_turns;
 mod refusals;
 mod resting;
+mod stuck_lane;
 mod together;
 mod trial;

@@ -34,7 +34,7 @@ pub struct Asking {
     pub told: Vec<Told>,
 }
 
-/// Whether there was a place for the command.
+/// Whether there was room for the command.
 fn is_submitted(client: &mut Client, command: Command) -> bool
     requires { IsWellFormed command }
     ensures { KeepsSide client.old client.new }
@@ -61,7 +61,17 @@ impl Asking {
         }
     }
 
-    /// Submits the next call, if one is left and there is a place for it.
+    /// Whether its first place comes after the first one of another, and before that one's last.
+    pub fn begins_within(&self, other: &Asking) -> bool {
+        match (self.told.first(), other.told.first(), other.told.last()) {
+            (Some(own), Some(first), Some(last)) => {
+                first.place < own.place && own.place < last.place
+            }
+            _ => false,
+        }
+    }
+
+    /// Submits the next call, if one is left and there is room for it.
     fn submit(&mut self, client: &mut Client)
         ensures { KeepsSide client.old client.new }
     {

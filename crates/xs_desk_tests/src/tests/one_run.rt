@@ -40,6 +40,8 @@ pub enum Seen {
     Differs(u64),
     /// A lane was told something out of its order, or of too many calls or too few.
     Disorder,
+    /// No lane had a call while another one had its calls.
+    OneByOne,
 }
 
 /// The reply to the line, by a run of one event.
@@ -96,6 +98,12 @@ fn askers(alloc: Global, lanes: usize, each: u64, seed: u64) -> Result<Vec<Askin
     Ok(jobs)
 }
 
+/// Whether a lane's first call came between the first one of another lane and its last: the two were at work at once.
+fn are_at_once(jobs: &Vec<Asking>) -> bool {
+    jobs.iter()
+        .any(|one| jobs.iter().any(|other| one.begins_within(other)))
+}
+
 /// Asks so many commands from each of so many lanes at once, and gives what was seen of them, and the desk's summary.
 /// None says that a desk, a thread or memory for it is missing.
 pub fn ask_at_random<R: Threads + Wait + Sync>(
@@ -111,6 +119,9 @@ pub fn ask_at_random<R: Threads + Wait + Sync>(
     let summary = trial.close(alloc)?;
     if !jobs.iter().all(|job| is_in_order(job, 0)) {
         return Some((Seen::Disorder, summary));
+    }
+    if lanes > 1 && !are_at_once(&jobs) {
+        return Some((Seen::OneByOne, summary));
     }
     let seen = see(alloc, &by_place(alloc, jobs).ok()?).ok()?;
     Some((seen, summary))

@@ -4,8 +4,7 @@ use super::trial::{Still, Trial};
 use std::alloc::Global;
 use std::process::Abort;
 use std::test::Fail;
-use xs_command::Refusal;
-use xs_desk::{DeskError, LaneSummary, desk};
+use xs_desk::{DeskError, Full, LaneSummary, desk, next_place};
 use xs_resp::Reply;
 
 /// The summary of a lane.
@@ -39,6 +38,14 @@ fn lanes_and_places_have_bounds(rt: HostRuntime) -> Result<(), Fail> {
     Ok(())
 }
 
+// On this `Exhausted` rests, which no run comes to.
+#[test]
+fn the_greatest_place_is_the_last(rt: HostRuntime) {
+    assert_eq!(rt; next_place(0), Some(1));
+    assert_eq!(rt; next_place(u64::MAX - 1), Some(u64::MAX));
+    assert_eq!(rt; next_place(u64::MAX), None);
+}
+
 /// Submits a line, for this ticket.
 fn submits<R: Abort>(
     rt: &R,
@@ -69,17 +76,23 @@ fn takes<R: Abort>(
     Ok(())
 }
 
-/// Submits an addition where there is no place for it.
-fn is_full(alloc: Global, trial: &mut Trial) -> Result<bool, Refusal> {
-    let command = read(alloc, ADDITION)?;
-    Ok(trial.submit(0, command).is_err())
+/// Submits an addition where there is no room for it: it comes back as it was.
+fn is_handed_back(alloc: Global, trial: &mut Trial) -> Result<bool, Fail> {
+    let wanted = format!(in alloc; "{:?}", read(alloc, ADDITION)?)?;
+    match trial.submit(0, read(alloc, ADDITION)?) {
+        Ok(_) => Ok(false),
+        Err(Full(back)) => {
+            let told = format!(in alloc; "{back:?}")?;
+            Ok(told.as_bytes() == wanted.as_bytes())
+        }
+    }
 }
 
 /// A desk whose lane 0 has answered two additions, and has a third that waits for a place for its answer.
 fn three_additions<R: Abort>(rt: &R, alloc: Global, clock: &mut Still) -> Result<Trial, Fail> {
     let mut trial = Trial::new(alloc, 2, 1)?;
     submits(rt, alloc, &mut trial, 0, ADDITION, 0)?;
-    assert!(rt; is_full(alloc, &mut trial)?);
+    assert!(rt; is_handed_back(alloc, &mut trial)?);
     assert_eq!(rt; trial.turn(clock), Ok(1));
     takes(rt, alloc, &mut trial, 0, (0, 0), b"$6\r\n1000-0\r\n")?;
     assert!(rt; trial.take(0).is_none());

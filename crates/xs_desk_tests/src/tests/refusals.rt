@@ -9,6 +9,9 @@ use xs_command::Command;
 use xs_desk::{DeskError, Full, Lane, LaneSummary, Port, PortFault, desk};
 use xs_resp::{Reply, Simple};
 
+/// More turns that find nothing than a keeper makes until it parks.
+const LOOKS: u32 = 1000;
+
 /// A desk, made once more where memory was refused.
 fn new_trial(alloc: Global, lanes: usize, depth: usize) -> Result<Trial, DeskError> {
     match Trial::new(alloc, lanes, depth) {
@@ -62,8 +65,11 @@ fn calls_of_a_desk_take_no_memory(rt: HostRuntime) -> Result<(), Fail> {
     assert_eq!(rt; keeper.turn(&mut clock), Ok(1));
     let answer = client.take().ok_or("an answer")?;
     assert!(rt; matches!(answer.reply, Reply::Simple(Simple::Pong)));
-    waker.wake();
-    keeper.idle(&rt);
+    for _ in 0..LOOKS {
+        assert_eq!(rt; keeper.turn(&mut clock), Ok(0));
+        waker.wake();
+        keeper.idle(&rt);
+    }
     drop(keeper);
     let mut lane = Lane::new(client);
     assert!(rt; matches!(lane.ask(&rt, Command::Ping(None)), Err(PortFault::Gone)));

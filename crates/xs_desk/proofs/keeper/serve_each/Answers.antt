@@ -30,11 +30,11 @@ returns-in-Exhausted g c =
     let s = c.index_mut-seat.result.now in
     let lt : k < length c.loop-lanes.seats.items = omega (arith, c.if-k-len.false) in
     let le : c.loop-lanes.next ≤ length c.args.seats.now.items = omega (arith, c.loop-lanes.invariant.within, c.loop-lanes.invariant.lanes) in
-    let rests = c.in-Exhausted.ensures.0 in
+    let rests = c.in-Exhausted.ensures.looks.0 in
     let place = rests-place g.C.Clock.gives (desk_of c.args.seats.now.items c.args.keyspace.now c.args.place.now) c.args.clock.now c.loop-lanes.served _ _ s c.serve.new.self _ _ _ _ _ _ lt c.index_mut-seat.ensures.value rests in (
       c.loop-lanes.served,
       turns-on _ _ _ _ _ _ _ _ (rests-turns _ _ _ _ _ _ s c.serve.new.self _ _ _ _ _ _ lt c.index_mut-seat.ensures.value _ c.loop-lanes.invariant.turned rests) le,
-      omega (arith, place, c.in-Exhausted.ensures.1),
+      omega (arith, place, c.in-Exhausted.ensures.looks.1),
     )
 
 pub loop-lanes-preserved-in-Idle : goal.loop-lanes-preserved-in-Idle
@@ -45,8 +45,8 @@ loop-lanes-preserved-in-Idle g c =
     let h = c.index_mut-seat.ensures.value in
     let lt : k < length c.loop-lanes.seats.items = omega (arith, c.if-k-len.false) in
     let n = length-set c.loop-lanes.seats.items k c.serve.new.self in record {
-      turned = turns-on _ _ _ _ _ _ _ _ (rests-turns _ _ _ _ _ _ s c.serve.new.self _ _ _ _ _ _ lt h _ c.loop-lanes.invariant.turned c.in-Idle.ensures) (omega arith);
-      room = rests-places g.C.Clock.gives (desk_of c.args.seats.now.items c.args.keyspace.now c.args.place.now) c.args.clock.now c.loop-lanes.served _ _ s c.serve.new.self _ _ _ _ _ _ lt h c.loop-lanes.invariant.room c.in-Idle.ensures;
+      turned = turns-on _ _ _ _ _ _ _ _ (rests-turns _ _ _ _ _ _ s c.serve.new.self _ _ _ _ _ _ lt h _ c.loop-lanes.invariant.turned c.in-Idle.ensures.looks) (omega arith);
+      room = rests-places g.C.Clock.gives (desk_of c.args.seats.now.items c.args.keyspace.now c.args.place.now) c.args.clock.now c.loop-lanes.served _ _ s c.serve.new.self _ _ _ _ _ _ lt h c.loop-lanes.invariant.room c.in-Idle.ensures.looks;
       lanes = omega (arith, n, c.loop-lanes.invariant.lanes);
       within = omega (arith, n, lt);
     }
@@ -59,8 +59,8 @@ loop-lanes-preserved g c =
     let h = c.index_mut-seat.ensures.value in
     let lt : k < length c.loop-lanes.seats.items = omega (arith, c.if-k-len.false) in
     let n = length-set c.loop-lanes.seats.items k c.serve.new.self in record {
-      turned = answers-turns _ _ _ _ _ _ s c.serve.new.self _ _ _ _ _ _ lt h (turns-on _ _ _ _ _ _ _ k c.loop-lanes.invariant.turned (omega arith)) c.in-Served.ensures;
-      room = answers-places g.C.Clock.gives (desk_of c.args.seats.now.items c.args.keyspace.now c.args.place.now) c.args.clock.now c.loop-lanes.served _ _ s c.serve.new.self _ _ _ _ _ _ lt h c.loop-lanes.invariant.room c.in-Served.ensures;
+      turned = answers-turns _ _ _ _ _ _ s c.serve.new.self _ _ _ _ _ _ lt h (turns-on _ _ _ _ _ _ _ k c.loop-lanes.invariant.turned (omega arith)) c.in-Served.ensures.looks;
+      room = answers-places g.C.Clock.gives (desk_of c.args.seats.now.items c.args.keyspace.now c.args.place.now) c.args.clock.now c.loop-lanes.served _ _ s c.serve.new.self _ _ _ _ _ _ lt h c.loop-lanes.invariant.room c.in-Served.ensures.looks;
       lanes = omega (arith, n, c.loop-lanes.invariant.lanes);
       within = omega (arith, n, lt);
     }

@@ -8,14 +8,14 @@ pub serve_each-served-requires : goal.serve_each-served-requires
 serve_each-served-requires g c =
     history-has-places c.self.invariant.0 (desk_of c.self.inside.seats.items c.self.inside.keyspace c.self.inside.place) c.self.invariant.1
 
-pub invariant_of-self-in-Ok : goal.invariant_of-self-in-Ok
-invariant_of-self-in-Ok g c = turn-keeps-history _ _ _ _ _ _ _ _ c.self.invariant c.serve_each-served.ensures
+pub invariant_of-self : goal.invariant_of-self
+invariant_of-self g c = turn-keeps-history _ _ _ _ _ _ _ _ c.self.invariant c.serve_each-served.ensures
 
-pub invariant_of-self-in-Err-Exhausted : goal.invariant_of-self-in-Err-Exhausted
-invariant_of-self-in-Err-Exhausted g c = turn-keeps-history _ _ _ _ _ _ _ _ c.self.invariant c.serve_each-served.ensures
+pub returns-clause-rings : goal.returns-clause-rings
+returns-clause-rings g c = rw (← c.self.view_is) (turn-keeps-rings _ _ _ _ _ _ _ _ c.serve_each-served.ensures)
 
-pub returns-in-Ok-clause-rings : goal.returns-in-Ok-clause-rings
-returns-in-Ok-clause-rings g c = rw (← c.self.view_is) (turn-keeps-rings _ _ _ _ _ _ _ _ c.serve_each-served.ensures)
+pub invariant_of-self-2 : goal.invariant_of-self-2
+invariant_of-self-2 g c = turn-keeps-history _ _ _ _ _ _ _ _ c.self.invariant c.serve_each-served.ensures
 
-pub returns-in-Err-Exhausted-clause-rings : goal.returns-in-Err-Exhausted-clause-rings
-returns-in-Err-Exhausted-clause-rings g c = rw (← c.self.view_is) (turn-keeps-rings _ _ _ _ _ _ _ _ c.serve_each-served.ensures)
+pub returns-in_default-clause-rings : goal.returns-in_default-clause-rings
+returns-in_default-clause-rings g c = rw (← c.self.view_is) (turn-keeps-rings _ _ _ _ _ _ _ _ c.serve_each-served.ensures)
