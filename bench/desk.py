@@ -35,9 +35,11 @@ from tcp import spread
 
 BELOW = ("xs_bytes", "xs_stream", "xs_resp", "xs_group", "xs_command", "xs_keys", "xs_desk")
 IDLE = 2.0
-# The most of the processors' time that the host may take from a run, and how often a run is made anew for it.
+# The most of the processors' time that the host may take from a run, how often a run is made anew for it, and how many
+# seconds lie between two tries.
 TAKEN_AWAY = 0.01
-TRIES = 20
+TRIES = 100
+PAUSE = 1.0
 
 
 def set_spins(folder, number):
@@ -83,6 +85,7 @@ def run(words, calls):
         all_after, lost_after = ticks()
         if lost_after - lost_before <= TAKEN_AWAY * (all_after - all_before):
             return taken
+        time.sleep(PAUSE)
     raise SystemExit(f"{words}: the host took processor time from each of {TRIES} runs")
 
 
