@@ -27,6 +27,6 @@ impl<C: Clock + Drop> Port for Alone<C> {
 
     fn ask<R: Wait>(&mut self, _rt: &R, command: Command) -> Result<Reply, PortFault> {
         let now = self.clock.now();
-        Ok(self.keyspace.apply(now, &command))
+        Ok(self.keyspace.apply_owned(now, command))
     }
 }

@@ -72,7 +72,7 @@ impl Seat {
         };
         let command = self.calls.pop_known();
         let moment = clock.now();
-        let reply = keyspace.apply(moment, &command);
+        let reply = keyspace.apply_owned(moment, command);
         self.answers.push_reserved(Answer {
             ticket: self.ticket,
             place: *place,
