@@ -10,7 +10,7 @@ use Rattle.xs_stream.specs.Id.{is_below, has_id, zero_id, assigned}
 use Rattle.xs_stream.specs.Kept.{is_trimmed, Kept, ids_of, Ascends, AllUpTo}
 use Rattle.xs_stream.proofs.Order.{is_same-refl, below-irrefl, below-not_same, below-not_back, up_to-below, not_above-trans}
 use Rattle.xs_stream.proofs.Assigning.{assigned-above}
-use Rattle.xs_stream.proofs.Entries.{ids_of-append, ascends-push, ascends-filter, up_to-filter, filter-filter}
+use Rattle.xs_stream.proofs.InOrder.{ids_of-append, ascends-push, ascends-filter, up_to-filter, filter-filter}
 use Rattle.xs_keys.specs.Life.{Change, added, deleted, trimmed_to, greatest, top_of, entry_of, gives, given_in, top, drops, stands, live, stream_of}
 use Rattle.xs_keys.specs.Content.{stream_with, stream_after}
 

@@ -8,7 +8,7 @@ use Rattle.xs_stream.specs.declared.id.Id.{Id}
 use Rattle.xs_stream.specs.declared.field.Field.{Field}
 use Rattle.xs_stream.specs.Id.{is_below, is_same, has_id}
 use Rattle.xs_stream.specs.Kept.{ids_of, fields_at, limited}
-use Rattle.xs_stream.proofs.Entries.{ids_of-filter}
+use Rattle.xs_stream.proofs.InOrder.{ids_of-filter}
 use Rattle.xs_stream.proofs.Order.{is_same-eq, is_same-refl}
 use Rattle.xs_group.specs.State.{State, Row, is_name, delivers, shown}
 use Rattle.xs_group.specs.Claims.{Rule, claim_of, scan_of, claim_among, firsts, from_start, scanned, is_hit, is_taken, is_idle, row_at}

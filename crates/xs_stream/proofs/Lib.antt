@@ -1,3 +1,7 @@
 pub mod Assigning
-pub mod Entries
+pub mod InOrder
 pub mod Order
+pub mod Places
+pub mod Filing
+pub mod WithinBlocks
+pub mod Past

@@ -5,3 +5,4 @@ pub mod Kept
 pub mod Lawful
 pub mod Examples
 pub mod ExamplesKept
+pub mod Blocks

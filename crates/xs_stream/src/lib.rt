@@ -4,6 +4,8 @@
 #![tactic(auto)]
 
 pub mod add;
+mod block;
+mod entries;
 pub mod examples;
 pub mod field;
 pub mod id;

@@ -1,6 +1,7 @@
 //! Ranges of ids (Redis, XRANGE).
 ghost use Rattle.std.specs.Prelude.{◌≡◌};
 ghost use Rattle.xs_stream.specs.RangeText.{low_end, high_end, range_between};
+ghost use Rattle.xs_stream.specs.Kept.{is_within};
 
 use crate::id::Id;
 
@@ -23,6 +24,13 @@ impl Range {
         let low = parse_low(low)?;
         let high = parse_high(high)?;
         Some(Range { low, high })
+    }
+
+    /// Whether an id belongs to it.
+    pub fn contains(self, id: Id) -> bool
+        ensures { result ≡ is_within self id }
+    {
+        self.low <= id && id <= self.high
     }
 }
 

@@ -1,39 +1,38 @@
 //! A stream: its top id and its entries, in the order of their ids.
-ghost use Rattle.std.specs.Prelude.{◌≡◌, ◌↔◌, ◌+◌, ◌-◌, ◌++◌, ◌∷◌, [], false, Ok, Err, IfOk, OnErr, IsErrOf, length};
-ghost use Rattle.std.specs.Prelude.{filter, take, drop, reverse};
+ghost use Rattle.std.specs.Prelude.{◌≡◌, ◌↔◌, ◌+◌, ◌-◌, ◌++◌, ◌∷◌, [], Ok, Err, IfOk, OnErr, IsErrOf, length};
+ghost use Rattle.std.specs.Prelude.{filter};
 ghost use Rattle.std.specs.Option.{option_map};
 ghost use Rattle.xs_stream.specs.Id.{zero_id, is_below, assigned};
-ghost use Rattle.xs_stream.specs.Kept.{is_within, Ascends, ids_of, fields_at, without, trimmed, ids_within, limited};
+ghost use Rattle.xs_stream.specs.Kept.{ids_of, fields_at, without, trimmed, ids_within, limited};
 ghost use Rattle.xs_stream.specs.Lawful.{IsLawful};
 
 use crate::add::{AddError, AddId};
+use crate::entries::Entries;
 use crate::field::Field;
 use crate::id::Id;
 use crate::moment::Moment;
 use crate::range::Range;
 use crate::trim::Trim;
 use std::alloc::{AllocError, Global};
-use std::collections::BTreeMap;
 use std::marker::Model;
-use std::ops::Bound;
 use xs_bytes::List;
 
 /// A stream of entries. A contract sees its top id and the list of its entries.
 #[derive(Drop)]
 pub struct Stream {
     top: Id,
-    entries: BTreeMap<Id, List<Field>>,
+    entries: Entries,
 }
 
 impl Model for Stream {
     ghost use Rattle.xs_stream.specs.Kept.{Kept};
-    ghost use Rattle.xs_stream.specs.Lawful.{IsLawful};
+    ghost use Rattle.xs_stream.specs.Blocks.{all_of, IsSound};
 
     ghost Value = { Kept };
 
-    ghost view = { λ s. record { top = s.top; entries = s.entries.entries } };
+    ghost view = { λ s. record { top = s.top; entries = all_of s.entries } };
 
-    ghost invariant = { λ s. IsLawful (record { top = s.top; entries = s.entries.entries }) };
+    ghost invariant = { λ s. IsSound s.top s.entries };
 }
 
 impl Stream {
@@ -43,7 +42,7 @@ impl Stream {
     {
         Self {
             top: Id::ZERO,
-            entries: BTreeMap::new(alloc),
+            entries: Entries::new(alloc),
         }
     }
 
@@ -73,10 +72,7 @@ impl Stream {
     pub fn get(&self, id: Id) -> Option<&[Field]>
         ensures { option_map (λ f. f.now) result ≡ fields_at self.now.entries id }
     {
-        match self.entries.get(&id) {
-            Some(fields) => Some(fields.as_slice()),
-            None => None,
-        }
+        self.entries.get(id)
     }
 
     /// The id that an addition would get now (XADD).
@@ -96,8 +92,8 @@ impl Stream {
         ensures err { OnErr result (self.new ≡ self.old) }
     {
         let given = self.assign(now, id)?;
-        match self.entries.insert(given, fields) {
-            Ok(_) => {
+        match self.entries.push(self.top, given, fields) {
+            Ok(()) => {
                 self.top = given;
                 Ok(given)
             }
@@ -111,7 +107,7 @@ impl Stream {
         ensures count { result + length self.new.entries ≡ length self.old.entries }
     {
         let before = self.entries.len();
-        remove_all(&mut self.entries, ids);
+        self.entries.remove_all(ids);
         (before - self.entries.len()) as u64
     }
 
@@ -120,12 +116,9 @@ impl Stream {
         ensures entries { self.new ≡ record self.old { entries = trimmed trim self.old.entries } }
         ensures count { result + length self.new.entries ≡ length self.old.entries }
     {
-        let surplus = match trim {
-            Trim::MaxLen(most) => surplus(&self.entries, most),
-            Trim::MinId(low) => count_below(&self.entries, low),
-        };
-        drop_first(&mut self.entries, surplus);
-        surplus as u64
+        let before = self.entries.len();
+        self.entries.trim(trim);
+        (before - self.entries.len()) as u64
     }
 
     /// The ids of a range, from its low end up or from its high end down, at most `limit` of them.
@@ -143,9 +136,9 @@ impl Stream {
         }
         let most = limit.unwrap_or(u64::MAX);
         let ids = if reversed {
-            ids_down(alloc, &self.entries, range, most)?
+            self.entries.ids_down(alloc, range, most)?
         } else {
-            ids_up(alloc, &self.entries, range, most)?
+            self.entries.ids_up(alloc, range, most)?
         };
         Ok(List::new(ids))
     }
@@ -159,109 +152,11 @@ impl Stream {
     ) -> Result<List<Id>, AllocError>
         ensures { IfOk result (λ ids. ids ≡ limited limit (filter (λ x. is_below cursor x) (ids_of self.now.entries))) }
     {
-        let ids = ids_past(alloc, &self.entries, cursor, limit.unwrap_or(u64::MAX))?;
+        let ids = self
+            .entries
+            .ids_past(alloc, cursor, limit.unwrap_or(u64::MAX))?;
         Ok(List::new(ids))
     }
-}
-
-type Entries = BTreeMap<Id, List<Field>>;
-
-/// How many entries there are beyond the most that may stay.
-fn surplus(entries: &Entries, most: u64) -> usize
-    ensures { result ≡ length entries.now.entries - most }
-{
-    let len = entries.len();
-    if (len as u64) < most {
-        return 0;
-    }
-    len - most as usize
-}
-
-/// How many entries have ids below this one.
-fn count_below(entries: &Entries, low: Id) -> usize
-    ensures { result ≡ length (filter (λ e. is_below e.0 low) entries.now.entries) }
-{
-    let mut count = 0;
-    let below = entries.range((Bound::Unbounded, Bound::Excluded(low)));
-    for (_id, _) in below {
-        count += 1;
-    }
-    count
-}
-
-/// Removes the entries with these ids.
-fn remove_all(entries: &mut Entries, ids: &[Id])
-    requires { Ascends (ids_of entries.old.entries) }
-    ensures { entries.new.entries ≡ without ids.now entries.old.entries }
-{
-    for id in ids {
-        let _ = entries.remove(id);
-    }
-}
-
-/// Removes the first entries.
-fn drop_first(entries: &mut Entries, count: usize)
-    ensures { entries.new.entries ≡ drop count entries.old.entries }
-{
-    for _ in 0..count {
-        let _ = entries.pop_first();
-    }
-}
-
-/// The ids of a range that isn't empty, from its low end up, at most this many.
-fn ids_up(alloc: Global, entries: &Entries, range: Range, most: u64) -> Result<Vec<Id>, AllocError>
-    requires { is_below range.high range.low ≡ false }
-    ensures { IfOk result (λ ids. ids.items ≡ take most (filter (is_within range) (ids_of entries.now.entries))) }
-{
-    let mut ids = Vec::new(alloc);
-    let bounds = (Bound::Included(range.low), Bound::Included(range.high));
-    let within = entries.range(bounds);
-    for (id, _) in within {
-        if ids.len() as u64 >= most {
-            break;
-        }
-        ids.push(*id)?;
-    }
-    Ok(ids)
-}
-
-/// The ids above a cursor, at most this many.
-fn ids_past(alloc: Global, entries: &Entries, cursor: Id, most: u64) -> Result<Vec<Id>, AllocError>
-    ensures { IfOk result (λ ids. ids.items
-        ≡ take most (filter (λ x. is_below cursor x) (ids_of entries.now.entries))) }
-{
-    let mut ids = Vec::new(alloc);
-    let past = entries.range((Bound::Excluded(cursor), Bound::Unbounded));
-    for (id, _) in past {
-        if ids.len() as u64 >= most {
-            break;
-        }
-        ids.push(*id)?;
-    }
-    Ok(ids)
-}
-
-/// The ids of a range that isn't empty, from its high end down, at most this many.
-fn ids_down(
-    alloc: Global,
-    entries: &Entries,
-    range: Range,
-    most: u64,
-) -> Result<Vec<Id>, AllocError>
-    requires { is_below range.high range.low ≡ false }
-    ensures { IfOk result (λ ids. ids.items
-        ≡ take most (reverse (filter (is_within range) (ids_of entries.now.entries)))) }
-{
-    let mut ids = Vec::new(alloc);
-    let bounds = (Bound::Included(range.low), Bound::Included(range.high));
-    let within = entries.range(bounds);
-    for (id, _) in within.rev() {
-        if ids.len() as u64 >= most {
-            break;
-        }
-        ids.push(*id)?;
-    }
-    Ok(ids)
 }
 
 /// The id that an addition gets in a stream with this top.

@@ -3,7 +3,7 @@ use Rattle.xs_stream.specs.declared.id.Id.{Id}
 use Rattle.xs_stream.specs.Id.{is_below}
 use Rattle.xs_stream.specs.Kept.{ids_of, limited}
 use Rattle.xs_stream.proofs.Order.{partial-below}
-use Rattle.xs_stream.proofs.Entries.{within-none, limited-none}
+use Rattle.xs_stream.proofs.InOrder.{within-none, limited-none}
 use Rattle.xs_stream.proofs.stream.Stream.range.Goals as goal
 
 turned-none : (b : Bool) → ◌≡◌ {A = List Id} (if b then reverse [] else []) []

@@ -1,38 +1,29 @@
-use Rattle.std.proofs.Common.{◌≡◌, ◌≤◌, ap, sym, ◌∙◌, refl, arith, length, not}
-use Rattle.std.proofs.lemmas.List.{length-drop}
-use Rattle.xs_stream.specs.Id.{is_below}
-use Rattle.xs_stream.specs.Kept.{is_trimmed, ids_of, trimmed}
-use Rattle.xs_stream.proofs.Entries.{trimmed-max_len, trimmed-min_id, lawful-filter, length-filter-le}
+use Rattle.std.proofs.Common.{length, not, ap, arith}
+use Rattle.xs_stream.specs.Kept.{is_trimmed, ids_of}
+use Rattle.xs_stream.specs.Blocks.{all_of}
+use Rattle.xs_stream.proofs.InOrder.{length-filter-le, lawful-filter}
 use Rattle.xs_stream.proofs.stream.Stream.trim.Goals as goal
-use Rattle.xs_stream.proofs.stream.Stream.trim.Goals.{in-MaxLen, in-MinId}
 
--- the entries that are dropped are those that the trim drops
-kept : (c : goal.After-drop_first) → c.drop_first.new.entries.entries ≡ trimmed c.args.trim c.self.inside.entries.entries
-kept c = c.drop_first.ensures ∙ elim c.match-trim.branch [
-  | in-MaxLen w ↦
-      let all = trimmed-max_len w.in-MaxLen.most c.self.inside.entries.entries c.self.invariant.ascends in
-      rw (w.surplus-is, w.surplus-surplus.ensures, w.in-MaxLen.is) (sym all)
-  | in-MinId w ↦
-      let all = trimmed-min_id w.in-MinId.low c.self.inside.entries.entries c.self.invariant.ascends in
-      rw (w.surplus-is, w.count_below-surplus.ensures, w.in-MinId.is) (sym all)
-]
-
--- no more go than there are
-few : (c : goal.After-drop_first) → c.match-trim.surplus ≤ length c.self.inside.entries.entries
-few c = elim c.match-trim.branch [
-  | in-MaxLen w ↦ omega arith
-  | in-MinId w ↦
-      let fewer = length-filter-le (λ e. is_below e.0 w.in-MinId.low) c.self.inside.entries.entries in
-      omega arith
-]
+pub overflow_sub-result : goal.overflow_sub-result
+overflow_sub-result c =
+    let all = all_of c.self.inside.entries in
+    let kept = ap length c.trim.ensures.entries in
+    let fewer = length-filter-le (λ e. not (is_trimmed c.args.trim (ids_of all) e.0)) all in
+    omega (arith, c.self.invariant.laid_down.counted, c.trim.ensures.laid_down.counted)
 
 pub invariant_of-self : goal.invariant_of-self
 invariant_of-self c =
     let inside = c.self.inside in
-    rw (kept c) (lawful-filter (record { top = inside.top; entries = inside.entries.entries }) (λ e. not (is_trimmed c.args.trim (ids_of inside.entries.entries) e.0)) c.self.invariant)
-
-pub returns-clause-entries : goal.returns-clause-entries
-returns-clause-entries c = rw (← c.self.view_is, kept c) refl
+    let all = all_of inside.entries in
+    record {
+      lawful = rw c.trim.ensures.entries (lawful-filter (record { top = inside.top; entries = all }) (λ e. not (is_trimmed c.args.trim (ids_of all) e.0)) c.self.invariant.lawful);
+      laid_down = c.trim.ensures.laid_down;
+      filed_up_to_top = c.trim.ensures.filed_up_to_top inside.top c.self.invariant.filed_up_to_top;
+    }
 
 pub returns-clause-count : goal.returns-clause-count
-returns-clause-count c = rw (← c.self.view_is) (omega (arith, ap length c.drop_first.ensures, length-drop c.match-trim.surplus c.self.inside.entries.entries, few c))
+returns-clause-count c =
+    let all = all_of c.self.inside.entries in
+    let kept = ap length c.trim.ensures.entries in
+    let fewer = length-filter-le (λ e. not (is_trimmed c.args.trim (ids_of all) e.0)) all in
+    rw (← c.self.view_is) (omega (arith, c.self.invariant.laid_down.counted, c.trim.ensures.laid_down.counted))

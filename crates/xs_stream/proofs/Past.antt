@@ -1,0 +1,77 @@
+-- The ids above a cursor are those of a range.
+use Rattle.std.proofs.Common.{◌≡◌, ℕ, ◌+◌, ◌<◌, Bool, true, false, not, ◌&&◌, ◌||◌, cond, ltb, eqb, List, [], ◌∷◌, filter, Option, Some, None, sym, ap, ◌∙◌, refl, arith}
+use Rattle.std.proofs.lemmas.Bool.Decides.{nat_tests}
+use Rattle.std.specs.Ordering.{nat_cmp, is_lt}
+use Rattle.xs_stream.specs.declared.id.Id.{Id}
+use Rattle.xs_stream.specs.Id.{is_below, last, greatest_id}
+use Rattle.xs_stream.specs.IdText.{next_id}
+use Rattle.xs_stream.specs.Kept.{is_within}
+use Rattle.xs_stream.specs.Lawful.{IsId, AllIds}
+use Rattle.xs_stream.proofs.InOrder.{and_yes}
+
+lt-ltb : (s t : ℕ) → is_lt (nat_cmp s t) ≡ ltb s t
+lt-ltb s t = by (ltb s t) (eqb s t) refl refl where
+  by : (a b : Bool) → ltb s t ≡ a → eqb s t ≡ b → is_lt (nat_cmp s t) ≡ a
+  by true b e f = rw e refl
+  by false true e f = rw (e, f) refl
+  by false false e f = rw (e, f) refl
+
+-- the order in numbers
+below-is : (m s n t : ℕ) → is_below (record { ms = m; seq = s }) (record { ms = n; seq = t }) ≡ (ltb m n || (eqb m n && ltb s t))
+below-is m s n t = by (ltb m n) (eqb m n) refl refl where
+  by : (a b : Bool) → ltb m n ≡ a → eqb m n ≡ b → is_below (record { ms = m; seq = s }) (record { ms = n; seq = t }) ≡ (a || (b && ltb s t))
+  by true b e f = rw e refl
+  by false true e f = rw (e, f) (lt-ltb s t)
+  by false false e f = rw (e, f) refl
+
+after_next : (m s n t : ℕ) → not (ltb n m || (eqb n m && ltb t (s + 1))) ≡ (ltb m n || (eqb m n && ltb s t))
+after_next m s n t = grind (arith, nat_tests)
+
+after_last : (m s n t : ℕ) → ltb s last ≡ false → t < 18446744073709551616 → not (ltb n (m + 1) || (eqb n (m + 1) && ltb t 0)) ≡ (ltb m n || (eqb m n && ltb s t))
+after_last m s n t e h = grind (arith, nat_tests)
+
+none_after : (m s n t : ℕ) → ltb m last ≡ false → ltb s last ≡ false → n < 18446744073709551616 → t < 18446744073709551616 → (ltb m n || (eqb m n && ltb s t)) ≡ false
+none_after m s n t e f h k = grind (arith, nat_tests)
+
+up_to_greatest : (x : Id) → IsId x → is_below greatest_id x ≡ false
+up_to_greatest x fits = below-is last last x.ms x.seq ∙ none_after last last x.ms x.seq refl refl fits.0 fits.1
+
+-- what is above a cursor is within the range from its successor on
+above-within : (cursor low x : Id) → next_id cursor ≡ Some low → IsId x → is_within (record { low = low; high = greatest_id }) x ≡ is_below cursor x
+above-within cursor low x h fits =
+    ap (λ b. not (is_below x low) && not b) (up_to_greatest x fits) ∙ and_yes (not (is_below x low)) ∙ by (ltb cursor.seq last) (ltb cursor.ms last) refl h where
+      by : (s m : Bool) → ltb cursor.seq last ≡ s
+          → cond s (Some (record { ms = cursor.ms; seq = cursor.seq + 1 })) (cond m (Some (record { ms = cursor.ms + 1; seq = 0 })) None) ≡ Some low → not (is_below x low) ≡ is_below cursor x
+      by true m e f =
+          let next : record { ms = cursor.ms; seq = cursor.seq + 1 } ≡ low = cc in
+          ap (λ l. not (is_below x l)) (sym next) ∙ ap not (below-is x.ms x.seq cursor.ms (cursor.seq + 1)) ∙ after_next cursor.ms cursor.seq x.ms x.seq
+          ∙ sym (below-is cursor.ms cursor.seq x.ms x.seq)
+      by false true e f =
+          let next : record { ms = cursor.ms + 1; seq = 0 } ≡ low = cc in
+          ap (λ l. not (is_below x l)) (sym next) ∙ ap not (below-is x.ms x.seq (cursor.ms + 1) 0) ∙ after_last cursor.ms cursor.seq x.ms x.seq e fits.1
+          ∙ sym (below-is cursor.ms cursor.seq x.ms x.seq)
+      by false false e f = let no = f in cc
+
+-- where a cursor has no successor nothing is above it
+none-above : (cursor x : Id) → next_id cursor ≡ None → IsId x → is_below cursor x ≡ false
+none-above cursor x h fits = below-is cursor.ms cursor.seq x.ms x.seq ∙ by (ltb cursor.seq last) (ltb cursor.ms last) refl refl h where
+  by : (s m : Bool) → ltb cursor.seq last ≡ s → ltb cursor.ms last ≡ m
+      → cond {A = Option Id} s (Some (record { ms = cursor.ms; seq = cursor.seq + 1 })) (cond m (Some (record { ms = cursor.ms + 1; seq = 0 })) None) ≡ None
+      → (ltb cursor.ms x.ms || (eqb cursor.ms x.ms && ltb cursor.seq x.seq)) ≡ false
+  by true m e f g = let no = g in cc
+  by false true e f g = let no = g in cc
+  by false false e f g = none_after cursor.ms cursor.seq x.ms x.seq f e fits.0 fits.1
+
+filter-same : (p q : Id → Bool) (ids : List Id) → ((x : Id) → IsId x → p x ≡ q x) → AllIds ids → filter p ids ≡ filter q ids
+filter-same p q [] same fit = refl
+filter-same p q (x ∷ xs) same fit = rw (same x fit.0) (ap (λ rest. cond (q x) (x ∷ rest) rest) (filter-same p q xs same fit.1))
+
+filter-none : (p : Id → Bool) (ids : List Id) → ((x : Id) → IsId x → p x ≡ false) → AllIds ids → filter p ids ≡ []
+filter-none p [] none fit = refl
+filter-none p (x ∷ xs) none fit = rw (none x fit.0) (filter-none p xs none fit.1)
+
+pub past-within : (cursor low : Id) (ids : List Id) → next_id cursor ≡ Some low → AllIds ids → filter (is_within (record { low = low; high = greatest_id })) ids ≡ filter (λ x. is_below cursor x) ids
+past-within cursor low ids h fit = filter-same (is_within (record { low = low; high = greatest_id })) (λ x. is_below cursor x) ids (λ x fits. above-within cursor low x h fits) fit
+
+pub past-none : (cursor : Id) (ids : List Id) → next_id cursor ≡ None → AllIds ids → filter (λ x. is_below cursor x) ids ≡ []
+past-none cursor ids h fit = filter-none (λ x. is_below cursor x) ids (λ x fits. none-above cursor x h fits) fit

@@ -1,0 +1,16 @@
+use Rattle.std.proofs.Common.{not, sym}
+use Rattle.xs_stream.specs.Id.{is_below}
+use Rattle.xs_stream.proofs.Filing.{no_entry, listed-newest, filed-newest}
+use Rattle.xs_stream.proofs.entries.Entries.take.Goals as goal
+
+pub returns-in-None-clause-entries : goal.returns-in-None-clause-entries
+returns-in-None-clause-entries c =
+    let all = c.args.self.now in
+    let none = no_entry (λ k. not (is_below k c.args.id)) all.older.entries (sym c.in-None.ensures) in
+    rw c.remove.ensures.entries (listed-newest c.args.id all.older.entries all.newest none c.requires)
+
+pub returns-in-None-clause-filed : goal.returns-in-None-clause-filed
+returns-in-None-clause-filed c =
+    let all = c.args.self.now in
+    let none = no_entry (λ k. not (is_below k c.args.id)) all.older.entries (sym c.in-None.ensures) in
+    rw c.remove.ensures.entries (filed-newest c.args.id all.older.entries all.newest none c.requires)

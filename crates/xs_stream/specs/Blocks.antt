@@ -1,0 +1,53 @@
+-- How a stream lays down its entries: in blocks, each filed under an id, and behind them the newest ones.
+use Rattle.std.specs.Prelude.{◌≡◌, ◌<◌, not, List, [], ◌∷◌, ◌++◌, length, Option, Some, None}
+use Rattle.std.specs.List.{flat_map}
+use Rattle.std.specs.Map.{keys_of, lookup_key}
+use Rattle.std.specs.declared.ops.Bound.{Bound}
+use Rattle.std.specs.declared.ops.Bound.TheVariants.{Included, Unbounded}
+use Rattle.xs_stream.specs.declared.id.Id.{Id}
+use Rattle.xs_stream.specs.declared.field.Field.{Field}
+use Rattle.xs_stream.specs.declared.entries.Entries.{Entries}
+use Rattle.xs_stream.specs.Id.{is_below}
+use Rattle.xs_stream.specs.Kept.{ids_of, AllAbove, AllUpTo}
+use Rattle.xs_stream.specs.Lawful.{IsLawful}
+
+-- the entries of blocks, one block after the other
+abbrev pub listed : List (Id × List (Id × List Field)) → List (Id × List Field)
+listed blocks = flat_map (λ b. b.1) blocks
+
+-- all entries, in their order
+abbrev pub all_of : Entries → List (Id × List Field)
+all_of entries = listed entries.older.entries ++ entries.newest
+
+-- a block has entries, none of them above the id under which it is filed, and all later ones are above that id
+pub record IsFiled (block : Id × List (Id × List Field)) (later : List (Id × List Field)) : Type 0 where
+  pub has_entries : 0 < length block.1
+  pub up_to_id : AllUpTo block.0 (ids_of block.1)
+  pub later_above : AllAbove block.0 (ids_of later)
+
+abbrev pub AreFiled : List (Id × List (Id × List Field)) → List (Id × List Field) → Type 0
+AreFiled [] newest = Unit {0}
+AreFiled (b ∷ bs) newest = IsFiled b (listed bs ++ newest) × AreFiled bs newest
+
+-- each block is filed, and the count is that of the entries
+pub record IsLaidDown (entries : Entries) : Type 0 where
+  pub filed : AreFiled entries.older.entries entries.newest
+  pub counted : entries.len ≡ length (all_of entries)
+
+-- the ids under which blocks are filed
+abbrev pub filed_under : Entries → List Id
+filed_under entries = keys_of entries.older.entries
+
+-- what holds inside of a stream: it is lawful, its entries are laid down, and none of those ids is above the top
+pub record IsSound (top : Id) (entries : Entries) : Type 0 where
+  pub lawful : IsLawful (record { top = top; entries = all_of entries })
+  pub laid_down : IsLaidDown entries
+  pub filed_up_to_top : AllUpTo top (filed_under entries)
+
+abbrev pub end_under : Option Id → Bound Id
+end_under None = Unbounded
+end_under (Some id) = Included id
+
+-- the last block that may have an id that isn't above this one is the first that is filed under this one or above it
+abbrev pub end_at : Id → List (Id × List (Id × List Field)) → Bound Id
+end_at high blocks = end_under (lookup_key (λ under. not (is_below under high)) blocks)

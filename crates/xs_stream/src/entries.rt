@@ -1,0 +1,330 @@
+//! The entries of a stream, in the order of their ids. Ids only grow, so an addition goes to the end without a search.
+ghost use Rattle.std.specs.Prelude.{◌≡◌, ◌+◌, ◌-◌, ◌++◌, ◌∷◌, [], false, true, not, if◌then◌else◌, IfOk, OnOk, OnErr};
+ghost use Rattle.std.specs.Prelude.{length, take, drop, filter, reverse, slice_get};
+ghost use Rattle.std.specs.Option.{option_map};
+ghost use Rattle.std.specs.Map.{lookup_key, remove_entry};
+ghost use Rattle.xs_stream.specs.declared.id.Id.{Id};
+ghost use Rattle.xs_stream.specs.declared.trim.Trim.TheVariants.{MinId};
+ghost use Rattle.xs_stream.specs.Id.{is_below, is_same};
+ghost use Rattle.xs_stream.specs.Kept.{is_within, ids_of, fields_at, without, trimmed, Ascends, AllUpTo};
+ghost use Rattle.xs_stream.specs.Lawful.{AllIds};
+ghost use Rattle.xs_stream.specs.Blocks.{all_of, AreFiled, IsLaidDown, filed_under, end_at};
+
+use crate::block::Block;
+use crate::field::Field;
+use crate::id::Id;
+use crate::range::Range;
+use crate::trim::Trim;
+use std::alloc::{AllocError, Global};
+use std::collections::BTreeMap;
+use std::mem;
+use std::ops::Bound;
+use xs_bytes::List;
+
+/// The entries of a stream. What is added comes to the newest. Once these fill a block, it is filed under the top of
+/// the stream as it is then: none of its entries is above that id, and all later ones are.
+#[derive(Drop)]
+pub(crate) struct Entries {
+    /// The filed blocks. None of them is empty.
+    older: BTreeMap<Id, Block>,
+    newest: Block,
+    /// How many entries there are.
+    len: usize,
+    alloc: Global,
+}
+
+impl Entries {
+    /// No entries. It takes no memory.
+    pub(crate) fn new(alloc: Global) -> Self
+        ensures none { all_of result ≡ [] }
+        ensures laid_down { IsLaidDown result }
+        ensures filed_under { filed_under result ≡ [] }
+    {
+        Self {
+            older: BTreeMap::new(alloc),
+            newest: Block::new(alloc),
+            len: 0,
+            alloc,
+        }
+    }
+
+    /// How many there are.
+    pub(crate) fn len(&self) -> usize
+        ensures { result ≡ self.now.len }
+    {
+        self.len
+    }
+
+    /// The id under which the one block is filed that may have the entry with this id. None where only the newest may.
+    fn block_of(&self, id: Id) -> Option<Id>
+        ensures { result ≡ lookup_key (λ under. not (is_below under id)) self.now.older.entries }
+    {
+        let mut from = self.older.range((Bound::Included(id), Bound::Unbounded));
+        match from.next() {
+            Some((under, _)) => Some(*under),
+            None => None,
+        }
+    }
+
+    /// The fields of an entry.
+    pub(crate) fn get(&self, id: Id) -> Option<&[Field]>
+        requires { IsLaidDown self.now }
+        ensures { option_map (λ f. f.now) result ≡ fields_at (all_of self.now) id }
+    {
+        let mut from = self.older.range((Bound::Included(id), Bound::Unbounded));
+        match from.next() {
+            Some((_, block)) => block.get(id),
+            None => self.newest.get(id),
+        }
+    }
+
+    /// The id of the first entry.
+    fn first(&self) -> Option<Id>
+        requires { IsLaidDown self.now }
+        ensures { result ≡ option_map (λ e. e.0) (slice_get (all_of self.now) 0) }
+    {
+        match self.older.first_key_value() {
+            Some((_, block)) => block.first(),
+            None => self.newest.first(),
+        }
+    }
+
+    /// Files the newest entries as a block under the top, where they are as many as a block has room for.
+    fn make_room(&mut self, top: Id) -> Result<(), AllocError>
+        requires laid_down { IsLaidDown self.old }
+        requires up_to_top { AllUpTo top (ids_of (all_of self.old)) }
+        requires filed_up_to_top { AllUpTo top (filed_under self.old) }
+        ensures same { all_of self.new ≡ all_of self.old }
+        ensures laid_down { IsLaidDown self.new }
+        ensures filed_up_to_top { AllUpTo top (filed_under self.new) }
+    {
+        if !self.newest.is_full() {
+            return Ok(());
+        }
+        let next = Block::with_room(self.alloc)?;
+        let full = mem::replace(&mut self.newest, next);
+        match self.older.insert(top, full) {
+            Ok(_) => Ok(()),
+            Err(refused) => {
+                let (_, full) = refused.value;
+                self.newest = full;
+                Err(AllocError)
+            }
+        }
+    }
+
+    /// Puts an entry behind the others, above the top.
+    pub(crate) fn push(&mut self, top: Id, id: Id, fields: List<Field>) -> Result<(), AllocError>
+        requires laid_down { IsLaidDown self.old }
+        requires up_to_top { AllUpTo top (ids_of (all_of self.old)) }
+        requires filed_up_to_top { AllUpTo top (filed_under self.old) }
+        requires above { is_below top id ≡ true }
+        ensures ok { OnOk result (all_of self.new ≡ all_of self.old ++ (id, fields) ∷ []) }
+        ensures err { OnErr result (all_of self.new ≡ all_of self.old) }
+        ensures laid_down { IsLaidDown self.new }
+        ensures filed_up_to_top { AllUpTo top (filed_under self.new) }
+    {
+        let Some(len) = self.len.checked_add(1) else {
+            return Err(AllocError);
+        };
+        self.make_room(top)?;
+        self.newest.push(id, fields)?;
+        self.len = len;
+        Ok(())
+    }
+
+    /// Takes an entry out of the block under this id, and says whether it was there. It isn't counted yet.
+    fn take_from(&mut self, under: Id, id: Id) -> bool
+        requires filed { AreFiled self.old.older.entries self.old.newest }
+        requires under { lookup_key (λ under. not (is_below under id)) self.old.older.entries ≡ Some under }
+        ensures entries { all_of self.new ≡ remove_entry (is_same id) (all_of self.old) }
+        ensures filed { AreFiled self.new.older.entries self.new.newest }
+        ensures filed_up_to_top { (top : Id) → AllUpTo top (filed_under self.old) → AllUpTo top (filed_under self.new) }
+        ensures count { length (all_of self.new) + (if result then 1 else 0) ≡ length (all_of self.old) }
+        ensures len { self.new.len ≡ self.old.len }
+    {
+        let Some(block) = self.older.get_mut(&under) else {
+            return false;
+        };
+        let removed = block.remove(id);
+        if block.is_empty() {
+            let _ = self.older.remove(&under);
+        }
+        removed
+    }
+
+    /// Takes the entry with this id out, and says whether it was there. It isn't counted yet.
+    fn take(&mut self, id: Id) -> bool
+        requires { AreFiled self.old.older.entries self.old.newest }
+        ensures entries { all_of self.new ≡ remove_entry (is_same id) (all_of self.old) }
+        ensures filed { AreFiled self.new.older.entries self.new.newest }
+        ensures filed_up_to_top { (top : Id) → AllUpTo top (filed_under self.old) → AllUpTo top (filed_under self.new) }
+        ensures count { length (all_of self.new) + (if result then 1 else 0) ≡ length (all_of self.old) }
+        ensures len { self.new.len ≡ self.old.len }
+    {
+        match self.block_of(id) {
+            Some(under) => self.take_from(under, id),
+            None => self.newest.remove(id),
+        }
+    }
+
+    /// Removes the entry with this id.
+    fn remove(&mut self, id: Id)
+        requires { IsLaidDown self.old }
+        ensures entries { all_of self.new ≡ remove_entry (is_same id) (all_of self.old) }
+        ensures laid_down { IsLaidDown self.new }
+        ensures filed_up_to_top { (top : Id) → AllUpTo top (filed_under self.old) → AllUpTo top (filed_under self.new) }
+    {
+        if self.take(id) {
+            self.len -= 1;
+        }
+    }
+
+    /// Removes the entries with these ids.
+    pub(crate) fn remove_all(&mut self, ids: &[Id])
+        requires laid_down { IsLaidDown self.old }
+        requires ascends { Ascends (ids_of (all_of self.old)) }
+        ensures entries { all_of self.new ≡ without ids.now (all_of self.old) }
+        ensures laid_down { IsLaidDown self.new }
+        ensures filed_up_to_top { (top : Id) → AllUpTo top (filed_under self.old) → AllUpTo top (filed_under self.new) }
+    {
+        for id in ids {
+            self.remove(*id);
+        }
+    }
+
+    /// Removes the first entries.
+    fn drop_first(&mut self, count: usize)
+        requires { IsLaidDown self.old }
+        ensures entries { all_of self.new ≡ drop count (all_of self.old) }
+        ensures laid_down { IsLaidDown self.new }
+        ensures filed_up_to_top { (top : Id) → AllUpTo top (filed_under self.old) → AllUpTo top (filed_under self.new) }
+    {
+        for _ in 0..count {
+            if let Some(id) = self.first() {
+                self.remove(id);
+            }
+        }
+    }
+
+    /// Removes the entries with ids below this one.
+    fn drop_below(&mut self, low: Id)
+        requires laid_down { IsLaidDown self.old }
+        requires ascends { Ascends (ids_of (all_of self.old)) }
+        ensures entries { all_of self.new ≡ trimmed (MinId low) (all_of self.old) }
+        ensures laid_down { IsLaidDown self.new }
+        ensures filed_up_to_top { (top : Id) → AllUpTo top (filed_under self.old) → AllUpTo top (filed_under self.new) }
+    {
+        for _ in 0..self.len {
+            match self.first() {
+                Some(id) if id < low => self.remove(id),
+                _ => break,
+            }
+        }
+    }
+
+    /// Removes what a trim doesn't keep.
+    pub(crate) fn trim(&mut self, trim: Trim)
+        requires laid_down { IsLaidDown self.old }
+        requires ascends { Ascends (ids_of (all_of self.old)) }
+        ensures entries { all_of self.new ≡ trimmed trim (all_of self.old) }
+        ensures laid_down { IsLaidDown self.new }
+        ensures filed_up_to_top { (top : Id) → AllUpTo top (filed_under self.old) → AllUpTo top (filed_under self.new) }
+    {
+        match trim {
+            Trim::MaxLen(most) => self.drop_first(surplus(self.len, most)),
+            Trim::MinId(low) => self.drop_below(low),
+        }
+    }
+
+    /// Where a walk through the blocks ends that may meet no id above this one.
+    fn end_at(&self, high: Id) -> Bound<Id>
+        ensures { result ≡ end_at high self.now.older.entries }
+    {
+        match self.block_of(high) {
+            Some(under) => Bound::Included(under),
+            None => Bound::Unbounded,
+        }
+    }
+
+    /// The ids of a range that isn't empty, from its low end up, at most this many.
+    pub(crate) fn ids_up(
+        &self,
+        alloc: Global,
+        range: Range,
+        most: u64,
+    ) -> Result<Vec<Id>, AllocError>
+        requires laid_down { IsLaidDown self.now }
+        requires range { is_below range.high range.low ≡ false }
+        ensures { IfOk result (λ ids. ids.items ≡ take most (filter (is_within range) (ids_of (all_of self.now)))) }
+    {
+        let mut ids = Vec::new(alloc);
+        let bounds = (Bound::Included(range.low), self.end_at(range.high));
+        let blocks = self.older.range(bounds);
+        for (_under, block) in blocks {
+            if ids.len() as u64 >= most {
+                break;
+            }
+            block.push_up(&mut ids, range, most)?;
+        }
+        self.newest.push_up(&mut ids, range, most)?;
+        Ok(ids)
+    }
+
+    /// The ids above a cursor, in their order, at most this many.
+    pub(crate) fn ids_past(
+        &self,
+        alloc: Global,
+        cursor: Id,
+        most: u64,
+    ) -> Result<Vec<Id>, AllocError>
+        requires laid_down { IsLaidDown self.now }
+        requires ids { AllIds (ids_of (all_of self.now)) }
+        ensures { IfOk result (λ ids. ids.items
+            ≡ take most (filter (λ x. is_below cursor x) (ids_of (all_of self.now)))) }
+    {
+        let Some(low) = cursor.next() else {
+            return Ok(Vec::new(alloc));
+        };
+        let above = Range {
+            low,
+            high: Id::GREATEST,
+        };
+        self.ids_up(alloc, above, most)
+    }
+
+    /// The ids of a range that isn't empty, from its high end down, at most this many.
+    pub(crate) fn ids_down(
+        &self,
+        alloc: Global,
+        range: Range,
+        most: u64,
+    ) -> Result<Vec<Id>, AllocError>
+        requires laid_down { IsLaidDown self.now }
+        requires range { is_below range.high range.low ≡ false }
+        ensures { IfOk result (λ ids. ids.items
+            ≡ take most (reverse (filter (is_within range) (ids_of (all_of self.now))))) }
+    {
+        let mut ids = Vec::new(alloc);
+        self.newest.push_down(&mut ids, range, most)?;
+        let bounds = (Bound::Included(range.low), self.end_at(range.high));
+        let blocks = self.older.range(bounds);
+        for (_under, block) in blocks.rev() {
+            if ids.len() as u64 >= most {
+                break;
+            }
+            block.push_down(&mut ids, range, most)?;
+        }
+        Ok(ids)
+    }
+}
+
+/// How many entries there are beyond the most that may stay.
+fn surplus(len: usize, most: u64) -> usize
+    ensures { result ≡ len - most }
+{
+    if (len as u64) < most {
+        return 0;
+    }
+    len - most as usize
+}
