@@ -119,3 +119,8 @@ pub partial-below : (r s : Ordering) → is_some_and is_lt (partial_ordering_the
 partial-below Less s = refl
 partial-below Equal s = refl
 partial-below Greater s = refl
+
+pub partial-le : (r s : Ordering) → is_some_and is_le (partial_ordering_then (Some r) (Some s)) ≡ is_le (ordering_then r s)
+partial-le Less s = refl
+partial-le Equal s = refl
+partial-le Greater s = refl

@@ -39,7 +39,7 @@ module _ (range : Range) where
   none-up_to under (e ∷ es) up h = rw (up_to-below under e.0 range.low up.0 h) (none-up_to under es up.1 h)
 
   -- none of those above an id that isn't below the high end is within
-  none-above : (under : Id) (es : Entries) → AllAbove under (ids_of es) → is_below under range.high ≡ false → within range es ≡ []
+  pub none-above : (under : Id) (es : Entries) → AllAbove under (ids_of es) → is_below under range.high ≡ false → within range es ≡ []
   none-above under [] a h = refl
   none-above under (e ∷ es) a h = rw (outside e.0 (up_to-below under range.high e.0 h a.0)) (none-above under es a.1 h) where
     outside : (x : Id) → is_below range.high x ≡ true → is_within range x ≡ false
@@ -67,9 +67,24 @@ above-some x test (b ∷ bs) newest a = by (test b) (above-some x test bs newest
   by true rest = rw append_assoc (before b.1 (listed bs ++ newest) (listed (filter test bs) ++ newest) all rest)
   by false rest = rest
 
-not_true : (t : Bool) → not t ≡ true → t ≡ false
+pub not_true : (t : Bool) → not t ≡ true → t ≡ false
 not_true true e = sym e
 not_true false e = refl
+
+-- some of the blocks are filed too
+pub filed-some : (test : Id × Entries → Bool) (bs : Blocks) (newest : Entries) → AreFiled bs newest → AreFiled (filter test bs) newest
+filed-some test [] newest filed = tt
+filed-some test (b ∷ bs) newest filed = by (test b) (filed-some test bs newest filed.1) where
+  by : (t : Bool) → AreFiled (filter test bs) newest → AreFiled (cond t (b ∷ filter test bs) (filter test bs)) newest
+  by true rest = (
+    record {
+      has_entries = filed.0.has_entries;
+      up_to_id = filed.0.up_to_id;
+      later_above = above-some b.0 test bs newest filed.0.later_above;
+    },
+    rest,
+  )
+  by false rest = rest
 
 module _ (range : Range) where
   -- a block that the walk meets, and one that it doesn't
@@ -83,7 +98,7 @@ module _ (range : Range) where
       rest ∙ ap (λ ids. ids ++ within range (listed bs ++ newest)) (sym none) ∙ sym (ap (within range) (append_assoc b.1 (listed bs) newest) ∙ within-append range b.1 (listed bs ++ newest))
 
   -- a walk with no end
-  walk-open : (bs : Blocks) (newest : Entries) → AreFiled bs newest → within range (listed (entries_between id_cmp (Included range.low) Unbounded bs) ++ newest) ≡ within range (listed bs ++ newest)
+  pub walk-open : (bs : Blocks) (newest : Entries) → AreFiled bs newest → within range (listed (entries_between id_cmp (Included range.low) Unbounded bs) ++ newest) ≡ within range (listed bs ++ newest)
   walk-open [] newest filed = refl
   walk-open (b ∷ bs) newest filed = rw (and_yes (is_le (id_cmp range.low b.0)), le-not_below range.low b.0) (by (walk-open bs newest filed.1) (is_below b.0 range.low) refl) where
     by : within range (listed (entries_between id_cmp (Included range.low) Unbounded bs) ++ newest) ≡ within range (listed bs ++ newest) → (t : Bool) → is_below b.0 range.low ≡ t

@@ -14,7 +14,7 @@ use std::marker::Model;
 use xs_bytes::List;
 
 /// How many entries a block has room for.
-const ROOM: usize = 32;
+pub(crate) const ROOM: usize = 32;
 
 /// Entries that stand next to each other in a stream. A contract sees the list of them.
 #[derive(Drop)]

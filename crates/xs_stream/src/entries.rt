@@ -1,5 +1,5 @@
 //! The entries of a stream, in the order of their ids. Ids only grow, so an addition goes to the end without a search.
-ghost use Rattle.std.specs.Prelude.{◌≡◌, ◌+◌, ◌-◌, ◌++◌, ◌∷◌, [], false, true, not, if◌then◌else◌, IfOk, OnOk, OnErr};
+ghost use Rattle.std.specs.Prelude.{◌≡◌, ◌+◌, ◌-◌, ◌<◌, ◌++◌, ◌∷◌, [], false, true, not, if◌then◌else◌, IfOk, OnOk, OnErr};
 ghost use Rattle.std.specs.Prelude.{length, take, drop, filter, reverse, slice_get};
 ghost use Rattle.std.specs.Option.{option_map};
 ghost use Rattle.std.specs.Map.{lookup_key, remove_entry};
@@ -10,7 +10,7 @@ ghost use Rattle.xs_stream.specs.Kept.{is_within, ids_of, fields_at, without, tr
 ghost use Rattle.xs_stream.specs.Lawful.{AllIds};
 ghost use Rattle.xs_stream.specs.Blocks.{all_of, AreFiled, IsLaidDown, filed_under, end_at};
 
-use crate::block::Block;
+use crate::block::{Block, ROOM};
 use crate::field::Field;
 use crate::id::Id;
 use crate::range::Range;
@@ -94,6 +94,7 @@ impl Entries {
         requires laid_down { IsLaidDown self.old }
         requires up_to_top { AllUpTo top (ids_of (all_of self.old)) }
         requires filed_up_to_top { AllUpTo top (filed_under self.old) }
+        ensures room { OnOk result (length self.new.newest < ROOM) }
         ensures same { all_of self.new ≡ all_of self.old }
         ensures laid_down { IsLaidDown self.new }
         ensures filed_up_to_top { AllUpTo top (filed_under self.new) }
@@ -237,7 +238,7 @@ impl Entries {
         }
     }
 
-    /// Where a walk through the blocks ends that may meet no id above this one.
+    /// Where a walk down through the blocks begins that may meet no id above this one.
     fn end_at(&self, high: Id) -> Bound<Id>
         ensures { result ≡ end_at high self.now.older.entries }
     {
@@ -247,25 +248,25 @@ impl Entries {
         }
     }
 
-    /// The ids of a range that isn't empty, from its low end up, at most this many.
+    /// The ids of a range, from its low end up, at most this many.
     pub(crate) fn ids_up(
         &self,
         alloc: Global,
         range: Range,
         most: u64,
     ) -> Result<Vec<Id>, AllocError>
-        requires laid_down { IsLaidDown self.now }
-        requires range { is_below range.high range.low ≡ false }
+        requires { IsLaidDown self.now }
         ensures { IfOk result (λ ids. ids.items ≡ take most (filter (is_within range) (ids_of (all_of self.now)))) }
     {
         let mut ids = Vec::new(alloc);
-        let bounds = (Bound::Included(range.low), self.end_at(range.high));
-        let blocks = self.older.range(bounds);
-        for (_under, block) in blocks {
-            if ids.len() as u64 >= most {
-                break;
-            }
+        let blocks = self
+            .older
+            .range((Bound::Included(range.low), Bound::Unbounded));
+        for (under, block) in blocks {
             block.push_up(&mut ids, range, most)?;
+            if range.high <= *under || ids.len() as u64 >= most {
+                return Ok(ids);
+            }
         }
         self.newest.push_up(&mut ids, range, most)?;
         Ok(ids)

@@ -1,22 +1,20 @@
-use Rattle.std.proofs.Common.{◌++◌, length, take, sym, ap, ◌∙◌, arith, length-take}
-use Rattle.std.specs.BTreeMap.Range.{entries_between}
-use Rattle.std.specs.declared.ops.Bound.TheVariants.{Included}
-use Rattle.xs_stream.specs.Id.{id_cmp}
-use Rattle.xs_stream.specs.Blocks.{listed}
-use Rattle.xs_stream.proofs.WithinBlocks.{within, walk-forward, walk-within, up-more, take-full}
+use Rattle.std.proofs.Common.{◌≡◌, ◌≤◌, false, [], ◌++◌, length, take, sym, ap, ◌∙◌, arith, subst, length-take}
+use Rattle.std.proofs.lemmas.List.{append-nil, take_all}
+use Rattle.xs_stream.specs.Id.{is_below}
+use Rattle.xs_stream.specs.Blocks.{listed, AreFiled}
+use Rattle.xs_stream.proofs.Order.{partial-le, le-not_below}
+use Rattle.xs_stream.proofs.WithinBlocks.{within, walk-open, filed-some, none-above, not_true, up-more, take-full}
 use Rattle.xs_stream.proofs.entries.Entries.ids_up.Goals as goal
-use Rattle.xs_stream.proofs.entries.Entries.ids_up.Goals.{in-None, in-Some+then-len-most}
-
-pub range-blocks-requires : goal.range-blocks-requires
-range-blocks-requires c = rw c.end_at.ensures (walk-forward c.args.range c.args.self.now.older.entries c.requires.range)
+use Rattle.xs_stream.proofs.entries.Entries.ids_up.Goals.{then-le-via-then-le, then-le-via-else-le+then-len-most}
 
 pub loop-under-init : goal.loop-under-init
 loop-under-init c =
     let all = c.args.self.now in
-    let met = c.range-blocks.ensures.between tt ∙ ap (λ end. entries_between id_cmp (Included c.args.range.low) end all.older.entries) c.end_at.ensures in
+    let met = c.into_iter-under-iterator.ensures.into_iter_gives ∙ c.range-blocks.ensures.between tt in
     record {
-      all = rw (c.new-ids.ensures.items, c.into_iter-under-iterator.ensures.into_iter_gives, met) (ap (take c.args.most) (walk-within c.args.range all.older.entries all.newest c.requires.laid_down.filed c.requires.range));
+      all = rw (c.new-ids.ensures.items, met) (ap (take c.args.most) (walk-open c.args.range all.older.entries all.newest c.requires.filed));
       few = rw c.new-ids.ensures.items (omega arith);
+      filed = rw met (filed-some _ all.older.entries all.newest c.requires.filed);
     }
 
 pub loop-under-preserved : goal.loop-under-preserved
@@ -26,17 +24,36 @@ loop-under-preserved c =
     let left = c.next.new.self in
     record {
       all = ap (λ found. take c.args.most (found ++ within c.args.range (listed left ++ newest))) c.in_ok-push_up.ensures
-          ∙ up-more c.args.range c.args.most ids (c.in-Some._under.now, c.in-Some.block.now) left newest
+          ∙ up-more c.args.range c.args.most ids (c.in-Some.under.now, c.in-Some.block.now) left newest
           ∙ ap (λ bs. take c.args.most (ids ++ within c.args.range (listed bs ++ newest))) (sym c.in-Some.ensures.steps) ∙ c.loop-under.invariant.all;
       few = omega (arith, ap length c.in_ok-push_up.ensures, length-take c.args.most (ids ++ within c.args.range c.in-Some.block.now));
+      filed = (subst (λ bs. AreFiled bs newest) c.in-Some.ensures.steps c.loop-under.invariant.filed).1;
     }
+
+-- what is behind the block isn't within, where the block is filed under the high end or above it, or isn't asked for
+pub returns-then-le : goal.returns-then-le
+returns-then-le c =
+    let ids = c.loop-under.ids.items in
+    let newest = c.args.self.now.newest in
+    let left = c.next.new.self in
+    let found = c.push_up.new.ids.items in
+    let rest = within c.args.range (listed left ++ newest) in
+    let more = ap (λ xs. take c.args.most (xs ++ rest)) c.in_ok-push_up.ensures
+    ∙ up-more c.args.range c.args.most ids (c.in-Some.under.now, c.in-Some.block.now) left newest
+    ∙ ap (λ bs. take c.args.most (ids ++ within c.args.range (listed bs ++ newest))) (sym c.in-Some.ensures.steps) ∙ c.loop-under.invariant.all in
+    let filed = subst (λ bs. AreFiled bs newest) c.in-Some.ensures.steps c.loop-under.invariant.filed in
+    let few : length found ≤ c.args.most = omega (arith, ap length c.in_ok-push_up.ensures, length-take c.args.most (ids ++ within c.args.range c.in-Some.block.now)) in
+    let whole = sym (take_all c.args.most found few) ∙ sym (ap (take c.args.most) (append-nil found)) in
+    whole ∙ elim c.then-le.branch [
+      | then-le-via-then-le w ↦
+          let past : is_below c.in-Some.under.now c.args.range.high ≡ false =
+          not_true _ (sym (le-not_below c.args.range.high c.in-Some.under.now) ∙ sym (partial-le _ _) ∙ sym (w.if-le.ensures)) in
+          ap (λ others. take c.args.most (found ++ others)) (sym (none-above c.args.range c.in-Some.under.now (listed left ++ newest) filed.0.later_above past))
+      | then-le-via-else-le+then-len-most w ↦ take-full c.args.most found [] rest (omega arith)
+    ] ∙ more
 
 pub returns : goal.returns
 returns c =
     let ids = c.loop-under.ids.items in
     let newest = c.args.self.now.newest in
-    c.in_ok-push_up-2.ensures ∙ elim c.match-next.branch [
-      | in-None w ↦ ap (λ bs. take c.args.most (ids ++ within c.args.range (listed bs ++ newest))) (sym w.in-None.ensures.steps.0) ∙ c.loop-under.invariant.all
-      | in-Some+then-len-most w ↦
-          take-full c.args.most ids (within c.args.range newest) (within c.args.range (listed c.loop-under._under-iterator ++ newest)) (omega arith) ∙ c.loop-under.invariant.all
-    ]
+    c.in_ok-push_up-2.ensures ∙ ap (λ bs. take c.args.most (ids ++ within c.args.range (listed bs ++ newest))) (sym c.in-None.ensures.steps.0) ∙ c.loop-under.invariant.all
