@@ -1,44 +1,52 @@
-.PHONY: run serve check test edits clients hostile refusals compare
+.PHONY: run serve test check edits extra refusals compare clients hostile
 
 PROGRAM = crates/xs_server/out/xs_server
+BUILD = python3 scripts/build.py out/build.log
 
 # Proves and builds the program, and runs the script of two additions.
 run:
-	@echo "Proving and building xs_server. The first time everything is proved, which can take a quarter of an hour."
-	@cd crates/xs_server && rt run -- script < stdin
+	@echo "Proving and building xs_server; out/build.log says more. The first time takes 40 minutes and more of processor time."
+	@$(BUILD)
+	@$(PROGRAM) script < crates/xs_server/stdin
 
-# Proves and builds the program, and serves 16 connections at once on port 6379 of 127.0.0.1.
+# Proves and builds the program, and serves 16 connections at once on port 6379 of 127.0.0.1. Without MALLOC_ARENA_MAX
+# each worker's thread has an arena of malloc to itself, and the memory of what it added can't be used by another.
 serve:
-	@echo "Proving and building xs_server. The first time everything is proved, which can take a quarter of an hour."
-	@cd crates/xs_server && rt run -- script < stdin > /dev/null
-	@$(PROGRAM) serve --port 6379 --workers 16 --each 1000000
+	@echo "Proving and building xs_server; out/build.log says more. The first time takes 40 minutes and more of processor time."
+	@$(BUILD)
+	@MALLOC_ARENA_MAX=2 $(PROGRAM) serve --port 6379 --workers 16 --each 1000000
 
-# Proves everything from nothing, and runs the tests and the program that it built: the worked cases, the great scripts,
-# connections made at random. Then it tries the edits that have to fail, over the libraries that `rt ci` built; those of
-# the folders `further` are left to `make edits`.
+# The merge gate. Proves everything from nothing, tries the edits of must-fail/, and runs the tests and the program that
+# it built: the worked cases, the great scripts, connections made at random, and a server as its users run it.
 test:
 	rt ci
 	python3 conformance/run.py $(PROGRAM) script
 	python3 conformance/great.py $(PROGRAM)
 	python3 conformance/sessions.py --bytes 5000000 $(PROGRAM)
-	python3 edits/try.py
+	python3 conformance/serves.py $(PROGRAM)
 
-# Proves what has changed, looks whether each edit has its place, and runs the worked cases: what one runs while working.
+# Proves what has changed, and runs the worked cases and a server: what one runs while working.
 check:
 	rt all check
-	python3 edits/try.py --places
-	cd crates/xs_server && rt run -- script < stdin > /dev/null
+	$(BUILD)
 	python3 conformance/run.py $(PROGRAM) script
+	python3 conformance/serves.py $(PROGRAM)
 
-# Tries all wrong bodies, those too that the gate leaves out: the prover has to refuse each.
+# Tries the further wrong bodies of edits/, which the gate leaves out: the prover has to refuse each.
 edits:
+	python3 edits/run.py
+
+# Proves the crates of extra.txt, and runs the tests of those that are refused memory, each with ample memory.
+extra:
 	rt all check
-	python3 edits/try.py --further
+	python3 scripts/extra.py check
+	python3 scripts/extra.py test xs_stream_refusals xs_resp_refusals xs_group_refusals xs_keys_refusals
 
 # Runs the tests that say so, and the worked cases, with each allocation refused in turn. Needs cc.
 refusals:
+	rt all check
 	python3 conformance/refusals.py
-	cd crates/xs_server && rt run -- script < stdin > /dev/null
+	$(BUILD)
 	python3 conformance/refused_scripts.py $(PROGRAM) script
 
 # Asks a real Redis 7.0 the worked cases too, but for those that are only ours, and then asks it and the program the same
@@ -46,7 +54,7 @@ refusals:
 # install redis-server
 compare:
 	python3 conformance/compare.py
-	cd crates/xs_server && rt run -- script < stdin > /dev/null
+	$(BUILD)
 	python3 conformance/at_random.py $(PROGRAM) script
 	python3 conformance/at_random_served.py $(PROGRAM)
 
@@ -54,10 +62,10 @@ compare:
 # Debian: apt-get install redis-server redis-tools python3-redis python3-hiredis gcc libhiredis-dev node-redis ruby-redis
 # golang-go golang-github-gomodule-redigo-dev php-cli php-redis php-predis
 clients:
-	cd crates/xs_server && rt run -- script < stdin > /dev/null
+	$(BUILD)
 	python3 conformance/clients.py $(PROGRAM)
 
 # Runs the program as a server for clients that are hostile, unlucky or many.
 hostile:
-	cd crates/xs_server && rt run -- script < stdin > /dev/null
+	$(BUILD)
 	python3 conformance/hostile.py $(PROGRAM)

@@ -29,11 +29,10 @@ import subprocess
 import sys
 import time
 
-import laid_down
 from busy import busy
+from programs import build_plain, laid_down
 from tcp import spread
 
-BELOW = ("xs_bytes", "xs_stream", "xs_resp", "xs_group", "xs_command", "xs_keys", "xs_desk")
 IDLE = 2.0
 # The most of the processors' time that the host may take from a run, how often a run is made anew for it, and how many
 # seconds lie between two tries.
@@ -54,14 +53,15 @@ def set_spins(folder, number):
 
 def build_desks(folder, spins):
     """A program over the desk for each of these numbers of spins, None being its own."""
-    built = laid_down.build(folder, "desk", BELOW, ["PING", "1", "1"])
-    crate = os.path.dirname(os.path.dirname(built))
+    words = ["PING", "1", "1"]
+    desk = laid_down.build(folder, "bench_desk", words)
+    crate = os.path.dirname(os.path.dirname(desk))
     programs = {}
     for number in spins:
         if number is not None:
             set_spins(folder, number)
-            laid_down.build_by_run(crate, ["PING", "1", "1"])
-        programs[number] = shutil.copy(built, os.path.join(folder, f"desk_{number}"))
+            laid_down.build_by_run(crate, words)
+        programs[number] = shutil.copy(desk, os.path.join(folder, f"desk_{number}"))
     return programs
 
 
@@ -168,7 +168,7 @@ def desks_of(folder, spins):
 
 def others_of(folder):
     """The same of plain Rust."""
-    beside = laid_down.build_plain(folder, "desk", "beside.rs")
+    beside = build_plain(folder, "desk", "beside.rs")
     return {"channels, PING": [beside, "channels"], "Mutex, PING": [beside, "lock"]}
 
 

@@ -4,8 +4,8 @@
     groups.py [--runs N]        by processor time
     groups.py --instructions    by instructions, which other work on the machine doesn't change; needs valgrind
 
-It needs the toolchain and rustc. The program over the group, bench/groups/main.rt.txt, is a crate of a repository that
-is laid down for the time of the run, with copies of the crates xs_bytes, xs_stream and xs_group. Each work is done on
+It needs the toolchain and rustc. The program over the group is bench_groups of extra.txt, in a
+copy of the repository. Each work is done on
 groups of 10,000, 100,000 and 1,000,000 entries, until 1,000,000 rows were worked on in all. What making the stream
 takes is taken off the deliveries, and what stream and deliveries take off the other works; off removals what they take
 where the group is left in memory, since removals leave nothing to free.
@@ -19,9 +19,8 @@ import re
 import statistics
 import subprocess
 
-import laid_down
+from programs import build_plain, laid_down, run as run_program
 
-BELOW = ("xs_bytes", "xs_stream", "xs_group")
 SIZES = (10_000, 100_000, 1_000_000)
 WORKS = ("stream", "fill", "kept", "ack", "claim", "scan", "summary", "rows", "owner", "remove")
 BASES = {"stream": None, "fill": "stream", "kept": "stream", "remove": "kept"}
@@ -31,7 +30,7 @@ UNCOUNTED = {(100_000, "owner"), (1_000_000, "owner")}
 
 def run(program, size, work):
     """What it told, processor time in seconds, and the peak in KiB."""
-    told, used = laid_down.run(program, str(size), work)
+    told, used = run_program(program, str(size), work)
     return told, used.ru_utime + used.ru_stime, used.ru_maxrss
 
 
@@ -91,8 +90,8 @@ def main():
     asked = parser.parse_args()
     with laid_down.new_folder() as folder:
         programs = {
-            "here": laid_down.build(folder, "groups", BELOW, ["10000", "stream"]),
-            "plain": laid_down.build_plain(folder, "groups", "plain.rs"),
+            "here": laid_down.build(folder, "bench_groups", ["10000", "stream"]),
+            "plain": build_plain(folder, "groups", "plain.rs"),
         }
         if asked.instructions:
             print("| Entries | Work | here, millions | plain Rust, millions | ratio |")

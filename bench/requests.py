@@ -4,16 +4,14 @@
     requests.py [--runs N]      needs the toolchain, cc and libhiredis-dev
 
 Each reads 1,000,000 additions with one value of 60 bytes out of memory, in pieces of 16 KiB, of 1 KiB and of 7 bytes.
-The program over the reader, bench/requests/main.rt.txt, is a crate of a repository that is laid down for the time of the
-run, with copies of the crates xs_bytes and xs_resp as they are built here. Processor time is what the kernel counts.
+The program over the reader is bench_requests of extra.txt, in a copy of the repository. Processor time is what the kernel counts.
 """
 import os
 import statistics
 import subprocess
 
-import laid_down
+from programs import HERE, laid_down, run as run_program, runs as runs_asked
 
-BELOW = ("xs_bytes", "xs_resp")
 SIZES = (16384, 1024, 7)
 COUNT = 1_000_000
 TOLD = f"{COUNT} requests, {5 * COUNT} words\n"
@@ -21,14 +19,14 @@ TOLD = f"{COUNT} requests, {5 * COUNT} words\n"
 
 def build_hiredis(folder):
     program = os.path.join(folder, "hiredis")
-    source = os.path.join(laid_down.HERE, "requests", "hiredis.c")
+    source = os.path.join(HERE, "requests", "hiredis.c")
     subprocess.run(["cc", "-O2", "-o", program, source, "-lhiredis"], check=True)
     return program
 
 
 def run(program, size):
     """Processor time in seconds."""
-    told, used = laid_down.run(program, str(size))
+    told, used = run_program(program, str(size))
     if told != TOLD:
         raise SystemExit(f"{program} {size} told {told!r}")
     return used.ru_utime + used.ru_stime
@@ -39,10 +37,10 @@ def spread(values):
 
 
 def main():
-    runs = laid_down.runs(__doc__)
+    runs = runs_asked(__doc__)
     with laid_down.new_folder() as folder:
         programs = {
-            "here": laid_down.build(folder, "requests", BELOW, ["16384"]),
+            "here": laid_down.build(folder, "bench_requests", ["16384"]),
             "hiredis": build_hiredis(folder),
         }
         taken = {(who, size): [] for size in SIZES for who in programs}

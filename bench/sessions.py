@@ -5,8 +5,8 @@
     sessions.py --instructions PROGRAM    by instructions, of sessions and scripts; needs the toolchain and valgrind
 
 1,000,000 additions with one value of 60 bytes, and 1,000,000 PINGs. A session is `serve` over a keyspace alone, fed out
-of memory in pieces of 16 KiB and of 100 bytes; its replies go to nowhere. The program over it,
-bench/sessions/main.rt.txt, stands in a copy of the repository in the place of the one of xs_server. A script is read
+of memory in pieces of 16 KiB and of 100 bytes; its replies go to nowhere. The program over it is
+bench_sessions of extra.txt, in a copy of the repository. A script is read
 by PROGRAM from a file, and its replies go to nowhere. Of both the whole process is measured, its end included. Redis
 keeps nothing on disk and is fed over a Unix socket by bench/feed.c, whose own time isn't counted.
 """
@@ -15,9 +15,9 @@ import os
 import re
 import subprocess
 
-import laid_down
 from bench import VALUE
 from beside_redis import Redis, ratios, spread, take, write_part
+from programs import HERE, laid_down, run
 
 COUNT = 1_000_000
 SIZES = (16384, 100)
@@ -29,13 +29,13 @@ class Programs:
 
     def __init__(self, folder, program):
         self.folder, self.program = folder, program
-        self.session = laid_down.replace(folder, os.path.join(laid_down.HERE, "sessions", "main.rt.txt"))
+        self.session = laid_down.build(folder, "bench_sessions", ["PING", "16384"])
         self.parts = {name: write_part(folder, name, [command] * COUNT) for name, command in COMMANDS.items()}
-        feeder = os.path.join(laid_down.HERE, "feed.c")
+        feeder = os.path.join(HERE, "feed.c")
         subprocess.run(["cc", "-O2", "-o", os.path.join(folder, "feed"), feeder], check=True)
 
     def by_session(self, name, size):
-        told, used = laid_down.run(self.session, name, str(size))
+        told, used = run(self.session, name, str(size))
         if told != f"{COUNT} replies\n":
             raise SystemExit(f"the session told {told!r}")
         return used.ru_utime + used.ru_stime, used.ru_maxrss * 1024

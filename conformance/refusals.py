@@ -3,27 +3,22 @@
 
     refusals.py [CRATE ..]      the tests of these crates, or of all
 
-The tests of a crate that only refusals can fail stand in conformance/refusals/CRATE, so that the gate doesn't prove the
-crate once more for them: they are laid down in a copy of the crate, a file tests.rt.txt beside the file of the module
-whose tests it has. Those of the other crates stand in the crate. It builds the tests by `rt test`, and then runs the test
-program with refuse.c loaded into it (`cc` makes a library of that file). A test whose name says `a_refused` or `a_refusal` runs with its first allocation refused, then with its second,
-and so on, until a run asks for fewer; one whose name says `take_no_memory` or `takes_no_memory` with all refused from
-the first on, then from the second on, and so on. Each run has to pass.
-The last line is 'N passed, M failed', by runs; the status is 1 where M > 0 or nothing ran.
+Tests that only refusals can fail are crates of extra.txt, so that the gate doesn't prove them. It builds the tests by
+`rt test`, and then runs the test program with refuse.c loaded into it (`cc` makes a library of that file). A test whose
+name says `a_refused` or `a_refusal` runs with its first allocation refused, then with its second, and so on, until a run
+asks for fewer; one whose name says `take_no_memory` or `takes_no_memory` with all refused from the first on, then from
+the second on, and so on. Each run has to pass. The last line is 'N passed, M failed', by runs; the status is 1 if M > 0
+or nothing ran.
 """
 import os
-import shutil
 import subprocess
 import sys
 import tempfile
 
 HERE = os.path.dirname(os.path.abspath(__file__))
-TOP = os.path.dirname(HERE)
-sys.path.append(os.path.join(TOP, "bench"))
+sys.path.append(os.path.join(os.path.dirname(HERE), "scripts"))
 import laid_down  # noqa: E402
 
-CRATES = os.path.join(TOP, "crates")
-APART = os.path.join(HERE, "refusals")
 MANY = 1_000_000_000
 
 
@@ -62,27 +57,10 @@ def step(program, test, library, told):
     return passed, failed
 
 
-def with_tests(folder, crate):
-    """A copy of the crate with its tests that stand apart."""
-    shutil.copy2(os.path.join(TOP, "HANDLES"), folder)
-    laid_down.lay_down(folder, os.listdir(CRATES))
-    copy, tests = os.path.join(folder, "crates", crate), os.path.join(APART, crate)
-    for at, _, names in os.walk(tests):
-        to = os.path.normpath(os.path.join(copy, "src", os.path.relpath(at, tests)))
-        os.makedirs(to, exist_ok=True)
-        for name in names:
-            shutil.copy(os.path.join(at, name), os.path.join(to, name.removesuffix(".txt")))
-        if "tests.rt.txt" in names:
-            module = os.path.join(to, "lib.rt") if at == tests else f"{to}.rt"
-            with open(module, "a", encoding="utf-8") as source:
-                source.write("\n#[cfg(test)]\nmod tests;\n")
-    return copy
-
-
 def built(folder, crate):
-    """The test program of a crate, or None where its tests don't pass with ample memory."""
-    is_apart = os.path.isdir(os.path.join(APART, crate))
-    place = with_tests(folder, crate) if is_apart else os.path.join(CRATES, crate)
+    """The test program of a crate, or None if its tests don't pass with ample memory."""
+    extra = laid_down.lay_down(folder, [crate] if crate in laid_down.lines_of("extra.txt") else [])
+    place = extra[0] if extra else os.path.join(folder, "crates", crate)
     done = subprocess.run(["rt", "test"], cwd=place, stdout=subprocess.DEVNULL)
     return os.path.join(place, "out", f"{crate}_tests") if done.returncode == 0 else None
 
@@ -107,13 +85,15 @@ def build_and_refuse(crate, library, told):
         return 0, 1
 
 
-def has_tests(crate):
-    source = os.path.join(CRATES, crate, "src")
-    return os.path.isdir(os.path.join(APART, crate)) or any("tests.rt" in names for _, _, names in os.walk(source))
+def all_tested():
+    """The crates whose tests are run with allocations refused: those for this, and those of the gate that have tests."""
+    source = [(name, os.path.join(laid_down.TOP, "crates", name, "src")) for name in laid_down.lines_of("crates.txt")]
+    tested = [name for name, at in source if any("tests.rt" in names for _, _, names in os.walk(at))]
+    return [*(name for name in laid_down.lines_of("extra.txt") if name.endswith("_refusals")), *tested]
 
 
 def main(asked):
-    crates = asked or sorted(filter(has_tests, os.listdir(CRATES)))
+    crates = asked or all_tested()
     with tempfile.TemporaryDirectory() as folder:
         library, told = os.path.join(folder, "refuse.so"), os.path.join(folder, "told")
         subprocess.run(["cc", "-O2", "-shared", "-fPIC", "-o", library, os.path.join(HERE, "refuse.c")], check=True)

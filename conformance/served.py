@@ -1,10 +1,16 @@
-"""The program as a server on a port of its own, and plain connections to it."""
+"""The program as a server on a port of its own, plain connections to it, and the cases that are tried over it."""
 import contextlib
+import os
+import resource
 import socket
 import struct
 import subprocess
+import threading
+import time
 
 import real_redis
+from great import array, bulk, entry
+from real_redis import request
 
 HOST = "127.0.0.1"
 PING, PONG = real_redis.request([b"PING"]), b"+PONG\r\n"
@@ -20,14 +26,22 @@ def words_of(program, port, workers, each):
     return [program, "serve", "--port", str(port), "--workers", str(workers), "--each", str(each)]
 
 
+def with_limits(limits):
+    """What a process does before its program starts, so that it has these limits."""
+    def set_limits():
+        for which, most in limits.items():
+            resource.setrlimit(which, (most, resource.getrlimit(which)[1]))
+    return set_limits
+
+
 class Server:
     """A running server. `port` is where it listens, `child` its process."""
 
-    def __init__(self, program, workers, each):
+    def __init__(self, program, workers, each, limits):
         self.port = free_port()
         self.workers = workers
         self.child = subprocess.Popen(words_of(program, self.port, workers, each), stdout=subprocess.PIPE,
-                                      stderr=subprocess.PIPE)
+                                      stderr=subprocess.PIPE, preexec_fn=with_limits(limits))
         line = self.child.stdout.readline().decode()
         if line != f"listening {HOST}:{self.port}\n":
             self.end()
@@ -37,6 +51,15 @@ class Server:
         if self.child.poll() is None:
             self.child.kill()
         self.child.communicate()
+
+    def threads(self):
+        return len(os.listdir(f"/proc/{self.child.pid}/task"))
+
+    def processor_time(self):
+        """The seconds of processor time that the process has used."""
+        with open(f"/proc/{self.child.pid}/stat", encoding="ascii") as stat:
+            fields = stat.read().rpartition(")")[2].split()
+        return (int(fields[11]) + int(fields[12])) / os.sysconf("SC_CLK_TCK")
 
     def resident(self):
         """The bytes of memory that the process has in use."""
@@ -50,9 +73,9 @@ class Server:
 
 
 @contextlib.contextmanager
-def serving(program, workers=4, each=1_000_000):
+def serving(program, workers=4, each=1_000_000, limits=None):
     """A new server, which ends with the block."""
-    server = Server(program, workers, each)
+    server = Server(program, workers, each, limits or {})
     try:
         yield server
     finally:
@@ -61,6 +84,30 @@ def serving(program, workers=4, each=1_000_000):
 
 def raw(port):
     return socket.create_connection((HOST, port), timeout=60)
+
+
+def asking(text):
+    return request([word.encode() for word in text.split(" ")])
+
+
+def say(stream, text, reply):
+    """Sends a request, and its reply has to be this one."""
+    stream.sendall(asking(text))
+    got = read_exactly(stream, len(reply))
+    assert got == reply.encode(), f"{text[:60]!r} was answered {got[:60]!r}"
+
+
+def say_at(server, text, reply):
+    with raw(server.port) as stream:
+        say(stream, text, reply)
+
+
+def fill(server, key, count, size):
+    """Adds entries whose values have this size, and gives the reply that lists them all."""
+    with raw(server.port) as stream:
+        for place in range(1, count + 1):
+            say(stream, f"XADD {key} {place}-0 f {'v' * size}", bulk(f"{place}-0"))
+    return array([entry(f"{place}-0", "f", "v" * size) for place in range(1, count + 1)]).encode()
 
 
 def read_exactly(stream, count):
@@ -100,3 +147,45 @@ def all_answer(server):
         for stream in streams:
             got = read_exactly(stream, len(PONG))
             assert got == PONG, f"PING was answered {got!r}"
+
+
+def together(count, work):
+    """Does the work in so many threads, each of which is given its number, and tells the first fault."""
+    faults = []
+
+    def run(place):
+        try:
+            work(place)
+        except (AssertionError, OSError, threading.BrokenBarrierError) as fault:
+            faults.append(fault)
+
+    threads = [threading.Thread(target=run, args=(place,)) for place in range(count)]
+    for thread in threads:
+        thread.start()
+    for thread in threads:
+        thread.join()
+    if faults:
+        raise faults[0]
+
+
+def passes(case, given):
+    """Whether the case passes; its fault is shown. A server that it was given has to answer behind it."""
+    began = time.monotonic()
+    try:
+        case(given)
+        if isinstance(given, Server):
+            all_answer(given)
+    except (AssertionError, OSError, subprocess.SubprocessError, threading.BrokenBarrierError) as fault:
+        print(f"{case.__name__}: {type(fault).__name__} {fault}", flush=True)
+        return False
+    print(f"{case.__name__}: passed in {time.monotonic() - began:.1f} s", flush=True)
+    return True
+
+
+def try_all(program, over_server, over_program, workers):
+    """Tries each of these cases, the former over one server; says how many passed, and gives the status."""
+    with serving(program, workers=workers) as server:
+        results = [passes(case, server) for case in over_server]
+    results += [passes(case, program) for case in over_program]
+    print(f"{sum(results)} passed, {len(results) - sum(results)} failed")
+    return 0 if all(results) else 1

@@ -26,7 +26,7 @@ import tempfile
 
 HERE = os.path.dirname(os.path.abspath(__file__))
 TOP = os.path.dirname(HERE)
-sys.path.append(os.path.join(TOP, "bench"))
+sys.path.append(os.path.join(TOP, "scripts"))
 import laid_down  # noqa: E402
 
 # words that may stand for one another, each turned into the next one
@@ -371,7 +371,7 @@ def copied(folder):
         yield folder
         return
     with laid_down.new_folder() as folder:
-        laid_down.lay_down(folder, os.listdir(os.path.join(TOP, "crates")))
+        laid_down.lay_down(folder)
         yield folder
 
 

@@ -119,8 +119,8 @@ impl Client {
         }
     }
 
-    /// The next answer, if it has come. It wakes the keeper if it sleeps, since there is room for a further one, and
-    /// takes no memory.
+    /// The next answer, if it has come. If a call of this lane may be waiting for the room that it leaves, it wakes the
+    /// keeper. It takes no memory.
     pub fn take(&mut self) -> Option<Answer>
         ensures { MatchOption result (self.new ≡ self.old)
             (λ answer. self.new ≡ record self.old { taken = self.old.taken ++ answer ∷ [] }) }
@@ -128,7 +128,11 @@ impl Client {
         self.sleeper.begin_look();
         let answer = self.answers.pop().ok()?;
         self.sleeper.found(answer.moment);
-        self.notice.give();
+        // The keeper passes over a call only while the ring of answers is full, so behind an answer that is taken. Without
+        // a further call there is nothing to tell, and the keeper sleeps on.
+        if answer.ticket.saturating_add(1) < self.ticket {
+            self.notice.give();
+        }
         Some(answer)
     }
 

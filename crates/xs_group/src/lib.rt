@@ -2,7 +2,6 @@
 //! Streams", and of the pages of the XGROUP commands, XREADGROUP, XACK, XPENDING, XCLAIM and XAUTOCLAIM.
 #![tactic(auto)]
 
-pub mod callers;
 pub mod claims;
 mod consumer_index;
 pub mod delivery;

@@ -6,6 +6,7 @@ use Rattle.xs_server.specs.declared.script.fault.ScriptFault.TheVariants.{Line, 
 use Rattle.xs_server.specs.declared.work.fault.WorkFault.{WorkFault}
 use Rattle.xs_server.specs.declared.work.fault.WorkFault.TheVariants as work
 use Rattle.xs_desk.specs.declared.opening.DeskError.TheVariants as desk
+use Rattle.xs_desk.specs.declared.summary.Summary.{Summary}
 
 -- the status of the program where a script ends before its end: 2 for a line that is no script line, and 1 for a
 -- failed device or a want of memory
@@ -27,11 +28,23 @@ memory_text = codes "xs_server: out of memory\n"
 abbrev pub listening_text : List ℕ
 listening_text = codes "xs_server: listening failed\n"
 
--- the line of a fault of work: a want of memory, also where it was for the desk, or anything else
+-- the line of work that gave no summary for another cause than memory
+abbrev pub serving_text : List ℕ
+serving_text = codes "xs_server: serving failed\n"
+
+-- the line of a fault of work: out of memory, for the desk too, or anything else
 abbrev pub work_text : WorkFault → List ℕ
 work_text (work.Desk desk.Memory) = memory_text
 work_text work.Memory = memory_text
-work_text _ = codes "xs_server: serving failed\n"
+work_text _ = serving_text
+
+-- the line that says on which port the server listens
+abbrev pub ready_text : ℕ → List ℕ
+ready_text port = codes "listening 127.0.0.1:" ++ decimal port ++ codes "\n"
+
+-- the line of a server that has ended before its work did, or whose work gave no summary
+abbrev pub IsServeCause : List ℕ → Type 0
+IsServeCause line = (line ≡ memory_text) ⊎ (line ≡ listening_text) ⊎ (line ≡ serving_text)
 
 -- the line of a script's fault
 abbrev pub fault_text : ScriptFault → List ℕ
@@ -49,7 +62,13 @@ abbrev pub text_of_run : Result ℕ ScriptFault → List ℕ
 text_of_run (Ok written) = []
 text_of_run (Err fault) = fault_text fault
 
--- a writer takes this text, or a part of it where it fails
+-- a writer takes this text, or a part of it if it fails
 abbrev pub Says : List ℕ → Option (List ℕ) → Option (List ℕ) → Bool → Type 0
 Says text old new broken =
     (part rest : List ℕ) × (text ≡ part ++ rest) × Appends old new part × ((rest ≡ []) ⊎ (broken ≡ true))
+
+-- the status of the program after work, and what it says: nothing after a summary, else the line of the fault
+abbrev pub ReportsWork :
+    {W : Type 0} → Result Summary WorkFault → ℕ → W → W → Option (List ℕ) → Option (List ℕ) → Bool → Type 0
+ReportsWork (Ok summary) status old new held holds broken = (status ≡ 0) × (new ≡ old)
+ReportsWork (Err fault) status old new held holds broken = (status ≡ 1) × Says (work_text fault) held holds broken

@@ -4,20 +4,21 @@ use Rattle.xs_bytes.specs.SortedMap.{empty}
 use Rattle.xs_keys.specs.Headline.{RunsOn}
 use Rattle.xs_desk.specs.declared.summary.Summary.{Summary}
 use Rattle.xs_desk.specs.History.{ServedCall, Desk, IsHistory, events_of, replies_of}
-use Rattle.xs_desk.specs.Callers.{Caller}
+use Rattle.xs_desk.specs.Callers.{Caller, AreEnds}
 use Rattle.xs_desk.specs.Closing.{SumUp}
 use Rattle.xs_desk.specs.Opening.{IsDeskError, IsLaneCount, IsDepth}
 use Rattle.xs_server.specs.declared.work.fault.WorkFault.{WorkFault}
 use Rattle.xs_server.specs.declared.work.fault.WorkFault.TheVariants as fault
 
--- A desk of n lanes was closed. The summary has a part for each lane, which counts what its two sides tell; the calls
--- that were served, in the order of their places, are the history of the desk; and they are a run from the empty
--- keyspace on, which gave these replies and left the summary's keyspace.
+-- A desk of n lanes was closed. The ends that came back are sides of its lanes, and the summary has a part for each
+-- lane, which counts what its two sides tell; the calls that were served, in the order of their places, are the history
+-- of the desk; and they are a run from the empty keyspace on, which gave these replies and left the summary's keyspace.
 pub record IsClosed (n : ℕ) (summary : Summary) : Type 0 where
   pub desk : Desk
   pub ends : List Caller
   pub history : List ServedCall
   pub count : length desk.lanes ≡ n
+  pub are_ends : AreEnds desk.lanes ends
   pub lanes : SumUp desk.lanes ends n summary.lanes.items
   pub is_history : IsHistory history desk
   pub runs : RunsOn empty (events_of history) (replies_of history) summary.keyspace

@@ -1,13 +1,14 @@
 //! The program's command line.
-ghost use Rattle.std.specs.Prelude.{◌≡◌, ◌≢◌, ◌⊎◌, map, string_bytes, IfOk, IfErr};
-ghost use Rattle.clap.specs.Words.{kind_of};
-ghost use Rattle.xs_server.specs.CommandLine.{AsksScript};
+ghost use Rattle.std.specs.Prelude.{◌≡◌, ◌≢◌, ◌⊎◌, map, codes, string_bytes, IfOk, IfErr, IfSome};
+ghost use Rattle.clap.specs.Words.{kind_of, found_of};
+ghost use Rattle.xs_server.specs.CommandLine.{AsksScript, IsValueOf};
 
 use clap::builder::ValueParser;
 use clap::error::{Error, ErrorKind};
 use clap::{Arg, ArgMatches, Command, value_parser};
 use std::alloc::{AllocError, Global};
 use std::io::{Eprint, ErrorKind as IoErrorKind};
+use std::str::FromStr;
 
 /// What `serve` is told.
 #[derive(Clone, Copy, Debug, PartialEq, Eq)]
@@ -99,7 +100,14 @@ fn whole_program<'a>(alloc: Global) -> Result<Command<'a>, AllocError> {
 }
 
 /// What the words behind `serve` say.
-fn options_of(matches: &ArgMatches) -> Option<ServeOptions> {
+fn options_of(matches: &ArgMatches) -> Option<ServeOptions>
+    ensures port { IfSome result (λ options. IsValueOf ⟦<u16 as FromStr>⟧.from_str_gives
+        (found_of matches.now) (codes "port") options.port) }
+    ensures workers { IfSome result (λ options. IsValueOf ⟦<u64 as FromStr>⟧.from_str_gives
+        (found_of matches.now) (codes "workers") options.workers) }
+    ensures each { IfSome result (λ options. IsValueOf ⟦<u64 as FromStr>⟧.from_str_gives
+        (found_of matches.now) (codes "each") options.each) }
+{
     Some(ServeOptions {
         port: matches.get_one::<u16>("port")?,
         workers: matches.get_one::<u64>("workers")?,

@@ -2,6 +2,7 @@
 //! a script on standard input and writes the replies on standard output.
 #![tactic(auto)]
 
+mod announcement;
 mod command_line;
 mod connections;
 mod devices;
@@ -30,8 +31,8 @@ fn main(rt: HostRuntime) -> ExitCode {
             run_and_report(rt.alloc(), &mut reader, &mut writer, &mut errors)
         }
         Asked::Serve(options) => {
-            let mut out = ToWrite::new(rt.stdout());
-            serve_and_report(&rt, rt.alloc(), options, &mut out, &mut errors)
+            let out = ToWrite::new(rt.stdout());
+            serve_and_report(&rt, rt.alloc(), options, out, &mut errors)
         }
         Asked::Nothing => 2,
         Asked::Memory => report_memory(&mut errors),

@@ -1,15 +1,15 @@
 //! What the program says on standard error, and its status.
-ghost use Rattle.std.specs.Prelude.{◌≡◌, true, false};
+ghost use Rattle.std.specs.Prelude.{◌≡◌, ◌++◌, true, false, decimal};
 ghost use Rattle.std.specs.Io.KnownBytes.{Appends};
 ghost use Rattle.xs_server.specs.Report.{status_of, fault_text, memory_text, line_text, listening_text, work_text};
-ghost use Rattle.xs_server.specs.Report.{Says};
+ghost use Rattle.xs_server.specs.Report.{Says, ready_text, ReportsWork};
 
 use crate::devices::device::Sink;
 use crate::devices::sending::write_all;
 use crate::script::fault::ScriptFault;
 use crate::work::fault::WorkFault;
 use itoa::Buffer;
-use xs_desk::DeskError;
+use xs_desk::{DeskError, Summary};
 
 /// Writes a text, up to a fault of the writer, and says whether it is whole.
 fn say<W: Sink>(errors: &mut W, text: &[u8]) -> bool
@@ -77,17 +77,47 @@ pub fn report_work<W: Sink>(errors: &mut W, fault: &WorkFault) -> u8
     }
 }
 
+/// Gives the status of the program after work: 0 for a summary; else 1, and the line of its fault is written.
+pub fn report_worked<W: Sink>(errors: &mut W, worked: &Result<Summary, WorkFault>) -> u8
+    ensures { ReportsWork worked.now result errors.old errors.new (W.held errors.old) (W.held errors.new)
+        (W.broken errors.new) }
+{
+    match worked {
+        Ok(_) => 0,
+        Err(fault) => report_work(errors, fault),
+    }
+}
+
+/// Writes a number between two texts, up to a fault of the writer.
+fn say_number<W: Sink>(out: &mut W, front: &[u8], number: u64, back: &[u8])
+    ensures { Says (front.now ++ (decimal number ++ back.now)) (W.held out.old) (W.held out.new) (W.broken out.new) }
+{
+    let mut digits = Buffer::new();
+    let number = digits.format(number).as_bytes();
+    if !say(out, front) {
+        return;
+    }
+    if !say(out, number) {
+        return;
+    }
+    say(out, back);
+}
+
+/// Writes on which port of 127.0.0.1 the server listens. A fault of the writer is passed over.
+pub fn report_ready<W: Sink>(out: &mut W, port: u16)
+    ensures { Says (ready_text port) (W.held out.old) (W.held out.new) (W.broken out.new) }
+{
+    say_number(out, b"listening 127.0.0.1:", u64::from(port), b"\n");
+}
+
 /// Writes that a line is no script line, up to a fault of the writer.
 fn report_line<W: Sink>(errors: &mut W, number: u64)
     ensures { Says (line_text number) (W.held errors.old) (W.held errors.new) (W.broken errors.new) }
 {
-    let mut digits = Buffer::new();
-    let number = digits.format(number).as_bytes();
-    if !say(errors, b"xs_server: line ") {
-        return;
-    }
-    if !say(errors, number) {
-        return;
-    }
-    say(errors, b" is not a script line\n");
+    say_number(
+        errors,
+        b"xs_server: line ",
+        number,
+        b" is not a script line\n",
+    );
 }

@@ -2,7 +2,6 @@
 pub mod command;
 pub mod fault;
 pub mod line_in_hand;
-pub mod of_bytes;
 pub mod run;
 pub mod serving;
 pub mod session;

@@ -1,13 +1,16 @@
 //! The program's command `serve`.
+ghost use Rattle.std.specs.Prelude.{◌≡◌, ◌⊎◌, ℕ, List, length, IfOk};
+ghost use Rattle.xs_desk.specs.declared.summary.Summary.{Summary};
+ghost use Rattle.xs_server.specs.Report.{Says, IsServeCause};
+ghost use Rattle.xs_server.specs.Working.{IsClosed};
 
+use crate::announcement::Announcement;
 use crate::command_line::ServeOptions;
 use crate::devices::device::Sink;
-use crate::devices::sending::write_all;
-use crate::report::{report_listening, report_memory, report_work};
+use crate::report::{report_listening, report_memory, report_worked};
 use crate::tcp::TcpGate;
 use crate::wall_clock::WallClock;
 use crate::work::working::work;
-use itoa::Buffer;
 use std::alloc::{AllocError, Global};
 use std::io::ErrorKind;
 use std::net::{Ipv4Addr, Net, TcpListener, TcpStream};
@@ -18,36 +21,31 @@ use std::time::Clock;
 /// How many places the rings of a lane have.
 const DEPTH: usize = 16;
 
-/// A gate for each worker.
-fn gates_of(
+/// A gate for each worker. They share the listener and the announcement of its port.
+fn gates_of<S: Clock + Copy + Drop, W: Sink + Drop>(
+    system: S,
     alloc: Global,
     listener: TcpListener,
-    workers: u64,
-    each: u64,
-) -> Result<Vec<TcpGate>, AllocError> {
+    options: ServeOptions,
+    out: W,
+) -> Result<Vec<TcpGate<S, W>>, AllocError>
+    ensures { IfOk result (λ gates. length gates.items ≡ options.workers) }
+{
     let listener = Arc::new(alloc, listener)?;
+    let announcement = Arc::new(alloc, Announcement::new(out, options.port))?;
     let mut gates = Vec::new(alloc);
-    for _ in 0..workers {
-        gates.push(TcpGate::new(alloc, Arc::try_clone(&listener)?, each))?;
+    for _worker in 0..options.workers {
+        let (listener, announcement) = (Arc::try_clone(&listener)?, Arc::try_clone(&announcement)?);
+        gates.push(TcpGate::new(alloc, system, listener, announcement, options.each))?;
     }
     Ok(gates)
 }
 
-/// Says on which port the program listens. A fault of the writer is passed over.
-fn say_listening<W: Sink>(out: &mut W, port: u16) {
-    let mut digits = Buffer::new();
-    let port = digits.format(port).as_bytes();
-    for part in [b"listening 127.0.0.1:".as_slice(), port, b"\n".as_slice()] {
-        if write_all(out, part).is_err() {
-            return;
-        }
-    }
-}
-
-/// Listens on a port of 127.0.0.1, says so, and serves the connections that come, as many as the options say. It gives
-/// the status of the program.
+/// Listens on a port of 127.0.0.1, and serves the connections that come, as many as the options say. The port is
+/// announced on `out` once every thread has started. It gives the status of the program: 0 if the work came to its end,
+/// else 1, and the cause is said on `errors`.
 pub fn serve_and_report<
-    W: Sink,
+    W: Sink + Send + Drop + 'static,
     E: Sink,
     R: Net<Listener = TcpListener, Stream = TcpStream>
         + Threads
@@ -57,18 +55,20 @@ pub fn serve_and_report<
         + Send
         + Drop
         + 'static,
->(rt: &R, alloc: Global, options: ServeOptions, out: &mut W, errors: &mut E) -> u8 {
+>(rt: &R, alloc: Global, options: ServeOptions, out: W, errors: &mut E) -> u8
+    ensures served { result ≡ 0 → (summary : Summary) × IsClosed options.workers summary }
+    ensures told { ((result ≡ 0) × (errors.new ≡ errors.old))
+        ⊎ ((result ≡ 1) × (cause : List ℕ) × IsServeCause cause
+        × Says cause (E.held errors.old) (E.held errors.new) (E.broken errors.new)) }
+{
     let listener = match TcpListener::bind(rt, (Ipv4Addr::LOCALHOST, options.port)) {
         Ok(listener) => listener,
         Err(error) if error.kind() == ErrorKind::OutOfMemory => return report_memory(errors),
         Err(_) => return report_listening(errors),
     };
-    let Ok(gates) = gates_of(alloc, listener, options.workers, options.each) else {
+    let Ok(gates) = gates_of(*rt, alloc, listener, options, out) else {
         return report_memory(errors);
     };
-    say_listening(out, options.port);
-    match work(rt, alloc, gates, DEPTH, WallClock::new(*rt)) {
-        Ok(_) => 0,
-        Err(fault) => report_work(errors, &fault),
-    }
+    let worked = work(rt, alloc, gates, DEPTH, WallClock::new(*rt));
+    report_worked(errors, &worked)
 }

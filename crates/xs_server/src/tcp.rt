@@ -1,54 +1,103 @@
 //! Connections over TCP.
+use crate::announcement::Announcement;
+use crate::devices::device::Sink;
 use crate::halves::{Incoming, Outgoing, halves_of};
 use crate::work::gate::{Gate, GateFault};
 use std::alloc::Global;
-use std::io::ErrorKind;
+use std::io::{Error, ErrorKind};
 use std::net::{TcpListener, TcpStream};
 use std::sync::{Arc, Wait};
+use std::thread;
+use std::time::{Clock, Duration};
+
+/// Linux's numbers of the errors of `accept` that a listener gives for good: its descriptor is closed, it doesn't listen
+/// any more, and its descriptor is another file's.
+const EBADF: i32 = 9;
+
+const EINVAL: i32 = 22;
+
+const ENOTSOCK: i32 = 88;
+
+/// How long a gate waits before it calls `accept` again after a failure.
+const PAUSE_MILLIS: u64 = 100;
 
 /// So many connections of a listener, which other gates may share.
 #[derive(Drop)]
-pub struct TcpGate {
+pub struct TcpGate<S: Clock + Drop, W: Sink + Drop> {
     alloc: Global,
+    system: S,
     listener: Arc<TcpListener>,
+    announcement: Arc<Announcement<W>>,
     left: u64,
 }
 
-impl TcpGate {
-    /// A gate that takes so many connections from the listener.
-    pub fn new(alloc: Global, listener: Arc<TcpListener>, count: u64) -> TcpGate {
-        TcpGate {
+impl<S: Clock + Drop, W: Sink + Drop> TcpGate<S, W> {
+    /// A gate that takes so many connections from the listener. At its first call it makes the announcement, which other
+    /// gates may share.
+    pub fn new(
+        alloc: Global,
+        system: S,
+        listener: Arc<TcpListener>,
+        announcement: Arc<Announcement<W>>,
+        count: u64,
+    ) -> Self {
+        Self {
             alloc,
+            system,
             listener,
+            announcement,
             left: count,
         }
     }
 }
 
-/// Waits for the next connection. A call that was interrupted, and one whose connection has gone meanwhile, is made
-/// again.
-fn accept(listener: &TcpListener) -> Result<TcpStream, GateFault> {
+/// What a gate does after `accept` has failed.
+#[derive(Clone, Copy, Debug, PartialEq, Eq)]
+pub enum AfterFailure {
+    /// It calls again at once: a signal came, or the connection has gone meanwhile.
+    Retry,
+    /// It calls again after a pause: descriptors, buffers or memory have run out, or that one connection failed.
+    Pause,
+    /// It ends: the listener gives no connection any more.
+    End,
+}
+
+/// What a gate does after this error of `accept`: accept(2) of Linux lists them.
+pub fn after_failure(error: &Error) -> AfterFailure {
+    match error.raw_os_error() {
+        Some(EBADF | EINVAL | ENOTSOCK) => AfterFailure::End,
+        _ => match error.kind() {
+            ErrorKind::Interrupted | ErrorKind::ConnectionAborted => AfterFailure::Retry,
+            _ => AfterFailure::Pause,
+        },
+    }
+}
+
+/// Waits for the next connection.
+fn accept<S: Clock>(system: &S, listener: &TcpListener) -> Result<TcpStream, GateFault> {
     for _ in 0..u64::MAX {
         match listener.accept() {
             Ok((stream, _)) => return Ok(stream),
-            Err(error) => match error.kind() {
-                ErrorKind::Interrupted | ErrorKind::ConnectionAborted => {}
-                _ => return Err(GateFault::Refused),
+            Err(error) => match after_failure(&error) {
+                AfterFailure::Retry => {}
+                AfterFailure::Pause => thread::sleep(system, Duration::from_millis(PAUSE_MILLIS)),
+                AfterFailure::End => return Err(GateFault::Refused),
             },
         }
     }
     Err(GateFault::Refused)
 }
 
-impl Gate for TcpGate {
+impl<S: Clock + Drop, W: Sink + Send + Drop> Gate for TcpGate<S, W> {
     type Reader = Incoming;
 
     type Writer = Outgoing;
 
-    fn open_next<R: Wait>(&mut self, _rt: &R) -> Result<Option<(Incoming, Outgoing)>, GateFault> {
+    fn open_next<R: Wait>(&mut self, rt: &R) -> Result<Option<(Incoming, Outgoing)>, GateFault> {
+        self.announcement.make(rt);
         for _ in 0..self.left {
             self.left = self.left.saturating_sub(1);
-            let stream = accept(&self.listener)?;
+            let stream = accept(&self.system, &self.listener)?;
             // Without it replies may be late. So a fault here is no reason to refuse the connection.
             let _ = stream.set_nodelay(true);
             // A connection that there is no memory for ends here, and the next one is taken.

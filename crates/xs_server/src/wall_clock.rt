@@ -1,23 +1,26 @@
 //! The clock of the system.
-ghost use Rattle.std.specs.Prelude.{◌≡◌, ℕ};
+ghost use Rattle.std.specs.Prelude.{◌≡◌, ◌≤◌, ◌/◌, ◌<◌, ◌^◌, ℕ, IfSome, IsSome};
+ghost use Rattle.std.specs.Time.{system_time_nanos};
 
 use std::time;
 use std::time::SystemTime;
 use xs_keys::Clock;
 use xs_stream::Moment;
 
-/// The time of the system, in milliseconds since 1970. Where it can't be read the last moment is given again, at first
-/// 0.
+/// The time of the system, in milliseconds since 1970. It never goes back: if the system's time does, or can't be read,
+/// the last moment is given again, at first 0.
 #[derive(Drop)]
 pub struct WallClock<S: time::Clock + Drop> {
     system: S,
     last: Moment,
 }
 
-/// The moment now, if it can be read.
-fn read<S: time::Clock>(system: &S) -> Option<Moment> {
-    let now = SystemTime::now(system).ok()?;
-    let since = now.duration_since(SystemTime::UNIX_EPOCH).ok()?;
+/// The moment of this time, if it is one.
+fn moment_of(time: SystemTime) -> Option<Moment>
+    ensures millis { IfSome result (λ moment. moment ≡ system_time_nanos time / 1_000_000) }
+    ensures some { system_time_nanos time / 1_000_000 < 2 ^ 63 → IsSome result }
+{
+    let since = time.duration_since(SystemTime::UNIX_EPOCH).ok()?;
     Moment::new(u64::try_from(since.as_millis()).ok()?)
 }
 
@@ -29,15 +32,20 @@ impl<S: time::Clock + Drop> WallClock<S> {
             last: Moment::new(0).unwrap(),
         }
     }
+
+    /// The moment now, if it can be read.
+    fn read(&self) -> Option<Moment> {
+        moment_of(SystemTime::now(&self.system).ok()?)
+    }
 }
 
 impl<S: time::Clock + Drop> Clock for WallClock<S> {
-    /// Any moment may come. It is the one that is given again where the time can't be read.
-    ghost gives = { λ old now new. new.last ≡ now };
+    /// Any moment may come that isn't before the last one.
+    ghost gives = { λ old now new. (old.last ≤ now) × (new.last ≡ now) };
 
     fn now(&mut self) -> Moment {
-        if let Some(now) = read(&self.system) {
-            self.last = now;
+        if let Some(now) = self.read() {
+            self.last = self.last.max(now);
         }
         self.last
     }

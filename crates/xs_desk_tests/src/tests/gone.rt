@@ -1,12 +1,12 @@
 //! A keeper that is dropped while its lanes wait.
-use super::asking::MOST_TURNS;
-use super::trial::Still;
 use std::sync::Wait;
 use std::test::Fail;
 use std::thread;
 use std::time::Duration;
 use xs_command::Command;
 use xs_desk::{Client, Keeper, Lane, Port, PortFault, desk};
+use xs_desk_trial::MOST_TURNS;
+use xs_fakes::Still;
 use xs_resp::{Reply, Simple};
 
 /// Asks until it is told that the keeper is gone, and once more. It says how many calls were answered before.

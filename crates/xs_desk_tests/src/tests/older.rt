@@ -1,13 +1,13 @@
 //! A lane that finds older answers before its own.
-use super::commands::read;
 use super::gone::serve;
-use super::trial::Still;
 use std::sync::Wait;
 use std::test::Fail;
 use std::thread;
 use std::time::{Clock, Duration};
 use xs_command::Command;
 use xs_desk::{Client, Lane, Port, desk};
+use xs_desk_trial::read;
+use xs_fakes::Still;
 use xs_resp::{Reply, Simple};
 
 /// Whether so many times a PING without a message is answered as such, over a lane with this client.
@@ -19,10 +19,12 @@ pub fn are_answered<R: Wait>(rt: &R, client: Client, times: u64) -> bool {
     ))
 }
 
-/// The same for two of them, a while later: the keeper is idle by then.
+/// Whether a QUIT and a PING are answered as such a while later, when the keeper is idle.
 fn are_answered_late<R: Wait + Clock>(rt: &R, client: Client) -> bool {
     thread::sleep(rt, Duration::from_millis(10));
-    are_answered(rt, client, 2)
+    let mut lane = Lane::new(client);
+    matches!(lane.ask(rt, Command::Quit), Ok(Reply::Simple(Simple::Okay)))
+        && are_answered(rt, lane.end(), 1)
 }
 
 // Calls were submitted before: as many as there are places were answered, and the others wait in the lane. The lane

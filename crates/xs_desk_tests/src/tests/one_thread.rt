@@ -1,10 +1,10 @@
 //! One desk in one thread.
-use super::commands::{read, text_of};
-use super::trial::{Still, Trial};
 use std::alloc::Global;
 use std::process::Abort;
 use std::test::Fail;
 use xs_desk::{DeskError, Full, LaneSummary, desk, next_place};
+use xs_desk_trial::{Trial, read, text_of};
+use xs_fakes::Still;
 use xs_resp::Reply;
 
 /// The summary of a lane.

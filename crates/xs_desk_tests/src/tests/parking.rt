@@ -1,12 +1,10 @@
 //! Clients that wait for each answer over their lanes, and a keeper that is idle.
-use super::commands::read;
-use super::together::Job;
-use super::trial::Trial;
 use std::alloc::{AllocError, Global};
 use std::sync::Wait;
 use std::test::Fail;
 use xs_command::Refusal;
 use xs_desk::{Client, Lane, Port};
+use xs_desk_trial::{Job, Trial, read};
 use xs_keys::Clock;
 use xs_resp::Reply;
 use xs_stream::Moment;

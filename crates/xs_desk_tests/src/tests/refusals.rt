@@ -1,12 +1,13 @@
 //! Desks that find no memory.
 use super::gone::serve;
 use super::older::are_answered;
-use super::trial::{Still, Trial};
 use std::alloc::Global;
 use std::test::Fail;
 use std::thread;
 use xs_command::Command;
 use xs_desk::{DeskError, Full, Lane, LaneSummary, Port, PortFault, desk};
+use xs_desk_trial::Trial;
+use xs_fakes::Still;
 use xs_resp::{Reply, Simple};
 
 /// More turns that find nothing than a keeper makes until it parks.

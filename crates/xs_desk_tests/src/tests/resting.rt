@@ -1,10 +1,10 @@
 //! Lanes that have had no call while others had so many that the keeper looks at them only once their clients give
 //! notice.
-use super::commands::read;
-use super::trial::{Still, Trial};
 use std::process::Abort;
 use std::test::Fail;
 use xs_command::Command;
+use xs_desk_trial::{Trial, read};
+use xs_fakes::Still;
 
 /// More calls than others have until a lane is at rest.
 const MANY: u64 = 200;

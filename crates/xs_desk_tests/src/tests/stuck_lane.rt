@@ -1,12 +1,12 @@
 //! A lane that takes nothing, beside others in threads of their own.
-use super::asking::MOST_TURNS;
 use super::gone::serve;
 use super::older::are_answered;
-use super::trial::Still;
 use std::test::Fail;
 use std::thread;
 use xs_command::Command;
 use xs_desk::{Client, desk};
+use xs_desk_trial::MOST_TURNS;
+use xs_fakes::Still;
 
 /// How often each of the other lanes asks.
 const TIMES: u64 = 1000;

@@ -1,9 +1,9 @@
 //! A whole connection.
-ghost use Rattle.std.specs.Prelude.{◌≡◌, ◌+◌, ◌*◌, ◌<◌, ◌++◌, [], List, ℕ, IfOk, Ok, Some, None};
+ghost use Rattle.std.specs.Prelude.{◌≡◌, ◌+◌, ◌*◌, ◌<◌, ◌≤◌, ◌++◌, [], List, ℕ, IfOk, Ok, Some, None};
 ghost use Rattle.std.specs.Io.KnownBytes.{Appends, Consumes};
 ghost use Rattle.xs_resp.specs.Held.{held_length};
 ghost use Rattle.xs_server.specs.Device.{capped};
-ghost use Rattle.xs_server.specs.Serve.{Serves, HasCause};
+ghost use Rattle.xs_server.specs.Serve.{Serves, HasCause, reads_limit};
 ghost use Rattle.xs_server.specs.Connection.{Stands, Steps, StepCause, IsNew};
 
 use crate::connections::connection::{Connection, exchange, refuse, take_in};
@@ -85,6 +85,7 @@ pub fn serve<R: Source, W: Sink, P: Port, T: Wait>(
     ensures serves { (read sent : List ℕ)
         × Consumes (R.rest reader.old) (R.rest reader.new) read × Appends (W.held writer.old) (W.held writer.new) sent
         × Serves P.replies P.fails result port.old port.new read sent }
+    ensures reads { capped (R.calls reader.new) ≤ R.calls reader.old + reads_limit }
     ensures cause { HasCause result (R.rest reader.new) (R.ended reader.new) (R.broken reader.new)
         (W.broken writer.new) (P.gone port.new) (R.calls reader.old) (R.calls reader.new) }
 {

@@ -1,6 +1,4 @@
 //! Work over gates that are no sockets.
-ghost use Rattle.std.specs.Prelude.{None};
-
 use super::*;
 use crate::report::report_work;
 use crate::work::fault::WorkFault;
@@ -8,146 +6,20 @@ use crate::work::gate::{Gate, GateFault};
 use crate::work::working::work;
 use std::sync::atomic::{AtomicU64, Ordering};
 use std::sync::{Arc, Wait};
-use std::thread;
 use std::thread::Threads;
 use xs_desk::{DeskError, LaneSummary, Summary};
-use xs_keys::Clock;
+use xs_fakes::{InTwo, Still, Tally};
 use xs_stream::Moment;
 
 /// How often a reader looks whether it may give more.
-const TURNS: u64 = 1_000_000;
+const LOOKS: u64 = 1_000_000;
 
 const PONG: &[u8] = b"+PONG\r\n";
 
-/// A clock that stands still.
-#[derive(Drop)]
-struct Still {
-    moment: Moment,
-}
-
-impl Still {
-    fn new() -> Still {
-        Still {
-            moment: Moment::new(1000).unwrap(),
-        }
-    }
-}
-
-impl Clock for Still {
-    ghost gives = { λ old now new. Unit {0} };
-
-    fn now(&mut self) -> Moment {
-        self.moment
-    }
-}
-
-/// What a reader gives: some bytes, and then, once as many replies as it waits for are counted, others and its end. It
-/// fails where they aren't counted in time.
-#[derive(Drop)]
-struct Waiting {
-    first: &'static [u8],
-    others: &'static [u8],
-    wants: u64,
-    counted: Arc<AtomicU64>,
-    calls: u64,
-    broken: bool,
-    ended: bool,
-}
-
-impl Waiting {
-    fn has_come(&self) -> bool {
-        for _ in 0..TURNS {
-            if self.counted.load(Ordering::SeqCst) >= self.wants {
-                return true;
-            }
-            thread::yield_now();
-        }
-        false
-    }
-}
-
-impl Source for Waiting {
-    ghost rest = { λ s. None };
-
-    ghost calls = { λ s. s.calls };
-
-    ghost broken = { λ s. s.broken };
-
-    ghost ended = { λ s. s.ended };
-
-    fn read(&mut self, into: &mut [u8]) -> Result<usize, Failed> {
-        self.calls = self.calls.saturating_add(1);
-        if self.first.is_empty() {
-            if !self.has_come() {
-                self.broken = true;
-                return Err(Failed);
-            }
-            self.first = self.others;
-            self.others = b"";
-        }
-        let count = self.first.len().min(into.len());
-        if count == 0 && !into.is_empty() {
-            self.ended = true;
-        }
-        let (given, left) = self.first.split_at(count);
-        into[..count].copy_from_slice(given);
-        self.first = left;
-        Ok(count)
-    }
-}
-
-/// Counts whole `+PONG`. Any other byte spoils the count for good.
-#[derive(Drop)]
-struct Tally {
-    at: usize,
-    spoiled: bool,
-    counted: Arc<AtomicU64>,
-}
-
-impl Tally {
-    fn take(&mut self, byte: u8) {
-        if self.spoiled || PONG.get(self.at) != Some(&byte) {
-            self.spoiled = true;
-            return;
-        }
-        self.at = self.at.saturating_add(1);
-        if self.at == PONG.len() {
-            self.at = 0;
-            self.counted.fetch_add(1, Ordering::SeqCst);
-        }
-    }
-
-    fn take_all(&mut self, bytes: &[u8]) {
-        for byte in bytes {
-            self.take(*byte);
-        }
-    }
-}
-
-/// Takes all bytes, and counts the replies. It may fail at each of its calls.
-#[derive(Drop)]
-struct Counting {
-    tally: Tally,
-    fails: bool,
-    calls: u64,
-    broken: bool,
-}
-
-impl Sink for Counting {
-    ghost held = { λ s. None };
-
-    ghost calls = { λ s. s.calls };
-
-    ghost broken = { λ s. s.broken };
-
-    fn write(&mut self, from: &[u8]) -> Result<usize, Failed> {
-        self.calls = self.calls.saturating_add(1);
-        if self.fails {
-            self.broken = true;
-            return Err(Failed);
-        }
-        self.tally.take_all(from);
-        Ok(from.len())
+/// A clock that stands at moment 1000.
+fn still() -> Still {
+    Still {
+        moment: Moment::new(1000).unwrap(),
     }
 }
 
@@ -170,11 +42,14 @@ struct Scripted {
 }
 
 impl Gate for Scripted {
-    type Reader = Waiting;
+    type Reader = FromRead<InTwo<'static>>;
 
-    type Writer = Counting;
+    type Writer = ToWrite<Tally>;
 
-    fn open_next<R: Wait>(&mut self, _rt: &R) -> Result<Option<(Waiting, Counting)>, GateFault> {
+    fn open_next<R: Wait>(
+        &mut self,
+        _rt: &R,
+    ) -> Result<Option<(Self::Reader, Self::Writer)>, GateFault> {
         let [script, left @ ..] = self.connections else {
             return if self.refuses {
                 Err(GateFault::Refused)
@@ -189,26 +64,14 @@ impl Gate for Scripted {
         ) else {
             return Err(GateFault::Refused);
         };
-        let reader = Waiting {
+        let reader = FromRead::new(InTwo {
             first: script.first,
             others: script.others,
             wants: script.wants,
             counted: awaited,
-            calls: 0,
-            broken: false,
-            ended: false,
-        };
-        let tally = Tally {
-            at: 0,
-            spoiled: false,
-            counted,
-        };
-        let writer = Counting {
-            tally,
-            fails: script.fails,
-            calls: 0,
-            broken: false,
-        };
+            looks: LOOKS,
+        });
+        let writer = ToWrite::new(Tally::new(PONG, script.fails, counted));
         Ok(Some((reader, writer)))
     }
 }
@@ -245,7 +108,7 @@ fn work_over<R: Threads + Wait + Copy + Send + 'static>(
     one: &'static [Script],
     other: &'static [Script],
     other_refuses: bool,
-) -> Result<(Result<Summary, WorkFault>, u64, u64), Fail> {
+) -> Result<(Result<Summary, WorkFault>, u64, u64), AllocError> {
     let counted = Arc::new(alloc, AtomicU64::new(0))?;
     let counted_there = Arc::new(alloc, AtomicU64::new(0))?;
     let mut gates = Vec::new(alloc);
@@ -261,7 +124,7 @@ fn work_over<R: Threads + Wait + Copy + Send + 'static>(
         counted: Arc::try_clone(&counted_there)?,
         awaited: Arc::try_clone(&counted)?,
     })?;
-    let worked = work(rt, alloc, gates, 16, Still::new());
+    let worked = work(rt, alloc, gates, 16, still());
     Ok((
         worked,
         counted.load(Ordering::SeqCst),
@@ -294,10 +157,10 @@ fn a_gate_that_refuses_ends_alone(rt: HostRuntime) -> Result<(), Fail> {
     assert_eq!(rt; one, 1);
     let fault = worked.err().ok_or("a fault")?;
     assert_eq!(rt; fault, WorkFault::Gate);
-    let mut errors = Held::new(rt.alloc(), 0);
+    let mut errors = sips(rt.alloc())?;
     assert_eq!(rt; report_work(&mut errors, &fault), 1);
     assert_eq!(rt;
-        errors.bytes.as_slice(),
+        errors.into_inner().bytes.as_slice(),
         b"xs_server: serving failed\n".as_slice()
     );
     Ok(())
@@ -318,11 +181,29 @@ fn a_failed_connection_ends_alone(rt: HostRuntime) -> Result<(), Fail> {
     Ok(())
 }
 
+// With any one allocation refused, in whichever thread, work gives a summary or says what it lacked; then it is whole.
+#[test]
+fn a_refused_work_is_done_again(rt: HostRuntime) -> Result<(), Fail> {
+    if let Ok((Err(fault), _, _)) = work_over(&rt, rt.alloc(), &[PING], &[PING], false) {
+        assert!(rt;
+            matches!(
+                fault,
+                WorkFault::Desk(DeskError::Memory) | WorkFault::Start | WorkFault::Memory
+            )
+        );
+    }
+    let (worked, one, other) = work_over(&rt, rt.alloc(), &[PING], &[PING], false)?;
+    assert_eq!(rt; (one, other), (1, 1));
+    let summary = worked.ok().ok_or("a summary")?;
+    assert_eq!(rt; summary.lanes.as_slice(), [served(1), served(1)].as_slice());
+    Ok(())
+}
+
 #[test]
 fn without_a_gate_there_is_no_desk(rt: HostRuntime) -> Result<(), Fail> {
     let alloc = rt.alloc();
     let gates: Vec<Scripted> = Vec::new(alloc);
-    let fault = work(&rt, alloc, gates, 16, Still::new()).err();
+    let fault = work(&rt, alloc, gates, 16, still()).err();
     assert_eq!(rt; fault, Some(WorkFault::Desk(DeskError::Lanes)));
     Ok(())
 }
@@ -347,9 +228,9 @@ fn reports_each_fault_of_work(rt: HostRuntime) -> Result<(), Fail> {
         (WorkFault::Close, "xs_server: serving failed\n"),
         (WorkFault::Memory, "xs_server: out of memory\n"),
     ] {
-        let mut errors = Held::new(rt.alloc(), 0);
+        let mut errors = sips(rt.alloc())?;
         assert_eq!(rt; report_work(&mut errors, &fault), 1);
-        assert_eq!(rt; errors.bytes.as_slice(), line.as_bytes());
+        assert_eq!(rt; errors.into_inner().bytes.as_slice(), line.as_bytes());
     }
     Ok(())
 }

@@ -4,7 +4,9 @@ ghost use Rattle.std.specs.Prelude.{None};
 use super::sessions::{new_alone, whole_connections};
 use super::*;
 use crate::connections::serve_alone::serve_alone;
+use crate::devices::device::{Failed, Source};
 use crate::halves::{Incoming, halves_of};
+use crate::tcp::{AfterFailure, after_failure};
 use std::io::{self, Read, Write};
 use std::net::{Ipv4Addr, Shutdown, TcpListener, TcpStream};
 
@@ -92,4 +94,24 @@ fn serves_whole_connections_over_tcp(rt: HostRuntime) -> Result<(), Fail> {
         }
     }
     Ok(())
+}
+
+// The errors that accept(2) of Linux lists, by their numbers.
+#[test]
+fn a_gate_ends_with_its_listener_alone(rt: HostRuntime) {
+    const ENDS: [i32; 3] = [9, 22, 88];
+    const CALLS_AT_ONCE: [i32; 2] = [4, 103];
+    const PAUSES: [i32; 15] = [
+        1, 11, 12, 23, 24, 64, 71, 92, 95, 100, 101, 105, 110, 112, 113,
+    ];
+    for (codes, after) in [
+        (ENDS.as_slice(), AfterFailure::End),
+        (CALLS_AT_ONCE.as_slice(), AfterFailure::Retry),
+        (PAUSES.as_slice(), AfterFailure::Pause),
+    ] {
+        for code in codes {
+            let error = io::Error::from_raw_os_error(*code);
+            assert_eq!(rt; after_failure(&error), after, "error {code}");
+        }
+    }
 }

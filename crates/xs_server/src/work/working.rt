@@ -1,5 +1,6 @@
 //! Work over gates: a thread for each, and one for the keeper of their desk.
-ghost use Rattle.std.specs.Prelude.{◌≡◌, ◌<◌, ◌≤◌, ℕ, [], length, map, vec_capacity, IfOk, IfErr, IfSome};
+ghost use Rattle.std.specs.Prelude.{◌≡◌, ◌<◌, ◌≤◌, ℕ, true, false, [], length, map, vec_capacity};
+ghost use Rattle.std.specs.Prelude.{Err, IfOk, IfErr, IfSome};
 ghost use Rattle.xs_desk.specs.Callers.{AreEnds, HasEnd};
 ghost use Rattle.xs_desk.specs.Keeping.{KeepsRings, KeepSides};
 ghost use Rattle.xs_desk.specs.Opening.{AreNew, IsLaneCount, IsDepth};
@@ -109,6 +110,8 @@ fn conclude(alloc: Global, done: Done) -> Result<Summary, WorkFault>
     requires all { (k : ℕ) → k < length done.keeper.lanes → HasEnd done.ended.items k }
     ensures closed { IfOk result (IsClosed (length done.keeper.lanes)) }
     ensures fault { (n depth : ℕ) → IsLaneCount n × IsDepth depth → IfErr result (IsWorkFault n depth) }
+    ensures gate { done.refused ≡ true → result ≡ Err WorkFault.Gate }
+    ensures memory { done.refused ≡ false → IfErr result (λ fault. fault ≡ WorkFault.Memory) }
 {
     let Done {
         keeper,

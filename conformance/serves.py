@@ -1,0 +1,438 @@
+#!/usr/bin/env python3
+"""Runs the program as a server, as a user does, and checks over sockets what no proof covers.
+
+    serves.py PROGRAM
+
+That replies come without the client's sending more, sockets, the clock, the options, threads and their ends. After each
+case of the first list every worker of the server has to answer a PING, all at once. Replies are those of the Redis pages
+of the commands and of the RESP specification; docs/COMMANDS.md has the texts of errors. It needs Python's standard
+library alone. The last line is 'N passed, M failed'; the status is 1 if M > 0.
+"""
+import contextlib
+import os
+import resource
+import select
+import signal
+import socket
+import subprocess
+import sys
+import threading
+import time
+
+import served
+from great import array, bulk, entry, number
+from real_redis import read_reply
+from served import (PING, PONG, all_answer, asking, fill, raw, read_exactly, read_to_end, reset, say, say_at, serving,
+                    together, try_all)
+
+WORKERS = 4
+PROTOCOL = b"-ERR Protocol error\r\n"
+MEGABYTE = 1 << 20
+
+
+# ---- replies
+
+
+def replies_before_more(server):
+    """Each reply comes while the client sends nothing more and keeps its connection."""
+    with raw(server.port) as stream:
+        stream.settimeout(5)
+        for text, reply in (("PING", "+PONG\r\n"), ("XADD before 7-0 f v", bulk("7-0")), ("XLEN before", number(1)),
+                            ("PING hi", bulk("hi")), ("XRANGE before - +", array([entry("7-0", "f", "v")])),
+                            ("NONE", "-ERR unknown command\r\n"), ("DEL before", number(1))):
+            say(stream, text, reply)
+
+
+def in_order(server):
+    """Requests that are sent together are answered in their order; so are those behind half a request."""
+    asked = b"".join(asking(f"PING {place}") for place in range(2000))
+    wanted = b"".join(bulk(str(place)).encode() for place in range(2000))
+    with raw(server.port) as stream:
+        stream.settimeout(5)
+        stream.sendall(asked)
+        assert read_exactly(stream, len(wanted)) == wanted
+        stream.sendall(asked + PING[:10])
+        assert read_exactly(stream, len(wanted)) == wanted
+        stream.sendall(PING[10:])
+        assert read_exactly(stream, len(PONG)) == PONG
+
+
+def of_all_sizes(server):
+    """Replies that are smaller and greater than a buffer of 64 KiB come whole, alone and behind a small one."""
+    around = 65_536
+    sizes = [1, 2, 100, 1000, 10_000, *range(around - 20, around + 20), 70 * 1024, 2 * around - 8, 2 * around, 5_000_000]
+    with raw(server.port) as stream:
+        stream.settimeout(5)
+        for before in (b"", PING):
+            for size in sizes:
+                text = "".join(chr(97 + place % 26) for place in range(1000)) * (size // 1000 + 1)
+                stream.sendall(before + asking(f"PING {text[:size]}"))
+                wanted = (PONG if before else b"") + bulk(text[:size]).encode()
+                assert read_exactly(stream, len(wanted)) == wanted, f"{size} bytes behind {before!r}"
+
+
+def to_a_slow_reader(server):
+    """A reply that is greater than what the system holds for a connection comes whole to one who reads it slowly."""
+    reply = fill(server, "much", 50, 100_000)
+    with raw(server.port) as slow, raw(server.port) as quick:
+        slow.sendall(asking("XRANGE much - +") + PING)
+        got = bytearray()
+        while len(got) < len(reply):
+            got += slow.recv(min(100_000, len(reply) - len(got)))
+            say(quick, "PING", "+PONG\r\n")
+            time.sleep(0.002)
+        assert bytes(got) == reply
+        assert read_exactly(slow, len(PONG)) == PONG
+    say_at(server, "DEL much", number(1))
+
+
+def byte_by_byte(server):
+    """A client sends a byte at a time, and reads a byte at a time; others are answered meanwhile."""
+    reply = fill(server, "slow", 1, 40)
+    with raw(server.port) as slow, raw(server.port) as quick:
+        for byte in asking("XRANGE slow - +"):
+            slow.sendall(bytes([byte]))
+            say(quick, "PING", "+PONG\r\n")
+        got = b""
+        for _ in reply:
+            got += slow.recv(1)
+            say(quick, "PING", "+PONG\r\n")
+        assert got == reply, got
+    say_at(server, "DEL slow", number(1))
+
+
+def without_delay(server):
+    """A small reply behind another small one comes at once, though the client hasn't acknowledged the former: the
+    requests are far enough apart for two replies, since the first takes the server a while."""
+    waits = []
+    for _ in range(5):
+        with raw(server.port) as stream:
+            stream.setsockopt(socket.IPPROTO_TCP, socket.TCP_NODELAY, 1)
+            adds = b"".join(asking(f"XADD delay {place}-0 f v") for place in range(1, 20_001))
+            sender = threading.Thread(target=stream.sendall, args=(adds,))
+            sender.start()
+            read_exactly(stream, sum(len(bulk(f"{place}-0")) for place in range(1, 20_001)))
+            sender.join()
+            stream.setsockopt(socket.IPPROTO_TCP, socket.TCP_QUICKACK, 0)
+            stream.sendall(asking("DEL delay"))
+            stream.sendall(PING)
+            assert read_exactly(stream, 4) == b":1\r\n"
+            began = time.monotonic()
+            assert read_exactly(stream, len(PONG)) == PONG
+            waits.append(time.monotonic() - began)
+    assert sorted(waits)[1] < 0.01, waits
+
+
+def at_this_time(server):
+    """The milliseconds of an id made of `*` lie between the system's before and after."""
+    with raw(server.port) as stream:
+        for _ in range(20):
+            before = time.time_ns() // 1_000_000
+            stream.sendall(asking("XADD clock * f v"))
+            millis = int(read_reply(stream.makefile("rb")).split(b"\r\n")[1].split(b"-")[0])
+            assert before <= millis <= time.time_ns() // 1_000_000, (before, millis)
+            time.sleep(0.003)
+    say_at(server, "DEL clock", number(1))
+
+
+def a_queue(server):
+    """Each job goes to one of two consumers, stays pending until it is acknowledged, and is then gone."""
+    with raw(server.port) as one, raw(server.port) as other:
+        for place in (1, 2, 3):
+            say(one, f"XADD jobs {place}-0 f v", bulk(f"{place}-0"))
+        say(one, "XGROUP CREATE jobs g 0", "+OK\r\n")
+        for stream, name, place in ((one, "a", 1), (other, "b", 2), (one, "a", 3)):
+            say(stream, f"XREADGROUP GROUP g {name} COUNT 1 STREAMS jobs >",
+                array([array([bulk("jobs"), array([entry(f"{place}-0", "f", "v")])])]))
+        say(other, "XREADGROUP GROUP g b STREAMS jobs >", "*-1\r\n")
+        say(other, "XACK jobs g 1-0 2-0", number(2))
+        say(one, "XPENDING jobs g", array([number(1), bulk("3-0"), bulk("3-0"), array([array([bulk("a"), bulk("1")])])]))
+        say(one, "DEL jobs", number(1))
+
+
+# ---- connections
+
+
+def cut_everywhere(server):
+    """Requests cut at every byte, by an end and by a reset. What isn't whole isn't executed."""
+    whole = asking("XADD cut 1-1 f v")
+    for count in range(len(whole)):
+        with raw(server.port) as stream:
+            stream.sendall(whole[:count])
+            stream.shutdown(socket.SHUT_WR)
+            assert read_to_end(stream) == (b"", False), count
+        stream = raw(server.port)
+        stream.sendall(whole[:count])
+        reset(stream)
+    say_at(server, "XLEN cut", number(0))
+    say_at(server, "XADD cut 1-1 f v", bulk("1-1"))
+    say_at(server, "XLEN cut", number(1))
+    say_at(server, "DEL cut", number(1))
+
+
+def in_two_parts(server):
+    """Whole connections have the same replies wherever they are cut into two parts."""
+    pings = b"*1\r\n$4\r\nPING\r\n*0\r\n*-1\r\n*2\r\n$4\r\nping\r\n$2\r\nhi\r\n"
+    for sent, replies in ((pings, b"+PONG\r\n$2\r\nhi\r\n"), (b"*1\r\n$4\r\nPI", b""), (b"PING\r\n", PROTOCOL),
+                          (b"*1\r\n$03\r\n", PROTOCOL), (b"*1048577\r\n", PROTOCOL),
+                          (b"*1\r\n$4\r\nQUIT\r\n*1\r\n$4\r\nPING\r\n", b"+OK\r\n")):
+        for count in range(len(sent) + 1):
+            with raw(server.port) as stream:
+                stream.sendall(sent[:count])
+                time.sleep(0.001)
+                # the connection may have ended within the first part
+                with contextlib.suppress(OSError):
+                    stream.sendall(sent[count:])
+                    stream.shutdown(socket.SHUT_WR)
+                assert read_to_end(stream)[0] == replies, (sent, count)
+
+
+def endings(server):
+    """QUIT is answered and ends the connection; so does what is no request, behind its error."""
+    for sent, reply in ((asking("QUIT"), b"+OK\r\n"), (b"PING\r\n", PROTOCOL), (b"*1048577\r\n", PROTOCOL),
+                        (b"*1\r\n$536870913\r\n", PROTOCOL), (b"*1\r\n$03\r\n", PROTOCOL)):
+        with raw(server.port) as stream:
+            stream.settimeout(5)
+            stream.sendall(sent)
+            assert read_to_end(stream)[0] == reply, sent
+
+
+def vanished(server):
+    """Clients that reset their connection within a request, or with replies unread, end theirs alone: another one is
+    served meanwhile, and each worker goes on."""
+    with raw(server.port) as other:
+        for sent in (PING[:10], PING * 100, asking("PING " + "v" * MEGABYTE) * 3):
+            for _ in range(2 * server.workers):
+                gone = raw(server.port)
+                gone.sendall(sent)
+                reset(gone)
+                say(other, "PING", "+PONG\r\n")
+
+
+# ---- the process
+
+
+def listens_here_alone(server):
+    """It listens on its port of 127.0.0.1, and on nothing else."""
+    folder = f"/proc/{server.child.pid}/fd"
+    links = [os.readlink(f"{folder}/{name}") for name in os.listdir(folder)]
+    inodes = {link[8:-1] for link in links if link.startswith("socket:[")}
+    listening = []
+    for table in ("tcp", "tcp6", "udp", "udp6"):
+        with open(f"/proc/{server.child.pid}/net/{table}", encoding="ascii") as rows:
+            fields = [row.split() for row in list(rows)[1:]]
+        # 0A is the state of a socket that listens; one of UDP is open to all
+        listening += [it[1] for it in fields if it[9] in inodes and (it[3] == "0A" or table.startswith("udp"))]
+    assert listening == [f"0100007F:{server.port:04X}"], listening
+
+
+def idle(server):
+    """With connections that send nothing, and without any, it takes no processor time."""
+    for count in (0, server.workers):
+        with contextlib.ExitStack() as open_ones:
+            for _ in range(count):
+                say(open_ones.enter_context(raw(server.port)), "PING", "+PONG\r\n")
+            time.sleep(0.2)
+            before = server.processor_time()
+            time.sleep(1)
+            used = server.processor_time() - before
+            assert used <= 0.02, f"{used} s in a second with {count} connections"
+
+
+def stopped_and_continued(server):
+    """The signals that stop and continue a process interrupt its calls. Nothing is lost: what was read, what is
+    written, nor who waits."""
+    reply = fill(server, "stops", 30, 100_000)
+    with raw(server.port) as slow, raw(server.port) as quiet:
+        slow.sendall(asking("XRANGE stops - +") + PING)
+        got = bytearray(slow.recv(1000))
+        while len(got) < len(reply):
+            server.child.send_signal(signal.SIGSTOP)
+            server.child.send_signal(signal.SIGCONT)
+            got += slow.recv(min(50_000, len(reply) - len(got)))
+            time.sleep(0.001)
+        assert bytes(got) == reply
+        assert read_exactly(slow, len(PONG)) == PONG
+        for _ in range(20):
+            server.child.send_signal(signal.SIGSTOP)
+            server.child.send_signal(signal.SIGCONT)
+            time.sleep(0.005)
+        quiet.settimeout(5)
+        say(quiet, "PING", "+PONG\r\n")
+    say_at(server, "DEL stops", number(1))
+
+
+def as_many_as_workers(program):
+    """64 workers and 64 clients at once: each has its own stream, and each entry of a shared one goes to one."""
+    shared, count = 640, 64
+    with serving(program, workers=count) as server:
+        fill(server, "shared", shared, 10)
+        say_at(server, "XGROUP CREATE shared g 0", "+OK\r\n")
+        meet, taken = threading.Barrier(count, timeout=60), [[] for _ in range(count)]
+
+        def work(place):
+            with raw(server.port) as stream, stream.makefile("rb") as replies:
+                meet.wait()
+                for turn in range(1, 51):
+                    stream.sendall(asking(f"XADD own{place} {turn}-0 f v"))
+                    assert read_reply(replies) == bulk(f"{turn}-0").encode()
+                stream.sendall(asking(f"XRANGE own{place} - +"))
+                assert read_reply(replies) == array([entry(f"{turn}-0", "f", "v") for turn in range(1, 51)]).encode()
+                while True:
+                    stream.sendall(asking(f"XREADGROUP GROUP g c{place} COUNT 1 STREAMS shared >"))
+                    got = read_reply(replies)
+                    if got == b"*-1\r\n":
+                        break
+                    taken[place].append(got.split(b"\r\n")[7])
+                meet.wait()
+
+        together(count, work)
+        ids = sorted(one for some in taken for one in some)
+        assert ids == sorted(b"%d-0" % place for place in range(1, shared + 1)), len(ids)
+        all_answer(server)
+
+
+def more_than_workers(program):
+    """Of 24 clients 4 are served at once; the rest waits, and is served as soon as others end."""
+    with serving(program, workers=4) as server, contextlib.ExitStack() as open_ones:
+        waiting = [open_ones.enter_context(raw(server.port)) for _ in range(24)]
+        for stream in waiting:
+            stream.sendall(PING)
+        while waiting:
+            answered, deadline = set(), time.monotonic() + 10
+            while len(answered) < 4 and time.monotonic() < deadline:
+                answered.update(select.select(waiting, [], [], 1)[0])
+            assert len(answered) == 4, f"{len(answered)} were answered"
+            answered.update(select.select([one for one in waiting if one not in answered], [], [], 0.1)[0])
+            assert len(answered) == 4, f"{len(answered)} were answered at once"
+            for stream in answered:
+                assert read_exactly(stream, len(PONG)) == PONG
+                stream.close()
+                waiting.remove(stream)
+        all_answer(server)
+
+
+def ends(program):
+    """Each worker serves as many connections as `--each` says; then the program ends with status 0."""
+    with serving(program, workers=2, each=3) as server:
+        for place in range(6):
+            assert server.child.poll() is None, f"it ended after {place} connections"
+            say_at(server, "PING", "+PONG\r\n")
+        assert server.child.wait(timeout=10) == 0
+        assert server.child.stderr.read() == b""
+
+
+def taken(program):
+    """A port in use is told on standard error, with status 1."""
+    with serving(program) as server:
+        done = subprocess.run(served.words_of(program, server.port, 1, 1), capture_output=True, timeout=30)
+        assert (done.returncode, done.stdout, done.stderr) == (1, b"", b"xs_server: listening failed\n"), done
+        all_answer(server)
+
+
+def options(program):
+    """Numbers out of their ranges, and options that are missing or odd, end the program with status 2; it doesn't
+    listen. The greatest and the least numbers are taken."""
+    right = {"--port": str(served.free_port()), "--workers": "2", "--each": "3"}
+    wrong = [("--port", "0"), ("--port", "65536"), ("--workers", "0"), ("--workers", "65"), ("--each", "0"),
+             ("--each", "1000001"), *((name, word) for name in right for word in ("", "x", "-1", "1.5", None))]
+    lines = [{**right, name: word} for name, word in wrong] + [{**right, "--odd": "1"}]
+    for line in lines:
+        words = [word for pair in line.items() if pair[1] is not None for word in pair]
+        done = subprocess.run([program, "serve", *words], capture_output=True, timeout=30)
+        assert (done.returncode, done.stdout) == (2, b"") and done.stderr, (words, done)
+    for workers, each in ((1, 1), (64, 1_000_000)):
+        with serving(program, workers, each) as server:
+            all_answer(server)
+
+
+def stopped(program):
+    """SIGTERM while 4 clients have requests on their way: each has the beginning of the replies that it is owed, and a
+    small reply that was sent before the signal is whole."""
+    count = 4
+    with serving(program, workers=count + 1) as server, raw(server.port) as small:
+        wholes = [fill(server, f"s{place}", 10, 10_000 + place) for place in range(count)]
+        got = [b""] * count
+        meet = threading.Barrier(count + 1, timeout=60)
+
+        def work(place):
+            with raw(server.port) as stream:
+                asked = asking(f"XRANGE s{place} - +") * 1000
+                sender = threading.Thread(target=send_all_that_goes, args=(stream, asked))
+                sender.start()
+                got[place] = read_exactly(stream, len(wholes[place]))
+                meet.wait()
+                got[place] += read_to_end(stream)[0]
+                sender.join()
+
+        def end():
+            meet.wait()
+            say(small, "XLEN s0", number(10))
+            small.sendall(PING)
+            select.select([small], [], [], 5)
+            server.child.send_signal(signal.SIGTERM)
+
+        signaller = threading.Thread(target=end)
+        signaller.start()
+        together(count, work)
+        signaller.join()
+        assert server.child.wait(timeout=10) == -signal.SIGTERM
+        assert read_to_end(small)[0] == PONG
+        for place, (whole, had) in enumerate(zip(wholes, got)):
+            assert len(whole) <= len(had) < 1000 * len(whole), (place, len(had))
+            assert (whole * (len(had) // len(whole) + 1)).startswith(had), place
+
+
+def send_all_that_goes(stream, asked):
+    with contextlib.suppress(OSError):
+        stream.sendall(asked)
+
+
+def too_little_to_start(program):
+    """If there is no room for 64 threads the program says so, with status 1, and doesn't say that it listens."""
+    for room in (10, 100, 300):
+        done = subprocess.run(served.words_of(program, served.free_port(), 64, 1), capture_output=True, timeout=30,
+                              preexec_fn=served.with_limits({resource.RLIMIT_AS: room * MEGABYTE}))
+        assert (done.returncode, done.stdout) == (1, b""), done
+        assert done.stderr in (b"xs_server: serving failed\n", b"xs_server: out of memory\n"), done
+
+
+def few_descriptors(program):
+    """With fewer descriptors than workers no worker is lost, and none spins: as many connections are served as there are
+    descriptors, and with more of them all workers serve."""
+    workers, descriptors = 16, 12
+    with serving(program, workers=workers, limits={resource.RLIMIT_NOFILE: descriptors}) as server:
+        threads = server.threads()
+        assert threads >= workers + 1, threads
+        for _ in range(2):
+            with contextlib.ExitStack() as open_ones:
+                streams = [open_ones.enter_context(raw(server.port)) for _ in range(workers - 2)]
+                for stream in streams:
+                    stream.sendall(PING)
+                time.sleep(0.5)
+                answered = select.select(streams, [], [], 0)[0]
+                assert 4 <= len(answered) < descriptors, len(answered)
+                for stream in answered:
+                    assert read_exactly(stream, len(PONG)) == PONG
+            assert server.threads() == threads, (server.threads(), threads)
+        before = server.processor_time()
+        time.sleep(1)
+        assert server.processor_time() - before <= 0.1
+        resource.prlimit(server.child.pid, resource.RLIMIT_NOFILE, (100, 100))
+        time.sleep(0.5)
+        all_answer(server)
+
+
+def main(arguments):
+    if len(arguments) != 1:
+        print(__doc__)
+        return 2
+    return try_all(arguments[0], (replies_before_more, in_order, of_all_sizes, to_a_slow_reader, byte_by_byte,
+                                  without_delay, at_this_time, a_queue, cut_everywhere, in_two_parts, endings, vanished,
+                                  listens_here_alone, idle, stopped_and_continued),
+                   (as_many_as_workers, more_than_workers, ends, taken, options, stopped, too_little_to_start,
+                    few_descriptors), WORKERS)
+
+
+if __name__ == "__main__":
+    sys.exit(main(sys.argv[1:]))

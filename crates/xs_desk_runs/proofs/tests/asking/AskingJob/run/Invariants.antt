@@ -1,0 +1,5 @@
+use Rattle.xs_desk.specs.Keeping.{KeepsSide}
+use Rattle.xs_desk_runs.proofs.tests.asking.AskingJob.run.Given as goal
+
+abbrev pub invariant-loop : goal.invariant-loop
+invariant-loop g l = KeepsSide l.fn.client l.client

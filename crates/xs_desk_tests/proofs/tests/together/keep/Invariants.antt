@@ -1,5 +1,0 @@
-use Rattle.xs_desk.specs.Keeping.{KeepsRings}
-use Rattle.xs_desk_tests.proofs.tests.together.keep.Given as goal
-
-abbrev pub invariant-loop : goal.invariant-loop
-invariant-loop g l = KeepsRings l.fn.keeper l.keeper

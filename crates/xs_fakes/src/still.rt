@@ -1,0 +1,26 @@
+//! A clock that stands still.
+use xs_keys::Clock;
+use xs_stream::Moment;
+
+/// A clock that gives the same moment each time.
+#[derive(Clone, Copy)]
+pub struct Still {
+    pub moment: Moment,
+}
+
+impl Still {
+    /// A clock at so many milliseconds, or None above 9223372036854775807.
+    pub fn at(millis: u64) -> Option<Still> {
+        Some(Still {
+            moment: Moment::new(millis)?,
+        })
+    }
+}
+
+impl Clock for Still {
+    ghost gives = { λ old now new. Unit {0} };
+
+    fn now(&mut self) -> Moment {
+        self.moment
+    }
+}

@@ -1,0 +1,18 @@
+use Rattle.std.proofs.Common.{inl, inr, refl}
+use Rattle.xs_server.specs.Report.{memory_text, listening_text}
+use Rattle.xs_server.proofs.Reports.{closed-at-zero, told-of-work}
+use Rattle.xs_server.proofs.serve_command.serve_and_report.Goals as goal
+
+pub returns-in-Err-clause-told : goal.returns-in-Err-clause-told
+returns-in-Err-clause-told g c = inr (c.report_memory.ensures.status, memory_text, inl refl, c.report_memory.ensures.said)
+
+pub returns-in-Err-2-clause-told : goal.returns-in-Err-2-clause-told
+returns-in-Err-2-clause-told g c = inr (c.report_listening.ensures.status, listening_text, inr (inl refl), c.report_listening.ensures.said)
+
+pub returns-clause-served : goal.returns-clause-served
+returns-clause-served g c =
+    let count = c.in-Ok-gates_of.ensures in
+    closed-at-zero c.args.options.workers c.work-worked.result _ _ _ _ _ _ (rw (count) at c.work-worked.ensures.closed) c.report_worked.ensures
+
+pub returns-clause-told : goal.returns-clause-told
+returns-clause-told g c = told-of-work c.work-worked.result _ _ _ _ _ _ c.report_worked.ensures
