@@ -26,6 +26,8 @@ pub record Streams : Type 0 where
       at 5 (codes "XADD u 0-0 f v") (Error ZeroId) ∷
       at 5 (codes "XADD u NOMKSTREAM * f v") NullBulk ∷
       at 5 (codes "XLEN u") (Int 0) ∷
+      at 5 (codes "XADD u NOMKSTREAM MAXLEN 5 * f v") NullBulk ∷
+      at 5 (codes "XADD v 5-* f v") (id 5 0) ∷
       [])
   -- the greatest id
   pub the_greatest_id : IsPlayed (
@@ -416,4 +418,20 @@ pub record Edges : Type 0 where
       at 1 (codes "PING hello") (name (codes "hello")) ∷
       at 1 (codes "PING") (Simple Pong) ∷
       at 1 (codes "QUIT") ok ∷
+      [])
+  -- an empty message, key, field, group and consumer
+  pub empty_words : IsPlayed (
+      at 1 (codes "PING ") (name []) ∷
+      at 1 (codes "XADD  1-1  ") (id 1 1) ∷
+      at 1 (codes "XLEN ") (Int 1) ∷
+      at 1 (codes "XGROUP CREATE   0") ok ∷
+      at 1 (codes "XREADGROUP GROUP   STREAMS  >")
+      (array (stream [] (array (id 1 1 ∷ array (name [] ∷ name [] ∷ []) ∷ []) ∷ []) ∷ [])) ∷
+      at 1 (codes "XPENDING  ")
+      (array (Int 1 ∷ id 1 1 ∷ id 1 1 ∷ array (array (name [] ∷ number 1 ∷ []) ∷ []) ∷ [])) ∷
+      at 1 (codes "XPENDING   - + 1 ") (array (row (id 1 1) [] 0 1 ∷ [])) ∷
+      at 1 (codes "XPENDING   - + 1 c") (array []) ∷
+      at 1 (codes "XGROUP CREATECONSUMER   ") (Int 0) ∷
+      at 1 (codes "XGROUP DELCONSUMER   ") (Int 1) ∷
+      at 1 (codes "DEL ") (Int 1) ∷
       [])
