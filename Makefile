@@ -13,27 +13,24 @@ serve:
 	@cd crates/xs_server && rt run -- script < stdin > /dev/null
 	@$(PROGRAM) serve --port 6379 --workers 16 --each 1000000
 
-# Proves everything from nothing, and runs the tests and the program that it built: the worked cases, the great scripts,
-# connections made at random. Then it tries the edits that have to fail, over the libraries that `rt ci` built; those of
-# the folders `further` are left to `make edits`.
+# Proves everything from nothing, tries the edits of crates/NAME/must-fail, and runs the tests and the program that it
+# built: the worked cases, the great scripts, connections made at random.
 test:
 	rt ci
 	python3 conformance/run.py $(PROGRAM) script
 	python3 conformance/great.py $(PROGRAM)
 	python3 conformance/sessions.py --bytes 5000000 $(PROGRAM)
-	python3 edits/try.py
 
-# Proves what has changed, looks whether each edit has its place, and runs the worked cases: what one runs while working.
+# Proves what has changed, and runs the worked cases: what one runs while working.
 check:
 	rt all check
-	python3 edits/try.py --places
 	cd crates/xs_server && rt run -- script < stdin > /dev/null
 	python3 conformance/run.py $(PROGRAM) script
 
-# Tries all wrong bodies, those too that the gate leaves out: the prover has to refuse each.
+# Tries the wrong bodies of edits/, which the gate leaves out: the prover has to refuse each.
 edits:
 	rt all check
-	python3 edits/try.py --further
+	python3 edits/run.py
 
 # Runs the tests that say so, and the worked cases, with each allocation refused in turn. Needs cc.
 refusals:
