@@ -80,6 +80,7 @@ pub record Additions : Type 0 where
   pub maxlen_below_zero : HasFault (codes "XADD k MAXLEN -1 * f v") NotInteger
   pub maxlen_is_an_id : HasFault (codes "XADD k MAXLEN 3-1 * f v") NotInteger
   pub minid_is_none : HasFault (codes "XADD k MINID x * f v") BadId
+  pub two_signs : HasFault (codes "XADD k MAXLEN = = 5 * f v") NotInteger
   pub limit_alone : HasFault (codes "XADD k LIMIT 5 * f v") Unsupported
   pub no_id : HasFault (codes "XADD k f v g w") BadId
   pub the_zero_id : HasFault (codes "XADD k 0 f v") ZeroId
@@ -94,6 +95,7 @@ pub record Removals : Type 0 where
   pub maxlen_about : Spells (codes "xtrim k maxlen ~ 0") (command.TrimTo (codes "k") (MaxLen 0))
   pub minid : Spells (codes "XTRIM k MINID 5-1") (command.TrimTo (codes "k") (MinId (at 5 1)))
   pub no_threshold : HasFault (codes "XTRIM k MAXLEN =") Syntax
+  pub two_signs : HasFault (codes "XTRIM k MINID = ~ 5") BadId
   pub no_trim : HasFault (codes "XTRIM k 5 6") Syntax
   pub two_trims : HasFault (codes "XTRIM k MAXLEN 5 MINID 6") Syntax
   pub words_left : HasFault (codes "XTRIM k MAXLEN 5 6") Syntax

@@ -40,4 +40,5 @@ returns c = record {
   no_stream_made_before_a_trim = refl;
   no_stream_made_before_a_trim_by_id = refl;
   seven_options = refl;
+  two_signs = refl;
 }
