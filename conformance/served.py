@@ -13,6 +13,9 @@ from great import array, bulk, entry
 from real_redis import request
 
 HOST = "127.0.0.1"
+# How many seconds a connection waits for the next bytes, and after how many faults no further case is tried.
+PATIENCE = 10
+MOST_FAULTS = 3
 PING, PONG = real_redis.request([b"PING"]), b"+PONG\r\n"
 
 
@@ -83,7 +86,7 @@ def serving(program, workers=4, each=1_000_000, limits=None):
 
 
 def raw(port):
-    return socket.create_connection((HOST, port), timeout=60)
+    return socket.create_connection((HOST, port), timeout=PATIENCE)
 
 
 def asking(text):
@@ -183,9 +186,13 @@ def passes(case, given):
 
 
 def try_all(program, over_server, over_program, workers):
-    """Tries each of these cases, the former over one server; says how many passed, and gives the status."""
+    """Tries each of these cases, the former over one server, up to a few faults; says how many passed, and gives the
+    status."""
+    passed = faults = 0
     with serving(program, workers=workers) as server:
-        results = [passes(case, server) for case in over_server]
-    results += [passes(case, program) for case in over_program]
-    print(f"{sum(results)} passed, {len(results) - sum(results)} failed")
-    return 0 if all(results) else 1
+        for case, given in [*((case, server) for case in over_server), *((case, program) for case in over_program)]:
+            if faults < MOST_FAULTS:
+                good = passes(case, given)
+                passed, faults = passed + good, faults + (not good)
+    print(f"{passed} passed, {faults} failed")
+    return 1 if faults else 0

@@ -8,7 +8,8 @@
 A slip that is made alike in a definition and in the code that is proved against it passes every proof. What guards
 against it are examples whose values come from outside. In a copy of the repository this turns one thing of one
 definition of crates/CRATE/specs at a time: a number by one, `<` for `<=`, `and` for `or`, true for false, a branch for
-the other, an order, the first of a list for the whole, a result for its neighbour's, a letter of a text. Then it
+the other, an order, the first of a list for the whole, a limit before the choice, an option forgotten, a result for its
+neighbour's, a letter of a text. Then it
 checks the examples of the crate alone (`rt check --only examples`), some seconds for each turn. A turn that no example
 refuses is shown; one that isn't well typed, or that a proof within specs/ refuses, isn't counted. The last line is
 'N refused, M passed, K not read'. With --together it tries so many turns in one check, which takes a third of the time:
@@ -63,6 +64,9 @@ HOMES = {
     "Rattle.xs_resp.specs.declared.reply.Reply.TheVariants": ["NullBulk", "NullArray"],
     "Rattle.xs_stream.specs.Id": ["zero_id", "greatest_id"],
 }
+# what an option is before its words are read
+FORGOTTEN = {"make": "true", "trim": "None", "reader": "None", "limit": "None", "noack": "false", "retry": "None",
+             "just_id": "false", "min_idle": "0", "when": "time.Now"}
 BEGINS = re.compile(r"^(?:abbrev|unfoldable) pub (\S+) *:", re.M)
 STOPS = [" then ", " else ", " in ", ";", " ≡ ", " ↦ ", "\n  pub ", " ++ "]
 
@@ -170,6 +174,21 @@ def rests(body):
             yield found.end(), end, "[]"
 
 
+def limits(body):
+    """The first of all of a list, in the place of the first of those that are chosen."""
+    for found in re.finditer(r"\b(take|limited) (\w+) (?=\()", body):
+        end = closing(body, found.end() + 1) + 1
+        chosen = re.sub(r"(?<= )([\w.]+|\([^()]*\))(\)*)$", rf"({found.group(0)}\1)\2", body[found.end():end])
+        yield found.start(), end, chosen
+
+
+def forgotten(body):
+    """An option that words before it have set."""
+    for found in re.finditer(r"\b(\w+) = (\w+\.\w+)(?=[;, ])", body):
+        if found.group(1) in FORGOTTEN:
+            yield found.start(2), found.end(2), FORGOTTEN[found.group(1)]
+
+
 def lacks(head, other, result, imported):
     """Whether the result names a variable of the other case's head, which this one lacks."""
     words = r"(?<![\w.])[a-z]\w*(?![\w.]*\w\.)"
@@ -213,7 +232,7 @@ def turns(text, wanted):
             continue
         body, seen = text[start:end], []
         heads = {at for found in re.finditer(r"^\S.*? =(?=\s)", body, re.M) for at in range(*found.span())}
-        kinds = [numbers, siblings, texts, negations, orders, branches, rests,
+        kinds = [numbers, siblings, texts, negations, orders, branches, rests, limits, forgotten,
                  lambda whole: cases(whole, name, imported)]
         for one, other, new in (place for kind in kinds for place in kind(body)):
             if one in heads or body[one:other] == new:

@@ -1,6 +1,6 @@
 -- Commands of groups: lines of words and what they say, as the pages of XGROUP, XREADGROUP, XACK, XPENDING, XCLAIM and
 -- XAUTOCLAIM tell it and a real Redis 7.0 answers. Which fault is told first is this server's own.
-use Rattle.std.specs.Prelude.{ℕ, Bool, true, false, List, [], ◌∷◌, codes, Option, Some, None}
+use Rattle.std.specs.Prelude.{ℕ, Bool, true, false, List, [], ◌∷◌, map, codes, Option, Some, None}
 use Rattle.xs_stream.specs.declared.id.Id.{Id}
 use Rattle.xs_stream.specs.Id.{zero_id, greatest_id, last}
 use Rattle.xs_stream.specs.Examples.{at}
@@ -94,6 +94,9 @@ pub record Reads : Type 0 where
   pub noack_and_then_options :
       Spells (codes "XREADGROUP noack COUNT 2 block 0 GROUP h d GROUP g c STREAMS k 5")
       (reads_group (Some 2) true (each (codes "k") (After (at 5 0)) ∷ []))
+  pub seven_options :
+      Spells (codes "XREADGROUP GROUP h d BLOCK 1 COUNT 9 BLOCK 0 NOACK GROUP g c COUNT 2 STREAMS k >")
+      (reads_group (Some 2) true (each (codes "k") New ∷ []))
   pub three_streams :
       Spells (codes "XREADGROUP GROUP g c STREAMS b a c > 1-2 0")
       (reads_group None false (each (codes "b") New ∷ each (codes "a") (After (at 1 2))
@@ -156,6 +159,12 @@ pub record Claims : Type 0 where
       Spells (codes "XCLAIM k g c 7 1 JUSTID RETRYCOUNT 5 IDLE 9") (claims 7 (time.Idle 9) (Some 5) true (at 1 0 ∷ []))
   pub and_in_a_third :
       Spells (codes "XCLAIM k g c 7 1 RETRYCOUNT 5 TIME 9 JUSTID") (claims 7 (time.At 9) (Some 5) true (at 1 0 ∷ []))
+  pub seven_options :
+      Spells (codes "XCLAIM k g c 7 1 IDLE 1 TIME 2 IDLE 3 RETRYCOUNT 4 RETRYCOUNT 5 JUSTID IDLE 9")
+      (claims 7 (time.Idle 9) (Some 5) true (at 1 0 ∷ []))
+  pub seven_ids :
+      Spells (codes "XCLAIM k g c 7 1 2 3 4 5 6 7")
+      (claims 7 time.Now None false (map (λ n. at n 0) (1 ∷ 2 ∷ 3 ∷ 4 ∷ 5 ∷ 6 ∷ 7 ∷ [])))
   pub min_idle_is_none : HasFault (codes "XCLAIM k g c x y") NotInteger
   pub another_option : HasFault (codes "XCLAIM k g c 7 1 x") Syntax
   pub an_id_behind_options : HasFault (codes "XCLAIM k g c 7 1 JUSTID 2") Syntax
@@ -174,6 +183,9 @@ pub record Scans : Type 0 where
   pub at_most_one : Spells (codes "XAUTOCLAIM k g c 7 5-3 count 1") (claims_from 7 false (at 5 3) 1)
   pub at_most_two_own : Spells (codes "XAUTOCLAIM k g c 7 5-3 COUNT 1 COUNT 2") (claims_from 7 false (at 5 3) 2)
   pub just_ids : Spells (codes "XAUTOCLAIM k g c 7 5-3 justid COUNT 9") (claims_from 7 true (at 5 3) 9)
+  pub six_options :
+      Spells (codes "XAUTOCLAIM k g c 7 5-3 COUNT 9 COUNT 8 COUNT 7 COUNT 6 JUSTID COUNT 1")
+      (claims_from 7 true (at 5 3) 1)
   pub just_ids_behind : Spells (codes "XAUTOCLAIM k g c 7 5-3 COUNT 9 JUSTID") (claims_from 7 true (at 5 3) 9)
   pub count_below_zero : HasFault (codes "XAUTOCLAIM k g c 7 5-3 COUNT -1") NotInteger
   pub no_count : HasFault (codes "XAUTOCLAIM k g c 7 5-3 COUNT") Syntax

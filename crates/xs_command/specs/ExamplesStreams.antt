@@ -24,6 +24,12 @@ adds trim id =
     let fields : List Field = field (codes "f") (codes "v") ∷ [] in
     command.Add (record { key = codes "k"; make = true; trim = trim; id = id; fields = fields })
 
+-- the same, to a stream that is there
+abbrev pub adds_to_a_stream : Option Trim → Command
+adds_to_a_stream trim =
+    let fields : List Field = field (codes "f") (codes "v") ∷ [] in
+    command.Add (record { key = codes "k"; make = false; trim = trim; id = Auto; fields = fields })
+
 abbrev pub between : Id → Id → Range
 between low high = record { low = low; high = high }
 
@@ -55,15 +61,15 @@ pub record Additions : Type 0 where
         id = Exact (at 5 0);
         fields = field (codes "f") (codes "v") ∷ field (codes "g") (codes "w") ∷ field (codes "f") (codes "x") ∷ [];
       }))
-  pub no_stream_made :
-      Spells (codes "xadd k nomkstream * f v")
-      (command.Add (record {
-        key = codes "k";
-        make = false;
-        trim = None;
-        id = Auto;
-        fields = field (codes "f") (codes "v") ∷ [];
-      }))
+  pub no_stream_made : Spells (codes "xadd k nomkstream * f v") (adds_to_a_stream None)
+  pub no_stream_made_before_a_trim :
+      Spells (codes "XADD k NOMKSTREAM MAXLEN 5 * f v") (adds_to_a_stream (Some (MaxLen 5)))
+  pub no_stream_made_before_a_trim_by_id :
+      Spells (codes "XADD k NOMKSTREAM MINID 5 * f v") (adds_to_a_stream (Some (MinId (at 5 0))))
+  pub seven_options :
+      Spells
+      (codes "XADD k NOMKSTREAM NOMKSTREAM NOMKSTREAM NOMKSTREAM NOMKSTREAM NOMKSTREAM MAXLEN 5 * f v")
+      (adds_to_a_stream (Some (MaxLen 5)))
   pub maxlen : Spells (codes "XADD k MAXLEN 0 * f v") (adds (Some (MaxLen 0)) Auto)
   pub maxlen_exact : Spells (codes "XADD k MAXLEN = 5 * f v") (adds (Some (MaxLen 5)) Auto)
   pub minid : Spells (codes "XADD k minid 5 3-* f v") (adds (Some (MinId (at 5 0))) (AutoSeq 3))
@@ -74,6 +80,7 @@ pub record Additions : Type 0 where
   pub maxlen_below_zero : HasFault (codes "XADD k MAXLEN -1 * f v") NotInteger
   pub maxlen_is_an_id : HasFault (codes "XADD k MAXLEN 3-1 * f v") NotInteger
   pub minid_is_none : HasFault (codes "XADD k MINID x * f v") BadId
+  pub two_signs : HasFault (codes "XADD k MAXLEN = = 5 * f v") NotInteger
   pub limit_alone : HasFault (codes "XADD k LIMIT 5 * f v") Unsupported
   pub no_id : HasFault (codes "XADD k f v g w") BadId
   pub the_zero_id : HasFault (codes "XADD k 0 f v") ZeroId
@@ -88,6 +95,7 @@ pub record Removals : Type 0 where
   pub maxlen_about : Spells (codes "xtrim k maxlen ~ 0") (command.TrimTo (codes "k") (MaxLen 0))
   pub minid : Spells (codes "XTRIM k MINID 5-1") (command.TrimTo (codes "k") (MinId (at 5 1)))
   pub no_threshold : HasFault (codes "XTRIM k MAXLEN =") Syntax
+  pub two_signs : HasFault (codes "XTRIM k MINID = ~ 5") BadId
   pub no_trim : HasFault (codes "XTRIM k 5 6") Syntax
   pub two_trims : HasFault (codes "XTRIM k MAXLEN 5 MINID 6") Syntax
   pub words_left : HasFault (codes "XTRIM k MAXLEN 5 6") Syntax
@@ -104,6 +112,8 @@ pub record Scans : Type 0 where
   pub at_most_none_own : Spells (codes "XRANGE k - + COUNT 0") (scans zero_id greatest_id (Some 0))
   pub below_zero_own : Spells (codes "XRANGE k - + COUNT -5") (scans zero_id greatest_id (Some 0))
   pub the_last_count_own : Spells (codes "xrange k - + count 1 COUNT 2") (scans zero_id greatest_id (Some 2))
+  pub six_counts :
+      Spells (codes "XRANGE k - + COUNT 9 COUNT 8 COUNT 7 COUNT 6 COUNT 5 COUNT 1") (scans zero_id greatest_id (Some 1))
   pub ends_the_other_way : Spells (codes "XRANGE k + -") (scans greatest_id zero_id None)
   pub low_is_none : HasFault (codes "XRANGE k x +") BadId
   pub high_is_none : HasFault (codes "XRANGE k - x") BadId

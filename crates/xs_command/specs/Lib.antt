@@ -25,5 +25,6 @@ pub mod Examples
 pub mod ExamplesWords
 pub mod ExamplesStreams
 pub mod ExamplesGroups
+pub mod ExamplesEmpty
 pub mod WellFormed
 pub mod ExamplesFormed

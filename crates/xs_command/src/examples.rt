@@ -3,6 +3,7 @@ ghost use Rattle.xs_command.specs.Examples.{StreamExamples, GroupExamples};
 ghost use Rattle.xs_command.specs.ExamplesWords.{Integers, AddIds, Counts, Given};
 ghost use Rattle.xs_command.specs.ExamplesStreams.{Additions, Removals, Scans};
 ghost use Rattle.xs_command.specs.ExamplesGroups as groups;
+ghost use Rattle.xs_command.specs.ExamplesEmpty.{EmptyWords};
 ghost use Rattle.xs_command.specs.ExamplesFormed.{Formed};
 
 /// Commands of streams without groups.
@@ -73,6 +74,11 @@ pub fn claims()
 /// XAUTOCLAIM.
 pub fn auto_claims()
     ensures { groups.Scans }
+{}
+
+/// Empty words.
+pub fn empty_words()
+    ensures { EmptyWords }
 {}
 
 /// Commands that words can't give.

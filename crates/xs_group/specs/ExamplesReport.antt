@@ -7,9 +7,10 @@ use Rattle.xs_stream.specs.Id.{zero_id, greatest_id}
 use Rattle.xs_stream.specs.Examples.{at}
 use Rattle.xs_group.specs.declared.reports.OwnerCount.{OwnerCount}
 use Rattle.xs_group.specs.declared.reports.PendingRow.{PendingRow}
-use Rattle.xs_group.specs.State.{new_group}
+use Rattle.xs_group.specs.State.{State, new_group}
 use Rattle.xs_group.specs.Report.{owned_count, summary_of, pending_of}
-use Rattle.xs_group.specs.ExamplesRead.{group}
+use Rattle.xs_group.specs.Indexes.{rows_of}
+use Rattle.xs_group.specs.ExamplesRead.{group, names_in, pending}
 
 abbrev pub owner : List ℕ → ℕ → OwnerCount
 owner consumer count = record { consumer = consumer; count = count }
@@ -22,6 +23,16 @@ everything = record { low = zero_id; high = greatest_id }
 
 abbrev pub between : Id → Id → Range
 between low high = record { low = low; high = high }
+
+-- a group whose first row was claimed again after the others were delivered
+abbrev pub taken_over : State
+taken_over =
+    record {
+      cursor = at 4 0;
+      consumers = names_in (codes "a" ∷ codes "b" ∷ []);
+      rows = rows_of (pending (at 1 0) (codes "a") 140 2 ∷ pending (at 2 0) (codes "b") 110 1
+          ∷ pending (at 3 0) (codes "a") 120 1 ∷ pending (at 4 0) (codes "a") 100 1 ∷ []);
+    }
 
 -- own: the consumers in the order of their bytes
 pub record Summaries : Type 0 where
@@ -60,5 +71,9 @@ pub record Rows : Type 0 where
       pending_of everything 40 150 10 None group
       ≡ told (at 1 0) (codes "a") 50 1 ∷ told (at 2 0) (codes "b") 40 2 ∷ []
   pub idle_for_longer : pending_of everything 41 150 10 None group ≡ told (at 1 0) (codes "a") 50 1 ∷ []
+  pub first_that_is_idle :
+      pending_of everything 40 150 1 None taken_over ≡ told (at 2 0) (codes "b") 40 1 ∷ []
+  pub first_of_a_consumer_that_is_idle :
+      pending_of everything 40 150 1 (Some (codes "a")) taken_over ≡ told (at 4 0) (codes "a") 50 1 ∷ []
   pub idle_in_a_range : pending_of (between (at 2 0) (at 3 0)) 40 150 10 (Some (codes "a")) group ≡ []
   pub moment_before_its_time_own : pending_of everything 0 90 1 None group ≡ told (at 1 0) (codes "a") 0 1 ∷ []

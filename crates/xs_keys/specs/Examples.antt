@@ -26,6 +26,8 @@ pub record Streams : Type 0 where
       at 5 (codes "XADD u 0-0 f v") (Error ZeroId) ∷
       at 5 (codes "XADD u NOMKSTREAM * f v") NullBulk ∷
       at 5 (codes "XLEN u") (Int 0) ∷
+      at 5 (codes "XADD u NOMKSTREAM MAXLEN 5 * f v") NullBulk ∷
+      at 5 (codes "XADD v 5-* f v") (id 5 0) ∷
       [])
   -- the greatest id
   pub the_greatest_id : IsPlayed (
@@ -121,6 +123,8 @@ pub record Deliveries : Type 0 where
       at 10 (codes "XREADGROUP GROUP g c STREAMS s >") NullArray ∷
       at 10 (codes "XADD s * f v") (id 10 1) ∷
       at 10 (codes "XREADGROUP GROUP g c STREAMS s >") (array (stream (codes "s") (entry 10 1 ∷ []) ∷ [])) ∷
+      at 10 (codes "XADD s MINID 12 11-0 f v") (id 11 0) ∷
+      at 10 (codes "XLEN s") (Int 0) ∷
       [])
   -- a deleted entry is passed over at its turn
   pub a_deleted_entry_is_passed_over : IsPlayed (
@@ -145,6 +149,15 @@ pub record Deliveries : Type 0 where
       at 2 (codes "XREADGROUP GROUP h c STREAMS s >") (array (stream (codes "s") (entry 3 0 ∷ []) ∷ [])) ∷
       at 2 (codes "XREADGROUP GROUP k c STREAMS s >") NullArray ∷
       at 2 (codes "XREADGROUP GROUP z c STREAMS s >") (Error NoGroup) ∷
+      [])
+  -- a group may start above the top
+  pub a_group_starts_above_the_top : IsPlayed (
+      at 1 (codes "XADD s 1-0 f v") (id 1 0) ∷
+      at 1 (codes "XGROUP CREATE s g 9") ok ∷
+      at 2 (codes "XADD s 5-0 f v") (id 5 0) ∷
+      at 2 (codes "XREADGROUP GROUP g c STREAMS s >") NullArray ∷
+      at 2 (codes "XADD s 9-1 f v") (id 9 1) ∷
+      at 2 (codes "XREADGROUP GROUP g c STREAMS s >") (array (stream (codes "s") (entry 9 1 ∷ []) ∷ [])) ∷
       [])
   -- a consumer's own pending entries, one of them deleted
   pub own_pending_entries : IsPlayed (
@@ -379,6 +392,16 @@ pub record Reports : Type 0 where
       at 160 (codes "XPENDING z g") (Error NoGroup) ∷
       at 160 (codes "XGROUP CREATECONSUMER z g c") (Error NoKey) ∷
       [])
+  -- COUNT counts the rows that are idle for long enough
+  pub first_rows_that_are_idle : IsPlayed (
+      at 1 (codes "XADD s 1-0 f v") (id 1 0) ∷
+      at 1 (codes "XADD s 2-0 f v") (id 2 0) ∷
+      at 1 (codes "XGROUP CREATE s g 0") ok ∷
+      at 100 (codes "XREADGROUP GROUP g c STREAMS s >") (array (stream (codes "s") (entry 1 0 ∷ entry 2 0 ∷ []) ∷ [])) ∷
+      at 110 (codes "XCLAIM s g d 0 1-0 JUSTID") (array (id 1 0 ∷ [])) ∷
+      at 150 (codes "XPENDING s g IDLE 50 - + 1") (array (row (id 2 0) (codes "c") 50 1 ∷ [])) ∷
+      at 150 (codes "XPENDING s g IDLE 40 - + 1") (array (row (id 1 0) (codes "d") 40 1 ∷ [])) ∷
+      [])
 
 pub record Edges : Type 0 where
   -- a count stops; RETRYCOUNT goes before JUSTID; IDLE past now is now; ids in the order written
@@ -416,4 +439,20 @@ pub record Edges : Type 0 where
       at 1 (codes "PING hello") (name (codes "hello")) ∷
       at 1 (codes "PING") (Simple Pong) ∷
       at 1 (codes "QUIT") ok ∷
+      [])
+  -- an empty message, key, field, group and consumer
+  pub empty_words : IsPlayed (
+      at 1 (codes "PING ") (name []) ∷
+      at 1 (codes "XADD  1-1  ") (id 1 1) ∷
+      at 1 (codes "XLEN ") (Int 1) ∷
+      at 1 (codes "XGROUP CREATE   0") ok ∷
+      at 1 (codes "XREADGROUP GROUP   STREAMS  >")
+      (array (stream [] (array (id 1 1 ∷ array (name [] ∷ name [] ∷ []) ∷ []) ∷ []) ∷ [])) ∷
+      at 1 (codes "XPENDING  ")
+      (array (Int 1 ∷ id 1 1 ∷ id 1 1 ∷ array (array (name [] ∷ number 1 ∷ []) ∷ []) ∷ [])) ∷
+      at 1 (codes "XPENDING   - + 1 ") (array (row (id 1 1) [] 0 1 ∷ [])) ∷
+      at 1 (codes "XPENDING   - + 1 c") (array []) ∷
+      at 1 (codes "XGROUP CREATECONSUMER   ") (Int 0) ∷
+      at 1 (codes "XGROUP DELCONSUMER   ") (Int 1) ∷
+      at 1 (codes "DEL ") (Int 1) ∷
       [])

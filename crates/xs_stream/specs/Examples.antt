@@ -69,10 +69,12 @@ pub record Assigned : Type 0 where
   pub next_in_its_millisecond : assigned 1 (at 1526919030474 55) (AutoSeq 1526919030474) ≡ Ok (at 1526919030474 56)
   pub first_in_millisecond_zero : assigned 5 zero_id (AutoSeq 0) ≡ Ok (at 0 1)
   pub first_in_a_later_one : assigned 1 (at 4 7) (AutoSeq 5) ≡ Ok (at 5 0)
+  pub first_in_a_later_one_of_a_new_stream : assigned 1 zero_id (AutoSeq 5) ≡ Ok (at 5 0)
   pub none_in_an_earlier_one : assigned 9 (at 4 7) (AutoSeq 3) ≡ Err Small
   pub last_in_its_millisecond : assigned 1 (at 5 18446744073709551614) (AutoSeq 5) ≡ Ok (at 5 18446744073709551615)
   pub no_more_in_its_millisecond : assigned 1 (at 5 18446744073709551615) (AutoSeq 5) ≡ Err Small
   pub written_above : assigned 1 (at 4 7) (Exact (at 4 8)) ≡ Ok (at 4 8)
+  pub written_for_a_new_stream : assigned 9 zero_id (Exact (at 5 0)) ≡ Ok (at 5 0)
   pub written_at_the_top : assigned 1 (at 4 7) (Exact (at 4 7)) ≡ Err Small
   pub written_below : assigned 9 (at 4 7) (Exact (at 4 6)) ≡ Err Small
   pub written_in_a_later_one : assigned 1 (at 4 7) (Exact (at 5 0)) ≡ Ok (at 5 0)

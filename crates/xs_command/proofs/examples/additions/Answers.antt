@@ -37,4 +37,8 @@ returns c = record {
   no_id = refl;
   the_zero_id = refl;
   id_before_the_number_of_fields = refl;
+  no_stream_made_before_a_trim = refl;
+  no_stream_made_before_a_trim_by_id = refl;
+  seven_options = refl;
+  two_signs = refl;
 }

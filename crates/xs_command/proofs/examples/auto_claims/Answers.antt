@@ -30,4 +30,5 @@ returns c = record {
   start_is_none = refl;
   nothing_above = refl;
   another_option = refl;
+  six_options = refl;
 }

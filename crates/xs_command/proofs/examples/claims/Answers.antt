@@ -39,4 +39,6 @@ returns c = record {
   retry_below_zero = refl;
   last_id = refl;
   force_behind_others = refl;
+  seven_options = refl;
+  seven_ids = refl;
 }

@@ -38,4 +38,5 @@ returns c = record {
   no_consumer = refl;
   count_is_none = refl;
   block_is_none = refl;
+  seven_options = refl;
 }

@@ -34,4 +34,5 @@ returns c = record {
   no_id = refl;
   one_key = refl;
   three_keys = refl;
+  two_signs = refl;
 }

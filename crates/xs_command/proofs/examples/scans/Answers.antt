@@ -39,4 +39,5 @@ returns c = record {
   high_is_none_back = refl;
   low_is_none_back = refl;
   another_option_back = refl;
+  six_counts = refl;
 }

@@ -17,4 +17,6 @@ returns c = record {
   idle_for_longer = refl;
   idle_in_a_range = refl;
   moment_before_its_time_own = refl;
+  first_that_is_idle = refl;
+  first_of_a_consumer_that_is_idle = refl;
 }

@@ -33,4 +33,5 @@ returns c = record {
   own_pending_entries = refl;
   acknowledgement = refl;
   two_consumers = refl;
+  a_group_starts_above_the_top = refl;
 }

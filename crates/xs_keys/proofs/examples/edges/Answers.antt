@@ -26,4 +26,8 @@ use Rattle.xs_keys.proofs.examples.edges.Goals as goal
 
 pub returns : goal.returns
 unfolding is_word word behind_sign integer natural id low high up_to name_of only leading_ids ids xgroup subcommand_of create destroy create_consumer delete_consumer create_option group_start streams each_from is_distinct read_from xreadgroup read_option reader xack xpending form idle_rows pending_rows optional xclaim claim_option xautoclaim auto_claim_option xadd add_option add_id field pairs fields xdel xlen xtrim trim_option max_len min_id xrange xrevrange scan_option ping quit del reads empty get insert_by remove change
-returns c = record { counts_stop = refl; ends_and_starts = refl }
+returns c = record {
+  counts_stop = refl;
+  ends_and_starts = refl;
+  empty_words = refl;
+}

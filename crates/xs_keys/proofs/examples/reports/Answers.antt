@@ -29,4 +29,5 @@ unfolding is_word word behind_sign integer natural id low high up_to name_of onl
 returns c = record {
   pending_in_short = refl;
   pending_in_rows = refl;
+  first_rows_that_are_idle = refl;
 }

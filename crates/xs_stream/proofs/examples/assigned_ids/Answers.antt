@@ -25,4 +25,6 @@ returns c = record {
   none_behind_the_greatest = refl;
   no_sequence_behind_the_greatest = refl;
   written_behind_the_greatest = refl;
+  first_in_a_later_one_of_a_new_stream = refl;
+  written_for_a_new_stream = refl;
 }
