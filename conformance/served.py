@@ -14,7 +14,7 @@ from real_redis import request
 
 HOST = "127.0.0.1"
 # How many seconds a connection waits for the next bytes, and after how many faults no further case is tried.
-PATIENCE = 10
+PATIENCE = 20
 MOST_FAULTS = 3
 PING, PONG = real_redis.request([b"PING"]), b"+PONG\r\n"
 

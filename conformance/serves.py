@@ -268,7 +268,7 @@ def as_many_as_workers(program):
     with serving(program, workers=count) as server:
         fill(server, "shared", shared, 10)
         say_at(server, "XGROUP CREATE shared g 0", "+OK\r\n")
-        meet, taken = threading.Barrier(count, timeout=60), [[] for _ in range(count)]
+        meet, taken = threading.Barrier(count, timeout=20), [[] for _ in range(count)]
 
         def work(place):
             with raw(server.port) as stream, stream.makefile("rb") as replies:
@@ -353,7 +353,7 @@ def stopped(program):
     with serving(program, workers=count + 1) as server, raw(server.port) as small:
         wholes = [fill(server, f"s{place}", 10, 10_000 + place) for place in range(count)]
         got = [b""] * count
-        meet = threading.Barrier(count + 1, timeout=60)
+        meet = threading.Barrier(count + 1, timeout=20)
 
         def work(place):
             with raw(server.port) as stream:
