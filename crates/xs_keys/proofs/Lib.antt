@@ -7,6 +7,9 @@ pub mod GroupRows
 pub mod GroupSteps
 pub mod Histories
 pub mod IdLists
+pub mod JobBooks
+pub mod JobMoves
+pub mod JobPlaces
 pub mod Lawfulness
 pub mod Lives
 pub mod Maps
@@ -16,5 +19,6 @@ pub mod Touches
 pub mod Takings
 pub mod ReadSteps
 pub mod Runs
+pub mod Sights
 pub mod Streams
 pub mod Tellings

@@ -18,6 +18,12 @@ use Rattle.xs_keys.proofs.Streams.{ascends-given}
 use Rattle.xs_keys.proofs.Lives.{goes-on}
 use Rattle.xs_keys.proofs.Tellings.{is-told}
 use Rattle.xs_keys.proofs.Contents.{content-step}
+use Rattle.xs_keys.proofs.Sights.{sees-of}
+use Rattle.xs_keys.proofs.JobPlaces.{has-one-place}
+use Rattle.xs_keys.proofs.JobMoves.{goes-along}
+use Rattle.xs_keys.proofs.JobBooks.{balances}
+use Rattle.xs_keys.specs.Life.{Change, key_life}
+use Rattle.xs_keys.specs.Job.{HasItsPlaces}
 
 -- from this past on, the answers so far are good, whatever good answers to the rest of the events follow
 abbrev pub SoFar : List (ℕ × Command) → List (ℕ × Command) → List Reply → List (ℕ × Command) → List (ℕ × Command) → Type 0
@@ -85,6 +91,12 @@ has-one-owner life = record {
   by_claims = changes-by-claims life.start life.events;
 }
 
+pub has-its-places : (past : List (ℕ × Command)) (key group : List ℕ) (changes : List Change) (life : GroupLife) → key_life past key ≡ Some changes → group_life past key group ≡ Some life → HasItsPlaces changes life
+has-its-places past key group changes life k g =
+    let asc = present-in-life past key group life g in
+    let sees = sees-of past key group changes life k g in
+    record { one_place = λ x given. has-one-place life changes asc sees x; balances = balances life changes asc sees }
+
 pub headline : (past events : List (ℕ × Command)) (replies : List Reply) (history : List (ℕ × Command)) → Answers past events replies history → Headline past events replies history
 headline past events replies history answers = record {
   replies = answers;
@@ -93,6 +105,8 @@ headline past events replies history answers = record {
   apart = λ later e earlier f formed key group. goes-on earlier e.0 e.1 key group formed;
   deliveries = λ later earlier e key group life f. delivers-new earlier key group life f;
   owners = λ later earlier e key group life f. has-one-owner life;
+  places = λ later earlier e key group changes life k g. has-its-places earlier key group changes life k g;
+  moves = λ later e earlier f formed key group x. goes-along earlier e.0 e.1 key group x formed;
 }
 
 pub runs-all : (old : Content) (events : List (ℕ × Command)) (replies : List Reply) (new : Content) → RunsSoFar old events replies new [] → RunsOn old events replies new

@@ -16,6 +16,7 @@ use Rattle.xs_keys.specs.GroupEvent.{GroupEvent, read_new, consumer_of, delivere
 use Rattle.xs_keys.specs.GroupEvent.{delivers_pending, takes, settles, owner, rows}
 use Rattle.xs_keys.specs.GroupLife.{GroupLife, group_life, delivered_by, GoesOn}
 use Rattle.xs_keys.specs.Told.{IsTold}
+use Rattle.xs_keys.specs.Job.{EachHasAPlace, EachGoesAlong}
 
 -- one of the events is their turn, and the id is delivered exactly where it is in the stream then
 pub record HadItsTurn (start : Id) (events : List GroupEvent) (x : Id) : Type 0 where
@@ -154,7 +155,8 @@ StepsLawfully history =
 
 -- every reply is the model's, and tells what was delivered; each group's new deliveries are, in id order and each once,
 -- the entries past its start that were in the stream when their turn came, as many as were asked for; and each entry
--- delivered without NOACK is pending with exactly one consumer until it is settled, and is claimed only when idle
+-- delivered without NOACK is pending with exactly one consumer until it is settled, and is claimed only when idle; and
+-- each entry has one place in each group at each time, and goes from one to another along the arrows alone
 pub record Headline
     (past events : List (ℕ × Command)) (answers : List Reply) (history : List (ℕ × Command)) : Type 0 where
   pub replies : Answers past events answers history
@@ -163,6 +165,8 @@ pub record Headline
   pub apart : LivesAreApart history
   pub deliveries : OfEachGroup history DeliversNew
   pub owners : OfEachGroup history HasOneOwner
+  pub places : EachHasAPlace history
+  pub moves : EachGoesAlong history
 
 -- over any history that left the old content, the headline holds, and the new content is lawful and that of
 -- the history with the events that were applied

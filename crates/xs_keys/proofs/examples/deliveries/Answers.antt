@@ -32,5 +32,6 @@ returns c = record {
   where_a_group_starts = refl;
   own_pending_entries = refl;
   acknowledgement = refl;
+  a_deleted_entry_is_acknowledged = refl;
   two_consumers = refl;
 }
