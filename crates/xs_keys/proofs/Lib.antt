@@ -18,6 +18,7 @@ pub mod Owners
 pub mod Touches
 pub mod Takings
 pub mod ReadSteps
+pub mod Refusals
 pub mod Runs
 pub mod Sights
 pub mod Streams

@@ -14,6 +14,7 @@ ghost use Rattle.xs_keys.specs.GroupEvent.{delivered, cursor, holding, owner};
 ghost use Rattle.xs_keys.specs.GroupLife.{GroupLife, group_life, group_of, present_in, asks_new, delivered_by, GoesOn};
 ghost use Rattle.xs_keys.specs.Content.{Content, IsContent, after, IsLawfulContent};
 ghost use Rattle.xs_keys.specs.Reply.{reply};
+ghost use Rattle.xs_keys.specs.Step.{IsUnchangedIfRefused};
 ghost use Rattle.xs_keys.specs.Told.{IsTold};
 ghost use Rattle.xs_keys.specs.Taken.{ClaimsWhatIsIdle};
 ghost use Rattle.xs_keys.specs.Touched.{IsLastTouched};
@@ -32,6 +33,12 @@ pub fn step_law()
         IsContent one past → IsContent other past → one ≡ other }
     ensures lawful { (past : List (ℕ × Command)) (content : Content) →
         IsContent content past → IsLawfulContent content }
+{}
+
+/// What is refused changes nothing: where the reply to a command is an error, the content stays as it was.
+pub fn what_is_refused_changes_nothing()
+    ensures { (content : Content) (now : ℕ) (command : Command) → IsWellFormed command →
+        IsUnchangedIfRefused content now command }
 {}
 
 /// The ids given in the life of a key ascend.
