@@ -1,12 +1,23 @@
 -- What a change of the stream and what a command makes of the place of an entry.
-use Rattle.std.proofs.Common.{◌≡◌, ◌⊎◌, inl, inr, ℕ, Bool, true, false, cond, not, ◌&&◌, ◌||◌, List, [], ◌∷◌, ◌++◌, filter, Option, Some, None, is_some, bytes_eq, sym, ap, subst, ◌∙◌, refl}
+use Rattle.std.proofs.Common.{◌≡◌, ◌⊎◌, inl, inr, ℕ, ◌+◌, ◌≤◌, Bool, true, false, cond, not, ◌&&◌, ◌||◌, List, [], ◌∷◌, ◌++◌, filter, Option, Some, None, is_some, Result, Ok, Err, is_ok, length, bytes_eq, sym, ap, subst, ◌∙◌, refl, arith, length-append}
+use Rattle.std.specs.Prelude.{nat_le}
+use Rattle.std.proofs.lemmas.List.{append-nil}
+use Rattle.std.proofs.lemmas.List.Elements.{filter-append}
+use Rattle.std.proofs.lemmas.Bool.Decides.{nat_tests}
+use Rattle.xs_stream.specs.declared.add.AddError.{AddError}
+use Rattle.xs_stream.specs.declared.add.AddId.{AddId}
+use Rattle.xs_stream.specs.declared.field.Field.{Field}
+use Rattle.xs_stream.specs.declared.trim.Trim.TheVariants.{MaxLen, MinId}
+use Rattle.xs_command.specs.declared.command.AddCommand.{AddCommand}
+use Rattle.xs_command.specs.declared.command.GroupStart.{GroupStart}
+use Rattle.xs_command.specs.declared.command.GroupStart.TheVariants.{Top, At}
 use Rattle.std.proofs.lemmas.Bool.{false≢true}
 use Rattle.std.specs.List.{list_all, list_any, IsDistinct}
 use Rattle.std.specs.Option.{option_map, option_map_or}
 use Rattle.xs_stream.specs.declared.id.Id.{Id}
 use Rattle.xs_stream.specs.declared.trim.Trim.{Trim}
-use Rattle.xs_stream.specs.Id.{is_below, is_same, has_id}
-use Rattle.xs_stream.specs.Kept.{ids_of, is_trimmed}
+use Rattle.xs_stream.specs.Id.{is_below, is_same, has_id, assigned}
+use Rattle.xs_stream.specs.Kept.{ids_of, is_trimmed, count_above}
 use Rattle.xs_group.specs.State.{Row, is_name}
 use Rattle.xs_group.specs.Claims.{Rule, row_at, is_idle, is_removed, is_taken, claim_among, firsts, from_start, is_hit, scanned}
 use Rattle.xs_command.specs.WellFormed.{IsWellFormed, keys_of}
@@ -19,15 +30,16 @@ use Rattle.xs_command.specs.declared.command.ReadFrom.{ReadFrom}
 use Rattle.xs_command.specs.declared.command.ReadFrom.TheVariants.{New, After}
 use Rattle.xs_command.specs.declared.command.ClaimCommand.{ClaimCommand}
 use Rattle.xs_command.specs.declared.command.AutoClaimCommand.{AutoClaimCommand}
-use Rattle.xs_keys.specs.Life.{Change, added, deleted, trimmed_to, is_listed, opened, key_lived, key_life, gives, given_in, top, drops, stands, live}
+use Rattle.xs_keys.specs.Life.{Change, added, deleted, trimmed_to, is_listed, opened, key_lived, key_life, entry_of, gives, given_in, top, drops, stands, live}
 use Rattle.xs_keys.specs.GroupEvent.{Ask, GroupEvent, join, leave, ack, claim, auto_claim, asked_new, asked_claim, consumer_of, keeps_pending, acks, drops_consumer, delivered, cursor, last_assigned, owner, holding, rows}
-use Rattle.xs_keys.specs.GroupLife.{GroupLife, present_in, life_opened, life_asked, read_ask, life_read, group_lived, reads_of, group_of, group_life, is_new, asks_new}
-use Rattle.xs_keys.specs.Job.{Place, before_start, waiting, dropped, handed_out, pending, settled, place_of, deletes_entry, trims_stream, reads_new, with_noack, claims_by_id, claims_entry, asker, acknowledges_entry, removes_consumer, begins_job, ends_group, HasArrow, HasToMove, IsFirstPlace, GoesAlong, place_in, place_after, is_final, GoesOnFor}
+use Rattle.xs_keys.specs.GroupLife.{GroupLife, present_in, starting_id, life_opened, life_asked, read_ask, life_read, group_lived, reads_of, group_of, group_life, is_new, asks_new}
+use Rattle.xs_keys.specs.Job.{Place, before_start, waiting, dropped, handed_out, pending, settled, place_of, deletes_entry, is_trimmed_below_one, trims_entry, reads_new, with_noack, claims_by_id, claims_entry, asker, acknowledges_entry, removes_consumer, begins_job, ends_group, found_at, HasArrow, HasToMove, IsFirstPlace, GoesAlong, place_in, place_after, is_final, GoesOnFor}
 use Rattle.xs_keys.proofs.IdLists.{has_id-append, has_id-where}
 use Rattle.xs_keys.proofs.Streams.{gives-not_new}
 use Rattle.xs_stream.proofs.InOrder.{ids_of-append}
 use Rattle.xs_keys.proofs.Lives.{others-absent, not-read}
 use Rattle.xs_keys.proofs.Owners.{owner-row, row-found, of_row}
+use Rattle.xs_keys.proofs.Takings.{firsts-keeps}
 use Rattle.xs_keys.proofs.Sights.{SeesItsKey, sees-life, first_of, second_of, both_of, or_first, or_second, given-more, given-up_to, live-before, has_id-live, delivered-given}
 use Rattle.xs_keys.proofs.JobPlaces.{place_by, life_of, Went, stayed, was_handed_out, was_delivered, was_taken, was_settled, went, settled-now, pending-owner, waiting-asked, owner-last}
 
@@ -36,7 +48,7 @@ use Rattle.xs_keys.proofs.JobPlaces.{place_by, life_of, Went, stayed, was_handed
 -- what a change makes of the place of an entry that was given
 data Altered (change : Change) (past : List Change) (x : Id) (here there : Place) : Type 0 where
   kept : there ≡ here → Altered change past x here there
-  fell : (present : List Id) → drops change (top past) present x ≡ true → here ≡ waiting → there ≡ dropped → Altered change past x here there
+  fell : drops change (top past) (ids_of (filter (λ e. stands past e.0) (given_in past) ++ gives change (top past))) x ≡ true → here ≡ waiting → there ≡ dropped → Altered change past x here there
 
 module _ (start : Id) (events : List GroupEvent) (change : Change) (past : List Change) (x : Id) (given : has_id (ids_of (given_in past)) x ≡ true) where
   -- what isn't live any more was dropped
@@ -67,16 +79,7 @@ module _ (start : Id) (events : List GroupEvent) (change : Change) (past : List 
     by true v false w false e d f = kept ((λ i. at (e i) (has_id (delivered start events) x) (has_id (ids_of (live (change ∷ past))) x)) ∙ sym (λ i. at (e i) (has_id (delivered start events) x) (has_id (ids_of (live past)) x)))
     by true v false w true e true f = kept ((λ i. at (e i) (f i) (has_id (ids_of (live (change ∷ past))) x)) ∙ sym (λ i. at (e i) (f i) (has_id (ids_of (live past)) x)))
     by true v false w true e false f =
-        fell (ids_of (filter (λ e. stands past e.0) (given_in past) ++ gives change (top past))) (was-dropped v w) (λ i. at (e i) (f i) (v i)) (λ i. at (e i) (f i) (w i))
-
--- where an entry stands that wasn't delivered yet
-first-place : (life : GroupLife) (present : List Id) (x : Id) → has_id (delivered life.start life.events) x ≡ false → IsFirstPlace (place_of life present x)
-first-place life present x d = by (is_below life.start x) (has_id (delivered life.start life.events) x) d (has_id present x) where
-  by : (a d : Bool) → d ≡ false → (t : Bool) → IsFirstPlace (place_by a d t (last_assigned life.start life.events x) (owner life.start life.events x))
-  by false d e t = tt
-  by true true e t = absurd (false≢true (sym e))
-  by true false e true = tt
-  by true false e false = tt
+        fell (was-dropped v w) (λ i. at (e i) (f i) (v i)) (λ i. at (e i) (f i) (w i))
 
 none-life : (stream : Option (List Change)) (x : Id) → place_in stream None x ≡ None
 none-life None x = refl
@@ -127,10 +130,11 @@ module _ (command : Command) (key group : List ℕ) (x : Id) where
 
   -- what a change does the command is told to do
   record Changes (change : Change) (past : List Change) : Type 0 where
-    may : (ids : List Id) → drops change (top past) ids x ≡ true → (deletes_entry command key x || trims_stream command key) ≡ true
+    may : drops change (top past) (ids_of (filter (λ e. stands past e.0) (given_in past) ++ gives change (top past))) x ≡ true → (deletes_entry command key x || trims_entry command key (ids_of (live past)) x) ≡ true
     must : deletes_entry command key x ≡ true → (ids : List Id) → drops change (top past) ids x ≡ true
     settles_none : (ids : List Id) (name : List ℕ) → (acknowledges_entry command key group x || (removes_consumer command key group name || (claims_by_id command key group x && not (has_id ids x)))) ≡ false
-    comes : has_id (ids_of (gives change (top past))) x ≡ true → begins_job command key group ≡ true
+    comes : has_id (ids_of (gives change (top past))) x ≡ true
+        → (begins_job command key group ≡ true) × ((life : GroupLife) (ids : List Id) → has_id (delivered life.start life.events) x ≡ false → IsFirstPlace command ids x (place_of life (ids_of (live (change ∷ past))) x))
 
   -- one change more
   goes-changed : (change : Change) (past : List Change) (life : Option GroupLife) → SeesItsKey (Some past) life → Changes change past
@@ -141,7 +145,7 @@ module _ (command : Command) (key group : List ℕ) (x : Id) where
         → GoesAlong command key group (ids_of (live past)) x (cond g (Some (place_of life (ids_of (live past)) x)) None) (cond h (Some (place_of life (ids_of (live (change ∷ past))) x)) None)
     by true g false h = absurd (false≢true (sym h ∙ given-more change past x g))
     by false g false h = tt
-    by false g true h = (does.comes (new-now change past x g h), first-place life (ids_of (live (change ∷ past))) x (not_yet (has_id (delivered life.start life.events) x) refl)) where
+    by false g true h = let c = does.comes (new-now change past x g h) in (c.0, c.1 life (ids_of (live past)) (not_yet (has_id (delivered life.start life.events) x) refl)) where
       not_yet : (d : Bool) → has_id (delivered life.start life.events) x ≡ d → d ≡ false
       not_yet false e = refl
       not_yet true e = absurd (false≢true (sym g ∙ delivered-given life.start past life.events x sees e))
@@ -150,8 +154,8 @@ module _ (command : Command) (key group : List ℕ) (x : Id) where
           → (place_of life (ids_of (live (change ∷ past))) x ≡ place_of life (ids_of (live past)) x)
           ⊎ HasArrow command key group (ids_of (live past)) x (place_of life (ids_of (live past)) x) (place_of life (ids_of (live (change ∷ past))) x)
       how (kept e) = inl e
-      how (fell ids d e f) =
-          inr (along (ids_of (live past)) (place_of life (ids_of (live past)) x) (place_of life (ids_of (live (change ∷ past))) x) waiting dropped e f (does.may ids d))
+      how (fell d e f) =
+          inr (along (ids_of (live past)) (place_of life (ids_of (live past)) x) (place_of life (ids_of (live (change ∷ past))) x) waiting dropped e f (does.may d))
 
       owes : (here : Place) → place_of life (ids_of (live past)) x ≡ here → HasToMove command key group (ids_of (live past)) x here (place_of life (ids_of (live (change ∷ past))) x)
       owes before_start e = tt
@@ -185,6 +189,10 @@ has-row start events x name o = ap is_some (row-found start events x) ∙ by (ho
   by None e = ap is_some e
   by (Some row) e = refl
 
+once-assigned : (a b : Bool) → (a || b) ≡ ((a && true) || b)
+once-assigned true b = refl
+once-assigned false b = refl
+
 goes-asked : (command : Command) (key group : List ℕ) (x : Id) (now : ℕ) (ask : Ask) (stream : Option (List Change)) (life : Option GroupLife) → Causes command key group (present_in stream) x now ask
     → GoesAlong command key group (present_in stream) x (place_in stream life x) (place_in stream (life_asked now (present_in stream) ask life) x)
 goes-asked command key group x now ask None life causes = tt
@@ -206,7 +214,8 @@ goes-asked command key group x now ask (Some changes) (Some life) causes = by (h
   how (was_settled s name l e f) =
       inr (along command key group x (ids_of (live changes)) _ _ (pending name) settled e f
       (causes.settles (rows life.start life.events) name
-      (ap (λ last. acks ask x || (option_map_or (drops_consumer ask) last false || has_id (asked_claim ask now (ids_of (live changes)) (rows life.start life.events)).removed x)) (sym l) ∙ s)))
+      (once-assigned (acks ask x) (drops_consumer ask name || has_id (asked_claim ask now (ids_of (live changes)) (rows life.start life.events)).removed x)
+      ∙ ap (λ last. (acks ask x && is_some last) || (option_map_or (drops_consumer ask) last false || has_id (asked_claim ask now (ids_of (live changes)) (rows life.start life.events)).removed x)) (sym l) ∙ s)))
 
   owes : (here : Place) → place_of life (ids_of (live changes)) x ≡ here
       → HasToMove command key group (ids_of (live changes)) x here (place_of (life_of life.start (record { now = now; present = ids_of (live changes); ask = ask } ∷ life.events)) (ids_of (live changes)) x)
@@ -218,7 +227,8 @@ goes-asked command key group x now ask (Some changes) (Some life) causes = by (h
       let o = pending-owner (is_below life.start x) (has_id (delivered life.start life.events) x) (has_id (ids_of (live changes)) x) (last_assigned life.start life.events x) (owner life.start life.events x) name e in
       let l = owner-last life.start life.events x name o in
       settled-now life.start life.events (record { now = now; present = ids_of (live changes); ask = ask }) x (ids_of (live changes)) refl name o
-      (ap (λ last. acks ask x || (option_map_or (drops_consumer ask) last false || has_id (asked_claim ask now (ids_of (live changes)) (rows life.start life.events)).removed x)) l
+      (ap (λ last. (acks ask x && is_some last) || (option_map_or (drops_consumer ask) last false || has_id (asked_claim ask now (ids_of (live changes)) (rows life.start life.events)).removed x)) l
+      ∙ sym (once-assigned (acks ask x) (drops_consumer ask name || has_id (asked_claim ask now (ids_of (live changes)) (rows life.start life.events)).removed x))
       ∙ causes.must (rows life.start life.events) (has-row life.start life.events x name o) name s)
   owes settled e = tt
 
@@ -277,13 +287,6 @@ firsts-has (y ∷ ys) x e = by (is_same x y) e (λ f. firsts-has ys x (second_of
   by : (t : Bool) → (t || has_id (filter (λ z. not (is_same z y)) (firsts ys)) x) ≡ true → (has_id (filter (λ z. not (is_same z y)) (firsts ys)) x ≡ true → has_id ys x ≡ true) → (t || has_id ys x) ≡ true
   by true e f = refl
   by false e f = f e
-
-firsts-keeps : (ids : List Id) (x : Id) → has_id ids x ≡ true → has_id (firsts ids) x ≡ true
-firsts-keeps [] x e = e
-firsts-keeps (y ∷ ys) x e = by (is_same x y) refl e (firsts-keeps ys x) where
-  by : (t : Bool) → is_same x y ≡ t → (t || has_id ys x) ≡ true → (has_id ys x ≡ true → has_id (firsts ys) x ≡ true) → (t || has_id (filter (λ z. not (is_same z y)) (firsts ys)) x) ≡ true
-  by true f e rest = refl
-  by false f e rest = has_id-where (λ z. not (is_same z y)) (firsts ys) x ∙ both_of (not (is_same x y)) (has_id (firsts ys) x) (ap not f) (rest e)
 
 among-taken : (es : List (Id × Row)) (present : List Id) (now : ℕ) (rule : Rule) (ids : List Id) (x : Id) → has_id (claim_among es present now rule ids).take x ≡ true → (has_id ids x ≡ true) × (has_id present x ≡ true)
 among-taken es present now rule ids x e =
@@ -393,30 +396,74 @@ adds command key group x change make (Some past) life t sees does idle = changes
 adds command key group x change make None None t sees does idle = unborn command key group x [] None (cond t (option_map (λ changes. change ∷ changes) (opened make None)) None)
 adds command key group x change make None (Some life) t sees does idle = absurd sees
 
-trimmed-by : (ok : Bool) (trim : Option Trim) (ids : List Id) (x : Id) → (ok && option_map_or (λ t. is_trimmed t ids x) trim false) ≡ true → is_some trim ≡ true
-trimmed-by ok None ids x e = absurd (false≢true (second_of ok false e))
-trimmed-by ok (Some trim) ids x e = refl
+-- what a trim drops behind an addition
+trimmed-below : (given : Result Id AddError) (fields : List Field) (trim : Option Trim) (es : List (Id × List Field)) (x : Id)
+    → (is_ok given && option_map_or (λ t. is_trimmed t (ids_of (es ++ entry_of given fields)) x) trim false) ≡ true → option_map_or (λ t. is_trimmed_below_one t (ids_of es) x) trim false ≡ true
+trimmed-below (Err refusal) fields trim es x e = absurd (false≢true e)
+trimmed-below (Ok id) fields None es x e = absurd (false≢true e)
+trimmed-below (Ok id) fields (Some (MinId low)) es x e = e
+trimmed-below (Ok id) fields (Some (MaxLen n)) es x e =
+    fewer (count_above x (ids_of es)) (length (cond (is_below x id) (id ∷ []) [])) (at_most (is_below x id))
+    (ap (nat_le n) (sym (ap (count_above x) (ids_of-append es ((id, fields) ∷ [])) ∙ ap length (filter-append (λ y. is_below x y) (ids_of es) (id ∷ [])) ∙ length-append (filter (λ y. is_below x y) (ids_of es)) (cond (is_below x id) (id ∷ []) []))) ∙ e)
+  where
+    at_most : (t : Bool) → length (cond t (id ∷ []) []) ≤ 1
+    at_most true = omega arith
+    at_most false = omega arith
 
--- a group that begins has nothing delivered yet
-abbrev IsNew : Option GroupLife → Id → Type 0
-IsNew None x = Unit {0}
-IsNew (Some life) x = has_id (delivered life.start life.events) x ≡ false
+    fewer : (a b : ℕ) → b ≤ 1 → nat_le n (a + b) ≡ true → nat_le n (a + 1) ≡ true
+    fewer a b few h = grind (arith, nat_tests, few, h)
 
-opens : (command : Command) (key group : List ℕ) (x : Id) (ids : List Id) (stream other : Option (List Change)) (life : Option GroupLife) → begins_job command key group ≡ true → IsNew life x
-    → GoesAlong command key group ids x (place_in other None x) (place_in stream life x)
-opens command key group x ids stream other life is new = subst (λ p. GoesAlong command key group ids x p (place_in stream life x)) (sym (none-life other x)) (by stream life new) where
-  by : (stream : Option (List Change)) (life : Option GroupLife) → IsNew life x → GoesAlong command key group ids x None (place_in stream life x)
-  by None life new = tt
-  by (Some changes) None new = tt
-  by (Some changes) (Some l) new = given (has_id (ids_of (given_in changes)) x) where
-    given : (g : Bool) → GoesAlong command key group ids x None (cond g (Some (place_of l (ids_of (live changes)) x)) None)
-    given true = (is, first-place l (ids_of (live changes)) x new)
-    given false = tt
+and_no : (b : Bool) → (b && false) ≡ false
+and_no true = refl
+and_no false = refl
 
-opened-new : (make : Bool) (create : GroupCreateCommand) → create.make ≡ make → (stream : Option (List Change)) (x : Id) → IsNew (life_opened create stream) x
-opened-new make create m (Some changes) x = refl
-opened-new true create m None x = rw m refl
-opened-new false create m None x = rw m tt
+-- what is added stands in the stream, unless the addition trims
+trim-needed : (now : ℕ) (id : AddId) (fields : List Field) (trim : Option Trim) (past : List Change) (x : Id) → has_id (ids_of (gives (added now id fields trim) (top past))) x ≡ true
+    → has_id (ids_of (live (added now id fields trim ∷ past))) x ≡ false → is_some trim ≡ true
+trim-needed now id fields (Some trim) past x new gone = refl
+trim-needed now id fields None past x new gone =
+    let given = ap (λ ids. has_id ids x) (ids_of-append (given_in past) (gives (added now id fields None) (top past)))
+    ∙ has_id-append (ids_of (given_in past)) (ids_of (gives (added now id fields None) (top past))) x ∙ or_second _ _ new in
+    absurd (false≢true (sym gone ∙ has_id-live (added now id fields None ∷ past) x
+    ∙ (λ i. cond (and_no (is_ok (assigned now (top past) id)) i) false (cond (new i) true (stands past x)) && given i)))
+
+added-first : (now : ℕ) (add : AddCommand) (past : List Change) (x : Id) → has_id (ids_of (gives (added now add.id add.fields add.trim) (top past))) x ≡ true
+    → (life : GroupLife) (ids : List Id) → has_id (delivered life.start life.events) x ≡ false → IsFirstPlace (Add add) ids x (place_of life (ids_of (live (added now add.id add.fields add.trim ∷ past))) x)
+added-first now add past x new life ids d =
+    by (is_below life.start x) (has_id (delivered life.start life.events) x) d (has_id (ids_of (live (added now add.id add.fields add.trim ∷ past))) x) refl
+  where
+    by : (a d : Bool) → d ≡ false → (t : Bool) → has_id (ids_of (live (added now add.id add.fields add.trim ∷ past))) x ≡ t
+        → IsFirstPlace (Add add) ids x (place_by a d t (last_assigned life.start life.events x) (owner life.start life.events x))
+    by false d e t f = tt
+    by true true e t f = absurd (false≢true (sym e))
+    by true false e true f = tt
+    by true false e false f = trim-needed now add.id add.fields add.trim past x new f
+
+-- where a new group finds what was given
+new-group : (start : GroupStart) (changes : List Change) (x : Id) → has_id (ids_of (given_in changes)) x ≡ true
+    → place_of (life_of (starting_id start (top changes)) []) (ids_of (live changes)) x ≡ found_at start (ids_of (live changes)) x
+new-group (At id) changes x given = refl
+new-group Top changes x given = ap (λ b. place_by b false (has_id (ids_of (live changes)) x) None None) (given-up_to changes x given)
+
+opens : (create : GroupCreateCommand) (key group : List ℕ) (x : Id) → begins_job (GroupCreate create) key group ≡ true → (stream : Option (List Change))
+    → GoesAlong (GroupCreate create) key group (present_in stream) x (place_in stream None x) (place_in (opened create.make stream) (life_opened create stream) x)
+opens create key group x is stream =
+    subst (λ p. GoesAlong (GroupCreate create) key group (present_in stream) x p (place_in (opened create.make stream) (life_opened create stream) x)) (sym (none-life stream x))
+    (by (opened create.make stream) (same_ids create.make stream))
+  where
+    same_ids : (make : Bool) (stream : Option (List Change)) → present_in (opened make stream) ≡ present_in stream
+    same_ids true None = refl
+    same_ids false None = refl
+    same_ids make (Some changes) = refl
+
+    by : (now : Option (List Change)) → present_in now ≡ present_in stream
+        → GoesAlong (GroupCreate create) key group (present_in stream) x None (place_in now (option_map (λ changes. life_of (starting_id create.start (top changes)) []) now) x)
+    by None e = tt
+    by (Some changes) e = given (has_id (ids_of (given_in changes)) x) refl where
+      given : (g : Bool) → has_id (ids_of (given_in changes)) x ≡ g
+          → GoesAlong (GroupCreate create) key group (present_in stream) x None (cond g (Some (place_of (life_of (starting_id create.start (top changes)) []) (ids_of (live changes)) x)) None)
+      given true g = (is, new-group create.start changes x g ∙ ap (λ ids. found_at create.start ids x) e)
+      given false g = tt
 
 pub goes-lived : (now : ℕ) (command : Command) (key group : List ℕ) (served : Bool) (stream : Option (List Change)) (life : Option GroupLife) (x : Id) → IsWellFormed command → SeesItsKey stream life
     → GoesAlong command key group (present_in stream) x (place_in stream life x) (place_in (key_lived now command key stream) (group_lived now command key group served stream life) x)
@@ -425,16 +472,16 @@ goes-lived now Quit key group served stream life x formed sees = same Quit key g
 goes-lived now (Add add) key group served stream life x formed sees =
     adds (Add add) key group x (added now add.id add.fields add.trim) add.make stream life (is_name key add.key) sees
     (λ here past. record {
-      may = λ ids e. both_of (is_name key add.key) (is_some add.trim) here (trimmed-by _ add.trim ids x e);
+      may = λ e. both_of (is_name key add.key) _ here (trimmed-below (assigned now (top past) add.id) add.fields add.trim (live past) x e);
       must = λ e. absurd (false≢true e);
       settles_none = λ ids name. refl;
-      comes = λ e. here;
+      comes = λ e. (here, added-first now add past x e);
     })
     (λ away. record { no_deletion = refl; no_settling = λ ids name. refl })
 goes-lived now (Delete k named) key group served stream life x formed sees =
     changes-stream (Delete k named) key group x (deleted named) stream life (is_name key k) sees
     (λ here past. record {
-      may = λ ids e. or_first _ _ (both_of (is_name key k) (has_id named x) here e);
+      may = λ e. or_first _ _ (both_of (is_name key k) (has_id named x) here e);
       must = λ e ids. second_of (is_name key k) (has_id named x) e;
       settles_none = λ ids name. refl;
       comes = λ e. absurd (false≢true e);
@@ -442,7 +489,7 @@ goes-lived now (Delete k named) key group served stream life x formed sees =
     (λ away. record { no_deletion = ap (λ b. b && has_id named x) away; no_settling = λ ids name. refl })
 goes-lived now (TrimTo k trim) key group served stream life x formed sees =
     changes-stream (TrimTo k trim) key group x (trimmed_to trim) stream life (is_name key k) sees
-    (λ here past. record { may = λ ids e. here; must = λ e. absurd (false≢true e); settles_none = λ ids name. refl; comes = λ e. absurd (false≢true e) })
+    (λ here past. record { may = λ e. both_of (is_name key k) _ here (ap (λ es. is_trimmed trim (ids_of es) x) (sym (append-nil (live past))) ∙ e); must = λ e. absurd (false≢true e); settles_none = λ ids name. refl; comes = λ e. absurd (false≢true e) })
     (λ away. record { no_deletion = refl; no_settling = λ ids name. refl })
 goes-lived now (Len k) key group served stream life x formed sees = same (Len k) key group x (record { no_deletion = refl; no_settling = λ ids name. refl }) (present_in stream) (place_in stream life x)
 goes-lived now (Scan scan) key group served stream life x formed sees = same (Scan scan) key group x (record { no_deletion = refl; no_settling = λ ids name. refl }) (present_in stream) (place_in stream life x)
@@ -451,8 +498,8 @@ goes-lived now (GroupCreate create) key group served stream None x formed sees =
       → GoesAlong (GroupCreate create) key group (present_in stream) x (place_in stream None x)
       (place_in (cond (is_name key create.key) (opened create.make stream) stream) (cond t (life_opened create stream) None) x)
   by true e =
-      opens (GroupCreate create) key group x (present_in stream) (cond (is_name key create.key) (opened create.make stream) stream) stream
-      (life_opened create stream) e (opened-new create.make create refl stream x)
+      subst (λ t. GoesAlong (GroupCreate create) key group (present_in stream) x (place_in stream None x) (place_in (cond t (opened create.make stream) stream) (life_opened create stream) x))
+      (sym (first_of (is_name key create.key) (is_name group create.group) e)) (opens create key group x e stream)
   by false e = unborn (GroupCreate create) key group x (present_in stream) stream (cond (is_name key create.key) (opened create.make stream) stream)
 goes-lived now (GroupCreate create) key group served None (Some life) x formed sees = absurd sees
 goes-lived now (GroupCreate create) key group served (Some changes) (Some life) x formed sees = by (is_name key create.key) (is_name group create.group) where

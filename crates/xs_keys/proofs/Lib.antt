@@ -1,5 +1,6 @@
 pub mod Additions
 pub mod AskSteps
+pub mod Comings
 pub mod Contents
 pub mod Deliveries
 pub mod GroupMaking

@@ -243,9 +243,16 @@ module _ (start : Id) (past : List GroupEvent) (now : ℕ) (present : List Id) (
   unfolding Agrees t
   agree-ack ids =
       owner-step start past (t (ack ids)) x
-      ∙ ap (λ b. cond {A = Option (List ℕ)} b None (owner start past x)) (or-none (has_id ids x) (removes (t (ack ids)) (last_assigned start past x) || false) (settles-none false _ false refl (removes-none (t (ack ids)) (λ _. refl) (last_assigned start past x)) refl))
+      ∙ ap (λ b. cond {A = Option (List ℕ)} b None (owner start past x)) (or-none (has_id ids x && is_some (last_assigned start past x)) (removes (t (ack ids)) (last_assigned start past x) || false) (settles-none false _ false refl (removes-none (t (ack ids)) (λ _. refl) (last_assigned start past x)) refl))
+      ∙ once-assigned (has_id ids x) (last_assigned start past x) (is_settled start past x)
       ∙ ap (cond (has_id ids x) None) ih ∙ by (holding start past x) (has_id ids x)
     where
+      once-assigned : (a : Bool) (last : Option (List ℕ)) (settled : Bool) → cond (a && is_some last) None (cond settled None last) ≡ cond a None (cond settled None last)
+      once-assigned true None true = refl
+      once-assigned true None false = refl
+      once-assigned true (Some name) settled = refl
+      once-assigned false last settled = refl
+
       by : (r : Option Row) (b : Bool) → cond b None (of_row r) ≡ of_row (option_and_then (λ row. cond b None (Some row)) r)
       by None true = refl
       by None false = refl
@@ -328,7 +335,7 @@ owner-row start (event ∷ past) x = agree-asked start past event.now event.pres
 
 -- a claim that takes an id settles nothing
 pub taken-unsettled : (ask : Ask) (now : ℕ) (present : List Id) (es : List (Id × Row)) (x : Id) (last : Option (List ℕ)) → has_id (asked_claim ask now present es).take x ≡ true
-    → (acks ask x || (removes (record { now = now; present = present; ask = ask }) last || has_id (asked_claim ask now present es).removed x)) ≡ false
+    → ((acks ask x && is_some last) || (removes (record { now = now; present = present; ask = ask }) last || has_id (asked_claim ask now present es).removed x)) ≡ false
 taken-unsettled (read_new consumer limit noack) now present es x last e = absurd (false≢true e)
 taken-unsettled (read_own consumer limit from) now present es x last e = absurd (false≢true e)
 taken-unsettled (ack ids) now present es x last e = absurd (false≢true e)

@@ -12,7 +12,7 @@ use Rattle.xs_stream.specs.declared.add.AddId.TheVariants.{Auto, AutoSeq, Exact}
 use Rattle.xs_stream.specs.declared.add.AddError.{AddError}
 use Rattle.xs_stream.specs.declared.field.Field.{Field}
 use Rattle.xs_stream.specs.declared.trim.Trim.{Trim}
-use Rattle.xs_stream.specs.Id.{id_cmp, is_below, zero_id, last, assigned, assigned_above}
+use Rattle.xs_stream.specs.Id.{id_cmp, is_below, zero_id, assigned}
 use Rattle.xs_stream.specs.Kept.{Kept, ids_of}
 use Rattle.xs_stream.proofs.Order.{same_id}
 use Rattle.xs_group.specs.State.{State, has_name, new_group}

@@ -1,16 +1,16 @@
 -- What claims take and remove, and how many a read delivers.
-use Rattle.std.proofs.Common.{◌≡◌, ℕ, ◌≤◌, ◌-◌, ◌⊎◌, inl, inr, Bool, true, false, ◌&&◌, not, List, ◌∷◌, length, take, filter, Option, Some, None, is_some, sym, ap, ◌∙◌, refl, subst, arith, take_all}
+use Rattle.std.proofs.Common.{◌≡◌, ℕ, ◌≤◌, ◌-◌, ◌⊎◌, inl, inr, Bool, true, false, ◌&&◌, ◌||◌, not, List, [], ◌∷◌, length, take, filter, Option, Some, None, is_some, sym, ap, ◌∙◌, refl, subst, arith, take_all}
 use Rattle.std.proofs.lemmas.List.{length-take-le}
 use Rattle.std.proofs.lemmas.Bool.{false≢true}
 use Rattle.std.specs.Prelude.{nat_le}
 use Rattle.std.proofs.lemmas.Bool.Decides.{nat_tests}
 use Rattle.xs_stream.specs.declared.id.Id.{Id}
-use Rattle.xs_stream.specs.Id.{is_below, has_id}
+use Rattle.xs_stream.specs.Id.{is_below, is_same, has_id}
 use Rattle.xs_group.specs.State.{Row, idle, delivers}
 use Rattle.xs_group.specs.Claims.{Rule, row_at, is_idle, is_taken, is_removed, is_hit, firsts, scanned, from_start}
 use Rattle.xs_keys.specs.Life.{greatest}
 use Rattle.xs_keys.specs.GroupEvent.{Ask, GroupEvent, read_new, read_own, ack, join, leave, claim, auto_claim, asked_claim, rows, takes, removes_pending, asked_new, delivers_at, cursor, owner}
-use Rattle.xs_keys.specs.Taken.{least_idle, IsTakenWhenIdle, IsRemovedWhenGone, ClaimsWhatIsIdle}
+use Rattle.xs_keys.specs.Taken.{least_idle, IsTakenWhenIdle, IsRemovedWhenGone, is_named_by, ClaimsWhatIsIdle}
 use Rattle.xs_keys.specs.Headline.{DeliversInFull}
 use Rattle.xs_keys.proofs.IdLists.{has_id-where, not_among}
 use Rattle.xs_stream.proofs.Order.{not_above-trans}
@@ -106,8 +106,40 @@ removed-when-gone start past event x h =
     let t = asked-removed event.ask event.now event.present (rows start past) x h in
     record { owned = owned start past x t.found; gone = t.gone }
 
+-- each id stays once
+pub firsts-keeps : (ids : List Id) (x : Id) → has_id ids x ≡ true → has_id (firsts ids) x ≡ true
+firsts-keeps [] x e = e
+firsts-keeps (y ∷ ys) x e = by (is_same x y) refl e (firsts-keeps ys x) where
+  by : (t : Bool) → is_same x y ≡ t → (t || has_id ys x) ≡ true → (has_id ys x ≡ true → has_id (firsts ys) x ≡ true) → (t || has_id (filter (λ z. not (is_same z y)) (firsts ys)) x) ≡ true
+  by true f e rest = refl
+  by false f e rest = has_id-where (λ z. not (is_same z y)) (firsts ys) x ∙ (λ i. not (f i) && rest e i)
+
+-- an XCLAIM takes what it names, where that may be taken
+named-taken : (start : Id) (past : List GroupEvent) (now : ℕ) (present : List Id) (ask : Ask) (x : Id) → is_named_by ask x ≡ true
+    → IsTakenWhenIdle start past (record { now = now; present = present; ask = ask }) x → takes start past (record { now = now; present = present; ask = ask }) x ≡ true
+named-taken start past now present (read_new consumer limit noack) x e idle_is = absurd (false≢true e)
+named-taken start past now present (read_own consumer limit from) x e idle_is = absurd (false≢true e)
+named-taken start past now present (ack ids) x e idle_is = absurd (false≢true e)
+named-taken start past now present (join consumer) x e idle_is = absurd (false≢true e)
+named-taken start past now present (leave consumer) x e idle_is = absurd (false≢true e)
+named-taken start past now present (auto_claim consumer rule from limit) x e idle_is = absurd (false≢true e)
+named-taken start past now present (claim consumer rule ids) x e idle_is =
+    has_id-where (is_taken (rows start past) present now rule) (firsts ids) x
+    ∙ (λ i. (idle_enough (row_at (rows start past) x) refl i && idle_is.present i) && firsts-keeps ids x e i)
+  where
+    has : (row : Option Row) → row_at (rows start past) x ≡ row → is_some row ≡ true
+    has None f = ap is_some (ap of_row (sym f) ∙ ap of_row (row-found start past x) ∙ sym (owner-row start past x)) ∙ idle_is.owned
+    has (Some row) f = refl
+
+    idle_enough : (row : Option Row) → row_at (rows start past) x ≡ row → is_idle now rule (row_at (rows start past) x) ≡ true
+    idle_enough None f = absurd (false≢true (has None f))
+    idle_enough (Some row) f =
+        let old : rule.min_idle ≤ now - row.time = subst (λ (time : ℕ). rule.min_idle ≤ now - time) (sym (is-last-touched start past x row f).0) idle_is.idle in
+        ap (is_idle now rule) f ∙ grind (arith, nat_tests, old)
+
 pub claims-idle : (start : Id) (events : List GroupEvent) → ClaimsWhatIsIdle start events
-claims-idle start events = λ later event earlier x e. (taken-when-idle start earlier event x, removed-when-gone start earlier event x)
+claims-idle start events = λ later event earlier x e.
+    (taken-when-idle start earlier event x, removed-when-gone start earlier event x, named-taken start earlier event.now event.present event.ask x)
 
 -- ---- reads
 

@@ -7,7 +7,8 @@ use Rattle.xs_command.specs.declared.command.Command.{Command}
 use Rattle.xs_command.specs.Read.{reads}
 use Rattle.xs_command.specs.Examples.{line}
 use Rattle.xs_keys.specs.Job.{Place, before_start, waiting, dropped, handed_out, pending, settled, StandsAt, HasArrow}
-use Rattle.xs_keys.specs.Job.{GoesAlong, place_after, is_at, is_pending, is_final, GoesOnFor, jobs_at}
+use Rattle.xs_command.specs.declared.command.GroupStart.TheVariants.{Top, At}
+use Rattle.xs_keys.specs.Job.{StartsBehind, GoesAlong, place_after, is_at, is_pending, is_final, GoesOnFor, jobs_at}
 use Rattle.xs_keys.specs.ExamplesHistory.{event, events}
 use Rattle.xs_keys.specs.ExamplesGroupEvents.{event_over, read_by_a, noack_by_b}
 use Rattle.xs_keys.specs.ExamplesHeadline.{life}
@@ -163,6 +164,9 @@ pub record Arrows : Type 0 where
 pub record NoArrows : Type 0 where
   pub another_deleted : LeadsIt (codes "XDEL s 2-0") waiting dropped → ⊥
   pub deleted_elsewhere : LeadsIt (codes "XDEL t 1-0") waiting dropped → ⊥
+  pub kept_by_a_trim : LeadsIt (codes "XTRIM s MAXLEN 1") waiting dropped → ⊥
+  pub at_the_least_id : LeadsIt (codes "XTRIM s MINID 1") waiting dropped → ⊥
+  pub kept_beside_an_addition : LeadsIt (codes "XADD s MAXLEN 2 * f v") waiting dropped → ⊥
   pub an_addition_alone : LeadsIt (codes "XADD s * f v") waiting dropped → ⊥
   pub read_by_another : LeadsIt (codes "XREADGROUP GROUP g d STREAMS s >") waiting with_c → ⊥
   pub read_with_noack : LeadsIt (codes "XREADGROUP GROUP g c NOACK STREAMS s >") waiting with_c → ⊥
@@ -210,6 +214,16 @@ pub record Comings : Type 0 where
   pub is_given_and_trimmed : GoesBy (codes "XADD s MAXLEN 0 1-0 f v") None (Some dropped)
   pub is_given_below_the_start : GoesBy (codes "XADD s 1-0 f v") None (Some before_start)
   pub comes_with_the_group : GoesBy (codes "XGROUP CREATE s g 0") None (Some waiting)
+  pub is_found_before_the_start : GoesBy (codes "XGROUP CREATE s g 1") None (Some before_start)
+  pub is_found_by_a_group_at_the_top : GoesBy (codes "XGROUP CREATE s g $") None (Some before_start)
+  pub is_found_deleted : GoesDeleted (codes "XGROUP CREATE s g 0") None (Some dropped)
+  pub not_dropped_by_an_addition : GoesBy (codes "XADD s 1-0 f v") None (Some dropped) → ⊥
+  pub not_dropped_by_a_group : GoesBy (codes "XGROUP CREATE s g 0") None (Some dropped) → ⊥
+  pub not_passed_by_a_group : GoesBy (codes "XGROUP CREATE s g 0") None (Some before_start) → ⊥
+  pub not_waiting_before_the_start : GoesBy (codes "XGROUP CREATE s g 1") None (Some waiting) → ⊥
+  pub behind_the_written_id : StartsBehind (At (at 5 0)) ((at 7 0, []) ∷ []) (at 5 0)
+  pub behind_all_that_was_given : StartsBehind Top ((at 7 0, []) ∷ []) (at 7 0)
+  pub not_behind_another_id : StartsBehind (At (at 5 0)) ((at 7 0, []) ∷ []) (at 7 0) → ⊥
   pub goes_with_the_group : GoesBy (codes "XGROUP DESTROY s g") (Some with_c) None
   pub goes_with_the_key : GoesBy (codes "DEL t s") (Some with_c) None
   pub stays_nowhere : GoesBy (codes "PING") None None

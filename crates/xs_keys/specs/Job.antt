@@ -1,17 +1,21 @@
 -- The life of a job: where an entry stands for a group, and what may become of it. (Redis Streams, "Consumer groups";
 -- XREADGROUP, XACK, XCLAIM, XPENDING.)
 use Rattle.std.specs.Prelude.{◌≡◌, ◌⊎◌, ℕ, ◌+◌, Bool, true, false, not, ◌&&◌, ◌||◌, List, [], ◌∷◌, ◌++◌, filter, map, length}
-use Rattle.std.specs.Prelude.{Option, Some, None, is_some, if◌then◌else◌}
+use Rattle.std.specs.Prelude.{nat_le, Option, Some, None, is_some, if◌then◌else◌}
 use Rattle.xs_group.specs.State.{owned}
 use Rattle.xs_command.specs.WellFormed.{IsWellFormed}
-use Rattle.xs_keys.specs.Ground.{Id, is_below, has_id, ids_of, is_name, delivers, Command, Add, Delete, TrimTo}
+use Rattle.xs_stream.specs.Kept.{count_above}
+use Rattle.xs_stream.specs.declared.trim.Trim.TheVariants.{MaxLen, MinId}
+use Rattle.xs_keys.specs.Ground.{option_map_or, Id, Field, Trim, is_below, has_id, ids_of, is_trimmed, is_name, delivers, Command}
+use Rattle.xs_keys.specs.Ground.{Add, Delete, TrimTo, GroupStart, Top, At}
 use Rattle.xs_keys.specs.Ground.{GroupCreate, GroupDestroy, ConsumerDelete, ReadGroup, Ack, Claim, AutoClaim, DropKeys}
 use Rattle.xs_keys.specs.Ground.{Pending, Reply, Int}
-use Rattle.xs_keys.specs.Life.{Change, is_listed, key_life, given_in, live}
+use Rattle.xs_keys.specs.Life.{Change, is_listed, key_life, given_in, top_of, live}
 use Rattle.xs_keys.specs.GroupEvent.{delivered, cursor, last_assigned, owner, rows}
 use Rattle.xs_keys.specs.GroupLife.{GroupLife, group_life, group_of, asks_new, present_in}
 use Rattle.xs_keys.specs.Content.{Content}
 use Rattle.xs_keys.specs.Reply.{array, reply}
+use Rattle.xs_keys.specs.Told.{given_at}
 
 -- where an entry stands in a life of a group
 pub data Place : Type 0 where
@@ -61,11 +65,17 @@ abbrev pub deletes_entry : Command → List ℕ → Id → Bool
 deletes_entry (Delete k ids) key x = is_name key k && has_id ids x
 deletes_entry _ key x = false
 
--- it trims the stream, by itself or behind an addition
-abbrev pub trims_stream : Command → List ℕ → Bool
-trims_stream (Add add) key = is_name key add.key && is_some add.trim
-trims_stream (TrimTo k trim) key = is_name key k
-trims_stream _ key = false
+-- a trim drops the entry from a stream of these ids and one that is added above them
+abbrev pub is_trimmed_below_one : Trim → List Id → Id → Bool
+is_trimmed_below_one (MaxLen n) present x = nat_le n (count_above x present + 1)
+is_trimmed_below_one (MinId low) present x = is_below x low
+
+-- it trims the entry away, by itself or behind an addition
+abbrev pub trims_entry : Command → List ℕ → List Id → Id → Bool
+trims_entry (Add add) key present x =
+    is_name key add.key && option_map_or (λ trim. is_trimmed_below_one trim present x) add.trim false
+trims_entry (TrimTo k trim) key present x = is_name key k && is_trimmed trim present x
+trims_entry _ key present x = false
 
 -- it reads new entries of the key in the group
 abbrev pub reads_new : Command → List ℕ → List ℕ → Bool
@@ -119,7 +129,8 @@ ends_group _ key group = false
 
 -- the arrows: a command that meets these ids in the stream may lead an entry from here to there
 abbrev pub HasArrow : Command → List ℕ → List ℕ → List Id → Id → Place → Place → Type 0
-HasArrow command key group present x waiting dropped = (deletes_entry command key x || trims_stream command key) ≡ true
+HasArrow command key group present x waiting dropped =
+    (deletes_entry command key x || trims_entry command key present x) ≡ true
 HasArrow command key group present x waiting handed_out = (reads_new command key group && with_noack command) ≡ true
 HasArrow command key group present x waiting (pending consumer) =
     ((reads_new command key group && not (with_noack command)) ≡ true) × (asker command ≡ Some consumer)
@@ -140,18 +151,30 @@ HasToMove command key group present x (pending consumer) there =
     → there ≡ settled
 HasToMove command key group present x _ there = Unit {0}
 
--- where an entry may stand at first
-abbrev pub IsFirstPlace : Place → Type 0
-IsFirstPlace before_start = Unit {0}
-IsFirstPlace waiting = Unit {0}
-IsFirstPlace dropped = Unit {0}
-IsFirstPlace _ = ⊥
+-- a new group with this start finds a given entry past it; at `$` none is
+abbrev pub is_past : GroupStart → Id → Bool
+is_past Top x = false
+is_past (At id) x = is_below id x
+
+-- where a new group finds an entry that was given
+abbrev pub found_at : GroupStart → List Id → Id → Place
+found_at start present x =
+    if not (is_past start x) then before_start else (if has_id present x then waiting else dropped)
+
+-- where an entry stands at first: one that is added waits, unless the addition trims or the group starts above it; one
+-- that was there before the group is where the new group finds it
+abbrev pub IsFirstPlace : Command → List Id → Id → Place → Type 0
+IsFirstPlace (Add add) present x before_start = Unit {0}
+IsFirstPlace (Add add) present x waiting = Unit {0}
+IsFirstPlace (Add add) present x dropped = is_some add.trim ≡ true
+IsFirstPlace (GroupCreate create) present x there = there ≡ found_at create.start present x
+IsFirstPlace _ present x there = ⊥
 
 -- what a command makes of an entry: it comes, as one that is given or with the group; it stays where it is, or goes along
 -- an arrow; or the life of the group ends
 abbrev pub GoesAlong : Command → List ℕ → List ℕ → List Id → Id → Option Place → Option Place → Type 0
 GoesAlong command key group present x None None = Unit {0}
-GoesAlong command key group present x None (Some there) = (begins_job command key group ≡ true) × IsFirstPlace there
+GoesAlong command key group present x None (Some there) = (begins_job command key group ≡ true) × IsFirstPlace command present x there
 GoesAlong command key group present x (Some here) None = ends_group command key group ≡ true
 GoesAlong command key group present x (Some here) (Some there) =
     ((there ≡ here) ⊎ HasArrow command key group present x here there) × HasToMove command key group present x here there
@@ -231,10 +254,36 @@ EachHasAPlace history =
     → (key group : List ℕ) (changes : List Change) (life : GroupLife)
     → key_life earlier key ≡ Some changes → group_life earlier key group ≡ Some life → HasItsPlaces changes life
 
--- each event leaves an entry at its place, or leads it along an arrow
-abbrev pub EachGoesAlong : List (ℕ × Command) → Type 0
-EachGoesAlong history =
-    (later : List (ℕ × Command)) (e : ℕ × Command) (earlier : List (ℕ × Command)) → history ≡ later ++ e ∷ earlier
-    → IsWellFormed e.1 → (key group : List ℕ) (x : Id)
+-- the command adds to the key, or deletes it
+abbrev pub adds_or_drops : Command → List ℕ → Bool
+adds_or_drops (Add add) key = is_name key add.key
+adds_or_drops (DropKeys keys) key = is_listed keys key
+adds_or_drops _ key = false
+
+-- entries come by additions alone: another command leaves all that was given, unless the key goes
+abbrev pub EntriesAreAdded : List (ℕ × Command) → ℕ × Command → Type 0
+EntriesAreAdded earlier e =
+    (key : List ℕ) → (given_at (e ∷ earlier) key ≡ given_at earlier key) ⊎ (adds_or_drops e.1 key ≡ true)
+
+-- a group starts behind the written id, or for `$` behind all that was given
+abbrev pub StartsBehind : GroupStart → List (Id × List Field) → Id → Type 0
+StartsBehind Top given start = start ≡ top_of given
+StartsBehind (At id) given start = start ≡ id
+
+-- a command makes a group with this start
+abbrev pub MakesGroup : Command → List (Id × List Field) → Id → Type 0
+MakesGroup (GroupCreate create) given start = StartsBehind create.start given start
+MakesGroup _ given start = ⊥
+
+-- a group comes by XGROUP CREATE alone, and starts as that asks
+abbrev pub GroupsAreCreated : List (ℕ × Command) → ℕ × Command → Type 0
+GroupsAreCreated earlier e =
+    (key group : List ℕ) (life : GroupLife) → group_life earlier key group ≡ None
+    → group_life (e ∷ earlier) key group ≡ Some life → MakesGroup e.1 (given_at earlier key) life.start
+
+-- an event leaves each entry at its place, or leads it along an arrow
+abbrev pub EachGoesAlong : List (ℕ × Command) → ℕ × Command → Type 0
+EachGoesAlong earlier e =
+    (key group : List ℕ) (x : Id)
     → GoesAlong e.1 key group (present_in (key_life earlier key)) x (place_after earlier key group x)
     (place_after (e ∷ earlier) key group x)

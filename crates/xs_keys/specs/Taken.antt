@@ -1,14 +1,15 @@
 -- What claims take and what they remove, by looking back. (Redis, XCLAIM and XAUTOCLAIM.)
-use Rattle.std.specs.Prelude.{◌≡◌, ℕ, ◌≤◌, ◌-◌, true, false, List, ◌∷◌, ◌++◌, is_some}
+use Rattle.std.specs.Prelude.{◌≡◌, ℕ, ◌≤◌, ◌-◌, Bool, true, false, List, ◌∷◌, ◌++◌, is_some}
 use Rattle.xs_keys.specs.Ground.{option_map_or, Id, has_id}
-use Rattle.xs_keys.specs.GroupEvent.{Ask, GroupEvent, rule_of, takes, removes_pending, owner}
+use Rattle.xs_keys.specs.GroupEvent.{Ask, GroupEvent, claim, rule_of, takes, removes_pending, owner}
 use Rattle.xs_keys.specs.Touched.{time_of}
 
 -- the least idle time that is asked for
 abbrev pub least_idle : Ask → ℕ
 least_idle ask = option_map_or (λ rule. rule.min_idle) (rule_of ask) 0
 
--- an entry that is taken has an owner, is in the stream, and was last touched as long ago as the claim asks
+-- an entry that is taken has an owner, is in the stream, and the time that it was last given lies as far back as the claim
+-- asks; an earlier claim with IDLE gave one that lay back already
 pub record IsTakenWhenIdle (start : Id) (past : List GroupEvent) (event : GroupEvent) (x : Id) : Type 0 where
   pub owned : is_some (owner start past x) ≡ true
   pub present : has_id event.present x ≡ true
@@ -19,10 +20,16 @@ pub record IsRemovedWhenGone (start : Id) (past : List GroupEvent) (event : Grou
   pub owned : is_some (owner start past x) ≡ true
   pub gone : has_id event.present x ≡ false
 
--- so it is with each claim of a life
+-- an XCLAIM names the entry
+abbrev pub is_named_by : Ask → Id → Bool
+is_named_by (claim consumer rule ids) x = has_id ids x
+is_named_by _ x = false
+
+-- so it is with each claim of a life; and an XCLAIM takes each entry that it names and that may be taken so
 abbrev pub ClaimsWhatIsIdle : Id → List GroupEvent → Type 0
 ClaimsWhatIsIdle start events =
     (later : List GroupEvent) (event : GroupEvent) (earlier : List GroupEvent) (x : Id)
     → events ≡ later ++ event ∷ earlier
     → (takes start earlier event x ≡ true → IsTakenWhenIdle start earlier event x)
     × (removes_pending start earlier event x ≡ true → IsRemovedWhenGone start earlier event x)
+    × (is_named_by event.ask x ≡ true → IsTakenWhenIdle start earlier event x → takes start earlier event x ≡ true)

@@ -6,7 +6,7 @@ ghost use Rattle.xs_keys.specs.ExamplesAsked as asked;
 ghost use Rattle.xs_keys.specs.ExamplesContent as content;
 ghost use Rattle.xs_keys.specs.ExamplesHeadline as headline;
 ghost use Rattle.xs_keys.specs.ExamplesJob as job;
-ghost use Rattle.xs_keys.specs.ExamplesTold.{ToldReads, ToldClaims};
+ghost use Rattle.xs_keys.specs.ExamplesTold.{ToldAdditions, ToldReads, ToldClaims};
 
 /// Ids, ranges and trims.
 pub fn streams()
@@ -141,6 +141,11 @@ pub fn endings()
 /// What the replies to reads of groups tell.
 pub fn told_reads()
     ensures { ToldReads }
+{}
+
+/// What the replies to additions tell.
+pub fn told_additions()
+    ensures { ToldAdditions }
 {}
 
 /// What the replies to claims tell.

@@ -109,8 +109,8 @@ pub fn time_and_count_are_of_the_last_touch()
     ensures { OfEachLife (λ life. IsLastTouched life.start life.events) }
 {}
 
-/// A claim takes an entry only where it has an owner, is in the stream, and was last touched as long ago as the claim
-/// asks; and it removes a pending entry only where that is no longer in the stream.
+/// A claim takes an entry only if it has an owner, is in the stream, and the time that it was last given lies as far back as
+/// the claim asks; and it removes a pending entry only if that is no longer in the stream.
 pub fn a_claim_takes_what_is_idle()
     ensures { OfEachLife (λ life. ClaimsWhatIsIdle life.start life.events) }
 {}

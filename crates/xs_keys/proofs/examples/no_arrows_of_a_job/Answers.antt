@@ -51,6 +51,9 @@ unfolding empty get insert_by remove change is_word word behind_sign integer nat
 returns c = record {
   another_deleted = false≢true;
   deleted_elsewhere = false≢true;
+  kept_by_a_trim = false≢true;
+  at_the_least_id = false≢true;
+  kept_beside_an_addition = false≢true;
   an_addition_alone = false≢true;
   read_by_another = λ h. false≢true (ap (λ o. option_map_or (is_name (codes "c")) o false) h.1);
   read_with_noack = λ h. false≢true h.0;
