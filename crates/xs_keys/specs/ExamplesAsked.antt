@@ -12,7 +12,7 @@ use Rattle.xs_group.specs.ExamplesRead.{pending}
 use Rattle.xs_keys.specs.GroupEvent.{Ask, read_new, read_own, ack, join, claim, auto_claim, rows, is_consumer}
 use Rattle.xs_keys.specs.GroupEvent.{leave, is_their_turn, is_settled, settles, owner, removes_pending}
 use Rattle.xs_keys.specs.Touched.{redelivers, touches, time_of, count_of}
-use Rattle.xs_keys.specs.Taken.{least_idle, is_named_by}
+use Rattle.xs_keys.specs.Taken.{least_idle, is_named_by, is_from_start, MayStop}
 use Rattle.xs_keys.specs.ExamplesHistory.{of_group, group_and}
 use Rattle.xs_keys.specs.ExamplesGroupEvents.{start, event, event_without, read_by_a, noack_by_b, first_by_a}
 use Rattle.xs_keys.specs.ExamplesGroupEvents.{claim_by_b}
@@ -122,6 +122,13 @@ pub record Touches : Type 0 where
   pub named_by_a_claim : is_named_by (claims of_an_hour) (at 2 0) ≡ true
   pub another_isnt_named : is_named_by (claims of_an_hour) (at 3 0) ≡ false
   pub none_is_named_by_a_scan : is_named_by (auto_claim (codes "b") of_an_hour (at 0 0) 9) (at 2 0) ≡ false
+  pub from_its_start_on : is_from_start (auto_claim (codes "b") of_an_hour (at 2 0) 9) (at 2 0) ≡ true
+  pub not_before_its_start : is_from_start (auto_claim (codes "b") of_an_hour (at 2 0) 9) (at 1 0) ≡ false
+  pub no_start_of_a_claim : is_from_start (claims of_an_hour) (at 2 0) ≡ false
+  pub stops_at_its_count :
+      MayStop (event 150 (auto_claim (codes "b") any_idle_time (at 0 0) 1)) (rows start (read_by_a ∷ []))
+  pub not_sooner :
+      MayStop (event 150 (auto_claim (codes "b") any_idle_time (at 0 0) 3)) (rows start (read_by_a ∷ [])) → ⊥
   pub removed_when_deleted :
       removes_pending start (read_by_a ∷ []) (event_without 200 (claims any_idle_time)) (at 2 0) ≡ true
   pub not_removed_when_there : removes_pending start (read_by_a ∷ []) claim_by_b (at 2 0) ≡ false

@@ -1,7 +1,8 @@
 -- What claims take and what they remove, by looking back. (Redis, XCLAIM and XAUTOCLAIM.)
-use Rattle.std.specs.Prelude.{◌≡◌, ℕ, ◌≤◌, ◌-◌, Bool, true, false, List, ◌∷◌, ◌++◌, is_some}
-use Rattle.xs_keys.specs.Ground.{option_map_or, Id, has_id}
-use Rattle.xs_keys.specs.GroupEvent.{Ask, GroupEvent, claim, rule_of, takes, removes_pending, owner}
+use Rattle.std.specs.Prelude.{◌≡◌, ◌⊎◌, ℕ, ◌≤◌, ◌+◌, ◌-◌, ◌*◌, Bool, true, false, not, List, ◌∷◌, ◌++◌, length, is_some}
+use Rattle.xs_keys.specs.Ground.{option_map_or, Id, Row, is_below, has_id}
+use Rattle.xs_keys.specs.GroupEvent.{Ask, GroupEvent, claim, auto_claim, claims_of, rule_of, rows, takes, removes_pending}
+use Rattle.xs_keys.specs.GroupEvent.{owner}
 use Rattle.xs_keys.specs.Touched.{time_of}
 
 -- the least idle time that is asked for
@@ -25,7 +26,24 @@ abbrev pub is_named_by : Ask → Id → Bool
 is_named_by (claim consumer rule ids) x = has_id ids x
 is_named_by _ x = false
 
--- so it is with each claim of a life; and an XCLAIM takes each entry that it names and that may be taken so
+-- an XAUTOCLAIM may come to the entry from its start on
+abbrev pub is_from_start : Ask → Id → Bool
+is_from_start (auto_claim consumer rule start limit) x = not (is_below x start)
+is_from_start _ x = false
+
+-- as many entries as a scan may claim or remove
+abbrev pub most_hits : Ask → ℕ
+most_hits (auto_claim consumer rule start limit) = limit
+most_hits _ = 0
+
+-- over these rows a claim takes and removes as many as it may, or there are ten times as many rows, so that it may stop
+abbrev pub MayStop : GroupEvent → List (Id × Row) → Type 0
+MayStop event rows =
+    (most_hits event.ask ≤ length (claims_of event rows).take + length (claims_of event rows).removed)
+    ⊎ (10 * most_hits event.ask ≤ length rows)
+
+-- so it is with each claim of a life; and of the entries that may be taken so an XCLAIM takes each that it names, and an
+-- XAUTOCLAIM each from its start on, unless it may stop
 abbrev pub ClaimsWhatIsIdle : Id → List GroupEvent → Type 0
 ClaimsWhatIsIdle start events =
     (later : List GroupEvent) (event : GroupEvent) (earlier : List GroupEvent) (x : Id)
@@ -33,3 +51,5 @@ ClaimsWhatIsIdle start events =
     → (takes start earlier event x ≡ true → IsTakenWhenIdle start earlier event x)
     × (removes_pending start earlier event x ≡ true → IsRemovedWhenGone start earlier event x)
     × (is_named_by event.ask x ≡ true → IsTakenWhenIdle start earlier event x → takes start earlier event x ≡ true)
+    × (is_from_start event.ask x ≡ true → IsTakenWhenIdle start earlier event x
+    → (takes start earlier event x ≡ true) ⊎ MayStop event (rows start earlier))

@@ -1,3 +1,4 @@
+use Rattle.xs_keys.proofs.Comings.{entries-added, groups-created}
 use Rattle.xs_keys.proofs.Histories.{present-in-life}
 use Rattle.xs_keys.proofs.JobBooks.{balances, tells-pending}
 use Rattle.xs_keys.proofs.JobMoves.{goes-along, for-good}
@@ -11,6 +12,12 @@ returns-clause-one_place c = λ past key group changes life k g x given.
 
 pub returns-clause-goes_along : goal.returns-clause-goes_along
 returns-clause-goes_along c = goes-along
+
+pub returns-clause-additions : goal.returns-clause-additions
+returns-clause-additions c = entries-added
+
+pub returns-clause-groups : goal.returns-clause-groups
+returns-clause-groups c = groups-created
 
 pub returns-clause-balances : goal.returns-clause-balances
 returns-clause-balances c = λ past key group changes life k g.
