@@ -8,6 +8,7 @@ use Rattle.std.proofs.lemmas.Bool.Decides.{nat_tests}
 use Rattle.xs_bytes.specs.SortedMap.{empty}
 use Rattle.xs_resp.specs.declared.reply.Reply.{Reply}
 use Rattle.xs_command.specs.declared.command.Command.{Command}
+use Rattle.xs_command.specs.WellFormed.{IsWellFormed}
 use Rattle.xs_keys.specs.Content.{Content}
 use Rattle.xs_keys.specs.Headline.{Follows, Answers, RunsOn}
 use Rattle.xs_keys.specs.Step.{Step}
@@ -30,10 +31,10 @@ pub runs-none : (old : Content) → RunsOn old [] [] old
 runs-none old = λ past is. (past, headline past [] [] past refl, is, content-lawful past old is)
 
 runs-snoc : (old : Content) (events : List (ℕ × Command)) (answers : List Reply) (mid new : Content) (e : ℕ × Command) (answer : Reply)
-    → RunsOn old events answers mid → Step mid e.0 e.1 answer new → RunsOn old (events ++ e ∷ []) (answers ++ answer ∷ []) new
-runs-snoc old events answers mid new e answer runs step = λ past is.
+    → RunsOn old events answers mid → IsWellFormed e.1 → Step mid e.0 e.1 answer new → RunsOn old (events ++ e ∷ []) (answers ++ answer ∷ []) new
+runs-snoc old events answers mid new e answer runs formed step = λ past is.
     let here = runs past is in
-    let next = step-follows here.0 mid new e.0 e.1 answer here.2 step in
+    let next = step-follows here.0 mid new e.0 e.1 answer formed here.2 step in
     (next.0, headline past (events ++ e ∷ []) (answers ++ answer ∷ []) next.0 (answers-snoc past events answers here.0 e answer next.0 here.1.replies next.2), next.1, content-lawful next.0 new next.1)
 
 -- ---- the calls of a lane
@@ -105,12 +106,13 @@ history-more history old call new is serves =
     let events : events_of (history ++ call ∷ []) ≡ events_of history ++ e ∷ [] = map-append (λ c. (c.answer.moment, c.command)) history (call ∷ []) in
     let replies : replies_of (history ++ call ∷ []) ≡ replies_of history ++ call.answer.reply ∷ [] = map-append (λ c. c.answer.reply) history (call ∷ []) in
     let runs : RunsOn empty (events_of history ++ e ∷ []) (replies_of history ++ call.answer.reply ∷ []) new.keyspace =
-    runs-snoc empty (events_of history) (replies_of history) old.keyspace new.keyspace e call.answer.reply is.runs serves.applied in
+    runs-snoc empty (events_of history) (replies_of history) old.keyspace new.keyspace e call.answer.reply is.runs serves.formed serves.applied in
     record {
       places = count-more (λ c. c.answer.place) history call is.places (serves.place_is ∙ is.next);
       tickets = tickets-more history old call new is serves;
       lanes = lanes-more history old call new is serves;
       within = subst (λ m. All (λ c. c.lane < m) (history ++ call ∷ [])) (sym n) (All-push (λ c. c.lane < length old.lanes) history call is.within (slice_get_within old.lanes call.lane serves.lane serves.here));
+      formed = All-push (λ c. IsWellFormed c.command) history call is.formed serves.formed;
       next = omega (arith, serves.next_is, is.next, length-append history (call ∷ []));
       runs = subst (λ es. RunsOn empty es (replies_of (history ++ call ∷ [])) new.keyspace) (sym events) (subst (λ rs. RunsOn empty (events_of history ++ e ∷ []) rs new.keyspace) (sym replies) runs);
     }

@@ -48,6 +48,7 @@ module _ {C : Type 0} (gives : C → ℕ → C → Type 0) (old : Desk) (clock :
     ticket_is = a.ticket_is;
     place_is = a.place_is;
     next_is = a.next_is;
+    formed = a.formed;
     applied = a.applied;
   }
 

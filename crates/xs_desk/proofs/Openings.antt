@@ -35,6 +35,7 @@ new_history depth all cs a = record {
   tickets = λ k i n e. absurd (cc);
   lanes = new-lane 0 depth (map lane_of all) cs a;
   within = λ k d lt. absurd (omega arith);
+  formed = λ k d lt. absurd (omega arith);
   next = refl;
   runs = runs-none empty;
 }

@@ -6,6 +6,7 @@ use denote.RawPtr.{Ptr}
 use Rattle.xs_bytes.specs.SortedMap.{empty}
 use Rattle.xs_resp.specs.declared.reply.Reply.{Reply}
 use Rattle.xs_command.specs.declared.command.Command.{Command}
+use Rattle.xs_command.specs.WellFormed.{IsWellFormed}
 use Rattle.xs_keys.specs.Content.{Content}
 use Rattle.xs_keys.specs.Headline.{RunsOn}
 use Rattle.xs_desk.specs.declared.answer.Answer.{Answer}
@@ -58,13 +59,14 @@ abbrev pub CountUp : List ℕ → Type 0
 CountUp numbers = (i n : ℕ) → slice_get numbers i ≡ Some n → n ≡ i
 
 -- The places are 0, 1, 2, .. over the whole desk, and the tickets are so in each lane. What was taken from a lane and
--- sent to it are its calls of the history, in their order. The calls at their moments are a run from the empty
--- keyspace on, which gave these replies and left what the keyspace holds.
+-- sent to it are its calls of the history, in their order. Each command is well formed. The calls at their moments are a
+-- run from the empty keyspace on, which gave these replies and left what the keyspace holds.
 pub record IsHistory (history : List ServedCall) (desk : Desk) : Type 0 where
   pub places : CountUp (map (λ call. call.answer.place) history)
   pub tickets : (k : ℕ) → CountUp (map (λ call. call.answer.ticket) (of_lane k history))
   pub lanes : (k : ℕ) (lane : LaneOf) → slice_get desk.lanes k ≡ Some lane
       → (lane.popped ≡ commands_of (of_lane k history)) × (lane.sent ≡ answers_of (of_lane k history))
   pub within : All (λ call. call.lane < length desk.lanes) history
+  pub formed : All (λ call. IsWellFormed call.command) history
   pub next : desk.place ≡ length history
   pub runs : RunsOn empty (events_of history) (replies_of history) desk.keyspace

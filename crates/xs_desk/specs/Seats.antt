@@ -2,6 +2,7 @@
 use Rattle.std.specs.Prelude.{◌≡◌, ℕ, ◌+◌, ◌^◌, ◌⊎◌, List, [], ◌∷◌, ◌++◌, length, map}
 use Rattle.rtrb.specs.Ring.{sent, received, known_items, known_free}
 use Rattle.xs_command.specs.declared.command.Command.{Command}
+use Rattle.xs_command.specs.WellFormed.{IsWellFormed}
 use Rattle.xs_keys.specs.Content.{Content}
 use Rattle.xs_keys.specs.Step.{Step}
 use Rattle.xs_desk.specs.declared.answer.Answer.{Answer}
@@ -33,7 +34,7 @@ pub record Scene (C : Type 0) : Type 0 where
 abbrev pub scene : {C : Type 0} → Seat → Content → ℕ → C → Scene C
 scene seat keyspace place clock = record { lane = lane_of seat; keyspace = keyspace; place = place; clock = clock }
 
--- one call of the lane was taken, applied at the moment that the clock gave, and answered
+-- one call of the lane was taken, which is well formed, applied at the moment that the clock gave, and answered
 pub record Answers {C : Type 0} (gives : C → ℕ → C → Type 0) (old new : Scene C) : Type 0 where
   pub command : Command
   pub answer : Answer
@@ -42,6 +43,7 @@ pub record Answers {C : Type 0} (gives : C → ℕ → C → Type 0) (old new : 
   pub ticket_is : answer.ticket ≡ length old.lane.sent
   pub place_is : answer.place ≡ old.place
   pub next_is : new.place ≡ old.place + 1
+  pub formed : IsWellFormed command
   pub applied : Step old.keyspace answer.moment command answer.reply new.keyspace
   pub moment : gives old.clock answer.moment new.clock
 

@@ -1,5 +1,6 @@
 -- What one call, and one turn, make of a desk.
 use Rattle.std.specs.Prelude.{◌≡◌, ℕ, ◌+◌, ◌≤◌, List, [], ◌∷◌, ◌++◌, length, slice_get, slice_set, Some}
+use Rattle.xs_command.specs.WellFormed.{IsWellFormed}
 use Rattle.xs_keys.specs.Step.{Step}
 use Rattle.xs_desk.specs.History.{ServedCall, LaneOf, Desk}
 
@@ -8,7 +9,7 @@ abbrev pub with_call : LaneOf → ServedCall → LaneOf
 with_call lane call =
     record lane { popped = lane.popped ++ call.command ∷ []; sent = lane.sent ++ call.answer ∷ [] }
 
--- Its command is taken from its lane and applied to the keyspace at the moment told, and the answer is sent to the same
+-- Its command is well formed, is taken from its lane and applied to the keyspace at the moment told, and the answer is sent to the same
 -- lane: with the reply, the number of the answers sent there before as ticket, and the next place of the desk
 pub record Serves (old : Desk) (call : ServedCall) (new : Desk) : Type 0 where
   pub lane : LaneOf
@@ -17,6 +18,7 @@ pub record Serves (old : Desk) (call : ServedCall) (new : Desk) : Type 0 where
   pub ticket_is : call.answer.ticket ≡ length lane.sent
   pub place_is : call.answer.place ≡ old.place
   pub next_is : new.place ≡ old.place + 1
+  pub formed : IsWellFormed call.command
   pub applied : Step old.keyspace call.answer.moment call.command call.answer.reply new.keyspace
 
 -- one call after the other

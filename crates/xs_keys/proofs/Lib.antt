@@ -1,5 +1,6 @@
 pub mod Additions
 pub mod AskSteps
+pub mod Comings
 pub mod Contents
 pub mod Deliveries
 pub mod GroupMaking
@@ -7,6 +8,9 @@ pub mod GroupRows
 pub mod GroupSteps
 pub mod Histories
 pub mod IdLists
+pub mod JobBooks
+pub mod JobMoves
+pub mod JobPlaces
 pub mod Lawfulness
 pub mod Lives
 pub mod Maps
@@ -15,6 +19,8 @@ pub mod Owners
 pub mod Touches
 pub mod Takings
 pub mod ReadSteps
+pub mod Refusals
 pub mod Runs
+pub mod Sights
 pub mod Streams
 pub mod Tellings

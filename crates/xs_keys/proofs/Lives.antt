@@ -64,7 +64,7 @@ delivered_in command present life = option_map_or (λ l. delivers (limit_of comm
 abbrev pub absent : List ℕ → List ReadOne → Bool
 absent key reads = list_any (λ one. is_name key one.key) reads
 
-not-read : (now : ℕ) (present : List Id) (read : ReadGroupCommand) (key : List ℕ) (reads : List ReadOne) (life : Option GroupLife) → absent key reads ≡ false → life_read now present read key reads life ≡ life
+pub not-read : (now : ℕ) (present : List Id) (read : ReadGroupCommand) (key : List ℕ) (reads : List ReadOne) (life : Option GroupLife) → absent key reads ≡ false → life_read now present read key reads life ≡ life
 not-read now present read key [] life e = refl
 not-read now present read key (one ∷ more) life e = by (is_name key one.key) e (λ f. not-read now present read key more life f) where
   by : (t : Bool) → (t || list_any (λ o. is_name key o.key) more) ≡ false → (list_any (λ o. is_name key o.key) more ≡ false → life_read now present read key more life ≡ life)

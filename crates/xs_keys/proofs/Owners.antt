@@ -243,9 +243,16 @@ module _ (start : Id) (past : List GroupEvent) (now : ℕ) (present : List Id) (
   unfolding Agrees t
   agree-ack ids =
       owner-step start past (t (ack ids)) x
-      ∙ ap (λ b. cond {A = Option (List ℕ)} b None (owner start past x)) (or-none (has_id ids x) (removes (t (ack ids)) (last_assigned start past x) || false) (settles-none false _ false refl (removes-none (t (ack ids)) (λ _. refl) (last_assigned start past x)) refl))
+      ∙ ap (λ b. cond {A = Option (List ℕ)} b None (owner start past x)) (or-none (has_id ids x && is_some (last_assigned start past x)) (removes (t (ack ids)) (last_assigned start past x) || false) (settles-none false _ false refl (removes-none (t (ack ids)) (λ _. refl) (last_assigned start past x)) refl))
+      ∙ once-assigned (has_id ids x) (last_assigned start past x) (is_settled start past x)
       ∙ ap (cond (has_id ids x) None) ih ∙ by (holding start past x) (has_id ids x)
     where
+      once-assigned : (a : Bool) (last : Option (List ℕ)) (settled : Bool) → cond (a && is_some last) None (cond settled None last) ≡ cond a None (cond settled None last)
+      once-assigned true None true = refl
+      once-assigned true None false = refl
+      once-assigned true (Some name) settled = refl
+      once-assigned false last settled = refl
+
       by : (r : Option Row) (b : Bool) → cond b None (of_row r) ≡ of_row (option_and_then (λ row. cond b None (Some row)) r)
       by None true = refl
       by None false = refl
@@ -327,8 +334,8 @@ owner-row start (event ∷ past) x = agree-asked start past event.now event.pres
 -- ---- the owner changes only by a claim
 
 -- a claim that takes an id settles nothing
-taken-unsettled : (ask : Ask) (now : ℕ) (present : List Id) (es : List (Id × Row)) (x : Id) (last : Option (List ℕ)) → has_id (asked_claim ask now present es).take x ≡ true
-    → (acks ask x || (removes (record { now = now; present = present; ask = ask }) last || has_id (asked_claim ask now present es).removed x)) ≡ false
+pub taken-unsettled : (ask : Ask) (now : ℕ) (present : List Id) (es : List (Id × Row)) (x : Id) (last : Option (List ℕ)) → has_id (asked_claim ask now present es).take x ≡ true
+    → ((acks ask x && is_some last) || (removes (record { now = now; present = present; ask = ask }) last || has_id (asked_claim ask now present es).removed x)) ≡ false
 taken-unsettled (read_new consumer limit noack) now present es x last e = absurd (false≢true e)
 taken-unsettled (read_own consumer limit from) now present es x last e = absurd (false≢true e)
 taken-unsettled (ack ids) now present es x last e = absurd (false≢true e)
@@ -340,7 +347,7 @@ taken-unsettled (auto_claim consumer rule from limit) now present es x last e =
     settles-none false _ _ refl (removes-none (record { now = now; present = present; ask = auto_claim consumer rule from limit }) (λ _. refl) last) (claimed-over (auto_claim consumer rule from limit) now present es x e).1
 
 -- what is taken has an owner
-taken-owned : (start : Id) (past : List GroupEvent) (event : GroupEvent) (x : Id) → takes start past event x ≡ true → is_some (owner start past x) ≡ true
+pub taken-owned : (start : Id) (past : List GroupEvent) (event : GroupEvent) (x : Id) → takes start past event x ≡ true → is_some (owner start past x) ≡ true
 taken-owned start past event x e =
     ap is_some (owner-row start past x) ∙ some-row (holding start past x)
     ∙ ap is_some (sym (row-found start past x)) ∙ (claimed-over event.ask event.now event.present (rows start past) x e).0
@@ -350,14 +357,14 @@ taken-owned start past event x e =
     some-row (Some row) = refl
 
 -- what has an owner was delivered
-owned-delivered : (start : Id) (past : List GroupEvent) (x : Id) → is_some (owner start past x) ≡ true → has_id (delivered start past) x ≡ true
+pub owned-delivered : (start : Id) (past : List GroupEvent) (x : Id) → is_some (owner start past x) ≡ true → has_id (delivered start past) x ≡ true
 owned-delivered start past x e = held-delivered start past x (some-row (holding start past x) (ap is_some (sym (owner-row start past x)) ∙ e)) where
   some-row : (r : Option Row) → is_some (of_row r) ≡ true → is_some r ≡ true
   some-row None f = f
   some-row (Some row) f = refl
 
 -- what was delivered is assigned by claims alone
-assigned-again : (start : Id) (past : List GroupEvent) (event : GroupEvent) (x : Id) → has_id (delivered start past) x ≡ true → assigns start past event x ≡ takes start past event x
+pub assigned-again : (start : Id) (past : List GroupEvent) (event : GroupEvent) (x : Id) → has_id (delivered start past) x ≡ true → assigns start past event x ≡ takes start past event x
 assigned-again start past event x d = ap (λ b. (keeps_pending event.ask && b) || takes start past event x) (not-again start past event x d) ∙ by (keeps_pending event.ask) where
   by : (k : Bool) → ((k && false) || takes start past event x) ≡ takes start past event x
   by true = refl
@@ -387,7 +394,7 @@ no-owner-after start past event x e = by (delivers_pending start past event x) r
 
 -- ---- one owner until settled
 
-pending-named : (ask : Ask) → keeps_pending ask ≡ true → is_some (consumer_of ask) ≡ true
+pub pending-named : (ask : Ask) → keeps_pending ask ≡ true → is_some (consumer_of ask) ≡ true
 pending-named (read_new consumer limit noack) e = refl
 pending-named (read_own consumer limit from) e = refl
 pending-named (ack ids) e = e
@@ -396,7 +403,7 @@ pending-named (leave consumer) e = refl
 pending-named (claim consumer rule ids) e = refl
 pending-named (auto_claim consumer rule from limit) e = refl
 
-claim-named : (ask : Ask) (now : ℕ) (present : List Id) (es : List (Id × Row)) (x : Id) → has_id (asked_claim ask now present es).take x ≡ true → is_some (consumer_of ask) ≡ true
+pub claim-named : (ask : Ask) (now : ℕ) (present : List Id) (es : List (Id × Row)) (x : Id) → has_id (asked_claim ask now present es).take x ≡ true → is_some (consumer_of ask) ≡ true
 claim-named (read_new consumer limit noack) now present es x e = refl
 claim-named (read_own consumer limit from) now present es x e = refl
 claim-named (ack ids) now present es x e = absurd (false≢true e)

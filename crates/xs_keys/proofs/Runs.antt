@@ -1,11 +1,12 @@
 -- A run so far, and one event more.
-use Rattle.std.proofs.Common.{◌≡◌, ℕ, List, [], ◌∷◌, ◌++◌, Some, inl, inr, sym, ap, ◌∙◌, subst, refl, append_assoc}
+use Rattle.std.proofs.Common.{◌≡◌, ◌⊎◌, ℕ, List, [], ◌∷◌, ◌++◌, Some, inl, inr, sym, ap, ◌∙◌, subst, refl, append_assoc}
 use Rattle.std.proofs.lemmas.List.{append-nil}
 use Rattle.xs_resp.specs.declared.reply.Reply.{Reply}
 use Rattle.xs_command.specs.declared.command.Command.{Command}
+use Rattle.xs_command.specs.WellFormed.{IsWellFormed}
 use Rattle.xs_keys.specs.Content.{Content, IsContent}
 use Rattle.xs_keys.specs.Told.{IsTold}
-use Rattle.xs_keys.specs.Headline.{Follows, Answers, Headline, RunsOn, DeliversNew, HasOneOwner}
+use Rattle.xs_keys.specs.Headline.{Follows, Answers, AreWellFormed, AtEachEvent, LivesAreApart, Headline, RunsOn, DeliversNew, HasOneOwner}
 use Rattle.xs_keys.specs.Step.{Step}
 use Rattle.xs_keys.specs.GroupLife.{GroupLife, group_life}
 use Rattle.xs_keys.proofs.Lawfulness.{content-lawful}
@@ -18,6 +19,13 @@ use Rattle.xs_keys.proofs.Streams.{ascends-given}
 use Rattle.xs_keys.proofs.Lives.{goes-on}
 use Rattle.xs_keys.proofs.Tellings.{is-told}
 use Rattle.xs_keys.proofs.Contents.{content-step}
+use Rattle.xs_keys.proofs.Sights.{sees-of}
+use Rattle.xs_keys.proofs.JobPlaces.{has-one-place}
+use Rattle.xs_keys.proofs.JobMoves.{goes-along}
+use Rattle.xs_keys.proofs.JobBooks.{balances}
+use Rattle.xs_keys.specs.Life.{Change, key_life}
+use Rattle.xs_keys.specs.Job.{HasItsPlaces, EachGoesAlong, EntriesAreAdded, GroupsAreCreated}
+use Rattle.xs_keys.proofs.Comings.{entries-added, groups-created}
 
 -- from this past on, the answers so far are good, whatever good answers to the rest of the events follow
 abbrev pub SoFar : List (ℕ × Command) → List (ℕ × Command) → List Reply → List (ℕ × Command) → List (ℕ × Command) → Type 0
@@ -32,38 +40,39 @@ pub runs-none : (old : Content) (events : List (ℕ × Command)) → RunsSoFar o
 runs-none old events = λ past is. (past, is, λ answers last done. done)
 
 -- how a step goes on with a history
-pub step-follows : (past : List (ℕ × Command)) (old new : Content) (now : ℕ) (command : Command) (answer : Reply) → IsContent old past → Step old now command answer new
+pub step-follows : (past : List (ℕ × Command)) (old new : Content) (now : ℕ) (command : Command) (answer : Reply) → IsWellFormed command → IsContent old past → Step old now command answer new
     → (next : List (ℕ × Command)) × IsContent new next × Follows now past command answer next
-step-follows past old new now command answer is (inl applied) = (
+step-follows past old new now command answer formed is (inl applied) = (
   (now, command) ∷ past,
   subst (λ c. IsContent c ((now, command) ∷ past)) (sym applied.content_is) (content-step past old now command is),
   inl (
     record {
+      formed = formed;
       content = old;
       left_by = is;
       answer_is = applied.answer_is;
-      told = λ formed. subst (λ r. IsTold past now command r) (sym applied.answer_is) (is-told past old now command is formed);
+      told = subst (λ r. IsTold past now command r) (sym applied.answer_is) (is-told past old now command is formed);
     },
     refl,
   ),
 )
-step-follows past old new now command answer is (inr refused) = (
+step-follows past old new now command answer formed is (inr refused) = (
   past,
   subst (λ c. IsContent c past) (sym refused.content_is) is,
   inr (record { takes = refused.takes; content = old; left_by = is; no_other = refused.no_other; answer_is = refused.answer_is }, refl),
 )
 
-one_more : (mid : List (ℕ × Command)) (e : ℕ × Command) (reply : Reply) (now next : Content) → IsContent now mid → Step now e.0 e.1 reply next
+one_more : (mid : List (ℕ × Command)) (e : ℕ × Command) (reply : Reply) (now next : Content) → IsWellFormed e.1 → IsContent now mid → Step now e.0 e.1 reply next
     → (more : List (ℕ × Command)) × IsContent next more × ((rest : List (ℕ × Command)) (answers : List Reply) (last : List (ℕ × Command)) → Answers more rest answers last → Answers mid (e ∷ rest) (reply ∷ answers) last)
-one_more mid e reply now next is step =
-    let more = step-follows mid now next e.0 e.1 reply is step in
+one_more mid e reply now next formed is step =
+    let more = step-follows mid now next e.0 e.1 reply formed is step in
     (more.0, more.1, λ rest answers last done. (more.0, more.2, done))
 
 pub runs-more : (old : Content) (events : List (ℕ × Command)) (replies : List Reply) (now next : Content) (e : ℕ × Command) (rest : List (ℕ × Command)) (reply : Reply)
-    → RunsSoFar old events replies now (e ∷ rest) → Step now e.0 e.1 reply next → RunsSoFar old events (replies ++ reply ∷ []) next rest
-runs-more old events replies now next e rest reply so_far step = λ past is.
+    → RunsSoFar old events replies now (e ∷ rest) → IsWellFormed e.1 → Step now e.0 e.1 reply next → RunsSoFar old events (replies ++ reply ∷ []) next rest
+runs-more old events replies now next e rest reply so_far formed step = λ past is.
     let here = so_far past is in
-    let more = one_more here.0 e reply now next here.1 step in
+    let more = one_more here.0 e reply now next formed here.1 step in
     (more.0, more.1, λ answers last done. rw append_assoc (here.2 (reply ∷ answers) last (more.2 rest answers last done)))
 
 pub delivers-new : (past : List (ℕ × Command)) (key group : List ℕ) (life : GroupLife) → group_life past key group ≡ Some life → DeliversNew life
@@ -85,14 +94,53 @@ has-one-owner life = record {
   by_claims = changes-by-claims life.start life.events;
 }
 
+pub has-its-places : (past : List (ℕ × Command)) (key group : List ℕ) (changes : List Change) (life : GroupLife) → key_life past key ≡ Some changes → group_life past key group ≡ Some life → HasItsPlaces changes life
+has-its-places past key group changes life k g =
+    let asc = present-in-life past key group life g in
+    let sees = sees-of past key group changes life k g in
+    record { one_place = λ x given. has-one-place life changes asc sees x; balances = balances life changes asc sees }
+
+-- ---- at each event
+
+pub formed-after : (past events : List (ℕ × Command)) (replies : List Reply) (history : List (ℕ × Command)) → Answers past events replies history → AreWellFormed past → AreWellFormed history
+formed-after past [] [] history are formed = subst AreWellFormed (sym are) formed
+formed-after past [] (reply ∷ replies) history are formed = absurd are
+formed-after past (e ∷ events) [] history are formed = absurd are
+formed-after past (e ∷ events) (reply ∷ replies) history (next, follows, rest) formed = formed-after next events replies history rest (by follows) where
+  by : Follows e.0 past e.1 reply next → AreWellFormed next
+  by (inl (answered, is)) = subst AreWellFormed (sym is) (answered.formed, formed)
+  by (inr (left_out, is)) = subst AreWellFormed (sym is) formed
+
+formed-among : (later : List (ℕ × Command)) (e : ℕ × Command) (earlier : List (ℕ × Command)) → AreWellFormed (later ++ e ∷ earlier) → IsWellFormed e.1
+formed-among [] e earlier formed = formed.0
+formed-among (first ∷ later) e earlier formed = formed-among later e earlier formed.1
+
+formed-at : (past events : List (ℕ × Command)) (replies : List Reply) (history : List (ℕ × Command)) → Answers past events replies history
+    → (later : List (ℕ × Command)) (e : ℕ × Command) (earlier : List (ℕ × Command)) → history ≡ later ++ e ∷ earlier → AreWellFormed past ⊎ IsWellFormed e.1 → IsWellFormed e.1
+formed-at past events replies history are later e earlier is (inl formed) = formed-among later e earlier (subst AreWellFormed is (formed-after past events replies history are formed))
+formed-at past events replies history are later e earlier is (inr formed) = formed
+
+at-each-event : (past events : List (ℕ × Command)) (replies : List Reply) (history : List (ℕ × Command)) → Answers past events replies history
+    → (Holds : List (ℕ × Command) → ℕ × Command → Type 0) → ((earlier : List (ℕ × Command)) (e : ℕ × Command) → IsWellFormed e.1 → Holds earlier e)
+    → AtEachEvent past history Holds
+at-each-event [] events replies history are Holds holds = λ later e earlier is.
+    holds earlier e (formed-at [] events replies history are later e earlier is (inl tt))
+at-each-event (first ∷ past) events replies history are Holds holds = λ later e earlier is formed.
+    holds earlier e (formed-at (first ∷ past) events replies history are later e earlier is formed)
+
 pub headline : (past events : List (ℕ × Command)) (replies : List Reply) (history : List (ℕ × Command)) → Answers past events replies history → Headline past events replies history
 headline past events replies history answers = record {
   replies = answers;
   steps = λ later e earlier f content is. (content-lawful earlier content is, content-step earlier content e.0 e.1 is);
   ids = λ later earlier f key changes g. ascends-given changes;
-  apart = λ later e earlier f formed key group. goes-on earlier e.0 e.1 key group formed;
+  formed = formed-after past events replies history answers;
+  apart = at-each-event past events replies history answers LivesAreApart (λ earlier e formed key group. goes-on earlier e.0 e.1 key group formed);
   deliveries = λ later earlier e key group life f. delivers-new earlier key group life f;
   owners = λ later earlier e key group life f. has-one-owner life;
+  places = λ later earlier e key group changes life k g. has-its-places earlier key group changes life k g;
+  moves = at-each-event past events replies history answers EachGoesAlong (λ earlier e formed key group x. goes-along earlier e.0 e.1 key group x formed);
+  additions = at-each-event past events replies history answers EntriesAreAdded (λ earlier e formed. entries-added earlier e);
+  groups = at-each-event past events replies history answers GroupsAreCreated (λ earlier e formed. groups-created earlier e);
 }
 
 pub runs-all : (old : Content) (events : List (ℕ × Command)) (replies : List Reply) (new : Content) → RunsSoFar old events replies new [] → RunsOn old events replies new

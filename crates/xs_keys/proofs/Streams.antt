@@ -76,7 +76,7 @@ not_new : (t : Id) (r : Result Id AddError) (fields : List Field) (x : Id) → (
 not_new t (Ok id) fields x above up = rw (below-not_same x id (up_to-below t x id up (above id refl))) refl
 not_new t (Err e) fields x above up = refl
 
-gives-not_new : (change : Change) (t x : Id) → is_below t x ≡ false → has_id (ids_of (gives change t)) x ≡ false
+pub gives-not_new : (change : Change) (t x : Id) → is_below t x ≡ false → has_id (ids_of (gives change t)) x ≡ false
 gives-not_new (added now id fields trim) t x up = not_new t (assigned now t id) fields x (λ y e. assigned-above now t id y e) up
 gives-not_new (deleted ids) t x up = refl
 gives-not_new (trimmed_to trim) t x up = refl

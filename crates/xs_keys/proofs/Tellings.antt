@@ -1,32 +1,35 @@
 -- The replies to reads and claims tell what is delivered and taken, each entry as it was given.
-use Rattle.std.proofs.Common.{◌≡◌, ◌∙◌, ℕ, Bool, true, false, cond, ◌&&◌, ◌||◌, List, [], ◌∷◌, Option, Some, None, is_some, filter, map, take, bytes_eq, sym, ap, refl, zero, suc}
+use Rattle.std.proofs.Common.{◌≡◌, ◌∙◌, inl, inr, ℕ, Bool, true, false, cond, ◌&&◌, ◌||◌, List, [], ◌∷◌, ◌++◌, Option, Some, None, Result, Ok, Err, is_some, filter, map, take, bytes_eq, sym, ap, subst, refl, zero, suc}
+use Rattle.std.proofs.lemmas.List.{append-nil}
 use Rattle.std.proofs.lemmas.Bool.{false≢true}
 use Rattle.std.specs.List.{flat_map, list_all, list_any, IsDistinct, AllByRecursion}
-use Rattle.std.specs.Option.{option_map_or}
+use Rattle.std.specs.Option.{option_map, option_map_or}
 use Rattle.xs_bytes.specs.SortedMap.{get}
 use Rattle.xs_stream.specs.declared.id.Id.{Id}
 use Rattle.xs_stream.specs.declared.field.Field.{Field}
-use Rattle.xs_stream.specs.Id.{is_below, is_same, has_id}
+use Rattle.xs_stream.specs.Id.{is_below, is_same, has_id, zero_id, assigned}
+use Rattle.xs_stream.specs.declared.add.AddError.{AddError}
 use Rattle.xs_stream.specs.Kept.{ids_of, fields_at, limited}
 use Rattle.xs_stream.proofs.InOrder.{ids_of-filter}
 use Rattle.xs_stream.proofs.Order.{is_same-eq, is_same-refl}
 use Rattle.xs_group.specs.State.{State, Row, is_name, delivers, shown}
 use Rattle.xs_group.specs.Claims.{Rule, claim_of, scan_of, claim_among, firsts, from_start, scanned, is_hit, is_taken, is_idle, row_at}
 use Rattle.xs_resp.specs.declared.reply.Reply.{Reply}
-use Rattle.xs_resp.specs.declared.reply.Reply.TheVariants.{Bulk, NullArray}
+use Rattle.xs_resp.specs.declared.reply.Reply.TheVariants.{Bulk, NullBulk, NullArray}
 use Rattle.xs_command.specs.WellFormed.{IsWellFormed, keys_of}
 use Rattle.xs_command.specs.declared.command.Command.{Command}
 use Rattle.xs_command.specs.declared.command.Command.TheVariants.{Ping, Quit, Add, Delete, TrimTo, Len, Scan, GroupCreate, GroupDestroy, ConsumerCreate, ConsumerDelete, ReadGroup, Ack, Pending, PendingRows, Claim, AutoClaim, DropKeys}
+use Rattle.xs_command.specs.declared.command.AddCommand.{AddCommand}
 use Rattle.xs_command.specs.declared.command.ReadGroupCommand.{ReadGroupCommand}
 use Rattle.xs_command.specs.declared.command.ReadOne.{ReadOne}
 use Rattle.xs_command.specs.declared.command.ReadFrom.{ReadFrom}
 use Rattle.xs_command.specs.declared.command.ReadFrom.TheVariants.{New, After}
-use Rattle.xs_keys.specs.Life.{Change, key_life, given_in, live, stands, stream_of}
+use Rattle.xs_keys.specs.Life.{Change, added, opened, key_life, entry_of, given_in, top_of, live, stands, stream_of}
 use Rattle.xs_keys.specs.GroupEvent.{cursor, rows, claim, auto_claim}
 use Rattle.xs_keys.specs.GroupLife.{GroupLife, group_life, is_new, asks_new, acts, delivered_by, read_ask}
-use Rattle.xs_keys.specs.Content.{Content, Key, IsContent, IsGroup, GroupHolds, KeyHolds, group_in, entries_in, asked, serves}
-use Rattle.xs_keys.specs.Reply.{reply, array, id_reply, field_replies, entry_reply, entries_reply, new_part, shown_by, parts, taken_reply, scan_shown}
-use Rattle.xs_keys.specs.Told.{given_at, TellsRead, TellsReads, taken_by, IsTold}
+use Rattle.xs_keys.specs.Content.{Content, Key, IsContent, IsGroup, GroupHolds, KeyHolds, made, group_in, entries_in, asked, serves}
+use Rattle.xs_keys.specs.Reply.{reply, assigned_reply, array, id_reply, field_replies, entry_reply, entries_reply, new_part, shown_by, parts, taken_reply, scan_shown}
+use Rattle.xs_keys.specs.Told.{given_at, TellsAddition, TellsRead, TellsReads, taken_by, IsTold}
 use Rattle.xs_keys.proofs.IdLists.{has_id-where}
 use Rattle.xs_keys.proofs.Names.{is_name-refl}
 use Rattle.xs_keys.proofs.Contents.{no_life, asked-elsewhere, serves-known}
@@ -228,6 +231,29 @@ told-reads c past now read is act (one ∷ more) next distinct open_all same ask
 
 -- ---- every command
 
+-- ---- additions
+
+told-addition : (given : List (Id × List Field)) (fields : List Field) (id : Result Id AddError) → TellsAddition given fields (assigned_reply id) (given ++ entry_of id fields)
+told-addition given fields (Ok id) = inl (id, refl, refl)
+told-addition given fields (Err refusal) = inr (inl refl, append-nil given)
+
+told-add : (past : List (ℕ × Command)) (c : Content) (now : ℕ) (add : AddCommand) → IsContent c past → IsTold past now (Add add) (reply c now (Add add))
+told-add past c now add is =
+    subst (λ t. TellsAddition (option_map_or given_in (key_life past add.key) []) add.fields (reply c now (Add add))
+    (option_map_or given_in (cond t (option_map (λ changes. added now add.id add.fields add.trim ∷ changes) (opened add.make (key_life past add.key))) (key_life past add.key)) []))
+    (sym (is_name-refl add.key)) (by add.make (get c add.key) (key_life past add.key) (is add.key))
+  where
+    by : (make : Bool) (key : Option Key) (life : Option (List Change)) → KeyHolds key life (λ group. group_life past add.key group)
+        → TellsAddition (option_map_or given_in life []) add.fields (option_map_or (λ k. assigned_reply (assigned now k.stream.top add.id)) (made make key) NullBulk)
+        (option_map_or given_in (option_map (λ changes. added now add.id add.fields add.trim ∷ changes) (opened make life)) [])
+    by true None None h = told-addition [] add.fields (assigned now zero_id add.id)
+    by false None None h = inr (inr refl, refl)
+    by make None (Some changes) h = absurd h
+    by make (Some key) None h = absurd h
+    by make (Some key) (Some changes) h =
+        subst (λ top. TellsAddition (given_in changes) add.fields (assigned_reply (assigned now top add.id)) (given_in changes ++ entry_of (assigned now (top_of (given_in changes)) add.id) add.fields))
+        (sym (ap (λ s. s.top) h.0)) (told-addition (given_in changes) add.fields (assigned now (top_of (given_in changes)) add.id))
+
 pub is-told : (past : List (ℕ × Command)) (c : Content) (now : ℕ) (command : Command) → IsContent c past → IsWellFormed command → IsTold past now command (reply c now command)
 is-told past c now (ReadGroup read) is formed = λ act.
     let served : serves c read ≡ true = serves-known read.reads c past read.group is ∙ act in (
@@ -250,7 +276,7 @@ is-told past c now (AutoClaim command) is formed = λ is_open.
     )
 is-told past c now (Ping message) is formed = tt
 is-told past c now Quit is formed = tt
-is-told past c now (Add add) is formed = tt
+is-told past c now (Add add) is formed = told-add past c now add is
 is-told past c now (Delete key ids) is formed = tt
 is-told past c now (TrimTo key trim) is formed = tt
 is-told past c now (Len key) is formed = tt

@@ -182,6 +182,17 @@ pub record Deliveries : Type 0 where
       at 3 (codes "XACK nokey g 1-0") (Int 0) ∷
       at 3 (codes "XACK s g x") (Error BadId) ∷
       [])
+  -- of a deleted entry, in a stream where none is left
+  pub a_deleted_entry_is_acknowledged : IsPlayed (
+      at 1 (codes "XADD s 1-0 f v") (id 1 0) ∷
+      at 1 (codes "XGROUP CREATE s g 0") ok ∷
+      at 100 (codes "XREADGROUP GROUP g c STREAMS s >") (array (stream (codes "s") (entry 1 0 ∷ []) ∷ [])) ∷
+      at 100 (codes "XDEL s 1-0") (Int 1) ∷
+      at 110 (codes "XREADGROUP GROUP g c STREAMS s >") NullArray ∷
+      at 160 (codes "XPENDING s g - + 9") (array (row (id 1 0) (codes "c") 60 1 ∷ [])) ∷
+      at 160 (codes "XACK s g 1-0") (Int 1) ∷
+      at 160 (codes "XPENDING s g - + 9") (array []) ∷
+      [])
   -- two consumers of a group
   pub two_consumers : IsPlayed (
       at 1 (codes "XADD s 1-0 f v") (id 1 0) ∷

@@ -2,7 +2,7 @@
 -- consumers; and what last touched an entry. As a real Redis 7.0 lists it after the same lines (XREADGROUP, XACK,
 -- XCLAIM, XAUTOCLAIM, XGROUP CREATECONSUMER and DELCONSUMER, XPENDING). Own: a read of own entries counts, and each
 -- accepted read or claim brings its consumer.
-use Rattle.std.specs.Prelude.{◌≡◌, ℕ, ◌++◌, Bool, true, false, List, [], ◌∷◌, codes, Option, Some, None}
+use Rattle.std.specs.Prelude.{◌≡◌, ℕ, Bool, true, false, List, [], ◌∷◌, codes, Option, Some, None}
 use Rattle.xs_stream.specs.declared.id.Id.{Id}
 use Rattle.xs_stream.specs.Examples.{at}
 use Rattle.xs_group.specs.declared.claims.ClaimTime.TheVariants as time
@@ -12,7 +12,7 @@ use Rattle.xs_group.specs.ExamplesRead.{pending}
 use Rattle.xs_keys.specs.GroupEvent.{Ask, read_new, read_own, ack, join, claim, auto_claim, rows, is_consumer}
 use Rattle.xs_keys.specs.GroupEvent.{leave, is_their_turn, is_settled, settles, owner, removes_pending}
 use Rattle.xs_keys.specs.Touched.{redelivers, touches, time_of, count_of}
-use Rattle.xs_keys.specs.Taken.{least_idle}
+use Rattle.xs_keys.specs.Taken.{least_idle, is_named_by, is_from_start, MayStop}
 use Rattle.xs_keys.specs.ExamplesHistory.{of_group, group_and}
 use Rattle.xs_keys.specs.ExamplesGroupEvents.{start, event, event_without, read_by_a, noack_by_b, first_by_a}
 use Rattle.xs_keys.specs.ExamplesGroupEvents.{claim_by_b}
@@ -119,6 +119,16 @@ pub record Touches : Type 0 where
       count_of start (event 180 (auto_claim (codes "b") now_and_ids_alone (at 0 0) 9) ∷ read_by_a ∷ []) (at 2 0) ≡ 1
   pub least_of_a_claim : least_idle (claims of_an_hour) ≡ 3600000
   pub least_of_a_scan : least_idle (auto_claim (codes "b") of_an_hour (at 0 0) 9) ≡ 3600000
+  pub named_by_a_claim : is_named_by (claims of_an_hour) (at 2 0) ≡ true
+  pub another_isnt_named : is_named_by (claims of_an_hour) (at 3 0) ≡ false
+  pub none_is_named_by_a_scan : is_named_by (auto_claim (codes "b") of_an_hour (at 0 0) 9) (at 2 0) ≡ false
+  pub from_its_start_on : is_from_start (auto_claim (codes "b") of_an_hour (at 2 0) 9) (at 2 0) ≡ true
+  pub not_before_its_start : is_from_start (auto_claim (codes "b") of_an_hour (at 2 0) 9) (at 1 0) ≡ false
+  pub no_start_of_a_claim : is_from_start (claims of_an_hour) (at 2 0) ≡ false
+  pub stops_at_its_count :
+      MayStop (event 150 (auto_claim (codes "b") any_idle_time (at 0 0) 1)) (rows start (read_by_a ∷ []))
+  pub not_sooner :
+      MayStop (event 150 (auto_claim (codes "b") any_idle_time (at 0 0) 3)) (rows start (read_by_a ∷ [])) → ⊥
   pub removed_when_deleted :
       removes_pending start (read_by_a ∷ []) (event_without 200 (claims any_idle_time)) (at 2 0) ≡ true
   pub not_removed_when_there : removes_pending start (read_by_a ∷ []) claim_by_b (at 2 0) ≡ false

@@ -1,7 +1,7 @@
 -- When a content is that of a history, by examples: a key with the stream of its life, and a group with the cursor, the
 -- consumers and the rows of its life; and contents that aren't. (Redis, XADD and XGROUP CREATE, as a real Redis 7.0
 -- shows them.)
-use Rattle.std.specs.Prelude.{◌≡◌, ℕ, false, List, [], ◌∷◌, codes, Option, Some, None}
+use Rattle.std.specs.Prelude.{ℕ, false, List, [], ◌∷◌, codes, Option, Some, None}
 use Rattle.xs_bytes.specs.SortedMap.{empty}
 use Rattle.xs_stream.specs.declared.id.Id.{Id}
 use Rattle.xs_stream.specs.Examples.{at}

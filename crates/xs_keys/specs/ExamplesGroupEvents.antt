@@ -131,6 +131,8 @@ pub record Settling : Type 0 where
   pub by_a_scan_that_finds_it_deleted :
       settles start (read_by_a ∷ []) (event_without 200 (auto_claim (codes "b") any_idle_time (at 0 0) 9)) (at 2 0)
       ≡ true
+  pub not_before_its_delivery : settles start [] (event 200 (ack (at 2 0 ∷ []))) (at 2 0) ≡ false
+  pub not_with_noack : settles start (noack_by_b ∷ []) (event 200 (ack (at 2 0 ∷ []))) (at 2 0) ≡ false
   pub not_by_a_claim : settles start (read_by_a ∷ []) claim_by_b (at 2 0) ≡ false
   pub not_by_a_read :
       settles start (read_by_a ∷ []) (event_without 200 (read_own (codes "a") None (at 0 0))) (at 2 0) ≡ false
@@ -145,6 +147,7 @@ pub record Settling : Type 0 where
   pub settled :
       is_settled start (event 200 (join (codes "c")) ∷ event 200 (ack (at 2 0 ∷ [])) ∷ read_by_a ∷ []) (at 2 0) ≡ true
   pub not_settled : is_settled start (claim_by_b ∷ read_by_a ∷ []) (at 2 0) ≡ false
+  pub not_settled_too_early : is_settled start (event 200 (ack (at 2 0 ∷ [])) ∷ []) (at 2 0) ≡ false
   pub settled_later :
       settled_in start (event 300 (join (codes "c")) ∷ event 200 (ack (at 2 0 ∷ [])) ∷ []) (read_by_a ∷ []) (at 2 0)
       ≡ true

@@ -1,9 +1,9 @@
--- What the replies to reads and claims tell, by examples: the replies that a real Redis 7.0 gives after the same lines
--- (XREADGROUP, XCLAIM, XAUTOCLAIM), and others that it doesn't give.
+-- What the replies to additions, reads and claims tell, by examples: the replies that a real Redis 7.0 gives after the
+-- same lines (XADD, XREADGROUP, XCLAIM, XAUTOCLAIM), and others that it doesn't give.
 use Rattle.std.specs.Prelude.{ℕ, List, [], ◌∷◌, codes}
 use Rattle.xs_command.specs.Read.{reads}
 use Rattle.xs_command.specs.Examples.{line}
-use Rattle.xs_keys.specs.Ground.{Command, Reply, Error, Int, NoGroup, NullArray}
+use Rattle.xs_keys.specs.Ground.{Command, Reply, Error, Int, NoGroup, SmallId, NullArray, NullBulk}
 use Rattle.xs_keys.specs.Reply.{array}
 use Rattle.xs_keys.specs.Told.{IsTold}
 use Rattle.xs_keys.specs.Played.{name, id, entry, stream}
@@ -28,6 +28,13 @@ two_groups = group_and (codes "XADD t 7-0 f v" ∷ codes "XGROUP CREATE t g 0" �
 -- the consumer a has read 2-0 and 3-0
 abbrev pub read_by_a : List (List ℕ)
 read_by_a = group_and (codes "XREADGROUP GROUP g a STREAMS s >" ∷ [])
+
+pub record ToldAdditions : Type 0 where
+  pub added : Tells (group_and []) (codes "XADD s 9-0 f v") (id 9 0)
+  pub added_and_trimmed : Tells (group_and []) (codes "XADD s MAXLEN 0 9-0 f v") (id 9 0)
+  pub makes_the_key : Tells (group_and []) (codes "XADD t 9-0 f v") (id 9 0)
+  pub refused : Tells (group_and []) (codes "XADD s 3-0 f v") (Error SmallId)
+  pub without_a_key : Tells (group_and []) (codes "XADD t NOMKSTREAM 9-0 f v") NullBulk
 
 pub record ToldReads : Type 0 where
   pub new :

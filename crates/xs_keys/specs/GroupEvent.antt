@@ -1,7 +1,7 @@
 -- Events of a group: what an event asks of it, at a moment, over the ids then in the stream; and the group by looking
 -- back over the events of its life: deliveries, cursor, consumers, rows, and who has an entry.
 use Rattle.std.specs.Prelude.{ℕ, Bool, false, not, List, [], Option, Some, None, true, ◌&&◌, ◌||◌, ◌∷◌, ◌++◌}
-use Rattle.std.specs.Prelude.{option_and_then, if◌then◌else◌}
+use Rattle.std.specs.Prelude.{is_some, option_and_then, if◌then◌else◌}
 use Rattle.xs_group.specs.declared.claims.Claim.{Claim}
 use Rattle.xs_keys.specs.Ground.{option_map_or, Id, has_id, Rule, Row, is_name, delivers, claim_of, scan_of, with_some}
 use Rattle.xs_keys.specs.Ground.{is_below, first_row, shown, reread, claimed, unless_acked, unless_owned}
@@ -153,10 +153,11 @@ removes event consumer = option_map_or (drops_consumer event.ask) consumer false
 abbrev pub removes_pending : Id → List GroupEvent → GroupEvent → Id → Bool
 removes_pending start past event x = has_id (claims_of event (rows start past)).removed x
 
--- it is acknowledged, the consumer to whom it was last assigned is removed, or a claim removes it
+-- it was assigned, and is acknowledged; the consumer to whom it was last assigned is removed; or a claim removes it
 abbrev pub settles : Id → List GroupEvent → GroupEvent → Id → Bool
 settles start past event x =
-    acks event.ask x || (removes event (last_assigned start past x) || removes_pending start past event x)
+    (acks event.ask x && is_some (last_assigned start past x))
+    || (removes event (last_assigned start past x) || removes_pending start past event x)
 
 -- an event has settled it since it was last assigned
 abbrev pub is_settled : Id → List GroupEvent → Id → Bool

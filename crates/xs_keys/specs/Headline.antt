@@ -16,6 +16,7 @@ use Rattle.xs_keys.specs.GroupEvent.{GroupEvent, read_new, consumer_of, delivere
 use Rattle.xs_keys.specs.GroupEvent.{delivers_pending, takes, settles, owner, rows}
 use Rattle.xs_keys.specs.GroupLife.{GroupLife, group_life, delivered_by, GoesOn}
 use Rattle.xs_keys.specs.Told.{IsTold}
+use Rattle.xs_keys.specs.Job.{EachHasAPlace, EachGoesAlong, EntriesAreAdded, GroupsAreCreated}
 
 -- one of the events is their turn, and the id is delivered exactly where it is in the stream then
 pub record HadItsTurn (start : Id) (events : List GroupEvent) (x : Id) : Type 0 where
@@ -90,13 +91,14 @@ pub record HasOneOwner (life : GroupLife) : Type 0 where
   pub until_settled : OwnedUntilSettled life.start life.events
   pub by_claims : ChangesByClaims life.start life.events
 
--- an event of the history: its reply is the model's, at the content of the events before it; and what it tells a
--- consumer of entries is what it delivers or claims
+-- an event of the history: its command is well formed, and its reply is the model's, at the content of the events before
+-- it; and what it tells a consumer of entries is what it delivers or claims
 pub record IsAnswered (past : List (ℕ × Command)) (now : ℕ) (command : Command) (answer : Reply) : Type 0 where
+  pub formed : IsWellFormed command
   pub content : Content
   pub left_by : IsContent content past
   pub answer_is : answer ≡ reply content now command
-  pub told : IsWellFormed command → IsTold past now command answer
+  pub told : IsTold past now command answer
 
 -- it was refused for want of memory, where the command takes some and the model refuses nothing
 pub record IsLeftOut (past : List (ℕ × Command)) (now : ℕ) (command : Command) (answer : Reply) : Type 0 where
@@ -137,12 +139,27 @@ IdsAscend history =
     (later earlier : List (ℕ × Command)) → history ≡ later ++ earlier
     → (key : List ℕ) (changes : List Change) → key_life earlier key ≡ Some changes → Ascends (ids_of (given_in changes))
 
+-- each command of a history is well formed
+abbrev pub AreWellFormed : List (ℕ × Command) → Type 0
+AreWellFormed [] = Unit {0}
+AreWellFormed (e ∷ past) = IsWellFormed e.1 × AreWellFormed past
+
+-- so it is at each event of a history, meeting the events before it. If the history began with nothing, that is all: each
+-- event of a run is well formed. If it began with other events, they or the event in question have to be.
+abbrev pub AtEachEvent :
+    List (ℕ × Command) → List (ℕ × Command) → (List (ℕ × Command) → ℕ × Command → Type 0) → Type 0
+AtEachEvent [] history Holds =
+    (later : List (ℕ × Command)) (e : ℕ × Command) (earlier : List (ℕ × Command)) → history ≡ later ++ e ∷ earlier
+    → Holds earlier e
+AtEachEvent (first ∷ past) history Holds =
+    (later : List (ℕ × Command)) (e : ℕ × Command) (earlier : List (ℕ × Command)) → history ≡ later ++ e ∷ earlier
+    → AreWellFormed (first ∷ past) ⊎ IsWellFormed e.1 → Holds earlier e
+
 -- an event delivers nothing of a life that isn't open at it, or that it doesn't read; and what is delivered in a life
 -- is what its events deliver, one after the other
-abbrev pub LivesAreApart : List (ℕ × Command) → Type 0
-LivesAreApart history =
-    (later : List (ℕ × Command)) (e : ℕ × Command) (earlier : List (ℕ × Command)) → history ≡ later ++ e ∷ earlier
-    → IsWellFormed e.1 → (key group : List ℕ)
+abbrev pub LivesAreApart : List (ℕ × Command) → ℕ × Command → Type 0
+LivesAreApart earlier e =
+    (key group : List ℕ)
     → GoesOn (group_life earlier key group) (delivered_by earlier e.1 key group) (group_life (e ∷ earlier) key group)
 
 -- each event of a history leads from the content before it to the content after it, and each content is lawful
@@ -154,15 +171,21 @@ StepsLawfully history =
 
 -- every reply is the model's, and tells what was delivered; each group's new deliveries are, in id order and each once,
 -- the entries past its start that were in the stream when their turn came, as many as were asked for; and each entry
--- delivered without NOACK is pending with exactly one consumer until it is settled, and is claimed only when idle
+-- delivered without NOACK is pending with exactly one consumer until it is settled, and is claimed only when idle; and
+-- each entry has one place in each group at each time, and goes from one to another along the arrows alone
 pub record Headline
     (past events : List (ℕ × Command)) (answers : List Reply) (history : List (ℕ × Command)) : Type 0 where
   pub replies : Answers past events answers history
+  pub formed : AreWellFormed past → AreWellFormed history
   pub steps : StepsLawfully history
   pub ids : IdsAscend history
-  pub apart : LivesAreApart history
+  pub apart : AtEachEvent past history LivesAreApart
   pub deliveries : OfEachGroup history DeliversNew
   pub owners : OfEachGroup history HasOneOwner
+  pub places : EachHasAPlace history
+  pub moves : AtEachEvent past history EachGoesAlong
+  pub additions : AtEachEvent past history EntriesAreAdded
+  pub groups : AtEachEvent past history GroupsAreCreated
 
 -- over any history that left the old content, the headline holds, and the new content is lawful and that of
 -- the history with the events that were applied

@@ -7,6 +7,7 @@ pub mod GroupLife
 pub mod Content
 pub mod Reply
 pub mod Told
+pub mod Job
 pub mod Step
 pub mod Headline
 pub mod Adding
@@ -21,3 +22,4 @@ pub mod ExamplesAsked
 pub mod ExamplesContent
 pub mod ExamplesHeadline
 pub mod ExamplesTold
+pub mod ExamplesJob

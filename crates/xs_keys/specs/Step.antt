@@ -41,3 +41,8 @@ Step old now command answer new = Applied old now command answer new ⊎ OutOfMe
 -- the same at any moment: the command doesn't ask for the time
 abbrev pub StepAtAnyTime : Content → Command → Reply → Content → Type 0
 StepAtAnyTime old command answer new = (now : ℕ) → Step old now command answer new
+
+-- what is refused changes nothing: the reply is an error only if the content stays
+abbrev pub IsUnchangedIfRefused : Content → ℕ → Command → Type 0
+IsUnchangedIfRefused content now command =
+    is_error (reply content now command) ≡ true → after content now command ≡ content

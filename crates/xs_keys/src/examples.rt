@@ -5,7 +5,8 @@ ghost use Rattle.xs_keys.specs.ExamplesGroupEvents as group_events;
 ghost use Rattle.xs_keys.specs.ExamplesAsked as asked;
 ghost use Rattle.xs_keys.specs.ExamplesContent as content;
 ghost use Rattle.xs_keys.specs.ExamplesHeadline as headline;
-ghost use Rattle.xs_keys.specs.ExamplesTold.{ToldReads, ToldClaims};
+ghost use Rattle.xs_keys.specs.ExamplesJob as job;
+ghost use Rattle.xs_keys.specs.ExamplesTold.{ToldAdditions, ToldReads, ToldClaims};
 
 /// Ids, ranges and trims.
 pub fn streams()
@@ -142,7 +143,47 @@ pub fn told_reads()
     ensures { ToldReads }
 {}
 
+/// What the replies to additions tell.
+pub fn told_additions()
+    ensures { ToldAdditions }
+{}
+
 /// What the replies to claims tell.
 pub fn told_claims()
     ensures { ToldClaims }
+{}
+
+/// Where an entry stands.
+pub fn places_of_a_job()
+    ensures { job.Places }
+{}
+
+/// What each place is.
+pub fn standings_of_a_job()
+    ensures { job.Standings }
+{}
+
+/// What leads an entry on, and whereto.
+pub fn arrows_of_a_job()
+    ensures { job.Arrows }
+{}
+
+/// What leads it nowhere.
+pub fn no_arrows_of_a_job()
+    ensures { job.NoArrows }
+{}
+
+/// How an entry comes, goes and stays.
+pub fn comings_of_a_job()
+    ensures { job.Comings }
+{}
+
+/// While which events a group goes on.
+pub fn lasting_lives()
+    ensures { job.Lasting }
+{}
+
+/// Which entries stand where.
+pub fn books_of_a_group()
+    ensures { job.Books }
 {}

@@ -1,22 +1,25 @@
 //! Laws of the model. Each holds of every history, so of every part of one from its beginning on, and
 //! of lives that are over.
-ghost use Rattle.std.specs.Prelude.{◌≡◌, ◌⊎◌, ℕ, false, true, List, [], ◌∷◌, ◌++◌, None, Some};
+ghost use Rattle.std.specs.Prelude.{◌≡◌, ◌⊎◌, ℕ, false, true, List, [], ◌∷◌, ◌++◌, None, Some, length};
 ghost use Rattle.std.specs.Option.{option_map};
 ghost use Rattle.xs_bytes.specs.SortedMap as map;
 ghost use Rattle.xs_stream.specs.declared.id.Id.{Id};
-ghost use Rattle.xs_stream.specs.Id.{is_below};
+ghost use Rattle.xs_stream.specs.Id.{has_id, is_below};
 ghost use Rattle.xs_stream.specs.Kept.{Ascends, AllAbove, ids_of};
 ghost use Rattle.xs_group.specs.State.{is_name};
 ghost use Rattle.xs_command.specs.declared.command.Command.{Command};
 ghost use Rattle.xs_command.specs.WellFormed.{IsWellFormed};
-ghost use Rattle.xs_keys.specs.Life.{Change, key_life, given_in};
+ghost use Rattle.xs_keys.specs.Life.{Change, key_life, given_in, live};
 ghost use Rattle.xs_keys.specs.GroupEvent.{delivered, cursor, holding, owner};
-ghost use Rattle.xs_keys.specs.GroupLife.{group_life, group_of, asks_new, delivered_by, GoesOn};
+ghost use Rattle.xs_keys.specs.GroupLife.{GroupLife, group_life, group_of, present_in, asks_new, delivered_by, GoesOn};
 ghost use Rattle.xs_keys.specs.Content.{Content, IsContent, after, IsLawfulContent};
 ghost use Rattle.xs_keys.specs.Reply.{reply};
+ghost use Rattle.xs_keys.specs.Step.{IsUnchangedIfRefused};
 ghost use Rattle.xs_keys.specs.Told.{IsTold};
 ghost use Rattle.xs_keys.specs.Taken.{ClaimsWhatIsIdle};
 ghost use Rattle.xs_keys.specs.Touched.{IsLastTouched};
+ghost use Rattle.xs_keys.specs.Job.{Place, HasOnePlace, GoesAlong, place_after, is_final, GoesOnFor};
+ghost use Rattle.xs_keys.specs.Job.{EntriesAreAdded, GroupsAreCreated, is_pending, jobs_at, BooksBalance, TellsPending};
 ghost use Rattle.xs_keys.specs.Headline.{HadItsTurn, DeliversInFull, OwnedUntilSettled, ChangesByClaims};
 ghost use Rattle.xs_keys.specs.Headline.{IsPendingWithOwner, OfEachLife};
 
@@ -30,6 +33,12 @@ pub fn step_law()
         IsContent one past → IsContent other past → one ≡ other }
     ensures lawful { (past : List (ℕ × Command)) (content : Content) →
         IsContent content past → IsLawfulContent content }
+{}
+
+/// What is refused changes nothing: where the reply to a command is an error, the content stays as it was.
+pub fn what_is_refused_changes_nothing()
+    ensures { (content : Content) (now : ℕ) (command : Command) → IsWellFormed command →
+        IsUnchangedIfRefused content now command }
 {}
 
 /// The ids given in the life of a key ascend.
@@ -100,8 +109,37 @@ pub fn time_and_count_are_of_the_last_touch()
     ensures { OfEachLife (λ life. IsLastTouched life.start life.events) }
 {}
 
-/// A claim takes an entry only where it has an owner, is in the stream, and was last touched as long ago as the claim
-/// asks; and it removes a pending entry only where that is no longer in the stream.
+/// A claim takes an entry only if it has an owner, is in the stream, and the time that it was last given lies as far back as
+/// the claim asks; and it removes a pending entry only if that is no longer in the stream. Of the entries that may be taken so
+/// an XCLAIM takes each that it names, and an XAUTOCLAIM each from its start on, until it has COUNT hits or 10 x COUNT ids.
 pub fn a_claim_takes_what_is_idle()
     ensures { OfEachLife (λ life. ClaimsWhatIsIdle life.start life.events) }
+{}
+
+/// The life of a job. Entries come by XADD alone, and a group by XGROUP CREATE alone, which starts as that asks. Each entry
+/// that was given has one place in each group of its stream, and no other: it is not the group's, waits, was dropped before
+/// its turn, was handed out with NOACK, is pending with one consumer, or is settled. Each event leaves it there, or leads it
+/// along an arrow: what waits is read or dropped; what is pending goes to another consumer by a claim alone, and is settled
+/// by an acknowledgement, the removal of its consumer, or a claim that finds it deleted. What was dropped, handed out or
+/// settled stays so for the life of the group. So none is lost, doubled or without an owner: what waits, what was dropped or
+/// handed out, the rows that XPENDING shows and what is settled are all that was given past the start.
+pub fn the_life_of_a_job()
+    ensures one_place { (past : List (ℕ × Command)) (key group : List ℕ) (changes : List Change) (life : GroupLife) →
+        key_life past key ≡ Some changes → group_life past key group ≡ Some life →
+        (x : Id) → has_id (ids_of (given_in changes)) x ≡ true → HasOnePlace life (ids_of (live changes)) x }
+    ensures goes_along { (past : List (ℕ × Command)) (now : ℕ) (command : Command) (key group : List ℕ) (x : Id) →
+        IsWellFormed command →
+        GoesAlong command key group (present_in (key_life past key)) x (place_after past key group x)
+        (place_after ((now, command) ∷ past) key group x) }
+    ensures additions { (earlier : List (ℕ × Command)) (e : ℕ × Command) → EntriesAreAdded earlier e }
+    ensures groups { (earlier : List (ℕ × Command)) (e : ℕ × Command) → GroupsAreCreated earlier e }
+    ensures for_good { (later earlier : List (ℕ × Command)) (key group : List ℕ) (x : Id) (here : Place) →
+        GoesOnFor key group later → is_final here ≡ true → place_after earlier key group x ≡ Some here →
+        place_after (later ++ earlier) key group x ≡ Some here }
+    ensures balances { (past : List (ℕ × Command)) (key group : List ℕ) (changes : List Change) (life : GroupLife) →
+        key_life past key ≡ Some changes → group_life past key group ≡ Some life → BooksBalance changes life }
+    ensures told { (past : List (ℕ × Command)) (content : Content) (now : ℕ) (key group : List ℕ) (changes : List Change)
+        (life : GroupLife) → IsContent content past → key_life past key ≡ Some changes →
+        group_life past key group ≡ Some life →
+        TellsPending content now key group (length (jobs_at is_pending changes life)) }
 {}

@@ -5,6 +5,5 @@ pub mod Sessions
 pub mod CommandLines
 pub mod Exchanges
 pub mod AloneRuns
-pub mod Modelling
 pub mod Lanes
 pub mod Crews

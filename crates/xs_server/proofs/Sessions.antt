@@ -4,6 +4,7 @@ use Rattle.std.proofs.lemmas.List.{append-nil}
 use Rattle.xs_resp.specs.declared.reply.Reply.{Reply}
 use Rattle.xs_resp.specs.ReplyText.{text}
 use Rattle.xs_command.specs.declared.command.Command.{Command}
+use Rattle.xs_command.proofs.FormedReads.{given_formed}
 use Rattle.xs_keys.specs.Content.{Content, IsContent}
 use Rattle.xs_server.specs.Device.{capped}
 use Rattle.xs_server.specs.Line.{line_of, script_lines}
@@ -26,7 +27,7 @@ use Rattle.std.specs.List.{flat_map}
 pub answer-follows : (past : List (ℕ × Command)) (old new : Content) (now : ℕ) (words : List (List ℕ)) (asked : Option Command) (answer : Reply) → IsContent old past
     → Answered (StepAt now) old words asked answer new → (next : List (ℕ × Command)) × IsContent new next × Answered (Follows now) past words asked answer next
 answer-follows past old new now words (Some command) answer is said =
-    let next = step-follows past old new now command answer is said.1 in
+    let next = step-follows past old new now command answer (given_formed words (Ok command) said.0) is said.1 in
     (next.0, next.1, (said.0, next.2))
 answer-follows past old new now words None answer is said = (past, subst (λ c. IsContent c past) (sym said.0) is, (refl, said.1))
 

@@ -15,8 +15,15 @@ abbrev pub asked_in : List Exchange → List (Command × Reply)
 asked_in [] = []
 asked_in (exchange ∷ exchanges) = onto_asked exchange.asked exchange.answer (asked_in exchanges)
 
--- the commands that were asked, each at some moment, are a run of the keyspace, and the answers are its replies
-abbrev pub RunsAlone : List Exchange → Content → Content → Type 0
-RunsAlone exchanges old new =
+-- a clock gave these moments, one after the other, and no others
+abbrev pub GivesMoments : {C : Type 0} → (C → ℕ → C → Type 0) → C → List ℕ → C → Type 0
+GivesMoments gives old [] new = new ≡ old
+GivesMoments gives old (moment ∷ moments) new = (mid : _) × gives old moment mid × GivesMoments gives mid moments new
+
+-- the commands that were asked, each at the moment that the clock gave for it, are a run of the keyspace, and the answers
+-- are its replies
+abbrev pub RunsAlone : {C : Type 0} → (C → ℕ → C → Type 0) → List Exchange → Content → C → Content → C → Type 0
+RunsAlone gives exchanges old clock new later =
     (events : List (ℕ × Command)) × (map (λ event. event.1) events ≡ map (λ asked. asked.0) (asked_in exchanges))
+    × GivesMoments gives clock (map (λ event. event.0) events) later
     × RunsOn old events (map (λ asked. asked.1) (asked_in exchanges)) new

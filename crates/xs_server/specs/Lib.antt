@@ -11,5 +11,4 @@ pub mod Exchange
 pub mod Serve
 pub mod Connection
 pub mod Alone
-pub mod Modelled
 pub mod Working

@@ -3,7 +3,6 @@ ghost use Rattle.std.specs.Prelude.{◌≡◌, List, ℕ, false};
 ghost use Rattle.std.specs.Io.KnownBytes.{Appends, Consumes};
 ghost use Rattle.xs_server.specs.Serve.{Serves, HasCause};
 ghost use Rattle.xs_server.specs.Alone.{RunsAlone};
-ghost use Rattle.xs_server.specs.Modelled.{ServesByModel};
 
 use crate::connections::ending::{Ending, ServeFault};
 use crate::connections::serve::serve;
@@ -13,7 +12,8 @@ use std::sync::Wait;
 use xs_desk::{Alone, Port};
 use xs_keys::Clock;
 
-/// Serves a connection by a keyspace alone: the commands that were asked are a run of the keyspace.
+/// Serves a connection by a keyspace alone: the commands that were asked, at the moments of its clock, are a run of the
+/// keyspace.
 pub fn serve_alone<R: Source, W: Sink, C: Clock + Drop, T: Wait>(
     rt: &T,
     alloc: Global,
@@ -25,10 +25,7 @@ pub fn serve_alone<R: Source, W: Sink, C: Clock + Drop, T: Wait>(
         × Consumes (R.rest reader.old) (R.rest reader.new) read × Appends (W.held writer.old) (W.held writer.new) sent
         × ((served : Serves ⟦<Alone<C> as Port>⟧.replies ⟦<Alone<C> as Port>⟧.fails result
         alone.old alone.new read sent)
-        × RunsAlone served.exchanges alone.old.keyspace alone.new.keyspace) }
-    ensures model { (read sent : List ℕ)
-        × Consumes (R.rest reader.old) (R.rest reader.new) read × Appends (W.held writer.old) (W.held writer.new) sent
-        × ServesByModel result alone.old.keyspace alone.new.keyspace read sent }
+        × RunsAlone C.gives served.exchanges alone.old.keyspace alone.old.clock alone.new.keyspace alone.new.clock) }
     ensures cause { HasCause result (R.rest reader.new) (R.ended reader.new) (R.broken reader.new)
         (W.broken writer.new) false (R.calls reader.old) (R.calls reader.new) }
 {

@@ -32,6 +32,7 @@ returns c = record {
   where_a_group_starts = refl;
   own_pending_entries = refl;
   acknowledgement = refl;
+  a_deleted_entry_is_acknowledged = refl;
   two_consumers = refl;
   a_group_starts_above_the_top = refl;
 }

@@ -1,4 +1,4 @@
-use Rattle.std.proofs.Common.{refl}
+use Rattle.std.proofs.Common.{refl, inl, inr, arith}
 use Rattle.xs_bytes.specs.SortedMap.{empty, get, insert_by, remove, change}
 use Rattle.xs_keys.proofs.examples.last_touches.Goals as goal
 
@@ -33,6 +33,14 @@ returns c = record {
   count_of_a_scan_with_ids_alone = refl;
   least_of_a_claim = refl;
   least_of_a_scan = refl;
+  named_by_a_claim = refl;
+  another_isnt_named = refl;
+  none_is_named_by_a_scan = refl;
+  from_its_start_on = refl;
+  not_before_its_start = refl;
+  no_start_of_a_claim = refl;
+  stops_at_its_count = inl (omega arith);
+  not_sooner = λ h. elim h [ inl e ↦ omega (arith, e) | inr e ↦ omega (arith, e) ];
   removed_when_deleted = refl;
   not_removed_when_there = refl;
   turn_after_an_own_read = refl;

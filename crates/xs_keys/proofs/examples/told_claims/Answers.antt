@@ -1,4 +1,4 @@
-use Rattle.std.proofs.Common.{◌≡◌, ℕ, [], ◌∷◌, refl, sym, ap, subst, T, arith}
+use Rattle.std.proofs.Common.{ℕ, [], ◌∷◌, refl, sym, ap, subst, T, arith}
 use Rattle.xs_bytes.specs.SortedMap.{empty, get, insert_by, remove, change}
 use Rattle.xs_command.specs.Words.{is_word, word, behind_sign, integer, natural, id, low, high}
 use Rattle.xs_command.specs.Options.{up_to}

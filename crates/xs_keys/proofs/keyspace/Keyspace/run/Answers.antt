@@ -1,5 +1,7 @@
-use Rattle.std.proofs.Common.{◌≡◌, ◌+◌, ◌∷◌, drop, is_ok, true, ap, sym, ◌∙◌, arith}
+use Rattle.std.proofs.Common.{◌≡◌, ℕ, subst, ◌+◌, ◌∷◌, drop, is_ok, true, ap, sym, ◌∙◌, arith}
 use Rattle.std.proofs.lemmas.List.{drop_more, drop_all}
+use Rattle.xs_command.specs.declared.command.Command.{Command}
+use Rattle.xs_command.specs.WellFormed.{IsWellFormed}
 use Rattle.xs_keys.proofs.Runs.{runs-none, runs-more, runs-all}
 use Rattle.xs_keys.proofs.keyspace.Keyspace.run.Goals as goal
 
@@ -17,11 +19,12 @@ loop-event-preserved c =
     let e = c.event-item.result in
     let rest = drop (c.loop-event.event-index + 1) events in
     let next = drop_more events c.loop-event.event-index e c.loop-event-test.true ∙ ap (λ x. x ∷ rest) (sym c.event-item.is) in
+    let formed = subst (λ (x : ℕ × Command). IsWellFormed x.1) (sym c.event-item.is) (c.requires c.loop-event.event-index e c.loop-event-test.true) in
     let so_far = rw next at c.loop-event.invariant.0 in
     let ok : is_ok c.push.result ≡ true = c.push.ensures.succeeds (omega arith) in
     let items = rw ok at c.push.ensures.items in
     let len = rw ok at c.push.ensures.len in (
-      rw items (runs-more c.args.self.now events c.loop-event.replies.items c.loop-event.self c.apply-reply.new.self e rest c.apply-reply.result so_far c.apply-reply.ensures),
+      rw items (runs-more c.args.self.now events c.loop-event.replies.items c.loop-event.self c.apply-reply.new.self e rest c.apply-reply.result so_far formed c.apply-reply.ensures),
       omega (arith, len),
       omega (arith, c.push.ensures.capacity),
     )

@@ -1,0 +1,131 @@
+-- Entries come by additions alone, and groups by XGROUP CREATE.
+use Rattle.std.proofs.Common.{◌≡◌, ◌⊎◌, inl, inr, ℕ, Bool, true, false, cond, ◌&&◌, List, [], ◌∷◌, Option, Some, None, is_some, sym, ap, subst, ◌∙◌, refl}
+use Rattle.std.proofs.lemmas.Bool.{false≢true}
+use Rattle.std.proofs.lemmas.List.{append-nil}
+use Rattle.std.specs.List.{list_all}
+use Rattle.std.specs.Option.{option_map, option_map_or}
+use Rattle.xs_stream.specs.declared.id.Id.{Id}
+use Rattle.xs_stream.specs.declared.field.Field.{Field}
+use Rattle.xs_stream.specs.Id.{zero_id}
+use Rattle.xs_group.specs.State.{is_name}
+use Rattle.xs_command.specs.declared.command.Command.{Command}
+use Rattle.xs_command.specs.declared.command.Command.TheVariants.{Ping, Quit, Add, Delete, TrimTo, Len, Scan, GroupCreate, GroupDestroy, ConsumerCreate, ConsumerDelete, ReadGroup, Ack, Pending, PendingRows, Claim, AutoClaim, DropKeys}
+use Rattle.xs_command.specs.declared.command.GroupCreateCommand.{GroupCreateCommand}
+use Rattle.xs_command.specs.declared.command.GroupStart.{GroupStart}
+use Rattle.xs_command.specs.declared.command.GroupStart.TheVariants.{Top, At}
+use Rattle.xs_command.specs.declared.command.ReadGroupCommand.{ReadGroupCommand}
+use Rattle.xs_command.specs.declared.command.ReadOne.{ReadOne}
+use Rattle.xs_keys.specs.Life.{Change, added, deleted, trimmed_to, is_listed, opened, key_lived, key_life, given_in, top, top_of}
+use Rattle.xs_keys.specs.GroupEvent.{Ask, join, leave, ack, claim, auto_claim}
+use Rattle.xs_keys.specs.GroupLife.{GroupLife, present_in, starting_id, life_opened, life_asked, read_ask, life_read, group_lived, reads_of, group_of, group_life}
+use Rattle.xs_keys.specs.Job.{adds_or_drops, EntriesAreAdded, StartsBehind, MakesGroup, GroupsAreCreated}
+use Rattle.xs_keys.proofs.JobPlaces.{life_of}
+
+-- ---- entries
+
+given-stays : (now : ℕ) (command : Command) (key : List ℕ) (life : Option (List Change))
+    → (option_map_or given_in (key_lived now command key life) [] ≡ option_map_or given_in life []) ⊎ (adds_or_drops command key ≡ true)
+given-stays now (Ping message) key life = inl refl
+given-stays now Quit key life = inl refl
+given-stays now (Add add) key life = by (is_name key add.key) where
+  by : (t : Bool) → (option_map_or given_in (cond t (option_map (λ changes. added now add.id add.fields add.trim ∷ changes) (opened add.make life)) life) [] ≡ option_map_or given_in life []) ⊎ (t ≡ true)
+  by true = inr refl
+  by false = inl refl
+given-stays now (Delete name ids) key life = inl (by (is_name key name) life) where
+  by : (t : Bool) (life : Option (List Change)) → option_map_or given_in (cond t (option_map (λ changes. deleted ids ∷ changes) life) life) [] ≡ option_map_or given_in life []
+  by true None = refl
+  by true (Some changes) = append-nil (given_in changes)
+  by false life = refl
+given-stays now (TrimTo name trim) key life = inl (by (is_name key name) life) where
+  by : (t : Bool) (life : Option (List Change)) → option_map_or given_in (cond t (option_map (λ changes. trimmed_to trim ∷ changes) life) life) [] ≡ option_map_or given_in life []
+  by true None = refl
+  by true (Some changes) = append-nil (given_in changes)
+  by false life = refl
+given-stays now (Len name) key life = inl refl
+given-stays now (Scan scan) key life = inl refl
+given-stays now (GroupCreate create) key life = inl (by (is_name key create.key) create.make life) where
+  by : (t make : Bool) (life : Option (List Change)) → option_map_or given_in (cond t (opened make life) life) [] ≡ option_map_or given_in life []
+  by true true None = refl
+  by true false None = refl
+  by true make (Some changes) = refl
+  by false make life = refl
+given-stays now (GroupDestroy name group) key life = inl refl
+given-stays now (ConsumerCreate name group consumer) key life = inl refl
+given-stays now (ConsumerDelete name group consumer) key life = inl refl
+given-stays now (ReadGroup read) key life = inl refl
+given-stays now (Ack name group ids) key life = inl refl
+given-stays now (Pending name group) key life = inl refl
+given-stays now (PendingRows rows) key life = inl refl
+given-stays now (Claim c) key life = inl refl
+given-stays now (AutoClaim c) key life = inl refl
+given-stays now (DropKeys keys) key life = by (is_listed keys key) where
+  by : (t : Bool) → (option_map_or given_in (cond t None life) [] ≡ option_map_or given_in life []) ⊎ (t ≡ true)
+  by true = inr refl
+  by false = inl refl
+
+pub entries-added : (earlier : List (ℕ × Command)) (e : ℕ × Command) → EntriesAreAdded earlier e
+entries-added earlier e = λ key. given-stays e.0 e.1 key (key_life earlier key)
+
+-- ---- groups
+
+-- no ask makes a group
+asked-none : (now : ℕ) (present : List Id) (ask : Ask) (t : Bool) → cond t (life_asked now present ask None) None ≡ None
+asked-none now present ask true = refl
+asked-none now present ask false = refl
+
+read-none : (now : ℕ) (present : List Id) (read : ReadGroupCommand) (key : List ℕ) (reads : List ReadOne) → life_read now present read key reads None ≡ None
+read-none now present read key [] = refl
+read-none now present read key (one ∷ more) =
+    ap (life_read now present read key more) (asked-none now present (read_ask read one.from) (is_name key one.key)) ∙ read-none now present read key more
+
+either-none : (t : Bool) (life : Option GroupLife) → life ≡ None → cond t life None ≡ None
+either-none true life e = e
+either-none false life e = refl
+
+never : (found : Option GroupLife) → found ≡ None → (life : GroupLife) → found ≡ Some life → ⊥
+never found none life e = false≢true (ap is_some (sym none ∙ e))
+
+starts-behind : (start : GroupStart) (changes : List Change) (given : List (Id × List Field)) → given_in changes ≡ given → (id : Id) → id ≡ starting_id start (top changes) → StartsBehind start given id
+starts-behind Top changes given g id e = e ∙ ap top_of g
+starts-behind (At written) changes given g id e = e
+
+opened-given : (make : Bool) (stream : Option (List Change)) → option_map_or given_in (opened make stream) [] ≡ option_map_or given_in stream []
+opened-given true None = refl
+opened-given false None = refl
+opened-given make (Some changes) = refl
+
+made-at : (create : GroupCreateCommand) (stream : Option (List Change)) (given : List (Id × List Field)) → option_map_or given_in stream [] ≡ given → (life : GroupLife)
+    → option_map (λ changes. life_of (starting_id create.start (top changes)) []) stream ≡ Some life → StartsBehind create.start given life.start
+made-at create None given g life e = absurd (false≢true (ap is_some e))
+made-at create (Some changes) given g life e = starts-behind create.start changes given g life.start (ap (λ o. option_map_or (λ l. l.start) o zero_id) (sym e))
+
+makes-group : (now : ℕ) (command : Command) (key group : List ℕ) (served : Bool) (stream : Option (List Change)) (life : GroupLife)
+    → group_lived now command key group served stream None ≡ Some life → MakesGroup command (option_map_or given_in stream []) life.start
+makes-group now (Ping message) key group served stream life e = false≢true (ap is_some e)
+makes-group now Quit key group served stream life e = false≢true (ap is_some e)
+makes-group now (Add add) key group served stream life e = false≢true (ap is_some e)
+makes-group now (Delete name ids) key group served stream life e = false≢true (ap is_some e)
+makes-group now (TrimTo name trim) key group served stream life e = false≢true (ap is_some e)
+makes-group now (Len name) key group served stream life e = false≢true (ap is_some e)
+makes-group now (Scan scan) key group served stream life e = false≢true (ap is_some e)
+makes-group now (GroupCreate create) key group served stream life e = by (is_name key create.key && is_name group create.group) e where
+  by : (t : Bool) → cond t (life_opened create stream) None ≡ Some life → StartsBehind create.start (option_map_or given_in stream []) life.start
+  by true f = made-at create (opened create.make stream) (option_map_or given_in stream []) (opened-given create.make stream) life f
+  by false f = absurd (false≢true (ap is_some f))
+makes-group now (GroupDestroy name g) key group served stream life e = never _ (either-none (is_name key name && is_name group g) None refl) life e
+makes-group now (ConsumerCreate name g consumer) key group served stream life e = never _ (asked-none now (present_in stream) (join consumer) (is_name key name && is_name group g)) life e
+makes-group now (ConsumerDelete name g consumer) key group served stream life e = never _ (asked-none now (present_in stream) (leave consumer) (is_name key name && is_name group g)) life e
+makes-group now (ReadGroup read) key group served stream life e =
+    never _ (either-none (is_name group read.group && served) _ (read-none now (present_in stream) read key read.reads)) life e
+makes-group now (Ack name g ids) key group served stream life e = never _ (asked-none now (present_in stream) (ack ids) (is_name key name && is_name group g)) life e
+makes-group now (Pending name g) key group served stream life e = false≢true (ap is_some e)
+makes-group now (PendingRows rows) key group served stream life e = false≢true (ap is_some e)
+makes-group now (Claim c) key group served stream life e = never _ (asked-none now (present_in stream) (claim c.consumer c.rule c.ids) (is_name key c.key && is_name group c.group)) life e
+makes-group now (AutoClaim c) key group served stream life e = never _ (asked-none now (present_in stream) (auto_claim c.consumer c.rule c.start c.limit) (is_name key c.key && is_name group c.group)) life e
+makes-group now (DropKeys keys) key group served stream life e = never _ (either-none (is_listed keys key) None refl) life e
+
+pub groups-created : (earlier : List (ℕ × Command)) (e : ℕ × Command) → GroupsAreCreated earlier e
+groups-created earlier e = λ key group life none is.
+    let served = list_all (λ one. is_some (group_life earlier one.key (group_of e.1))) (reads_of e.1) in
+    makes-group e.0 e.1 key group served (key_life earlier key) life
+    (subst (λ before. group_lived e.0 e.1 key group served (key_life earlier key) before ≡ Some life) none is)

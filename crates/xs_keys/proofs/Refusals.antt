@@ -1,0 +1,159 @@
+-- What is refused changes nothing.
+use Rattle.std.proofs.Common.{◌≡◌, ◌≢◌, ◌<◌, ℕ, eqb, ltb, Bool, true, false, cond, List, [], ◌∷◌, Ordering, Option, Some, None, Result, Ok, Err, sym, ap, ◌∙◌, refl, arith}
+use Rattle.std.specs.Option.{option_map_or}
+use Rattle.std.specs.Ordering.{nat_cmp, is_lt, ordering_then}
+use Rattle.std.specs.declared.cmp.Ordering.TheVariants.{Less, Equal, Greater}
+use Rattle.std.proofs.lemmas.Bool.{false≢true}
+use Rattle.std.proofs.lemmas.Cmp.{ranked}
+use Rattle.xs_bytes.specs.SortedMap.{get, has_key, insert, remove}
+use Rattle.xs_stream.specs.declared.id.Id.{Id}
+use Rattle.xs_stream.specs.declared.add.AddId.{AddId}
+use Rattle.xs_stream.specs.declared.add.AddId.TheVariants.{Auto, AutoSeq, Exact}
+use Rattle.xs_stream.specs.declared.add.AddError.{AddError}
+use Rattle.xs_stream.specs.declared.field.Field.{Field}
+use Rattle.xs_stream.specs.declared.trim.Trim.{Trim}
+use Rattle.xs_stream.specs.Id.{id_cmp, is_below, zero_id, assigned}
+use Rattle.xs_stream.specs.Kept.{Kept, ids_of}
+use Rattle.xs_stream.proofs.Order.{same_id}
+use Rattle.xs_group.specs.State.{State, has_name, new_group}
+use Rattle.xs_group.specs.Claims.{claim_of, scan_of}
+use Rattle.xs_group.specs.Report.{owned_count}
+use Rattle.xs_resp.specs.declared.reply.Reply.{Reply}
+use Rattle.xs_resp.specs.declared.reply.Reply.TheVariants.{Simple, Error, Int, NullBulk}
+use Rattle.xs_resp.specs.declared.reply.Simple.TheVariants.{Okay}
+use Rattle.xs_resp.specs.declared.fault.Fault.TheVariants.{Busy, NoGroup}
+use Rattle.xs_command.specs.WellFormed.{IsAddId, IsWellFormed}
+use Rattle.xs_command.specs.declared.command.AddCommand.{AddCommand}
+use Rattle.xs_command.specs.declared.command.Command.{Command}
+use Rattle.xs_command.specs.declared.command.Command.TheVariants.{Ping, Quit, Add, Delete, TrimTo, Len, Scan, GroupCreate, GroupDestroy, ConsumerCreate, ConsumerDelete, ReadGroup, Ack, Pending, PendingRows, Claim, AutoClaim, DropKeys}
+use Rattle.xs_command.specs.declared.command.GroupCreateCommand.{GroupCreateCommand}
+use Rattle.xs_command.specs.declared.command.ReadGroupCommand.{ReadGroupCommand}
+use Rattle.xs_keys.specs.Life.{added}
+use Rattle.xs_keys.specs.GroupEvent.{Ask, join, leave, claim, auto_claim}
+use Rattle.xs_keys.specs.GroupLife.{starting_id}
+use Rattle.xs_keys.specs.Content.{Content, Key, stream_with, changed, asked, with_group, created, made, group_in, entries_in, serves, read_each, after}
+use Rattle.xs_keys.specs.Reply.{array_or_null, assigned_reply, of_group, of_key, parts, taken_reply, scan_shown, reply}
+use Rattle.xs_keys.specs.Step.{is_error, IsUnchangedIfRefused}
+use Rattle.xs_keys.proofs.AskSteps.{asked-missing}
+use Rattle.xs_keys.proofs.Names.{insert-same}
+
+-- ---- ids
+
+not_greater : (x : ℕ) → nat_cmp 0 x ≡ Greater → ⊥
+not_greater x e = let low : x < 0 = ranked 0 x Greater (sym e) in omega (arith, low)
+
+-- 0-0 is below each other id
+first-below : (id : Id) → id ≢ zero_id → is_below zero_id id ≡ true
+first-below id other = by (id_cmp zero_id id) refl where
+  never : (ms seq : Ordering) → nat_cmp 0 id.ms ≡ ms → nat_cmp 0 id.seq ≡ seq → ordering_then ms seq ≡ Greater → ⊥
+  never Less seq m s e = absurd (cc)
+  never Equal seq m s e = not_greater id.seq (s ∙ e)
+  never Greater seq m s e = not_greater id.ms m
+
+  by : (r : Ordering) → id_cmp zero_id id ≡ r → is_below zero_id id ≡ true
+  by Less e = ap is_lt e
+  by Equal e = absurd (other (sym (same_id zero_id id e)))
+  by Greater e = absurd (never (nat_cmp 0 id.ms) (nat_cmp 0 id.seq) refl refl e)
+
+-- a new stream refuses no id that words give
+never-refused : (now : ℕ) (id : AddId) → IsAddId id → is_error (assigned_reply (assigned now zero_id id)) ≡ false
+never-refused now Auto formed = refl
+never-refused now (AutoSeq ms) formed = by (eqb ms 0) (ltb 0 ms) refl refl where
+  by : (e l : Bool) → eqb ms 0 ≡ e → ltb 0 ms ≡ l → is_error (assigned_reply (assigned now zero_id (AutoSeq ms))) ≡ false
+  by true l f g = rw f refl
+  by false true f g = rw (f, g) refl
+  by false false f g = absurd (grind (arith, f, g))
+never-refused now (Exact id) formed = rw (first-below id formed) refl
+
+-- ---- commands
+
+-- a refused addition leaves the stream
+refused-stream : (given : Result Id AddError) (fields : List Field) (trim : Option Trim) (stream : Kept) → is_error (assigned_reply given) ≡ true → stream_with given fields trim stream ≡ stream
+refused-stream (Ok id) fields trim stream e = absurd (false≢true e)
+refused-stream (Err refusal) fields trim stream e = refl
+
+refused-add : (content : Content) (now : ℕ) (add : AddCommand) → IsAddId add.id → is_error (reply content now (Add add)) ≡ true → after content now (Add add) ≡ content
+refused-add content now add formed = by (get content add.key) refl add.make where
+  by : (key : Option Key) → get content add.key ≡ key → (make : Bool) → is_error (option_map_or (λ k. assigned_reply (assigned now k.stream.top add.id)) (made make key) NullBulk) ≡ true
+      → changed content add.key (added now add.id add.fields add.trim) (made make key) ≡ content
+  by (Some key) found make e =
+      ap (λ stream. insert content add.key (record { stream = stream; groups = key.groups })) (refused-stream (assigned now key.stream.top add.id) add.fields add.trim key.stream e)
+      ∙ insert-same content add.key key found
+  by None missing true e = absurd (false≢true (sym (never-refused now add.id formed) ∙ e))
+  by None missing false e = refl
+
+no_error_taken : (just_id : Bool) (entries : List (Id × List Field)) (ids : List Id) → is_error (taken_reply just_id entries ids) ≡ false
+no_error_taken true entries ids = refl
+no_error_taken false entries ids = refl
+
+-- a group that isn't there is asked nothing
+refused-ask : (content : Content) (now : ℕ) (name group : List ℕ) (ask : Ask) (said : State → Reply) → ((s : State) → is_error (said s) ≡ false)
+    → is_error (of_group (group_in (get content name) group) said) ≡ true → asked content now name group ask ≡ content
+refused-ask content now name group ask said never = by (group_in (get content name) group) refl where
+  by : (found : Option State) → group_in (get content name) group ≡ found → is_error (of_group found said) ≡ true → asked content now name group ask ≡ content
+  by None missing e = asked-missing content now name group ask missing
+  by (Some s) found e = absurd (false≢true (sym (never s) ∙ e))
+
+-- neither is one of a key that isn't there
+refused-within : (content : Content) (now : ℕ) (name group : List ℕ) (ask : Ask) (said : State → Reply) → ((s : State) → is_error (said s) ≡ false)
+    → is_error (of_key (get content name) (λ k. of_group (get k.groups group) said)) ≡ true → asked content now name group ask ≡ content
+refused-within content now name group ask said never = by (get content name) refl where
+  by : (key : Option Key) → get content name ≡ key → is_error (of_key key (λ k. of_group (get k.groups group) said)) ≡ true → asked content now name group ask ≡ content
+  by None missing e = asked-missing content now name group ask (ap (λ k. group_in k group) missing)
+  by (Some key) found e = within (get key.groups group) refl e where
+    within : (s : Option State) → get key.groups group ≡ s → is_error (of_group s said) ≡ true → asked content now name group ask ≡ content
+    within None missing f = asked-missing content now name group ask (ap (λ k. group_in k group) found ∙ missing)
+    within (Some s) has f = absurd (false≢true (sym (never s) ∙ f))
+
+refused-create : (content : Content) (now : ℕ) (create : GroupCreateCommand) → is_error (reply content now (GroupCreate create)) ≡ true → after content now (GroupCreate create) ≡ content
+refused-create content now create = by (made create.make (get content create.key)) where
+  by : (key : Option Key) → is_error (of_key key (λ k. cond (has_key k.groups create.group) (Error Busy) (Simple Okay))) ≡ true → created content create key ≡ content
+  by None e = refl
+  by (Some key) e = within (has_key key.groups create.group) e where
+    within : (t : Bool) → is_error (cond t (Error Busy) (Simple Okay)) ≡ true
+        → cond t content (insert content create.key (with_group key create.group (new_group (starting_id create.start key.stream.top)))) ≡ content
+    within true f = refl
+    within false f = absurd (false≢true f)
+
+refused-destroy : (content : Content) (now : ℕ) (name group : List ℕ) → is_error (reply content now (GroupDestroy name group)) ≡ true → after content now (GroupDestroy name group) ≡ content
+refused-destroy content now name group = by (get content name) where
+  by : (key : Option Key) → is_error (of_key key (λ k. Int (cond (has_key k.groups group) 1 0))) ≡ true
+      → option_map_or (λ k. insert content name (record k { groups = remove k.groups group })) key content ≡ content
+  by None e = refl
+  by (Some key) e = absurd (false≢true e)
+
+no_error : (replies : List Reply) → is_error (array_or_null replies) ≡ false
+no_error [] = refl
+no_error (r ∷ rs) = refl
+
+refused-read : (content : Content) (now : ℕ) (read : ReadGroupCommand) → is_error (reply content now (ReadGroup read)) ≡ true → after content now (ReadGroup read) ≡ content
+refused-read content now read = by (serves content read) where
+  by : (t : Bool) → is_error (cond t (array_or_null (parts content now read read.reads)) (Error NoGroup)) ≡ true → cond t (read_each content now read read.reads) content ≡ content
+  by true e = absurd (false≢true (sym (no_error (parts content now read read.reads)) ∙ e))
+  by false e = refl
+
+pub refused-unchanged : (content : Content) (now : ℕ) (command : Command) → IsWellFormed command → IsUnchangedIfRefused content now command
+refused-unchanged content now (Ping message) formed = λ e. refl
+refused-unchanged content now Quit formed = λ e. refl
+refused-unchanged content now (Add add) formed = refused-add content now add formed.0
+refused-unchanged content now (Delete name ids) formed = λ e. absurd (false≢true e)
+refused-unchanged content now (TrimTo name trim) formed = λ e. absurd (false≢true e)
+refused-unchanged content now (Len name) formed = λ e. refl
+refused-unchanged content now (Scan scan) formed = λ e. refl
+refused-unchanged content now (GroupCreate create) formed = refused-create content now create
+refused-unchanged content now (GroupDestroy name group) formed = refused-destroy content now name group
+refused-unchanged content now (ConsumerCreate name group consumer) formed = refused-within content now name group (join consumer) (λ s. Int (cond (has_name s.consumers consumer) 0 1)) (λ s. refl)
+refused-unchanged content now (ConsumerDelete name group consumer) formed = refused-within content now name group (leave consumer) (λ s. Int (owned_count consumer s)) (λ s. refl)
+refused-unchanged content now (ReadGroup read) formed = refused-read content now read
+refused-unchanged content now (Ack name group ids) formed = λ e. absurd (false≢true e)
+refused-unchanged content now (Pending name group) formed = λ e. refl
+refused-unchanged content now (PendingRows p) formed = λ e. refl
+refused-unchanged content now (Claim c) formed =
+    let entries = entries_in (get content c.key) in
+    refused-ask content now c.key c.group (claim c.consumer c.rule c.ids) (λ g. taken_reply c.rule.just_id entries (claim_of g.rows.entries (ids_of entries) now c.rule c.ids).take)
+    (λ s. no_error_taken c.rule.just_id entries (claim_of s.rows.entries (ids_of entries) now c.rule c.ids).take)
+refused-unchanged content now (AutoClaim c) formed =
+    let entries = entries_in (get content c.key) in
+    refused-ask content now c.key c.group (auto_claim c.consumer c.rule c.start c.limit)
+    (λ g. scan_shown c.rule.just_id entries (scan_of g.rows.entries (ids_of entries) now c.rule c.start c.limit)) (λ s. refl)
+refused-unchanged content now (DropKeys names) formed = λ e. absurd (false≢true e)

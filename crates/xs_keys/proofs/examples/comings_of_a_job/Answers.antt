@@ -1,0 +1,62 @@
+use Rattle.std.proofs.Common.{refl, inl, sym, ap, arith}
+use Rattle.std.proofs.lemmas.Bool.{false≢true}
+use Rattle.xs_bytes.specs.SortedMap.{empty, get, insert_by, remove, change}
+use Rattle.xs_command.specs.Words.{is_word, word, behind_sign, integer, natural, id, low, high}
+use Rattle.xs_command.specs.Options.{up_to}
+use Rattle.xs_command.specs.CommandName.{name_of}
+use Rattle.xs_command.specs.Syntax.{only, leading_ids, ids}
+use Rattle.xs_command.specs.Xgroup.{xgroup, subcommand_of, create, destroy, create_consumer, delete_consumer, create_option, group_start}
+use Rattle.xs_command.specs.Streams.{streams, each_from, is_distinct, read_from}
+use Rattle.xs_command.specs.Xreadgroup.{xreadgroup, read_option, reader}
+use Rattle.xs_command.specs.Xack.{xack}
+use Rattle.xs_command.specs.Xpending.{xpending, form, idle_rows, pending_rows, optional}
+use Rattle.xs_command.specs.Xclaim.{xclaim, claim_option}
+use Rattle.xs_command.specs.Xautoclaim.{xautoclaim, auto_claim_option}
+use Rattle.xs_command.specs.Trim.{max_len, min_id, trim_option}
+use Rattle.xs_command.specs.AddId.{add_id}
+use Rattle.xs_command.specs.Fields.{field, pairs, fields}
+use Rattle.xs_command.specs.Ping.{ping, quit}
+use Rattle.xs_command.specs.Xadd.{xadd, add_option}
+use Rattle.xs_command.specs.Xdel.{xdel}
+use Rattle.xs_command.specs.Xtrim.{xtrim}
+use Rattle.xs_command.specs.Xlen.{xlen}
+use Rattle.xs_command.specs.Xrange.{xrange, xrevrange, scan_option}
+use Rattle.xs_command.specs.Del.{del}
+use Rattle.xs_command.specs.Read.{reads}
+use Rattle.xs_keys.specs.Job.{before_start, waiting, dropped, settled, is_at}
+use Rattle.xs_keys.proofs.examples.comings_of_a_job.Goals as goal
+
+pub returns : goal.returns
+unfolding empty get insert_by remove change is_word word behind_sign integer natural id low high up_to name_of only leading_ids ids xgroup subcommand_of create destroy create_consumer delete_consumer create_option group_start streams each_from is_distinct read_from xreadgroup read_option reader xack xpending form idle_rows pending_rows optional xclaim claim_option xautoclaim auto_claim_option max_len min_id trim_option add_id field pairs fields ping quit xadd add_option xdel xtrim xlen xrange xrevrange scan_option del reads
+returns c = record {
+  is_given = (refl, tt);
+  is_given_and_trimmed = (refl, refl);
+  is_given_below_the_start = (refl, tt);
+  comes_with_the_group = (refl, refl);
+  is_found_before_the_start = (refl, refl);
+  is_found_by_a_group_at_the_top = (refl, refl);
+  is_found_deleted = (refl, refl);
+  not_dropped_by_an_addition = λ h. false≢true h.1;
+  not_dropped_by_a_group = λ h. false≢true (sym (ap (is_at dropped) h.1));
+  not_passed_by_a_group = λ h. false≢true (sym (ap (is_at before_start) h.1));
+  not_waiting_before_the_start = λ h. false≢true (sym (ap (is_at waiting) h.1));
+  behind_the_written_id = refl;
+  behind_all_that_was_given = refl;
+  not_behind_another_id = λ h. omega (arith, ap (λ x. x.ms) h);
+  goes_with_the_group = refl;
+  goes_with_the_key = refl;
+  stays_nowhere = tt;
+  stays = (inl refl, λ e. absurd (false≢true e));
+  not_given_to_a_consumer = λ h. h.1;
+  not_from_nowhere = λ h. false≢true h.0;
+  not_with_another_group = λ h. false≢true h.0;
+  not_lost_with_another_group = false≢true;
+  not_lost_with_a_group_elsewhere = false≢true;
+  not_lost_by_a_deletion = false≢true;
+  not_lost_by_a_removal = false≢true;
+  not_kept_by_an_acknowledgement = λ h. false≢true (ap (is_at settled) (h.1 refl));
+  not_kept_by_a_removal = λ h. false≢true (ap (is_at settled) (h.1 refl));
+  kept_by_a_scan_of_others = (inl refl, λ e. absurd (false≢true e));
+  not_kept_by_a_claim_of_a_deleted_one = λ h. false≢true (ap (is_at settled) (h.1 refl));
+  not_kept_by_a_deletion = λ h. false≢true (ap (is_at dropped) (h.1 refl));
+}

@@ -1,0 +1,30 @@
+use Rattle.xs_keys.proofs.Comings.{entries-added, groups-created}
+use Rattle.xs_keys.proofs.Histories.{present-in-life}
+use Rattle.xs_keys.proofs.JobBooks.{balances, tells-pending}
+use Rattle.xs_keys.proofs.JobMoves.{goes-along, for-good}
+use Rattle.xs_keys.proofs.JobPlaces.{has-one-place}
+use Rattle.xs_keys.proofs.Sights.{sees-of}
+use Rattle.xs_keys.proofs.laws.the_life_of_a_job.Goals as goal
+
+pub returns-clause-one_place : goal.returns-clause-one_place
+returns-clause-one_place c = λ past key group changes life k g x given.
+    has-one-place life changes (present-in-life past key group life g) (sees-of past key group changes life k g) x
+
+pub returns-clause-goes_along : goal.returns-clause-goes_along
+returns-clause-goes_along c = goes-along
+
+pub returns-clause-additions : goal.returns-clause-additions
+returns-clause-additions c = entries-added
+
+pub returns-clause-groups : goal.returns-clause-groups
+returns-clause-groups c = groups-created
+
+pub returns-clause-balances : goal.returns-clause-balances
+returns-clause-balances c = λ past key group changes life k g.
+    balances life changes (present-in-life past key group life g) (sees-of past key group changes life k g)
+
+pub returns-clause-for_good : goal.returns-clause-for_good
+returns-clause-for_good c = for-good
+
+pub returns-clause-told : goal.returns-clause-told
+returns-clause-told c = λ past content now key group changes life is k g. tells-pending content past now key group changes life is k g
