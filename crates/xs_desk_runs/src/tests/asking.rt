@@ -106,7 +106,7 @@ impl Asking {
 }
 
 impl Job for Asking {
-    #[tactic(auto, using(crate::proofs::Sides::steps))]
+    #[tactic(auto, using(xs_desk_trial::proofs::Sides::steps))]
     fn run<R: Wait>(&mut self, rt: &R, client: Client) -> Client {
         let mut client = client;
         for _ in 0..MOST_TURNS {

@@ -35,7 +35,7 @@ struct Adding {
 }
 
 impl Job for Adding {
-    #[tactic(auto, using(crate::proofs::Sides::steps))]
+    #[tactic(auto, using(xs_desk_trial::proofs::Sides::steps))]
     fn run<R: Wait>(&mut self, rt: &R, client: Client) -> Client {
         let mut lane = Lane::new(client);
         for _ in 0..TIMES {
