@@ -9,8 +9,9 @@ abbrev pub with_call : LaneOf → ServedCall → LaneOf
 with_call lane call =
     record lane { popped = lane.popped ++ call.command ∷ []; sent = lane.sent ++ call.answer ∷ [] }
 
--- Its command is well formed, is taken from its lane and applied to the keyspace at the moment told, and the answer is sent to the same
--- lane: with the reply, the number of the answers sent there before as ticket, and the next place of the desk
+-- Its command is well formed, is taken from its lane and applied to the keyspace at the moment told, and the answer is
+-- sent to the same lane: with the reply, the number of the answers sent there before as ticket, and the next place of
+-- the desk
 pub record Serves (old : Desk) (call : ServedCall) (new : Desk) : Type 0 where
   pub lane : LaneOf
   pub here : slice_get old.lanes call.lane ≡ Some lane

@@ -1,6 +1,9 @@
 //! Laws of the histories of desks.
-ghost use Rattle.std.specs.Prelude.{◌≡◌, ◌++◌, List};
-ghost use Rattle.xs_desk.specs.History.{ServedCall, Desk, IsHistory};
+ghost use Rattle.std.specs.Prelude.{◌≡◌, ◌++◌, ◌∷◌, [], ℕ, List};
+ghost use Rattle.xs_command.specs.declared.command.Command.{Command};
+ghost use Rattle.xs_keys.specs.Headline.{AreWellFormed, Headline, LivesAreApart};
+ghost use Rattle.xs_keys.specs.Job.{EachGoesAlong};
+ghost use Rattle.xs_desk.specs.History.{ServedCall, Desk, IsHistory, events_of, replies_of};
 ghost use Rattle.xs_desk.specs.Serving.{ServesAll};
 
 /// A desk has one history at most.
@@ -12,4 +15,13 @@ pub fn history_is_unique()
 pub fn history_grows_by_what_is_served()
     ensures { (old new : Desk) (history calls : List ServedCall) → IsHistory history old → ServesAll old calls new
         → IsHistory (history ++ calls) new }
+{}
+
+/// Of what a desk served the headline holds from the first call on, and of each event: its command is well formed, it
+/// leaves the lives of other groups alone, and each job goes along an arrow.
+pub fn what_is_served_has_the_headline()
+    ensures { (desk : Desk) (history : List ServedCall) → IsHistory history desk → (events : List (ℕ × Command))
+        × Headline [] (events_of history) (replies_of history) events × AreWellFormed events
+        × ((later : List (ℕ × Command)) (e : ℕ × Command) (earlier : List (ℕ × Command)) → events ≡ later ++ e ∷ earlier
+        → LivesAreApart earlier e × EachGoesAlong earlier e) }
 {}
