@@ -62,7 +62,7 @@ HOMES = {
     "Rattle.xs_resp.specs.declared.read_fault.Wrong.TheVariants": ["Length", "Shape", "Limit"],
     "Rattle.xs_resp.specs.declared.reply.Simple.TheVariants": ["Okay", "Pong"],
     "Rattle.xs_resp.specs.declared.reply.Reply.TheVariants": ["NullBulk", "NullArray"],
-    "Rattle.xs_stream.specs.Id": ["zero_id", "greatest_id"],
+    "Rattle.xs_stream.specs.Id": ["zero_id", "greatest_id", "is_below"],
 }
 # what an option is before its words are read
 FORGOTTEN = {"make": "true", "trim": "None", "reader": "None", "limit": "None", "noack": "false", "retry": "None",

@@ -59,8 +59,8 @@ abbrev pub CountUp : List ℕ → Type 0
 CountUp numbers = (i n : ℕ) → slice_get numbers i ≡ Some n → n ≡ i
 
 -- The places are 0, 1, 2, .. over the whole desk, and the tickets are so in each lane. What was taken from a lane and
--- sent to it are its calls of the history, in their order. Each command is well formed. The calls at their moments are a
--- run from the empty keyspace on, which gave these replies and left what the keyspace holds.
+-- sent to it are its calls of the history, in their order. Each command is well formed. The calls at their moments are
+-- a run from the empty keyspace on, which gave these replies and left what the keyspace holds.
 pub record IsHistory (history : List ServedCall) (desk : Desk) : Type 0 where
   pub places : CountUp (map (λ call. call.answer.place) history)
   pub tickets : (k : ℕ) → CountUp (map (λ call. call.answer.ticket) (of_lane k history))

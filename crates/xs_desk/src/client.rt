@@ -128,8 +128,8 @@ impl Client {
         self.sleeper.begin_look();
         let answer = self.answers.pop().ok()?;
         self.sleeper.found(answer.moment);
-        // The keeper passes over a call only while the ring of answers is full, so behind an answer that is taken. Without
-        // a further call there is nothing to tell, and the keeper sleeps on.
+        // The keeper passes over a call only while the ring of answers is full, so behind an answer that is taken.
+        // Without a further call there is nothing to tell, and the keeper sleeps on.
         if answer.ticket.saturating_add(1) < self.ticket {
             self.notice.give();
         }

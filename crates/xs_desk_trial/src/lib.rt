@@ -1,5 +1,5 @@
-//! A desk with all its clients in one hand, for tests: its calls one by one, or with a thread for each client and one for
-//! the keeper; and commands and replies as text.
+//! A desk with all its clients in one hand, for tests: its calls one by one, or with a thread for each client and one
+//! for the keeper; and commands and replies as text.
 #![tactic(auto)]
 
 pub mod commands;

@@ -1,5 +1,6 @@
--- The life of a job by examples: each place, each arrow, and what is none; as a real Redis 7.0 lists pending entries and
--- delivers new ones after such lines. (Redis Streams, "Consumer groups"; XREADGROUP, XACK, XCLAIM, XAUTOCLAIM, XPENDING.)
+-- The life of a job by examples: each place, each arrow, and what is none; as a real Redis 7.0 lists pending entries
+-- and delivers new ones after such lines. (Redis Streams, "Consumer groups"; XREADGROUP, XACK, XCLAIM, XAUTOCLAIM,
+-- XPENDING.)
 use Rattle.std.specs.Prelude.{◌≡◌, ℕ, Bool, List, [], ◌∷◌, codes, Option, Some, None}
 use Rattle.xs_stream.specs.declared.id.Id.{Id}
 use Rattle.xs_stream.specs.Examples.{at}

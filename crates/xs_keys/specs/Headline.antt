@@ -91,8 +91,8 @@ pub record HasOneOwner (life : GroupLife) : Type 0 where
   pub until_settled : OwnedUntilSettled life.start life.events
   pub by_claims : ChangesByClaims life.start life.events
 
--- an event of the history: its command is well formed, and its reply is the model's, at the content of the events before
--- it; and what it tells a consumer of entries is what it delivers or claims
+-- an event of the history: its command is well formed, and its reply is the model's, at the content of the events
+-- before it; and what it tells a consumer of entries is what it delivers or claims
 pub record IsAnswered (past : List (ℕ × Command)) (now : ℕ) (command : Command) (answer : Reply) : Type 0 where
   pub formed : IsWellFormed command
   pub content : Content
@@ -144,8 +144,8 @@ abbrev pub AreWellFormed : List (ℕ × Command) → Type 0
 AreWellFormed [] = Unit {0}
 AreWellFormed (e ∷ past) = IsWellFormed e.1 × AreWellFormed past
 
--- so it is at each event of a history, meeting the events before it. If the history began with nothing, that is all: each
--- event of a run is well formed. If it began with other events, they or the event in question have to be.
+-- so it is at each event of a history, meeting the events before it. If the history began with nothing, that is all:
+-- each event of a run is well formed. If it began with other events, they or the event in question have to be.
 abbrev pub AtEachEvent :
     List (ℕ × Command) → List (ℕ × Command) → (List (ℕ × Command) → ℕ × Command → Type 0) → Type 0
 AtEachEvent [] history Holds =

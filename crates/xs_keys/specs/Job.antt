@@ -141,8 +141,8 @@ HasArrow command key group present x (pending consumer) settled =
     || (removes_consumer command key group consumer || (claims_entry command key group x && not (has_id present x)))) ≡ true
 HasArrow command key group present x _ _ = ⊥
 
--- and some have to: a deletion drops what waits; and an acknowledgement, the removal of its consumer, and a claim by its id
--- that finds it deleted settle what is pending
+-- and some have to: a deletion drops what waits; and an acknowledgement, the removal of its consumer, and a claim by
+-- its id that finds it deleted settle what is pending
 abbrev pub HasToMove : Command → List ℕ → List ℕ → List Id → Id → Place → Place → Type 0
 HasToMove command key group present x waiting there = deletes_entry command key x ≡ true → there ≡ dropped
 HasToMove command key group present x (pending consumer) there =
@@ -170,8 +170,8 @@ IsFirstPlace (Add add) present x dropped = is_some add.trim ≡ true
 IsFirstPlace (GroupCreate create) present x there = there ≡ found_at create.start present x
 IsFirstPlace _ present x there = ⊥
 
--- what a command makes of an entry: it comes, as one that is given or with the group; it stays where it is, or goes along
--- an arrow; or the life of the group ends
+-- what a command makes of an entry: it comes, as one that is given or with the group; it stays where it is, or goes
+-- along an arrow; or the life of the group ends
 abbrev pub GoesAlong : Command → List ℕ → List ℕ → List Id → Id → Option Place → Option Place → Type 0
 GoesAlong command key group present x None None = Unit {0}
 GoesAlong command key group present x None (Some there) = (begins_job command key group ≡ true) × IsFirstPlace command present x there
@@ -223,8 +223,8 @@ is_pending _ = false
 abbrev pub jobs_at : (Place → Bool) → List Change → GroupLife → List Id
 jobs_at at changes life = filter (λ x. at (place_of life (ids_of (live changes)) x)) (ids_of (given_in changes))
 
--- what waits is what a read without COUNT delivers now, what is pending are the rows that XPENDING shows, each consumer's
--- its own; and with what was dropped, handed out and settled they are all ids given past the start
+-- what waits is what a read without COUNT delivers now, what is pending are the rows that XPENDING shows, each
+-- consumer's its own; and with what was dropped, handed out and settled they are all ids given past the start
 pub record BooksBalance (changes : List Change) (life : GroupLife) : Type 0 where
   pub waiting_are : jobs_at (is_at waiting) changes life ≡ delivers None (cursor life.start life.events) (ids_of (live changes))
   pub pending_are : jobs_at is_pending changes life ≡ map (λ e. e.0) (rows life.start life.events)

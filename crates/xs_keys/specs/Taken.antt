@@ -9,8 +9,8 @@ use Rattle.xs_keys.specs.Touched.{time_of}
 abbrev pub least_idle : Ask → ℕ
 least_idle ask = option_map_or (λ rule. rule.min_idle) (rule_of ask) 0
 
--- an entry that is taken has an owner, is in the stream, and the time that it was last given lies as far back as the claim
--- asks; an earlier claim with IDLE gave one that lay back already
+-- an entry that is taken has an owner, is in the stream, and the time that it was last given lies as far back as the
+-- claim asks; an earlier claim with IDLE gave one that lay back already
 pub record IsTakenWhenIdle (start : Id) (past : List GroupEvent) (event : GroupEvent) (x : Id) : Type 0 where
   pub owned : is_some (owner start past x) ≡ true
   pub present : has_id event.present x ≡ true
@@ -42,8 +42,8 @@ MayStop event rows =
     (most_hits event.ask ≤ length (claims_of event rows).take + length (claims_of event rows).removed)
     ⊎ (10 * most_hits event.ask ≤ length rows)
 
--- so it is with each claim of a life; and of the entries that may be taken so an XCLAIM takes each that it names, and an
--- XAUTOCLAIM each from its start on, unless it may stop
+-- so it is with each claim of a life; and of the entries that may be taken so an XCLAIM takes each that it names, and
+-- an XAUTOCLAIM each from its start on, unless it may stop
 abbrev pub ClaimsWhatIsIdle : Id → List GroupEvent → Type 0
 ClaimsWhatIsIdle start events =
     (later : List GroupEvent) (event : GroupEvent) (earlier : List GroupEvent) (x : Id)

@@ -13,8 +13,8 @@ use Rattle.xs_keys.specs.Step.{is_error}
 abbrev pub given_at : List (ℕ × Command) → List ℕ → List (Id × List Field)
 given_at past key = option_map_or given_in (key_life past key) []
 
--- an addition tells the id of the one entry that it gives, with its fields, or that it gives none: by an error, or by the
--- null bulk string if it may not make the key
+-- an addition tells the id of the one entry that it gives, with its fields, or that it gives none: by an error, or by
+-- the null bulk string if it may not make the key
 abbrev pub TellsAddition : List (Id × List Field) → List Field → Reply → List (Id × List Field) → Type 0
 TellsAddition before fields answer after =
     ((id : Id) × (answer ≡ id_reply id) × (after ≡ before ++ (id, fields) ∷ []))

@@ -109,20 +109,22 @@ pub fn time_and_count_are_of_the_last_touch()
     ensures { OfEachLife (λ life. IsLastTouched life.start life.events) }
 {}
 
-/// A claim takes an entry only if it has an owner, is in the stream, and the time that it was last given lies as far back as
-/// the claim asks; and it removes a pending entry only if that is no longer in the stream. Of the entries that may be taken so
-/// an XCLAIM takes each that it names, and an XAUTOCLAIM each from its start on, until it has COUNT hits or 10 x COUNT ids.
+/// A claim takes an entry only if it has an owner, is in the stream, and the time that it was last given lies as far
+/// back as the claim asks; and it removes a pending entry only if that is no longer in the stream. Of the entries that
+/// may be taken so an XCLAIM takes each that it names, and an XAUTOCLAIM each from its start on, until it has COUNT
+/// hits or 10 x COUNT ids.
 pub fn a_claim_takes_what_is_idle()
     ensures { OfEachLife (λ life. ClaimsWhatIsIdle life.start life.events) }
 {}
 
-/// The life of a job. Entries come by XADD alone, and a group by XGROUP CREATE alone, which starts as that asks. Each entry
-/// that was given has one place in each group of its stream, and no other: it is not the group's, waits, was dropped before
-/// its turn, was handed out with NOACK, is pending with one consumer, or is settled. Each event leaves it there, or leads it
-/// along an arrow: what waits is read or dropped; what is pending goes to another consumer by a claim alone, and is settled
-/// by an acknowledgement, the removal of its consumer, or a claim that finds it deleted. What was dropped, handed out or
-/// settled stays so for the life of the group. So none is lost, doubled or without an owner: what waits, what was dropped or
-/// handed out, the rows that XPENDING shows and what is settled are all that was given past the start.
+/// The life of a job. Entries come by XADD alone, and a group by XGROUP CREATE alone, which starts as that asks. Each
+/// entry that was given has one place in each group of its stream, and no other: it is not the group's, waits, was
+/// dropped before its turn, was handed out with NOACK, is pending with one consumer, or is settled. Each event leaves
+/// it there, or leads it along an arrow: what waits is read or dropped; what is pending goes to another consumer by a
+/// claim alone, and is settled by an acknowledgement, the removal of its consumer, or a claim that finds it deleted.
+/// What was dropped, handed out or settled stays so for the life of the group. So none is lost, doubled or without an
+/// owner: what waits, what was dropped or handed out, the rows that XPENDING shows and what is settled are all that was
+/// given past the start.
 pub fn the_life_of_a_job()
     ensures one_place { (past : List (ℕ × Command)) (key group : List ℕ) (changes : List Change) (life : GroupLife) →
         key_life past key ≡ Some changes → group_life past key group ≡ Some life →

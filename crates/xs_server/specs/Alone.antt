@@ -20,8 +20,8 @@ abbrev pub GivesMoments : {C : Type 0} → (C → ℕ → C → Type 0) → C �
 GivesMoments gives old [] new = new ≡ old
 GivesMoments gives old (moment ∷ moments) new = (mid : _) × gives old moment mid × GivesMoments gives mid moments new
 
--- the commands that were asked, each at the moment that the clock gave for it, are a run of the keyspace, and the answers
--- are its replies
+-- the commands that were asked, each at the moment that the clock gave for it, are a run of the keyspace, and the
+-- answers are its replies
 abbrev pub RunsAlone : {C : Type 0} → (C → ℕ → C → Type 0) → List Exchange → Content → C → Content → C → Type 0
 RunsAlone gives exchanges old clock new later =
     (events : List (ℕ × Command)) × (map (λ event. event.1) events ≡ map (λ asked. asked.0) (asked_in exchanges))

@@ -10,8 +10,8 @@ use std::sync::{Arc, Wait};
 use std::thread;
 use std::time::{Clock, Duration};
 
-/// Linux's numbers of the errors of `accept` that a listener gives for good: its descriptor is closed, it doesn't listen
-/// any more, and its descriptor is another file's.
+/// Linux's numbers of the errors of `accept` that a listener gives for good: its descriptor is closed, it doesn't
+/// listen any more, and its descriptor is another file's.
 const EBADF: i32 = 9;
 
 const EINVAL: i32 = 22;
@@ -32,8 +32,8 @@ pub struct TcpGate<S: Clock + Drop, W: Sink + Drop> {
 }
 
 impl<S: Clock + Drop, W: Sink + Drop> TcpGate<S, W> {
-    /// A gate that takes so many connections from the listener. At its first call it makes the announcement, which other
-    /// gates may share.
+    /// A gate that takes so many connections from the listener. At its first call it makes the announcement, which
+    /// other gates may share.
     pub fn new(
         alloc: Global,
         system: S,
