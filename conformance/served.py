@@ -2,6 +2,7 @@
 import contextlib
 import os
 import resource
+import signal
 import socket
 import struct
 import subprocess
@@ -63,6 +64,16 @@ class Server:
         with open(f"/proc/{self.child.pid}/stat", encoding="ascii") as stat:
             fields = stat.read().rpartition(")")[2].split()
         return (int(fields[11]) + int(fields[12])) / os.sysconf("SC_CLK_TCK")
+
+    def stop_and_continue(self):
+        """Stops the process by a signal, and lets it go on once it has stopped."""
+        self.child.send_signal(signal.SIGSTOP)
+        for _ in range(1000):
+            with open(f"/proc/{self.child.pid}/stat", encoding="ascii") as stat:
+                if stat.read().rpartition(")")[2].split()[0] == "T":
+                    break
+            time.sleep(0.001)
+        self.child.send_signal(signal.SIGCONT)
 
     def resident(self):
         """The bytes of memory that the process has in use."""

@@ -247,16 +247,13 @@ def stopped_and_continued(server):
         slow.sendall(asking("XRANGE stops - +") + PING)
         got = bytearray(slow.recv(1000))
         while len(got) < len(reply):
-            server.child.send_signal(signal.SIGSTOP)
-            server.child.send_signal(signal.SIGCONT)
+            server.stop_and_continue()
             got += slow.recv(min(50_000, len(reply) - len(got)))
             time.sleep(0.001)
         assert bytes(got) == reply
         assert read_exactly(slow, len(PONG)) == PONG
         for _ in range(20):
-            server.child.send_signal(signal.SIGSTOP)
-            server.child.send_signal(signal.SIGCONT)
-            time.sleep(0.005)
+            server.stop_and_continue()
         quiet.settimeout(5)
         say(quiet, "PING", "+PONG\r\n")
     say_at(server, "DEL stops", number(1))
