@@ -135,6 +135,18 @@ def at_this_time(server):
     say_at(server, "DEL clock", number(1))
 
 
+def empty_words(server):
+    """An empty message, key, group, consumer, field and value are what they are in Redis: words as others."""
+    with raw(server.port) as stream:
+        for text, reply in (("PING ", bulk("")), ("XADD  5-0  ", bulk("5-0")), ("XLEN ", number(1)),
+                            ("XGROUP CREATE   0", "+OK\r\n"),
+                            ("XREADGROUP GROUP   STREAMS  >", array([array([bulk(""), array([entry("5-0", "", "")])])])),
+                            ("XPENDING  ", array([number(1), bulk("5-0"), bulk("5-0"),
+                                                  array([array([bulk(""), bulk("1")])])])),
+                            ("XACK   5-0", number(1)), ("DEL ", number(1))):
+            say(stream, text, reply)
+
+
 def a_queue(server):
     """Each job goes to one of two consumers, stays pending until it is acknowledged, and is then gone."""
     with raw(server.port) as one, raw(server.port) as other:
@@ -425,7 +437,7 @@ def main(arguments):
         print(__doc__)
         return 2
     return try_all(arguments[0], (replies_before_more, in_order, of_all_sizes, to_a_slow_reader, byte_by_byte,
-                                  without_delay, at_this_time, a_queue, cut_everywhere, in_two_parts, endings, vanished,
+                                  without_delay, at_this_time, empty_words, a_queue, cut_everywhere, in_two_parts, endings, vanished,
                                   listens_here_alone, idle, stopped_and_continued),
                    (as_many_as_workers, more_than_workers, ends, taken, options, stopped, too_little_to_start,
                     few_descriptors), WORKERS)
