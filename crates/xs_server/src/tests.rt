@@ -156,7 +156,6 @@ fn reports_each_fault(rt: HostRuntime) -> Result<(), Fail> {
     Ok(())
 }
 
-mod gates;
 mod of_bytes;
 mod sessions;
 mod tcp;
