@@ -1,4 +1,4 @@
-.PHONY: run serve test check edits extra refusals compare clients hostile
+.PHONY: run serve test check model edits extra refusals compare clients hostile
 
 PROGRAM = crates/xs_server/out/xs_server
 BUILD = python3 scripts/build.py out/build.log
@@ -17,13 +17,15 @@ serve:
 	@MALLOC_ARENA_MAX=2 $(PROGRAM) serve --port 6379 --workers 16 --each 1000000
 
 # The merge gate. Proves everything from nothing, tries the edits of must-fail/, and runs the tests and the program that
-# it built: the worked cases, the great scripts, connections made at random, and a server as its users run it.
+# it built: the worked cases, the great scripts, connections made at random, and a server as its users run it. Then the
+# model of how threads wait for each other is explored.
 test:
 	rt ci
 	python3 conformance/run.py $(PROGRAM) script
 	python3 conformance/great.py $(PROGRAM)
 	python3 conformance/sessions.py --bytes 5000000 $(PROGRAM)
 	python3 conformance/serves.py $(PROGRAM)
+	python3 model/run.py
 
 # Proves what has changed, and runs the worked cases and a server: what one runs while working.
 check:
@@ -31,6 +33,11 @@ check:
 	$(BUILD)
 	python3 conformance/run.py $(PROGRAM) script
 	python3 conformance/serves.py $(PROGRAM)
+
+# Has Spin explore how the lanes of a desk and their keeper wait for each other, and some wrong ways. Debian: apt-get
+# install spin gcc
+model:
+	python3 model/run.py
 
 # Tries the further wrong bodies of edits/, which the gate leaves out: the prover has to refuse each.
 edits:

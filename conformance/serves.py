@@ -102,25 +102,26 @@ def byte_by_byte(server):
 
 
 def without_delay(server):
-    """A small reply behind another small one comes at once, though the client hasn't acknowledged the former: the
-    requests are far enough apart for two replies, since the first takes the server a while."""
-    waits = []
-    for _ in range(5):
-        with raw(server.port) as stream:
-            stream.setsockopt(socket.IPPROTO_TCP, socket.TCP_NODELAY, 1)
-            adds = b"".join(asking(f"XADD delay {place}-0 f v") for place in range(1, 20_001))
-            sender = threading.Thread(target=stream.sendall, args=(adds,))
-            sender.start()
-            read_exactly(stream, sum(len(bulk(f"{place}-0")) for place in range(1, 20_001)))
-            sender.join()
+    """A small reply behind another small one comes at once, though the client hasn't acknowledged the former. The second
+    request comes while the first one is executed, which names so many ids that it takes a while."""
+    fill(server, "delay", 1, 1)
+    say_at(server, "XGROUP CREATE delay g 0", "+OK\r\n")
+    asked, waits = asking("XACK delay g" + " 1-1" * 200_000), []
+    with raw(server.port) as stream:
+        stream.setsockopt(socket.IPPROTO_TCP, socket.TCP_NODELAY, 1)
+        for _ in range(5):
+            stream.sendall(asked[:-1])
+            time.sleep(0.05)
             stream.setsockopt(socket.IPPROTO_TCP, socket.TCP_QUICKACK, 0)
-            stream.sendall(asking("DEL delay"))
+            stream.sendall(asked[-1:])
+            time.sleep(0.002)
             stream.sendall(PING)
-            assert read_exactly(stream, 4) == b":1\r\n"
+            assert read_exactly(stream, 4) == b":0\r\n"
             began = time.monotonic()
             assert read_exactly(stream, len(PONG)) == PONG
             waits.append(time.monotonic() - began)
-    assert sorted(waits)[1] < 0.01, waits
+    assert sorted(waits)[2] < 0.01, waits
+    say_at(server, "DEL delay", number(1))
 
 
 def at_this_time(server):
@@ -254,14 +255,14 @@ def idle(server):
 def stopped_and_continued(server):
     """The signals that stop and continue a process interrupt its calls. Nothing is lost: what was read, what is
     written, nor who waits."""
-    reply = fill(server, "stops", 30, 100_000)
+    reply = fill(server, "stops", 100, 100_000)
     with raw(server.port) as slow, raw(server.port) as quiet:
         slow.sendall(asking("XRANGE stops - +") + PING)
-        got = bytearray(slow.recv(1000))
+        got = bytearray()
         while len(got) < len(reply):
+            time.sleep(0.005)
             server.stop_and_continue()
-            got += slow.recv(min(50_000, len(reply) - len(got)))
-            time.sleep(0.001)
+            got += read_exactly(slow, min(300_000, len(reply) - len(got)))
         assert bytes(got) == reply
         assert read_exactly(slow, len(PONG)) == PONG
         for _ in range(20):
@@ -436,11 +437,12 @@ def main(arguments):
     if len(arguments) != 1:
         print(__doc__)
         return 2
-    return try_all(arguments[0], (replies_before_more, in_order, of_all_sizes, to_a_slow_reader, byte_by_byte,
-                                  without_delay, at_this_time, empty_words, a_queue, cut_everywhere, in_two_parts, endings, vanished,
-                                  listens_here_alone, idle, stopped_and_continued),
-                   (as_many_as_workers, more_than_workers, ends, taken, options, stopped, too_little_to_start,
-                    few_descriptors), WORKERS)
+    over_server = (replies_before_more, in_order, of_all_sizes, to_a_slow_reader, byte_by_byte, without_delay,
+                   at_this_time, empty_words, a_queue, cut_everywhere, in_two_parts, endings, vanished,
+                   listens_here_alone, idle, stopped_and_continued)
+    over_program = (as_many_as_workers, more_than_workers, ends, taken, options, stopped, too_little_to_start,
+                    few_descriptors)
+    return try_all(arguments[0], over_server, over_program, WORKERS)
 
 
 if __name__ == "__main__":

@@ -18,7 +18,7 @@ use Rattle.xs_command.specs.declared.command.ReadOne.{ReadOne}
 use Rattle.xs_keys.specs.Life.{Change, added, deleted, trimmed_to, is_listed, opened, key_lived, key_life, given_in, top, top_of}
 use Rattle.xs_keys.specs.GroupEvent.{Ask, join, leave, ack, claim, auto_claim}
 use Rattle.xs_keys.specs.GroupLife.{GroupLife, present_in, starting_id, life_opened, life_asked, read_ask, life_read, group_lived, reads_of, group_of, group_life}
-use Rattle.xs_keys.specs.Job.{adds_or_drops, EntriesAreAdded, StartsBehind, MakesGroup, GroupsAreCreated}
+use Rattle.xs_keys.specs.Presence.{adds_or_drops, EntriesAreAdded, StartsBehind, MakesGroup, GroupsAreCreated}
 use Rattle.xs_keys.proofs.JobPlaces.{life_of}
 
 -- ---- entries
@@ -100,7 +100,7 @@ made-at create None given g life e = absurd (false≢true (ap is_some e))
 made-at create (Some changes) given g life e = starts-behind create.start changes given g life.start (ap (λ o. option_map_or (λ l. l.start) o zero_id) (sym e))
 
 makes-group : (now : ℕ) (command : Command) (key group : List ℕ) (served : Bool) (stream : Option (List Change)) (life : GroupLife)
-    → group_lived now command key group served stream None ≡ Some life → MakesGroup command (option_map_or given_in stream []) life.start
+    → group_lived now command key group served stream None ≡ Some life → MakesGroup command key group (option_map_or given_in stream []) life.start
 makes-group now (Ping message) key group served stream life e = false≢true (ap is_some e)
 makes-group now Quit key group served stream life e = false≢true (ap is_some e)
 makes-group now (Add add) key group served stream life e = false≢true (ap is_some e)
@@ -109,8 +109,8 @@ makes-group now (TrimTo name trim) key group served stream life e = false≢true
 makes-group now (Len name) key group served stream life e = false≢true (ap is_some e)
 makes-group now (Scan scan) key group served stream life e = false≢true (ap is_some e)
 makes-group now (GroupCreate create) key group served stream life e = by (is_name key create.key && is_name group create.group) e where
-  by : (t : Bool) → cond t (life_opened create stream) None ≡ Some life → StartsBehind create.start (option_map_or given_in stream []) life.start
-  by true f = made-at create (opened create.make stream) (option_map_or given_in stream []) (opened-given create.make stream) life f
+  by : (t : Bool) → cond t (life_opened create stream) None ≡ Some life → (t ≡ true) × StartsBehind create.start (option_map_or given_in stream []) life.start
+  by true f = (refl, made-at create (opened create.make stream) (option_map_or given_in stream []) (opened-given create.make stream) life f)
   by false f = absurd (false≢true (ap is_some f))
 makes-group now (GroupDestroy name g) key group served stream life e = never _ (either-none (is_name key name && is_name group g) None refl) life e
 makes-group now (ConsumerCreate name g consumer) key group served stream life e = never _ (asked-none now (present_in stream) (join consumer) (is_name key name && is_name group g)) life e

@@ -17,7 +17,7 @@ use Rattle.std.specs.Option.{option_map, option_map_or}
 use Rattle.xs_stream.specs.declared.id.Id.{Id}
 use Rattle.xs_stream.specs.declared.trim.Trim.{Trim}
 use Rattle.xs_stream.specs.Id.{is_below, is_same, has_id, assigned}
-use Rattle.xs_stream.specs.Kept.{ids_of, is_trimmed, count_above}
+use Rattle.xs_stream.specs.Kept.{AllUpTo, ids_of, is_trimmed, count_above}
 use Rattle.xs_group.specs.State.{Row, is_name}
 use Rattle.xs_group.specs.Claims.{Rule, row_at, is_idle, is_removed, is_taken, claim_among, firsts, from_start, is_hit, scanned}
 use Rattle.xs_command.specs.WellFormed.{IsWellFormed, keys_of}
@@ -33,9 +33,11 @@ use Rattle.xs_command.specs.declared.command.AutoClaimCommand.{AutoClaimCommand}
 use Rattle.xs_keys.specs.Life.{Change, added, deleted, trimmed_to, is_listed, opened, key_lived, key_life, entry_of, gives, given_in, top, drops, stands, live}
 use Rattle.xs_keys.specs.GroupEvent.{Ask, GroupEvent, join, leave, ack, claim, auto_claim, asked_new, asked_claim, consumer_of, keeps_pending, acks, drops_consumer, delivered, cursor, last_assigned, owner, holding, rows}
 use Rattle.xs_keys.specs.GroupLife.{GroupLife, present_in, starting_id, life_opened, life_asked, read_ask, life_read, group_lived, reads_of, group_of, group_life, is_new, asks_new}
-use Rattle.xs_keys.specs.Job.{Place, before_start, waiting, dropped, handed_out, pending, settled, place_of, deletes_entry, is_trimmed_below_one, trims_entry, reads_new, with_noack, claims_by_id, claims_entry, asker, acknowledges_entry, removes_consumer, begins_job, ends_group, found_at, HasArrow, HasToMove, IsFirstPlace, GoesAlong, place_in, place_after, is_final, GoesOnFor}
+use Rattle.xs_keys.specs.Job.{Place, before_start, waiting, dropped, handed_out, pending, settled, place_of, deletes_entry, is_trimmed_below_one, trims_entry, reads_new, with_noack, claims_by_id, claims_entry, asker, acknowledges_entry, removes_consumer, begins_job, ends_group, found_at, HasArrow, HasToMove, trims_new, IsFirstPlace, GoesAlong, place_in, place_after, is_final, GoesOnFor}
 use Rattle.xs_keys.proofs.IdLists.{has_id-append, has_id-where}
-use Rattle.xs_keys.proofs.Streams.{gives-not_new}
+use Rattle.xs_keys.proofs.Streams.{gives-not_new, up_to-live}
+use Rattle.xs_stream.proofs.Order.{below-irrefl, is_same-eq, below-not_back, not_above-trans}
+use Rattle.xs_stream.proofs.Assigning.{assigned-above}
 use Rattle.xs_stream.proofs.InOrder.{ids_of-append}
 use Rattle.xs_keys.proofs.Lives.{others-absent, not-read}
 use Rattle.xs_keys.proofs.Owners.{owner-row, row-found, of_row}
@@ -52,7 +54,7 @@ data Altered (change : Change) (past : List Change) (x : Id) (here there : Place
 
 module _ (start : Id) (events : List GroupEvent) (change : Change) (past : List Change) (x : Id) (given : has_id (ids_of (given_in past)) x ≡ true) where
   -- what isn't live any more was dropped
-  was-dropped : has_id (ids_of (live past)) x ≡ true → has_id (ids_of (live (change ∷ past))) x ≡ false → drops change (top past) (ids_of (filter (λ e. stands past e.0) (given_in past) ++ gives change (top past))) x ≡ true
+  pub was-dropped : has_id (ids_of (live past)) x ≡ true → has_id (ids_of (live (change ∷ past))) x ≡ false → drops change (top past) (ids_of (filter (λ e. stands past e.0) (given_in past) ++ gives change (top past))) x ≡ true
   was-dropped v w =
       by (drops change (top past) (ids_of (filter (λ e. stands past e.0) (given_in past) ++ gives change (top past))) x) refl
       (has_id (ids_of (gives change (top past))) x) (gives-not_new change (top past) x (given-up_to past x given))
@@ -86,7 +88,7 @@ none-life None x = refl
 none-life (Some changes) x = refl
 
 -- what is dropped now isn't live
-not-live : (change : Change) (past : List Change) (x : Id) → drops change (top past) (ids_of (filter (λ e. stands past e.0) (given_in past) ++ gives change (top past))) x ≡ true
+pub not-live : (change : Change) (past : List Change) (x : Id) → drops change (top past) (ids_of (filter (λ e. stands past e.0) (given_in past) ++ gives change (top past))) x ≡ true
     → has_id (ids_of (live (change ∷ past))) x ≡ false
 not-live change past x d =
     has_id-live (change ∷ past) x
@@ -397,7 +399,7 @@ adds command key group x change make None None t sees does idle = unborn command
 adds command key group x change make None (Some life) t sees does idle = absurd sees
 
 -- what a trim drops behind an addition
-trimmed-below : (given : Result Id AddError) (fields : List Field) (trim : Option Trim) (es : List (Id × List Field)) (x : Id)
+pub trimmed-below : (given : Result Id AddError) (fields : List Field) (trim : Option Trim) (es : List (Id × List Field)) (x : Id)
     → (is_ok given && option_map_or (λ t. is_trimmed t (ids_of (es ++ entry_of given fields)) x) trim false) ≡ true → option_map_or (λ t. is_trimmed_below_one t (ids_of es) x) trim false ≡ true
 trimmed-below (Err refusal) fields trim es x e = absurd (false≢true e)
 trimmed-below (Ok id) fields None es x e = absurd (false≢true e)
@@ -413,19 +415,62 @@ trimmed-below (Ok id) fields (Some (MaxLen n)) es x e =
     fewer : (a b : ℕ) → b ≤ 1 → nat_le n (a + b) ≡ true → nat_le n (a + 1) ≡ true
     fewer a b few h = grind (arith, nat_tests, few, h)
 
-and_no : (b : Bool) → (b && false) ≡ false
-and_no true = refl
-and_no false = refl
+or_none : (a : Bool) → (a || false) ≡ true → a ≡ true
+or_none true e = refl
+or_none false e = e
 
--- what is added stands in the stream, unless the addition trims
+-- none of what is up to it is above it
+none-above : (x : Id) (ids : List Id) → AllUpTo x ids → count_above x ids ≡ 0
+none-above x [] up = refl
+none-above x (y ∷ ys) up = rw up.0 (none-above x ys up.1)
+
+-- what is up to an id is up to a greater one
+up_to-raised : (t x : Id) (ids : List Id) → is_below t x ≡ true → AllUpTo t ids → AllUpTo x ids
+up_to-raised t x [] above up = tt
+up_to-raised t x (y ∷ ys) above up = (not_above-trans x t y (below-not_back t x above) up.0, up_to-raised t x ys above up.1)
+
+-- what is given is above the top
+given-above : (given : Result Id AddError) (fields : List Field) (t x : Id) → ((y : Id) → given ≡ Ok y → is_below t y ≡ true) → has_id (ids_of (entry_of given fields)) x ≡ true → is_below t x ≡ true
+given-above (Err refusal) fields t x above new = absurd (false≢true new)
+given-above (Ok id) fields t x above new = subst (λ y. is_below t y ≡ true) (sym (is_same-eq x id (or_none (is_same x id) new))) (above id refl)
+
+-- a trim drops what was added with it only by itself
+trims-own : (given : Result Id AddError) (fields : List Field) (trim : Trim) (es : List (Id × List Field)) (x : Id) → AllUpTo x (ids_of es) → has_id (ids_of (entry_of given fields)) x ≡ true
+    → is_trimmed trim (ids_of (es ++ entry_of given fields)) x ≡ true → trims_new trim x ≡ true
+trims-own (Err refusal) fields trim es x up new e = absurd (false≢true new)
+trims-own (Ok id) fields (MinId low) es x up new e = e
+trims-own (Ok id) fields (MaxLen n) es x up new e = ap (nat_le n) (sym count) ∙ e where
+  itself : is_below x id ≡ false
+  itself = ap (λ y. is_below y id) (is_same-eq x id (or_none (is_same x id) new)) ∙ below-irrefl id
+
+  count : count_above x (ids_of (es ++ (id, fields) ∷ [])) ≡ 0
+  count =
+      ap (count_above x) (ids_of-append es ((id, fields) ∷ [])) ∙ ap length (filter-append (λ y. is_below x y) (ids_of es) (id ∷ []))
+      ∙ length-append (filter (λ y. is_below x y) (ids_of es)) (cond (is_below x id) (id ∷ []) [])
+      ∙ (λ i. none-above x (ids_of es) up i + length (cond (itself i) (id ∷ []) []))
+
+-- what is added stands in the stream, unless the addition's own trim drops it
 trim-needed : (now : ℕ) (id : AddId) (fields : List Field) (trim : Option Trim) (past : List Change) (x : Id) → has_id (ids_of (gives (added now id fields trim) (top past))) x ≡ true
-    → has_id (ids_of (live (added now id fields trim ∷ past))) x ≡ false → is_some trim ≡ true
-trim-needed now id fields (Some trim) past x new gone = refl
-trim-needed now id fields None past x new gone =
-    let given = ap (λ ids. has_id ids x) (ids_of-append (given_in past) (gives (added now id fields None) (top past)))
-    ∙ has_id-append (ids_of (given_in past)) (ids_of (gives (added now id fields None) (top past))) x ∙ or_second _ _ new in
-    absurd (false≢true (sym gone ∙ has_id-live (added now id fields None ∷ past) x
-    ∙ (λ i. cond (and_no (is_ok (assigned now (top past) id)) i) false (cond (new i) true (stands past x)) && given i)))
+    → has_id (ids_of (live (added now id fields trim ∷ past))) x ≡ false → option_map_or (λ t. trims_new t x) trim false ≡ true
+trim-needed now id fields trim past x new gone =
+    own trim (second_of (is_ok (assigned now (top past) id)) _ (by (drops (added now id fields trim) (top past) (ids_of (live past ++ entry_of (assigned now (top past) id) fields)) x) refl
+    (sym gone ∙ has_id-live (added now id fields trim ∷ past) x
+    ∙ (λ i. cond (drops (added now id fields trim) (top past) (ids_of (live past ++ entry_of (assigned now (top past) id) fields)) x) false (cond (new i) true (stands past x)) && given i))))
+  where
+    given : has_id (ids_of (given_in (added now id fields trim ∷ past))) x ≡ true
+    given = ap (λ ids. has_id ids x) (ids_of-append (given_in past) (gives (added now id fields trim) (top past)))
+        ∙ has_id-append (ids_of (given_in past)) (ids_of (gives (added now id fields trim) (top past))) x ∙ or_second _ _ new
+
+    by : (d : Bool) → drops (added now id fields trim) (top past) (ids_of (live past ++ entry_of (assigned now (top past) id) fields)) x ≡ d → false ≡ (cond d false true && true)
+        → drops (added now id fields trim) (top past) (ids_of (live past ++ entry_of (assigned now (top past) id) fields)) x ≡ true
+    by true e h = e
+    by false e h = absurd (false≢true h)
+
+    own : (trim : Option Trim) → option_map_or (λ t. is_trimmed t (ids_of (live past ++ entry_of (assigned now (top past) id) fields)) x) trim false ≡ true → option_map_or (λ t. trims_new t x) trim false ≡ true
+    own None h = h
+    own (Some t) h =
+        trims-own (assigned now (top past) id) fields t (live past) x
+        (up_to-raised (top past) x (ids_of (live past)) (given-above (assigned now (top past) id) fields (top past) x (λ y e. assigned-above now (top past) id y e) new) (up_to-live past)) new h
 
 added-first : (now : ℕ) (add : AddCommand) (past : List Change) (x : Id) → has_id (ids_of (gives (added now add.id add.fields add.trim) (top past))) x ≡ true
     → (life : GroupLife) (ids : List Id) → has_id (delivered life.start life.events) x ≡ false → IsFirstPlace (Add add) ids x (place_of life (ids_of (live (added now add.id add.fields add.trim ∷ past))) x)

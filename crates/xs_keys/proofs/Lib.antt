@@ -22,5 +22,6 @@ pub mod ReadSteps
 pub mod Refusals
 pub mod Runs
 pub mod Sights
+pub mod Staying
 pub mod Streams
 pub mod Tellings

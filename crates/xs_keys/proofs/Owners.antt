@@ -458,5 +458,9 @@ pub owned-until-settled : (start : Id) (events : List GroupEvent) → OwnedUntil
 owned-until-settled start events = λ later event earlier x e d.
     ap (λ ts. is_some (owner start ts x)) e ∙ until-settled start later event earlier x d
 
+-- what is delivered or taken belongs to the consumer who asked
+assigned-owner : (start : Id) (past : List GroupEvent) (event : GroupEvent) (x : Id) → assigns start past event x ≡ true → owner start (event ∷ past) x ≡ consumer_of event.ask
+assigned-owner start past event x h = λ i. cond (cond (h i) false (settles start past event x || is_settled start past x)) None (cond (h i) (consumer_of event.ask) (last_assigned start past x))
+
 pub changes-by-claims : (start : Id) (events : List GroupEvent) → ChangesByClaims start events
-changes-by-claims start events = λ later event earlier x e. (λ name o. owner-after start earlier event x name o, λ o. no-owner-after start earlier event x o)
+changes-by-claims start events = λ later event earlier x e. (λ name o. owner-after start earlier event x name o, λ o. no-owner-after start earlier event x o, λ h. assigned-owner start earlier event x h)

@@ -24,8 +24,11 @@ use Rattle.xs_keys.proofs.JobPlaces.{has-one-place}
 use Rattle.xs_keys.proofs.JobMoves.{goes-along}
 use Rattle.xs_keys.proofs.JobBooks.{balances}
 use Rattle.xs_keys.specs.Life.{Change, key_life}
-use Rattle.xs_keys.specs.Job.{HasItsPlaces, EachGoesAlong, EntriesAreAdded, GroupsAreCreated}
+use Rattle.xs_keys.specs.Job.{HasItsPlaces, EachGoesAlong}
+use Rattle.xs_keys.specs.Presence.{EntriesAreAdded, EntriesStay, GroupsAreCreated, GroupsStay}
 use Rattle.xs_keys.proofs.Comings.{entries-added, groups-created}
+use Rattle.xs_keys.proofs.Refusals.{refused-unchanged}
+use Rattle.xs_keys.proofs.Staying.{entries-stay, groups-stay}
 
 -- from this past on, the answers so far are good, whatever good answers to the rest of the events follow
 abbrev pub SoFar : List (ℕ × Command) → List (ℕ × Command) → List Reply → List (ℕ × Command) → List (ℕ × Command) → Type 0
@@ -52,6 +55,7 @@ step-follows past old new now command answer formed is (inl applied) = (
       left_by = is;
       answer_is = applied.answer_is;
       told = subst (λ r. IsTold past now command r) (sym applied.answer_is) (is-told past old now command is formed);
+      unchanged = refused-unchanged old now command formed;
     },
     refl,
   ),
@@ -140,7 +144,9 @@ headline past events replies history answers = record {
   places = λ later earlier e key group changes life k g. has-its-places earlier key group changes life k g;
   moves = at-each-event past events replies history answers EachGoesAlong (λ earlier e formed key group x. goes-along earlier e.0 e.1 key group x formed);
   additions = at-each-event past events replies history answers EntriesAreAdded (λ earlier e formed. entries-added earlier e);
+  presence = at-each-event past events replies history answers EntriesStay (λ earlier e formed. entries-stay earlier e);
   groups = at-each-event past events replies history answers GroupsAreCreated (λ earlier e formed. groups-created earlier e);
+  open_groups = at-each-event past events replies history answers GroupsStay (λ earlier e formed. groups-stay earlier e);
 }
 
 pub runs-all : (old : Content) (events : List (ℕ × Command)) (replies : List Reply) (new : Content) → RunsSoFar old events replies new [] → RunsOn old events replies new

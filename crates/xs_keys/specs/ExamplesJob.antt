@@ -9,7 +9,8 @@ use Rattle.xs_command.specs.Read.{reads}
 use Rattle.xs_command.specs.Examples.{line}
 use Rattle.xs_keys.specs.Job.{Place, before_start, waiting, dropped, handed_out, pending, settled, StandsAt, HasArrow}
 use Rattle.xs_command.specs.declared.command.GroupStart.TheVariants.{Top, At}
-use Rattle.xs_keys.specs.Job.{StartsBehind, GoesAlong, place_after, is_at, is_pending, is_final, GoesOnFor, jobs_at}
+use Rattle.xs_keys.specs.Presence.{StartsBehind}
+use Rattle.xs_keys.specs.Job.{GoesAlong, place_after, is_at, is_pending, is_final, GoesOnFor, jobs_at}
 use Rattle.xs_keys.specs.ExamplesHistory.{event, events}
 use Rattle.xs_keys.specs.ExamplesGroupEvents.{event_over, read_by_a, noack_by_b}
 use Rattle.xs_keys.specs.ExamplesHeadline.{life}
@@ -213,6 +214,9 @@ GoesDeleted words here there = goes_by (event 5 (reads (line words))) [] here th
 pub record Comings : Type 0 where
   pub is_given : GoesBy (codes "XADD s 1-0 f v") None (Some waiting)
   pub is_given_and_trimmed : GoesBy (codes "XADD s MAXLEN 0 1-0 f v") None (Some dropped)
+  pub is_given_below_its_own_trim : GoesBy (codes "XADD s MINID 2 1-0 f v") None (Some dropped)
+  pub not_trimmed_with_the_last_one : GoesBy (codes "XADD s MAXLEN 1 1-0 f v") None (Some dropped) → ⊥
+  pub not_trimmed_at_the_bound : GoesBy (codes "XADD s MINID 1 1-0 f v") None (Some dropped) → ⊥
   pub is_given_below_the_start : GoesBy (codes "XADD s 1-0 f v") None (Some before_start)
   pub comes_with_the_group : GoesBy (codes "XGROUP CREATE s g 0") None (Some waiting)
   pub is_found_before_the_start : GoesBy (codes "XGROUP CREATE s g 1") None (Some before_start)

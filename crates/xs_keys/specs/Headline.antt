@@ -9,14 +9,15 @@ use Rattle.xs_command.specs.WellFormed.{IsWellFormed}
 use Rattle.xs_keys.specs.Life.{Change, key_life, given_in}
 use Rattle.xs_keys.specs.Content.{Content, IsContent, IsLawfulContent, after}
 use Rattle.xs_keys.specs.Reply.{reply}
-use Rattle.xs_keys.specs.Step.{takes_memory, is_error}
+use Rattle.xs_keys.specs.Step.{takes_memory, is_error, IsUnchangedIfRefused}
 use Rattle.xs_keys.specs.Touched.{IsLastTouched}
 use Rattle.xs_keys.specs.Taken.{ClaimsWhatIsIdle}
 use Rattle.xs_keys.specs.GroupEvent.{GroupEvent, read_new, consumer_of, delivered, delivers_at, cursor, is_their_turn}
 use Rattle.xs_keys.specs.GroupEvent.{delivers_pending, takes, settles, owner, rows}
 use Rattle.xs_keys.specs.GroupLife.{GroupLife, group_life, delivered_by, GoesOn}
 use Rattle.xs_keys.specs.Told.{IsTold}
-use Rattle.xs_keys.specs.Job.{EachHasAPlace, EachGoesAlong, EntriesAreAdded, GroupsAreCreated}
+use Rattle.xs_keys.specs.Job.{EachHasAPlace, EachGoesAlong}
+use Rattle.xs_keys.specs.Presence.{EntriesAreAdded, EntriesStay, GroupsAreCreated, GroupsStay}
 
 -- one of the events is their turn, and the id is delivered exactly where it is in the stream then
 pub record HadItsTurn (start : Id) (events : List GroupEvent) (x : Id) : Type 0 where
@@ -70,13 +71,16 @@ NoOwnerAfter start past event x =
     (owner start (event ∷ past) x ≡ None)
     ⊎ ((delivers_pending start past event x ≡ true) × (owner start (event ∷ past) x ≡ consumer_of event.ask))
 
--- the owner changes only by a claim, and comes only by a delivery
+-- the owner changes only by a claim, and comes only by a delivery; and what is delivered without NOACK, or taken by a
+-- claim, belongs to the consumer who asked
 abbrev pub ChangesByClaims : Id → List GroupEvent → Type 0
 ChangesByClaims start events =
     (later : List GroupEvent) (event : GroupEvent) (earlier : List GroupEvent) (x : Id)
     → events ≡ later ++ event ∷ earlier
     → ((name : List ℕ) → owner start earlier x ≡ Some name → OwnerAfter start earlier event x name)
     × (owner start earlier x ≡ None → NoOwnerAfter start earlier event x)
+    × ((delivers_pending start earlier event x || takes start earlier event x) ≡ true
+    → owner start (event ∷ earlier) x ≡ consumer_of event.ask)
 
 -- an entry has an owner exactly where it is pending, and the owner is the consumer of its pending row
 abbrev pub IsPendingWithOwner : Id → List GroupEvent → Type 0
@@ -92,13 +96,14 @@ pub record HasOneOwner (life : GroupLife) : Type 0 where
   pub by_claims : ChangesByClaims life.start life.events
 
 -- an event of the history: its command is well formed, and its reply is the model's, at the content of the events
--- before it; and what it tells a consumer of entries is what it delivers or claims
+-- before it; what it tells a consumer of entries is what it delivers or claims; and what is refused changes nothing
 pub record IsAnswered (past : List (ℕ × Command)) (now : ℕ) (command : Command) (answer : Reply) : Type 0 where
   pub formed : IsWellFormed command
   pub content : Content
   pub left_by : IsContent content past
   pub answer_is : answer ≡ reply content now command
   pub told : IsTold past now command answer
+  pub unchanged : IsUnchangedIfRefused content now command
 
 -- it was refused for want of memory, where the command takes some and the model refuses nothing
 pub record IsLeftOut (past : List (ℕ × Command)) (now : ℕ) (command : Command) (answer : Reply) : Type 0 where
@@ -172,7 +177,8 @@ StepsLawfully history =
 -- every reply is the model's, and tells what was delivered; each group's new deliveries are, in id order and each once,
 -- the entries past its start that were in the stream when their turn came, as many as were asked for; and each entry
 -- delivered without NOACK is pending with exactly one consumer until it is settled, and is claimed only when idle; and
--- each entry has one place in each group at each time, and goes from one to another along the arrows alone
+-- each entry has one place in each group at each time, and goes from one to another along the arrows alone; entries and
+-- groups come and go by their own commands alone
 pub record Headline
     (past events : List (ℕ × Command)) (answers : List Reply) (history : List (ℕ × Command)) : Type 0 where
   pub replies : Answers past events answers history
@@ -185,7 +191,9 @@ pub record Headline
   pub places : EachHasAPlace history
   pub moves : AtEachEvent past history EachGoesAlong
   pub additions : AtEachEvent past history EntriesAreAdded
+  pub presence : AtEachEvent past history EntriesStay
   pub groups : AtEachEvent past history GroupsAreCreated
+  pub open_groups : AtEachEvent past history GroupsStay
 
 -- over any history that left the old content, the headline holds, and the new content is lawful and that of
 -- the history with the events that were applied

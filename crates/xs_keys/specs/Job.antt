@@ -26,7 +26,7 @@ pub data Place : Type 0 where
   pending : List ℕ → Place  -- delivered, and pending with this consumer
   settled : Place  -- acknowledged, given up with its consumer, or found deleted by a claim
 
--- where a delivered entry stands: by whom it was last assigned to, and who has it
+-- where a delivered entry stands: to whom it was last assigned, and who has it
 abbrev pub place_of_delivered : Option (List ℕ) → Option (List ℕ) → Place
 place_of_delivered None has = handed_out
 place_of_delivered (Some last) None = settled
@@ -161,12 +161,17 @@ abbrev pub found_at : GroupStart → List Id → Id → Place
 found_at start present x =
     if not (is_past start x) then before_start else (if has_id present x then waiting else dropped)
 
--- where an entry stands at first: one that is added waits, unless the addition trims or the group starts above it; one
--- that was there before the group is where the new group finds it
+-- a trim drops the entry with which it comes: it leaves none, or what it leaves begins above
+abbrev pub trims_new : Trim → Id → Bool
+trims_new (MaxLen n) x = nat_le n 0
+trims_new (MinId low) x = is_below x low
+
+-- where an entry stands at first: one that is added waits, unless the addition's own trim drops it or the group starts
+-- above it; one that was there before the group is where the new group finds it
 abbrev pub IsFirstPlace : Command → List Id → Id → Place → Type 0
 IsFirstPlace (Add add) present x before_start = Unit {0}
 IsFirstPlace (Add add) present x waiting = Unit {0}
-IsFirstPlace (Add add) present x dropped = is_some add.trim ≡ true
+IsFirstPlace (Add add) present x dropped = option_map_or (λ trim. trims_new trim x) add.trim false ≡ true
 IsFirstPlace (GroupCreate create) present x there = there ≡ found_at create.start present x
 IsFirstPlace _ present x there = ⊥
 
@@ -253,33 +258,6 @@ EachHasAPlace history =
     (later earlier : List (ℕ × Command)) → history ≡ later ++ earlier
     → (key group : List ℕ) (changes : List Change) (life : GroupLife)
     → key_life earlier key ≡ Some changes → group_life earlier key group ≡ Some life → HasItsPlaces changes life
-
--- the command adds to the key, or deletes it
-abbrev pub adds_or_drops : Command → List ℕ → Bool
-adds_or_drops (Add add) key = is_name key add.key
-adds_or_drops (DropKeys keys) key = is_listed keys key
-adds_or_drops _ key = false
-
--- entries come by additions alone: another command leaves all that was given, unless the key goes
-abbrev pub EntriesAreAdded : List (ℕ × Command) → ℕ × Command → Type 0
-EntriesAreAdded earlier e =
-    (key : List ℕ) → (given_at (e ∷ earlier) key ≡ given_at earlier key) ⊎ (adds_or_drops e.1 key ≡ true)
-
--- a group starts behind the written id, or for `$` behind all that was given
-abbrev pub StartsBehind : GroupStart → List (Id × List Field) → Id → Type 0
-StartsBehind Top given start = start ≡ top_of given
-StartsBehind (At id) given start = start ≡ id
-
--- a command makes a group with this start
-abbrev pub MakesGroup : Command → List (Id × List Field) → Id → Type 0
-MakesGroup (GroupCreate create) given start = StartsBehind create.start given start
-MakesGroup _ given start = ⊥
-
--- a group comes by XGROUP CREATE alone, and starts as that asks
-abbrev pub GroupsAreCreated : List (ℕ × Command) → ℕ × Command → Type 0
-GroupsAreCreated earlier e =
-    (key group : List ℕ) (life : GroupLife) → group_life earlier key group ≡ None
-    → group_life (e ∷ earlier) key group ≡ Some life → MakesGroup e.1 (given_at earlier key) life.start
 
 -- an event leaves each entry at its place, or leads it along an arrow
 abbrev pub EachGoesAlong : List (ℕ × Command) → ℕ × Command → Type 0

@@ -8,6 +8,7 @@ pub mod Content
 pub mod Reply
 pub mod Told
 pub mod Job
+pub mod Presence
 pub mod Step
 pub mod Headline
 pub mod Adding
@@ -23,3 +24,4 @@ pub mod ExamplesContent
 pub mod ExamplesHeadline
 pub mod ExamplesTold
 pub mod ExamplesJob
+pub mod ExamplesPresence

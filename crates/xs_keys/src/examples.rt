@@ -6,6 +6,7 @@ ghost use Rattle.xs_keys.specs.ExamplesAsked as asked;
 ghost use Rattle.xs_keys.specs.ExamplesContent as content;
 ghost use Rattle.xs_keys.specs.ExamplesHeadline as headline;
 ghost use Rattle.xs_keys.specs.ExamplesJob as job;
+ghost use Rattle.xs_keys.specs.ExamplesPresence as presence;
 ghost use Rattle.xs_keys.specs.ExamplesTold.{ToldAdditions, ToldReads, ToldClaims};
 
 /// Ids, ranges and trims.
@@ -176,6 +177,16 @@ pub fn no_arrows_of_a_job()
 /// How an entry comes, goes and stays.
 pub fn comings_of_a_job()
     ensures { job.Comings }
+{}
+
+/// What removes an entry from its stream.
+pub fn removals_from_a_stream()
+    ensures { presence.Removals }
+{}
+
+/// What makes a group.
+pub fn creations_of_a_group()
+    ensures { presence.Creations }
 {}
 
 /// While which events a group goes on.

@@ -19,7 +19,8 @@ ghost use Rattle.xs_keys.specs.Told.{IsTold};
 ghost use Rattle.xs_keys.specs.Taken.{ClaimsWhatIsIdle};
 ghost use Rattle.xs_keys.specs.Touched.{IsLastTouched};
 ghost use Rattle.xs_keys.specs.Job.{Place, HasOnePlace, GoesAlong, place_after, is_final, GoesOnFor};
-ghost use Rattle.xs_keys.specs.Job.{EntriesAreAdded, GroupsAreCreated, is_pending, jobs_at, BooksBalance, TellsPending};
+ghost use Rattle.xs_keys.specs.Job.{is_pending, jobs_at, BooksBalance, TellsPending};
+ghost use Rattle.xs_keys.specs.Presence.{EntriesAreAdded, EntriesStay, GroupsAreCreated, GroupsStay};
 ghost use Rattle.xs_keys.specs.Headline.{HadItsTurn, DeliversInFull, OwnedUntilSettled, ChangesByClaims};
 ghost use Rattle.xs_keys.specs.Headline.{IsPendingWithOwner, OfEachLife};
 
@@ -117,7 +118,8 @@ pub fn a_claim_takes_what_is_idle()
     ensures { OfEachLife (λ life. ClaimsWhatIsIdle life.start life.events) }
 {}
 
-/// The life of a job. Entries come by XADD alone, and a group by XGROUP CREATE alone, which starts as that asks. Each
+/// The life of a job. Entries come by XADD alone, and leave their stream by a deletion, a trim or with their key; a group
+/// comes by its XGROUP CREATE alone, which starts it as asked, and stays open until it is destroyed or its key goes. Each
 /// entry that was given has one place in each group of its stream, and no other: it is not the group's, waits, was
 /// dropped before its turn, was handed out with NOACK, is pending with one consumer, or is settled. Each event leaves
 /// it there, or leads it along an arrow: what waits is read or dropped; what is pending goes to another consumer by a
@@ -134,7 +136,9 @@ pub fn the_life_of_a_job()
         GoesAlong command key group (present_in (key_life past key)) x (place_after past key group x)
         (place_after ((now, command) ∷ past) key group x) }
     ensures additions { (earlier : List (ℕ × Command)) (e : ℕ × Command) → EntriesAreAdded earlier e }
+    ensures presence { (earlier : List (ℕ × Command)) (e : ℕ × Command) → EntriesStay earlier e }
     ensures groups { (earlier : List (ℕ × Command)) (e : ℕ × Command) → GroupsAreCreated earlier e }
+    ensures open_groups { (earlier : List (ℕ × Command)) (e : ℕ × Command) → GroupsStay earlier e }
     ensures for_good { (later earlier : List (ℕ × Command)) (key group : List ℕ) (x : Id) (here : Place) →
         GoesOnFor key group later → is_final here ≡ true → place_after earlier key group x ≡ Some here →
         place_after (later ++ earlier) key group x ≡ Some here }

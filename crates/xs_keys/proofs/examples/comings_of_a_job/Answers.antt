@@ -31,6 +31,9 @@ unfolding empty get insert_by remove change is_word word behind_sign integer nat
 returns c = record {
   is_given = (refl, tt);
   is_given_and_trimmed = (refl, refl);
+  is_given_below_its_own_trim = (refl, refl);
+  not_trimmed_with_the_last_one = λ h. false≢true h.1;
+  not_trimmed_at_the_bound = λ h. false≢true h.1;
   is_given_below_the_start = (refl, tt);
   comes_with_the_group = (refl, refl);
   is_found_before_the_start = (refl, refl);

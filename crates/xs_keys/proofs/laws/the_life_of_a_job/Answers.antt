@@ -4,6 +4,7 @@ use Rattle.xs_keys.proofs.JobBooks.{balances, tells-pending}
 use Rattle.xs_keys.proofs.JobMoves.{goes-along, for-good}
 use Rattle.xs_keys.proofs.JobPlaces.{has-one-place}
 use Rattle.xs_keys.proofs.Sights.{sees-of}
+use Rattle.xs_keys.proofs.Staying.{entries-stay, groups-stay}
 use Rattle.xs_keys.proofs.laws.the_life_of_a_job.Goals as goal
 
 pub returns-clause-one_place : goal.returns-clause-one_place
@@ -15,6 +16,12 @@ returns-clause-goes_along c = goes-along
 
 pub returns-clause-additions : goal.returns-clause-additions
 returns-clause-additions c = entries-added
+
+pub returns-clause-presence : goal.returns-clause-presence
+returns-clause-presence c = entries-stay
+
+pub returns-clause-open_groups : goal.returns-clause-open_groups
+returns-clause-open_groups c = groups-stay
 
 pub returns-clause-groups : goal.returns-clause-groups
 returns-clause-groups c = groups-created
