@@ -16,6 +16,7 @@ pub mod Lives
 pub mod Maps
 pub mod Names
 pub mod Owners
+pub mod PresentEntries
 pub mod Touches
 pub mod Takings
 pub mod ReadSteps

@@ -2,12 +2,9 @@
 use Rattle.std.specs.Prelude.{◌≡◌, ℕ, true, List, ◌⊎◌, Option, Some, None, Result, Ok, Err, is_ok}
 use Rattle.xs_stream.specs.declared.id.Id.{Id}
 use Rattle.xs_stream.specs.declared.add.AddError.{AddError}
-use Rattle.xs_stream.specs.declared.field.Field.{Field}
 use Rattle.xs_stream.specs.Id.{printed, assigned}
 use Rattle.xs_stream.specs.Kept.{Kept}
 use Rattle.xs_command.specs.declared.command.AddCommand.{AddCommand}
-use Rattle.xs_keys.specs.declared.addition.Fields.{Fields}
-use Rattle.xs_keys.specs.declared.addition.Fields.TheVariants.{Lent, Given}
 use Rattle.xs_keys.specs.Ground.{Reply, Error, Memory}
 use Rattle.xs_keys.specs.Life.{added}
 use Rattle.xs_keys.specs.Content.{stream_after}
@@ -24,8 +21,3 @@ Adds old now add answer new =
 abbrev pub text_of : Result Id AddError → Option (List ℕ)
 text_of (Ok id) = Some (printed id)
 text_of (Err refusal) = None
-
--- the fields themselves, lent or given
-abbrev pub fields_of : Fields → List Field
-fields_of (Lent fields) = fields.now
-fields_of (Given fields) = fields

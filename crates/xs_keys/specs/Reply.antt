@@ -36,6 +36,10 @@ entry_reply entries id =
     let fields = option_map_or (λ fs. array (flat_map field_replies fs)) (fields_at entries id) NullArray in
     array (id_reply id ∷ fields ∷ [])
 
+-- the same of an entry that is there
+abbrev pub present_reply : Id × List Field → Reply
+present_reply entry = array (id_reply entry.0 ∷ array (flat_map field_replies entry.1) ∷ [])
+
 abbrev pub entries_reply : List (Id × List Field) → List Id → Reply
 entries_reply entries ids = array (map (entry_reply entries) ids)
 

@@ -56,12 +56,12 @@ impl Keyspace {
         apply_to(&mut self.keys, self.alloc, now, command)
     }
 
-    /// Applies one command that isn't needed any more, as `apply` does. An addition doesn't copy its fields.
+    /// Applies one command that isn't needed any more, as `apply` does.
     pub fn apply_owned(&mut self, now: Moment, command: Command) -> Reply
         requires { IsWellFormed command }
         ensures { Step self.old now command result self.new }
     {
-        apply_owned_to(&mut self.keys, self.alloc, now, command)
+        apply_to(&mut self.keys, self.alloc, now, &command)
     }
 
     /// Applies commands at their moments, in order. A refusal means that nothing was applied; a command
@@ -77,17 +77,6 @@ impl Keyspace {
             replies.push(reply).unwrap();
         }
         Ok(replies)
-    }
-}
-
-/// Applies one command that isn't needed any more to the keys.
-fn apply_owned_to(keys: &mut Keys, alloc: Global, now: Moment, command: Command) -> Reply
-    requires { IsWellFormed command }
-    ensures { Step (content_of keys.old.entries) now command result (content_of keys.new.entries) }
-{
-    match command {
-        Command::Add(command) => xadd::add_given(keys, alloc, now, command),
-        command => apply_to(keys, alloc, now, &command),
     }
 }
 

@@ -1,7 +1,6 @@
 //! The keyspace: one event at a time, and whole runs of events, each as the model of whole histories says.
 #![tactic(auto)]
 
-mod addition;
 pub mod clock;
 mod del;
 pub mod examples;

@@ -2,12 +2,12 @@
 ghost use Rattle.std.specs.Prelude.{◌≡◌, ◌++◌, IfOk, OnOk, map};
 ghost use Rattle.std.specs.List.{flat_map};
 ghost use Rattle.xs_resp.specs.ReplyItems.{tokens_of};
-ghost use Rattle.xs_keys.specs.Reply.{array, field_replies, id_reply, entry_reply, entries_reply};
+ghost use Rattle.xs_keys.specs.Reply.{array, field_replies, id_reply, entry_reply, present_reply, entries_reply};
 
 use std::alloc::{AllocError, Global};
 use xs_bytes::Bytes;
 use xs_resp::{Replies, Reply, Token};
-use xs_stream::{Field, Id, Stream};
+use xs_stream::{Entry, Id, PackedFields, Stream};
 
 /// How many tokens an entry with one field has.
 pub const ENTRY_TOKENS: usize = 5;
@@ -22,26 +22,30 @@ pub fn push_id(tokens: &mut Vec<Token>, alloc: Global, id: Id) -> Result<(), All
 }
 
 /// Appends a string.
-pub fn push_bytes(tokens: &mut Vec<Token>, alloc: Global, bytes: &Bytes) -> Result<(), AllocError>
+pub fn push_bytes(tokens: &mut Vec<Token>, alloc: Global, bytes: &[u8]) -> Result<(), AllocError>
     ensures { OnOk result (tokens.new.items ≡ tokens.old.items ++ tokens_of (Reply.Bulk bytes.now)) }
 {
-    let bytes = Bytes::from_slice(alloc, bytes.as_slice())?;
+    let bytes = Bytes::from_slice(alloc, bytes)?;
     tokens.push(Token::Bulk(bytes))?;
     Ok(())
 }
 
 /// Appends the names and values of fields in turn.
-fn push_fields(tokens: &mut Vec<Token>, alloc: Global, fields: &[Field]) -> Result<(), AllocError>
+fn push_fields(
+    tokens: &mut Vec<Token>,
+    alloc: Global,
+    fields: PackedFields<'_>,
+) -> Result<(), AllocError>
     ensures { OnOk result (tokens.new.items ≡ tokens.old.items
-        ++ tokens_of (array (flat_map field_replies fields.now))) }
+        ++ tokens_of (array (flat_map field_replies fields.entry))) }
 {
-    let Some(count) = fields.len().checked_mul(2) else {
+    let Some(count) = (fields.count_left() as usize).checked_mul(2) else {
         return Err(AllocError);
     };
     tokens.push(Token::Array(count))?;
     for field in fields {
-        push_bytes(tokens, alloc, &field.name)?;
-        push_bytes(tokens, alloc, &field.value)?;
+        push_bytes(tokens, alloc, field.name())?;
+        push_bytes(tokens, alloc, field.value())?;
     }
     Ok(())
 }
@@ -79,6 +83,32 @@ pub fn push_entries(
         push_entry(tokens, alloc, stream, *id)?;
     }
     Ok(())
+}
+
+/// Appends entries that are shown.
+fn push_lent_entries(
+    tokens: &mut Vec<Token>,
+    alloc: Global,
+    shown: &[Entry<'_>],
+) -> Result<(), AllocError>
+    ensures { OnOk result (tokens.new.items ≡ tokens.old.items ++ flat_map tokens_of (map present_reply shown.now)) }
+{
+    tokens.reserve(shown.len().saturating_mul(ENTRY_TOKENS))?;
+    for entry in shown {
+        tokens.push(Token::Array(2))?;
+        push_id(tokens, alloc, entry.id())?;
+        push_fields(tokens, alloc, entry.fields())?;
+    }
+    Ok(())
+}
+
+/// The entries that are shown.
+pub fn lent_entries(alloc: Global, shown: &[Entry<'_>]) -> Result<Reply, AllocError>
+    ensures { IfOk result (λ reply. reply ≡ array (map present_reply shown.now)) }
+{
+    let mut tokens = Vec::new(alloc);
+    push_lent_entries(&mut tokens, alloc, shown)?;
+    Ok(Reply::Array(Replies::new(shown.len(), tokens)))
 }
 
 /// Appends these ids.

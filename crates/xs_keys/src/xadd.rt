@@ -10,7 +10,6 @@ ghost use Rattle.xs_keys.specs.Codes.{content_of};
 ghost use Rattle.xs_keys.specs.Reply.{fault_of};
 ghost use Rattle.xs_keys.specs.Step.{Step};
 
-use crate::addition::{Addition, Fields};
 use crate::keys::{Keys, Slot};
 use std::alloc::Global;
 use std::collections::BTreeMap;
@@ -25,14 +24,14 @@ fn try_add(
     alloc: Global,
     stream: &mut Stream,
     now: Moment,
-    add: Addition<'_>,
+    add: &AddCommand,
 ) -> Result<Bytes, AddError>
-    ensures ok { IfOk result (λ text. (text_of (assigned now stream.old.top add.entry.id) ≡ Some text)
-        × (stream.new ≡ stream_after (added now add.entry.id add.entry.fields add.entry.trim) stream.old)) }
-    ensures small { IsErrOf result AddError.Small → assigned now stream.old.top add.entry.id ≡ Err AddError.Small }
-    ensures exhausted { IsErrOf result AddError.Exhausted → assigned now stream.old.top add.entry.id
+    ensures ok { IfOk result (λ text. (text_of (assigned now stream.old.top add.now.id) ≡ Some text)
+        × (stream.new ≡ stream_after (added now add.now.id add.now.fields add.now.trim) stream.old)) }
+    ensures small { IsErrOf result AddError.Small → assigned now stream.old.top add.now.id ≡ Err AddError.Small }
+    ensures exhausted { IsErrOf result AddError.Exhausted → assigned now stream.old.top add.now.id
         ≡ Err AddError.Exhausted }
-    ensures memory { IsErrOf result AddError.Memory → is_ok (assigned now stream.old.top add.entry.id) ≡ true }
+    ensures memory { IsErrOf result AddError.Memory → is_ok (assigned now stream.old.top add.now.id) ≡ true }
     ensures err { OnErr result (stream.new ≡ stream.old) }
 {
     let id = match stream.assign(now, add.id) {
@@ -42,10 +41,7 @@ fn try_add(
     let Ok(text) = id.text(alloc) else {
         return Err(AddError::Memory);
     };
-    let Ok(fields) = add.fields.into_list(alloc) else {
-        return Err(AddError::Memory);
-    };
-    match stream.add(now, add.id, fields) {
+    match stream.add(now, add.id, add.fields.as_slice()) {
         Ok(_) => {}
         Err(error) => return Err(error),
     }
@@ -67,8 +63,8 @@ fn fault_of_refusal(refusal: AddError) -> Fault
 }
 
 /// Adds an entry to a stream, and gives the reply.
-fn add_to(alloc: Global, stream: &mut Stream, now: Moment, add: Addition<'_>) -> Reply
-    ensures { Adds stream.old now add.entry result stream.new }
+fn add_to(alloc: Global, stream: &mut Stream, now: Moment, add: &AddCommand) -> Reply
+    ensures { Adds stream.old now add.now result stream.new }
 {
     match try_add(alloc, stream, now, add) {
         Ok(text) => Reply::Bulk(text),
@@ -77,10 +73,10 @@ fn add_to(alloc: Global, stream: &mut Stream, now: Moment, add: Addition<'_>) ->
 }
 
 /// Adds an entry to a key that isn't there, and makes the key where the command may.
-fn add_missing(keys: &mut Keys, alloc: Global, now: Moment, add: Addition<'_>) -> Reply
-    requires missing { map.get (content_of keys.old.entries) add.key ≡ None }
-    requires well_formed { IsAddId add.id }
-    ensures { Step (content_of keys.old.entries) now (Command.Add add.entry) result (content_of keys.new.entries) }
+fn add_missing(keys: &mut Keys, alloc: Global, now: Moment, add: &AddCommand) -> Reply
+    requires missing { map.get (content_of keys.old.entries) add.now.key ≡ None }
+    requires well_formed { IsAddId add.now.id }
+    ensures { Step (content_of keys.old.entries) now (Command.Add add.now) result (content_of keys.new.entries) }
 {
     if !add.make {
         return Reply::NullBulk;
@@ -100,47 +96,12 @@ fn add_missing(keys: &mut Keys, alloc: Global, now: Moment, add: Addition<'_>) -
 }
 
 /// Adds an entry to the stream of a key.
-fn add_at(keys: &mut Keys, alloc: Global, now: Moment, add: Addition<'_>) -> Reply
-    requires { IsAddId add.id }
-    ensures { Step (content_of keys.old.entries) now (Command.Add add.entry) result (content_of keys.new.entries) }
-{
-    match keys.get_mut(add.key) {
-        Some(slot) => add_to(alloc, &mut slot.stream, now, add),
-        None => add_missing(keys, alloc, now, add),
-    }
-}
-
-/// Adds a copy of the fields of a command.
 pub fn add(keys: &mut Keys, alloc: Global, now: Moment, add: &AddCommand) -> Reply
     requires { IsAddId add.now.id }
     ensures { Step (content_of keys.old.entries) now (Command.Add add.now) result (content_of keys.new.entries) }
 {
-    add_at(keys, alloc, now, Addition::lent(add))
-}
-
-/// Adds the fields of a command themselves.
-pub fn add_given(keys: &mut Keys, alloc: Global, now: Moment, add: AddCommand) -> Reply
-    requires { IsAddId add.id }
-    ensures { Step (content_of keys.old.entries) now (Command.Add add) result (content_of keys.new.entries) }
-{
-    let AddCommand {
-        key,
-        make,
-        trim,
-        id,
-        fields,
-    } = add;
-    let fields = Fields::Given(fields);
-    add_at(
-        keys,
-        alloc,
-        now,
-        Addition {
-            key: &key,
-            make,
-            trim,
-            id,
-            fields,
-        },
-    )
+    match keys.get_mut(&add.key) {
+        Some(slot) => add_to(alloc, &mut slot.stream, now, add),
+        None => add_missing(keys, alloc, now, add),
+    }
 }

@@ -82,7 +82,7 @@ fn push_stream(
         ++ tokens_of (part key.now stream.now.entries (row_ids rows.now))) }
 {
     tokens.push(Token::Array(2))?;
-    push_bytes(tokens, alloc, key)?;
+    push_bytes(tokens, alloc, key.as_slice())?;
     tokens.push(Token::Array(rows.len()))?;
     push_rows(tokens, alloc, stream, rows)
 }

@@ -1,7 +1,11 @@
 pub mod Assigning
+pub mod Dropping
+pub mod Filing
 pub mod InOrder
 pub mod Order
-pub mod Places
-pub mod Filing
-pub mod WithinBlocks
+pub mod PackedBlocks
+pub mod PackedCodes
 pub mod Past
+pub mod Places
+pub mod WithinBlocks
+pub mod WithinEntries

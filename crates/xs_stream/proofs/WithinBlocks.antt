@@ -49,7 +49,7 @@ module _ (range : Range) where
       and_no false = refl
 
 -- what is above an id is so in some of the blocks too
-above-some : (x : Id) (test : Id × Entries → Bool) (bs : Blocks) (newest : Entries) → AllAbove x (ids_of (listed bs ++ newest)) → AllAbove x (ids_of (listed (filter test bs) ++ newest))
+pub above-some : (x : Id) (test : Id × Entries → Bool) (bs : Blocks) (newest : Entries) → AllAbove x (ids_of (listed bs ++ newest)) → AllAbove x (ids_of (listed (filter test bs) ++ newest))
 above-some x test [] newest a = a
 above-some x test (b ∷ bs) newest a = by (test b) (above-some x test bs newest (behind b.1 (listed bs ++ newest) all)) where
   behind : (es fs : Entries) → AllAbove x (ids_of (es ++ fs)) → AllAbove x (ids_of fs)

@@ -1,5 +1,5 @@
 -- How a stream lays down its entries: in blocks, each filed under an id, and behind them the newest ones.
-use Rattle.std.specs.Prelude.{◌≡◌, ◌<◌, not, List, [], ◌∷◌, ◌++◌, length, Option, Some, None}
+use Rattle.std.specs.Prelude.{◌≡◌, ◌<◌, not, false, List, [], ◌∷◌, ◌++◌, length, Option, Some, None}
 use Rattle.std.specs.List.{flat_map}
 use Rattle.std.specs.Map.{keys_of, lookup_key}
 use Rattle.std.specs.declared.ops.Bound.{Bound}
@@ -33,6 +33,11 @@ AreFiled (b ∷ bs) newest = IsFiled b (listed bs ++ newest) × AreFiled bs newe
 pub record IsLaidDown (entries : Entries) : Type 0 where
   pub filed : AreFiled entries.older.entries entries.newest
   pub counted : entries.len ≡ length (all_of entries)
+
+-- no block is filed under an id below this one
+abbrev pub BeginsFrom : Id → List (Id × List (Id × List Field)) → Type 0
+BeginsFrom low [] = Unit {0}
+BeginsFrom low (b ∷ bs) = is_below b.0 low ≡ false
 
 -- the ids under which blocks are filed
 abbrev pub filed_under : Entries → List Id

@@ -66,3 +66,8 @@ abbrev pub ids_within : Range → Bool → List (Id × List Field) → List Id
 ids_within range reversed entries =
     let ids = filter (is_within range) (ids_of entries) in
     if reversed then reverse ids else ids
+
+-- the entries within a range, in their order, at most so many
+abbrev pub entries_within : Range → Option ℕ → List (Id × List Field) → List (Id × List Field)
+entries_within range None entries = filter (λ e. is_within range e.0) entries
+entries_within range (Some n) entries = take n (filter (λ e. is_within range e.0) entries)

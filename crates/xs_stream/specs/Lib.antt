@@ -6,3 +6,6 @@ pub mod Lawful
 pub mod Examples
 pub mod ExamplesKept
 pub mod Blocks
+pub mod PackedNumber
+pub mod PackedText
+pub mod Packed

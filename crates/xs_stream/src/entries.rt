@@ -8,18 +8,19 @@ ghost use Rattle.xs_stream.specs.declared.trim.Trim.TheVariants.{MinId};
 ghost use Rattle.xs_stream.specs.Id.{is_below, is_same};
 ghost use Rattle.xs_stream.specs.Kept.{is_within, ids_of, fields_at, without, trimmed, Ascends, AllUpTo};
 ghost use Rattle.xs_stream.specs.Lawful.{AllIds};
-ghost use Rattle.xs_stream.specs.Blocks.{all_of, AreFiled, IsLaidDown, filed_under, end_at};
+ghost use Rattle.xs_stream.specs.Blocks.{all_of, AreFiled, BeginsFrom, IsLaidDown, filed_under, end_at};
 
-use crate::block::{Block, ROOM};
+use crate::block::Block;
+use crate::entry::Entry;
 use crate::field::Field;
 use crate::id::Id;
+use crate::packed::fields::PackedFields;
 use crate::range::Range;
 use crate::trim::Trim;
 use std::alloc::{AllocError, Global};
 use std::collections::BTreeMap;
 use std::mem;
 use std::ops::Bound;
-use xs_bytes::List;
 
 /// The entries of a stream. What is added comes to the newest. Once these fill a block, it is filed under the top of
 /// the stream as it is then: none of its entries is above that id, and all later ones are.
@@ -67,9 +68,9 @@ impl Entries {
     }
 
     /// The fields of an entry.
-    pub(crate) fn get(&self, id: Id) -> Option<&[Field]>
+    pub(crate) fn get(&self, id: Id) -> Option<PackedFields<'_>>
         requires { IsLaidDown self.now }
-        ensures { option_map (λ f. f.now) result ≡ fields_at (all_of self.now) id }
+        ensures { result ≡ fields_at (all_of self.now) id }
     {
         let mut from = self.older.range((Bound::Included(id), Bound::Unbounded));
         match from.next() {
@@ -78,32 +79,21 @@ impl Entries {
         }
     }
 
-    /// The id of the first entry.
-    fn first(&self) -> Option<Id>
-        requires { IsLaidDown self.now }
-        ensures { result ≡ option_map (λ e. e.0) (slice_get (all_of self.now) 0) }
-    {
-        match self.older.first_key_value() {
-            Some((_, block)) => block.first(),
-            None => self.newest.first(),
-        }
-    }
-
-    /// Files the newest entries as a block under the top, where they are as many as a block has room for.
-    fn make_room(&mut self, top: Id) -> Result<(), AllocError>
+    /// Files the newest entries as a block under the top, where another one with these fields doesn't belong to them.
+    fn make_room(&mut self, top: Id, fields: &[Field]) -> Result<(), AllocError>
         requires laid_down { IsLaidDown self.old }
         requires up_to_top { AllUpTo top (ids_of (all_of self.old)) }
         requires filed_up_to_top { AllUpTo top (filed_under self.old) }
-        ensures room { OnOk result (length self.new.newest < ROOM) }
+        ensures room { OnOk result (length self.new.newest < 128) }
         ensures same { all_of self.new ≡ all_of self.old }
         ensures laid_down { IsLaidDown self.new }
         ensures filed_up_to_top { AllUpTo top (filed_under self.new) }
     {
-        if !self.newest.is_full() {
+        if self.newest.has_room(fields) {
             return Ok(());
         }
-        let next = Block::with_room(self.alloc)?;
-        let full = mem::replace(&mut self.newest, next);
+        let mut full = mem::replace(&mut self.newest, Block::with_room(self.alloc));
+        full.seal();
         match self.older.insert(top, full) {
             Ok(_) => Ok(()),
             Err(refused) => {
@@ -115,12 +105,12 @@ impl Entries {
     }
 
     /// Puts an entry behind the others, above the top.
-    pub(crate) fn push(&mut self, top: Id, id: Id, fields: List<Field>) -> Result<(), AllocError>
+    pub(crate) fn push(&mut self, top: Id, id: Id, fields: &[Field]) -> Result<(), AllocError>
         requires laid_down { IsLaidDown self.old }
         requires up_to_top { AllUpTo top (ids_of (all_of self.old)) }
         requires filed_up_to_top { AllUpTo top (filed_under self.old) }
         requires above { is_below top id ≡ true }
-        ensures ok { OnOk result (all_of self.new ≡ all_of self.old ++ (id, fields) ∷ []) }
+        ensures ok { OnOk result (all_of self.new ≡ all_of self.old ++ (id, fields.now) ∷ []) }
         ensures err { OnErr result (all_of self.new ≡ all_of self.old) }
         ensures laid_down { IsLaidDown self.new }
         ensures filed_up_to_top { AllUpTo top (filed_under self.new) }
@@ -128,7 +118,7 @@ impl Entries {
         let Some(len) = self.len.checked_add(1) else {
             return Err(AllocError);
         };
-        self.make_room(top)?;
+        self.make_room(top, fields)?;
         self.newest.push(id, fields)?;
         self.len = len;
         Ok(())
@@ -194,6 +184,35 @@ impl Entries {
         }
     }
 
+    /// Removes the first entries, up to this many, from the first block, and says how many are left to remove.
+    fn drop_step(&mut self, count: usize) -> usize
+        requires some { 0 < count }
+        requires laid_down { IsLaidDown self.old }
+        ensures entries { drop result (all_of self.new) ≡ drop count (all_of self.old) }
+        ensures laid_down { IsLaidDown self.new }
+        ensures filed_up_to_top { (top : Id) → AllUpTo top (filed_under self.old) → AllUpTo top (filed_under self.new) }
+        ensures fewer { result + length self.new.older.entries < count + length self.old.older.entries }
+    {
+        let Some((under, block)) = self.older.first_key_value() else {
+            self.newest.drop_first(count);
+            self.len = self.newest.len();
+            return 0;
+        };
+        let under = *under;
+        let len = block.len();
+        if len <= count {
+            let _ = self.older.pop_first();
+            self.len -= len;
+            return count - len;
+        }
+        let Some(block) = self.older.get_mut(&under) else {
+            return 0;
+        };
+        block.drop_first(count);
+        self.len -= count;
+        0
+    }
+
     /// Removes the first entries.
     fn drop_first(&mut self, count: usize)
         requires { IsLaidDown self.old }
@@ -201,10 +220,44 @@ impl Entries {
         ensures laid_down { IsLaidDown self.new }
         ensures filed_up_to_top { (top : Id) → AllUpTo top (filed_under self.old) → AllUpTo top (filed_under self.new) }
     {
-        for _ in 0..count {
-            if let Some(id) = self.first() {
-                self.remove(id);
-            }
+        let mut left = count;
+        while left > 0 {
+            left = self.drop_step(left);
+        }
+    }
+
+    /// Removes the first block where it is filed under an id below this one, and says whether it did.
+    fn drop_block_below(&mut self, low: Id) -> bool
+        requires laid_down { IsLaidDown self.old }
+        requires ascends { Ascends (ids_of (all_of self.old)) }
+        ensures kept { trimmed (MinId low) (all_of self.new) ≡ trimmed (MinId low) (all_of self.old) }
+        ensures ascends { Ascends (ids_of (all_of self.new)) }
+        ensures laid_down { IsLaidDown self.new }
+        ensures filed_up_to_top { (top : Id) → AllUpTo top (filed_under self.old) → AllUpTo top (filed_under self.new) }
+        ensures fewer { result ≡ true → length self.new.older.entries < length self.old.older.entries }
+        ensures from { result ≡ false → BeginsFrom low self.new.older.entries }
+    {
+        let Some((under, block)) = self.older.first_key_value() else {
+            return false;
+        };
+        if low <= *under {
+            return false;
+        }
+        let len = block.len();
+        let _ = self.older.pop_first();
+        self.len -= len;
+        true
+    }
+
+    /// How many entries have ids below this one, where no block is filed below it.
+    fn count_below(&self, low: Id) -> usize
+        requires filed { AreFiled self.now.older.entries self.now.newest }
+        requires from { BeginsFrom low self.now.older.entries }
+        ensures { result ≡ length (filter (λ e. is_below e.0 low) (all_of self.now)) }
+    {
+        match self.older.first_key_value() {
+            Some((_, block)) => block.count_below(low),
+            None => self.newest.count_below(low),
         }
     }
 
@@ -216,12 +269,9 @@ impl Entries {
         ensures laid_down { IsLaidDown self.new }
         ensures filed_up_to_top { (top : Id) → AllUpTo top (filed_under self.old) → AllUpTo top (filed_under self.new) }
     {
-        for _ in 0..self.len {
-            match self.first() {
-                Some(id) if id < low => self.remove(id),
-                _ => break,
-            }
-        }
+        while self.drop_block_below(low) {}
+        let count = self.count_below(low);
+        self.drop_first(count);
     }
 
     /// Removes what a trim doesn't keep.
@@ -270,6 +320,30 @@ impl Entries {
         }
         self.newest.push_up(&mut ids, range, most)?;
         Ok(ids)
+    }
+
+    /// The entries of a range, from its low end up, at most this many.
+    pub(crate) fn entries_up(
+        &self,
+        alloc: Global,
+        range: Range,
+        most: u64,
+    ) -> Result<Vec<Entry<'_>>, AllocError>
+        requires { IsLaidDown self.now }
+        ensures { IfOk result (λ shown. shown.items ≡ take most (filter (λ e. is_within range e.0) (all_of self.now))) }
+    {
+        let mut shown = Vec::new(alloc);
+        let blocks = self
+            .older
+            .range((Bound::Included(range.low), Bound::Unbounded));
+        for (under, block) in blocks {
+            block.push_entries_up(&mut shown, range, most)?;
+            if range.high <= *under || shown.len() as u64 >= most {
+                return Ok(shown);
+            }
+        }
+        self.newest.push_entries_up(&mut shown, range, most)?;
+        Ok(shown)
     }
 
     /// The ids above a cursor, in their order, at most this many.

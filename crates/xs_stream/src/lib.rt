@@ -6,18 +6,22 @@
 pub mod add;
 mod block;
 mod entries;
+pub mod entry;
 pub mod examples;
 pub mod field;
 pub mod id;
 pub mod moment;
+pub mod packed;
 pub mod range;
 pub mod stream;
 pub mod trim;
 
 pub use add::{AddError, AddId};
+pub use entry::Entry;
 pub use field::{Field, copy_fields};
 pub use id::Id;
 pub use moment::Moment;
+pub use packed::fields::{FieldView, PackedFields};
 pub use range::Range;
 pub use stream::Stream;
 pub use trim::Trim;

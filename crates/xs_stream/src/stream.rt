@@ -1,16 +1,17 @@
 //! A stream: its top id and its entries, in the order of their ids.
 ghost use Rattle.std.specs.Prelude.{◌≡◌, ◌↔◌, ◌+◌, ◌-◌, ◌++◌, ◌∷◌, [], Ok, Err, IfOk, OnErr, IsErrOf, length};
 ghost use Rattle.std.specs.Prelude.{filter};
-ghost use Rattle.std.specs.Option.{option_map};
 ghost use Rattle.xs_stream.specs.Id.{zero_id, is_below, assigned};
-ghost use Rattle.xs_stream.specs.Kept.{ids_of, fields_at, without, trimmed, ids_within, limited};
+ghost use Rattle.xs_stream.specs.Kept.{ids_of, fields_at, without, trimmed, ids_within, entries_within, limited};
 ghost use Rattle.xs_stream.specs.Lawful.{IsLawful};
 
 use crate::add::{AddError, AddId};
 use crate::entries::Entries;
+use crate::entry::Entry;
 use crate::field::Field;
 use crate::id::Id;
 use crate::moment::Moment;
+use crate::packed::fields::PackedFields;
 use crate::range::Range;
 use crate::trim::Trim;
 use std::alloc::{AllocError, Global};
@@ -69,8 +70,8 @@ impl Stream {
     }
 
     /// The fields of an entry.
-    pub fn get(&self, id: Id) -> Option<&[Field]>
-        ensures { option_map (λ f. f.now) result ≡ fields_at self.now.entries id }
+    pub fn get(&self, id: Id) -> Option<PackedFields<'_>>
+        ensures { result ≡ fields_at self.now.entries id }
     {
         self.entries.get(id)
     }
@@ -83,9 +84,9 @@ impl Stream {
     }
 
     /// Adds an entry above all that were ever added (XADD). The stream is unchanged on each error.
-    pub fn add(&mut self, now: Moment, id: AddId, fields: List<Field>) -> Result<Id, AddError>
+    pub fn add(&mut self, now: Moment, id: AddId, fields: &[Field]) -> Result<Id, AddError>
         ensures ok { IfOk result (λ given. (assigned now self.old.top id ≡ Ok given)
-            × (self.new ≡ record { top = given; entries = self.old.entries ++ (given, fields) ∷ [] })) }
+            × (self.new ≡ record { top = given; entries = self.old.entries ++ (given, fields.now) ∷ [] })) }
         ensures small { IsErrOf result AddError.Small ↔ (assigned now self.old.top id ≡ Err AddError.Small) }
         ensures exhausted { IsErrOf result AddError.Exhausted ↔ (assigned now self.old.top id
             ≡ Err AddError.Exhausted) }
@@ -141,6 +142,21 @@ impl Stream {
             self.entries.ids_up(alloc, range, most)?
         };
         Ok(List::new(ids))
+    }
+
+    /// The entries of a range, from its low end up, at most `limit` of them. None is looked for again.
+    pub fn entries(
+        &self,
+        alloc: Global,
+        range: Range,
+        limit: Option<u64>,
+    ) -> Result<List<Entry<'_>>, AllocError>
+        ensures { IfOk result (λ entries. entries ≡ entries_within range limit self.now.entries) }
+    {
+        let entries = self
+            .entries
+            .entries_up(alloc, range, limit.unwrap_or(u64::MAX))?;
+        Ok(List::new(entries))
     }
 
     /// The ids above a cursor, in their order, at most `limit` of them.

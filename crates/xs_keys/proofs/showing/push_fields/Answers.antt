@@ -1,8 +1,11 @@
-use Rattle.std.proofs.Common.{◌≡◌, ℕ, ◌*◌, ◌∷◌, List, [], length, take, take_all, ap, ◌∙◌, ◌++◌, arith}
+use Rattle.std.proofs.Common.{◌≡◌, ℕ, ◌*◌, ◌∷◌, List, [], length, ap, sym, ◌∙◌, ◌++◌, arith, append_assoc}
+use Rattle.std.proofs.lemmas.List.{append-nil}
 use Rattle.std.specs.List.{flat_map}
 use Rattle.xs_stream.specs.declared.field.Field.{Field}
+use Rattle.xs_resp.specs.declared.token.Token.{Token}
 use Rattle.xs_resp.specs.declared.token.Token.TheVariants.{Array}
 use Rattle.xs_resp.specs.ReplyItems.{tokens_of}
+use Rattle.xs_keys.specs.Ground.{Bulk}
 use Rattle.xs_keys.specs.Reply.{field_replies}
 use Rattle.xs_keys.proofs.showing.push_fields.Goals as goal
 
@@ -11,9 +14,36 @@ two-each : (fields : List Field) → length (flat_map field_replies fields) ≡ 
 two-each [] = omega arith
 two-each (f ∷ fs) = omega (arith, two-each fs)
 
+-- the tokens of one field more
+one-more : (f : Field) (fs : List Field) (name value : List ℕ) (old some new : List Token) → name ≡ f.name → value ≡ f.value → some ≡ old ++ tokens_of (Bulk name) → new ≡ some ++ tokens_of (Bulk value)
+    → new ++ flat_map tokens_of (flat_map field_replies fs) ≡ old ++ flat_map tokens_of (flat_map field_replies (f ∷ fs))
+one-more f fs name value old some new e g h k = rw (k, h, e, g) (simp append_assoc)
+
+pub loop-field-init : goal.loop-field-init
+loop-field-init c =
+    let tokens = c.push.new.self.items in
+    let fields = c.args.fields in (
+      tt,
+      tt,
+      ap (λ (fs : List Field). tokens ++ flat_map tokens_of (flat_map field_replies fs)) c.into_iter-field-iterator.ensures.into_iter_gives
+          ∙ ap (λ ts. ts ++ flat_map tokens_of (flat_map field_replies fields)) c.in_ok-push.ensures.items
+          ∙ append_assoc c.args.tokens.now.items (Array c.in-Some.count ∷ []) (flat_map tokens_of (flat_map field_replies fields)),
+    )
+
+pub loop-field-preserved : goal.loop-field-preserved
+loop-field-preserved c =
+    let tokens = c.loop-field.tokens.items in
+    let f = c.in-Some-field.field in (
+      tt,
+      tt,
+      one-more f c.next.new.self c.name.result.now c.value.result.now tokens c.push_bytes.new.tokens.items c.push_bytes-in-loop-field.new.tokens.items c.name.ensures c.value.ensures c.in_ok-push_bytes.ensures c.in_ok-push_bytes-2.ensures
+          ∙ ap (λ (fs : List Field). tokens ++ flat_map tokens_of (flat_map field_replies fs)) (sym c.in-Some-field.ensures.steps) ∙ c.loop-field.invariant.2,
+    )
+
 pub returns : goal.returns
 returns c =
-    let fields = c.args.fields.now in
-    let count : c.in-Some.count ≡ length (flat_map field_replies fields) = omega (arith, two-each fields, c.in-Some.ensures) in
-    let all : take c.loop-field.field-index fields ≡ fields = take_all c.loop-field.field-index fields c.loop-field-test.false in
-    c.loop-field.invariant ∙ ap (λ (fs : List Field). c.args.tokens.now.items ++ (Array c.in-Some.count ∷ flat_map tokens_of (flat_map field_replies fs))) all ∙ ap (λ (n : ℕ). c.args.tokens.now.items ++ (Array n ∷ flat_map tokens_of (flat_map field_replies fields))) count
+    let tokens = c.loop-field.tokens.items in
+    let fields = c.args.fields in
+    let count : c.in-Some.count ≡ length (flat_map field_replies fields) = omega (arith, two-each fields, c.in-Some.ensures, c.count_left.ensures) in
+    sym (append-nil tokens) ∙ ap (λ (fs : List Field). tokens ++ flat_map tokens_of (flat_map field_replies fs)) (sym c.in-None.ensures.steps.0) ∙ c.loop-field.invariant.2
+    ∙ ap (λ (n : ℕ). c.args.tokens.now.items ++ (Array n ∷ flat_map tokens_of (flat_map field_replies fields))) count

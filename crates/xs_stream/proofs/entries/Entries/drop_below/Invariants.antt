@@ -1,16 +1,18 @@
-use Rattle.std.proofs.Common.{◌≡◌, ◌+◌, length}
+use Rattle.std.proofs.Common.{◌≡◌, length}
 use Rattle.xs_stream.specs.declared.id.Id.{Id}
 use Rattle.xs_stream.specs.declared.trim.Trim.TheVariants.{MinId}
 use Rattle.xs_stream.specs.Kept.{ids_of, Ascends, trimmed, AllUpTo}
 use Rattle.xs_stream.specs.Blocks.{all_of, IsLaidDown, filed_under}
 use Rattle.xs_stream.proofs.entries.Entries.drop_below.Given as goal
 
--- the trim keeps the same, and one entry is out for each turn
+-- the trim keeps the same
 abbrev pub invariant-loop : goal.invariant-loop
 invariant-loop l = record {
   kept : trimmed (MinId l.fn.low) (all_of l.self) ≡ trimmed (MinId l.fn.low) (all_of l.fn.self);
   ascends : Ascends (ids_of (all_of l.self));
-  count : length (all_of l.self) + l.counter ≡ length (all_of l.fn.self);
   laid_down : IsLaidDown l.self;
   filed_up_to_top : (top : Id) → AllUpTo top (filed_under l.fn.self) → AllUpTo top (filed_under l.self);
 }
+
+abbrev pub decreases-loop : goal.decreases-loop
+decreases-loop l = length l.self.older.entries

@@ -1,13 +1,16 @@
-use Rattle.std.proofs.Common.{◌≡◌, drop}
+use Rattle.std.proofs.Common.{◌≡◌, ◌+◌, drop, length}
 use Rattle.xs_stream.specs.declared.id.Id.{Id}
 use Rattle.xs_stream.specs.Kept.{AllUpTo}
 use Rattle.xs_stream.specs.Blocks.{all_of, IsLaidDown, filed_under}
 use Rattle.xs_stream.proofs.entries.Entries.drop_first.Given as goal
 
--- as many are out as there were turns
-abbrev pub invariant-loop : goal.invariant-loop
-invariant-loop l = record {
-  entries : all_of l.self ≡ drop l.counter (all_of l.fn.self);
+-- what is left to drop leaves the same
+abbrev pub invariant-loop-left : goal.invariant-loop-left
+invariant-loop-left l = record {
+  entries : drop l.left (all_of l.self) ≡ drop l.count (all_of l.fn.self);
   laid_down : IsLaidDown l.self;
   filed_up_to_top : (top : Id) → AllUpTo top (filed_under l.fn.self) → AllUpTo top (filed_under l.self);
 }
+
+abbrev pub decreases-loop-left : goal.decreases-loop-left
+decreases-loop-left l = l.left + length l.self.older.entries

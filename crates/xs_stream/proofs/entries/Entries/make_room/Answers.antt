@@ -15,12 +15,12 @@ some c none = grind (arith, nat_tests)
 filed : (c : goal.Joined-insert-2) → c.insert.new.self.entries ≡ c.args.self.now.older.entries ++ (c.args.top, c.args.self.now.newest) ∷ []
 filed c =
     let all = c.args.self.now in
-    c.in-Ok.ensures.entries ∙ ap (insert_entry id_cmp all.older.entries c.args.top) c.replace-full.ensures.value
+    c.in-Ok.ensures.entries ∙ ap (insert_entry id_cmp all.older.entries c.args.top) (c.seal.ensures ∙ c.replace-full.ensures.value)
     ∙ insert-newest c.args.top all.older.entries all.newest c.requires.laid_down.filed c.requires.up_to_top (some c)
 
 -- and there are no newer ones
 emptied : (c : goal.Joined-insert-2) → ◌≡◌ {A = List (Id × List Field)} c.replace-full.new.dest []
-emptied c = c.replace-full.ensures.after ∙ c.in_ok-next.ensures
+emptied c = c.replace-full.ensures.after ∙ c.with_room.ensures
 
 same : (c : goal.Joined-insert-2) → listed c.insert.new.self.entries ++ c.replace-full.new.dest ≡ listed c.args.self.now.older.entries ++ c.args.self.now.newest
 same c = rw (filed c, emptied c) (listed-filed c.args.top c.args.self.now.older.entries c.args.self.now.newest)

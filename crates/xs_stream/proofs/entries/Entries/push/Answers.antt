@@ -7,8 +7,8 @@ use Rattle.xs_stream.proofs.entries.Entries.push.Goals as goal
 pub returns-clause-laid_down : goal.returns-clause-laid_down
 returns-clause-laid_down c =
     let made = c.make_room.new.self in
-    let behind = append_assoc (listed made.older.entries) made.newest ((c.args.id, c.args.fields) ∷ []) in
+    let behind = append_assoc (listed made.older.entries) made.newest ((c.args.id, c.args.fields.now) ∷ []) in
     record {
-      filed = rw c.in_ok-push.ensures.ok (filed-push c.args.top c.args.id c.args.fields made.older.entries made.newest c.make_room.ensures.laid_down.filed c.make_room.ensures.filed_up_to_top c.requires.above);
-      counted = rw (c.in_ok-push.ensures.ok, ← behind) (omega (arith, length_push (listed made.older.entries ++ made.newest) (c.args.id, c.args.fields), ap length c.make_room.ensures.same, c.requires.laid_down.counted, c.in-Some.ensures));
+      filed = rw c.in_ok-push.ensures.ok (filed-push c.args.top c.args.id c.args.fields.now made.older.entries made.newest c.make_room.ensures.laid_down.filed c.make_room.ensures.filed_up_to_top c.requires.above);
+      counted = rw (c.in_ok-push.ensures.ok, ← behind) (omega (arith, length_push (listed made.older.entries ++ made.newest) (c.args.id, c.args.fields.now), ap length c.make_room.ensures.same, c.requires.laid_down.counted, c.in-Some.ensures));
     }

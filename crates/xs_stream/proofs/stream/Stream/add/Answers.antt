@@ -14,7 +14,7 @@ invariant_of-self c =
     let above = assigned-above c.args.now inside.top c.args.id given was in
     let fits : IsId given = (omega arith, omega arith) in
     record {
-      lawful = rw c.in-Ok.ensures.ok (lawful-push (record { top = inside.top; entries = all_of inside.entries }) given c.args.fields c.self.invariant.lawful above fits);
+      lawful = rw c.in-Ok.ensures.ok (lawful-push (record { top = inside.top; entries = all_of inside.entries }) given c.args.fields.now c.self.invariant.lawful above fits);
       laid_down = c.push.ensures.laid_down;
       filed_up_to_top = up_to-higher (filed_under c.push.new.self) inside.top given c.push.ensures.filed_up_to_top above;
     }

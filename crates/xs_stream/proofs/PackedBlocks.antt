@@ -1,0 +1,339 @@
+-- Entries of a block: what is left of them, and what is taken out.
+use Rattle.std.proofs.Common.{◌≡◌, ℕ, ◌+◌, ◌-◌, ◌<◌, ◌≤◌, ◌^◌, suc, zero, List, [], ◌∷◌, ◌++◌, ◌&&◌, eqb, ltb, subst, Bool, true, false, cond, Some, length, filter, take, drop, sym, ap, ◌∙◌, refl, arith, append_assoc, add-one}
+use Rattle.std.specs.List.{remove, remove_range}
+use Rattle.std.specs.Map.{remove_entry}
+use Rattle.std.specs.Option.{is_some}
+use Rattle.std.proofs.lemmas.List.{append-nil, take-append-drop, length-append, length-take, length-drop}
+use Rattle.std.proofs.lemmas.Grind.{flat_map-append}
+use Rattle.std.proofs.lemmas.Bool.Decides.{nat_tests}
+use Rattle.std.proofs.lemmas.Bool.{false≢true}
+use Rattle.std.proofs.Math.Seq.{take-append_seam, drop-append_seam}
+use Rattle.xs_stream.specs.declared.field.Field.{Field}
+use Rattle.xs_stream.specs.declared.id.Id.{Id}
+use Rattle.xs_stream.specs.Id.{is_same}
+use Rattle.xs_stream.specs.Kept.{fields_at, ids_of}
+use Rattle.xs_stream.specs.PackedNumber.{first_number, after_number}
+use Rattle.xs_stream.specs.PackedText.{text_code, first_text, after_text}
+use Rattle.xs_stream.specs.Packed.{names_code, has_names, body_fields, entry_code, entry_id, entry_body, entry_in, after_entry, entries_in, after_entries, entries_code, block_code, block_entries, IsPacked}
+use Rattle.xs_stream.proofs.Order.{is_same-eq, is_same-refl}
+use Rattle.xs_stream.proofs.PackedCodes.{entries_in-whole, after_entry-code, length-entries_in, first_text-code, after_text-code, has_names-own}
+
+pub after_entries-suc : (i : ℕ) (bytes : List ℕ) → after_entries (suc i) bytes ≡ after_entry (after_entries i bytes)
+after_entries-suc zero bytes = refl
+after_entries-suc (suc i) bytes = after_entries-suc i (after_entry bytes)
+
+-- one more entry is passed
+pub after_entries-more : (i : ℕ) (bytes : List ℕ) → after_entries (i + 1) bytes ≡ after_entry (after_entries i bytes)
+after_entries-more i bytes = rw add-one (after_entries-suc i bytes)
+
+module _ (base : ℕ) (names : List ℕ) where
+  entries_in-step : (count : ℕ) (bytes : List ℕ) → 0 < count → entries_in base names count bytes ≡ entry_in base names bytes ∷ entries_in base names (count - 1) (after_entry bytes)
+  entries_in-step zero bytes h = absurd (omega arith)
+  entries_in-step (suc count) bytes h = let e : suc count - 1 ≡ count = omega arith in rw e refl
+
+  -- the entries left
+  pub drop-entries_in : (count i : ℕ) (bytes : List ℕ) → i ≤ count → drop i (entries_in base names count bytes) ≡ entries_in base names (count - i) (after_entries i bytes)
+  drop-entries_in count zero bytes h = let e : count - 0 ≡ count = omega arith in rw e refl
+  drop-entries_in zero (suc i) bytes h = absurd (omega arith)
+  drop-entries_in (suc count) (suc i) bytes h =
+      let e : suc count - suc i ≡ count - i = omega arith in
+      rw e (drop-entries_in count i (after_entry bytes) (omega arith))
+
+  -- the one at the head of those left
+  pub left-step : (count i : ℕ) (bytes : List ℕ) → i < count → entries_in base names (count - i) bytes ≡ entry_in base names bytes ∷ entries_in base names (count - (i + 1)) (after_entry bytes)
+  left-step count i bytes h =
+      let e : count - (i + 1) ≡ count - i - 1 = omega arith in
+      rw e (entries_in-step (count - i) bytes (omega arith))
+
+-- ---- a search by id
+
+same-reads : (a b : Id) (t : Bool) → (eqb a.ms b.ms && eqb a.seq b.seq) ≡ t → is_same b a ≡ t
+same-reads a b true e =
+    let ms : a.ms ≡ b.ms = grind (arith, nat_tests) in
+    let seq : a.seq ≡ b.seq = grind (arith, nat_tests) in
+    let same : a ≡ b = λ i. record { ms = ms i; seq = seq i } in
+    rw same (is_same-refl b)
+same-reads a b false e = by (is_same b a) refl where
+  by : (t : Bool) → is_same b a ≡ t → t ≡ false
+  by true h =
+      let same : b ≡ a = is_same-eq b a h in
+      let ms : eqb a.ms b.ms ≡ true = grind (arith, nat_tests, ap (λ x. x.ms) same) in
+      let seq : eqb a.seq b.seq ≡ true = grind (arith, nat_tests, ap (λ x. x.seq) same) in
+      absurd (false≢true (sym e ∙ ap (λ x. x && eqb a.seq b.seq) ms ∙ seq))
+  by false h = refl
+
+module _ (base : ℕ) (names : List ℕ) (count i : ℕ) (id x : Id) (rest : List ℕ) (h : i < count) (is : x ≡ entry_id base rest) where
+  pub lookup-passed : (eqb x.ms id.ms && eqb x.seq id.seq) ≡ false → fields_at (entries_in base names (count - i) rest) id ≡ fields_at (entries_in base names (count - (i + 1)) (after_entry rest)) id
+  lookup-passed e =
+      let other : is_same id (entry_id base rest) ≡ false = subst (λ y. is_same id y ≡ false) is (same-reads x id false e) in
+      rw (left-step base names count i rest h, other) refl
+
+  pub lookup-found : (eqb x.ms id.ms && eqb x.seq id.seq) ≡ true → fields_at (entries_in base names (count - i) rest) id ≡ Some (body_fields names (entry_body rest))
+  lookup-found e =
+      let same : is_same id (entry_id base rest) ≡ true = subst (λ y. is_same id y ≡ true) is (same-reads x id true e) in
+      rw (left-step base names count i rest h, same) refl
+
+  pub removed-passed : (eqb x.ms id.ms && eqb x.seq id.seq) ≡ false → remove_entry (is_same id) (entries_in base names (count - i) rest) ≡ entry_in base names rest ∷ remove_entry (is_same id) (entries_in base names (count - (i + 1)) (after_entry rest))
+  removed-passed e =
+      let other : is_same id (entry_id base rest) ≡ false = subst (λ y. is_same id y ≡ false) is (same-reads x id false e) in
+      rw (left-step base names count i rest h, other) refl
+
+  pub removed-found : (eqb x.ms id.ms && eqb x.seq id.seq) ≡ true → remove_entry (is_same id) (entries_in base names (count - i) rest) ≡ entries_in base names (count - (i + 1)) (after_entry rest)
+  removed-found e =
+      let same : is_same id (entry_id base rest) ≡ true = subst (λ y. is_same id y ≡ true) is (same-reads x id true e) in
+      rw (left-step base names count i rest h, same) refl
+
+take-cons : {X : Type 0} (xs : List X) (i : ℕ) (x : X) (ys : List X) → drop i xs ≡ x ∷ ys → take (suc i) xs ≡ take i xs ++ x ∷ []
+take-cons [] zero x ys e = absurd (omega (arith, ap length e))
+take-cons [] (suc i) x ys e = absurd (omega (arith, ap length e))
+take-cons (z ∷ zs) zero x ys e = let same : z ≡ x = cc in rw same refl
+take-cons (z ∷ zs) (suc i) x ys e = ap (λ left. z ∷ left) (take-cons zs i x ys e)
+
+-- one more entry was passed
+module _ (base : ℕ) (names : List ℕ) (count i : ℕ) (bytes : List ℕ) (h : i < count) where
+  pub take-passed : take (i + 1) (entries_in base names count bytes) ≡ take i (entries_in base names count bytes) ++ entry_in base names (after_entries i bytes) ∷ []
+  take-passed =
+      rw add-one (take-cons (entries_in base names count bytes) i (entry_in base names (after_entries i bytes)) (entries_in base names (count - (i + 1)) (after_entry (after_entries i bytes)))
+      (drop-entries_in base names count i bytes (omega arith) ∙ left-step base names count i (after_entries i bytes) h))
+
+  pub drop-passed : drop (suc i) (entries_in base names count bytes) ≡ entries_in base names (count - (i + 1)) (after_entry (after_entries i bytes))
+  drop-passed =
+      drop-entries_in base names count (suc i) bytes (omega arith) ∙ rw (after_entries-suc i bytes) (ap (λ n. entries_in base names n (after_entry (after_entries i bytes))) (omega arith))
+
+-- ---- a filter of ids
+
+pub joined : {X : Type 0} (t u : List X) (x : X) (xs : List X) → u ≡ t ++ x ∷ [] → t ++ x ∷ xs ≡ u ++ xs
+joined t u x xs e = rw (e, append_assoc) refl
+
+module _ (test : Id → Bool) (base : ℕ) (names : List ℕ) (count i : ℕ) (x : Id) (rest next : List ℕ) (h : i < count) (is : x ≡ entry_id base rest) (on : next ≡ after_entry rest) where
+  filter-taken : test x ≡ true
+      → filter test (ids_of (entries_in base names (count - i) rest)) ≡ x ∷ filter test (ids_of (entries_in base names (count - (i + 1)) next))
+  filter-taken e =
+      let passes : test (entry_id base rest) ≡ true = subst (λ y. test y ≡ true) is e in
+      rw (left-step base names count i rest h, passes) (ap (λ y. y ∷ filter test (ids_of (entries_in base names (count - (i + 1)) (after_entry rest)))) (sym is)
+      ∙ ap (λ r. x ∷ filter test (ids_of (entries_in base names (count - (i + 1)) r))) (sym on))
+
+  filter-left : test x ≡ false
+      → filter test (ids_of (entries_in base names (count - i) rest)) ≡ filter test (ids_of (entries_in base names (count - (i + 1)) next))
+  filter-left e =
+      let fails : test (entry_id base rest) ≡ false = subst (λ y. test y ≡ false) is e in
+      rw (left-step base names count i rest h, fails) (ap (λ r. filter test (ids_of (entries_in base names (count - (i + 1)) r))) (sym on))
+
+  pub all-taken : (most : ℕ) (all ids ids2 : List Id) → test x ≡ true → ids2 ≡ ids ++ x ∷ []
+      → all ≡ take most (ids ++ filter test (ids_of (entries_in base names (count - i) rest)))
+      → all ≡ take most (ids2 ++ filter test (ids_of (entries_in base names (count - (i + 1)) next)))
+  all-taken most all ids ids2 e f was = was ∙ ap (λ r. take most (ids ++ r)) (filter-taken e) ∙ ap (take most) (joined ids ids2 x _ f)
+
+  pub all-left : (most : ℕ) (all ids ids2 : List Id) → test x ≡ false → ids2 ≡ ids
+      → all ≡ take most (ids ++ filter test (ids_of (entries_in base names (count - i) rest)))
+      → all ≡ take most (ids2 ++ filter test (ids_of (entries_in base names (count - (i + 1)) next)))
+  all-left most all ids ids2 e f was =
+      was ∙ ap (λ r. take most (ids ++ r)) (filter-left e) ∙ ap (λ r. take most (r ++ filter test (ids_of (entries_in base names (count - (i + 1)) next)))) (sym f)
+
+  pub each-taken : (all ids ids2 : List Id) → test x ≡ true → ids2 ≡ ids ++ x ∷ []
+      → all ≡ ids ++ filter test (ids_of (entries_in base names (count - i) rest))
+      → all ≡ ids2 ++ filter test (ids_of (entries_in base names (count - (i + 1)) next))
+  each-taken all ids ids2 e f was = was ∙ ap (λ r. ids ++ r) (filter-taken e) ∙ joined ids ids2 x _ f
+
+  pub each-left : (all ids ids2 : List Id) → test x ≡ false → ids2 ≡ ids
+      → all ≡ ids ++ filter test (ids_of (entries_in base names (count - i) rest))
+      → all ≡ ids2 ++ filter test (ids_of (entries_in base names (count - (i + 1)) next))
+  each-left all ids ids2 e f was =
+      was ∙ ap (λ r. ids ++ r) (filter-left e) ∙ ap (λ r. r ++ filter test (ids_of (entries_in base names (count - (i + 1)) next))) (sym f)
+
+  entry-is : (fields : List Field) → fields ≡ body_fields names (entry_body rest) → entry_in base names rest ≡ (x, fields)
+  entry-is fields f = ap (λ (y : Id). (y, body_fields names (entry_body rest))) (sym is) ∙ ap (λ (fs : List Field). (x, fs)) (sym f)
+
+  shown-filter_taken : (fields : List Field) → test x ≡ true → fields ≡ body_fields names (entry_body rest)
+      → filter (λ e. test e.0) (entries_in base names (count - i) rest) ≡ (x, fields) ∷ filter (λ e. test e.0) (entries_in base names (count - (i + 1)) next)
+  shown-filter_taken fields e f =
+      let passes : test (entry_id base rest) ≡ true = subst (λ y. test y ≡ true) is e in
+      rw (left-step base names count i rest h, passes) (ap (λ (y : Id × List Field). y ∷ filter (λ e. test e.0) (entries_in base names (count - (i + 1)) (after_entry rest))) (entry-is fields f)
+      ∙ ap (λ r. (x, fields) ∷ filter (λ e. test e.0) (entries_in base names (count - (i + 1)) r)) (sym on))
+
+  shown-filter_left : test x ≡ false
+      → filter (λ e. test e.0) (entries_in base names (count - i) rest) ≡ filter (λ e. test e.0) (entries_in base names (count - (i + 1)) next)
+  shown-filter_left e =
+      let fails : test (entry_id base rest) ≡ false = subst (λ y. test y ≡ false) is e in
+      rw (left-step base names count i rest h, fails) (ap (λ r. filter (λ (e : Id × List Field). test e.0) (entries_in base names (count - (i + 1)) r)) (sym on))
+
+  pub shown-taken : (most : ℕ) (fields : List Field) (all es es2 : List (Id × List Field)) → test x ≡ true → fields ≡ body_fields names (entry_body rest) → es2 ≡ es ++ (x, fields) ∷ []
+      → all ≡ take most (es ++ filter (λ e. test e.0) (entries_in base names (count - i) rest))
+      → all ≡ take most (es2 ++ filter (λ e. test e.0) (entries_in base names (count - (i + 1)) next))
+  shown-taken most fields all es es2 e f g was = was ∙ ap (λ r. take most (es ++ r)) (shown-filter_taken fields e f) ∙ ap (take most) (joined es es2 (x, fields) _ g)
+
+  pub shown-left : (most : ℕ) (all es es2 : List (Id × List Field)) → test x ≡ false → es2 ≡ es
+      → all ≡ take most (es ++ filter (λ e. test e.0) (entries_in base names (count - i) rest))
+      → all ≡ take most (es2 ++ filter (λ e. test e.0) (entries_in base names (count - (i + 1)) next))
+  shown-left most all es es2 e f was =
+      was ∙ ap (λ r. take most (es ++ r)) (shown-filter_left e) ∙ ap (λ r. take most (r ++ filter (λ e. test e.0) (entries_in base names (count - (i + 1)) next))) (sym f)
+
+  pub count-taken : test x ≡ true
+      → length (filter (λ e. test e.0) (entries_in base names (count - i) rest)) ≡ suc (length (filter (λ e. test e.0) (entries_in base names (count - (i + 1)) next)))
+  count-taken e =
+      let passes : test (entry_id base rest) ≡ true = subst (λ y. test y ≡ true) is e in
+      rw (left-step base names count i rest h, passes) (ap (λ r. suc (length (filter (λ e. test e.0) (entries_in base names (count - (i + 1)) r)))) (sym on))
+
+  pub count-left : test x ≡ false
+      → length (filter (λ e. test e.0) (entries_in base names (count - i) rest)) ≡ length (filter (λ e. test e.0) (entries_in base names (count - (i + 1)) next))
+  count-left e =
+      let fails : test (entry_id base rest) ≡ false = subst (λ y. test y ≡ false) is e in
+      rw (left-step base names count i rest h, fails) (ap (λ r. length (filter (λ e. test e.0) (entries_in base names (count - (i + 1)) r))) (sym on))
+
+-- before the first one all are left
+pub at-start : (base count : ℕ) (bytes names rest : List ℕ) → names ≡ first_text bytes → rest ≡ after_text bytes → block_entries base count bytes ≡ entries_in base names (count - 0) rest
+at-start base count bytes names rest e f = let all : count - 0 ≡ count = omega arith in rw (e, f, all) refl
+
+-- none is left of those that are passed
+pub none-left : (base : ℕ) (names : List ℕ) (count i : ℕ) (rest : List ℕ) → count ≤ i → entries_in base names (count - i) rest ≡ []
+none-left base names count i rest h = let e : count - i ≡ 0 = omega arith in rw e refl
+
+-- ---- lengths
+
+length-after_number : (bytes : List ℕ) → length (after_number bytes) ≤ length bytes
+unfolding after_number
+length-after_number [] = omega arith
+length-after_number (x ∷ xs) = by (ltb x 253) (eqb x 253) (eqb x 254) (eqb x 255) where
+  by : (s t u v : Bool) → length (cond s xs (cond t (drop 2 xs) (cond u (drop 4 xs) (cond v (drop 8 xs) (drop 1 xs))))) ≤ suc (length xs)
+  by true t u v = omega arith
+  by false true u v = omega (arith, length-drop 2 xs)
+  by false false true v = omega (arith, length-drop 4 xs)
+  by false false false true = omega (arith, length-drop 8 xs)
+  by false false false false = omega (arith, length-drop 1 xs)
+
+pub length-after_text : (bytes : List ℕ) → length (after_text bytes) ≤ length bytes
+unfolding after_text
+length-after_text bytes = omega (arith, length-drop (first_number bytes) (after_number bytes), length-after_number bytes)
+
+pub length-after_entry : (bytes : List ℕ) → length (after_entry bytes) ≤ length bytes
+unfolding after_entry
+length-after_entry bytes =
+    omega (arith, length-after_text (after_number (after_number bytes)), length-after_number (after_number bytes), length-after_number bytes)
+
+pub length-after_entries : (i : ℕ) (bytes : List ℕ) → length (after_entries i bytes) ≤ length bytes
+length-after_entries zero bytes = omega arith
+length-after_entries (suc i) bytes = omega (arith, length-after_entries i (after_entry bytes), length-after_entry bytes)
+
+pub after_entries-one_less : (i : ℕ) (bytes : List ℕ) → length (after_entries (i + 1) bytes) ≤ length (after_entries i bytes)
+after_entries-one_less i bytes = rw (after_entries-more i bytes) (length-after_entry (after_entries i bytes))
+
+pub length-block_entries : (base count : ℕ) (bytes : List ℕ) → length (block_entries base count bytes) ≡ count
+length-block_entries base count bytes = length-entries_in base (first_text bytes) count (after_text bytes)
+
+-- ---- what is taken out
+
+-- bytes that are the code of names and entries hold these
+module _ (base : ℕ) (names : List ℕ) (count : ℕ) (bytes : List ℕ) (es : List (Id × List Field)) (fits : base < 2 ^ 64) (e : bytes ≡ text_code names ++ entries_code base names es) (n : count ≡ length es) where
+  own-names : first_text bytes ≡ names
+  own-names = ap first_text e ∙ first_text-code names (entries_code base names es)
+
+  own-rest : after_text bytes ≡ entries_code base names es
+  own-rest = ap after_text e ∙ after_text-code names (entries_code base names es)
+
+  pub repacked : block_entries base count bytes ≡ es
+  repacked = rw (own-names, own-rest, n) (entries_in-whole base names es fits)
+
+  pub repacked-packed : 0 < length es → IsPacked base count bytes
+  repacked-packed some = record {
+    base_fits = fits;
+    coded = e ∙ sym (coded es some) ∙ ap (block_code base names) (sym repacked) ∙ ap (λ ns. block_code base ns (block_entries base count bytes)) (sym own-names);
+  } where
+    coded : (fs : List (Id × List Field)) → 0 < length fs → block_code base names fs ≡ text_code names ++ entries_code base names fs
+    coded [] h = absurd (omega arith)
+    coded (f ∷ fs) h = refl
+
+left-code : (base : ℕ) (names : List ℕ) (es : List (Id × List Field)) (i : ℕ) → i ≤ length es → after_entries i (entries_code base names es) ≡ entries_code base names (drop i es)
+left-code base names es zero h = refl
+left-code base names [] (suc i) h = absurd (omega arith)
+left-code base names (e ∷ es) (suc i) h = rw (after_entry-code base (has_names names e.1) e (entries_code base names es)) (left-code base names es i (omega arith))
+
+parts : (base : ℕ) (names : List ℕ) (es : List (Id × List Field)) (i : ℕ) → entries_code base names es ≡ entries_code base names (take i es) ++ entries_code base names (drop i es)
+parts base names es i = ap (entries_code base names) (sym (take-append-drop i es)) ∙ flat_map-append (λ (e : Id × List Field). entry_code base (has_names names e.1) e) (take i es) (drop i es)
+
+take-front : (a b c : List ℕ) → c ≡ a ++ b → take (length c - length b) c ≡ a
+take-front a b c e =
+    let n : length c - length b ≡ length a = omega (arith, ap length e, length-append a b) in
+    rw (n, e) (take-append_seam a b)
+
+drop-front : (a b c : List ℕ) → c ≡ a ++ b → drop (length c - length b) c ≡ b
+drop-front a b c e =
+    let n : length c - length b ≡ length a = omega (arith, ap length e, length-append a b) in
+    rw (n, e) (drop-append_seam a b)
+
+module _ (base count : ℕ) (bytes : List ℕ) (packed : IsPacked base count bytes) (some : 0 < count) where
+  opened : bytes ≡ text_code (first_text bytes) ++ entries_code base (first_text bytes) (block_entries base count bytes)
+  opened = packed.coded ∙ by (block_entries base count bytes) (omega (arith, length-block_entries base count bytes)) where
+    by : (es : List (Id × List Field)) → 0 < length es → block_code base (first_text bytes) es ≡ text_code (first_text bytes) ++ entries_code base (first_text bytes) es
+    by [] h = absurd (omega arith)
+    by (e ∷ es) h = refl
+
+  rest-code : after_text bytes ≡ entries_code base (first_text bytes) (block_entries base count bytes)
+  rest-code = ap after_text opened ∙ after_text-code (first_text bytes) (entries_code base (first_text bytes) (block_entries base count bytes))
+
+  left : (i : ℕ) → i ≤ count → after_entries i (after_text bytes) ≡ entries_code base (first_text bytes) (drop i (block_entries base count bytes))
+  left i h = ap (after_entries i) rest-code ∙ left-code base (first_text bytes) (block_entries base count bytes) i (omega (arith, length-block_entries base count bytes))
+
+  split : (i : ℕ) → i ≤ count → bytes ≡ (text_code (first_text bytes) ++ entries_code base (first_text bytes) (take i (block_entries base count bytes))) ++ after_entries i (after_text bytes)
+  split i h =
+      opened ∙ ap (λ b. text_code (first_text bytes) ++ b) (parts base (first_text bytes) (block_entries base count bytes) i ∙ ap (λ b. entries_code base (first_text bytes) (take i (block_entries base count bytes)) ++ b) (sym (left i h)))
+      ∙ sym (append_assoc (text_code (first_text bytes)) (entries_code base (first_text bytes) (take i (block_entries base count bytes))) (after_entries i (after_text bytes)))
+
+  pub removed-code : (i : ℕ) → i < count
+      → remove_range bytes (length bytes - length (after_entries i (after_text bytes))) (length bytes - length (after_entries (i + 1) (after_text bytes)))
+      ≡ text_code (first_text bytes) ++ entries_code base (first_text bytes) (remove (block_entries base count bytes) i)
+  removed-code i h =
+      let es = block_entries base count bytes in
+      let names = first_text bytes in
+      let front : take (length bytes - length (after_entries i (after_text bytes))) bytes ≡ text_code names ++ entries_code base names (take i es) = take-front _ _ bytes (split i (omega arith)) in
+      let back : drop (length bytes - length (after_entries (suc i) (after_text bytes))) bytes ≡ entries_code base names (drop (suc i) es) = drop-front _ _ bytes (split (suc i) (omega arith)) ∙ left (suc i) (omega arith) in
+      rw (add-one, front, back) (append_assoc (text_code names) (entries_code base names (take i es)) (entries_code base names (drop (suc i) es))
+      ∙ ap (λ b. text_code names ++ b) (sym (flat_map-append (λ (e : Id × List Field). entry_code base (has_names names e.1) e) (take i es) (drop (suc i) es))))
+
+  pub dropped-code : (k : ℕ) → k ≤ count
+      → remove_range bytes (length bytes - length (after_text bytes)) (length bytes - length (after_entries k (after_text bytes)))
+      ≡ text_code (first_text bytes) ++ entries_code base (first_text bytes) (drop k (block_entries base count bytes))
+  dropped-code k h =
+      let names = first_text bytes in
+      let front : take (length bytes - length (after_text bytes)) bytes ≡ text_code names ++ [] = take-front _ _ bytes (split 0 (omega arith)) in
+      let back : drop (length bytes - length (after_entries k (after_text bytes))) bytes ≡ entries_code base names (drop k (block_entries base count bytes)) = drop-front _ _ bytes (split k h) ∙ left k h in
+      rw (front, back) (ap (λ b. b ++ entries_code base names (drop k (block_entries base count bytes))) (append-nil (text_code names)))
+
+  pub pushed-code : (entry : Id × List Field) → bytes ++ entry_code base (has_names (first_text bytes) entry.1) entry
+      ≡ text_code (first_text bytes) ++ entries_code base (first_text bytes) (block_entries base count bytes ++ entry ∷ [])
+  pushed-code entry =
+      let names = first_text bytes in
+      let es = block_entries base count bytes in
+      rw (flat_map-append, append-nil) (ap (λ b. b ++ entry_code base (has_names names entry.1) entry) opened ∙ append_assoc (text_code names) (entries_code base names es) (entry_code base (has_names names entry.1) entry))
+
+  pub length-dropped : (k : ℕ) → count - k ≡ length (drop k (block_entries base count bytes))
+  length-dropped k = omega (arith, length-drop k (block_entries base count bytes), length-block_entries base count bytes)
+
+  pub length-pushed : (entry : Id × List Field) → count + 1 ≡ length (block_entries base count bytes ++ entry ∷ [])
+  length-pushed entry = omega (arith, length-append (block_entries base count bytes) (entry ∷ []), length-block_entries base count bytes)
+
+  pub length-removed : (i : ℕ) → i < count → count - 1 ≡ length (remove (block_entries base count bytes) i)
+  length-removed i h =
+      let es = block_entries base count bytes in
+      omega (arith, length-append (take i es) (drop (suc i) es), length-drop (suc i) es, length-take i es, length-block_entries base count bytes)
+
+-- the first entry of a block, behind its names
+pub first-code : (entry : Id × List Field) (old bytes : List ℕ) → old ≡ [] → bytes ≡ old ++ (text_code (names_code entry.1) ++ entry_code entry.0.ms true entry)
+    → bytes ≡ text_code (names_code entry.1) ++ entries_code entry.0.ms (names_code entry.1) (entry ∷ [])
+first-code entry old bytes none e =
+    e ∙ ap (λ b. b ++ (text_code (names_code entry.1) ++ entry_code entry.0.ms true entry)) none
+    ∙ ap (λ t. text_code (names_code entry.1) ++ entry_code entry.0.ms t entry) (sym (has_names-own entry.1)) ∙ ap (λ b. text_code (names_code entry.1) ++ b) (sym (append-nil (entry_code entry.0.ms (has_names (names_code entry.1) entry.1) entry)))
+
+-- nothing is removed that isn't found
+pub remove-absent : (id : Id) (es : List (Id × List Field)) → is_some (fields_at es id) ≡ false → remove_entry (is_same id) es ≡ es
+remove-absent id [] h = refl
+remove-absent id (e ∷ es) h = by (remove-absent id es) (is_same id e.0) h where
+  by : (is_some (fields_at es id) ≡ false → remove_entry (is_same id) es ≡ es) → (t : Bool) → is_some (cond t (Some e.1) (fields_at es id)) ≡ false → cond t es (e ∷ remove_entry (is_same id) es) ≡ e ∷ es
+  by rest true h = absurd (false≢true (sym h))
+  by rest false h = ap (λ left. e ∷ left) (rest h)
+
+-- and where the only entry is found, none is left
+pub only-removed : (es : List (Id × List Field)) (i : ℕ) → length es ≡ 1 → i < length es → remove es i ≡ []
+only-removed [] i e h = absurd (omega arith)
+only-removed (x ∷ []) zero e h = refl
+only-removed (x ∷ []) (suc i) e h = absurd (omega arith)
+only-removed (x ∷ (y ∷ es)) i e h = absurd (omega arith)

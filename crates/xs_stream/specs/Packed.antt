@@ -1,0 +1,107 @@
+-- Entries after one another in bytes. An id's milliseconds stand as how far they are above a base, and the fields
+-- stand after their length, so that they can be passed over. Names that a block has once aren't repeated.
+use Rattle.std.specs.Prelude.{◌≡◌, ℕ, zero, suc, ◌+◌, ◌-◌, ◌%◌, ◌^◌, ◌<◌, ◌==◌, ◌&&◌, Bool, true, false, List, [], ◌∷◌, ◌++◌, length, drop, nat_lt, if◌then◌else◌}
+use Rattle.std.specs.List.{flat_map}
+use Rattle.std.specs.Str.{bytes_eq}
+use Rattle.xs_stream.specs.declared.id.Id.{Id}
+use Rattle.xs_stream.specs.declared.field.Field.{Field}
+use Rattle.xs_stream.specs.PackedNumber.{number_code, first_number, after_number, head_number}
+use Rattle.xs_stream.specs.PackedText.{text_code, first_text, after_text}
+
+-- ---- names
+
+-- how many fields there are, and the name of each
+unfoldable pub names_code : List Field → List ℕ
+names_code fields = number_code (length fields) ++ flat_map (λ f. text_code f.name) fields
+
+abbrev pub all_named : List ℕ → List Field → Bool
+all_named names [] = true
+all_named names (f ∷ fs) = bytes_eq (first_text names) f.name && all_named (after_text names) fs
+
+-- the fields have these names
+unfoldable pub has_names : List ℕ → List Field → Bool
+has_names names fields = (first_number names == length fields) && all_named (after_number names) fields
+
+-- ---- fields
+
+-- a field, or its value alone
+abbrev pub field_code : Bool → Field → List ℕ
+field_code true field = text_code field.value
+field_code false field = text_code field.name ++ text_code field.value
+
+-- 0 where the names stand elsewhere, and otherwise one more than there are fields
+abbrev pub mark_of : Bool → List Field → ℕ
+mark_of true fields = 0
+mark_of false fields = length fields + 1
+
+unfoldable pub body_code : Bool → List Field → List ℕ
+body_code shared fields = number_code (mark_of shared fields) ++ flat_map (field_code shared) fields
+
+-- this many fields, with their names beside them or elsewhere
+abbrev pub fields_in : Bool → ℕ → List ℕ → List ℕ → List Field
+fields_in shared zero names bytes = []
+fields_in true (suc count) names bytes =
+    record { name = first_text names; value = first_text bytes } ∷ fields_in true count (after_text names) (after_text bytes)
+fields_in false (suc count) names bytes =
+    record { name = first_text bytes; value = first_text (after_text bytes) }
+    ∷ fields_in false count names (after_text (after_text bytes))
+
+unfoldable pub body_fields : List ℕ → List ℕ → List Field
+body_fields names body =
+    if first_number body == 0 then fields_in true (first_number names) (after_number names) (after_number body)
+    else fields_in false (first_number body - 1) names (after_number body)
+
+-- ---- entries
+
+-- milliseconds from a base up
+unfoldable pub ms_code : ℕ → ℕ → List ℕ
+ms_code base ms = if nat_lt ms (2 ^ 64) then number_code ((ms + (2 ^ 64 - base)) % 2 ^ 64) else 257 ∷ ms ∷ []
+
+unfoldable pub first_ms : ℕ → List ℕ → ℕ
+first_ms base bytes =
+    if head_number bytes == 257 then head_number (drop 1 bytes) else (base + first_number bytes) % 2 ^ 64
+
+unfoldable pub entry_code : ℕ → Bool → Id × List Field → List ℕ
+entry_code base shared entry =
+    ms_code base entry.0.ms ++ (number_code entry.0.seq ++ text_code (body_code shared entry.1))
+
+unfoldable pub entry_id : ℕ → List ℕ → Id
+entry_id base bytes = record { ms = first_ms base bytes; seq = first_number (after_number bytes) }
+
+unfoldable pub entry_body : List ℕ → List ℕ
+entry_body bytes = first_text (after_number (after_number bytes))
+
+unfoldable pub after_entry : List ℕ → List ℕ
+after_entry bytes = after_text (after_number (after_number bytes))
+
+abbrev pub entry_in : ℕ → List ℕ → List ℕ → Id × List Field
+entry_in base names bytes = (entry_id base bytes, body_fields names (entry_body bytes))
+
+-- this many entries
+abbrev pub entries_in : ℕ → List ℕ → ℕ → List ℕ → List (Id × List Field)
+entries_in base names zero bytes = []
+entries_in base names (suc count) bytes =
+    entry_in base names bytes ∷ entries_in base names count (after_entry bytes)
+
+abbrev pub entries_code : ℕ → List ℕ → List (Id × List Field) → List ℕ
+entries_code base names entries = flat_map (λ e. entry_code base (has_names names e.1) e) entries
+
+-- the bytes after this many entries
+abbrev pub after_entries : ℕ → List ℕ → List ℕ
+after_entries zero bytes = bytes
+after_entries (suc count) bytes = after_entries count (after_entry bytes)
+
+-- ---- a block
+
+-- the names of its first entry, and its entries. Without entries there is nothing
+abbrev pub block_code : ℕ → List ℕ → List (Id × List Field) → List ℕ
+block_code base names [] = []
+block_code base names (e ∷ es) = text_code names ++ entries_code base names (e ∷ es)
+
+abbrev pub block_entries : ℕ → ℕ → List ℕ → List (Id × List Field)
+block_entries base count bytes = entries_in base (first_text bytes) count (after_text bytes)
+
+-- the bytes are those of the entries that are read of them
+pub record IsPacked (base count : ℕ) (bytes : List ℕ) : Type 0 where
+  pub base_fits : base < 2 ^ 64
+  pub coded : bytes ≡ block_code base (first_text bytes) (block_entries base count bytes)

@@ -1,0 +1,6 @@
+//! Entries as they stand in bytes.
+
+pub(crate) mod entry;
+pub mod fields;
+pub(crate) mod number;
+pub(crate) mod text;

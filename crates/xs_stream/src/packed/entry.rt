@@ -1,0 +1,166 @@
+//! Entries as they stand in bytes.
+ghost use Rattle.std.specs.Prelude.{◌≡◌, ◌++◌, IfSome, OnOk, OnErr, length, take, vec_len};
+ghost use Rattle.xs_stream.specs.Packed.{names_code, has_names, field_code, body_code, mark_of, ms_code, entry_code, entry_id, entry_body, after_entry, first_ms};
+ghost use Rattle.xs_stream.specs.PackedNumber.{after_number};
+ghost use Rattle.xs_stream.specs.PackedText.{text_code};
+
+use crate::field::Field;
+use crate::id::Id;
+use crate::packed::number::{number_size, push_number, read_number};
+use crate::packed::text::{push_text, read_text, text_size};
+use std::alloc::AllocError;
+
+/// An entry that bytes begin with.
+#[derive(Drop)]
+pub(crate) struct PackedEntry<'a> {
+    pub(crate) id: Id,
+    pub(crate) body: &'a [u8],
+    pub(crate) rest: &'a [u8],
+}
+
+/// The entry that bytes begin with.
+#[tactic(auto, unfolding(crate::specs::Packed::entry_id, crate::specs::Packed::entry_body, crate::specs::Packed::after_entry))]
+pub(crate) fn read_entry<'a>(base: u64, bytes: &'a [u8]) -> PackedEntry<'a>
+    ensures id { result.id ≡ entry_id base bytes.now }
+    ensures body { result.body.now ≡ entry_body bytes.now }
+    ensures rest { result.rest.now ≡ after_entry bytes.now }
+{
+    let (ms, after_ms) = read_ms(base, bytes);
+    let (seq, after_seq) = read_number(after_ms);
+    let (body, rest) = read_text(after_seq);
+    PackedEntry {
+        id: Id { ms, seq },
+        body,
+        rest,
+    }
+}
+
+fn read_ms(base: u64, bytes: &[u8]) -> (u64, &[u8])
+    ensures number { result.0 ≡ first_ms base bytes.now }
+    ensures rest { result.1.now ≡ after_number bytes.now }
+{
+    let (above, rest) = read_number(bytes);
+    (base.wrapping_add(above), rest)
+}
+
+/// Whether fields have these names.
+pub(crate) fn has_names(names: &[u8], fields: &[Field]) -> bool
+    ensures { result ≡ has_names names.now fields.now }
+{
+    let (count, mut rest) = read_number(names);
+    if count != fields.len() as u64 {
+        return false;
+    }
+    for field in fields {
+        let (name, others) = read_text(rest);
+        if name != field.name.as_slice() {
+            return false;
+        }
+        rest = others;
+    }
+    true
+}
+
+/// How many bytes the names of fields take.
+fn names_size(fields: &[Field]) -> Option<u64>
+    ensures { IfSome result (λ size. size ≡ length (names_code fields.now)) }
+{
+    let mut size = number_size(fields.len() as u64);
+    for field in fields {
+        size = size.checked_add(text_size(field.name.as_slice())?)?;
+    }
+    Some(size)
+}
+
+/// Appends the names of fields after their length. A refusal may leave a part behind.
+pub(crate) fn push_names(out: &mut Vec<u8>, fields: &[Field]) -> Result<(), AllocError>
+    ensures { OnOk result (out.new.items ≡ out.old.items ++ text_code (names_code fields.now)) }
+{
+    let Some(size) = names_size(fields) else {
+        return Err(AllocError);
+    };
+    push_number(out, size)?;
+    push_number(out, fields.len() as u64)?;
+    for field in fields {
+        push_text(out, field.name.as_slice())?;
+    }
+    Ok(())
+}
+
+/// The number before the fields of an entry.
+fn mark_of(shared: bool, fields: &[Field]) -> Option<u64>
+    ensures { IfSome result (λ mark. mark ≡ mark_of shared fields.now) }
+{
+    if shared {
+        return Some(0);
+    }
+    (fields.len() as u64).checked_add(1)
+}
+
+/// How many bytes the fields of an entry take.
+pub(crate) fn body_size(shared: bool, fields: &[Field]) -> Option<u64>
+    ensures { IfSome result (λ size. size ≡ length (body_code shared fields.now)) }
+{
+    let mut size = number_size(mark_of(shared, fields)?);
+    for field in fields {
+        size = size.checked_add(field_size(shared, field)?)?;
+    }
+    Some(size)
+}
+
+fn field_size(shared: bool, field: &Field) -> Option<u64>
+    ensures { IfSome result (λ size. size ≡ length (field_code shared field.now)) }
+{
+    let size = text_size(field.value.as_slice())?;
+    if shared {
+        return Some(size);
+    }
+    text_size(field.name.as_slice())?.checked_add(size)
+}
+
+/// Appends a field, or its value alone. A refusal may leave a part behind.
+fn push_field(out: &mut Vec<u8>, shared: bool, field: &Field) -> Result<(), AllocError>
+    ensures ok { OnOk result (out.new.items ≡ out.old.items ++ field_code shared field.now) }
+    ensures err { OnErr result (take (vec_len out.old) out.new.items ≡ out.old.items) }
+{
+    if !shared {
+        push_text(out, field.name.as_slice())?;
+    }
+    push_text(out, field.value.as_slice())
+}
+
+/// Appends the fields of an entry. A refusal may leave a part behind.
+fn push_body(out: &mut Vec<u8>, shared: bool, fields: &[Field]) -> Result<(), AllocError>
+    ensures ok { OnOk result (out.new.items ≡ out.old.items ++ body_code shared fields.now) }
+    ensures err { OnErr result (take (vec_len out.old) out.new.items ≡ out.old.items) }
+{
+    let Some(mark) = mark_of(shared, fields) else {
+        return Err(AllocError);
+    };
+    push_number(out, mark)?;
+    for field in fields {
+        push_field(out, shared, field)?;
+    }
+    Ok(())
+}
+
+/// Appends an entry. A refusal may leave a part behind.
+pub(crate) fn push_entry(
+    out: &mut Vec<u8>,
+    base: u64,
+    shared: bool,
+    id: Id,
+    fields: &[Field],
+) -> Result<(), AllocError>
+    ensures ok { OnOk result (out.new.items ≡ out.old.items ++ entry_code base shared (id, fields.now)) }
+    ensures err { OnErr result (take (vec_len out.old) out.new.items ≡ out.old.items) }
+{
+    let Some(size) = body_size(shared, fields) else {
+        return Err(AllocError);
+    };
+    push_number(out, id.ms.wrapping_sub(base))?;
+    push_number(out, id.seq)?;
+    push_number(out, size)?;
+    push_body(out, shared, fields)?;
+    Ok(())
+}

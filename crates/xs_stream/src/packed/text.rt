@@ -1,0 +1,38 @@
+//! Texts after their lengths.
+ghost use Rattle.std.specs.Prelude.{◌≡◌, ◌++◌, OnOk, OnErr, IfSome, take, vec_len, length};
+ghost use Rattle.xs_stream.specs.PackedText.{text_code, first_text, after_text};
+
+use crate::packed::number::{number_size, push_number, read_number};
+use std::alloc::AllocError;
+
+#[tactic(auto, unfolding(crate::specs::PackedText::text_code))]
+/// How many bytes a text takes with its length. None where they are too many for a number.
+pub(crate) fn text_size(text: &[u8]) -> Option<u64>
+    ensures { IfSome result (λ size. size ≡ length (text_code text.now)) }
+{
+    let len = text.len() as u64;
+    number_size(len).checked_add(len)
+}
+
+/// Appends a text after its length. A refusal may leave a part behind.
+#[tactic(auto, unfolding(crate::specs::PackedText::text_code))]
+pub(crate) fn push_text(out: &mut Vec<u8>, text: &[u8]) -> Result<(), AllocError>
+    ensures ok { OnOk result (out.new.items ≡ out.old.items ++ text_code text.now) }
+    ensures err { OnErr result (take (vec_len out.old) out.new.items ≡ out.old.items) }
+{
+    push_number(out, text.len() as u64)?;
+    out.extend_from_slice(text)
+}
+
+/// The text that bytes begin with, and the bytes after it.
+#[tactic(auto, unfolding(crate::specs::PackedText::first_text, crate::specs::PackedText::after_text))]
+pub(crate) fn read_text(bytes: &[u8]) -> (&[u8], &[u8])
+    ensures text { result.0.now ≡ first_text bytes.now }
+    ensures rest { result.1.now ≡ after_text bytes.now }
+{
+    let (len, rest) = read_number(bytes);
+    if len >= rest.len() as u64 {
+        return (rest, &[]);
+    }
+    rest.split_at(len as usize)
+}
