@@ -2,12 +2,12 @@
 ghost use Rattle.std.specs.Prelude.{◌≡◌, ◌++◌, IfOk, OnOk, map};
 ghost use Rattle.std.specs.List.{flat_map};
 ghost use Rattle.xs_resp.specs.ReplyItems.{tokens_of};
-ghost use Rattle.xs_keys.specs.Reply.{array, field_replies, id_reply, entry_reply, present_reply, entries_reply};
+ghost use Rattle.xs_keys.specs.Reply.{array, field_replies, id_reply, AreEntriesOf, entry_reply, present_reply, entries_reply};
 
 use std::alloc::{AllocError, Global};
-use xs_bytes::Bytes;
+use xs_bytes::{Bytes, List};
 use xs_resp::{Replies, Reply, Token};
-use xs_stream::{Entry, Id, PackedFields, Stream};
+use xs_stream::{Entry, Id, PackedFields, Range, Stream};
 
 /// How many tokens an entry with one field has.
 pub const ENTRY_TOKENS: usize = 5;
@@ -51,7 +51,7 @@ fn push_fields(
 }
 
 /// Appends an entry: its id, and its fields, or the null array where it isn't in the stream.
-pub fn push_entry(
+fn push_entry(
     tokens: &mut Vec<Token>,
     alloc: Global,
     stream: &Stream,
@@ -68,6 +68,59 @@ pub fn push_entry(
     Ok(())
 }
 
+/// Appends an entry that its stream lends.
+pub fn push_present(
+    tokens: &mut Vec<Token>,
+    alloc: Global,
+    entry: &Entry<'_>,
+) -> Result<(), AllocError>
+    ensures { OnOk result (tokens.new.items ≡ tokens.old.items ++ tokens_of (present_reply entry.now)) }
+{
+    tokens.push(Token::Array(2))?;
+    push_id(tokens, alloc, entry.id())?;
+    push_fields(tokens, alloc, entry.fields())?;
+    Ok(())
+}
+
+/// As many entries of a stream as there are ids, from the first id on. Ids that are asked for together mostly follow one
+/// another, and then none of their entries has to be looked for.
+pub fn entries_along<'a>(
+    alloc: Global,
+    stream: &'a Stream,
+    first: Id,
+    count: usize,
+) -> Result<List<Entry<'a>>, AllocError>
+    ensures { IfOk result (λ entries. AreEntriesOf stream.now.entries entries) }
+{
+    stream.lawful();
+    let range = Range {
+        low: first,
+        high: Id::GREATEST,
+    };
+    stream.entries(alloc, range, Some(count as u64), false)
+}
+
+/// Appends the entry with this id, or its id with the null array. If it stands at this place among entries that are lent,
+/// it isn't looked up.
+pub fn push_along(
+    tokens: &mut Vec<Token>,
+    alloc: Global,
+    stream: &Stream,
+    lent: &[Entry<'_>],
+    place: usize,
+    id: Id,
+) -> Result<(), AllocError>
+    requires { AreEntriesOf stream.now.entries lent.now }
+    ensures { OnOk result (tokens.new.items ≡ tokens.old.items ++ tokens_of (entry_reply stream.now.entries id)) }
+{
+    if let Some(entry) = lent.get(place) {
+        if entry.id() == id {
+            return push_present(tokens, alloc, entry);
+        }
+    }
+    push_entry(tokens, alloc, stream, id)
+}
+
 /// Appends the entries with these ids.
 pub fn push_entries(
     tokens: &mut Vec<Token>,
@@ -78,37 +131,39 @@ pub fn push_entries(
     ensures { OnOk result (tokens.new.items ≡ tokens.old.items
         ++ flat_map tokens_of (map (entry_reply stream.now.entries) ids.now)) }
 {
+    let Some(first) = ids.first() else {
+        return Ok(());
+    };
     tokens.reserve(ids.len().saturating_mul(ENTRY_TOKENS))?;
-    for id in ids {
-        push_entry(tokens, alloc, stream, *id)?;
+    let lent = entries_along(alloc, stream, *first, ids.len())?;
+    for (place, id) in ids.iter().enumerate() {
+        push_along(tokens, alloc, stream, lent.as_slice(), place, *id)?;
     }
     Ok(())
 }
 
-/// Appends entries that are shown.
+/// Appends entries that their stream lends.
 fn push_lent_entries(
     tokens: &mut Vec<Token>,
     alloc: Global,
-    shown: &[Entry<'_>],
+    entries: &[Entry<'_>],
 ) -> Result<(), AllocError>
-    ensures { OnOk result (tokens.new.items ≡ tokens.old.items ++ flat_map tokens_of (map present_reply shown.now)) }
+    ensures { OnOk result (tokens.new.items ≡ tokens.old.items ++ flat_map tokens_of (map present_reply entries.now)) }
 {
-    tokens.reserve(shown.len().saturating_mul(ENTRY_TOKENS))?;
-    for entry in shown {
-        tokens.push(Token::Array(2))?;
-        push_id(tokens, alloc, entry.id())?;
-        push_fields(tokens, alloc, entry.fields())?;
+    tokens.reserve(entries.len().saturating_mul(ENTRY_TOKENS))?;
+    for entry in entries {
+        push_present(tokens, alloc, entry)?;
     }
     Ok(())
 }
 
-/// The entries that are shown.
-pub fn lent_entries(alloc: Global, shown: &[Entry<'_>]) -> Result<Reply, AllocError>
-    ensures { IfOk result (λ reply. reply ≡ array (map present_reply shown.now)) }
+/// The entries that a stream lends.
+pub fn lent_entries(alloc: Global, entries: &[Entry<'_>]) -> Result<Reply, AllocError>
+    ensures { IfOk result (λ reply. reply ≡ array (map present_reply entries.now)) }
 {
     let mut tokens = Vec::new(alloc);
-    push_lent_entries(&mut tokens, alloc, shown)?;
-    Ok(Reply::Array(Replies::new(shown.len(), tokens)))
+    push_lent_entries(&mut tokens, alloc, entries)?;
+    Ok(Reply::Array(Replies::new(entries.len(), tokens)))
 }
 
 /// Appends these ids.

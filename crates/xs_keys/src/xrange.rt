@@ -1,37 +1,16 @@
 //! XRANGE and XREVRANGE.
-ghost use Rattle.std.specs.Prelude.{◌≡◌, true, false, IfOk};
+ghost use Rattle.std.specs.Prelude.{◌≡◌, IfOk};
 ghost use Rattle.xs_stream.specs.Kept.{limited, ids_within};
 ghost use Rattle.xs_keys.specs.Codes.{content_of};
 ghost use Rattle.xs_keys.specs.Reply.{entries_reply};
 ghost use Rattle.xs_keys.specs.Step.{StepAtAnyTime};
 
 use crate::keys::Keys;
-use crate::showing::{entries_shown, lent_entries};
+use crate::showing::lent_entries;
 use std::alloc::{AllocError, Global};
 use xs_command::{Command, ScanCommand};
 use xs_resp::{Fault, Replies, Reply};
 use xs_stream::Stream;
-
-/// The entries of a range of a stream, from its low end up.
-fn entries_up(alloc: Global, stream: &Stream, command: &ScanCommand) -> Result<Reply, AllocError>
-    ensures { let entries = stream.now.entries in
-        let ids = limited command.now.limit (ids_within command.now.range false entries) in
-        IfOk result (λ reply. reply ≡ entries_reply entries ids) }
-{
-    stream.lawful();
-    let shown = stream.entries(alloc, command.range, command.limit)?;
-    lent_entries(alloc, shown.as_slice())
-}
-
-/// The entries of a range of a stream, from its high end down.
-fn entries_down(alloc: Global, stream: &Stream, command: &ScanCommand) -> Result<Reply, AllocError>
-    ensures { let entries = stream.now.entries in
-        let ids = limited command.now.limit (ids_within command.now.range true entries) in
-        IfOk result (λ reply. reply ≡ entries_reply entries ids) }
-{
-    let ids = stream.range(alloc, command.range, command.limit, true)?;
-    entries_shown(alloc, stream, ids.as_slice())
-}
 
 /// The entries of a range of a stream.
 fn range_shown(alloc: Global, stream: &Stream, command: &ScanCommand) -> Result<Reply, AllocError>
@@ -39,11 +18,9 @@ fn range_shown(alloc: Global, stream: &Stream, command: &ScanCommand) -> Result<
         let ids = limited command.now.limit (ids_within command.now.range command.now.reversed entries) in
         IfOk result (λ reply. reply ≡ entries_reply entries ids) }
 {
-    if command.reversed {
-        entries_down(alloc, stream, command)
-    } else {
-        entries_up(alloc, stream, command)
-    }
+    stream.lawful();
+    let entries = stream.entries(alloc, command.range, command.limit, command.reversed)?;
+    lent_entries(alloc, entries.as_slice())
 }
 
 /// The entries of a range of a key.

@@ -16,7 +16,7 @@ ghost use Rattle.xs_keys.specs.Reading.{IsMadeAt, AreMade};
 ghost use Rattle.xs_keys.specs.Step.{Step};
 
 use crate::keys::{Groups, Keys, group_at};
-use crate::showing::{ENTRY_TOKENS, push_bytes, push_entry};
+use crate::showing::{ENTRY_TOKENS, entries_along, push_along, push_bytes};
 use std::alloc::{AllocError, Global};
 use xs_bytes::Bytes;
 use xs_command::{Command, ReadFrom, ReadGroupCommand, ReadOne};
@@ -63,9 +63,13 @@ fn push_rows(
     ensures { OnOk result (tokens.new.items ≡ tokens.old.items
         ++ flat_map tokens_of (map (entry_reply stream.now.entries) (row_ids rows.now))) }
 {
+    let Some(first) = rows.first() else {
+        return Ok(());
+    };
     tokens.reserve(rows.len().saturating_mul(ENTRY_TOKENS))?;
-    for row in rows {
-        push_entry(tokens, alloc, stream, row.id)?;
+    let lent = entries_along(alloc, stream, first.id, rows.len())?;
+    for (place, row) in rows.iter().enumerate() {
+        push_along(tokens, alloc, stream, lent.as_slice(), place, row.id)?;
     }
     Ok(())
 }

@@ -259,7 +259,7 @@ and_yes true = refl
 and_yes false = refl
 
 -- a range whose low end is above its high end holds nothing
-not_within : (range : Range) → is_below range.high range.low ≡ true → (x : Id) → is_within range x ≡ false
+pub not_within : (range : Range) → is_below range.high range.low ≡ true → (x : Id) → is_within range x ≡ false
 not_within range h x = by (is_below x range.low) refl where
   by : (t : Bool) → is_below x range.low ≡ t → (not t && not (is_below range.high x)) ≡ false
   by true e = refl

@@ -1,6 +1,7 @@
 pub mod Assigning
 pub mod Dropping
 pub mod Filing
+pub mod Gaps
 pub mod InOrder
 pub mod Order
 pub mod PackedBlocks

@@ -14,7 +14,7 @@ use Rattle.xs_stream.specs.Id.{is_same}
 use Rattle.xs_stream.specs.Kept.{fields_at, ids_of}
 use Rattle.xs_stream.specs.PackedNumber.{first_number, after_number}
 use Rattle.xs_stream.specs.PackedText.{text_code, first_text, after_text}
-use Rattle.xs_stream.specs.Packed.{names_code, has_names, body_fields, entry_code, entry_id, entry_body, entry_in, after_entry, entries_in, after_entries, entries_code, block_code, block_entries, IsPacked}
+use Rattle.xs_stream.specs.Packed.{names_code, has_names, body_fields, entry_code, entry_id, entry_body, entry_in, after_entry, entries_in, after_entries, entries_code, block_entries, IsPacked}
 use Rattle.xs_stream.proofs.Order.{is_same-eq, is_same-refl}
 use Rattle.xs_stream.proofs.PackedCodes.{entries_in-whole, after_entry-code, length-entries_in, first_text-code, after_text-code, has_names-own}
 
@@ -168,6 +168,17 @@ module _ (test : Id → Bool) (base : ℕ) (names : List ℕ) (count i : ℕ) (x
   shown-left most all es es2 e f was =
       was ∙ ap (λ r. take most (es ++ r)) (shown-filter_left e) ∙ ap (λ r. take most (r ++ filter (λ e. test e.0) (entries_in base names (count - (i + 1)) next))) (sym f)
 
+  pub each_shown-taken : (fields : List Field) (all es es2 : List (Id × List Field)) → test x ≡ true → fields ≡ body_fields names (entry_body rest) → es2 ≡ es ++ (x, fields) ∷ []
+      → all ≡ es ++ filter (λ e. test e.0) (entries_in base names (count - i) rest)
+      → all ≡ es2 ++ filter (λ e. test e.0) (entries_in base names (count - (i + 1)) next)
+  each_shown-taken fields all es es2 e f g was = was ∙ ap (λ r. es ++ r) (shown-filter_taken fields e f) ∙ joined es es2 (x, fields) _ g
+
+  pub each_shown-left : (all es es2 : List (Id × List Field)) → test x ≡ false → es2 ≡ es
+      → all ≡ es ++ filter (λ e. test e.0) (entries_in base names (count - i) rest)
+      → all ≡ es2 ++ filter (λ e. test e.0) (entries_in base names (count - (i + 1)) next)
+  each_shown-left all es es2 e f was =
+      was ∙ ap (λ r. es ++ r) (shown-filter_left e) ∙ ap (λ r. r ++ filter (λ e. test e.0) (entries_in base names (count - (i + 1)) next)) (sym f)
+
   pub count-taken : test x ≡ true
       → length (filter (λ e. test e.0) (entries_in base names (count - i) rest)) ≡ suc (length (filter (λ e. test e.0) (entries_in base names (count - (i + 1)) next)))
   count-taken e =
@@ -181,8 +192,8 @@ module _ (test : Id → Bool) (base : ℕ) (names : List ℕ) (count i : ℕ) (x
       rw (left-step base names count i rest h, fails) (ap (λ r. length (filter (λ e. test e.0) (entries_in base names (count - (i + 1)) r))) (sym on))
 
 -- before the first one all are left
-pub at-start : (base count : ℕ) (bytes names rest : List ℕ) → names ≡ first_text bytes → rest ≡ after_text bytes → block_entries base count bytes ≡ entries_in base names (count - 0) rest
-at-start base count bytes names rest e f = let all : count - 0 ≡ count = omega arith in rw (e, f, all) refl
+pub at-start : (base count start : ℕ) (bytes names rest : List ℕ) → names ≡ first_text bytes → rest ≡ drop start bytes → block_entries base count start bytes ≡ entries_in base names (count - 0) rest
+at-start base count start bytes names rest e f = let all : count - 0 ≡ count = omega arith in rw (e, f, all) refl
 
 -- none is left of those that are passed
 pub none-left : (base : ℕ) (names : List ℕ) (count i : ℕ) (rest : List ℕ) → count ≤ i → entries_in base names (count - i) rest ≡ []
@@ -217,30 +228,32 @@ length-after_entries (suc i) bytes = omega (arith, length-after_entries i (after
 pub after_entries-one_less : (i : ℕ) (bytes : List ℕ) → length (after_entries (i + 1) bytes) ≤ length (after_entries i bytes)
 after_entries-one_less i bytes = rw (after_entries-more i bytes) (length-after_entry (after_entries i bytes))
 
-pub length-block_entries : (base count : ℕ) (bytes : List ℕ) → length (block_entries base count bytes) ≡ count
-length-block_entries base count bytes = length-entries_in base (first_text bytes) count (after_text bytes)
+pub length-block_entries : (base count start : ℕ) (bytes : List ℕ) → length (block_entries base count start bytes) ≡ count
+length-block_entries base count start bytes = length-entries_in base (first_text bytes) count (drop start bytes)
 
 -- ---- what is taken out
 
--- bytes that are the code of names and entries hold these
-module _ (base : ℕ) (names : List ℕ) (count : ℕ) (bytes : List ℕ) (es : List (Id × List Field)) (fits : base < 2 ^ 64) (e : bytes ≡ text_code names ++ entries_code base names es) (n : count ≡ length es) where
+-- bytes that are the code of names and, behind a gap, of entries hold these
+module _ (base : ℕ) (names gap : List ℕ) (count start : ℕ) (bytes : List ℕ) (es : List (Id × List Field)) (fits : base < 2 ^ 64) (e : bytes ≡ (text_code names ++ gap) ++ entries_code base names es) (from : start ≡ length (text_code names ++ gap)) (n : count ≡ length es) where
   own-names : first_text bytes ≡ names
-  own-names = ap first_text e ∙ first_text-code names (entries_code base names es)
+  own-names = ap first_text (e ∙ append_assoc (text_code names) gap (entries_code base names es)) ∙ first_text-code names (gap ++ entries_code base names es)
 
-  own-rest : after_text bytes ≡ entries_code base names es
-  own-rest = ap after_text e ∙ after_text-code names (entries_code base names es)
+  own-front : take start bytes ≡ text_code names ++ gap
+  own-front = rw (from, e) (take-append_seam (text_code names ++ gap) (entries_code base names es))
 
-  pub repacked : block_entries base count bytes ≡ es
+  own-rest : drop start bytes ≡ entries_code base names es
+  own-rest = rw (from, e) (drop-append_seam (text_code names ++ gap) (entries_code base names es))
+
+  pub repacked : block_entries base count start bytes ≡ es
   repacked = rw (own-names, own-rest, n) (entries_in-whole base names es fits)
 
-  pub repacked-packed : 0 < length es → IsPacked base count bytes
-  repacked-packed some = record {
+  pub repacked-packed : IsPacked base count start bytes
+  repacked-packed = record {
     base_fits = fits;
-    coded = e ∙ sym (coded es some) ∙ ap (block_code base names) (sym repacked) ∙ ap (λ ns. block_code base ns (block_entries base count bytes)) (sym own-names);
-  } where
-    coded : (fs : List (Id × List Field)) → 0 < length fs → block_code base names fs ≡ text_code names ++ entries_code base names fs
-    coded [] h = absurd (omega arith)
-    coded (f ∷ fs) h = refl
+    inside = omega (arith, from, ap length e, length-append (text_code names ++ gap) (entries_code base names es));
+    named = λ some. (gap, own-front ∙ ap (λ ns. text_code ns ++ gap) (sym own-names));
+    coded = own-rest ∙ ap (entries_code base names) (sym repacked) ∙ ap (λ ns. entries_code base ns (block_entries base count start bytes)) (sym own-names);
+  }
 
 left-code : (base : ℕ) (names : List ℕ) (es : List (Id × List Field)) (i : ℕ) → i ≤ length es → after_entries i (entries_code base names es) ≡ entries_code base names (drop i es)
 left-code base names es zero h = refl
@@ -260,68 +273,107 @@ drop-front a b c e =
     let n : length c - length b ≡ length a = omega (arith, ap length e, length-append a b) in
     rw (n, e) (drop-append_seam a b)
 
-module _ (base count : ℕ) (bytes : List ℕ) (packed : IsPacked base count bytes) (some : 0 < count) where
-  opened : bytes ≡ text_code (first_text bytes) ++ entries_code base (first_text bytes) (block_entries base count bytes)
-  opened = packed.coded ∙ by (block_entries base count bytes) (omega (arith, length-block_entries base count bytes)) where
-    by : (es : List (Id × List Field)) → 0 < length es → block_code base (first_text bytes) es ≡ text_code (first_text bytes) ++ entries_code base (first_text bytes) es
-    by [] h = absurd (omega arith)
-    by (e ∷ es) h = refl
+module _ (base count start : ℕ) (bytes : List ℕ) (packed : IsPacked base count start bytes) (some : 0 < count) where
+  -- what lies between the names and the entries
+  abbrev pub gap : List ℕ
+  gap = (packed.named some).0
 
-  rest-code : after_text bytes ≡ entries_code base (first_text bytes) (block_entries base count bytes)
-  rest-code = ap after_text opened ∙ after_text-code (first_text bytes) (entries_code base (first_text bytes) (block_entries base count bytes))
+  front : take start bytes ≡ text_code (first_text bytes) ++ gap
+  front = (packed.named some).1
 
-  left : (i : ℕ) → i ≤ count → after_entries i (after_text bytes) ≡ entries_code base (first_text bytes) (drop i (block_entries base count bytes))
-  left i h = ap (after_entries i) rest-code ∙ left-code base (first_text bytes) (block_entries base count bytes) i (omega (arith, length-block_entries base count bytes))
+  pub opened : bytes ≡ (text_code (first_text bytes) ++ gap) ++ entries_code base (first_text bytes) (block_entries base count start bytes)
+  opened =
+      sym (take-append-drop start bytes) ∙ ap (λ b. b ++ drop start bytes) front ∙ ap (λ b. (text_code (first_text bytes) ++ gap) ++ b) packed.coded
 
-  split : (i : ℕ) → i ≤ count → bytes ≡ (text_code (first_text bytes) ++ entries_code base (first_text bytes) (take i (block_entries base count bytes))) ++ after_entries i (after_text bytes)
+  pub begins : start ≡ length (text_code (first_text bytes) ++ gap)
+  begins = omega (arith, ap length front, length-take start bytes, packed.inside)
+
+  left : (i : ℕ) → i ≤ count → after_entries i (drop start bytes) ≡ entries_code base (first_text bytes) (drop i (block_entries base count start bytes))
+  left i h = ap (after_entries i) packed.coded ∙ left-code base (first_text bytes) (block_entries base count start bytes) i (omega (arith, length-block_entries base count start bytes))
+
+  split : (i : ℕ) → i ≤ count → bytes ≡ ((text_code (first_text bytes) ++ gap) ++ entries_code base (first_text bytes) (take i (block_entries base count start bytes))) ++ after_entries i (drop start bytes)
   split i h =
-      opened ∙ ap (λ b. text_code (first_text bytes) ++ b) (parts base (first_text bytes) (block_entries base count bytes) i ∙ ap (λ b. entries_code base (first_text bytes) (take i (block_entries base count bytes)) ++ b) (sym (left i h)))
-      ∙ sym (append_assoc (text_code (first_text bytes)) (entries_code base (first_text bytes) (take i (block_entries base count bytes))) (after_entries i (after_text bytes)))
+      let named = text_code (first_text bytes) ++ gap in
+      let es = block_entries base count start bytes in
+      opened ∙ ap (λ b. named ++ b) (parts base (first_text bytes) es i ∙ ap (λ b. entries_code base (first_text bytes) (take i es) ++ b) (sym (left i h)))
+      ∙ sym (append_assoc named (entries_code base (first_text bytes) (take i es)) (after_entries i (drop start bytes)))
 
   pub removed-code : (i : ℕ) → i < count
-      → remove_range bytes (length bytes - length (after_entries i (after_text bytes))) (length bytes - length (after_entries (i + 1) (after_text bytes)))
-      ≡ text_code (first_text bytes) ++ entries_code base (first_text bytes) (remove (block_entries base count bytes) i)
+      → remove_range bytes (length bytes - length (after_entries i (drop start bytes))) (length bytes - length (after_entries (i + 1) (drop start bytes)))
+      ≡ (text_code (first_text bytes) ++ gap) ++ entries_code base (first_text bytes) (remove (block_entries base count start bytes) i)
   removed-code i h =
-      let es = block_entries base count bytes in
+      let es = block_entries base count start bytes in
       let names = first_text bytes in
-      let front : take (length bytes - length (after_entries i (after_text bytes))) bytes ≡ text_code names ++ entries_code base names (take i es) = take-front _ _ bytes (split i (omega arith)) in
-      let back : drop (length bytes - length (after_entries (suc i) (after_text bytes))) bytes ≡ entries_code base names (drop (suc i) es) = drop-front _ _ bytes (split (suc i) (omega arith)) ∙ left (suc i) (omega arith) in
-      rw (add-one, front, back) (append_assoc (text_code names) (entries_code base names (take i es)) (entries_code base names (drop (suc i) es))
-      ∙ ap (λ b. text_code names ++ b) (sym (flat_map-append (λ (e : Id × List Field). entry_code base (has_names names e.1) e) (take i es) (drop (suc i) es))))
+      let before : take (length bytes - length (after_entries i (drop start bytes))) bytes ≡ (text_code names ++ gap) ++ entries_code base names (take i es) = take-front _ _ bytes (split i (omega arith)) in
+      let behind : drop (length bytes - length (after_entries (suc i) (drop start bytes))) bytes ≡ entries_code base names (drop (suc i) es) = drop-front _ _ bytes (split (suc i) (omega arith)) ∙ left (suc i) (omega arith) in
+      rw (add-one, before, behind) (append_assoc (text_code names ++ gap) (entries_code base names (take i es)) (entries_code base names (drop (suc i) es))
+      ∙ ap (λ b. (text_code names ++ gap) ++ b) (sym (flat_map-append (λ (e : Id × List Field). entry_code base (has_names names e.1) e) (take i es) (drop (suc i) es))))
 
-  pub dropped-code : (k : ℕ) → k ≤ count
-      → remove_range bytes (length bytes - length (after_text bytes)) (length bytes - length (after_entries k (after_text bytes)))
-      ≡ text_code (first_text bytes) ++ entries_code base (first_text bytes) (drop k (block_entries base count bytes))
+  -- where some entries are passed, their bytes belong to what lies between
+  abbrev pub wider : ℕ → List ℕ
+  wider k = gap ++ entries_code base (first_text bytes) (take k (block_entries base count start bytes))
+
+  pub dropped-code : (k : ℕ) → k ≤ count → bytes ≡ (text_code (first_text bytes) ++ wider k) ++ entries_code base (first_text bytes) (drop k (block_entries base count start bytes))
   dropped-code k h =
       let names = first_text bytes in
-      let front : take (length bytes - length (after_text bytes)) bytes ≡ text_code names ++ [] = take-front _ _ bytes (split 0 (omega arith)) in
-      let back : drop (length bytes - length (after_entries k (after_text bytes))) bytes ≡ entries_code base names (drop k (block_entries base count bytes)) = drop-front _ _ bytes (split k h) ∙ left k h in
-      rw (front, back) (ap (λ b. b ++ entries_code base names (drop k (block_entries base count bytes))) (append-nil (text_code names)))
+      let es = block_entries base count start bytes in
+      split k h ∙ ap (λ b. ((text_code names ++ gap) ++ entries_code base names (take k es)) ++ b) (left k h)
+      ∙ ap (λ b. b ++ entries_code base names (drop k es)) (append_assoc (text_code names) gap (entries_code base names (take k es)))
+
+  pub dropped-begins : (k : ℕ) → k ≤ count → length bytes - length (after_entries k (drop start bytes)) ≡ length (text_code (first_text bytes) ++ wider k)
+  dropped-begins k h =
+      let names = first_text bytes in
+      let es = block_entries base count start bytes in
+      let behind = after_entries k (drop start bytes) in
+      omega (arith, ap length (split k h), length-append ((text_code names ++ gap) ++ entries_code base names (take k es)) behind, ap length (append_assoc (text_code names) gap (entries_code base names (take k es))))
+
+  whole : bytes ≡ text_code (first_text bytes) ++ after_text bytes
+  whole =
+      let names = first_text bytes in
+      let behind = gap ++ entries_code base names (block_entries base count start bytes) in
+      let parted : bytes ≡ text_code names ++ behind = opened ∙ append_assoc (text_code names) gap (entries_code base names (block_entries base count start bytes)) in
+      parted ∙ ap (λ b. text_code names ++ b) (sym (ap after_text parted ∙ after_text-code names behind))
+
+  pub named-up_to : length bytes - length (after_text bytes) ≤ start
+  named-up_to =
+      omega (arith, begins, length-append (text_code (first_text bytes)) gap, ap length whole, length-append (text_code (first_text bytes)) (after_text bytes))
+
+  pub tidied-code : remove_range bytes (length bytes - length (after_text bytes)) start
+      ≡ (text_code (first_text bytes) ++ []) ++ entries_code base (first_text bytes) (block_entries base count start bytes)
+  tidied-code =
+      let names = first_text bytes in
+      let before : take (length bytes - length (after_text bytes)) bytes ≡ text_code names = take-front _ _ bytes whole in
+      rw (before, append-nil) (ap (λ b. text_code names ++ b) packed.coded)
+
+  pub tidied-begins : length bytes - length (after_text bytes) ≡ length (text_code (first_text bytes) ++ [])
+  tidied-begins = omega (arith, ap length (append-nil (text_code (first_text bytes))), ap length whole, length-append (text_code (first_text bytes)) (after_text bytes))
 
   pub pushed-code : (entry : Id × List Field) → bytes ++ entry_code base (has_names (first_text bytes) entry.1) entry
-      ≡ text_code (first_text bytes) ++ entries_code base (first_text bytes) (block_entries base count bytes ++ entry ∷ [])
+      ≡ (text_code (first_text bytes) ++ gap) ++ entries_code base (first_text bytes) (block_entries base count start bytes ++ entry ∷ [])
   pushed-code entry =
       let names = first_text bytes in
-      let es = block_entries base count bytes in
-      rw (flat_map-append, append-nil) (ap (λ b. b ++ entry_code base (has_names names entry.1) entry) opened ∙ append_assoc (text_code names) (entries_code base names es) (entry_code base (has_names names entry.1) entry))
+      let es = block_entries base count start bytes in
+      rw (flat_map-append, append-nil) (ap (λ b. b ++ entry_code base (has_names names entry.1) entry) opened ∙ append_assoc (text_code names ++ gap) (entries_code base names es) (entry_code base (has_names names entry.1) entry))
 
-  pub length-dropped : (k : ℕ) → count - k ≡ length (drop k (block_entries base count bytes))
-  length-dropped k = omega (arith, length-drop k (block_entries base count bytes), length-block_entries base count bytes)
+  pub length-dropped : (k : ℕ) → count - k ≡ length (drop k (block_entries base count start bytes))
+  length-dropped k = omega (arith, length-drop k (block_entries base count start bytes), length-block_entries base count start bytes)
 
-  pub length-pushed : (entry : Id × List Field) → count + 1 ≡ length (block_entries base count bytes ++ entry ∷ [])
-  length-pushed entry = omega (arith, length-append (block_entries base count bytes) (entry ∷ []), length-block_entries base count bytes)
+  pub length-pushed : (entry : Id × List Field) → count + 1 ≡ length (block_entries base count start bytes ++ entry ∷ [])
+  length-pushed entry = omega (arith, length-append (block_entries base count start bytes) (entry ∷ []), length-block_entries base count start bytes)
 
-  pub length-removed : (i : ℕ) → i < count → count - 1 ≡ length (remove (block_entries base count bytes) i)
+  pub length-removed : (i : ℕ) → i < count → count - 1 ≡ length (remove (block_entries base count start bytes) i)
   length-removed i h =
-      let es = block_entries base count bytes in
-      omega (arith, length-append (take i es) (drop (suc i) es), length-drop (suc i) es, length-take i es, length-block_entries base count bytes)
+      let es = block_entries base count start bytes in
+      omega (arith, length-append (take i es) (drop (suc i) es), length-drop (suc i) es, length-take i es, length-block_entries base count start bytes)
 
 -- the first entry of a block, behind its names
 pub first-code : (entry : Id × List Field) (old bytes : List ℕ) → old ≡ [] → bytes ≡ old ++ (text_code (names_code entry.1) ++ entry_code entry.0.ms true entry)
-    → bytes ≡ text_code (names_code entry.1) ++ entries_code entry.0.ms (names_code entry.1) (entry ∷ [])
+    → bytes ≡ (text_code (names_code entry.1) ++ []) ++ entries_code entry.0.ms (names_code entry.1) (entry ∷ [])
 first-code entry old bytes none e =
-    e ∙ ap (λ b. b ++ (text_code (names_code entry.1) ++ entry_code entry.0.ms true entry)) none
-    ∙ ap (λ t. text_code (names_code entry.1) ++ entry_code entry.0.ms t entry) (sym (has_names-own entry.1)) ∙ ap (λ b. text_code (names_code entry.1) ++ b) (sym (append-nil (entry_code entry.0.ms (has_names (names_code entry.1) entry.1) entry)))
+    let names = names_code entry.1 in
+    e ∙ ap (λ b. b ++ (text_code names ++ entry_code entry.0.ms true entry)) none
+    ∙ ap (λ t. text_code names ++ entry_code entry.0.ms t entry) (sym (has_names-own entry.1)) ∙ ap (λ b. text_code names ++ b) (sym (append-nil (entry_code entry.0.ms (has_names names entry.1) entry)))
+    ∙ ap (λ b. b ++ entries_code entry.0.ms names (entry ∷ [])) (sym (append-nil (text_code names)))
 
 -- nothing is removed that isn't found
 pub remove-absent : (id : Id) (es : List (Id × List Field)) → is_some (fields_at es id) ≡ false → remove_entry (is_same id) es ≡ es

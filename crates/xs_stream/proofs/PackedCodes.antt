@@ -207,6 +207,18 @@ first_ms-bytes base (x ∷ rest) h =
     let e : eqb x 257 ≡ false = grind (arith, nat_tests) in
     rw e refl
 
+-- an id both of whose numbers take one byte
+pub short-id : (base : ℕ) (bytes : List ℕ) (above seq : ℕ) → 2 ≤ length bytes → above ≡ get_or bytes 0 0 → seq ≡ get_or bytes 1 0 → get_or bytes 0 0 < 253 → get_or bytes 1 0 < 253
+    → record { ms = (base + above) % 2 ^ 64; seq = seq } ≡ entry_id base bytes
+unfolding entry_id first_ms first_number after_number
+short-id base [] above seq h e f m s = absurd (omega arith)
+short-id base (x ∷ []) above seq h e f m s = absurd (omega arith)
+short-id base (x ∷ (y ∷ rest)) above seq h e f m s =
+    let mark : eqb x 257 ≡ false = grind (arith, nat_tests) in
+    let first : ltb x 253 ≡ true = grind (arith, nat_tests) in
+    let second : ltb y 253 ≡ true = grind (arith, nat_tests) in
+    rw (mark, first, second, e, f) refl
+
 -- ---- what is written one after the other
 
 pub flat_map-more : (code : Field → List ℕ) (fields : List Field) (i : ℕ) (d : Field) → i < length fields → flat_map code (take (i + 1) fields) ≡ flat_map code (take i fields) ++ code (get_or fields i d)

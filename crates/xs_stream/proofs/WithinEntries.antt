@@ -13,7 +13,7 @@ use Rattle.xs_stream.specs.Id.{id_cmp, is_below}
 use Rattle.xs_stream.specs.Kept.{ids_of, AllAbove, AllUpTo, is_within}
 use Rattle.xs_stream.specs.Blocks.{listed, AreFiled, end_under, end_at}
 use Rattle.xs_stream.proofs.Order.{below-irrefl, below-not_back, up_to-below, below-not_below, not_above-trans, le-not_below}
-use Rattle.xs_stream.proofs.InOrder.{and_yes}
+use Rattle.xs_stream.proofs.InOrder.{and_yes, not_within}
 use Rattle.xs_stream.proofs.Filing.{entry-of_key, entry-passes}
 use Rattle.xs_stream.proofs.WithinBlocks.{above-some, not_true, take-take_append, listed-push}
 
@@ -29,6 +29,11 @@ within range es = filter (λ e. is_within range e.0) es
 
 pub within-append : (range : Range) (es fs : Entries) → within range (es ++ fs) ≡ within range es ++ within range fs
 within-append range es fs = filter-append (λ (e : Id × List Field). is_within range e.0) es fs
+
+-- nothing is within a range whose ends stand the other way
+pub within-none : (range : Range) → is_below range.high range.low ≡ true → (es : Entries) → within range es ≡ []
+within-none range h [] = refl
+within-none range h (e ∷ es) = rw (not_within range h e.0) (within-none range h es)
 
 module _ (range : Range) where
   -- none of those up to an id below the low end is within

@@ -67,7 +67,13 @@ ids_within range reversed entries =
     let ids = filter (is_within range) (ids_of entries) in
     if reversed then reverse ids else ids
 
--- the entries within a range, in their order, at most so many
-abbrev pub entries_within : Range → Option ℕ → List (Id × List Field) → List (Id × List Field)
-entries_within range None entries = filter (λ e. is_within range e.0) entries
-entries_within range (Some n) entries = take n (filter (λ e. is_within range e.0) entries)
+-- the entries within a range, in their order or from the greatest id down
+abbrev pub all_within : Range → Bool → List (Id × List Field) → List (Id × List Field)
+all_within range reversed entries =
+    let within = filter (λ e. is_within range e.0) entries in
+    if reversed then reverse within else within
+
+-- at most so many of them
+abbrev pub entries_within : Range → Bool → Option ℕ → List (Id × List Field) → List (Id × List Field)
+entries_within range reversed None entries = all_within range reversed entries
+entries_within range reversed (Some n) entries = take n (all_within range reversed entries)

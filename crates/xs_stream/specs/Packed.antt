@@ -1,6 +1,6 @@
 -- Entries after one another in bytes. An id's milliseconds stand as how far they are above a base, and the fields
 -- stand after their length, so that they can be passed over. Names that a block has once aren't repeated.
-use Rattle.std.specs.Prelude.{◌≡◌, ℕ, zero, suc, ◌+◌, ◌-◌, ◌%◌, ◌^◌, ◌<◌, ◌==◌, ◌&&◌, Bool, true, false, List, [], ◌∷◌, ◌++◌, length, drop, nat_lt, if◌then◌else◌}
+use Rattle.std.specs.Prelude.{◌≡◌, ℕ, zero, suc, ◌+◌, ◌-◌, ◌%◌, ◌^◌, ◌<◌, ◌==◌, ◌&&◌, Bool, true, false, List, [], ◌∷◌, ◌++◌, ◌≤◌, length, take, drop, nat_lt, if◌then◌else◌}
 use Rattle.std.specs.List.{flat_map}
 use Rattle.std.specs.Str.{bytes_eq}
 use Rattle.xs_stream.specs.declared.id.Id.{Id}
@@ -93,15 +93,17 @@ after_entries (suc count) bytes = after_entries count (after_entry bytes)
 
 -- ---- a block
 
--- the names of its first entry, and its entries. Without entries there is nothing
-abbrev pub block_code : ℕ → List ℕ → List (Id × List Field) → List ℕ
-block_code base names [] = []
-block_code base names (e ∷ es) = text_code names ++ entries_code base names (e ∷ es)
+-- this many entries from a place on, behind the names that they share
+abbrev pub block_entries : ℕ → ℕ → ℕ → List ℕ → List (Id × List Field)
+block_entries base count start bytes = entries_in base (first_text bytes) count (drop start bytes)
 
-abbrev pub block_entries : ℕ → ℕ → List ℕ → List (Id × List Field)
-block_entries base count bytes = entries_in base (first_text bytes) count (after_text bytes)
+-- the bytes begin with a text
+abbrev pub BeginsWithText : List ℕ → List ℕ → Type 0
+BeginsWithText text bytes = (behind : List ℕ) × (bytes ≡ text_code text ++ behind)
 
--- the bytes are those of the entries that are read of them
-pub record IsPacked (base count : ℕ) (bytes : List ℕ) : Type 0 where
+-- the names stand first, and from a place on the entries that are read there, and nothing else
+pub record IsPacked (base count start : ℕ) (bytes : List ℕ) : Type 0 where
   pub base_fits : base < 2 ^ 64
-  pub coded : bytes ≡ block_code base (first_text bytes) (block_entries base count bytes)
+  pub inside : start ≤ length bytes
+  pub named : 0 < count → BeginsWithText (first_text bytes) (take start bytes)
+  pub coded : drop start bytes ≡ entries_code base (first_text bytes) (block_entries base count start bytes)

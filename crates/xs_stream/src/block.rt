@@ -1,12 +1,13 @@
 //! A block: entries that stand next to each other in a stream, packed into bytes.
-ghost use Rattle.std.specs.Prelude.{◌≡◌, ◌+◌, ◌-◌, ◌<◌, ◌≤◌, ◌==◌, ◌++◌, ◌∷◌, [], true, false, if◌then◌else◌, IfSome, OnOk, OnErr};
+ghost use Rattle.std.specs.Prelude.{◌≡◌, ◌+◌, ◌-◌, ◌<◌, ◌≤◌, ◌==◌, ◌++◌, ◌∷◌, [], true, false, if◌then◌else◌, IfSome, OnOk, OnErr, IfOk};
 ghost use Rattle.std.specs.Prelude.{length, filter, take, drop, reverse, vec_len};
 ghost use Rattle.std.specs.List.{remove, remove_range};
 ghost use Rattle.std.specs.Map.{remove_entry};
 ghost use Rattle.std.specs.Option.{is_some};
 ghost use Rattle.xs_stream.specs.Id.{is_same, is_below};
 ghost use Rattle.xs_stream.specs.Kept.{is_within, ids_of, fields_at};
-ghost use Rattle.xs_stream.specs.Packed.{names_code, has_names, entry_code, after_entries, block_entries};
+ghost use Rattle.std.specs.List.{flat_map};
+ghost use Rattle.xs_stream.specs.Packed.{names_code, has_names, field_code, entry_code, after_entries, block_entries};
 ghost use Rattle.xs_stream.specs.PackedText.{text_code, first_text, after_text};
 
 use crate::entry::Entry;
@@ -14,6 +15,7 @@ use crate::field::Field;
 use crate::id::Id;
 use crate::packed::entry::{has_names, push_entry, push_names, read_entry};
 use crate::packed::fields::PackedFields;
+use crate::packed::number::after;
 use crate::packed::text::read_text;
 use crate::range::Range;
 use std::alloc::{AllocError, Global};
@@ -25,6 +27,9 @@ const MOST_ENTRIES: usize = 128;
 /// How many bytes a block of many small entries has room for.
 const ROOM: usize = 2048;
 
+/// How many bytes an entry mostly takes beside its values.
+const NUMBERS: u64 = 12;
+
 /// Entries that stand next to each other in a stream, in the order of their ids. A contract sees the list of them.
 #[derive(Drop)]
 pub(crate) struct Block {
@@ -32,7 +37,9 @@ pub(crate) struct Block {
     base: u64,
     /// How many entries there are.
     count: usize,
-    /// The names of its first entry, and then the entries.
+    /// Where the entries begin. Bytes of entries that are gone may lie before it, behind the names.
+    start: usize,
+    /// The names of the entry that was the first, and then the entries.
     bytes: Vec<u8>,
 }
 
@@ -44,9 +51,9 @@ impl Model for Block {
 
     ghost Value = { List (Id × List Field) };
 
-    ghost view = { λ block. block_entries block.base block.count block.bytes.items };
+    ghost view = { λ block. block_entries block.base block.count block.start block.bytes.items };
 
-    ghost invariant = { λ block. IsPacked block.base block.count block.bytes.items };
+    ghost invariant = { λ block. IsPacked block.base block.count block.start block.bytes.items };
 }
 
 impl Block {
@@ -57,20 +64,8 @@ impl Block {
         Self {
             base: 0,
             count: 0,
+            start: 0,
             bytes: Vec::new(alloc),
-        }
-    }
-
-    /// A block of no entries, with all the memory that many small ones take, where there is so much.
-    pub(crate) fn with_room(alloc: Global) -> Self
-        ensures { result ≡ [] }
-    {
-        let mut bytes = Vec::new(alloc);
-        let _ = bytes.reserve_exact(ROOM);
-        Self {
-            base: 0,
-            count: 0,
-            bytes,
         }
     }
 
@@ -88,8 +83,8 @@ impl Block {
         self.count == 0
     }
 
-    /// Whether another entry belongs here. An empty block has room for each.
-    pub(crate) fn has_room(&self, fields: &[Field]) -> bool
+    /// Whether another entry belongs here, whose values take so many bytes. An empty block has room for each.
+    pub(crate) fn has_room(&self, values: u64) -> bool
         ensures room { result ≡ true → length self.now < 128 }
         ensures some { result ≡ false → 0 < length self.now }
     {
@@ -99,7 +94,8 @@ impl Block {
         if self.count >= MOST_ENTRIES {
             return false;
         }
-        weight(fields) <= room_beside(self.count).saturating_sub(self.bytes.len())
+        let left = room_beside(self.count).saturating_sub(self.bytes.len());
+        values.saturating_add(NUMBERS) <= left as u64
     }
 
     /// Gives back the memory that no entry takes.
@@ -109,30 +105,34 @@ impl Block {
         self.bytes.shrink_to_fit();
     }
 
-    /// Puts an entry behind the others.
-    pub(crate) fn push(&mut self, id: Id, fields: &[Field]) -> Result<(), AllocError>
-        requires { length self.old < 128 }
+    /// Puts an entry behind the others, whose values take so many bytes.
+    pub(crate) fn push(&mut self, id: Id, values: u64, fields: &[Field]) -> Result<(), AllocError>
+        requires room { length self.old < 128 }
+        requires values { values ≡ length (flat_map (field_code true) fields.now) }
         ensures ok { OnOk result (self.new ≡ self.old ++ (id, fields.now) ∷ []) }
         ensures err { OnErr result (self.new ≡ self.old) }
     {
         if self.count == 0 {
-            self.begin(id, fields)
+            self.begin(id, values, fields)
         } else {
-            self.append(id, fields)
+            self.append(id, values, fields)
         }
     }
 
     /// Puts the first entry in, and its names before it.
-    fn begin(&mut self, id: Id, fields: &[Field]) -> Result<(), AllocError>
-        requires { self.old ≡ [] }
+    fn begin(&mut self, id: Id, values: u64, fields: &[Field]) -> Result<(), AllocError>
+        requires none { self.old ≡ [] }
+        requires values { values ≡ length (flat_map (field_code true) fields.now) }
         ensures ok { OnOk result (self.new ≡ (id, fields.now) ∷ []) }
         ensures err { OnErr result (self.new ≡ []) }
     {
         self.base = id.ms;
         self.count = 0;
+        self.start = 0;
         self.bytes.clear();
-        match push_first(&mut self.bytes, id, fields) {
-            Ok(()) => {
+        match push_first(&mut self.bytes, id, values, fields) {
+            Ok(start) => {
+                self.start = start;
                 self.count = 1;
                 Ok(())
             }
@@ -144,15 +144,16 @@ impl Block {
     }
 
     /// Puts an entry behind others.
-    fn append(&mut self, id: Id, fields: &[Field]) -> Result<(), AllocError>
+    fn append(&mut self, id: Id, values: u64, fields: &[Field]) -> Result<(), AllocError>
         requires room { length self.old < 128 }
         requires some { 0 < length self.old }
+        requires values { values ≡ length (flat_map (field_code true) fields.now) }
         ensures ok { OnOk result (self.new ≡ self.old ++ (id, fields.now) ∷ []) }
         ensures err { OnErr result (self.new ≡ self.old) }
     {
         let before = self.bytes.len();
         let shared = shares(self.bytes.as_slice(), fields);
-        match push_entry(&mut self.bytes, self.base, shared, id, fields) {
+        match push_entry(&mut self.bytes, self.base, shared, id, values, fields) {
             Ok(()) => {
                 self.count += 1;
                 Ok(())
@@ -168,7 +169,7 @@ impl Block {
     pub(crate) fn get(&self, id: Id) -> Option<PackedFields<'_>>
         ensures { result ≡ fields_at self.now id }
     {
-        fields_of(self.base, self.count, self.bytes.as_slice(), id)
+        fields_of(self.base, self.count, self.start, self.bytes.as_slice(), id)
     }
 
     /// Takes the entry with this id out, and says whether there was one.
@@ -176,14 +177,19 @@ impl Block {
         ensures entries { self.new ≡ remove_entry (is_same id) self.old }
         ensures count { length self.new + (if result then 1 else 0) ≡ length self.old }
     {
-        let Some(place) = place_of(self.base, self.count, self.bytes.as_slice(), id) else {
+        let bytes = self.bytes.as_slice();
+        let Some(place) = place_of(self.base, self.count, self.start, bytes, id) else {
             return false;
         };
         if self.count == 1 {
             self.clear();
             return true;
         }
-        cut(&mut self.bytes, place.start, place.end);
+        if place.index == 0 {
+            self.drop_some(1);
+            return true;
+        }
+        cut(&mut self.bytes, place.from, place.to);
         self.count -= 1;
         true
     }
@@ -193,6 +199,7 @@ impl Block {
         ensures { self.new ≡ [] }
     {
         self.count = 0;
+        self.start = 0;
         self.bytes.clear();
     }
 
@@ -213,18 +220,36 @@ impl Block {
         ensures { self.new ≡ drop count self.old }
     {
         let bytes = self.bytes.as_slice();
-        let (_, entries) = read_text(bytes);
-        let start = bytes.len() - entries.len();
-        let end = bytes.len() - after_some(self.base, entries, count).len();
-        cut(&mut self.bytes, start, end);
+        let left = after_some(self.base, after(bytes, self.start), count);
+        self.start = bytes.len() - left.len();
         self.count -= count;
+        self.tidy();
+    }
+
+    /// Cuts out what lies between the names and the entries, once it is more than a quarter. So each byte moves few times
+    /// in all, whether entries go one by one or many at once.
+    fn tidy(&mut self)
+        requires { 0 < length self.old }
+        ensures { self.new ≡ self.old }
+    {
+        let end = names_end(self.bytes.as_slice());
+        if self.start - end > self.bytes.len() / 4 {
+            cut(&mut self.bytes, end, self.start);
+            self.start = end;
+        }
     }
 
     /// How many of its entries have ids below this one.
     pub(crate) fn count_below(&self, low: Id) -> usize
         ensures { result ≡ length (filter (λ e. is_below e.0 low) self.now) }
     {
-        below(self.base, self.count, self.bytes.as_slice(), low)
+        below(
+            self.base,
+            self.count,
+            self.start,
+            self.bytes.as_slice(),
+            low,
+        )
     }
 
     /// Appends the ids within a range, in their order, as long as there are fewer than `most` in all.
@@ -241,6 +266,7 @@ impl Block {
         push_ids(
             self.base,
             self.count,
+            self.start,
             self.bytes.as_slice(),
             ids,
             range,
@@ -262,6 +288,7 @@ impl Block {
         push_entries(
             self.base,
             self.count,
+            self.start,
             self.bytes.as_slice(),
             shown,
             range,
@@ -281,9 +308,41 @@ impl Block {
             ≡ take most (ids.old.items ++ reverse (filter (is_within range) (ids_of self.now)))) }
     {
         let from = ids.len();
-        push_all_ids(self.base, self.count, self.bytes.as_slice(), ids, range)?;
-        turn(ids, from);
+        push_all_ids(
+            self.base,
+            self.count,
+            self.start,
+            self.bytes.as_slice(),
+            ids,
+            range,
+        )?;
+        reverse_from(ids, from);
         ids.truncate(most as usize);
+        Ok(())
+    }
+
+    /// Appends the entries within a range, from the last one down, as long as there are fewer than `most` in all.
+    pub(crate) fn push_entries_down<'a>(
+        &'a self,
+        shown: &mut Vec<Entry<'a>>,
+        range: Range,
+        most: u64,
+    ) -> Result<(), AllocError>
+        requires { length shown.old.items ≤ most }
+        ensures { OnOk result (shown.new.items
+            ≡ take most (shown.old.items ++ reverse (filter (λ e. is_within range e.0) self.now))) }
+    {
+        let from = shown.len();
+        push_all_entries(
+            self.base,
+            self.count,
+            self.start,
+            self.bytes.as_slice(),
+            shown,
+            range,
+        )?;
+        reverse_from(shown, from);
+        shown.truncate(most as usize);
         Ok(())
     }
 }
@@ -292,8 +351,8 @@ impl Block {
 #[derive(Drop)]
 struct Place {
     index: usize,
-    start: usize,
-    end: usize,
+    from: usize,
+    to: usize,
 }
 
 /// How many bytes a block with this many entries has room for. Few great ones share what each block costs, and among
@@ -308,15 +367,6 @@ fn room_beside(count: usize) -> usize {
     ROOM
 }
 
-/// How many bytes an entry with these fields mostly takes, with names that its block has.
-fn weight(fields: &[Field]) -> usize {
-    let mut weight = 12usize;
-    for field in fields {
-        weight = weight.saturating_add(field.value.len().saturating_add(1));
-    }
-    weight
-}
-
 /// Whether fields have the names that bytes begin with.
 fn shares(bytes: &[u8], fields: &[Field]) -> bool
     ensures { result ≡ has_names (first_text bytes.now) fields.now }
@@ -325,25 +375,47 @@ fn shares(bytes: &[u8], fields: &[Field]) -> bool
     has_names(names, fields)
 }
 
-/// Appends the names of an entry, and then the entry. A refusal may leave a part behind.
-fn push_first(bytes: &mut Vec<u8>, id: Id, fields: &[Field]) -> Result<(), AllocError>
-    ensures { OnOk result (bytes.new.items ≡ bytes.old.items
+/// Appends the names of an entry, and then the entry, and says where that begins. A refusal may leave a part behind.
+fn push_first(
+    bytes: &mut Vec<u8>,
+    id: Id,
+    values: u64,
+    fields: &[Field],
+) -> Result<usize, AllocError>
+    requires { values ≡ length (flat_map (field_code true) fields.now) }
+    ensures bytes { OnOk result (bytes.new.items ≡ bytes.old.items
         ++ (text_code (names_code fields.now) ++ entry_code id.ms true (id, fields.now))) }
+    ensures start { IfOk result (λ start. start ≡ length bytes.old.items + length (text_code (names_code fields.now))) }
 {
     push_names(bytes, fields)?;
-    push_entry(bytes, id.ms, true, id, fields)?;
-    Ok(())
+    let start = bytes.len();
+    push_entry(bytes, id.ms, true, id, values, fields)?;
+    Ok(start)
+}
+
+/// Where the names end that bytes begin with.
+fn names_end(bytes: &[u8]) -> usize
+    ensures { result ≡ length bytes.now - length (after_text bytes.now) }
+{
+    let (_, behind) = read_text(bytes);
+    bytes.len() - behind.len()
 }
 
 /// The fields of an entry.
-fn fields_of<'a>(base: u64, count: usize, bytes: &'a [u8], id: Id) -> Option<PackedFields<'a>>
-    ensures { result ≡ fields_at (block_entries base count bytes.now) id }
+fn fields_of<'a>(
+    base: u64,
+    count: usize,
+    start: usize,
+    bytes: &'a [u8],
+    id: Id,
+) -> Option<PackedFields<'a>>
+    ensures { result ≡ fields_at (block_entries base count start bytes.now) id }
 {
-    let (names, entries) = read_text(bytes);
-    let mut rest = entries;
+    let mut rest = after(bytes, start);
     for _ in 0..count {
         let entry = read_entry(base, rest);
         if entry.id == id {
+            let (names, _) = read_text(bytes);
             return Some(PackedFields::new(names, entry.body));
         }
         rest = entry.rest;
@@ -352,11 +424,10 @@ fn fields_of<'a>(base: u64, count: usize, bytes: &'a [u8], id: Id) -> Option<Pac
 }
 
 /// How many entries have ids below this one.
-fn below(base: u64, count: usize, bytes: &[u8], low: Id) -> usize
-    ensures { result ≡ length (filter (λ e. is_below e.0 low) (block_entries base count bytes.now)) }
+fn below(base: u64, count: usize, start: usize, bytes: &[u8], low: Id) -> usize
+    ensures { result ≡ length (filter (λ e. is_below e.0 low) (block_entries base count start bytes.now)) }
 {
-    let (_, entries) = read_text(bytes);
-    let mut rest = entries;
+    let mut rest = after(bytes, start);
     let mut below = 0;
     for _ in 0..count {
         let entry = read_entry(base, rest);
@@ -372,6 +443,7 @@ fn below(base: u64, count: usize, bytes: &[u8], low: Id) -> usize
 fn push_ids(
     base: u64,
     count: usize,
+    start: usize,
     bytes: &[u8],
     ids: &mut Vec<Id>,
     range: Range,
@@ -379,10 +451,9 @@ fn push_ids(
 ) -> Result<(), AllocError>
     requires { length ids.old.items ≤ most }
     ensures { OnOk result (ids.new.items
-        ≡ take most (ids.old.items ++ filter (is_within range) (ids_of (block_entries base count bytes.now)))) }
+        ≡ take most (ids.old.items ++ filter (is_within range) (ids_of (block_entries base count start bytes.now)))) }
 {
-    let (_, entries) = read_text(bytes);
-    let mut rest = entries;
+    let mut rest = after(bytes, start);
     for _ in 0..count {
         if ids.len() as u64 >= most {
             return Ok(());
@@ -400,15 +471,15 @@ fn push_ids(
 fn push_all_ids(
     base: u64,
     count: usize,
+    start: usize,
     bytes: &[u8],
     ids: &mut Vec<Id>,
     range: Range,
 ) -> Result<(), AllocError>
     ensures { OnOk result (ids.new.items
-        ≡ ids.old.items ++ filter (is_within range) (ids_of (block_entries base count bytes.now))) }
+        ≡ ids.old.items ++ filter (is_within range) (ids_of (block_entries base count start bytes.now))) }
 {
-    let (_, entries) = read_text(bytes);
-    let mut rest = entries;
+    let mut rest = after(bytes, start);
     for _ in 0..count {
         let entry = read_entry(base, rest);
         if range.contains(entry.id) {
@@ -423,6 +494,7 @@ fn push_all_ids(
 fn push_entries<'a>(
     base: u64,
     count: usize,
+    start: usize,
     bytes: &'a [u8],
     shown: &mut Vec<Entry<'a>>,
     range: Range,
@@ -430,10 +502,10 @@ fn push_entries<'a>(
 ) -> Result<(), AllocError>
     requires { length shown.old.items ≤ most }
     ensures { OnOk result (shown.new.items
-        ≡ take most (shown.old.items ++ filter (λ e. is_within range e.0) (block_entries base count bytes.now))) }
+        ≡ take most (shown.old.items ++ filter (λ e. is_within range e.0) (block_entries base count start bytes.now))) }
 {
-    let (names, entries) = read_text(bytes);
-    let mut rest = entries;
+    let (names, _) = read_text(bytes);
+    let mut rest = after(bytes, start);
     for _ in 0..count {
         if shown.len() as u64 >= most {
             return Ok(());
@@ -447,12 +519,36 @@ fn push_entries<'a>(
     Ok(())
 }
 
-/// Turns the order of the last ids.
-fn turn(ids: &mut Vec<Id>, from: usize)
-    requires { from ≤ vec_len ids.old }
-    ensures { ids.new.items ≡ take from ids.old.items ++ reverse (drop from ids.old.items) }
+/// Appends the entries within a range.
+fn push_all_entries<'a>(
+    base: u64,
+    count: usize,
+    start: usize,
+    bytes: &'a [u8],
+    shown: &mut Vec<Entry<'a>>,
+    range: Range,
+) -> Result<(), AllocError>
+    ensures { OnOk result (shown.new.items
+        ≡ shown.old.items ++ filter (λ e. is_within range e.0) (block_entries base count start bytes.now)) }
 {
-    let (_, last) = ids.as_mut_slice().split_at_mut(from);
+    let (names, _) = read_text(bytes);
+    let mut rest = after(bytes, start);
+    for _ in 0..count {
+        let entry = read_entry(base, rest);
+        if range.contains(entry.id) {
+            shown.push(Entry::new(entry.id, PackedFields::new(names, entry.body)))?;
+        }
+        rest = entry.rest;
+    }
+    Ok(())
+}
+
+/// Turns the order of the items from a place on.
+fn reverse_from<T>(items: &mut Vec<T>, from: usize)
+    requires { from ≤ vec_len items.old }
+    ensures { items.new.items ≡ take from items.old.items ++ reverse (drop from items.old.items) }
+{
+    let (_, last) = items.as_mut_slice().split_at_mut(from);
     last.reverse();
 }
 
@@ -468,24 +564,23 @@ fn after_some(base: u64, bytes: &[u8], count: usize) -> &[u8]
 }
 
 /// Where the first entry with this id stands.
-fn place_of(base: u64, count: usize, bytes: &[u8], id: Id) -> Option<Place>
+fn place_of(base: u64, count: usize, start: usize, bytes: &[u8], id: Id) -> Option<Place>
     ensures index { IfSome result (λ p. p.index < count) }
-    ensures start { IfSome result (λ p. p.start
-        ≡ length bytes.now - length (after_entries p.index (after_text bytes.now))) }
-    ensures end { IfSome result (λ p. p.end
-        ≡ length bytes.now - length (after_entries (p.index + 1) (after_text bytes.now))) }
-    ensures removed { IfSome result (λ p. remove_entry (is_same id) (block_entries base count bytes.now)
-        ≡ remove (block_entries base count bytes.now) p.index) }
-    ensures found { is_some result ≡ is_some (fields_at (block_entries base count bytes.now) id) }
+    ensures from { IfSome result (λ p. p.from
+        ≡ length bytes.now - length (after_entries p.index (drop start bytes.now))) }
+    ensures to { IfSome result (λ p. p.to
+        ≡ length bytes.now - length (after_entries (p.index + 1) (drop start bytes.now))) }
+    ensures removed { IfSome result (λ p. remove_entry (is_same id) (block_entries base count start bytes.now)
+        ≡ remove (block_entries base count start bytes.now) p.index) }
+    ensures found { is_some result ≡ is_some (fields_at (block_entries base count start bytes.now) id) }
 {
-    let (_, entries) = read_text(bytes);
-    let mut rest = entries;
+    let mut rest = after(bytes, start);
     for index in 0..count {
         let entry = read_entry(base, rest);
         if entry.id == id {
-            let start = bytes.len() - rest.len();
-            let end = bytes.len() - entry.rest.len();
-            return Some(Place { index, start, end });
+            let from = bytes.len() - rest.len();
+            let to = bytes.len() - entry.rest.len();
+            return Some(Place { index, from, to });
         }
         rest = entry.rest;
     }
@@ -493,13 +588,45 @@ fn place_of(base: u64, count: usize, bytes: &[u8], id: Id) -> Option<Place>
 }
 
 /// Takes a part out, and gives memory back where less than half of it is left.
-fn cut(bytes: &mut Vec<u8>, start: usize, end: usize)
-    requires forward { start ≤ end }
-    requires inside { end ≤ vec_len bytes.old }
-    ensures { bytes.new.items ≡ remove_range bytes.old.items start end }
+fn cut(bytes: &mut Vec<u8>, from: usize, to: usize)
+    requires forward { from ≤ to }
+    requires inside { to ≤ vec_len bytes.old }
+    ensures { bytes.new.items ≡ remove_range bytes.old.items from to }
 {
-    let _ = bytes.drain(start..end);
+    close_gap(bytes, from, to);
     if bytes.len() < bytes.capacity() / 2 {
         bytes.shrink_to_fit();
     }
+}
+
+/// Takes a part out. What lies behind it moves in pieces of its length, each at once: the library's own ways move byte by
+/// byte.
+fn close_gap(bytes: &mut Vec<u8>, from: usize, to: usize)
+    requires forward { from ≤ to }
+    requires inside { to ≤ vec_len bytes.old }
+    ensures { bytes.new.items ≡ remove_range bytes.old.items from to }
+{
+    let gap = to - from;
+    if gap == 0 {
+        return;
+    }
+    let left = bytes.len() - gap;
+    let mut at = from;
+    while at < left {
+        let piece = gap.min(left - at);
+        move_piece(bytes, at, gap, piece);
+        at += piece;
+    }
+    bytes.truncate(left);
+}
+
+/// Moves a piece down over a gap before it that is as long at least.
+fn move_piece(bytes: &mut Vec<u8>, at: usize, gap: usize, piece: usize)
+    requires apart { piece ≤ gap }
+    requires inside { at + gap + piece ≤ vec_len bytes.old }
+    ensures { bytes.new.items ≡ take at bytes.old.items
+        ++ (take piece (drop (at + gap) bytes.old.items) ++ drop (at + piece) bytes.old.items) }
+{
+    let (front, back) = bytes.as_mut_slice().split_at_mut(at + gap);
+    front[at..at + piece].copy_from_slice(&back[..piece]);
 }

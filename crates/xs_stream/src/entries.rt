@@ -14,6 +14,7 @@ use crate::block::Block;
 use crate::entry::Entry;
 use crate::field::Field;
 use crate::id::Id;
+use crate::packed::entry::values_size;
 use crate::packed::fields::PackedFields;
 use crate::range::Range;
 use crate::trim::Trim;
@@ -79,8 +80,9 @@ impl Entries {
         }
     }
 
-    /// Files the newest entries as a block under the top, where another one with these fields doesn't belong to them.
-    fn make_room(&mut self, top: Id, fields: &[Field]) -> Result<(), AllocError>
+    /// Files the newest entries as a block under the top, if another one, whose values take so many bytes, doesn't belong
+    /// to them.
+    fn make_room(&mut self, top: Id, values: u64) -> Result<(), AllocError>
         requires laid_down { IsLaidDown self.old }
         requires up_to_top { AllUpTo top (ids_of (all_of self.old)) }
         requires filed_up_to_top { AllUpTo top (filed_under self.old) }
@@ -89,10 +91,10 @@ impl Entries {
         ensures laid_down { IsLaidDown self.new }
         ensures filed_up_to_top { AllUpTo top (filed_under self.new) }
     {
-        if self.newest.has_room(fields) {
+        if self.newest.has_room(values) {
             return Ok(());
         }
-        let mut full = mem::replace(&mut self.newest, Block::with_room(self.alloc));
+        let mut full = mem::replace(&mut self.newest, Block::new(self.alloc));
         full.seal();
         match self.older.insert(top, full) {
             Ok(_) => Ok(()),
@@ -118,8 +120,11 @@ impl Entries {
         let Some(len) = self.len.checked_add(1) else {
             return Err(AllocError);
         };
-        self.make_room(top, fields)?;
-        self.newest.push(id, fields)?;
+        let Some(values) = values_size(fields) else {
+            return Err(AllocError);
+        };
+        self.make_room(top, values)?;
+        self.newest.push(id, values, fields)?;
         self.len = len;
         Ok(())
     }
@@ -391,6 +396,31 @@ impl Entries {
             block.push_down(&mut ids, range, most)?;
         }
         Ok(ids)
+    }
+
+    /// The entries of a range that isn't empty, from its high end down, at most this many.
+    pub(crate) fn entries_down(
+        &self,
+        alloc: Global,
+        range: Range,
+        most: u64,
+    ) -> Result<Vec<Entry<'_>>, AllocError>
+        requires laid_down { IsLaidDown self.now }
+        requires range { is_below range.high range.low ≡ false }
+        ensures { IfOk result (λ shown. shown.items
+            ≡ take most (reverse (filter (λ e. is_within range e.0) (all_of self.now)))) }
+    {
+        let mut shown = Vec::new(alloc);
+        self.newest.push_entries_down(&mut shown, range, most)?;
+        let bounds = (Bound::Included(range.low), self.end_at(range.high));
+        let blocks = self.older.range(bounds);
+        for (_under, block) in blocks.rev() {
+            if shown.len() as u64 >= most {
+                break;
+            }
+            block.push_entries_down(&mut shown, range, most)?;
+        }
+        Ok(shown)
     }
 }
 

@@ -18,7 +18,7 @@ pub mod trim;
 
 pub use add::{AddError, AddId};
 pub use entry::Entry;
-pub use field::{Field, copy_fields};
+pub use field::Field;
 pub use id::Id;
 pub use moment::Moment;
 pub use packed::fields::{FieldView, PackedFields};

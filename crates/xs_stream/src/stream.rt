@@ -144,18 +144,26 @@ impl Stream {
         Ok(List::new(ids))
     }
 
-    /// The entries of a range, from its low end up, at most `limit` of them. None is looked for again.
+    /// The entries of a range, from its low end up or from its high end down, at most `limit` of them. They are lent: none
+    /// is copied, and none is looked for again.
     pub fn entries(
         &self,
         alloc: Global,
         range: Range,
         limit: Option<u64>,
+        reversed: bool,
     ) -> Result<List<Entry<'_>>, AllocError>
-        ensures { IfOk result (λ entries. entries ≡ entries_within range limit self.now.entries) }
+        ensures { IfOk result (λ entries. entries ≡ entries_within range reversed limit self.now.entries) }
     {
-        let entries = self
-            .entries
-            .entries_up(alloc, range, limit.unwrap_or(u64::MAX))?;
+        if range.high < range.low {
+            return Ok(List::new(Vec::new(alloc)));
+        }
+        let most = limit.unwrap_or(u64::MAX);
+        let entries = if reversed {
+            self.entries.entries_down(alloc, range, most)?
+        } else {
+            self.entries.entries_up(alloc, range, most)?
+        };
         Ok(List::new(entries))
     }
 

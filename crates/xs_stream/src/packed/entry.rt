@@ -1,5 +1,7 @@
 //! Entries as they stand in bytes.
 ghost use Rattle.std.specs.Prelude.{◌≡◌, ◌++◌, IfSome, OnOk, OnErr, length, take, vec_len};
+ghost use Rattle.std.specs.Prelude.{true, false};
+ghost use Rattle.std.specs.List.{flat_map};
 ghost use Rattle.xs_stream.specs.Packed.{names_code, has_names, field_code, body_code, mark_of, ms_code, entry_code, entry_id, entry_body, after_entry, first_ms};
 ghost use Rattle.xs_stream.specs.PackedNumber.{after_number};
 ghost use Rattle.xs_stream.specs.PackedText.{text_code};
@@ -19,8 +21,32 @@ pub(crate) struct PackedEntry<'a> {
 }
 
 /// The entry that bytes begin with.
-#[tactic(auto, unfolding(crate::specs::Packed::entry_id, crate::specs::Packed::entry_body, crate::specs::Packed::after_entry))]
+#[tactic(auto, unfolding(crate::specs::Packed::entry_id, crate::specs::Packed::entry_body, crate::specs::Packed::after_entry, crate::specs::PackedText::first_text, crate::specs::PackedText::after_text, crate::specs::PackedNumber::first_number, crate::specs::PackedNumber::after_number))]
+#[inline(always)]
 pub(crate) fn read_entry<'a>(base: u64, bytes: &'a [u8]) -> PackedEntry<'a>
+    ensures id { result.id ≡ entry_id base bytes.now }
+    ensures body { result.body.now ≡ entry_body bytes.now }
+    ensures rest { result.rest.now ≡ after_entry bytes.now }
+{
+    // Most entries have numbers of one byte, and a walk reads many entries.
+    if let [ms, seq, len, rest @ ..] = bytes {
+        if *ms < 253 && *seq < 253 && *len < 253 && usize::from(*len) <= rest.len() {
+            let (body, rest) = rest.split_at(usize::from(*len));
+            let ms = base.wrapping_add(u64::from(*ms));
+            let seq = u64::from(*seq);
+            return PackedEntry {
+                id: Id { ms, seq },
+                body,
+                rest,
+            };
+        }
+    }
+    read_any_entry(base, bytes)
+}
+
+/// As `read_entry`, whatever the numbers.
+#[tactic(auto, unfolding(crate::specs::Packed::entry_id, crate::specs::Packed::entry_body, crate::specs::Packed::after_entry))]
+fn read_any_entry<'a>(base: u64, bytes: &'a [u8]) -> PackedEntry<'a>
     ensures id { result.id ≡ entry_id base bytes.now }
     ensures body { result.body.now ≡ entry_body bytes.now }
     ensures rest { result.rest.now ≡ after_entry bytes.now }
@@ -97,24 +123,44 @@ fn mark_of(shared: bool, fields: &[Field]) -> Option<u64>
     (fields.len() as u64).checked_add(1)
 }
 
-/// How many bytes the fields of an entry take.
-pub(crate) fn body_size(shared: bool, fields: &[Field]) -> Option<u64>
-    ensures { IfSome result (λ size. size ≡ length (body_code shared fields.now)) }
+/// How many bytes the values of fields take, each behind its length. None if they are too many for a number.
+pub(crate) fn values_size(fields: &[Field]) -> Option<u64>
+    ensures { IfSome result (λ size. size ≡ length (flat_map (field_code true) fields.now)) }
 {
-    let mut size = number_size(mark_of(shared, fields)?);
+    let mut size = 0u64;
     for field in fields {
-        size = size.checked_add(field_size(shared, field)?)?;
+        size = size.checked_add(text_size(field.value.as_slice())?)?;
     }
     Some(size)
 }
 
-fn field_size(shared: bool, field: &Field) -> Option<u64>
-    ensures { IfSome result (λ size. size ≡ length (field_code shared field.now)) }
+/// How many bytes the fields of an entry take whose values take so many.
+#[tactic(auto, unfolding(crate::specs::Packed::body_code, crate::specs::PackedNumber::number_code))]
+fn body_size(shared: bool, values: u64, fields: &[Field]) -> Option<u64>
+    requires { values ≡ length (flat_map (field_code true) fields.now) }
+    ensures { IfSome result (λ size. size ≡ length (body_code shared fields.now)) }
+{
+    if shared {
+        return values.checked_add(1);
+    }
+    full_size(fields)
+}
+
+/// How many bytes the fields of an entry take with their names.
+fn full_size(fields: &[Field]) -> Option<u64>
+    ensures { IfSome result (λ size. size ≡ length (body_code false fields.now)) }
+{
+    let mut size = number_size(mark_of(false, fields)?);
+    for field in fields {
+        size = size.checked_add(field_size(field)?)?;
+    }
+    Some(size)
+}
+
+fn field_size(field: &Field) -> Option<u64>
+    ensures { IfSome result (λ size. size ≡ length (field_code false field.now)) }
 {
     let size = text_size(field.value.as_slice())?;
-    if shared {
-        return Some(size);
-    }
     text_size(field.name.as_slice())?.checked_add(size)
 }
 
@@ -144,18 +190,20 @@ fn push_body(out: &mut Vec<u8>, shared: bool, fields: &[Field]) -> Result<(), Al
     Ok(())
 }
 
-/// Appends an entry. A refusal may leave a part behind.
+/// Appends an entry whose values take so many bytes. A refusal may leave a part behind.
 pub(crate) fn push_entry(
     out: &mut Vec<u8>,
     base: u64,
     shared: bool,
     id: Id,
+    values: u64,
     fields: &[Field],
 ) -> Result<(), AllocError>
+    requires { values ≡ length (flat_map (field_code true) fields.now) }
     ensures ok { OnOk result (out.new.items ≡ out.old.items ++ entry_code base shared (id, fields.now)) }
     ensures err { OnErr result (take (vec_len out.old) out.new.items ≡ out.old.items) }
 {
-    let Some(size) = body_size(shared, fields) else {
+    let Some(size) = body_size(shared, values, fields) else {
         return Err(AllocError);
     };
     push_number(out, id.ms.wrapping_sub(base))?;

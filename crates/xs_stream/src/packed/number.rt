@@ -1,5 +1,5 @@
 //! Numbers in few bytes: one byte below 253, otherwise a byte that says how many follow.
-ghost use Rattle.std.specs.Prelude.{◌≡◌, ◌++◌, OnOk, OnErr, length, drop, slice_index};
+ghost use Rattle.std.specs.Prelude.{◌≡◌, ◌≤◌, ◌++◌, OnOk, OnErr, length, drop, slice_index};
 ghost use Rattle.std.specs.Int.{w16, w32, w64, from_le_bytes};
 ghost use Rattle.xs_stream.specs.PackedNumber.{number_code, first_number, after_number};
 
@@ -24,6 +24,7 @@ pub(crate) fn number_size(n: u64) -> u64
 
 /// Appends a number. `out` keeps what it had on refusal.
 #[tactic(auto, unfolding(crate::specs::PackedNumber::number_code))]
+#[inline(always)]
 pub(crate) fn push_number(out: &mut Vec<u8>, n: u64) -> Result<(), AllocError>
     ensures ok { OnOk result (out.new.items ≡ out.old.items ++ number_code n) }
     ensures err { OnErr result (out.new.items ≡ out.old.items) }
@@ -31,6 +32,16 @@ pub(crate) fn push_number(out: &mut Vec<u8>, n: u64) -> Result<(), AllocError>
     if n < 253 {
         return out.extend_from_slice(&[n as u8]);
     }
+    push_long_number(out, n)
+}
+
+/// Appends a number that takes more than one byte. `out` keeps what it had on refusal.
+#[tactic(auto, unfolding(crate::specs::PackedNumber::number_code))]
+fn push_long_number(out: &mut Vec<u8>, n: u64) -> Result<(), AllocError>
+    requires { 253 ≤ n }
+    ensures ok { OnOk result (out.new.items ≡ out.old.items ++ number_code n) }
+    ensures err { OnErr result (out.new.items ≡ out.old.items) }
+{
     if n < 0x1_0000 {
         let [a, b] = (n as u16).to_le_bytes();
         return out.extend_from_slice(&[253, a, b]);
@@ -109,7 +120,7 @@ fn byte(bytes: &[u8], at: usize) -> u8
 }
 
 /// The bytes after these many.
-fn after(bytes: &[u8], count: usize) -> &[u8]
+pub(crate) fn after(bytes: &[u8], count: usize) -> &[u8]
     ensures { result.now ≡ drop count bytes.now }
 {
     match bytes.get(count..) {

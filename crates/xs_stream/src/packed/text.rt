@@ -25,8 +25,24 @@ pub(crate) fn push_text(out: &mut Vec<u8>, text: &[u8]) -> Result<(), AllocError
 }
 
 /// The text that bytes begin with, and the bytes after it.
-#[tactic(auto, unfolding(crate::specs::PackedText::first_text, crate::specs::PackedText::after_text))]
+#[tactic(auto, unfolding(crate::specs::PackedText::first_text, crate::specs::PackedText::after_text, crate::specs::PackedNumber::first_number, crate::specs::PackedNumber::after_number))]
+#[inline(always)]
 pub(crate) fn read_text(bytes: &[u8]) -> (&[u8], &[u8])
+    ensures text { result.0.now ≡ first_text bytes.now }
+    ensures rest { result.1.now ≡ after_text bytes.now }
+{
+    // A short text costs one look at its length.
+    if let [len, rest @ ..] = bytes {
+        if *len < 253 && usize::from(*len) <= rest.len() {
+            return rest.split_at(usize::from(*len));
+        }
+    }
+    read_any_text(bytes)
+}
+
+/// As `read_text`, whatever the length.
+#[tactic(auto, unfolding(crate::specs::PackedText::first_text, crate::specs::PackedText::after_text))]
+fn read_any_text(bytes: &[u8]) -> (&[u8], &[u8])
     ensures text { result.0.now ≡ first_text bytes.now }
     ensures rest { result.1.now ≡ after_text bytes.now }
 {

@@ -5,5 +5,5 @@ use Rattle.xs_keys.specs.Reply.{entry_reply}
 use Rattle.xs_keys.proofs.showing.push_entries.Given as goal
 
 -- the entries so far
-abbrev pub invariant-loop-id : goal.invariant-loop-id
-invariant-loop-id l = l.tokens.items ≡ l.fn.tokens.items ++ flat_map tokens_of (map (entry_reply l.stream.entries) (take l.id-index l.ids))
+abbrev pub invariant-loop-place : goal.invariant-loop-place
+invariant-loop-place l = l.tokens.items ≡ l.fn.tokens.items ++ flat_map tokens_of (map (entry_reply l.stream.entries) (take l.place l.ids))

@@ -6,5 +6,5 @@ use Rattle.xs_keys.specs.Reply.{entry_reply}
 use Rattle.xs_keys.proofs.xreadgroup.push_rows.Given as goal
 
 -- the entries so far
-abbrev pub invariant-loop-row : goal.invariant-loop-row
-invariant-loop-row l = l.tokens.items ≡ l.fn.tokens.items ++ flat_map tokens_of (map (entry_reply l.stream.entries) (row_ids (take l.row-index l.rows)))
+abbrev pub invariant-loop-place : goal.invariant-loop-place
+invariant-loop-place l = l.tokens.items ≡ l.fn.tokens.items ++ flat_map tokens_of (map (entry_reply l.stream.entries) (row_ids (take l.place l.rows)))

@@ -7,5 +7,5 @@ use Rattle.xs_stream.proofs.block.push_all_ids.Given as goal
 -- the ids so far and those to come
 abbrev pub invariant-loop : goal.invariant-loop
 invariant-loop l =
-    l.initial.ids.items ++ filter (is_within l.range) (ids_of (block_entries l.base l.count l.bytes))
+    l.initial.ids.items ++ filter (is_within l.range) (ids_of (block_entries l.base l.count l.start l.bytes))
     ≡ l.ids.items ++ filter (is_within l.range) (ids_of (entries_in l.base (first_text l.bytes) (l.count - l.counter) l.rest))

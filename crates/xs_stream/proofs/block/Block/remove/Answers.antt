@@ -1,48 +1,62 @@
-use Rattle.std.proofs.Common.{◌≡◌, ◌<◌, ◌++◌, ◌∙◌, ◌-◌, arith, sym}
-use Rattle.std.specs.List.{remove}
-use Rattle.xs_stream.specs.PackedText.{text_code, first_text, after_text}
-use Rattle.xs_stream.specs.Packed.{block_entries, entries_code}
-use Rattle.xs_stream.proofs.PackedBlocks.{remove-absent, after_entries-one_less, removed-code, length-removed, length-block_entries, repacked, repacked-packed}
+use Rattle.std.proofs.Common.{◌≡◌, ℕ, List, ◌<◌, ◌++◌, ◌∙◌, ◌+◌, ◌-◌, ap, arith, length, sym, drop}
+use Rattle.std.specs.List.{remove, remove_range}
+use Rattle.xs_stream.specs.PackedText.{text_code, first_text}
+use Rattle.xs_stream.specs.Packed.{block_entries, entries_code, after_entries}
+use Rattle.xs_stream.proofs.PackedBlocks.{remove-absent, after_entries-one_less, gap, begins, removed-code, length-removed, length-block_entries, repacked, repacked-packed}
 use Rattle.xs_stream.proofs.block.Block.remove.Goals as goal
 
 pub returns-in_default-clause-entries : goal.returns-in_default-clause-entries
 returns-in_default-clause-entries c =
     let inside = c.self.inside in
-    let absent = rw (c.as_slice.ensures.value) at c.in_default.ensures.found in
-    rw (← c.self.view_is) (sym (remove-absent c.args.id (block_entries inside.base inside.count inside.bytes.items) (sym absent)))
+    let absent = rw (c.as_slice-bytes.ensures.value) at c.in_default.ensures.found in
+    rw (← c.self.view_is) (sym (remove-absent c.args.id (block_entries inside.base inside.count inside.start inside.bytes.items) (sym absent)))
 
 pub cut-requires-clause-forward : goal.cut-requires-clause-forward
 cut-requires-clause-forward c =
     let i = c.in-Some.place.index in
-    let bytes = c.as_slice.result.now in
-    omega (arith, c.in-Some.ensures.start, c.in-Some.ensures.end, after_entries-one_less i (after_text bytes))
+    let bytes = c.as_slice-bytes.result.now in
+    omega (arith, c.in-Some.ensures.from, c.in-Some.ensures.to, after_entries-one_less i (drop c.self.inside.start bytes))
 
 some : (c : goal.After-self-1) → 0 < c.self.inside.count
 some c = omega (arith, c.in-Some.ensures.index)
 
 code : (c : goal.After-self-1) → c.cut.new.bytes.items
-    ≡ text_code (first_text c.self.inside.bytes.items) ++ entries_code c.self.inside.base (first_text c.self.inside.bytes.items) (remove (block_entries c.self.inside.base c.self.inside.count c.self.inside.bytes.items) c.in-Some.place.index)
+    ≡ (text_code (first_text c.self.inside.bytes.items) ++ gap c.self.inside.base c.self.inside.count c.self.inside.start c.self.inside.bytes.items c.self.invariant (some c))
+    ++ entries_code c.self.inside.base (first_text c.self.inside.bytes.items) (remove (block_entries c.self.inside.base c.self.inside.count c.self.inside.start c.self.inside.bytes.items) c.in-Some.place.index)
 code c =
     let inside = c.self.inside in
-    c.cut.ensures ∙ rw (c.in-Some.ensures.start, c.in-Some.ensures.end, c.as_slice.ensures.value) (removed-code inside.base inside.count inside.bytes.items c.self.invariant (some c) c.in-Some.place.index c.in-Some.ensures.index)
+    let bytes = inside.bytes.items in
+    let place = c.in-Some.place in
+    let where_at : ℕ → List ℕ → ℕ = λ i b. length b - length (after_entries i (drop inside.start b)) in
+    let from = c.in-Some.ensures.from ∙ ap (where_at place.index) c.as_slice-bytes.ensures.value in
+    let to = c.in-Some.ensures.to ∙ ap (where_at (place.index + 1)) c.as_slice-bytes.ensures.value in
+    c.cut.ensures ∙ ap (λ n. remove_range bytes n place.to) from ∙ ap (remove_range bytes (where_at place.index bytes)) to
+    ∙ removed-code inside.base inside.count inside.start bytes c.self.invariant (some c) place.index c.in-Some.ensures.index
 
 pub invariant_of-self : goal.invariant_of-self
 invariant_of-self c =
     let inside = c.self.inside in
-    let count = length-removed inside.base inside.count inside.bytes.items c.self.invariant (some c) c.in-Some.place.index c.in-Some.ensures.index in
-    repacked-packed inside.base _ _ _ _ c.self.invariant.base_fits (code c) count (omega (arith, count, some c))
+    let count = length-removed inside.base inside.count inside.start inside.bytes.items c.self.invariant (some c) c.in-Some.place.index c.in-Some.ensures.index in
+    repacked-packed inside.base _ _ _ _ _ _ c.self.invariant.base_fits (code c) (begins inside.base inside.count inside.start inside.bytes.items c.self.invariant (some c)) count
 
-left : (c : goal.After-self-1) → block_entries c.self.inside.base (c.self.inside.count - 1) c.cut.new.bytes.items ≡ remove (block_entries c.self.inside.base c.self.inside.count c.self.inside.bytes.items) c.in-Some.place.index
+left : (c : goal.After-self-1) → block_entries c.self.inside.base (c.self.inside.count - 1) c.self.inside.start c.cut.new.bytes.items
+    ≡ remove (block_entries c.self.inside.base c.self.inside.count c.self.inside.start c.self.inside.bytes.items) c.in-Some.place.index
 left c =
     let inside = c.self.inside in
-    repacked inside.base _ _ _ _ c.self.invariant.base_fits (code c) (length-removed inside.base inside.count inside.bytes.items c.self.invariant (some c) c.in-Some.place.index c.in-Some.ensures.index)
+    let count = length-removed inside.base inside.count inside.start inside.bytes.items c.self.invariant (some c) c.in-Some.place.index c.in-Some.ensures.index in
+    repacked inside.base _ _ _ _ _ _ c.self.invariant.base_fits (code c) (begins inside.base inside.count inside.start inside.bytes.items c.self.invariant (some c)) count
 
 pub returns-clause-entries : goal.returns-clause-entries
 returns-clause-entries c =
-    let removed = rw (c.as_slice.ensures.value) at c.in-Some.ensures.removed in
+    let removed = rw (c.as_slice-bytes.ensures.value) at c.in-Some.ensures.removed in
     rw (← c.self.view_is) (left c ∙ sym removed)
 
 pub returns-clause-count : goal.returns-clause-count
 returns-clause-count c =
     let inside = c.self.inside in
-    rw (← c.self.view_is) (omega (arith, length-block_entries inside.base inside.count inside.bytes.items, length-block_entries inside.base (inside.count - 1) c.cut.new.bytes.items, c.in-Some.ensures.index))
+    rw (← c.self.view_is) (omega (arith, length-block_entries inside.base inside.count inside.start inside.bytes.items, length-block_entries inside.base (inside.count - 1) inside.start c.cut.new.bytes.items, c.in-Some.ensures.index))
+
+pub drop_some-requires : goal.drop_some-requires
+drop_some-requires c =
+    let inside = c.self.inside in
+    rw (← c.self.view_is) (omega (arith, c.in-Some.ensures.index, c.if-self-eq1.false, length-block_entries inside.base inside.count inside.start inside.bytes.items))

@@ -1,0 +1,13 @@
+use Rattle.std.proofs.Common.{Result, Ok, Err, IfOk, subst, sym}
+use Rattle.xs_keys.specs.Reply.{AreEntriesOf}
+use Rattle.xs_keys.proofs.PresentEntries.{first-found}
+use Rattle.xs_keys.proofs.showing.entries_along.Goals as goal
+
+if-ok : {X E : Type 0} (r : Result X E) (P Q : X → Type 0) → ((x : X) → P x → Q x) → IfOk r P → IfOk r Q
+if-ok (Ok x) P Q f h = f x h
+if-ok (Err e) P Q f h = tt
+
+pub returns : goal.returns
+returns c =
+    let entries = c.args.stream.now.entries in
+    if-ok c.entries.result _ (AreEntriesOf entries) (λ lent is. subst (AreEntriesOf entries) (sym is) (first-found _ c.args.count entries c.lawful.ensures.ascends)) c.entries.ensures

@@ -1,0 +1,6 @@
+use Rattle.std.proofs.Common.{subst, sym}
+use Rattle.xs_keys.specs.Reply.{AreEntriesOf}
+use Rattle.xs_keys.proofs.showing.push_entries.Goals as goal
+
+pub push_along-requires : goal.push_along-requires
+push_along-requires c = subst (AreEntriesOf c.args.stream.now.entries) (sym c.as_slice.ensures) c.in_ok-lent.ensures

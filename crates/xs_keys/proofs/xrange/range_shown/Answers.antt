@@ -1,0 +1,11 @@
+use Rattle.std.proofs.Common.{◌≡◌, List, map, ap, ◌∙◌, subst, IfOk}
+use Rattle.xs_keys.specs.Ground.{Reply}
+use Rattle.xs_keys.specs.Reply.{array, present_reply}
+use Rattle.xs_keys.proofs.PresentEntries.{lent-within}
+use Rattle.xs_keys.proofs.xrange.range_shown.Goals as goal
+
+pub returns : goal.returns
+returns c =
+    let command = c.args.command.now in
+    let lent = ap (map present_reply) (c.as_slice.ensures ∙ c.in_ok-entries.ensures) ∙ lent-within command.range command.reversed command.limit c.args.stream.now.entries c.lawful.ensures.ascends in
+    subst (λ (replies : List Reply). IfOk c.lent_entries.result (λ reply. reply ≡ array replies)) lent c.lent_entries.ensures

@@ -1,0 +1,22 @@
+use Rattle.std.proofs.Common.{◌≡◌, ℕ, take, true, false, Bool, Option, None, Some, List, [], sym, ◌∙◌, reverse, ap}
+use Rattle.std.proofs.Math.Seq.{take-nil}
+use Rattle.xs_stream.specs.declared.id.Id.{Id}
+use Rattle.xs_stream.specs.declared.field.Field.{Field}
+use Rattle.xs_stream.specs.declared.range.Range.{Range}
+use Rattle.xs_stream.specs.Id.{is_below}
+use Rattle.xs_stream.specs.Kept.{entries_within}
+use Rattle.xs_stream.proofs.Order.{partial-below}
+use Rattle.xs_stream.proofs.WithinEntries.{within, within-none}
+use Rattle.xs_stream.proofs.stream.Stream.entries.Goals as goal
+
+none : (range : Range) (reversed : Bool) (limit : Option ℕ) (es : List (Id × List Field)) → within range es ≡ [] → entries_within range reversed limit es ≡ []
+none range true None es e = ap reverse e
+none range false None es e = e
+none range true (Some n) es e = ap (λ found. take n (reverse found)) e ∙ take-nil n
+none range false (Some n) es e = ap (take n) e ∙ take-nil n
+
+pub returns-then-lt : goal.returns-then-lt
+returns-then-lt c =
+    let above : is_below c.args.range.high c.args.range.low ≡ true = sym (partial-below _ _) ∙ sym (c.if-lt.ensures) in
+    c.new-then-lt.ensures ∙ c.new.ensures.items
+    ∙ sym (none c.args.range c.args.reversed c.args.limit c.args.self.now.entries (within-none c.args.range above c.args.self.now.entries))
