@@ -51,7 +51,8 @@ pub record Places : Type 0 where
   pub trimmed_by_an_addition : first_stands (codes "XADD s MINID 2 3-0 f v" ∷ []) ≡ Some dropped
   pub stays_dropped : first_stands (codes "XDEL s 1-0" ∷ read_by_c ∷ []) ≡ Some dropped
   pub trims_itself :
-      stands_behind (codes "XGROUP CREATE s g $ MKSTREAM" ∷ codes "XADD s MAXLEN 0 4-0 f v" ∷ []) (at 4 0) ≡ Some dropped
+      stands_behind (codes "XGROUP CREATE s g $ MKSTREAM" ∷ codes "XADD s MAXLEN 0 4-0 f v" ∷ []) (at 4 0)
+      ≡ Some dropped
   -- by a delivery
   pub is_read : first_stands (read_by_c ∷ []) ≡ Some (pending (codes "c"))
   pub is_read_with_noack : first_stands (codes "XREADGROUP GROUP g c NOACK STREAMS s >" ∷ []) ≡ Some handed_out
@@ -59,8 +60,8 @@ pub record Places : Type 0 where
       stands_behind (two_and (codes "XREADGROUP GROUP g c COUNT 1 NOACK STREAMS s >" ∷ read_by_c ∷ [])) (at 2 0)
       ≡ Some (pending (codes "c"))
   pub of_two_readers :
-      stands_behind (two_and (codes "XREADGROUP GROUP g b COUNT 1 STREAMS s >" ∷ codes "XREADGROUP GROUP g a STREAMS s >"
-      ∷ [])) (at 2 0) ≡ Some (pending (codes "a"))
+      stands_behind (two_and (codes "XREADGROUP GROUP g b COUNT 1 STREAMS s >"
+      ∷ codes "XREADGROUP GROUP g a STREAMS s >" ∷ [])) (at 2 0) ≡ Some (pending (codes "a"))
   -- with its consumer
   pub pending_when_deleted : first_stands (read_by_c ∷ codes "XDEL s 1-0" ∷ []) ≡ Some (pending (codes "c"))
   pub pending_when_deleted_and_a_consumer_comes :
@@ -91,7 +92,8 @@ pub record Places : Type 0 where
       first_stands (read_by_c ∷ codes "XGROUP DELCONSUMER s g c" ∷ codes "XCLAIM s g d 0 1-0"
       ∷ codes "XREADGROUP GROUP g d STREAMS s >" ∷ []) ≡ Some settled
   pub stays_handed_out :
-      first_stands (codes "XREADGROUP GROUP g c NOACK STREAMS s >" ∷ codes "XACK s g 1-0" ∷ codes "XCLAIM s g d 0 1-0" ∷ [])
+      first_stands (codes "XREADGROUP GROUP g c NOACK STREAMS s >" ∷ codes "XACK s g 1-0"
+      ∷ codes "XCLAIM s g d 0 1-0" ∷ [])
       ≡ Some handed_out
   pub acknowledged_too_early :
       first_stands (codes "XACK s g 1-0" ∷ codes "XREADGROUP GROUP g c NOACK STREAMS s >" ∷ []) ≡ Some handed_out

@@ -1,5 +1,5 @@
--- What removes an entry from its stream, and what makes a group, by examples; as a real Redis 7.0 lists entries and groups
--- after such lines. (Redis, XADD, XDEL, XTRIM, XGROUP CREATE and DEL.)
+-- What removes an entry from its stream, and what makes a group, by examples; as a real Redis 7.0 lists entries and
+-- groups after such lines. (Redis, XADD, XDEL, XTRIM, XGROUP CREATE and DEL.)
 use Rattle.std.specs.Prelude.{◌≡◌, ℕ, Bool, true, false, List, [], ◌∷◌, codes, Option, Some, None}
 use Rattle.xs_stream.specs.declared.id.Id.{Id}
 use Rattle.xs_stream.specs.Examples.{at}

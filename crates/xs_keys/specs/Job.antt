@@ -1,12 +1,14 @@
 -- The life of a job: where an entry stands for a group, and what may become of it. (Redis Streams, "Consumer groups";
 -- XREADGROUP, XACK, XCLAIM, XPENDING.)
-use Rattle.std.specs.Prelude.{◌≡◌, ◌⊎◌, ℕ, ◌+◌, Bool, true, false, not, ◌&&◌, ◌||◌, List, [], ◌∷◌, ◌++◌, filter, map, length}
+use Rattle.std.specs.Prelude.{◌≡◌, ◌⊎◌, ℕ, ◌+◌, Bool, true, false, not, ◌&&◌, ◌||◌, List, [], ◌∷◌, ◌++◌, filter, map}
+use Rattle.std.specs.Prelude.{length}
 use Rattle.std.specs.Prelude.{nat_le, Option, Some, None, is_some, if◌then◌else◌}
 use Rattle.xs_group.specs.State.{owned}
 use Rattle.xs_command.specs.WellFormed.{IsWellFormed}
 use Rattle.xs_stream.specs.Kept.{count_above}
 use Rattle.xs_stream.specs.declared.trim.Trim.TheVariants.{MaxLen, MinId}
-use Rattle.xs_keys.specs.Ground.{option_map_or, Id, Field, Trim, is_below, has_id, ids_of, is_trimmed, is_name, delivers, Command}
+use Rattle.xs_keys.specs.Ground.{option_map_or, Id, Field, Trim, is_below, has_id, ids_of, is_trimmed, is_name}
+use Rattle.xs_keys.specs.Ground.{delivers, Command}
 use Rattle.xs_keys.specs.Ground.{Add, Delete, TrimTo, GroupStart, Top, At}
 use Rattle.xs_keys.specs.Ground.{GroupCreate, GroupDestroy, ConsumerDelete, ReadGroup, Ack, Claim, AutoClaim, DropKeys}
 use Rattle.xs_keys.specs.Ground.{Pending, Reply, Int}
@@ -112,7 +114,8 @@ acknowledges_entry _ key group x = false
 
 -- it removes the consumer from the group
 abbrev pub removes_consumer : Command → List ℕ → List ℕ → List ℕ → Bool
-removes_consumer (ConsumerDelete k g consumer) key group name = (is_name key k && is_name group g) && is_name name consumer
+removes_consumer (ConsumerDelete k g consumer) key group name =
+    (is_name key k && is_name group g) && is_name name consumer
 removes_consumer _ key group name = false
 
 -- it gives entries to the stream, or makes the group
@@ -137,8 +140,8 @@ HasArrow command key group present x waiting (pending consumer) =
 HasArrow command key group present x (pending one) (pending other) =
     ((claims_entry command key group x && has_id present x) ≡ true) × (asker command ≡ Some other)
 HasArrow command key group present x (pending consumer) settled =
-    (acknowledges_entry command key group x
-    || (removes_consumer command key group consumer || (claims_entry command key group x && not (has_id present x)))) ≡ true
+    (acknowledges_entry command key group x || (removes_consumer command key group consumer
+    || (claims_entry command key group x && not (has_id present x)))) ≡ true
 HasArrow command key group present x _ _ = ⊥
 
 -- and some have to: a deletion drops what waits; and an acknowledgement, the removal of its consumer, and a claim by
@@ -179,10 +182,12 @@ IsFirstPlace _ present x there = ⊥
 -- along an arrow; or the life of the group ends
 abbrev pub GoesAlong : Command → List ℕ → List ℕ → List Id → Id → Option Place → Option Place → Type 0
 GoesAlong command key group present x None None = Unit {0}
-GoesAlong command key group present x None (Some there) = (begins_job command key group ≡ true) × IsFirstPlace command present x there
+GoesAlong command key group present x None (Some there) =
+    (begins_job command key group ≡ true) × IsFirstPlace command present x there
 GoesAlong command key group present x (Some here) None = ends_group command key group ≡ true
 GoesAlong command key group present x (Some here) (Some there) =
-    ((there ≡ here) ⊎ HasArrow command key group present x here there) × HasToMove command key group present x here there
+    ((there ≡ here) ⊎ HasArrow command key group present x here there)
+    × HasToMove command key group present x here there
 
 -- where an entry stands, by the open lives of its key and of the group; none where it was not given, or no life is open
 abbrev pub place_in : Option (List Change) → Option GroupLife → Id → Option Place
@@ -231,7 +236,8 @@ jobs_at at changes life = filter (λ x. at (place_of life (ids_of (live changes)
 -- what waits is what a read without COUNT delivers now, what is pending are the rows that XPENDING shows, each
 -- consumer's its own; and with what was dropped, handed out and settled they are all ids given past the start
 pub record BooksBalance (changes : List Change) (life : GroupLife) : Type 0 where
-  pub waiting_are : jobs_at (is_at waiting) changes life ≡ delivers None (cursor life.start life.events) (ids_of (live changes))
+  pub waiting_are :
+      jobs_at (is_at waiting) changes life ≡ delivers None (cursor life.start life.events) (ids_of (live changes))
   pub pending_are : jobs_at is_pending changes life ≡ map (λ e. e.0) (rows life.start life.events)
   pub of_consumers : (consumer : List ℕ) →
       jobs_at (is_at (pending consumer)) changes life ≡ owned consumer (rows life.start life.events)

@@ -1,7 +1,8 @@
 -- What claims take and what they remove, by looking back. (Redis, XCLAIM and XAUTOCLAIM.)
 use Rattle.std.specs.Prelude.{◌≡◌, ◌⊎◌, ℕ, ◌≤◌, ◌+◌, ◌-◌, ◌*◌, Bool, true, false, not, List, ◌∷◌, ◌++◌, length, is_some}
 use Rattle.xs_keys.specs.Ground.{option_map_or, Id, Row, is_below, has_id}
-use Rattle.xs_keys.specs.GroupEvent.{Ask, GroupEvent, claim, auto_claim, claims_of, rule_of, rows, takes, removes_pending}
+use Rattle.xs_keys.specs.GroupEvent.{Ask, GroupEvent, claim, auto_claim, claims_of, rule_of, rows, takes}
+use Rattle.xs_keys.specs.GroupEvent.{removes_pending}
 use Rattle.xs_keys.specs.GroupEvent.{owner}
 use Rattle.xs_keys.specs.Touched.{time_of}
 

@@ -118,15 +118,15 @@ pub fn a_claim_takes_what_is_idle()
     ensures { OfEachLife (λ life. ClaimsWhatIsIdle life.start life.events) }
 {}
 
-/// The life of a job. Entries come by XADD alone, and leave their stream by a deletion, a trim or with their key; a group
-/// comes by its XGROUP CREATE alone, which starts it as asked, and stays open until it is destroyed or its key goes. Each
-/// entry that was given has one place in each group of its stream, and no other: it is not the group's, waits, was
-/// dropped before its turn, was handed out with NOACK, is pending with one consumer, or is settled. Each event leaves
-/// it there, or leads it along an arrow: what waits is read or dropped; what is pending goes to another consumer by a
-/// claim alone, and is settled by an acknowledgement, the removal of its consumer, or a claim that finds it deleted.
-/// What was dropped, handed out or settled stays so for the life of the group. So none is lost, doubled or without an
-/// owner: what waits, what was dropped or handed out, the rows that XPENDING shows and what is settled are all that was
-/// given past the start.
+/// The life of a job. Entries come by XADD alone, and leave their stream by a deletion, a trim or with their key; a
+/// group comes by its XGROUP CREATE alone, which starts it as asked, and stays open until it is destroyed or its key
+/// goes. Each entry that was given has one place in each group of its stream, and no other: it is not the group's,
+/// waits, was dropped before its turn, was handed out with NOACK, is pending with one consumer, or is settled. Each
+/// event leaves it there, or leads it along an arrow: what waits is read or dropped; what is pending goes to another
+/// consumer by a claim alone, and is settled by an acknowledgement, the removal of its consumer, or a claim that
+/// finds it deleted. What was dropped, handed out or settled stays so for the life of the group. So none is lost,
+/// doubled or without an owner: what waits, what was dropped or handed out, the rows that XPENDING shows and what is
+/// settled are all that was given past the start.
 pub fn the_life_of_a_job()
     ensures one_place { (past : List (ℕ × Command)) (key group : List ℕ) (changes : List Change) (life : GroupLife) →
         key_life past key ≡ Some changes → group_life past key group ≡ Some life →
@@ -144,8 +144,8 @@ pub fn the_life_of_a_job()
         place_after (later ++ earlier) key group x ≡ Some here }
     ensures balances { (past : List (ℕ × Command)) (key group : List ℕ) (changes : List Change) (life : GroupLife) →
         key_life past key ≡ Some changes → group_life past key group ≡ Some life → BooksBalance changes life }
-    ensures told { (past : List (ℕ × Command)) (content : Content) (now : ℕ) (key group : List ℕ) (changes : List Change)
-        (life : GroupLife) → IsContent content past → key_life past key ≡ Some changes →
+    ensures told { (past : List (ℕ × Command)) (content : Content) (now : ℕ) (key group : List ℕ)
+        (changes : List Change) (life : GroupLife) → IsContent content past → key_life past key ≡ Some changes →
         group_life past key group ≡ Some life →
         TellsPending content now key group (length (jobs_at is_pending changes life)) }
 {}
