@@ -156,6 +156,7 @@ fn reports_each_fault(rt: HostRuntime) -> Result<(), Fail> {
     Ok(())
 }
 
+mod gates;
 mod of_bytes;
 mod sessions;
 mod tcp;
