@@ -77,7 +77,7 @@ pub serves-alone : {P C : Type 0} (Replies : P → Command → Reply → P → T
 unfolding Goes_on
 serves-alone Replies Fails gives content clock of never result old new read sent served =
     let same = last-is Fails never result served.last new served.rest served.exchanges sent served.ends in
-    let goes = run-goes Replies gives content clock of old served.requests served.exchanges served.last served.run in
+    let goes = run-goes Replies gives content clock of old served.answered.requests served.exchanges served.last served.answered.run in
     let events = goes.0 in
     let runs = runs-all (content old) events (map (λ a. a.1) (asked_in served.exchanges)) (content served.last) (goes.3 (content old) events [] (runs-none (content old) events)) in (
       events,

@@ -47,4 +47,4 @@ ends-keep (Err (fault.Port told)) last new rest exchanges sent ends =
 
 pub serve-keeps : (result : Result Ending ServeFault) (old new : Asker) (read sent : List ℕ) → Serves LaneReplies LaneFails result old new read sent → KeepsSide old.client new.client
 serve-keeps result old new read sent s =
-    same-again old s.last new (run-keeps old s.requests s.exchanges s.last s.run) (ends-keep result s.last new s.rest s.exchanges sent s.ends)
+    same-again old s.last new (run-keeps old s.answered.requests s.exchanges s.last s.answered.run) (ends-keep result s.last new s.rest s.exchanges sent s.ends)

@@ -1,9 +1,12 @@
 pub mod Reports
+pub mod Driving
 pub mod LineEnds
 pub mod ScriptLines
 pub mod Sessions
 pub mod CommandLines
 pub mod Exchanges
+pub mod Endings
 pub mod AloneRuns
 pub mod Lanes
 pub mod Crews
+pub mod ScriptTurns

@@ -1,10 +1,9 @@
 -- The lines of what was read.
-use Rattle.std.proofs.Common.{◌≡◌, ℕ, ◌<◌, Bool, true, false, ◌||◌, cond, eqb, leb, List, [], ◌∷◌, ◌++◌, length, None, sym, ap, ◌∙◌, refl, append_assoc, arith}
+use Rattle.std.proofs.Common.{◌≡◌, ℕ, ◌<◌, Bool, true, false, ◌||◌, cond, eqb, List, [], ◌∷◌, ◌++◌, length, sym, ap, ◌∙◌, refl, append_assoc, arith}
 use Rattle.std.specs.List.{flat_map, list_any}
 use Rattle.std.proofs.lemmas.List.{append-nil}
 use Rattle.std.proofs.lemmas.Bool.{false≢true}
-use Rattle.std.proofs.lemmas.Bool.Decides.{nat_tests}
-use Rattle.xs_server.specs.Line.{is_line_end, onto_first, script_lines, line_of, line_limit}
+use Rattle.xs_server.specs.Line.{is_line_end, onto_first, script_lines}
 use Rattle.xs_server.specs.Script.{with_end, AreLines}
 use Rattle.xs_server.specs.Session.{IsRead, IsInHand}
 
@@ -61,24 +60,6 @@ read-line read lines unused line left is split h = (
   are-more lines line is.1 h,
 )
 
--- the lines before one, and that one
-pub are-fewer : (lines : List (List ℕ)) (line : List ℕ) → AreLines (lines ++ line ∷ []) → AreLines lines × (list_any is_line_end line ≡ false)
-are-fewer [] line are = (tt, are.0)
-are-fewer (first ∷ lines) line are = let rest = are-fewer lines line are.1 in ((are.0, rest.0), rest.1)
-
--- a line that was read with its LF is in hand
-pub in-hand : (read : List ℕ) (lines : List (List ℕ)) (line unused : List ℕ) → IsRead read (lines ++ line ∷ []) unused → IsInHand read lines line (10 ∷ unused)
-in-hand read lines line unused is =
-    let are = are-fewer lines line is.1 in (
-      is.0 ∙ ap (λ f. f ++ unused) (flat-more lines line) ∙ append_assoc (flat_map with_end lines) (with_end line) unused ∙ ap (λ r. flat_map with_end lines ++ r) (append_assoc line (10 ∷ []) unused),
-      are.0,
-      are.1,
-    )
-
--- so is the last one that lacks it
+-- the last line, which lacks its end, is in hand
 pub in-hand-last : (read : List ℕ) (lines : List (List ℕ)) (line : List ℕ) → IsRead read lines line → list_any is_line_end line ≡ false → IsInHand read lines line []
 in-hand-last read lines line is none = (is.0 ∙ ap (λ r. flat_map with_end lines ++ r) (sym (append-nil line)), is.1, none)
-
--- a line past the limit is no script line
-pub long-line : (line : List ℕ) → line_limit < length line → line_of line ≡ None
-long-line line h = let e : leb (length line) line_limit ≡ false = grind (arith, nat_tests) in rw e refl

@@ -1,5 +1,5 @@
--- Sessions: one line more, and replies that are sent.
-use Rattle.std.proofs.Common.{◌≡◌, ℕ, ◌+◌, ◌≤◌, Bool, List, [], ◌∷◌, ◌++◌, length, Option, Some, None, Result, Ok, Err, inl, inr, sym, ap, ◌∙◌, subst, refl, append_assoc, arith, IsSomeAnd, length-append}
+-- Scripts: one line more, and the headline.
+use Rattle.std.proofs.Common.{◌≡◌, ℕ, ◌+◌, List, [], ◌∷◌, ◌++◌, length, Option, Some, None, Ok, sym, ap, ◌∙◌, subst, refl, append_assoc, arith, IsSomeAnd, length-append}
 use Rattle.std.proofs.lemmas.List.{append-nil}
 use Rattle.xs_resp.specs.declared.reply.Reply.{Reply}
 use Rattle.xs_resp.specs.ReplyText.{text}
@@ -7,20 +7,12 @@ use Rattle.xs_command.specs.declared.command.Command.{Command}
 use Rattle.xs_command.proofs.FormedReads.{given_formed}
 use Rattle.xs_keys.specs.Content.{Content, IsContent}
 use Rattle.xs_server.specs.Device.{capped}
-use Rattle.xs_server.specs.Line.{line_of, script_lines}
+use Rattle.xs_server.specs.Line.{line_of}
 use Rattle.xs_server.specs.Answering.{Answered, IsAnswer}
 use Rattle.xs_keys.specs.Headline.{Follows, Answers}
 use Rattle.xs_keys.proofs.Runs.{step-follows, headline}
-use Rattle.xs_server.specs.Script.{Script, Served, AreServed, events_of, answers_of, IsScript, with_end}
+use Rattle.xs_server.specs.Script.{Script, Served, AreServed, events_of, answers_of, IsScript}
 use Rattle.xs_server.specs.Serving.{StepAt}
-use Rattle.xs_server.specs.declared.script.session.Session.{Session}
-use Rattle.xs_server.specs.declared.script.fault.ScriptFault.{ScriptFault}
-use Rattle.xs_server.specs.declared.script.fault.ScriptFault.TheVariants.{Line, Read, Write}
-use Rattle.xs_server.specs.declared.script.fault.ScriptFault.TheVariants as script_fault
-use Rattle.xs_server.specs.Session.{Stands, Sent, PartSent, Sends, SendsAll, ServesNext, HasWriteCause, EndsBy, IsRead, IsInHand, IsReadOut, piece}
-use Rattle.xs_server.specs.declared.lines.taken.LineFault.TheVariants.{Long}
-use Rattle.xs_server.specs.Taking.{FailsLine}
-use Rattle.xs_server.proofs.ScriptLines.{long-line, read-lines}
 use Rattle.std.specs.List.{flat_map}
 
 -- how an answer of the keyspace goes on with a history
@@ -111,98 +103,5 @@ capped-more n lines line e = let len = length-append lines (line ∷ []) in omeg
 pub capped-sent : (n m : ℕ) (sent part : List ℕ) → n ≡ capped (length sent) → m ≡ capped (n + length part) → m ≡ capped (length (sent ++ part))
 capped-sent n m sent part e f = let len = length-append sent part in omega arith
 
--- ---- replies that are sent
-
-pub sent-after : (lines : List (List ℕ)) (sent part rest out : List ℕ) (n m : ℕ) (past : List (ℕ × Command)) → Script [] lines (sent ++ out) past
-    → n ≡ capped (length sent) → m ≡ capped (n + length part) → out ≡ part ++ rest → rest ≡ [] → Sent lines (sent ++ part) m
-sent-after lines sent part rest out n m past script counted more is none =
-    (is-script lines (sent ++ part) past (subst (λ o. Script [] lines (sent ++ o) past) (is ∙ ap (λ r. part ++ r) none ∙ append-nil part) script), capped-sent n m sent part counted more)
-
-pub part-after : (lines : List (List ℕ)) (sent part rest out : List ℕ) (n m : ℕ) (past : List (ℕ × Command)) → Script [] lines (sent ++ out) past
-    → n ≡ capped (length sent) → m ≡ capped (n + length part) → out ≡ part ++ rest → PartSent lines (sent ++ part) m
-part-after lines sent part rest out n m past script counted more is =
-    (sent ++ out, rest, is-script lines (sent ++ out) past script, ap (λ o. sent ++ o) is ∙ sym (append_assoc sent part rest), capped-sent n m sent part counted more)
-
 pub capped-next : (n m : ℕ) (lines : List (List ℕ)) → n ≡ capped (length lines) → m ≡ capped (n + 1) → m ≡ capped (length lines + 1)
 capped-next n m lines e f = omega arith
-
--- a writer that fails ends the script
-pub failed-send : (fault : ScriptFault) (lines : List (List ℕ)) (line sent part rest out : List ℕ) (n m : ℕ) (past : List (ℕ × Command)) (session : Session) (broken : Bool)
-    → Script [] lines (sent ++ out) past → n ≡ capped (length sent) → m ≡ capped (n + length part) → out ≡ part ++ rest → SendsAll (Err fault) rest m broken
-    → ServesNext (Err fault) lines line (sent ++ part) session broken
-failed-send (Write told) lines line sent part rest out n m past session broken script counted more is all =
-    (inl (part-after lines sent part rest out n told past script counted (all.0 ∙ more) is), all.1)
-failed-send (Line number written) lines line sent part rest out n m past session broken script counted more is all = absurd all
-failed-send (Read written) lines line sent part rest out n m past session broken script counted more is all = absurd all
-failed-send (script_fault.Memory written) lines line sent part rest out n m past session broken script counted more is all = absurd all
-
--- what is sent changes the session no further
-pub stands-after : (lines : List (List ℕ)) (sent part rest : List ℕ) (old new : Session) → Stands lines sent old → new ≡ record old { out = new.out; written = new.written }
-    → old.out.items ≡ part ++ rest → rest ≡ [] → new.out.items ≡ [] → new.written ≡ capped (old.written + length part) → Stands lines (sent ++ part) new
-stands-after lines sent part rest old new stands same is none empty counted =
-    let out = ap (λ o. sent ++ o) (is ∙ ap (λ r. part ++ r) none ∙ append-nil part) ∙ sym (append-nil (sent ++ part)) ∙ ap (λ o. (sent ++ part) ++ o) (sym empty) in (
-      stands.0,
-      subst (λ o. Script [] lines o stands.0) out stands.1,
-      subst (λ k. IsContent k stands.0) (sym (ap (λ s. s.keyspace) same)) stands.2,
-      ap (λ s. s.number) same ∙ stands.3,
-      capped-sent old.written new.written sent part stands.4 counted,
-    )
-
--- a line was served, and then the replies were sent
-pub served-sent : (result : Result (Unit {0}) ScriptFault) (lines : List (List ℕ)) (line sent part : List ℕ) (old new : Session) (broken : Bool) → Stands (lines ++ line ∷ []) sent old
-    → new ≡ record old { out = new.out; written = new.written } → Sends result old new part broken → ServesNext result lines line (sent ++ part) new broken
-served-sent (Ok done) lines line sent part old new broken stands same sends = stands-after (lines ++ line ∷ []) sent part sends.0 old new stands same sends.1 sends.4 sends.2 sends.3
-served-sent (Err (Write told)) lines line sent part old new broken stands same sends =
-    (inr (part-after (lines ++ line ∷ []) sent part sends.0 old.out.items old.written told stands.0 stands.1 stands.4 (sends.4.0 ∙ sends.3) sends.1), sends.4.1)
-served-sent (Err (Line number written)) lines line sent part old new broken stands same sends = absurd sends.4
-served-sent (Err (Read written)) lines line sent part old new broken stands same sends = absurd sends.4
-served-sent (Err (script_fault.Memory written)) lines line sent part old new broken stands same sends = absurd sends.4
-
-pub send-cause : (A : Type 0) (fault : ScriptFault) (rest : List ℕ) (m : ℕ) (broken : Bool) → SendsAll (Err fault) rest m broken → HasWriteCause {A = A} (Err fault) broken
-send-cause A (Write told) rest m broken all = all.1
-send-cause A (Line number written) rest m broken all = tt
-send-cause A (Read written) rest m broken all = absurd all
-send-cause A (script_fault.Memory written) rest m broken all = tt
-
--- ---- how a script ends
-
--- the line in hand isn't answered: it is so far from its end, and so much was read behind it
-pub fault-ends : (fault : ScriptFault) (lines : List (List ℕ)) (line behind : List ℕ) (after : List (List ℕ)) (read sent : List ℕ) (session : Session) (broken : Bool) (rest : Option (List ℕ)) (ended : Bool)
-    → IsInHand read lines line behind → IsReadOut line behind rest ended → length behind ≤ piece + 1 → script_lines read ≡ lines ++ line ∷ after
-    → ServesNext (Err fault) lines line sent session broken → EndsBy fault read sent rest ended
-fault-ends (Line number written) lines line behind after read sent session broken rest ended is whole few e next = (lines, line, behind, is, whole, next.0, next.1, next.2)
-fault-ends (Read written) lines line behind after read sent session broken rest ended is whole few e next = absurd next
-fault-ends (Write written) lines line behind after read sent session broken rest ended is whole few e (inl part, cause) = (lines, line ∷ after, e, part)
-fault-ends (Write written) lines line behind after read sent session broken rest ended is whole few e (inr part, cause) = (lines ++ line ∷ [], after, e ∙ sym (append_assoc lines (line ∷ []) after), part)
-fault-ends (script_fault.Memory written) lines line behind after read sent session broken rest ended is whole few e next = (lines, line, behind, is, few, next)
-
--- all lines are answered, and nothing is held
-pub all-sent : (lines : List (List ℕ)) (read sent : List ℕ) (session : Session) → Stands lines sent session → session.out.items ≡ [] → script_lines read ≡ lines → Sent (script_lines read) sent session.written
-all-sent lines read sent session stands empty e =
-    (is-script (script_lines read) sent stands.0 (subst (λ ls. Script [] ls sent stands.0) (sym e) (subst (λ o. Script [] lines o stands.0) (ap (λ o. sent ++ o) empty ∙ append-nil sent) stands.1)), stands.4)
-
--- a writer that fails at the end of the input
-pub finish-fails : (fault : ScriptFault) (lines : List (List ℕ)) (read sent part rest out : List ℕ) (n m : ℕ) (past : List (ℕ × Command)) (broken : Bool)
-    → Script [] lines (sent ++ out) past → n ≡ capped (length sent) → m ≡ capped (n + length part) → out ≡ part ++ rest → SendsAll (Err fault) rest m broken
-    → (rest_left : Option (List ℕ)) (ended : Bool) → script_lines read ≡ lines → EndsBy fault read (sent ++ part) rest_left ended
-finish-fails (Write told) lines read sent part rest out n m past broken script counted more is all left ended e =
-    (lines, [], e ∙ sym (append-nil lines), part-after lines sent part rest out n told past script counted (all.0 ∙ more) is)
-finish-fails (Line number written) lines read sent part rest out n m past broken script counted more is all left ended e = absurd all
-finish-fails (Read written) lines read sent part rest out n m past broken script counted more is all left ended e = absurd all
-finish-fails (script_fault.Memory written) lines read sent part rest out n m past broken script counted more is all left ended e = absurd all
-
--- the line in hand is too long
-pub gives-up-long : (lines : List (List ℕ)) (read sent unused : List ℕ) (number written : ℕ) (rest : Option (List ℕ)) (ended : Bool) → IsRead read lines unused → FailsLine Long unused
-    → number ≡ capped (length lines + 1) → Sent lines sent written → EndsBy (Line number written) read sent rest ended
-gives-up-long lines read sent unused number written rest ended is (line, more, split, none, long) counted all =
-    (lines, line, more, (is.0 ∙ ap (λ u. flat_map with_end lines ++ u) split, is.1, none), inr (inr long), long-line line long, counted, all)
-
--- a writer that fails while the line in hand can't be taken
-pub gives-up-write : (fault : ScriptFault) (lines : List (List ℕ)) (read sent part rest out unused : List ℕ) (n m : ℕ) (past : List (ℕ × Command)) (broken : Bool)
-    → Script [] lines (sent ++ out) past → n ≡ capped (length sent) → m ≡ capped (n + length part) → out ≡ part ++ rest → SendsAll (Err fault) rest m broken
-    → (rest_left : Option (List ℕ)) (ended : Bool) → IsRead read lines unused → EndsBy fault read (sent ++ part) rest_left ended
-gives-up-write (Write told) lines read sent part rest out unused n m past broken script counted more is all left ended read_is =
-    (lines, script_lines unused, read-lines read lines unused read_is, part-after lines sent part rest out n told past script counted (all.0 ∙ more) is)
-gives-up-write (Line number written) lines read sent part rest out unused n m past broken script counted more is all left ended read_is = absurd all
-gives-up-write (Read written) lines read sent part rest out unused n m past broken script counted more is all left ended read_is = absurd all
-gives-up-write (script_fault.Memory written) lines read sent part rest out unused n m past broken script counted more is all left ended read_is = absurd all

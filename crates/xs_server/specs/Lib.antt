@@ -1,6 +1,6 @@
 pub mod Device
+pub mod Machine
 pub mod Line
-pub mod Taking
 pub mod Answering
 pub mod Script
 pub mod Serving

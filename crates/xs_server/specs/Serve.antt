@@ -1,13 +1,12 @@
 -- A connection: the bytes that it reads and writes, and how it ends.
-use Rattle.std.specs.Prelude.{◌≡◌, ◌≢◌, ℕ, ◌+◌, ◌<◌, ◌⊎◌, Bool, true, false, List, [], ◌∷◌, ◌++◌, length}
-use Rattle.std.specs.Prelude.{Option, Result, Ok, Err}
-use Rattle.std.specs.Io.KnownBytes.{IsAtEnd}
+use Rattle.std.specs.Prelude.{◌≡◌, ◌≢◌, ℕ, ◌<◌, ◌⊎◌, true, false, List, [], ◌∷◌, ◌++◌, length}
+use Rattle.std.specs.Prelude.{Result, Ok, Err}
 use Rattle.xs_resp.specs.declared.fault.Fault.TheVariants.{Protocol}
 use Rattle.xs_resp.specs.declared.reply.Reply.{Reply}
 use Rattle.xs_resp.specs.declared.reply.Reply.TheVariants.{Error}
 use Rattle.xs_resp.specs.declared.read_fault.Wrong.{Wrong}
 use Rattle.xs_resp.specs.ReplyText.{text}
-use Rattle.xs_resp.specs.Grammar.{Spells, SpellsAll, FaultIn, IsOpen}
+use Rattle.xs_resp.specs.Grammar.{Spells, FaultIn, IsOpen}
 use Rattle.xs_command.specs.declared.command.Command.{Command}
 use Rattle.xs_command.specs.Read.{reads}
 use Rattle.xs_server.specs.declared.connections.ending.Ending.{Ending}
@@ -15,7 +14,8 @@ use Rattle.xs_server.specs.declared.connections.ending.Ending.TheVariants as end
 use Rattle.xs_server.specs.declared.connections.ending.ServeFault.{ServeFault}
 use Rattle.xs_server.specs.declared.connections.ending.ServeFault.TheVariants as fault
 use Rattle.xs_server.specs.Device.{capped}
-use Rattle.xs_server.specs.Exchange.{Exchange, Run, texts, is_quit, quits}
+use Rattle.xs_server.specs.Machine.{Cause, itself, input, reader, writer}
+use Rattle.xs_server.specs.Exchange.{Exchange, AreAnswered, texts, is_quit, quits}
 
 -- the answers are written, and none of them is to a QUIT
 abbrev pub Written : List Exchange → List ℕ → Type 0
@@ -85,28 +85,16 @@ Ends Fails (Err (fault.Port replies)) last new rest exchanges sent =
 pub record Serves
     {P : Type 0} (Replies : P → Command → Reply → P → Type 0) (Fails : P → Command → P → Type 0)
     (result : Result Ending ServeFault) (old new : P) (read sent : List ℕ) : Type 0 where
-  pub requests : List (List (List ℕ))
   pub exchanges : List Exchange
-  pub front : List ℕ
   pub rest : List ℕ
   pub last : P
-  pub read_is : read ≡ front ++ rest
-  pub spelled : SpellsAll front requests
-  pub run : Run Replies old requests exchanges last
+  pub answered : AreAnswered Replies old last read exchanges rest
   pub ends : Ends Fails result last new rest exchanges sent
 
--- how often a connection's reader is asked
-abbrev pub reads_limit : ℕ
-reads_limit = 1000000000000
-
--- why a connection ended so: the end of the input was met; the reader has failed, or has answered so many reads; the
--- writer has failed; the port is gone
-abbrev pub HasCause : Result Ending ServeFault → Option (List ℕ) → Bool → Bool → Bool → Bool → ℕ → ℕ → Type 0
-HasCause (Ok ending.Closed) left ended reader writer gone before calls = IsAtEnd left × (ended ≡ true)
-HasCause (Ok ending.Cut) left ended reader writer gone before calls = IsAtEnd left × (ended ≡ true)
-HasCause (Ok _) left ended reader writer gone before calls = Unit {0}
-HasCause (Err (fault.Read replies)) left ended reader writer gone before calls =
-    (reader ≡ true) ⊎ (capped calls ≡ capped (before + reads_limit))
-HasCause (Err (fault.Write replies)) left ended reader writer gone before calls = writer ≡ true
-HasCause (Err (fault.Memory replies)) left ended reader writer gone before calls = Unit {0}
-HasCause (Err (fault.Port replies)) left ended reader writer gone before calls = gone ≡ true
+-- why a connection ended so
+abbrev pub cause_of : Result Ending ServeFault → Cause
+cause_of (Ok ending.Closed) = input
+cause_of (Ok ending.Cut) = input
+cause_of (Err (fault.Read replies)) = reader
+cause_of (Err (fault.Write replies)) = writer
+cause_of _ = itself

@@ -1,23 +1,17 @@
--- A script while it runs, and how it ends.
+-- A script with no IO of its own, and how it ends.
 use Rattle.std.specs.Prelude.{◌≡◌, ℕ, ◌+◌, ◌<◌, ◌≤◌, true, false, ◌⊎◌, Bool, List, [], ◌∷◌, ◌++◌, length, Option, None}
 use Rattle.std.specs.Prelude.{Result, Ok, Err}
 use Rattle.std.specs.Io.KnownBytes.{IsAtEnd}
 use Rattle.std.specs.List.{flat_map, list_any}
 use Rattle.xs_command.specs.declared.command.Command.{Command}
-use Rattle.xs_bytes.specs.SortedMap as map
-use Rattle.xs_keys.specs.Content.{IsContent}
-use Rattle.xs_server.specs.declared.script.session.Session.{Session}
+use Rattle.xs_keys.specs.Content.{Content, IsContent}
+use Rattle.xs_server.specs.declared.script.machine.Script.{Script as Machine}
 use Rattle.xs_server.specs.declared.script.fault.ScriptFault.{ScriptFault}
 use Rattle.xs_server.specs.declared.script.fault.ScriptFault.TheVariants.{Line, Read, Write, Memory}
 use Rattle.xs_server.specs.Device.{capped}
 use Rattle.xs_server.specs.Line.{is_line_end, script_lines, line_of, line_limit}
+use Rattle.xs_server.specs.Machine.{Cause, itself, input, reader, writer}
 use Rattle.xs_server.specs.Script.{Script, IsScript, with_end, AreLines}
-
--- these lines are answered; some of the replies are sent, and the others are held
-abbrev pub Stands : List (List ℕ) → List ℕ → Session → Type 0
-Stands lines sent session =
-    (past : List (ℕ × Command)) × Script [] lines (sent ++ session.out.items) past × IsContent session.keyspace past
-    × (session.number ≡ capped (length lines)) × (session.written ≡ capped (length sent))
 
 -- the replies to these lines are sent, so many bytes
 abbrev pub Sent : List (List ℕ) → List ℕ → ℕ → Type 0
@@ -66,64 +60,37 @@ Runs (Err fault) read sent rest ended = EndsBy fault read sent rest ended
 abbrev pub IsRead : List ℕ → List (List ℕ) → List ℕ → Type 0
 IsRead read lines unused = (read ≡ flat_map with_end lines ++ unused) × AreLines lines
 
--- a line that was served isn't answered, and so the script ends; or it is
-abbrev pub ServesNext : Result (Unit {0}) ScriptFault → List (List ℕ) → List ℕ → List ℕ → Session → Bool → Type 0
-ServesNext (Ok done) lines line sent session broken = Stands (lines ++ line ∷ []) sent session
-ServesNext (Err (Line number written)) lines line sent session broken =
-    (line_of line ≡ None) × (number ≡ capped (length lines + 1)) × Sent lines sent written
-ServesNext (Err (Read written)) lines line sent session broken = ⊥
-ServesNext (Err (Write written)) lines line sent session broken =
-    (PartSent lines sent written ⊎ PartSent (lines ++ line ∷ []) sent written) × (broken ≡ true)
-ServesNext (Err (Memory written)) lines line sent session broken = Sent lines sent written
+-- behind the first line end stands a piece at most
+abbrev pub IsFew : List ℕ → Type 0
+IsFew held = (line rest : List ℕ) → held ≡ line ++ 10 ∷ rest → list_any is_line_end line ≡ false → length rest ≤ piece
 
--- all is sent, or the writer failed
-abbrev pub SendsAll : Result (Unit {0}) ScriptFault → List ℕ → ℕ → Bool → Type 0
-SendsAll (Ok done) rest written broken = rest ≡ []
-SendsAll (Err (Write told)) rest written broken = (told ≡ written) × (broken ≡ true)
-SendsAll (Err _) rest written broken = ⊥
+-- these lines are read and answered; some of the replies are written, and the others are owed
+pub record Stands (read sent : List ℕ) (script : Machine) (keyspace : Content) : Type 0 where
+  pub lines : List (List ℕ)
+  pub past : List (ℕ × Command)
+  pub said : Script [] lines (sent ++ script.owed.items) past
+  pub content : IsContent keyspace past
+  pub is_read : IsRead read lines script.held
+  pub few : IsFew script.held
+  pub number : script.number ≡ capped (length lines)
+  pub written : script.written ≡ capped (length sent)
 
--- these first bytes of the replies that were held are sent, and none is held any more
-abbrev pub Sends : Result (Unit {0}) ScriptFault → Session → Session → List ℕ → Bool → Type 0
-Sends result old new part broken =
-    (rest : List ℕ) × (old.out.items ≡ part ++ rest) × (new.out.items ≡ [])
-    × (new.written ≡ capped (old.written + length part)) × SendsAll result rest new.written broken
+-- nothing is read, answered or owed
+pub record IsNew (script : Machine) : Type 0 where
+  pub held : script.held ≡ []
+  pub owed : script.owed.items ≡ []
+  pub number : script.number ≡ 0
+  pub written : script.written ≡ 0
 
--- serving fails to write only where the writer has failed, and never reads
-abbrev pub HasWriteCause : {A : Type 0} → Result A ScriptFault → Bool → Type 0
-HasWriteCause (Err (Write written)) broken = broken ≡ true
-HasWriteCause (Err (Read written)) broken = ⊥
-HasWriteCause _ broken = Unit {0}
+-- why a script ended so
+abbrev pub cause_of : Result ℕ ScriptFault → Cause
+cause_of (Ok n) = input
+cause_of (Err (Read written)) = reader
+cause_of (Err (Write written)) = writer
+cause_of _ = itself
 
--- one more line is answered, or all are; or the script ends by a fault
-abbrev pub Steps : Result Bool ScriptFault → List (List ℕ) → List ℕ → List ℕ → Session → Option (List ℕ) → Bool → Type 0
-Steps (Ok true) lines read sent session rest ended =
-    (line : List ℕ) × IsRead read (lines ++ line ∷ []) session.chunk × Stands (lines ++ line ∷ []) sent session
-Steps (Ok false) lines read sent session rest ended = Sent (script_lines read) sent session.written
-Steps (Err fault) lines read sent session rest ended = EndsBy fault read sent rest ended
-
--- a writer's fault comes only from a writer that has failed; a reader's from one that has failed, or after so many
--- reads
-abbrev pub HasCause : Result Bool ScriptFault → Bool → Bool → ℕ → Type 0
-HasCause (Err (Write written)) reader writer left = writer ≡ true
-HasCause (Err (Read written)) reader writer left = (reader ≡ true) ⊎ (left ≡ 0)
-HasCause _ reader writer left = Unit {0}
-
--- how often a script's reader is asked
-abbrev pub reads_limit : ℕ
-reads_limit = 1000000000000
-
--- the same of a whole script
-abbrev pub RunsByCause : Result ℕ ScriptFault → Bool → Bool → ℕ → ℕ → Type 0
-RunsByCause (Err (Write written)) reader writer before calls = writer ≡ true
-RunsByCause (Err (Read written)) reader writer before calls =
-    (reader ≡ true) ⊎ (capped calls ≡ capped (before + reads_limit))
-RunsByCause _ reader writer before calls = Unit {0}
-
--- nothing is read, served or held
-pub record IsNew (session : Session) : Type 0 where
-  pub keyspace : session.keyspace ≡ map.empty
-  pub chunk : session.chunk ≡ []
-  pub out : session.out.items ≡ []
-  pub left : session.left ≡ reads_limit
-  pub written : session.written ≡ 0
-  pub number : session.number ≡ 0
+-- the script ran so, by this cause, whatever is left of the input: the end of the input was met, if that is the cause
+abbrev pub RunsBy : Cause → Result ℕ ScriptFault → List ℕ → List ℕ → Type 0
+RunsBy cause result read sent =
+    ((rest : Option (List ℕ)) (ended : Bool) → (cause ≡ input → IsAtEnd rest × (ended ≡ true))
+    → Runs result read sent rest ended) × ((cause_of result ≡ itself) ⊎ (cause ≡ cause_of result))

@@ -2,6 +2,5 @@
 pub mod answering;
 pub mod connection;
 pub mod ending;
-pub mod inbox;
 pub mod serve;
 pub mod serve_alone;

@@ -8,6 +8,7 @@ mod connections;
 mod devices;
 mod halves;
 mod lines;
+mod machines;
 mod report;
 mod script;
 mod serve_command;

@@ -1,151 +1,139 @@
-//! A connection while it is served.
-ghost use Rattle.std.specs.Prelude.{◌≡◌, ◌≢◌, ◌<◌, ◌+◌, ◌*◌, None, Bool, ℕ, List, Option, Ok, length};
-ghost use Rattle.std.specs.Io.KnownBytes.{Appends, Consumes};
+//! A connection, with no IO of its own: each of its turns answers a request.
+ghost use Rattle.std.specs.Prelude.{◌≡◌, ℕ, List, [], Ok, Err};
+ghost use Rattle.xs_resp.specs.Grammar.{IsOpen};
 ghost use Rattle.xs_resp.specs.Held.{held_length};
-ghost use Rattle.xs_resp.specs.ReplyText.{text};
-ghost use Rattle.xs_server.specs.Device.{capped};
-ghost use Rattle.xs_server.specs.Connection.{SendsText, Exchanges, TakesIn, Refuses, StepCause};
+ghost use Rattle.xs_server.specs.Connection.{IsNew, ServesBy, Stands};
 
 use crate::connections::answering::answer;
 use crate::connections::ending::{Ending, ServeFault};
-use crate::connections::inbox::{FillFault, Inbox};
-use crate::devices::device::{Sink, Source};
-use crate::devices::sending::write_all;
+use crate::machines::machine::{Machine, Turn};
 use std::alloc::Global;
 use std::sync::Wait;
-use xs_bytes::Bytes;
 use xs_desk::Port;
-use xs_resp::{Fault, Reply, encode};
+use xs_resp::{Fault, ReadFault, Reply, Requests, encode};
 
-/// A connection while it is served.
+/// A connection: the bytes that came in and aren't taken yet, and the text that it owes.
 #[derive(Drop)]
 pub struct Connection {
-    pub inbox: Inbox,
+    alloc: Global,
+    pub requests: Requests,
     /// The text of a reply.
-    pub out: Vec<u8>,
-    /// How many reads are left.
-    pub left: u64,
+    pub owed: Vec<u8>,
     /// How many replies were written.
     pub replies: u64,
-}
-
-/// Why a reply wasn't written.
-#[derive(Clone, Copy, Debug, PartialEq, Eq)]
-pub enum SendFault {
-    /// The writer failed.
-    Write,
-    /// Out of memory.
-    Memory,
 }
 
 /// How many bytes of memory the buffer keeps that a great reply made large.
 const KEPT: usize = 65_536;
 
-/// Writes the text of a reply. The buffer is used for its bytes.
-pub fn send<W: Sink>(writer: &mut W, out: &mut Vec<u8>, reply: &Reply) -> Result<(), SendFault>
-    ensures { (more : List ℕ) × Appends (W.held writer.old) (W.held writer.new) more
-        × SendsText result (text reply.now) more (W.broken writer.new) }
-{
-    out.clear();
-    let Ok(()) = encode(reply, out) else {
-        return Err(SendFault::Memory);
-    };
-    let written = write_all(writer, out.as_slice());
-    out.clear();
-    out.shrink_to(KEPT);
-    match written {
-        Ok(_) => Ok(()),
-        Err(_) => Err(SendFault::Write),
-    }
-}
-
-/// Answers the words of a request, and writes the answer.
-pub fn exchange<W: Sink, P: Port, T: Wait>(
-    rt: &T,
-    alloc: Global,
-    writer: &mut W,
-    port: &mut P,
-    connection: &mut Connection,
-    words: &[Bytes],
-) -> Result<Option<Ending>, ServeFault>
-    requires { 0 < length words.now }
-    ensures exchanges { (more : List ℕ) × Appends (W.held writer.old) (W.held writer.new) more
-        × Exchanges P.replies P.fails result port.old port.new words.now more
-        connection.old.replies connection.new.replies }
-    ensures cause { (rest : Option (List ℕ)) (ended reader : Bool) (left : ℕ) →
-        StepCause result rest ended reader (W.broken writer.new) (P.gone port.new) left }
-    ensures inbox { connection.new.inbox ≡ connection.old.inbox }
-    ensures left { connection.new.left ≡ connection.old.left }
-{
-    let replies = connection.replies;
-    let Ok(said) = answer(rt, alloc, port, words) else {
-        return Err(ServeFault::Port { replies });
-    };
-    match send(writer, &mut connection.out, &said.reply) {
-        Ok(()) => {}
-        Err(SendFault::Write) => return Err(ServeFault::Write { replies }),
-        Err(SendFault::Memory) => return Err(ServeFault::Memory { replies }),
-    }
-    if said.quits {
-        return Ok(Some(Ending::Quit));
-    }
-    connection.replies = replies.saturating_add(1);
-    Ok(None)
-}
-
-/// Writes the protocol error.
-pub fn refuse<W: Sink>(
-    writer: &mut W,
-    connection: &mut Connection,
-) -> Result<Option<Ending>, ServeFault>
-    ensures refuses { (more : List ℕ) × Appends (W.held writer.old) (W.held writer.new) more
-        × Refuses result more connection.old.replies }
-    ensures cause { (rest : Option (List ℕ)) (ended reader gone : Bool) (left : ℕ) →
-        StepCause result rest ended reader (W.broken writer.new) gone left }
-    ensures ended { result ≢ Ok None }
-    ensures inbox { connection.new.inbox ≡ connection.old.inbox }
-    ensures left { connection.new.left ≡ connection.old.left }
-{
-    let replies = connection.replies;
-    match send(writer, &mut connection.out, &Reply::Error(Fault::Protocol)) {
-        Ok(()) => Ok(Some(Ending::Protocol)),
-        Err(SendFault::Write) => Err(ServeFault::Write { replies }),
-        Err(SendFault::Memory) => Err(ServeFault::Memory { replies }),
-    }
-}
-
-/// Reads on, where no request is whole.
-pub fn take_in<R: Source>(
-    reader: &mut R,
-    connection: &mut Connection,
-) -> Result<Option<Ending>, ServeFault>
-    ensures takes { (rest : List ℕ) → connection.old.inbox ≡ Ok rest →
-        (got : List ℕ) × Consumes (R.rest reader.old) (R.rest reader.new) got
-        × TakesIn result rest got connection.new.inbox connection.old.replies }
-    ensures cause { (writer gone : Bool) →
-        StepCause result (R.rest reader.new) (R.ended reader.new) (R.broken reader.new)
-        writer gone connection.new.left }
-    ensures counted { capped (R.calls reader.new + connection.new.left)
-        ≡ capped (R.calls reader.old + connection.old.left) }
-    ensures replies { connection.new.replies ≡ connection.old.replies }
-    ensures fuel { result ≡ Ok None → connection.new.left * 65537 + held_length connection.new.inbox
-        < connection.old.left * 65537 + held_length connection.old.inbox }
-{
-    let replies = connection.replies;
-    if connection.left == 0 {
-        return Err(ServeFault::Read { replies });
-    }
-    connection.left -= 1;
-    match connection.inbox.fill(reader) {
-        Ok(true) => Ok(None),
-        Ok(false) => {
-            if connection.inbox.partial() {
-                Ok(Some(Ending::Cut))
-            } else {
-                Ok(Some(Ending::Closed))
-            }
+impl Connection {
+    /// A connection before its first byte. It takes no memory.
+    pub fn new(alloc: Global) -> Self
+        ensures { IsNew result }
+    {
+        Self {
+            alloc,
+            requests: Requests::new(alloc),
+            owed: Vec::new(alloc),
+            replies: 0,
         }
-        Err(FillFault::Read) => Err(ServeFault::Read { replies }),
-        Err(FillFault::Memory) => Err(ServeFault::Memory { replies }),
+    }
+}
+
+impl<P: Port, T: Wait> Machine<P, T> for Connection {
+    ghost use Rattle.xs_server.specs.declared.connections.ending.ServeFault.{ServeFault};
+
+    type End = Result<Ending, ServeFault>;
+
+    /// Each reply is written whole before the next request is taken.
+    const ENOUGH: usize = 1;
+
+    ghost ENOUGH = { 1 };
+
+    ghost owes = { λ connection. connection.owed.items };
+
+    ghost held = { λ connection. held_length connection.requests };
+
+    ghost is_waiting = { λ connection. (connection.owed.items ≡ [])
+        × ((bytes : List ℕ) → connection.requests ≡ Ok bytes → IsOpen bytes) };
+
+    ghost stands = { λ first read sent connection port. Stands P.replies first port read sent connection };
+
+    ghost has_ended = { λ cause end first read sent port.
+        ServesBy P.replies P.fails P.gone cause end first read sent port };
+
+    ghost breaks = { λ connection count. Err (ServeFault.Write connection.replies) };
+
+    fn advance(&mut self, rt: &T, port: &mut P) -> Turn<Result<Ending, ServeFault>> {
+        let replies = self.replies;
+        match self.requests.next() {
+            Ok(Some(words)) => {
+                if words.is_empty() {
+                    return Turn::Goes;
+                }
+                let Ok(said) = answer(rt, self.alloc, port, words.as_slice()) else {
+                    return Turn::Ends(Err(ServeFault::Port { replies }));
+                };
+                let Ok(()) = encode(&said.reply, &mut self.owed) else {
+                    return Turn::Ends(Err(ServeFault::Memory { replies }));
+                };
+                if said.quits {
+                    return Turn::Ends(Ok(Ending::Quit));
+                }
+                Turn::Goes
+            }
+            Ok(None) => Turn::Waits,
+            Err(fault) => match fault {
+                ReadFault::Memory => Turn::Ends(Err(ServeFault::Memory { replies })),
+                _ => {
+                    let Ok(()) = encode(&Reply::Error(Fault::Protocol), &mut self.owed) else {
+                        return Turn::Ends(Err(ServeFault::Memory { replies }));
+                    };
+                    Turn::Ends(Ok(Ending::Protocol))
+                }
+            },
+        }
+    }
+
+    fn feed(&mut self, piece: &[u8]) -> Result<(), Result<Ending, ServeFault>> {
+        match self.requests.feed(piece) {
+            Ok(()) => Ok(()),
+            Err(_) => Err(Err(ServeFault::Memory {
+                replies: self.replies,
+            })),
+        }
+    }
+
+    fn end(&mut self, _port: &mut P) -> Result<Ending, ServeFault> {
+        if self.requests.partial() {
+            Ok(Ending::Cut)
+        } else {
+            Ok(Ending::Closed)
+        }
+    }
+
+    fn read_error(&self) -> Result<Ending, ServeFault> {
+        Err(ServeFault::Read {
+            replies: self.replies,
+        })
+    }
+
+    fn write_error(&self, _count: usize) -> Result<Ending, ServeFault> {
+        Err(ServeFault::Write {
+            replies: self.replies,
+        })
+    }
+
+    fn owed(&self) -> &[u8] {
+        self.owed.as_slice()
+    }
+
+    fn paid(&mut self) {
+        if self.owed.as_slice().is_empty() {
+            return;
+        }
+        self.owed.clear();
+        self.owed.shrink_to(KEPT);
+        self.replies = self.replies.saturating_add(1);
     }
 }

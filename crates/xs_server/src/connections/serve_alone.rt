@@ -1,7 +1,8 @@
 //! A whole connection over a keyspace alone.
-ghost use Rattle.std.specs.Prelude.{◌≡◌, List, ℕ, false};
+ghost use Rattle.std.specs.Prelude.{◌≢◌, List, ℕ, Err};
 ghost use Rattle.std.specs.Io.KnownBytes.{Appends, Consumes};
-ghost use Rattle.xs_server.specs.Serve.{Serves, HasCause};
+ghost use Rattle.xs_server.specs.Serve.{Serves, cause_of};
+ghost use Rattle.xs_server.specs.Machine.{HasCause};
 ghost use Rattle.xs_server.specs.Alone.{RunsAlone};
 
 use crate::connections::ending::{Ending, ServeFault};
@@ -26,8 +27,9 @@ pub fn serve_alone<R: Source, W: Sink, C: Clock + Drop, T: Wait>(
         × ((served : Serves ⟦<Alone<C> as Port>⟧.replies ⟦<Alone<C> as Port>⟧.fails result
         alone.old alone.new read sent)
         × RunsAlone C.gives served.exchanges alone.old.keyspace alone.old.clock alone.new.keyspace alone.new.clock) }
-    ensures cause { HasCause result (R.rest reader.new) (R.ended reader.new) (R.broken reader.new)
-        (W.broken writer.new) false (R.calls reader.old) (R.calls reader.new) }
+    ensures cause { HasCause (cause_of result) (R.rest reader.new) (R.ended reader.new) (R.broken reader.new)
+        (R.calls reader.old) (R.calls reader.new) (W.broken writer.new) }
+    ensures answered { (replies : ℕ) → result ≢ Err (ServeFault.Port replies) }
 {
     serve(rt, alloc, reader, writer, alone)
 }

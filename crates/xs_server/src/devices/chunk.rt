@@ -1,5 +1,5 @@
-//! Bytes that were read and aren't used yet.
-ghost use Rattle.std.specs.Prelude.{◌≡◌, ◌+◌, ◌≤◌, [], true, length, drop, IfOk, OnErr};
+//! The bytes of one read.
+ghost use Rattle.std.specs.Prelude.{◌≡◌, ◌+◌, ◌≤◌, [], true, length, IfOk, OnErr};
 ghost use Rattle.std.specs.Io.KnownBytes.{Consumes, Keeps, IsAtEnd};
 ghost use Rattle.xs_server.specs.Device.{capped};
 
@@ -10,22 +10,21 @@ use std::marker::Model;
 /// How many bytes are read at once.
 const CHUNK: usize = 65_536;
 
-/// Bytes that were read and aren't used yet, in a buffer that is used again. A contract sees them as a list.
+/// The bytes of one read, in a buffer that is used again. A contract sees them as a list.
 #[derive(Drop)]
 pub struct Chunk {
     bytes: Vec<u8>,
-    at: usize,
     filled: usize,
 }
 
 impl Model for Chunk {
-    ghost use Rattle.std.specs.Prelude.{ℕ, ◌≡◌, ◌≤◌, List, take, drop, length};
+    ghost use Rattle.std.specs.Prelude.{ℕ, ◌≡◌, ◌≤◌, List, take, length};
 
     ghost Value = { List ℕ };
 
-    ghost view = { λ c. drop c.at (take c.filled c.bytes.items) };
+    ghost view = { λ c. take c.filled c.bytes.items };
 
-    ghost invariant = { λ c. (c.at ≤ c.filled) × (c.filled ≤ length c.bytes.items) × (length c.bytes.items ≡ 65536) };
+    ghost invariant = { λ c. (c.filled ≤ length c.bytes.items) × (length c.bytes.items ≡ 65536) };
 }
 
 impl Chunk {
@@ -34,32 +33,19 @@ impl Chunk {
         ensures { IfOk result (λ chunk. chunk ≡ []) }
     {
         let bytes = vec![in alloc; 0u8; CHUNK]?;
-        Ok(Self {
-            bytes,
-            at: 0,
-            filled: 0,
-        })
+        Ok(Self { bytes, filled: 0 })
     }
 
-    /// The bytes that aren't used yet.
-    pub fn unused(&self) -> &[u8]
+    /// The bytes.
+    pub fn bytes(&self) -> &[u8]
         ensures value { result.now ≡ self.now }
         ensures small { length self.now ≤ 65536 }
     {
-        &self.bytes[self.at..self.filled]
+        &self.bytes[..self.filled]
     }
 
-    /// Uses up the first bytes.
-    pub fn consume(&mut self, count: usize)
-        requires { count ≤ length self.old }
-        ensures { self.new ≡ drop count self.old }
-    {
-        self.at += count;
-    }
-
-    /// Reads the next bytes, once all are used up.
+    /// Reads the next bytes, in place of those before.
     pub fn fill<R: Source>(&mut self, reader: &mut R) -> Result<usize, Failed>
-        requires { self.old ≡ [] }
         ensures bytes { IfOk result (λ n. Consumes (R.rest reader.old) (R.rest reader.new) self.new
             × (n ≡ length self.new)) }
         ensures small { IfOk result (λ n. n ≤ 65536) }
@@ -68,7 +54,6 @@ impl Chunk {
         ensures err { OnErr result ((R.broken reader.new ≡ true) × Keeps (R.rest reader.old) (R.rest reader.new)
             × (self.new ≡ [])) }
     {
-        self.at = 0;
         self.filled = 0;
         let count = reader.read(self.bytes.as_mut_slice())?;
         self.filled = count;

@@ -1,16 +1,16 @@
 //! Whole connections over a keyspace alone, at moment 1000.
 use super::*;
-use crate::connections::connection::send;
+use crate::connections::connection::Connection;
 use crate::connections::ending::{Ending, ServeFault};
 use crate::connections::serve::serve;
 use crate::connections::serve_alone::serve_alone;
+use crate::devices::chunk::Chunk;
+use crate::machines::drive::drive;
 use std::sync::atomic::AtomicU64;
 use std::sync::{Arc, Wait};
-use xs_bytes::Bytes;
 use xs_desk::{Alone, Lane, desk};
 use xs_fakes::{InTwo, Still};
 use xs_keys::Keyspace;
-use xs_resp::Reply;
 use xs_stream::Moment;
 
 /// An empty keyspace at moment 1000.
@@ -203,12 +203,29 @@ fn a_refused_connection_is_served_again(rt: HostRuntime) -> Result<(), Fail> {
 #[test]
 fn gives_a_great_buffer_back(rt: HostRuntime) -> Result<(), Fail> {
     let alloc = rt.alloc();
-    let reply = Reply::Bulk(Bytes::new(vec![in alloc; b'x'; 1_000_000]?));
+    let long = vec![in alloc; b'x'; 1_000_000]?;
+    let input = [
+        "*2\r\n$4\r\nPING\r\n$1000000\r\n".as_bytes(),
+        long.as_slice(),
+        b"\r\n",
+    ]
+    .concat(alloc)?;
+    let mut reader = FromRead::new(input.as_slice());
     let mut writer = ToWrite::new(Vec::new(alloc));
-    let mut out = Vec::new(alloc);
-    assert_eq!(rt; send(&mut writer, &mut out, &reply), Ok(()));
+    let mut chunk = Chunk::new(alloc)?;
+    let mut connection = Connection::new(alloc);
+    let mut alone = new_alone(alloc);
+    let served = drive(
+        &rt,
+        &mut reader,
+        &mut writer,
+        &mut chunk,
+        &mut connection,
+        &mut alone,
+    );
+    assert_eq!(rt; served, Ok(Ending::Closed));
     assert_eq!(rt; writer.into_inner().len(), 1_000_012);
-    assert!(rt; out.capacity() <= 65_536);
+    assert!(rt; connection.owed.capacity() <= 65_536);
     Ok(())
 }
 

@@ -1,0 +1,266 @@
+-- How a connection goes on, and how it ends.
+use Rattle.std.proofs.Common.{◌≡◌, ◌≢◌, ℕ, ◌+◌, ◌<◌, Bool, true, false, ◌||◌, List, [], ◌∷◌, ◌++◌, length, take, drop, Ok, Err, inl, inr, sym, ap, ◌∙◌, subst, refl, arith, length-append, length-drop}
+use Rattle.std.proofs.lemmas.List.{append-nil, take-append-drop}
+use Rattle.std.proofs.lemmas.Grind.{flat_map-append}
+use Rattle.std.proofs.lemmas.List.Folds.{list_any-append}
+use Rattle.xs_resp.specs.declared.reply.Reply.{Reply}
+use Rattle.xs_resp.specs.declared.reply.Reply.TheVariants.{Simple, Error, Int, Bulk, NullBulk, Array, NullArray}
+use Rattle.xs_resp.specs.declared.fault.Fault.TheVariants.{Protocol}
+use Rattle.xs_resp.specs.declared.read_fault.Wrong.{Wrong}
+use Rattle.xs_resp.specs.ReplyText.{text}
+use Rattle.xs_resp.specs.Held.{fed, is_partial}
+use Rattle.xs_resp.specs.Grammar.{FaultIn, IsOpen}
+use Rattle.xs_command.specs.declared.command.Command.{Command}
+use Rattle.xs_server.specs.declared.connections.connection.Connection.{Connection}
+use Rattle.xs_server.specs.declared.connections.ending.Ending.TheVariants as ending
+use Rattle.xs_server.specs.declared.connections.ending.ServeFault.TheVariants as serve_fault
+use Rattle.xs_server.specs.Device.{capped}
+use Rattle.xs_server.specs.Machine.{itself, input, reader, writer, EndsOncePaid}
+use Rattle.xs_server.specs.Exchange.{Exchange, AreAnswered, texts, is_quit}
+use Rattle.xs_server.specs.Serve.{WrittenTo, IsPart, PortFails}
+use Rattle.xs_server.specs.Connection.{Owes, Stands, ServesBy}
+use Rattle.xs_server.proofs.Exchanges.{answered-again, answered-read}
+
+-- ---- what is written
+
+texts-more : (exchanges : List Exchange) (exchange : Exchange) → texts (exchanges ++ exchange ∷ []) ≡ texts exchanges ++ text exchange.answer
+texts-more exchanges exchange = flat_map-append (λ (e : Exchange). text e.answer) exchanges (exchange ∷ []) ∙ ap (λ t. texts exchanges ++ t) (append-nil (text exchange.answer))
+
+-- a part of a text behind the answers
+written-part : (exchanges : List Exchange) (sent part : List ℕ) (replies : ℕ) → WrittenTo exchanges [] sent replies → WrittenTo exchanges part (sent ++ part) replies
+written-part exchanges sent part replies w = (w.0, ap (λ o. o ++ part) (w.1 ∙ append-nil (texts exchanges)), w.2)
+
+-- all answers, and one more
+sent-more : (exchanges : List Exchange) (exchange : Exchange) (sent owed : List ℕ) (replies : ℕ) → WrittenTo exchanges [] sent replies → owed ≡ text exchange.answer → sent ++ owed ≡ texts (exchanges ++ exchange ∷ [])
+sent-more exchanges exchange sent owed replies w is = ap (λ o. sent ++ o) is ∙ ap (λ o. o ++ text exchange.answer) (w.1 ∙ append-nil (texts exchanges)) ∙ sym (texts-more exchanges exchange)
+
+written-more : (exchanges : List Exchange) (exchange : Exchange) (sent owed : List ℕ) (replies more : ℕ) → WrittenTo exchanges [] sent replies → (owed ≡ text exchange.answer) × (is_quit exchange.asked ≡ false) → more ≡ capped (replies + 1)
+    → WrittenTo (exchanges ++ exchange ∷ []) [] (sent ++ owed) more
+written-more exchanges exchange sent owed replies more w (is, other) counted =
+    let len = length-append exchanges (exchange ∷ []) in (
+      list_any-append (λ (e : Exchange). is_quit e.asked) exchanges (exchange ∷ []) ∙ ap (λ b. b || (is_quit exchange.asked || false)) w.0 ∙ ap (λ b. b || false) other,
+      sent-more exchanges exchange sent owed replies w is ∙ sym (append-nil (texts (exchanges ++ exchange ∷ []))),
+      omega (arith, counted, w.2, len),
+    )
+
+is-part : (count : ℕ) (owed whole : List ℕ) → count < length owed → owed ≡ whole → IsPart (take count owed) whole
+is-part count owed whole few is = (drop count owed, sym is ∙ sym (take-append-drop count owed), omega (arith, few, length-drop count owed))
+
+-- a reply has a text
+some-text : (reply : Reply) → 0 < length (text reply)
+unfolding text
+some-text (Simple s) = omega arith
+some-text (Error f) = omega arith
+some-text (Int n) = omega arith
+some-text (Bulk bytes) = omega arith
+some-text NullBulk = omega arith
+some-text (Array items) = omega arith
+some-text NullArray = omega arith
+
+-- ---- how a connection goes on
+
+partial-some : (bytes : List ℕ) → is_partial (Ok bytes) ≡ true → bytes ≢ []
+partial-some [] e = λ is. cc
+partial-some (b ∷ bytes) e = λ is. cc
+
+partial-none : (bytes : List ℕ) → is_partial (Ok bytes) ≡ false → bytes ≡ []
+partial-none [] e = refl
+partial-none (b ∷ bytes) e = absurd (grind arith)
+
+module _ {P : Type 0} (Replies : P → Command → Reply → P → Type 0) where
+  -- a connection that owes nothing: all answers are written
+  pub record Settled (old new : P) (read sent : List ℕ) (connection : Connection) : Type 0 where
+    pub exchanges : List Exchange
+    pub rest : List ℕ
+    pub answered : AreAnswered Replies old new read exchanges rest
+    pub holds : connection.requests ≡ Ok rest
+    pub written : WrittenTo exchanges [] sent connection.replies
+
+  all-answered : (old new : P) (read : List ℕ) (exchanges last : List Exchange) (rest owed : List ℕ) → AreAnswered Replies old new read (exchanges ++ last) rest → Owes last owed → length owed < 1
+      → AreAnswered Replies old new read exchanges rest
+  all-answered old new read exchanges [] rest owed a owes few = subst (λ (e : List Exchange). AreAnswered Replies old new read e rest) (append-nil exchanges) a
+  all-answered old new read exchanges (one ∷ []) rest owed a owes few = absurd (omega (arith, ap length owes.0, some-text one.answer, few))
+  all-answered old new read exchanges (one ∷ two ∷ more) rest owed a owes few = absurd owes
+
+  pub settled : (old new : P) (read sent : List ℕ) (connection : Connection) → Stands Replies old new read sent connection → length connection.owed.items < 1 → Settled old new read sent connection
+  settled old new read sent connection s few = record {
+    exchanges = s.exchanges;
+    rest = s.rest;
+    answered = all-answered old new read s.exchanges s.last s.rest connection.owed.items s.answered s.owes few;
+    holds = s.holds;
+    written = s.written;
+  }
+
+  -- what is owed is written
+  pub stands-paid : (old new : P) (read sent : List ℕ) (connection later : Connection) → Stands Replies old new read sent connection → 0 < length connection.owed.items → later.requests ≡ connection.requests
+      → later.owed.items ≡ [] → later.replies ≡ capped (connection.replies + 1) → Stands Replies old new read (sent ++ connection.owed.items) later
+  stands-paid old new read sent connection later s some same none counted = record {
+    exchanges = s.exchanges ++ s.last;
+    last = [];
+    rest = s.rest;
+    answered = subst (λ (e : List Exchange). AreAnswered Replies old new read e s.rest) (sym (append-nil (s.exchanges ++ s.last))) s.answered;
+    holds = same ∙ s.holds;
+    written = written-last s.last s.written s.owes;
+    owes = none;
+  } where
+    written-last : (last : List Exchange) → WrittenTo s.exchanges [] sent connection.replies → Owes last connection.owed.items → WrittenTo (s.exchanges ++ last) [] (sent ++ connection.owed.items) later.replies
+    written-last [] w owes = absurd (omega (arith, some, ap length owes))
+    written-last (one ∷ []) w owes = written-more s.exchanges one sent connection.owed.items connection.replies later.replies w owes counted
+    written-last (one ∷ two ∷ more) w owes = absurd owes
+
+  -- more is read
+  pub stands-fed : (old new : P) (read sent got : List ℕ) (connection later : Connection) → Stands Replies old new read sent connection → later.requests ≡ fed connection.requests got → later.owed.items ≡ connection.owed.items
+      → later.replies ≡ connection.replies → Stands Replies old new (read ++ got) sent later
+  stands-fed old new read sent got connection later s is same counted = record {
+    exchanges = s.exchanges;
+    last = s.last;
+    rest = s.rest ++ got;
+    answered = answered-read Replies old new read s.rest got (s.exchanges ++ s.last) s.answered;
+    holds = is ∙ ap (λ h. fed h got) s.holds;
+    written = subst (λ n. WrittenTo s.exchanges [] sent n) (sym counted) s.written;
+    owes = subst (λ (o : List ℕ). Owes s.last o) (sym same) s.owes;
+  }
+
+  -- a request of no words is taken
+  pub passed : (old mid new : P) (read bytes rest : List ℕ) (exchanges : List Exchange)
+      → AreAnswered Replies old mid read exchanges bytes → AreAnswered Replies mid new bytes [] rest → AreAnswered Replies old new read exchanges rest
+  passed old mid new read bytes rest exchanges a b =
+      subst (λ (e : List Exchange). AreAnswered Replies old new read e rest) (append-nil exchanges) (answered-again Replies old mid new read bytes rest exchanges [] a b)
+
+-- ---- how a connection ends
+
+module _ {P : Type 0} (Replies : P → Command → Reply → P → Type 0) (Fails : P → Command → P → Type 0) (gone : P → Bool) where
+  abbrev Broken : P → P → List ℕ → List ℕ → List ℕ → ℕ → Type 0
+  Broken old new read sent owed replies = (count : ℕ) → count < length owed → ServesBy Replies Fails gone writer (Err (serve_fault.Write replies)) old read (sent ++ take count owed) new
+
+  -- the writer fails within the last answer
+  pub answer-broken : (old new : P) (read sent owed rest : List ℕ) (exchanges : List Exchange) (one : Exchange) (replies : ℕ)
+      → AreAnswered Replies old new read (exchanges ++ one ∷ []) rest → WrittenTo exchanges [] sent replies → owed ≡ text one.answer → Broken old new read sent owed replies
+  answer-broken old new read sent owed rest exchanges one replies a w is = λ count few. (
+    record {
+      exchanges = exchanges ++ one ∷ [];
+      rest = rest;
+      last = new;
+      answered = a;
+      ends = (refl, inl (exchanges, one, take count owed, refl, written-part exchanges sent (take count owed) replies w, is-part count owed (text one.answer) few is));
+    },
+    refl,
+    λ told e. cc,
+  )
+
+  pub stands-broken : (old new : P) (read sent : List ℕ) (connection : Connection) → Stands Replies old new read sent connection → Broken old new read sent connection.owed.items connection.replies
+  stands-broken old new read sent connection s = by s.last s.answered s.owes where
+    by : (last : List Exchange) → AreAnswered Replies old new read (s.exchanges ++ last) s.rest → Owes last connection.owed.items → Broken old new read sent connection.owed.items connection.replies
+    by [] a owes = λ count few. absurd (omega (arith, few, ap length owes))
+    by (one ∷ []) a owes = answer-broken old new read sent connection.owed.items s.rest s.exchanges one connection.replies a s.written owes.0
+    by (one ∷ two ∷ more) a owes = absurd owes
+
+  -- a QUIT is answered
+  pub ends-quit : (old new : P) (read sent owed rest : List ℕ) (exchanges : List Exchange) (one : Exchange) (replies : ℕ)
+      → AreAnswered Replies old new read (exchanges ++ one ∷ []) rest → WrittenTo exchanges [] sent replies → owed ≡ text one.answer → is_quit one.asked ≡ true
+      → EndsOncePaid (ServesBy Replies Fails gone) (λ count. Err (serve_fault.Write replies)) itself (Ok ending.Quit) old read sent owed new
+  ends-quit old new read sent owed rest exchanges one replies a w is quit = (
+    (
+      record {
+        exchanges = exchanges ++ one ∷ [];
+        rest = rest;
+        last = new;
+        answered = a;
+        ends = (refl, (exchanges, one, refl, w.0, quit, sent-more exchanges one sent owed replies w is));
+      },
+      refl,
+      λ told e. cc,
+    ),
+    answer-broken old new read sent owed rest exchanges one replies a w is,
+  )
+
+  -- the bytes aren't a request
+  pub ends-refused : (old new : P) (read sent owed rest : List ℕ) (exchanges : List Exchange) (replies : ℕ) (wrong : Wrong)
+      → AreAnswered Replies old new read exchanges rest → WrittenTo exchanges [] sent replies → owed ≡ text (Error Protocol) → FaultIn rest wrong
+      → EndsOncePaid (ServesBy Replies Fails gone) (λ count. Err (serve_fault.Write replies)) itself (Ok ending.Protocol) old read sent owed new
+  ends-refused old new read sent owed rest exchanges replies wrong a w is stands = (
+    (
+      record {
+        exchanges = exchanges;
+        rest = rest;
+        last = new;
+        answered = a;
+        ends = (refl, (wrong, stands, w.0, ap (λ o. sent ++ o) is ∙ ap (λ o. o ++ text (Error Protocol)) (w.1 ∙ append-nil (texts exchanges))));
+      },
+      refl,
+      λ told e. cc,
+    ),
+    λ count few. (
+      record {
+        exchanges = exchanges;
+        rest = rest;
+        last = new;
+        answered = a;
+        ends = (refl, inr (wrong, take count owed, stands, written-part exchanges sent (take count owed) replies w, is-part count owed (text (Error Protocol)) few is));
+      },
+      refl,
+      λ told e. cc,
+    ),
+  )
+
+  -- memory ran out, for the bytes or the words of a request
+  pub memory-ends : (old new : P) (read sent : List ℕ) (connection : Connection) → Settled Replies old new read sent connection → ServesBy Replies Fails gone itself (Err (serve_fault.Memory connection.replies)) old read sent new
+  memory-ends old new read sent connection s =
+      (record { exchanges = s.exchanges; rest = s.rest; last = new; answered = s.answered; ends = (refl, inl s.written) }, refl, λ told e. cc)
+
+  -- memory ran out for the last answer
+  pub answer-lost : (old mid new : P) (read sent bytes rest : List ℕ) (exchanges : List Exchange) (one : Exchange) (replies : ℕ)
+      → AreAnswered Replies old mid read exchanges bytes → WrittenTo exchanges [] sent replies → AreAnswered Replies mid new bytes (one ∷ []) rest
+      → ServesBy Replies Fails gone itself (Err (serve_fault.Memory replies)) old read sent new
+  answer-lost old mid new read sent bytes rest exchanges one replies a w more = (
+    record {
+      exchanges = exchanges ++ one ∷ [];
+      rest = rest;
+      last = new;
+      answered = answered-again Replies old mid new read bytes rest exchanges (one ∷ []) a more;
+      ends = (refl, inr (exchanges, one, refl, w));
+    },
+    refl,
+    λ told e. cc,
+  )
+
+  -- the port answers no more
+  pub port-ends : (old mid new : P) (read sent : List ℕ) (connection : Connection) (s : Settled Replies old mid read sent connection) → PortFails Fails mid new s.rest → gone new ≡ true
+      → ServesBy Replies Fails gone itself (Err (serve_fault.Port connection.replies)) old read sent new
+  port-ends old mid new read sent connection s fails is =
+      (record { exchanges = s.exchanges; rest = s.rest; last = mid; answered = s.answered; ends = (fails, s.written) }, refl, λ told e. is)
+
+  -- no more can be read
+  pub read-ends : (old new : P) (read sent : List ℕ) (connection : Connection) (s : Settled Replies old new read sent connection) → IsOpen s.rest
+      → ServesBy Replies Fails gone reader (Err (serve_fault.Read connection.replies)) old read sent new
+  read-ends old new read sent connection s waits =
+      (record { exchanges = s.exchanges; rest = s.rest; last = new; answered = s.answered; ends = (refl, waits, s.written) }, refl, λ told e. cc)
+
+  -- the end of the input is met
+  pub cut-ends : (old new : P) (read sent : List ℕ) (connection : Connection) (s : Settled Replies old new read sent connection) → IsOpen s.rest → is_partial connection.requests ≡ true
+      → ServesBy Replies Fails gone input (Ok ending.Cut) old read sent new
+  cut-ends old new read sent connection s waits some = (
+    record {
+      exchanges = s.exchanges;
+      rest = s.rest;
+      last = new;
+      answered = s.answered;
+      ends = (refl, (partial-some s.rest (ap is_partial (sym s.holds) ∙ some), waits, (s.written.0, s.written.1 ∙ append-nil (texts s.exchanges))));
+    },
+    refl,
+    λ told e. cc,
+  )
+
+  pub closed-ends : (old new : P) (read sent : List ℕ) (connection : Connection) (s : Settled Replies old new read sent connection) → is_partial connection.requests ≡ false
+      → ServesBy Replies Fails gone input (Ok ending.Closed) old read sent new
+  closed-ends old new read sent connection s none = (
+    record {
+      exchanges = s.exchanges;
+      rest = s.rest;
+      last = new;
+      answered = s.answered;
+      ends = (refl, (partial-none s.rest (ap is_partial (sym s.holds) ∙ none), (s.written.0, s.written.1 ∙ append-nil (texts s.exchanges))));
+    },
+    refl,
+    λ told e. cc,
+  )

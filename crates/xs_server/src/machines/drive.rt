@@ -1,0 +1,117 @@
+//! The loop that drives a machine over a reader and a writer.
+ghost use Rattle.std.specs.Prelude.{◌≡◌, ◌+◌, ◌*◌, ◌<◌, ◌≤◌, ◌⊎◌, ◌++◌, [], Bool, ℕ, List, true, length, take};
+ghost use Rattle.std.specs.Prelude.{OnOk, OnErr, IfErr, MatchResult};
+ghost use Rattle.std.specs.Io.KnownBytes.{Appends, Consumes};
+ghost use Rattle.xs_server.specs.Device.{capped};
+ghost use Rattle.xs_server.specs.Machine.{Cause, HasCause, EndsOncePaid, reads_limit};
+
+use crate::devices::chunk::Chunk;
+use crate::devices::device::{Sink, Source};
+use crate::devices::sending::write_all;
+use crate::machines::machine::{Machine, Turn};
+
+/// How often a reader is asked.
+const READS: u64 = 1_000_000_000_000;
+
+/// Takes the machine's next turn, and reads on if it waits. The machine's end is the error.
+fn come<S, T, M: Machine<S, T>, R: Source>(
+    rt: &T,
+    reader: &mut R,
+    left: &mut u64,
+    chunk: &mut Chunk,
+    machine: &mut M,
+    service: &mut S,
+) -> Result<(), M::End>
+    requires { length (M.owes machine.old) < M.ENOUGH }
+    ensures comes { (first : S) (read sent : List ℕ) → M.stands first read sent machine.old service.old →
+        (got : List ℕ) × Consumes (R.rest reader.old) (R.rest reader.new) got
+        × MatchResult result (λ _. M.stands first (read ++ got) sent machine.new service.new)
+        (λ end. (cause : Cause) × EndsOncePaid M.has_ended (M.breaks machine.new) cause end
+        first (read ++ got) sent (M.owes machine.new) service.new
+        × ((before : ℕ) (broken : Bool) → capped (R.calls reader.old + left.old) ≡ capped (before + reads_limit)
+        → HasCause cause (R.rest reader.new) (R.ended reader.new) (R.broken reader.new)
+        before (R.calls reader.new) broken)) }
+    ensures counted { capped (R.calls reader.new + left.new) ≡ capped (R.calls reader.old + left.old) }
+    ensures less { OnOk result (left.new * 65537 + M.held machine.new < left.old * 65537 + M.held machine.old) }
+{
+    match machine.advance(rt, service) {
+        Turn::Goes => return Ok(()),
+        Turn::Ends(end) => return Err(end),
+        Turn::Waits => {}
+    }
+    if *left == 0 {
+        return Err(machine.read_error());
+    }
+    *left -= 1;
+    let Ok(count) = chunk.fill(reader) else {
+        return Err(machine.read_error());
+    };
+    if count == 0 {
+        return Err(machine.end(service));
+    }
+    match machine.feed(chunk.bytes()) {
+        Ok(()) => Ok(()),
+        Err(end) => Err(end),
+    }
+}
+
+/// Writes what the machine owes once there is enough of it. Its end is the error.
+fn send_on<S, T, M: Machine<S, T>, W: Sink>(writer: &mut W, machine: &mut M) -> Result<(), M::End>
+    ensures sends { (first service : S) (read sent : List ℕ) → M.stands first read sent machine.old service →
+        (more : List ℕ) × Appends (W.held writer.old) (W.held writer.new) more
+        × MatchResult result (λ _. M.stands first read (sent ++ more) machine.new service)
+        (λ end. M.has_ended Cause.writer end first read (sent ++ more) service) }
+    ensures few { OnOk result (((length (M.owes machine.new) < M.ENOUGH) × (writer.new ≡ writer.old))
+        ⊎ ((more : List ℕ) × Appends (W.held writer.old) (W.held writer.new) more × (M.ENOUGH ≤ length more)
+        × (M.owes machine.new ≡ []))) }
+    ensures held { OnOk result (M.held machine.new ≡ M.held machine.old) }
+    ensures cause { OnErr result (W.broken writer.new ≡ true) }
+{
+    if machine.owed().len() < M::ENOUGH {
+        return Ok(());
+    }
+    match write_all(writer, machine.owed()) {
+        Ok(_) => {
+            machine.paid();
+            Ok(())
+        }
+        Err(count) => Err(machine.write_error(count)),
+    }
+}
+
+/// Drives a machine to its end: its turns are taken one after the other, it is fed what was read where it waits, and
+/// what it owes is written once there is enough, and all of it at its end.
+pub fn drive<S, T, M: Machine<S, T>, R: Source, W: Sink>(
+    rt: &T,
+    reader: &mut R,
+    writer: &mut W,
+    chunk: &mut Chunk,
+    machine: &mut M,
+    service: &mut S,
+) -> M::End
+    requires new { M.stands service.old [] [] machine.old service.old }
+    requires owed { length (M.owes machine.old) < M.ENOUGH }
+    ensures ends { (read sent : List ℕ) × (cause : Cause)
+        × Consumes (R.rest reader.old) (R.rest reader.new) read × Appends (W.held writer.old) (W.held writer.new) sent
+        × M.has_ended cause result service.old read sent service.new
+        × HasCause cause (R.rest reader.new) (R.ended reader.new) (R.broken reader.new)
+        (R.calls reader.old) (R.calls reader.new) (W.broken writer.new) }
+    ensures reads { capped (R.calls reader.new) ≤ R.calls reader.old + reads_limit }
+{
+    let mut left = READS;
+    'turns: loop {
+        match come(rt, reader, &mut left, chunk, machine, service) {
+            Ok(()) => {}
+            Err(end) => {
+                return match write_all(writer, machine.owed()) {
+                    Ok(_) => end,
+                    Err(count) => machine.write_error(count),
+                };
+            }
+        }
+        match send_on(writer, machine) {
+            Ok(()) => {}
+            Err(end) => return end,
+        }
+    }
+}

@@ -1,0 +1,99 @@
+//! What is driven over a reader and a writer, and has no IO of its own.
+
+/// What a turn of a machine comes to.
+#[derive(Clone, Copy, Debug, PartialEq, Eq)]
+pub enum Turn<E> {
+    /// It goes on.
+    Goes,
+    /// It waits for bytes.
+    Waits,
+    /// It has ended.
+    Ends(E),
+}
+
+/// A machine: bytes are fed to it, each of its turns may ask a service of type `S`, and it owes bytes. What its turns
+/// need to wait, if they may, is of type `T`. A machine that has ended owes its last bytes, and has no further turn.
+pub trait Machine<S, T> {
+    ghost use Rattle.std.specs.Prelude.{◌≡◌, ◌+◌, ◌<◌, ◌≤◌, ◌++◌, [], ℕ, List, length, take, OnOk, IfErr};
+    ghost use Rattle.xs_server.specs.Machine.{Cause, EndsOncePaid, Turns};
+    ghost use Rattle.xs_server.specs.declared.machines.machine.Turn.TheVariants.{Goes, Waits};
+
+    /// How it ends.
+    type End: Drop;
+
+    /// It is paid once it owes so many bytes.
+    const ENOUGH: usize;
+
+    ghost ENOUGH: { ℕ };
+
+    /// The bytes that it owes.
+    ghost owes: { Self → List ℕ };
+
+    /// How many bytes it holds that it hasn't used.
+    ghost held: { Self → ℕ };
+
+    /// Nothing that it holds is whole.
+    ghost is_waiting: { Self → Type 0 };
+
+    /// Since this state of the service these bytes were fed to it, these that it owed were written, and it stands so,
+    /// the service with it.
+    ghost stands: { S → List ℕ → List ℕ → Self → S → Type 0 };
+
+    /// The same of a machine that ended so, by this cause.
+    ghost has_ended: { Cause → Self.End → S → List ℕ → List ℕ → S → Type 0 };
+
+    /// How it ends where the writer failed behind so many of the bytes that it owes.
+    ghost breaks: { Self → ℕ → Self.End };
+
+    /// Takes the next turn.
+    fn advance(&mut self, rt: &T, service: &mut S) -> Turn<Self::End>
+        requires { length (owes self.old) < ENOUGH }
+        ensures turns { (first : S) (read sent : List ℕ) → stands first read sent self.old service.old →
+            Turns result (stands first read sent self.new service.new) (λ end. EndsOncePaid has_ended
+            (breaks self.new) Cause.itself end first read sent (owes self.new) service.new) }
+        ensures waits { result ≡ Waits → is_waiting self.new }
+        ensures less { result ≡ Goes → held self.new < held self.old }
+        ensures same { held self.new ≤ held self.old };
+
+    /// Takes bytes in.
+    fn feed(&mut self, piece: &[u8]) -> Result<(), Self::End>
+        requires waits { is_waiting self.old }
+        requires small { length piece.now ≤ 65536 }
+        ensures ok { (first service : S) (read sent : List ℕ) → stands first read sent self.old service →
+            OnOk result (stands first (read ++ piece.now) sent self.new service) }
+        ensures err { (first service : S) (read sent : List ℕ) → stands first read sent self.old service →
+            IfErr result (λ end. EndsOncePaid has_ended
+            (breaks self.new) Cause.itself end first (read ++ piece.now) sent (owes self.new) service) }
+        ensures owed { owes self.new ≡ owes self.old }
+        ensures held { held self.new ≤ held self.old + length piece.now };
+
+    /// Ends, since the input has ended.
+    fn end(&mut self, service: &mut S) -> Self::End
+        requires { is_waiting self.old }
+        ensures { (first : S) (read sent : List ℕ) → stands first read sent self.old service.old →
+            EndsOncePaid has_ended (breaks self.new) Cause.input result first read sent (owes self.new) service.new };
+
+    /// How it ends if no more can be read.
+    fn read_error(&self) -> Self::End
+        requires { is_waiting self.now }
+        ensures { (first service : S) (read sent : List ℕ) → stands first read sent self.now service →
+            EndsOncePaid has_ended (breaks self.now) Cause.reader result first read sent (owes self.now) service };
+
+    /// How it ends if the writer failed behind so many of the bytes that it owes.
+    fn write_error(&self, count: usize) -> Self::End
+        requires { count < length (owes self.now) }
+        ensures value { result ≡ breaks self.now count }
+        ensures stands { (first service : S) (read sent : List ℕ) → stands first read sent self.now service →
+            has_ended Cause.writer result first read (sent ++ take count (owes self.now)) service };
+
+    /// The bytes that it owes.
+    fn owed(&self) -> &[u8]
+        ensures { result.now ≡ owes self.now };
+
+    /// Says that all that it owed was written.
+    fn paid(&mut self)
+        ensures stands { (first service : S) (read sent : List ℕ) → stands first read sent self.old service →
+            stands first read (sent ++ owes self.old) self.new service }
+        ensures owed { owes self.new ≡ [] }
+        ensures held { held self.new ≡ held self.old };
+}

@@ -1,0 +1,155 @@
+//! A script, with no IO of its own: each of its turns answers a line.
+ghost use Rattle.std.specs.Prelude.{◌≡◌, ◌≤◌, ◌+◌, ℕ, [], false, length, Err};
+ghost use Rattle.std.specs.List.{list_any};
+ghost use Rattle.xs_server.specs.Device.{capped};
+ghost use Rattle.xs_server.specs.Line.{is_line_end, line_limit};
+ghost use Rattle.xs_server.specs.Session.{IsNew, RunsBy, Stands};
+
+use crate::lines::held::HeldBytes;
+use crate::lines::taking::line_end;
+use crate::machines::machine::{Machine, Turn};
+use crate::script::fault::ScriptFault;
+use crate::script::serving::{Unanswered, serve_line};
+use std::alloc::Global;
+use xs_keys::Keyspace;
+
+/// The most bytes of a line, without its LF.
+const LINE_LIMIT: usize = 1_048_576;
+
+/// A script: the bytes that came in and aren't taken yet, and the replies that it owes.
+#[derive(Drop)]
+pub struct Script {
+    alloc: Global,
+    pub held: HeldBytes,
+    pub owed: Vec<u8>,
+    /// How many bytes of replies were written.
+    pub written: u64,
+    /// How many lines were answered.
+    pub number: u64,
+}
+
+impl Script {
+    /// A script before its first byte. It takes no memory.
+    pub fn new(alloc: Global) -> Self
+        ensures { IsNew result }
+    {
+        Self {
+            alloc,
+            held: HeldBytes::new(alloc),
+            owed: Vec::new(alloc),
+            written: 0,
+            number: 0,
+        }
+    }
+
+    /// How many bytes are written once all that is owed is.
+    fn total(&self) -> u64
+        ensures { result ≡ capped (self.now.written + length self.now.owed.items) }
+    {
+        self.written.saturating_add(self.owed.len() as u64)
+    }
+
+    /// The end where the line in hand is no script line.
+    fn line_error(&self) -> Result<u64, ScriptFault>
+        ensures { result ≡ Err (ScriptFault.Line (capped (self.now.number + 1))
+            (capped (self.now.written + length self.now.owed.items))) }
+    {
+        Err(ScriptFault::Line {
+            number: self.number.saturating_add(1),
+            written: self.total(),
+        })
+    }
+
+    /// The end where memory runs out.
+    fn memory_error(&self) -> Result<u64, ScriptFault>
+        ensures { result ≡ Err (ScriptFault.Memory (capped (self.now.written + length self.now.owed.items))) }
+    {
+        Err(ScriptFault::Memory {
+            written: self.total(),
+        })
+    }
+}
+
+impl Machine<Keyspace, ()> for Script {
+    ghost use Rattle.xs_server.specs.declared.script.fault.ScriptFault.{ScriptFault};
+
+    type End = Result<u64, ScriptFault>;
+
+    /// Replies are held up to so many bytes.
+    const ENOUGH: usize = 65_536;
+
+    ghost ENOUGH = { 65536 };
+
+    ghost owes = { λ script. script.owed.items };
+
+    ghost held = { λ script. length script.held };
+
+    ghost is_waiting = { λ script. (list_any is_line_end script.held ≡ false) × (length script.held ≤ line_limit) };
+
+    ghost stands = { λ first read sent script keyspace. Stands read sent script keyspace };
+
+    ghost has_ended = { λ cause end first read sent keyspace. RunsBy cause end read sent };
+
+    ghost breaks = { λ script count. Err (ScriptFault.Write (capped (script.written + count))) };
+
+    fn advance(&mut self, _rt: &(), keyspace: &mut Keyspace) -> Turn<Result<u64, ScriptFault>> {
+        let held = self.held.bytes();
+        let Some(at) = line_end(held) else {
+            if held.len() > LINE_LIMIT {
+                return Turn::Ends(self.line_error());
+            }
+            return Turn::Waits;
+        };
+        if at > LINE_LIMIT {
+            return Turn::Ends(self.line_error());
+        }
+        match serve_line(self.alloc, keyspace, &held[..at], &mut self.owed) {
+            Ok(()) => {}
+            Err(Unanswered::NoLine) => return Turn::Ends(self.line_error()),
+            Err(Unanswered::Memory) => return Turn::Ends(self.memory_error()),
+        }
+        self.held.consume(at + 1);
+        self.number = self.number.saturating_add(1);
+        Turn::Goes
+    }
+
+    fn feed(&mut self, piece: &[u8]) -> Result<(), Result<u64, ScriptFault>> {
+        match self.held.feed(piece) {
+            Ok(()) => Ok(()),
+            Err(_) => Err(self.memory_error()),
+        }
+    }
+
+    fn end(&mut self, keyspace: &mut Keyspace) -> Result<u64, ScriptFault> {
+        let line = self.held.bytes();
+        if line.is_empty() {
+            return Ok(self.total());
+        }
+        match serve_line(self.alloc, keyspace, line, &mut self.owed) {
+            Ok(()) => Ok(self.total()),
+            Err(Unanswered::NoLine) => self.line_error(),
+            Err(Unanswered::Memory) => self.memory_error(),
+        }
+    }
+
+    fn read_error(&self) -> Result<u64, ScriptFault> {
+        Err(ScriptFault::Read {
+            written: self.total(),
+        })
+    }
+
+    fn write_error(&self, count: usize) -> Result<u64, ScriptFault> {
+        Err(ScriptFault::Write {
+            written: self.written.saturating_add(count as u64),
+        })
+    }
+
+    fn owed(&self) -> &[u8] {
+        self.owed.as_slice()
+    }
+
+    fn paid(&mut self) {
+        self.written = self.total();
+        self.owed.clear();
+    }
+}
