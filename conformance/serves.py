@@ -109,7 +109,7 @@ def without_delay(server):
     asked, waits = asking("XACK delay g" + " 1-1" * 200_000), []
     with raw(server.port) as stream:
         stream.setsockopt(socket.IPPROTO_TCP, socket.TCP_NODELAY, 1)
-        for _ in range(5):
+        for _ in range(9):
             stream.sendall(asked[:-1])
             time.sleep(0.05)
             stream.setsockopt(socket.IPPROTO_TCP, socket.TCP_QUICKACK, 0)
@@ -120,7 +120,7 @@ def without_delay(server):
             began = time.monotonic()
             assert read_exactly(stream, len(PONG)) == PONG
             waits.append(time.monotonic() - began)
-    assert sorted(waits)[2] < 0.01, waits
+    assert sorted(waits)[5] < 0.01, waits
     say_at(server, "DEL delay", number(1))
 
 
