@@ -9,12 +9,11 @@ run:
 	@$(BUILD)
 	@$(PROGRAM) script < crates/xs_server/stdin
 
-# Proves and builds the program, and serves 16 connections at once on port 6379 of 127.0.0.1. Without MALLOC_ARENA_MAX
-# each worker's thread has an arena of malloc to itself, and the memory of what it added can't be used by another.
+# Proves and builds the program, and serves 16 connections at once on port 6379 of 127.0.0.1.
 serve:
 	@echo "Proving and building xs_server; out/build.log says more. The first time takes 40 minutes and more of processor time."
 	@$(BUILD)
-	@MALLOC_ARENA_MAX=2 $(PROGRAM) serve --port 6379 --workers 16 --each 1000000
+	@$(PROGRAM) serve --port 6379 --workers 16 --each 1000000
 
 # The merge gate. Proves everything from nothing, tries the edits of must-fail/, and runs the tests and the program that
 # it built: the worked cases, the great scripts, connections made at random, and a server as its users run it. Then the

@@ -186,10 +186,14 @@ impl Pending {
         ensures { IfOk result (λ rows. rows.items ≡ shown_rows self.now.rows (ids_of stream.now.entries) ids.now) }
     {
         let mut rows = Vec::with_capacity(alloc, ids.len())?;
-        for id in ids {
+        let Some(first) = ids.first() else {
+            return Ok(rows);
+        };
+        let lent = stream.entries_from(alloc, *first, ids.len())?;
+        for (place, id) in ids.iter().enumerate() {
             let row = DeliveryRow {
                 id: *id,
-                present: reading::is_present(stream, *id),
+                present: reading::is_present_along(stream, lent.as_slice(), place, *id),
                 before: self.touch_at(*id),
             };
             rows.push(row)?;

@@ -1,7 +1,7 @@
 //! What a read of a group is made of.
 ghost use Rattle.std.specs.Prelude.{◌≡◌, IfOk, take, filter};
 ghost use Rattle.xs_stream.specs.Id.{has_id, is_below};
-ghost use Rattle.xs_stream.specs.Kept.{ids_of, limited};
+ghost use Rattle.xs_stream.specs.Kept.{ids_of, limited, AreEntriesOf};
 ghost use Rattle.xs_group.specs.State.{last_of};
 ghost use Rattle.xs_group.specs.Delivered.{new_rows, touch_set};
 
@@ -11,7 +11,7 @@ use std::alloc::{AllocError, Global};
 use std::collections::BTreeSet;
 use std::ops::Bound;
 use xs_bytes::List;
-use xs_stream::{Id, Moment, Stream};
+use xs_stream::{Entry, Id, Moment, Stream};
 
 /// The last of these ids, or the one before them.
 pub(crate) fn last_id(before: Id, ids: &[Id]) -> Id
@@ -45,6 +45,19 @@ pub(crate) fn is_present(stream: &Stream, id: Id) -> bool
     ensures { result ≡ has_id (ids_of stream.now.entries) id }
 {
     stream.get(id).is_some()
+}
+
+/// The entry is in the stream. If it stands at this place among entries that the stream lends, it isn't looked up.
+pub(crate) fn is_present_along(stream: &Stream, lent: &[Entry<'_>], place: usize, id: Id) -> bool
+    requires { AreEntriesOf stream.now.entries lent.now }
+    ensures { result ≡ has_id (ids_of stream.now.entries) id }
+{
+    if let Some(entry) = lent.get(place) {
+        if entry.id() == id {
+            return true;
+        }
+    }
+    is_present(stream, id)
 }
 
 /// The ids of a set above this one, in their order, at most `limit` of them.

@@ -1,5 +1,5 @@
 -- The reply to each command, from the content that it meets. (The pages of the commands, "RESP2 Reply".)
-use Rattle.std.specs.Prelude.{Some, ◌≡◌, ℕ, ◌+◌, ◌-◌, Bool, List, [], ◌∷◌, ◌++◌, map, length, decimal, Option, Result, Ok, Err}
+use Rattle.std.specs.Prelude.{ℕ, ◌+◌, ◌-◌, Bool, List, [], ◌∷◌, ◌++◌, map, length, decimal, Option, Result, Ok, Err}
 use Rattle.std.specs.Prelude.{if◌then◌else◌}
 use Rattle.xs_keys.specs.Ground.{flat_map, option_map_or, get, has_key, remove, Id, Field, AddError, printed, assigned}
 use Rattle.xs_keys.specs.Ground.{ids_of, fields_at, ids_within, limited, Fault, SmallId, Exhausted, Memory, NoKey}
@@ -35,14 +35,6 @@ abbrev pub entry_reply : List (Id × List Field) → Id → Reply
 entry_reply entries id =
     let fields = option_map_or (λ fs. array (flat_map field_replies fs)) (fields_at entries id) NullArray in
     array (id_reply id ∷ fields ∷ [])
-
--- an entry is among these, under its id
-abbrev pub IsEntryOf : List (Id × List Field) → Id × List Field → Type 0
-IsEntryOf entries entry = fields_at entries entry.0 ≡ Some entry.1
-
-abbrev pub AreEntriesOf : List (Id × List Field) → List (Id × List Field) → Type 0
-AreEntriesOf entries [] = Unit {0}
-AreEntriesOf entries (e ∷ es) = IsEntryOf entries e × AreEntriesOf entries es
 
 -- the same of an entry that is there
 abbrev pub present_reply : Id × List Field → Reply

@@ -1,13 +1,14 @@
 //! What replies are made of: ids and entries, as the tokens that are appended for them.
 ghost use Rattle.std.specs.Prelude.{◌≡◌, ◌++◌, IfOk, OnOk, map};
 ghost use Rattle.std.specs.List.{flat_map};
+ghost use Rattle.xs_stream.specs.Kept.{AreEntriesOf};
 ghost use Rattle.xs_resp.specs.ReplyItems.{tokens_of};
-ghost use Rattle.xs_keys.specs.Reply.{array, field_replies, id_reply, AreEntriesOf, entry_reply, present_reply, entries_reply};
+ghost use Rattle.xs_keys.specs.Reply.{array, field_replies, id_reply, entry_reply, present_reply, entries_reply};
 
 use std::alloc::{AllocError, Global};
-use xs_bytes::{Bytes, List};
+use xs_bytes::Bytes;
 use xs_resp::{Replies, Reply, Token};
-use xs_stream::{Entry, Id, PackedFields, Range, Stream};
+use xs_stream::{Entry, Id, PackedFields, Stream};
 
 /// How many tokens an entry with one field has.
 pub const ENTRY_TOKENS: usize = 5;
@@ -82,24 +83,6 @@ pub fn push_present(
     Ok(())
 }
 
-/// As many entries of a stream as there are ids, from the first id on. Ids that are asked for together mostly follow one
-/// another, and then none of their entries has to be looked for.
-pub fn entries_along<'a>(
-    alloc: Global,
-    stream: &'a Stream,
-    first: Id,
-    count: usize,
-) -> Result<List<Entry<'a>>, AllocError>
-    ensures { IfOk result (λ entries. AreEntriesOf stream.now.entries entries) }
-{
-    stream.lawful();
-    let range = Range {
-        low: first,
-        high: Id::GREATEST,
-    };
-    stream.entries(alloc, range, Some(count as u64), false)
-}
-
 /// Appends the entry with this id, or its id with the null array. If it stands at this place among entries that are lent,
 /// it isn't looked up.
 pub fn push_along(
@@ -135,7 +118,7 @@ pub fn push_entries(
         return Ok(());
     };
     tokens.reserve(ids.len().saturating_mul(ENTRY_TOKENS))?;
-    let lent = entries_along(alloc, stream, *first, ids.len())?;
+    let lent = stream.entries_from(alloc, *first, ids.len())?;
     for (place, id) in ids.iter().enumerate() {
         push_along(tokens, alloc, stream, lent.as_slice(), place, *id)?;
     }

@@ -16,7 +16,7 @@ ghost use Rattle.xs_keys.specs.Reading.{IsMadeAt, AreMade};
 ghost use Rattle.xs_keys.specs.Step.{Step};
 
 use crate::keys::{Groups, Keys, group_at};
-use crate::showing::{ENTRY_TOKENS, entries_along, push_along, push_bytes};
+use crate::showing::{ENTRY_TOKENS, push_along, push_bytes};
 use std::alloc::{AllocError, Global};
 use xs_bytes::Bytes;
 use xs_command::{Command, ReadFrom, ReadGroupCommand, ReadOne};
@@ -67,7 +67,7 @@ fn push_rows(
         return Ok(());
     };
     tokens.reserve(rows.len().saturating_mul(ENTRY_TOKENS))?;
-    let lent = entries_along(alloc, stream, first.id, rows.len())?;
+    let lent = stream.entries_from(alloc, first.id, rows.len())?;
     for (place, row) in rows.iter().enumerate() {
         push_along(tokens, alloc, stream, lent.as_slice(), place, row.id)?;
     }

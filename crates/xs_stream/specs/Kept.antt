@@ -77,3 +77,11 @@ all_within range reversed entries =
 abbrev pub entries_within : Range → Bool → Option ℕ → List (Id × List Field) → List (Id × List Field)
 entries_within range reversed None entries = all_within range reversed entries
 entries_within range reversed (Some n) entries = take n (all_within range reversed entries)
+
+-- an entry is among these, under its id
+abbrev pub IsEntryOf : List (Id × List Field) → Id × List Field → Type 0
+IsEntryOf entries entry = fields_at entries entry.0 ≡ Some entry.1
+
+abbrev pub AreEntriesOf : List (Id × List Field) → List (Id × List Field) → Type 0
+AreEntriesOf entries [] = Unit {0}
+AreEntriesOf entries (e ∷ es) = IsEntryOf entries e × AreEntriesOf entries es

@@ -1,22 +1,25 @@
 //! A block: entries that stand next to each other in a stream, packed into bytes.
-ghost use Rattle.std.specs.Prelude.{◌≡◌, ◌+◌, ◌-◌, ◌<◌, ◌≤◌, ◌==◌, ◌++◌, ◌∷◌, [], true, false, if◌then◌else◌, IfSome, OnOk, OnErr, IfOk};
+ghost use Rattle.std.specs.Prelude.{◌≡◌, ◌+◌, ◌-◌, ◌<◌, ◌≤◌, ◌==◌, ◌++◌, ◌∷◌, [], true, false, if◌then◌else◌, OnOk, OnErr, IfOk};
 ghost use Rattle.std.specs.Prelude.{length, filter, take, drop, reverse, vec_len};
-ghost use Rattle.std.specs.List.{remove, remove_range};
+ghost use Rattle.std.specs.List.{flat_map};
 ghost use Rattle.std.specs.Map.{remove_entry};
-ghost use Rattle.std.specs.Option.{is_some};
 ghost use Rattle.xs_stream.specs.Id.{is_same, is_below};
 ghost use Rattle.xs_stream.specs.Kept.{is_within, ids_of, fields_at};
-ghost use Rattle.std.specs.List.{flat_map};
-ghost use Rattle.xs_stream.specs.Packed.{names_code, has_names, field_code, entry_code, after_entries, block_entries};
+ghost use Rattle.xs_stream.specs.Packed.{names_code, has_names, field_code, entry_code};
 ghost use Rattle.xs_stream.specs.PackedText.{text_code, first_text, after_text};
 
 use crate::entry::Entry;
 use crate::field::Field;
 use crate::id::Id;
-use crate::packed::entry::{has_names, push_entry, push_names, read_entry};
+use crate::packed::entry::{has_names, push_entry, push_names};
 use crate::packed::fields::PackedFields;
+use crate::packed::gap::cut;
 use crate::packed::number::after;
 use crate::packed::text::read_text;
+use crate::packed::walks::{
+    after_entries, count_below, fields_of, place_of, push_all_entries, push_all_ids, push_entries,
+    push_ids,
+};
 use crate::range::Range;
 use std::alloc::{AllocError, Global};
 use std::marker::Model;
@@ -25,10 +28,10 @@ use std::marker::Model;
 const MOST_ENTRIES: usize = 128;
 
 /// How many bytes a block of many small entries has room for.
-const ROOM: usize = 2048;
+const ROOM: usize = 1536;
 
 /// How many bytes an entry mostly takes beside its values.
-const NUMBERS: u64 = 12;
+const BESIDE_VALUES: u64 = 12;
 
 /// Entries that stand next to each other in a stream, in the order of their ids. A contract sees the list of them.
 #[derive(Drop)]
@@ -69,6 +72,20 @@ impl Block {
         }
     }
 
+    /// A block of no entries, with all the memory that many small ones take, if there is so much.
+    pub(crate) fn with_room(alloc: Global) -> Self
+        ensures { result ≡ [] }
+    {
+        let mut bytes = Vec::new(alloc);
+        let _ = bytes.reserve_exact(ROOM);
+        Self {
+            base: 0,
+            count: 0,
+            start: 0,
+            bytes,
+        }
+    }
+
     /// How many entries there are.
     pub(crate) fn len(&self) -> usize
         ensures { result ≡ length self.now }
@@ -95,7 +112,7 @@ impl Block {
             return false;
         }
         let left = room_beside(self.count).saturating_sub(self.bytes.len());
-        values.saturating_add(NUMBERS) <= left as u64
+        values.saturating_add(BESIDE_VALUES) <= left as u64
     }
 
     /// Gives back the memory that no entry takes.
@@ -220,7 +237,7 @@ impl Block {
         ensures { self.new ≡ drop count self.old }
     {
         let bytes = self.bytes.as_slice();
-        let left = after_some(self.base, after(bytes, self.start), count);
+        let left = after_entries(self.base, after(bytes, self.start), count);
         self.start = bytes.len() - left.len();
         self.count -= count;
         self.tidy();
@@ -243,7 +260,7 @@ impl Block {
     pub(crate) fn count_below(&self, low: Id) -> usize
         ensures { result ≡ length (filter (λ e. is_below e.0 low) self.now) }
     {
-        below(
+        count_below(
             self.base,
             self.count,
             self.start,
@@ -347,14 +364,6 @@ impl Block {
     }
 }
 
-/// Where an entry stands.
-#[derive(Drop)]
-struct Place {
-    index: usize,
-    from: usize,
-    to: usize,
-}
-
 /// How many bytes a block with this many entries has room for. Few great ones share what each block costs, and among
 /// many small ones a search has less to pass over.
 fn room_beside(count: usize) -> usize {
@@ -401,148 +410,6 @@ fn names_end(bytes: &[u8]) -> usize
     bytes.len() - behind.len()
 }
 
-/// The fields of an entry.
-fn fields_of<'a>(
-    base: u64,
-    count: usize,
-    start: usize,
-    bytes: &'a [u8],
-    id: Id,
-) -> Option<PackedFields<'a>>
-    ensures { result ≡ fields_at (block_entries base count start bytes.now) id }
-{
-    let mut rest = after(bytes, start);
-    for _ in 0..count {
-        let entry = read_entry(base, rest);
-        if entry.id == id {
-            let (names, _) = read_text(bytes);
-            return Some(PackedFields::new(names, entry.body));
-        }
-        rest = entry.rest;
-    }
-    None
-}
-
-/// How many entries have ids below this one.
-fn below(base: u64, count: usize, start: usize, bytes: &[u8], low: Id) -> usize
-    ensures { result ≡ length (filter (λ e. is_below e.0 low) (block_entries base count start bytes.now)) }
-{
-    let mut rest = after(bytes, start);
-    let mut below = 0;
-    for _ in 0..count {
-        let entry = read_entry(base, rest);
-        if entry.id < low {
-            below += 1;
-        }
-        rest = entry.rest;
-    }
-    below
-}
-
-/// Appends the ids within a range, as long as there are fewer than `most` in all.
-fn push_ids(
-    base: u64,
-    count: usize,
-    start: usize,
-    bytes: &[u8],
-    ids: &mut Vec<Id>,
-    range: Range,
-    most: u64,
-) -> Result<(), AllocError>
-    requires { length ids.old.items ≤ most }
-    ensures { OnOk result (ids.new.items
-        ≡ take most (ids.old.items ++ filter (is_within range) (ids_of (block_entries base count start bytes.now)))) }
-{
-    let mut rest = after(bytes, start);
-    for _ in 0..count {
-        if ids.len() as u64 >= most {
-            return Ok(());
-        }
-        let entry = read_entry(base, rest);
-        if range.contains(entry.id) {
-            ids.push(entry.id)?;
-        }
-        rest = entry.rest;
-    }
-    Ok(())
-}
-
-/// Appends the ids within a range.
-fn push_all_ids(
-    base: u64,
-    count: usize,
-    start: usize,
-    bytes: &[u8],
-    ids: &mut Vec<Id>,
-    range: Range,
-) -> Result<(), AllocError>
-    ensures { OnOk result (ids.new.items
-        ≡ ids.old.items ++ filter (is_within range) (ids_of (block_entries base count start bytes.now))) }
-{
-    let mut rest = after(bytes, start);
-    for _ in 0..count {
-        let entry = read_entry(base, rest);
-        if range.contains(entry.id) {
-            ids.push(entry.id)?;
-        }
-        rest = entry.rest;
-    }
-    Ok(())
-}
-
-/// Appends the entries within a range, as long as there are fewer than `most` in all.
-fn push_entries<'a>(
-    base: u64,
-    count: usize,
-    start: usize,
-    bytes: &'a [u8],
-    shown: &mut Vec<Entry<'a>>,
-    range: Range,
-    most: u64,
-) -> Result<(), AllocError>
-    requires { length shown.old.items ≤ most }
-    ensures { OnOk result (shown.new.items
-        ≡ take most (shown.old.items ++ filter (λ e. is_within range e.0) (block_entries base count start bytes.now))) }
-{
-    let (names, _) = read_text(bytes);
-    let mut rest = after(bytes, start);
-    for _ in 0..count {
-        if shown.len() as u64 >= most {
-            return Ok(());
-        }
-        let entry = read_entry(base, rest);
-        if range.contains(entry.id) {
-            shown.push(Entry::new(entry.id, PackedFields::new(names, entry.body)))?;
-        }
-        rest = entry.rest;
-    }
-    Ok(())
-}
-
-/// Appends the entries within a range.
-fn push_all_entries<'a>(
-    base: u64,
-    count: usize,
-    start: usize,
-    bytes: &'a [u8],
-    shown: &mut Vec<Entry<'a>>,
-    range: Range,
-) -> Result<(), AllocError>
-    ensures { OnOk result (shown.new.items
-        ≡ shown.old.items ++ filter (λ e. is_within range e.0) (block_entries base count start bytes.now)) }
-{
-    let (names, _) = read_text(bytes);
-    let mut rest = after(bytes, start);
-    for _ in 0..count {
-        let entry = read_entry(base, rest);
-        if range.contains(entry.id) {
-            shown.push(Entry::new(entry.id, PackedFields::new(names, entry.body)))?;
-        }
-        rest = entry.rest;
-    }
-    Ok(())
-}
-
 /// Turns the order of the items from a place on.
 fn reverse_from<T>(items: &mut Vec<T>, from: usize)
     requires { from ≤ vec_len items.old }
@@ -550,83 +417,4 @@ fn reverse_from<T>(items: &mut Vec<T>, from: usize)
 {
     let (_, last) = items.as_mut_slice().split_at_mut(from);
     last.reverse();
-}
-
-/// The bytes after these many entries.
-fn after_some(base: u64, bytes: &[u8], count: usize) -> &[u8]
-    ensures { result.now ≡ after_entries count bytes.now }
-{
-    let mut rest = bytes;
-    for _ in 0..count {
-        rest = read_entry(base, rest).rest;
-    }
-    rest
-}
-
-/// Where the first entry with this id stands.
-fn place_of(base: u64, count: usize, start: usize, bytes: &[u8], id: Id) -> Option<Place>
-    ensures index { IfSome result (λ p. p.index < count) }
-    ensures from { IfSome result (λ p. p.from
-        ≡ length bytes.now - length (after_entries p.index (drop start bytes.now))) }
-    ensures to { IfSome result (λ p. p.to
-        ≡ length bytes.now - length (after_entries (p.index + 1) (drop start bytes.now))) }
-    ensures removed { IfSome result (λ p. remove_entry (is_same id) (block_entries base count start bytes.now)
-        ≡ remove (block_entries base count start bytes.now) p.index) }
-    ensures found { is_some result ≡ is_some (fields_at (block_entries base count start bytes.now) id) }
-{
-    let mut rest = after(bytes, start);
-    for index in 0..count {
-        let entry = read_entry(base, rest);
-        if entry.id == id {
-            let from = bytes.len() - rest.len();
-            let to = bytes.len() - entry.rest.len();
-            return Some(Place { index, from, to });
-        }
-        rest = entry.rest;
-    }
-    None
-}
-
-/// Takes a part out, and gives memory back where less than half of it is left.
-fn cut(bytes: &mut Vec<u8>, from: usize, to: usize)
-    requires forward { from ≤ to }
-    requires inside { to ≤ vec_len bytes.old }
-    ensures { bytes.new.items ≡ remove_range bytes.old.items from to }
-{
-    close_gap(bytes, from, to);
-    if bytes.len() < bytes.capacity() / 2 {
-        bytes.shrink_to_fit();
-    }
-}
-
-/// Takes a part out. What lies behind it moves in pieces of its length, each at once: the library's own ways move byte by
-/// byte.
-fn close_gap(bytes: &mut Vec<u8>, from: usize, to: usize)
-    requires forward { from ≤ to }
-    requires inside { to ≤ vec_len bytes.old }
-    ensures { bytes.new.items ≡ remove_range bytes.old.items from to }
-{
-    let gap = to - from;
-    if gap == 0 {
-        return;
-    }
-    let left = bytes.len() - gap;
-    let mut at = from;
-    while at < left {
-        let piece = gap.min(left - at);
-        move_piece(bytes, at, gap, piece);
-        at += piece;
-    }
-    bytes.truncate(left);
-}
-
-/// Moves a piece down over a gap before it that is as long at least.
-fn move_piece(bytes: &mut Vec<u8>, at: usize, gap: usize, piece: usize)
-    requires apart { piece ≤ gap }
-    requires inside { at + gap + piece ≤ vec_len bytes.old }
-    ensures { bytes.new.items ≡ take at bytes.old.items
-        ++ (take piece (drop (at + gap) bytes.old.items) ++ drop (at + piece) bytes.old.items) }
-{
-    let (front, back) = bytes.as_mut_slice().split_at_mut(at + gap);
-    front[at..at + piece].copy_from_slice(&back[..piece]);
 }

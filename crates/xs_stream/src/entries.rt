@@ -1,7 +1,6 @@
 //! The entries of a stream, in the order of their ids. Ids only grow, so an addition goes to the end without a search.
 ghost use Rattle.std.specs.Prelude.{◌≡◌, ◌+◌, ◌-◌, ◌<◌, ◌++◌, ◌∷◌, [], false, true, not, if◌then◌else◌, IfOk, OnOk, OnErr};
-ghost use Rattle.std.specs.Prelude.{length, take, drop, filter, reverse, slice_get};
-ghost use Rattle.std.specs.Option.{option_map};
+ghost use Rattle.std.specs.Prelude.{length, take, drop, filter, reverse};
 ghost use Rattle.std.specs.Map.{lookup_key, remove_entry};
 ghost use Rattle.xs_stream.specs.declared.id.Id.{Id};
 ghost use Rattle.xs_stream.specs.declared.trim.Trim.TheVariants.{MinId};
@@ -94,7 +93,7 @@ impl Entries {
         if self.newest.has_room(values) {
             return Ok(());
         }
-        let mut full = mem::replace(&mut self.newest, Block::new(self.alloc));
+        let mut full = mem::replace(&mut self.newest, Block::with_room(self.alloc));
         full.seal();
         match self.older.insert(top, full) {
             Ok(_) => Ok(()),

@@ -2,5 +2,7 @@
 
 pub(crate) mod entry;
 pub mod fields;
+pub(crate) mod gap;
 pub(crate) mod number;
 pub(crate) mod text;
+pub(crate) mod walks;

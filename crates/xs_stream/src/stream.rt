@@ -2,7 +2,7 @@
 ghost use Rattle.std.specs.Prelude.{◌≡◌, ◌↔◌, ◌+◌, ◌-◌, ◌++◌, ◌∷◌, [], Ok, Err, IfOk, OnErr, IsErrOf, length};
 ghost use Rattle.std.specs.Prelude.{filter};
 ghost use Rattle.xs_stream.specs.Id.{zero_id, is_below, assigned};
-ghost use Rattle.xs_stream.specs.Kept.{ids_of, fields_at, without, trimmed, ids_within, entries_within, limited};
+ghost use Rattle.xs_stream.specs.Kept.{ids_of, fields_at, without, trimmed, ids_within, entries_within, limited, AreEntriesOf};
 ghost use Rattle.xs_stream.specs.Lawful.{IsLawful};
 
 use crate::add::{AddError, AddId};
@@ -165,6 +165,23 @@ impl Stream {
             self.entries.entries_up(alloc, range, most)?
         };
         Ok(List::new(entries))
+    }
+
+    /// At most so many entries, from an id on. They are lent, and each is the one that is looked up by its id.
+    pub fn entries_from(
+        &self,
+        alloc: Global,
+        first: Id,
+        most: usize,
+    ) -> Result<List<Entry<'_>>, AllocError>
+        ensures { IfOk result (λ entries. AreEntriesOf self.now.entries entries) }
+    {
+        self.lawful();
+        let range = Range {
+            low: first,
+            high: Id::GREATEST,
+        };
+        self.entries(alloc, range, Some(most as u64), false)
     }
 
     /// The ids above a cursor, in their order, at most `limit` of them.

@@ -2,7 +2,7 @@
 ghost use Rattle.std.specs.Prelude.{◌≡◌, ◌++◌, IfSome, OnOk, OnErr, length, take, vec_len};
 ghost use Rattle.std.specs.Prelude.{true, false};
 ghost use Rattle.std.specs.List.{flat_map};
-ghost use Rattle.xs_stream.specs.Packed.{names_code, has_names, field_code, body_code, mark_of, ms_code, entry_code, entry_id, entry_body, after_entry, first_ms};
+ghost use Rattle.xs_stream.specs.Packed.{names_code, has_names, field_code, body_code, mark_of, entry_code, entry_id, entry_body, after_entry, first_ms};
 ghost use Rattle.xs_stream.specs.PackedNumber.{after_number};
 ghost use Rattle.xs_stream.specs.PackedText.{text_code};
 

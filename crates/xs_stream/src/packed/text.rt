@@ -16,6 +16,7 @@ pub(crate) fn text_size(text: &[u8]) -> Option<u64>
 
 /// Appends a text after its length. A refusal may leave a part behind.
 #[tactic(auto, unfolding(crate::specs::PackedText::text_code))]
+#[inline(always)]
 pub(crate) fn push_text(out: &mut Vec<u8>, text: &[u8]) -> Result<(), AllocError>
     ensures ok { OnOk result (out.new.items ≡ out.old.items ++ text_code text.now) }
     ensures err { OnErr result (take (vec_len out.old) out.new.items ≡ out.old.items) }

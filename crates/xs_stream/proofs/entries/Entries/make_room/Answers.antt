@@ -20,7 +20,7 @@ filed c =
 
 -- and there are no newer ones
 emptied : (c : goal.Joined-insert-2) → ◌≡◌ {A = List (Id × List Field)} c.replace-full.new.dest []
-emptied c = c.replace-full.ensures.after ∙ c.new.ensures
+emptied c = c.replace-full.ensures.after ∙ c.with_room.ensures
 
 same : (c : goal.Joined-insert-2) → listed c.insert.new.self.entries ++ c.replace-full.new.dest ≡ listed c.args.self.now.older.entries ++ c.args.self.now.newest
 same c = rw (filed c, emptied c) (listed-filed c.args.top c.args.self.now.older.entries c.args.self.now.newest)

@@ -1,0 +1,22 @@
+use Rattle.std.proofs.Common.{◌≡◌, ◌&&◌, eqb, true, is_some, ap, sym, ◌∙◌, subst, arith}
+use Rattle.std.proofs.lemmas.Map.Made.{is_some-lookup}
+use Rattle.std.proofs.lemmas.Bool.Decides.{nat_tests}
+use Rattle.xs_stream.specs.declared.id.Id.{Id}
+use Rattle.xs_stream.specs.Id.{is_same}
+use Rattle.xs_stream.specs.Kept.{IsEntryOf, fields_at}
+use Rattle.xs_stream.proofs.Lending.{is-lent}
+use Rattle.xs_group.proofs.reading.is_present_along.Goals as goal
+
+same-id : (a b : Id) → (eqb a.ms b.ms && eqb a.seq b.seq) ≡ true → a ≡ b
+same-id a b e =
+    let ms : a.ms ≡ b.ms = grind (arith, nat_tests) in
+    let seq : a.seq ≡ b.seq = grind (arith, nat_tests) in
+    λ i. record { ms = ms i; seq = seq i }
+
+pub returns-then-eq : goal.returns-then-eq
+returns-then-eq c =
+    let entries = c.args.stream.now.entries in
+    let found = c.in-Some.ensures.lookup in
+    let is : IsEntryOf entries c.in-Some.entry.now = subst (IsEntryOf entries) (sym found.1) (is-lent entries c.args.lent.now c.args.place c.in-Some.entry.now found.3.0 c.requires) in
+    let same : c.in-Some.entry.now.0 ≡ c.args.id = sym c.id.ensures ∙ same-id c.id.result c.args.id (sym c.eq.ensures ∙ c.if-eq.true) in
+    sym (sym (is_some-lookup (is_same c.args.id) entries) ∙ ap (λ id. is_some (fields_at entries id)) (sym same) ∙ ap is_some is)

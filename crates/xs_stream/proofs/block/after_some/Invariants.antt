@@ -1,7 +1,0 @@
-use Rattle.std.proofs.Common.{◌≡◌}
-use Rattle.xs_stream.specs.Packed.{after_entries}
-use Rattle.xs_stream.proofs.block.after_some.Given as goal
-
--- as many are passed as there were turns
-abbrev pub invariant-loop : goal.invariant-loop
-invariant-loop l = l.rest ≡ after_entries l.counter l.bytes

@@ -1,0 +1,67 @@
+use Rattle.std.proofs.Common.{◌∙◌, ◌-◌, ◌+◌, ◌++◌, ◌∷◌, ap, arith, length, take, drop, refl, sym}
+use Rattle.std.proofs.lemmas.List.{length-drop}
+use Rattle.std.specs.Option.{is_some}
+use Rattle.std.specs.Map.{remove_entry}
+use Rattle.xs_stream.specs.Id.{is_same}
+use Rattle.xs_stream.specs.Kept.{fields_at}
+use Rattle.xs_stream.specs.PackedText.{first_text}
+use Rattle.xs_stream.specs.Packed.{entries_in, after_entry, after_entries, entry_in, block_entries}
+use Rattle.xs_stream.proofs.PackedBlocks.{after_entries-more, lookup-passed, lookup-found, removed-passed, removed-found, take-passed, drop-passed, length-after_entry, joined, at-start}
+use Rattle.xs_stream.proofs.packed.walks.place_of.Goals as goal
+
+pub loop-index-init : goal.loop-index-init
+loop-index-init c =
+    let bytes = c.args.bytes.now in
+    let id = c.args.id in
+    let all = at-start c.args.base c.args.count c.args.start bytes (first_text bytes) c.after-rest.result.now refl c.after-rest.ensures in
+    record {
+      rest = c.after-rest.ensures;
+      lookup = ap (λ es. fields_at es id) all;
+      removed = ap (remove_entry (is_same id)) all;
+      short = omega (arith, ap length c.after-rest.ensures, length-drop c.args.start bytes);
+    }
+
+pub overflow_sub-to : goal.overflow_sub-to
+overflow_sub-to c =
+    omega (arith, c.loop-index.invariant.short, ap length c.read_entry-entry.ensures.rest, length-after_entry c.loop-index.rest.now)
+
+pub returns-then-eq-clause-to : goal.returns-then-eq-clause-to
+returns-then-eq-clause-to c =
+    let bytes = c.args.bytes.now in
+    let next = c.read_entry-entry.ensures.rest ∙ ap after_entry c.loop-index.invariant.rest ∙ sym (after_entries-more c.loop-index.index (drop c.args.start bytes)) in
+    ap (λ rest. length bytes - length rest) next
+
+pub returns-then-eq-clause-removed : goal.returns-then-eq-clause-removed
+returns-then-eq-clause-removed c =
+    let base = c.args.base in let start = c.args.start in let count = c.args.count in let i = c.loop-index.index in let id = c.args.id in let bytes = c.args.bytes.now in
+    let names = first_text bytes in
+    let entry = c.read_entry-entry in
+    let was = c.loop-index.invariant in
+    was.removed ∙ ap (λ left. take i (block_entries base count start bytes) ++ left)
+    (removed-found base names count i id entry.result.id c.loop-index.rest.now c.loop-index-test.true entry.ensures.id (sym c.eq.ensures ∙ c.if-eq.true)
+    ∙ ap (λ rest. entries_in base names (count - (i + 1)) (after_entry rest)) was.rest ∙ sym (drop-passed base names count i (drop start bytes) c.loop-index-test.true))
+
+pub returns-then-eq-clause-found : goal.returns-then-eq-clause-found
+returns-then-eq-clause-found c =
+    let entry = c.read_entry-entry in
+    sym (ap is_some (c.loop-index.invariant.lookup
+    ∙ lookup-found c.args.base (first_text c.args.bytes.now) c.args.count c.loop-index.index c.args.id entry.result.id c.loop-index.rest.now c.loop-index-test.true entry.ensures.id (sym c.eq.ensures ∙ c.if-eq.true)))
+
+pub loop-index-preserved : goal.loop-index-preserved
+loop-index-preserved c =
+    let entry = c.read_entry-entry in
+    let other = sym c.eq.ensures ∙ c.if-eq.false in
+    let base = c.args.base in let start = c.args.start in let count = c.args.count in let i = c.loop-index.index in let id = c.args.id in let bytes = c.args.bytes.now in
+    let names = first_text bytes in
+    let rest = drop start bytes in
+    let was = c.loop-index.invariant in
+    record {
+      rest = entry.ensures.rest ∙ ap after_entry was.rest ∙ sym (after_entries-more i rest);
+      lookup = was.lookup ∙ lookup-passed base names count i id entry.result.id c.loop-index.rest.now c.loop-index-test.true entry.ensures.id other
+          ∙ ap (λ rest. fields_at (entries_in base names (count - (i + 1)) rest) id) (sym entry.ensures.rest);
+      removed = was.removed ∙ ap (λ left. take i (block_entries base count start bytes) ++ left) (removed-passed base names count i id entry.result.id c.loop-index.rest.now c.loop-index-test.true entry.ensures.id other)
+          ∙ ap (λ r. take i (block_entries base count start bytes) ++ (entry_in base names r ∷ remove_entry (is_same id) (entries_in base names (count - (i + 1)) (after_entry c.loop-index.rest.now)))) was.rest
+          ∙ ap (λ r. take i (block_entries base count start bytes) ++ (entry_in base names (after_entries i rest) ∷ remove_entry (is_same id) (entries_in base names (count - (i + 1)) r))) (sym entry.ensures.rest)
+          ∙ joined (take i (block_entries base count start bytes)) (take (i + 1) (block_entries base count start bytes)) _ _ (take-passed base names count i rest c.loop-index-test.true);
+      short = omega (arith, was.short, ap length entry.ensures.rest, length-after_entry c.loop-index.rest.now);
+    }

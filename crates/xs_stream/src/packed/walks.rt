@@ -1,0 +1,202 @@
+//! Walks over the entries of a block, which lie behind one another from `start` on.
+ghost use Rattle.std.specs.Prelude.{◌≡◌, ◌+◌, ◌-◌, ◌<◌, ◌≤◌, ◌++◌, IfSome, OnOk, length, filter, take, drop};
+ghost use Rattle.std.specs.List.{remove};
+ghost use Rattle.std.specs.Map.{remove_entry};
+ghost use Rattle.std.specs.Option.{is_some};
+ghost use Rattle.xs_stream.specs.Id.{is_same, is_below};
+ghost use Rattle.xs_stream.specs.Kept.{is_within, ids_of, fields_at};
+ghost use Rattle.xs_stream.specs.Packed.{after_entries, block_entries};
+
+use crate::entry::Entry;
+use crate::id::Id;
+use crate::packed::entry::read_entry;
+use crate::packed::fields::PackedFields;
+use crate::packed::number::after;
+use crate::packed::text::read_text;
+use crate::range::Range;
+use std::alloc::AllocError;
+
+/// Where an entry stands.
+#[derive(Drop)]
+pub(crate) struct Place {
+    pub(crate) index: usize,
+    pub(crate) from: usize,
+    pub(crate) to: usize,
+}
+
+/// The fields of an entry.
+pub(crate) fn fields_of<'a>(
+    base: u64,
+    count: usize,
+    start: usize,
+    bytes: &'a [u8],
+    id: Id,
+) -> Option<PackedFields<'a>>
+    ensures { result ≡ fields_at (block_entries base count start bytes.now) id }
+{
+    let mut rest = after(bytes, start);
+    for _ in 0..count {
+        let entry = read_entry(base, rest);
+        if entry.id == id {
+            let (names, _) = read_text(bytes);
+            return Some(PackedFields::new(names, entry.body));
+        }
+        rest = entry.rest;
+    }
+    None
+}
+
+/// Where the first entry with this id stands.
+pub(crate) fn place_of(base: u64, count: usize, start: usize, bytes: &[u8], id: Id) -> Option<Place>
+    ensures index { IfSome result (λ p. p.index < count) }
+    ensures from { IfSome result (λ p. p.from
+        ≡ length bytes.now - length (after_entries p.index (drop start bytes.now))) }
+    ensures to { IfSome result (λ p. p.to
+        ≡ length bytes.now - length (after_entries (p.index + 1) (drop start bytes.now))) }
+    ensures removed { IfSome result (λ p. remove_entry (is_same id) (block_entries base count start bytes.now)
+        ≡ remove (block_entries base count start bytes.now) p.index) }
+    ensures found { is_some result ≡ is_some (fields_at (block_entries base count start bytes.now) id) }
+{
+    let mut rest = after(bytes, start);
+    for index in 0..count {
+        let entry = read_entry(base, rest);
+        if entry.id == id {
+            let from = bytes.len() - rest.len();
+            let to = bytes.len() - entry.rest.len();
+            return Some(Place { index, from, to });
+        }
+        rest = entry.rest;
+    }
+    None
+}
+
+/// How many entries have ids below this one.
+pub(crate) fn count_below(base: u64, count: usize, start: usize, bytes: &[u8], low: Id) -> usize
+    ensures { result ≡ length (filter (λ e. is_below e.0 low) (block_entries base count start bytes.now)) }
+{
+    let mut rest = after(bytes, start);
+    let mut below = 0;
+    for _ in 0..count {
+        let entry = read_entry(base, rest);
+        if entry.id < low {
+            below += 1;
+        }
+        rest = entry.rest;
+    }
+    below
+}
+
+/// Appends the ids within a range, as long as there are fewer than `most` in all.
+pub(crate) fn push_ids(
+    base: u64,
+    count: usize,
+    start: usize,
+    bytes: &[u8],
+    ids: &mut Vec<Id>,
+    range: Range,
+    most: u64,
+) -> Result<(), AllocError>
+    requires { length ids.old.items ≤ most }
+    ensures { OnOk result (ids.new.items
+        ≡ take most (ids.old.items ++ filter (is_within range) (ids_of (block_entries base count start bytes.now)))) }
+{
+    let mut rest = after(bytes, start);
+    for _ in 0..count {
+        if ids.len() as u64 >= most {
+            return Ok(());
+        }
+        let entry = read_entry(base, rest);
+        if range.contains(entry.id) {
+            ids.push(entry.id)?;
+        }
+        rest = entry.rest;
+    }
+    Ok(())
+}
+
+/// Appends the ids within a range.
+pub(crate) fn push_all_ids(
+    base: u64,
+    count: usize,
+    start: usize,
+    bytes: &[u8],
+    ids: &mut Vec<Id>,
+    range: Range,
+) -> Result<(), AllocError>
+    ensures { OnOk result (ids.new.items
+        ≡ ids.old.items ++ filter (is_within range) (ids_of (block_entries base count start bytes.now))) }
+{
+    let mut rest = after(bytes, start);
+    for _ in 0..count {
+        let entry = read_entry(base, rest);
+        if range.contains(entry.id) {
+            ids.push(entry.id)?;
+        }
+        rest = entry.rest;
+    }
+    Ok(())
+}
+
+/// Appends the entries within a range, as long as there are fewer than `most` in all.
+pub(crate) fn push_entries<'a>(
+    base: u64,
+    count: usize,
+    start: usize,
+    bytes: &'a [u8],
+    shown: &mut Vec<Entry<'a>>,
+    range: Range,
+    most: u64,
+) -> Result<(), AllocError>
+    requires { length shown.old.items ≤ most }
+    ensures { OnOk result (shown.new.items
+        ≡ take most (shown.old.items ++ filter (λ e. is_within range e.0) (block_entries base count start bytes.now))) }
+{
+    let (names, _) = read_text(bytes);
+    let mut rest = after(bytes, start);
+    for _ in 0..count {
+        if shown.len() as u64 >= most {
+            return Ok(());
+        }
+        let entry = read_entry(base, rest);
+        if range.contains(entry.id) {
+            shown.push(Entry::new(entry.id, PackedFields::new(names, entry.body)))?;
+        }
+        rest = entry.rest;
+    }
+    Ok(())
+}
+
+/// Appends the entries within a range.
+pub(crate) fn push_all_entries<'a>(
+    base: u64,
+    count: usize,
+    start: usize,
+    bytes: &'a [u8],
+    shown: &mut Vec<Entry<'a>>,
+    range: Range,
+) -> Result<(), AllocError>
+    ensures { OnOk result (shown.new.items
+        ≡ shown.old.items ++ filter (λ e. is_within range e.0) (block_entries base count start bytes.now)) }
+{
+    let (names, _) = read_text(bytes);
+    let mut rest = after(bytes, start);
+    for _ in 0..count {
+        let entry = read_entry(base, rest);
+        if range.contains(entry.id) {
+            shown.push(Entry::new(entry.id, PackedFields::new(names, entry.body)))?;
+        }
+        rest = entry.rest;
+    }
+    Ok(())
+}
+
+/// The bytes after these many entries.
+pub(crate) fn after_entries(base: u64, bytes: &[u8], count: usize) -> &[u8]
+    ensures { result.now ≡ after_entries count bytes.now }
+{
+    let mut rest = bytes;
+    for _ in 0..count {
+        rest = read_entry(base, rest).rest;
+    }
+    rest
+}
