@@ -1,5 +1,5 @@
 -- How a connection goes on, and how it ends.
-use Rattle.std.proofs.Common.{◌≡◌, ◌≢◌, ℕ, ◌+◌, ◌<◌, Bool, true, false, ◌||◌, List, [], ◌∷◌, ◌++◌, length, take, drop, Ok, Err, inl, inr, sym, ap, ◌∙◌, subst, refl, arith, length-append, length-drop}
+use Rattle.std.proofs.Common.{◌≡◌, ℕ, ◌+◌, ◌<◌, Bool, true, false, ◌||◌, List, [], ◌∷◌, ◌++◌, length, take, drop, Ok, Err, inl, inr, sym, ap, ◌∙◌, subst, refl, arith, length-append, length-drop}
 use Rattle.std.proofs.lemmas.List.{append-nil, take-append-drop}
 use Rattle.std.proofs.lemmas.Grind.{flat_map-append}
 use Rattle.std.proofs.lemmas.List.Folds.{list_any-append}
@@ -8,18 +8,17 @@ use Rattle.xs_resp.specs.declared.reply.Reply.TheVariants.{Simple, Error, Int, B
 use Rattle.xs_resp.specs.declared.fault.Fault.TheVariants.{Protocol}
 use Rattle.xs_resp.specs.declared.read_fault.Wrong.{Wrong}
 use Rattle.xs_resp.specs.ReplyText.{text}
-use Rattle.xs_resp.specs.Held.{fed, is_partial}
 use Rattle.xs_resp.specs.Grammar.{FaultIn, IsOpen}
 use Rattle.xs_command.specs.declared.command.Command.{Command}
 use Rattle.xs_server.specs.declared.connections.connection.Connection.{Connection}
 use Rattle.xs_server.specs.declared.connections.ending.Ending.TheVariants as ending
 use Rattle.xs_server.specs.declared.connections.ending.ServeFault.TheVariants as serve_fault
 use Rattle.xs_server.specs.Device.{capped}
-use Rattle.xs_server.specs.Machine.{itself, input, reader, writer, EndsOncePaid}
+use Rattle.xs_server.specs.Machine.{itself, reader, writer, EndsOncePaid}
 use Rattle.xs_server.specs.Exchange.{Exchange, AreAnswered, texts, is_quit}
 use Rattle.xs_server.specs.Serve.{WrittenTo, IsPart, PortFails}
 use Rattle.xs_server.specs.Connection.{Owes, Stands, ServesBy}
-use Rattle.xs_server.proofs.Exchanges.{answered-again, answered-read}
+use Rattle.xs_server.proofs.Exchanges.{answered-again}
 
 -- ---- what is written
 
@@ -58,14 +57,6 @@ some-text (Array items) = omega arith
 some-text NullArray = omega arith
 
 -- ---- how a connection goes on
-
-partial-some : (bytes : List ℕ) → is_partial (Ok bytes) ≡ true → bytes ≢ []
-partial-some [] e = λ is. cc
-partial-some (b ∷ bytes) e = λ is. cc
-
-partial-none : (bytes : List ℕ) → is_partial (Ok bytes) ≡ false → bytes ≡ []
-partial-none [] e = refl
-partial-none (b ∷ bytes) e = absurd (grind arith)
 
 module _ {P : Type 0} (Replies : P → Command → Reply → P → Type 0) where
   -- a connection that owes nothing: all answers are written
@@ -107,19 +98,6 @@ module _ {P : Type 0} (Replies : P → Command → Reply → P → Type 0) where
     written-last [] w owes = absurd (omega (arith, some, ap length owes))
     written-last (one ∷ []) w owes = written-more s.exchanges one sent connection.owed.items connection.replies later.replies w owes counted
     written-last (one ∷ two ∷ more) w owes = absurd owes
-
-  -- more is read
-  pub stands-fed : (old new : P) (read sent got : List ℕ) (connection later : Connection) → Stands Replies old new read sent connection → later.requests ≡ fed connection.requests got → later.owed.items ≡ connection.owed.items
-      → later.replies ≡ connection.replies → Stands Replies old new (read ++ got) sent later
-  stands-fed old new read sent got connection later s is same counted = record {
-    exchanges = s.exchanges;
-    last = s.last;
-    rest = s.rest ++ got;
-    answered = answered-read Replies old new read s.rest got (s.exchanges ++ s.last) s.answered;
-    holds = is ∙ ap (λ h. fed h got) s.holds;
-    written = subst (λ n. WrittenTo s.exchanges [] sent n) (sym counted) s.written;
-    owes = subst (λ (o : List ℕ). Owes s.last o) (sym same) s.owes;
-  }
 
   -- a request of no words is taken
   pub passed : (old mid new : P) (read bytes rest : List ℕ) (exchanges : List Exchange)
@@ -203,11 +181,6 @@ module _ {P : Type 0} (Replies : P → Command → Reply → P → Type 0) (Fail
     ),
   )
 
-  -- memory ran out, for the bytes or the words of a request
-  pub memory-ends : (old new : P) (read sent : List ℕ) (connection : Connection) → Settled Replies old new read sent connection → ServesBy Replies Fails gone itself (Err (serve_fault.Memory connection.replies)) old read sent new
-  memory-ends old new read sent connection s =
-      (record { exchanges = s.exchanges; rest = s.rest; last = new; answered = s.answered; ends = (refl, inl s.written) }, refl, λ told e. cc)
-
   -- memory ran out for the last answer
   pub answer-lost : (old mid new : P) (read sent bytes rest : List ℕ) (exchanges : List Exchange) (one : Exchange) (replies : ℕ)
       → AreAnswered Replies old mid read exchanges bytes → WrittenTo exchanges [] sent replies → AreAnswered Replies mid new bytes (one ∷ []) rest
@@ -235,32 +208,3 @@ module _ {P : Type 0} (Replies : P → Command → Reply → P → Type 0) (Fail
       → ServesBy Replies Fails gone reader (Err (serve_fault.Read connection.replies)) old read sent new
   read-ends old new read sent connection s waits =
       (record { exchanges = s.exchanges; rest = s.rest; last = new; answered = s.answered; ends = (refl, waits, s.written) }, refl, λ told e. cc)
-
-  -- the end of the input is met
-  pub cut-ends : (old new : P) (read sent : List ℕ) (connection : Connection) (s : Settled Replies old new read sent connection) → IsOpen s.rest → is_partial connection.requests ≡ true
-      → ServesBy Replies Fails gone input (Ok ending.Cut) old read sent new
-  cut-ends old new read sent connection s waits some = (
-    record {
-      exchanges = s.exchanges;
-      rest = s.rest;
-      last = new;
-      answered = s.answered;
-      ends = (refl, (partial-some s.rest (ap is_partial (sym s.holds) ∙ some), waits, (s.written.0, s.written.1 ∙ append-nil (texts s.exchanges))));
-    },
-    refl,
-    λ told e. cc,
-  )
-
-  pub closed-ends : (old new : P) (read sent : List ℕ) (connection : Connection) (s : Settled Replies old new read sent connection) → is_partial connection.requests ≡ false
-      → ServesBy Replies Fails gone input (Ok ending.Closed) old read sent new
-  closed-ends old new read sent connection s none = (
-    record {
-      exchanges = s.exchanges;
-      rest = s.rest;
-      last = new;
-      answered = s.answered;
-      ends = (refl, (partial-none s.rest (ap is_partial (sym s.holds) ∙ none), (s.written.0, s.written.1 ∙ append-nil (texts s.exchanges))));
-    },
-    refl,
-    λ told e. cc,
-  )

@@ -1,6 +1,7 @@
 pub mod Reports
 pub mod Driving
 pub mod LineEnds
+pub mod HeldLines
 pub mod ScriptLines
 pub mod Sessions
 pub mod CommandLines

@@ -102,6 +102,3 @@ capped-more n lines line e = let len = length-append lines (line ∷ []) in omeg
 
 pub capped-sent : (n m : ℕ) (sent part : List ℕ) → n ≡ capped (length sent) → m ≡ capped (n + length part) → m ≡ capped (length (sent ++ part))
 capped-sent n m sent part e f = let len = length-append sent part in omega arith
-
-pub capped-next : (n m : ℕ) (lines : List (List ℕ)) → n ≡ capped (length lines) → m ≡ capped (n + 1) → m ≡ capped (length lines + 1)
-capped-next n m lines e f = omega arith

@@ -1,8 +1,8 @@
 //! The two halves of a connection over TCP. Replies are gathered in one buffer, which is sent where it is full, before
 //! the reader waits, and where the writer is dropped.
-ghost use Rattle.std.specs.Prelude.{◌≤◌, length, IfOk, None};
+ghost use Rattle.std.specs.Prelude.{◌≤◌, length, IfOk};
 
-use crate::devices::device::{Failed, Sink, Source};
+use crate::devices::device::{FromRead, ToWrite};
 use std::alloc::{AllocError, Global};
 use std::io;
 use std::io::{ErrorKind, Read, Write};
@@ -81,96 +81,46 @@ impl Shared {
 #[derive(Drop)]
 pub struct Incoming {
     shared: Arc<Shared>,
-    calls: u64,
-    broken: bool,
-    ended: bool,
 }
 
-impl Source for Incoming {
-    ghost rest = { λ s. None };
-
-    ghost calls = { λ s. s.calls };
-
-    ghost broken = { λ s. s.broken };
-
-    ghost ended = { λ s. s.ended };
-
-    fn read(&mut self, into: &mut [u8]) -> Result<usize, Failed> {
-        self.calls = self.calls.saturating_add(1);
-        let room = !into.is_empty();
-        match self.shared.receive(into) {
-            Ok(count) => {
-                if count == 0 && room {
-                    self.ended = true;
-                }
-                Ok(count)
-            }
-            Err(_) => {
-                self.broken = true;
-                Err(Failed)
-            }
-        }
+impl Read for Incoming {
+    fn read(&mut self, into: &mut [u8]) -> io::Result<usize> {
+        self.shared.receive(into)
     }
 }
 
 /// Where the replies go.
 pub struct Outgoing {
     shared: Arc<Shared>,
-    calls: u64,
-    broken: bool,
 }
 
 impl Drop for Outgoing {
     /// Sends what is held. A fault is passed over: the peer has gone.
     fn drop(self) {
-        let Outgoing {
-            shared,
-            calls: _,
-            broken: _,
-        } = self;
+        let Outgoing { shared } = self;
         let _ = shared.send();
     }
 }
 
-impl Sink for Outgoing {
-    ghost held = { λ s. None };
+impl Write for Outgoing {
+    fn write(&mut self, from: &[u8]) -> io::Result<usize> {
+        self.shared.hold(from)
+    }
 
-    ghost calls = { λ s. s.calls };
-
-    ghost broken = { λ s. s.broken };
-
-    fn write(&mut self, from: &[u8]) -> Result<usize, Failed> {
-        self.calls = self.calls.saturating_add(1);
-        match self.shared.hold(from) {
-            Ok(count) => {
-                if count == 0 && !from.is_empty() {
-                    self.broken = true;
-                }
-                Ok(count)
-            }
-            Err(_) => {
-                self.broken = true;
-                Err(Failed)
-            }
-        }
+    fn flush(&mut self) -> io::Result<()> {
+        self.shared.send()
     }
 }
 
 /// Both halves of a stream, with their buffer.
-pub fn halves_of(alloc: Global, stream: TcpStream) -> Result<(Incoming, Outgoing), AllocError> {
+pub fn halves_of(
+    alloc: Global,
+    stream: TcpStream,
+) -> Result<(FromRead<Incoming>, ToWrite<Outgoing>), AllocError> {
     let held = Mutex::new(Vec::with_capacity(alloc, ROOM)?);
     let shared = Arc::new(alloc, Shared { stream, held })?;
     let other = Arc::try_clone(&shared)?;
-    let incoming = Incoming {
-        shared,
-        calls: 0,
-        broken: false,
-        ended: false,
-    };
-    let outgoing = Outgoing {
-        shared: other,
-        calls: 0,
-        broken: false,
-    };
+    let incoming = FromRead::new(Incoming { shared });
+    let outgoing = ToWrite::new(Outgoing { shared: other });
     Ok((incoming, outgoing))
 }

@@ -1,6 +1,6 @@
 //! Connections over TCP.
 use crate::announcement::Announcement;
-use crate::devices::device::Sink;
+use crate::devices::device::{FromRead, Sink, ToWrite};
 use crate::halves::{Incoming, Outgoing, halves_of};
 use crate::work::gate::{Gate, GateFault};
 use std::alloc::Global;
@@ -89,11 +89,14 @@ fn accept<S: Clock>(system: &S, listener: &TcpListener) -> Result<TcpStream, Gat
 }
 
 impl<S: Clock + Drop, W: Sink + Send + Drop> Gate for TcpGate<S, W> {
-    type Reader = Incoming;
+    type Reader = FromRead<Incoming>;
 
-    type Writer = Outgoing;
+    type Writer = ToWrite<Outgoing>;
 
-    fn open_next<R: Wait>(&mut self, rt: &R) -> Result<Option<(Incoming, Outgoing)>, GateFault> {
+    fn open_next<R: Wait>(
+        &mut self,
+        rt: &R,
+    ) -> Result<Option<(FromRead<Incoming>, ToWrite<Outgoing>)>, GateFault> {
         self.announcement.make(rt);
         for _ in 0..self.left {
             self.left = self.left.saturating_sub(1);

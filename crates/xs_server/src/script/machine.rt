@@ -6,7 +6,6 @@ ghost use Rattle.xs_server.specs.Line.{is_line_end, line_limit};
 ghost use Rattle.xs_server.specs.Session.{IsNew, RunsBy, Stands};
 
 use crate::lines::held::HeldBytes;
-use crate::lines::taking::line_end;
 use crate::machines::machine::{Machine, Turn};
 use crate::script::fault::ScriptFault;
 use crate::script::serving::{Unanswered, serve_line};
@@ -93,9 +92,8 @@ impl Machine<Keyspace, ()> for Script {
     ghost breaks = { λ script count. Err (ScriptFault.Write (capped (script.written + count))) };
 
     fn advance(&mut self, _rt: &(), keyspace: &mut Keyspace) -> Turn<Result<u64, ScriptFault>> {
-        let held = self.held.bytes();
-        let Some(at) = line_end(held) else {
-            if held.len() > LINE_LIMIT {
+        let Some(at) = self.held.line_end() else {
+            if self.held.bytes().len() > LINE_LIMIT {
                 return Turn::Ends(self.line_error());
             }
             return Turn::Waits;
@@ -103,7 +101,8 @@ impl Machine<Keyspace, ()> for Script {
         if at > LINE_LIMIT {
             return Turn::Ends(self.line_error());
         }
-        match serve_line(self.alloc, keyspace, &held[..at], &mut self.owed) {
+        let line = &self.held.bytes()[..at];
+        match serve_line(self.alloc, keyspace, line, &mut self.owed) {
             Ok(()) => {}
             Err(Unanswered::NoLine) => return Turn::Ends(self.line_error()),
             Err(Unanswered::Memory) => return Turn::Ends(self.memory_error()),
