@@ -1,5 +1,5 @@
 -- How a connection goes on, and how it ends.
-use Rattle.std.proofs.Common.{◌≡◌, ℕ, ◌+◌, ◌<◌, Bool, true, false, ◌||◌, List, [], ◌∷◌, ◌++◌, length, take, drop, Ok, Err, inl, inr, sym, ap, ◌∙◌, subst, refl, arith, length-append, length-drop}
+use Rattle.std.proofs.Common.{◌≡◌, ℕ, ◌+◌, ◌<◌, Bool, true, false, ◌||◌, List, [], ◌∷◌, ◌++◌, length, take, drop, Result, Ok, Err, inl, inr, sym, ap, ◌∙◌, subst, refl, arith, length-append, length-drop}
 use Rattle.std.proofs.lemmas.List.{append-nil, take-append-drop}
 use Rattle.std.proofs.lemmas.Grind.{flat_map-append}
 use Rattle.std.proofs.lemmas.List.Folds.{list_any-append}
@@ -11,12 +11,14 @@ use Rattle.xs_resp.specs.ReplyText.{text}
 use Rattle.xs_resp.specs.Grammar.{FaultIn, IsOpen}
 use Rattle.xs_command.specs.declared.command.Command.{Command}
 use Rattle.xs_server.specs.declared.connections.connection.Connection.{Connection}
+use Rattle.xs_server.specs.declared.connections.ending.Ending.{Ending}
 use Rattle.xs_server.specs.declared.connections.ending.Ending.TheVariants as ending
+use Rattle.xs_server.specs.declared.connections.ending.ServeFault.{ServeFault}
 use Rattle.xs_server.specs.declared.connections.ending.ServeFault.TheVariants as serve_fault
 use Rattle.xs_server.specs.Device.{capped}
 use Rattle.xs_server.specs.Machine.{itself, reader, writer, EndsOncePaid}
 use Rattle.xs_server.specs.Exchange.{Exchange, AreAnswered, texts, is_quit}
-use Rattle.xs_server.specs.Serve.{WrittenTo, IsPart, PortFails}
+use Rattle.xs_server.specs.Serve.{WrittenTo, IsPart, PortFails, Ends, Serves}
 use Rattle.xs_server.specs.Connection.{Owes, Stands, ServesBy}
 use Rattle.xs_server.proofs.Exchanges.{answered-again}
 
@@ -108,23 +110,21 @@ module _ {P : Type 0} (Replies : P → Command → Reply → P → Type 0) where
 -- ---- how a connection ends
 
 module _ {P : Type 0} (Replies : P → Command → Reply → P → Type 0) (Fails : P → Command → P → Type 0) (gone : P → Bool) where
+  serves-so : (result : Result Ending ServeFault) (old last new : P) (read sent rest : List ℕ) (exchanges : List Exchange) → AreAnswered Replies old last read exchanges rest → Ends Fails result last new rest exchanges sent
+      → Serves Replies Fails result old new read sent
+  serves-so result old last new read sent rest exchanges a ends = record { exchanges = exchanges; rest = rest; last = last; answered = a; ends = ends }
+
   abbrev Broken : P → P → List ℕ → List ℕ → List ℕ → ℕ → Type 0
   Broken old new read sent owed replies = (count : ℕ) → count < length owed → ServesBy Replies Fails gone writer (Err (serve_fault.Write replies)) old read (sent ++ take count owed) new
 
   -- the writer fails within the last answer
-  pub answer-broken : (old new : P) (read sent owed rest : List ℕ) (exchanges : List Exchange) (one : Exchange) (replies : ℕ)
+  answer-broken : (old new : P) (read sent owed rest : List ℕ) (exchanges : List Exchange) (one : Exchange) (replies : ℕ)
       → AreAnswered Replies old new read (exchanges ++ one ∷ []) rest → WrittenTo exchanges [] sent replies → owed ≡ text one.answer → Broken old new read sent owed replies
-  answer-broken old new read sent owed rest exchanges one replies a w is = λ count few. (
-    record {
-      exchanges = exchanges ++ one ∷ [];
-      rest = rest;
-      last = new;
-      answered = a;
-      ends = (refl, inl (exchanges, one, take count owed, refl, written-part exchanges sent (take count owed) replies w, is-part count owed (text one.answer) few is));
-    },
-    refl,
-    λ told e. cc,
-  )
+  answer-broken old new read sent owed rest exchanges one replies a w is = λ count few.
+      let part = take count owed in
+      let lacks = is-part count owed (text one.answer) few is in
+      let written = written-part exchanges sent part replies w in
+      (serves-so (Err (serve_fault.Write replies)) old new new read (sent ++ part) rest (exchanges ++ one ∷ []) a (refl, inl (exchanges, one, part, refl, written, lacks)), refl, λ told e. cc)
 
   pub stands-broken : (old new : P) (read sent : List ℕ) (connection : Connection) → Stands Replies old new read sent connection → Broken old new read sent connection.owed.items connection.replies
   stands-broken old new read sent connection s = by s.last s.answered s.owes where
@@ -137,74 +137,42 @@ module _ {P : Type 0} (Replies : P → Command → Reply → P → Type 0) (Fail
   pub ends-quit : (old new : P) (read sent owed rest : List ℕ) (exchanges : List Exchange) (one : Exchange) (replies : ℕ)
       → AreAnswered Replies old new read (exchanges ++ one ∷ []) rest → WrittenTo exchanges [] sent replies → owed ≡ text one.answer → is_quit one.asked ≡ true
       → EndsOncePaid (ServesBy Replies Fails gone) (λ count. Err (serve_fault.Write replies)) itself (Ok ending.Quit) old read sent owed new
-  ends-quit old new read sent owed rest exchanges one replies a w is quit = (
-    (
-      record {
-        exchanges = exchanges ++ one ∷ [];
-        rest = rest;
-        last = new;
-        answered = a;
-        ends = (refl, (exchanges, one, refl, w.0, quit, sent-more exchanges one sent owed replies w is));
-      },
-      refl,
-      λ told e. cc,
-    ),
-    answer-broken old new read sent owed rest exchanges one replies a w is,
-  )
+  ends-quit old new read sent owed rest exchanges one replies a w is quit =
+      let all = sent-more exchanges one sent owed replies w is in (
+        (serves-so (Ok ending.Quit) old new new read (sent ++ owed) rest (exchanges ++ one ∷ []) a (refl, (exchanges, one, refl, w.0, quit, all)), refl, λ told e. cc),
+        answer-broken old new read sent owed rest exchanges one replies a w is,
+      )
 
   -- the bytes aren't a request
   pub ends-refused : (old new : P) (read sent owed rest : List ℕ) (exchanges : List Exchange) (replies : ℕ) (wrong : Wrong)
       → AreAnswered Replies old new read exchanges rest → WrittenTo exchanges [] sent replies → owed ≡ text (Error Protocol) → FaultIn rest wrong
       → EndsOncePaid (ServesBy Replies Fails gone) (λ count. Err (serve_fault.Write replies)) itself (Ok ending.Protocol) old read sent owed new
-  ends-refused old new read sent owed rest exchanges replies wrong a w is stands = (
-    (
-      record {
-        exchanges = exchanges;
-        rest = rest;
-        last = new;
-        answered = a;
-        ends = (refl, (wrong, stands, w.0, ap (λ o. sent ++ o) is ∙ ap (λ o. o ++ text (Error Protocol)) (w.1 ∙ append-nil (texts exchanges))));
-      },
-      refl,
-      λ told e. cc,
-    ),
-    λ count few. (
-      record {
-        exchanges = exchanges;
-        rest = rest;
-        last = new;
-        answered = a;
-        ends = (refl, inr (wrong, take count owed, stands, written-part exchanges sent (take count owed) replies w, is-part count owed (text (Error Protocol)) few is));
-      },
-      refl,
-      λ told e. cc,
-    ),
-  )
+  ends-refused old new read sent owed rest exchanges replies wrong a w is stands =
+      let all = ap (λ o. sent ++ o) is ∙ ap (λ o. o ++ text (Error Protocol)) (w.1 ∙ append-nil (texts exchanges)) in (
+        (serves-so (Ok ending.Protocol) old new new read (sent ++ owed) rest exchanges a (refl, (wrong, stands, w.0, all)), refl, λ told e. cc),
+        λ count few.
+            let part = take count owed in
+            let lacks = is-part count owed (text (Error Protocol)) few is in
+            let written = written-part exchanges sent part replies w in
+            (serves-so (Err (serve_fault.Write replies)) old new new read (sent ++ part) rest exchanges a (refl, inr (wrong, part, stands, written, lacks)), refl, λ told e. cc),
+      )
 
   -- memory ran out for the last answer
   pub answer-lost : (old mid new : P) (read sent bytes rest : List ℕ) (exchanges : List Exchange) (one : Exchange) (replies : ℕ)
       → AreAnswered Replies old mid read exchanges bytes → WrittenTo exchanges [] sent replies → AreAnswered Replies mid new bytes (one ∷ []) rest
       → ServesBy Replies Fails gone itself (Err (serve_fault.Memory replies)) old read sent new
-  answer-lost old mid new read sent bytes rest exchanges one replies a w more = (
-    record {
-      exchanges = exchanges ++ one ∷ [];
-      rest = rest;
-      last = new;
-      answered = answered-again Replies old mid new read bytes rest exchanges (one ∷ []) a more;
-      ends = (refl, inr (exchanges, one, refl, w));
-    },
-    refl,
-    λ told e. cc,
-  )
+  answer-lost old mid new read sent bytes rest exchanges one replies a w more =
+      let all = answered-again Replies old mid new read bytes rest exchanges (one ∷ []) a more in
+      (serves-so (Err (serve_fault.Memory replies)) old new new read sent rest (exchanges ++ one ∷ []) all (refl, inr (exchanges, one, refl, w)), refl, λ told e. cc)
 
   -- the port answers no more
   pub port-ends : (old mid new : P) (read sent : List ℕ) (connection : Connection) (s : Settled Replies old mid read sent connection) → PortFails Fails mid new s.rest → gone new ≡ true
       → ServesBy Replies Fails gone itself (Err (serve_fault.Port connection.replies)) old read sent new
   port-ends old mid new read sent connection s fails is =
-      (record { exchanges = s.exchanges; rest = s.rest; last = mid; answered = s.answered; ends = (fails, s.written) }, refl, λ told e. is)
+      (serves-so (Err (serve_fault.Port connection.replies)) old mid new read sent s.rest s.exchanges s.answered (fails, s.written), refl, λ told e. is)
 
   -- no more can be read
   pub read-ends : (old new : P) (read sent : List ℕ) (connection : Connection) (s : Settled Replies old new read sent connection) → IsOpen s.rest
       → ServesBy Replies Fails gone reader (Err (serve_fault.Read connection.replies)) old read sent new
   read-ends old new read sent connection s waits =
-      (record { exchanges = s.exchanges; rest = s.rest; last = new; answered = s.answered; ends = (refl, waits, s.written) }, refl, λ told e. cc)
+      (serves-so (Err (serve_fault.Read connection.replies)) old new new read sent s.rest s.exchanges s.answered (refl, waits, s.written), refl, λ told e. cc)

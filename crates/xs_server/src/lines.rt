@@ -1,4 +1,3 @@
-//! The lines of a script: how they are taken, and what they say.
+//! The lines of a script: where they end, and what they say.
 pub mod held;
 pub mod parts;
-pub mod taking;

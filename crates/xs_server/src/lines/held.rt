@@ -3,7 +3,7 @@ ghost use Rattle.std.specs.Prelude.{◌≡◌, ◌+◌, ◌<◌, ◌≤◌, ◌+
 ghost use Rattle.std.specs.List.{list_any};
 ghost use Rattle.xs_server.specs.Line.{is_line_end};
 
-use crate::lines::taking::line_end;
+use memchr::memchr;
 use std::alloc::{AllocError, Global};
 use std::marker::Model;
 
@@ -27,6 +27,15 @@ impl Model for HeldBytes {
 
     ghost invariant = { λ h. (h.start ≤ h.searched) × (h.searched ≤ length h.bytes.items)
         × (list_any is_line_end (take (h.searched - h.start) (drop h.start h.bytes.items)) ≡ false) };
+}
+
+/// Where the first line of some bytes ends, without its LF.
+fn first_line_end(bytes: &[u8]) -> Option<usize>
+    ensures { MatchOption result (list_any is_line_end bytes.now ≡ false)
+        (λ at. (at < length bytes.now) × (list_any is_line_end (take at bytes.now) ≡ false)
+        × (bytes.now ≡ take at bytes.now ++ 10 ∷ drop (at + 1) bytes.now)) }
+{
+    memchr(b'\n', bytes)
 }
 
 impl HeldBytes {
@@ -57,7 +66,7 @@ impl HeldBytes {
     {
         let searched = self.searched - self.start;
         let (_, rest) = self.bytes().split_at(searched);
-        match line_end(rest) {
+        match first_line_end(rest) {
             Some(at) => Some(searched + at),
             None => {
                 self.searched = self.bytes.len();
