@@ -4,13 +4,14 @@ use crate::connections::connection::Connection;
 use crate::connections::ending::{Ending, ServeFault};
 use crate::connections::serve::serve;
 use crate::connections::serve_alone::serve_alone;
-use crate::devices::chunk::Chunk;
-use crate::machines::drive::drive;
+use crate::machines::machine::Machine;
 use std::sync::atomic::AtomicU64;
 use std::sync::{Arc, Wait};
+use xs_bytes::Bytes;
 use xs_desk::{Alone, Lane, desk};
 use xs_fakes::{InTwo, Still};
 use xs_keys::Keyspace;
+use xs_resp::{Reply, encode};
 use xs_stream::Moment;
 
 /// An empty keyspace at moment 1000.
@@ -203,28 +204,12 @@ fn a_refused_connection_is_served_again(rt: HostRuntime) -> Result<(), Fail> {
 #[test]
 fn gives_a_great_buffer_back(rt: HostRuntime) -> Result<(), Fail> {
     let alloc = rt.alloc();
-    let long = vec![in alloc; b'x'; 1_000_000]?;
-    let input = [
-        "*2\r\n$4\r\nPING\r\n$1000000\r\n".as_bytes(),
-        long.as_slice(),
-        b"\r\n",
-    ]
-    .concat(alloc)?;
-    let mut reader = FromRead::new(input.as_slice());
-    let mut writer = ToWrite::new(Vec::new(alloc));
-    let mut chunk = Chunk::new(alloc)?;
+    let reply = Reply::Bulk(Bytes::new(vec![in alloc; b'x'; 1_000_000]?));
     let mut connection = Connection::new(alloc);
-    let mut alone = new_alone(alloc);
-    let served = drive(
-        &rt,
-        &mut reader,
-        &mut writer,
-        &mut chunk,
-        &mut connection,
-        &mut alone,
-    );
-    assert_eq!(rt; served, Ok(Ending::Closed));
-    assert_eq!(rt; writer.into_inner().len(), 1_000_012);
+    assert_eq!(rt; encode(&reply, &mut connection.owed), Ok(()));
+    assert_eq!(rt; connection.owed.len(), 1_000_012);
+    Machine::<Alone<Still>, HostRuntime>::paid(&mut connection);
+    assert!(rt; connection.owed.is_empty());
     assert!(rt; connection.owed.capacity() <= 65_536);
     Ok(())
 }
