@@ -29,7 +29,7 @@ has-filter p x (y ∷ ys) e = by (p y) (is_same x y) refl e (has-filter p x ys) 
   by true false f e rest = ap (λ b. b || has_id (filter p ys) x) f ∙ rest e
   by false false f e rest = rest e
 
-apart-filter : (p : Id → Bool) (ids : List Id) → AreApart ids → AreApart (filter p ids)
+pub apart-filter : (p : Id → Bool) (ids : List Id) → AreApart ids → AreApart (filter p ids)
 apart-filter p [] a = tt
 apart-filter p (y ∷ ys) a = by (p y) (apart-filter p ys a.1) where
   by : (t : Bool) → AreApart (filter p ys) → AreApart (cond t (y ∷ filter p ys) (filter p ys))
@@ -44,7 +44,7 @@ not_kept x (y ∷ ys) = by (is_same y x) refl (not_kept x ys) where
   by true e rest = rest
   by false e rest = ap (λ b. b || has_id (filter (λ y. not (is_same y x)) ys) x) (is_same-symm x y ∙ e) ∙ rest
 
-apart-firsts : (ids : List Id) → AreApart (firsts ids)
+pub apart-firsts : (ids : List Id) → AreApart (firsts ids)
 apart-firsts [] = tt
 apart-firsts (x ∷ xs) = (not_kept x (firsts xs), apart-filter (λ y. not (is_same y x)) (firsts xs) (apart-firsts xs))
 

@@ -43,7 +43,7 @@ above-limited : (limit : Option ℕ) (a : Id) (xs : List Id) → AllAbove a xs �
 above-limited None a xs h = h
 above-limited (Some n) a xs h = above-take n a xs h
 
-ascends-limited : (limit : Option ℕ) (xs : List Id) → Ascends xs → Ascends (limited limit xs)
+pub ascends-limited : (limit : Option ℕ) (xs : List Id) → Ascends xs → Ascends (limited limit xs)
 ascends-limited None xs h = h
 ascends-limited (Some n) xs h = ascends-take n xs h
 

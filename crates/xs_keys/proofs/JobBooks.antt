@@ -10,7 +10,7 @@ use Rattle.xs_stream.specs.Kept.{ids_of, Ascends, AllAbove}
 use Rattle.xs_stream.proofs.Order.{is_same-eq, is_same-refl, is_same-symm, below-not_back}
 use Rattle.xs_group.specs.State.{Row, is_name, delivers, owned}
 use Rattle.xs_keys.specs.Life.{Change, key_life, given_in, live}
-use Rattle.xs_keys.specs.GroupEvent.{delivered, cursor, last_assigned, owner, rows_among, holding, rows}
+use Rattle.xs_keys.specs.GroupEvent.{GroupEvent, delivered, cursor, last_assigned, owner, rows_among, holding, rows}
 use Rattle.xs_keys.specs.GroupLife.{GroupLife, group_life}
 use Rattle.xs_keys.specs.Content.{Content, Key, IsGroup, GroupHolds, KeyHolds, IsContent}
 use Rattle.xs_keys.specs.Reply.{array, array_or_null, id_reply, of_group, owner_reply, summary_reply}
@@ -30,7 +30,7 @@ or_truth : (a b : Bool) → a ≡ false → (a || b) ≡ b
 or_truth a b e = rw e refl
 
 -- an id is not above itself
-not_itself : (x : Id) (xs : List Id) → AllAbove x xs → has_id xs x ≡ false
+pub not_itself : (x : Id) (xs : List Id) → AllAbove x xs → has_id xs x ≡ false
 not_itself x xs h = not_above x x xs (irrefl (is_below x x) refl) h where
   irrefl : (t : Bool) → is_below x x ≡ t → t ≡ false
   irrefl false e = refl
@@ -64,7 +64,7 @@ ascends-same (x ∷ xs) (y ∷ ys) h k e =
 -- ---- rows by their ids
 
 -- the ids of rows are those of the list that have one
-ids-among : (row_of : Id → Option Row) (ids : List Id) → map (λ e. e.0) (rows_among row_of ids) ≡ filter (λ x. is_some (row_of x)) ids
+pub ids-among : (row_of : Id → Option Row) (ids : List Id) → map (λ e. e.0) (rows_among row_of ids) ≡ filter (λ x. is_some (row_of x)) ids
 ids-among row_of [] = refl
 ids-among row_of (x ∷ xs) = by (row_of x) (ids-among row_of xs) where
   by : (r : Option Row) → map (λ e. e.0) (rows_among row_of xs) ≡ filter (λ y. is_some (row_of y)) xs
@@ -72,8 +72,13 @@ ids-among row_of (x ∷ xs) = by (row_of x) (ids-among row_of xs) where
   by None e = e
   by (Some row) e = ap (λ rest. x ∷ rest) e
 
+pub ascends-rows : (start : Id) (events : List GroupEvent) → PresentAscends events → Ascends (map (λ e. e.0) (rows start events))
+ascends-rows start events asc =
+    subst Ascends (sym (ids-among (λ x. holding start events x) (delivered start events)))
+    (ascends-where (λ x. is_some (holding start events x)) (delivered start events) (ascends-delivered start events asc))
+
 -- and those of one consumer's rows are those whose row is its own
-owned-among : (name : List ℕ) (row_of : Id → Option Row) (ids : List Id) → owned name (rows_among row_of ids) ≡ filter (λ x. option_map_or (λ row. is_name row.consumer name) (row_of x) false) ids
+pub owned-among : (name : List ℕ) (row_of : Id → Option Row) (ids : List Id) → owned name (rows_among row_of ids) ≡ filter (λ x. option_map_or (λ row. is_name row.consumer name) (row_of x) false) ids
 owned-among name row_of [] = refl
 owned-among name row_of (x ∷ xs) = by (row_of x) (owned-among name row_of xs) where
   by : (r : Option Row) → owned name (rows_among row_of xs) ≡ filter (λ y. option_map_or (λ row. is_name row.consumer name) (row_of y) false) xs
@@ -101,7 +106,7 @@ waits handed_out e = absurd (false≢true e)
 waits (pending name) e = absurd (false≢true e)
 waits settled e = absurd (false≢true e)
 
-same_truth : (a b : Bool) → (a ≡ true → b ≡ true) → (b ≡ true → a ≡ true) → a ≡ b
+pub same_truth : (a b : Bool) → (a ≡ true → b ≡ true) → (b ≡ true → a ≡ true) → a ≡ b
 same_truth true true f g = refl
 same_truth true false f g = sym (f refl)
 same_truth false true f g = g refl

@@ -41,7 +41,7 @@ use Rattle.xs_stream.proofs.Assigning.{assigned-above}
 use Rattle.xs_stream.proofs.InOrder.{ids_of-append}
 use Rattle.xs_keys.proofs.Lives.{others-absent, not-read}
 use Rattle.xs_keys.proofs.Owners.{owner-row, row-found, of_row}
-use Rattle.xs_keys.proofs.Takings.{firsts-keeps}
+use Rattle.xs_keys.proofs.Takings.{firsts-has}
 use Rattle.xs_keys.proofs.Sights.{SeesItsKey, sees-life, first_of, second_of, both_of, or_first, or_second, given-more, given-up_to, live-before, has_id-live, delivered-given}
 use Rattle.xs_keys.proofs.JobPlaces.{place_by, life_of, Went, stayed, was_handed_out, was_delivered, was_taken, was_settled, went, settled-now, pending-owner, waiting-asked, owner-last}
 
@@ -282,14 +282,6 @@ leave-causes k g consumer key group here ids x now = record {
   must = λ es found name e. or_first _ _ (second_of (is_name key k && is_name group g) (is_name name consumer) (or_less _ e));
 }
 
--- an id at its first place is one of the ids
-firsts-has : (ids : List Id) (x : Id) → has_id (firsts ids) x ≡ true → has_id ids x ≡ true
-firsts-has [] x e = e
-firsts-has (y ∷ ys) x e = by (is_same x y) e (λ f. firsts-has ys x (second_of (not (is_same x y)) (has_id (firsts ys) x) (sym (has_id-where (λ z. not (is_same z y)) (firsts ys) x) ∙ f))) where
-  by : (t : Bool) → (t || has_id (filter (λ z. not (is_same z y)) (firsts ys)) x) ≡ true → (has_id (filter (λ z. not (is_same z y)) (firsts ys)) x ≡ true → has_id ys x ≡ true) → (t || has_id ys x) ≡ true
-  by true e f = refl
-  by false e f = f e
-
 among-taken : (es : List (Id × Row)) (present : List Id) (now : ℕ) (rule : Rule) (ids : List Id) (x : Id) → has_id (claim_among es present now rule ids).take x ≡ true → (has_id ids x ≡ true) × (has_id present x ≡ true)
 among-taken es present now rule ids x e =
     let f = sym (has_id-where (is_taken es present now rule) ids x) ∙ e in
@@ -306,17 +298,17 @@ claim-causes c key group here ids x now = record {
   delivers = λ a e f. absurd (false≢true e);
   takes = λ es e.
       let t = among-taken es ids now c.rule (firsts c.ids) x e in
-      (both_of _ (has_id ids x) (both_of (is_name key c.key && is_name group c.group) (has_id c.ids x) here (firsts-has c.ids x t.0)) t.1, refl);
+      (both_of _ (has_id ids x) (both_of (is_name key c.key && is_name group c.group) (has_id c.ids x) here (sym (firsts-has c.ids x) ∙ t.0)) t.1, refl);
   settles = λ es name e.
       let t = among-removed es ids now c.rule (firsts c.ids) x e in
-      both_of _ (not (has_id ids x)) (both_of (is_name key c.key && is_name group c.group) (has_id c.ids x) here (firsts-has c.ids x t.0)) t.1;
+      both_of _ (not (has_id ids x)) (both_of (is_name key c.key && is_name group c.group) (has_id c.ids x) here (sym (firsts-has c.ids x) ∙ t.0)) t.1;
   no_deletion = refl;
   must = λ es found name e.
       let named = second_of (is_name key c.key && is_name group c.group) (has_id c.ids x) (first_of ((is_name key c.key && is_name group c.group) && has_id c.ids x) (not (has_id ids x)) e) in
       has_id-where (is_removed es ids) (firsts c.ids) x
       ∙ both_of (is_removed es ids x) (has_id (firsts c.ids) x)
       (both_of (is_some (row_at es x)) (not (has_id ids x)) found (second_of ((is_name key c.key && is_name group c.group) && has_id c.ids x) (not (has_id ids x)) e))
-      (firsts-keeps c.ids x named);
+      (firsts-has c.ids x ∙ named);
 }
 
 auto_claim-causes : (c : AutoClaimCommand) (key group : List ℕ) → (is_name key c.key && is_name group c.group) ≡ true → (ids : List Id) (x : Id) (now : ℕ)

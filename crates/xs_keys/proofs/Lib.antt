@@ -1,5 +1,6 @@
 pub mod Additions
 pub mod AskSteps
+pub mod Assigning
 pub mod Comings
 pub mod Contents
 pub mod Deliveries
@@ -17,7 +18,10 @@ pub mod Maps
 pub mod Names
 pub mod Owners
 pub mod PresentEntries
+pub mod FirstIds
+pub mod RowsTold
 pub mod Touches
+pub mod ScanParts
 pub mod Takings
 pub mod ReadSteps
 pub mod Refusals

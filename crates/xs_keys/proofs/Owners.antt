@@ -159,7 +159,7 @@ asked-over (leave consumer) now present es x = λ e. absurd (false≢true e)
 asked-over (claim consumer rule ids) now present es x = over es present now rule (firsts ids) x
 asked-over (auto_claim consumer rule start limit) now present es x = over es present now rule (scanned (is_hit es present now rule) limit (from_start start es)) x
 
-claimed-over : (ask : Ask) (now : ℕ) (present : List Id) (es : List (Id × Row)) (x : Id) → has_id (asked_claim ask now present es).take x ≡ true
+pub claimed-over : (ask : Ask) (now : ℕ) (present : List Id) (es : List (Id × Row)) (x : Id) → has_id (asked_claim ask now present es).take x ≡ true
     → (is_some (row_at es x) ≡ true) × (has_id (asked_claim ask now present es).removed x ≡ false)
 unfolding IsOver
 claimed-over ask now present es x e = asked-over ask now present es x e

@@ -43,7 +43,7 @@ not_greater : (x : ℕ) → nat_cmp 0 x ≡ Greater → ⊥
 not_greater x e = let low : x < 0 = ranked 0 x Greater (sym e) in omega (arith, low)
 
 -- 0-0 is below each other id
-first-below : (id : Id) → id ≢ zero_id → is_below zero_id id ≡ true
+pub first-below : (id : Id) → id ≢ zero_id → is_below zero_id id ≡ true
 first-below id other = by (id_cmp zero_id id) refl where
   never : (ms seq : Ordering) → nat_cmp 0 id.ms ≡ ms → nat_cmp 0 id.seq ≡ seq → ordering_then ms seq ≡ Greater → ⊥
   never Less seq m s e = absurd (cc)

@@ -89,11 +89,11 @@ delivers-new past key group life e =
       in_full = in-full life.start life.events;
     }
 
-pub has-one-owner : (life : GroupLife) → HasOneOwner life
-has-one-owner life = record {
+pub has-one-owner : (past : List (ℕ × Command)) (key group : List ℕ) (life : GroupLife) → group_life past key group ≡ Some life → HasOneOwner life
+has-one-owner past key group life e = record {
   is_pending = λ x. owner-row life.start life.events x ∙ sym (ap of_row (row-found life.start life.events x));
   is_last_touched = is-last-touched life.start life.events;
-  claims_idle = claims-idle life.start life.events;
+  claims_idle = claims-idle life.start life.events (present-in-life past key group life e);
   until_settled = owned-until-settled life.start life.events;
   by_claims = changes-by-claims life.start life.events;
 }
@@ -140,7 +140,7 @@ headline past events replies history answers = record {
   formed = formed-after past events replies history answers;
   apart = at-each-event past events replies history answers LivesAreApart (λ earlier e formed key group. goes-on earlier e.0 e.1 key group formed);
   deliveries = λ later earlier e key group life f. delivers-new earlier key group life f;
-  owners = λ later earlier e key group life f. has-one-owner life;
+  owners = λ later earlier e key group life f. has-one-owner earlier key group life f;
   places = λ later earlier e key group changes life k g. has-its-places earlier key group changes life k g;
   moves = at-each-event past events replies history answers EachGoesAlong (λ earlier e formed key group x. goes-along earlier e.0 e.1 key group x formed);
   additions = at-each-event past events replies history answers EntriesAreAdded (λ earlier e formed. entries-added earlier e);

@@ -252,7 +252,7 @@ sees-of past key group changes life k g = subst (λ l. SeesItsKey (Some changes)
 
 -- ---- what was delivered was given
 
-limited-has : (limit : Option ℕ) (xs : List Id) (x : Id) → has_id (limited limit xs) x ≡ true → has_id xs x ≡ true
+pub limited-has : (limit : Option ℕ) (xs : List Id) (x : Id) → has_id (limited limit xs) x ≡ true → has_id xs x ≡ true
 limited-has None xs x e = e
 limited-has (Some n) xs x e = by n xs e where
   by : (n : ℕ) (xs : List Id) → has_id (take n xs) x ≡ true → has_id xs x ≡ true

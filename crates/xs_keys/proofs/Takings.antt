@@ -1,23 +1,34 @@
 -- What claims take and remove, and how many a read delivers.
-use Rattle.std.proofs.Common.{◌≡◌, ℕ, ◌≤◌, ◌-◌, ◌⊎◌, inl, inr, Bool, true, false, ◌&&◌, ◌||◌, not, List, [], ◌∷◌, length, take, filter, Option, Some, None, is_some, sym, ap, ◌∙◌, refl, subst, arith, take_all, ◌+◌, ◌*◌, map, cond}
-use Rattle.std.proofs.lemmas.List.{length-take-le, length-map}
+use Rattle.std.proofs.Common.{◌≡◌, ℕ, ◌≤◌, ◌-◌, ◌⊎◌, inl, inr, Bool, true, false, ◌&&◌, ◌||◌, not, List, [], ◌∷◌, ◌++◌, length, take, drop, filter, Option, Some, None, is_some, sym, ap, ◌∙◌, refl, subst, arith, take_all, ◌+◌, ◌*◌, map, cond}
+use Rattle.std.proofs.lemmas.List.{length-take-le}
 use Rattle.std.proofs.lemmas.Bool.{false≢true}
+use Rattle.std.proofs.Math.Seq.{drop-append_seam, drop-length}
 use Rattle.std.specs.Prelude.{nat_le}
+use Rattle.std.specs.Option.{option_map_or}
 use Rattle.std.proofs.lemmas.Bool.Decides.{nat_tests}
 use Rattle.xs_stream.specs.declared.id.Id.{Id}
-use Rattle.xs_stream.specs.Id.{is_below, is_same, has_id}
+use Rattle.xs_stream.specs.Id.{is_below, is_same, has_id, zero_id}
+use Rattle.xs_stream.specs.Kept.{Ascends, AllAbove}
+use Rattle.xs_group.specs.declared.claims.Claim.{Claim}
+use Rattle.xs_group.specs.declared.claims.ClaimTime.TheVariants as claim_time
 use Rattle.xs_group.specs.State.{Row, idle, delivers}
-use Rattle.xs_group.specs.Claims.{Rule, row_at, is_idle, is_taken, is_removed, is_hit, is_enough, prefixes, first_where, firsts, scanned, from_start}
+use Rattle.xs_group.specs.Claims.{Rule, row_at, is_idle, is_taken, is_removed, is_hit, is_enough, prefixes, first_where, firsts, scanned, from_start, first_or_zero, claim_among}
+use Rattle.xs_group.specs.Verdict.{AreApart}
+use Rattle.xs_group.proofs.Settling.{apart-filter, apart-firsts}
 use Rattle.xs_keys.specs.Life.{greatest}
-use Rattle.xs_keys.specs.GroupEvent.{Ask, GroupEvent, read_new, read_own, ack, join, leave, claim, auto_claim, asked_claim, holding, rows, takes, removes_pending, asked_new, delivers_at, cursor, owner}
-use Rattle.xs_keys.specs.Taken.{least_idle, IsTakenWhenIdle, IsRemovedWhenGone, is_named_by, is_from_start, MayStop, ClaimsWhatIsIdle}
+use Rattle.xs_keys.specs.GroupEvent.{Ask, GroupEvent, read_new, read_own, ack, join, leave, claim, auto_claim, asked_claim, asked_cursor, rule_of, delivered, holding, rows, takes, removes_pending, asked_new, delivers_at, cursor, owner}
+use Rattle.xs_keys.specs.Taken.{least_idle, IsTakenWhenIdle, IsRemovedWhenGone, is_named_by, is_from_start, is_before, comes_to, is_asked_for, MayStop, ClaimsWhatIsAsked, ClaimsInTurn, ClaimsWhatIsIdle}
 use Rattle.xs_keys.specs.Touched.{time_of}
 use Rattle.xs_keys.specs.Headline.{DeliversInFull}
-use Rattle.xs_keys.proofs.IdLists.{has_id-where, not_among}
+use Rattle.xs_keys.proofs.IdLists.{has_id-where, has_id-append, ascends-where, not_among}
 use Rattle.xs_stream.proofs.Order.{not_above-trans}
 use Rattle.xs_keys.proofs.Streams.{greatest-up, up_to-greatest}
 use Rattle.xs_keys.proofs.GroupSteps.{cursor-step}
+use Rattle.xs_keys.proofs.Deliveries.{PresentAscends, past-start}
+use Rattle.xs_keys.proofs.Sights.{or_first, or_second, both_of, above-has}
 use Rattle.xs_keys.proofs.Owners.{owner-row, row-found, of_row}
+use Rattle.xs_keys.proofs.JobBooks.{ids-among, ascends-rows, ascends-same, same_truth, not_itself}
+use Rattle.xs_keys.proofs.ScanParts.{Begins, scanned-begins, AreNotZero, above-not_zero, before-part, part-before}
 use Rattle.xs_keys.proofs.Touches.{is-last-touched}
 
 left : (a b : Bool) → (a && b) ≡ true → a ≡ true
@@ -28,140 +39,40 @@ right : (a b : Bool) → (a && b) ≡ true → b ≡ true
 right true b h = h
 right false b h = absurd (false≢true h)
 
--- what a filter keeps passes its test
-passes : (p : Id → Bool) (xs : List Id) (x : Id) → has_id (filter p xs) x ≡ true → p x ≡ true
-passes p xs x h = left (p x) (has_id xs x) (sym (has_id-where p xs x) ∙ h)
+-- ---- the ids that a claim looks at
 
--- ---- claims
+-- those that an ask looks at, over the rows it meets
+abbrev looked_at : Ask → ℕ → List Id → List (Id × Row) → List Id
+looked_at (claim consumer rule ids) now present all = firsts ids
+looked_at (auto_claim consumer rule from limit) now present all = scanned (is_hit all present now rule) limit (from_start from all)
+looked_at _ now present all = []
 
--- an id that is taken
-record Taken (min_idle now : ℕ) (present : List Id) (entries : List (Id × Row)) (x : Id) : Type 0 where
-  row : Row
-  found : row_at entries x ≡ Some row
-  idle : min_idle ≤ now - row.time
-  there : has_id present x ≡ true
+-- the rule of a claim, or one that doesn't matter
+abbrev rule_for : Ask → Rule
+rule_for ask = option_map_or (λ rule. rule) (rule_of ask) (record { min_idle = 0; when = claim_time.Now; retry = None; just_id = false })
 
-taken : (entries : List (Id × Row)) (present : List Id) (now : ℕ) (rule : Rule) (ids : List Id) (x : Id)
-    → has_id (filter (is_taken entries present now rule) ids) x ≡ true → Taken rule.min_idle now present entries x
-taken entries present now rule ids x h = by (row_at entries x) refl (passes (is_taken entries present now rule) ids x h) where
-  by : (row : Option Row) → row_at entries x ≡ row → (is_idle now rule row && has_id present x) ≡ true → Taken rule.min_idle now present entries x
-  by None e t = absurd (false≢true t)
-  by (Some row) e t =
-      let test : nat_le rule.min_idle (idle now row.time) ≡ true = left (nat_le rule.min_idle (idle now row.time)) (has_id present x) t in
-      record { row = row; found = e; idle = grind (arith, nat_tests, test); there = right (nat_le rule.min_idle (idle now row.time)) (has_id present x) t }
-
-asked-taken : (ask : Ask) (now : ℕ) (present : List Id) (entries : List (Id × Row)) (x : Id)
-    → has_id (asked_claim ask now present entries).take x ≡ true → Taken (least_idle ask) now present entries x
-asked-taken (read_new consumer limit noack) now present entries x h = absurd (false≢true h)
-asked-taken (read_own consumer limit from) now present entries x h = absurd (false≢true h)
-asked-taken (ack ids) now present entries x h = absurd (false≢true h)
-asked-taken (join consumer) now present entries x h = absurd (false≢true h)
-asked-taken (leave consumer) now present entries x h = absurd (false≢true h)
-asked-taken (claim consumer rule ids) now present entries x h = taken entries present now rule (firsts ids) x h
-asked-taken (auto_claim consumer rule start limit) now present entries x h =
-    taken entries present now rule (scanned (is_hit entries present now rule) limit (from_start start entries)) x h
-
--- an id that is removed
-record Removed (present : List Id) (entries : List (Id × Row)) (x : Id) : Type 0 where
-  found : is_some (row_at entries x) ≡ true
-  gone : has_id present x ≡ false
-
-removed : (entries : List (Id × Row)) (present ids : List Id) (x : Id) → has_id (filter (is_removed entries present) ids) x ≡ true → Removed present entries x
-removed entries present ids x h =
-    let t = passes (is_removed entries present) ids x h in
-    record { found = left (is_some (row_at entries x)) (not (has_id present x)) t; gone = by (has_id present x) (right (is_some (row_at entries x)) (not (has_id present x)) t) } where
-      by : (b : Bool) → not b ≡ true → b ≡ false
-      by true e = absurd (false≢true e)
-      by false e = refl
-
-asked-removed : (ask : Ask) (now : ℕ) (present : List Id) (entries : List (Id × Row)) (x : Id)
-    → has_id (asked_claim ask now present entries).removed x ≡ true → Removed present entries x
-asked-removed (read_new consumer limit noack) now present entries x h = absurd (false≢true h)
-asked-removed (read_own consumer limit from) now present entries x h = absurd (false≢true h)
-asked-removed (ack ids) now present entries x h = absurd (false≢true h)
-asked-removed (join consumer) now present entries x h = absurd (false≢true h)
-asked-removed (leave consumer) now present entries x h = absurd (false≢true h)
-asked-removed (claim consumer rule ids) now present entries x h = removed entries present (firsts ids) x h
-asked-removed (auto_claim consumer rule start limit) now present entries x h =
-    removed entries present (scanned (is_hit entries present now rule) limit (from_start start entries)) x h
-
--- whose row is there has an owner
-owned : (start : Id) (past : List GroupEvent) (x : Id) → is_some (row_at (rows start past) x) ≡ true → is_some (owner start past x) ≡ true
-owned start past x h =
-    ap is_some (owner-row start past x ∙ sym (ap of_row (row-found start past x))) ∙ by (row_at (rows start past) x) h where
-      by : (row : Option Row) → is_some row ≡ true → is_some (of_row row) ≡ true
-      by None e = absurd (false≢true e)
-      by (Some row) e = refl
-
-taken-when-idle : (start : Id) (past : List GroupEvent) (event : GroupEvent) (x : Id) → takes start past event x ≡ true → IsTakenWhenIdle start past event x
-taken-when-idle start past event x h =
-    let t = asked-taken event.ask event.now event.present (rows start past) x h in
-    record {
-      owned = owned start past x (ap is_some t.found);
-      present = t.there;
-      idle = subst (λ (time : ℕ). least_idle event.ask ≤ event.now - time) (is-last-touched start past x t.row t.found).0 t.idle;
-    }
-
-removed-when-gone : (start : Id) (past : List GroupEvent) (event : GroupEvent) (x : Id) → removes_pending start past event x ≡ true → IsRemovedWhenGone start past event x
-removed-when-gone start past event x h =
-    let t = asked-removed event.ask event.now event.present (rows start past) x h in
-    record { owned = owned start past x t.found; gone = t.gone }
+-- what is claimed is claimed among those
+looks : (ask : Ask) (now : ℕ) (present : List Id) (all : List (Id × Row))
+    → (asked_claim ask now present all ≡ claim_among all present now (rule_for ask) (looked_at ask now present all)) × ((rule_for ask).min_idle ≡ least_idle ask)
+looks (read_new consumer limit noack) now present all = (refl, refl)
+looks (read_own consumer limit from) now present all = (refl, refl)
+looks (ack ids) now present all = (refl, refl)
+looks (join consumer) now present all = (refl, refl)
+looks (leave consumer) now present all = (refl, refl)
+looks (claim consumer rule ids) now present all = (refl, refl)
+looks (auto_claim consumer rule from limit) now present all = (refl, refl)
 
 -- each id stays once
-pub firsts-keeps : (ids : List Id) (x : Id) → has_id ids x ≡ true → has_id (firsts ids) x ≡ true
-firsts-keeps [] x e = e
-firsts-keeps (y ∷ ys) x e = by (is_same x y) refl e (firsts-keeps ys x) where
-  by : (t : Bool) → is_same x y ≡ t → (t || has_id ys x) ≡ true → (has_id ys x ≡ true → has_id (firsts ys) x ≡ true) → (t || has_id (filter (λ z. not (is_same z y)) (firsts ys)) x) ≡ true
-  by true f e rest = refl
-  by false f e rest = has_id-where (λ z. not (is_same z y)) (firsts ys) x ∙ (λ i. not (f i) && rest e i)
+pub firsts-has : (ids : List Id) (x : Id) → has_id (firsts ids) x ≡ has_id ids x
+firsts-has [] x = refl
+firsts-has (y ∷ ys) x = by (is_same x y) refl (firsts-has ys x) where
+  by : (t : Bool) → is_same x y ≡ t → has_id (firsts ys) x ≡ has_id ys x → (t || has_id (filter (λ z. not (is_same z y)) (firsts ys)) x) ≡ (t || has_id ys x)
+  by true f rest = refl
+  by false f rest = has_id-where (λ z. not (is_same z y)) (firsts ys) x ∙ (λ i. not (f i) && rest i)
 
--- whose owner is there and whose time lies back has a row that is idle
-idle-enough : (start : Id) (past : List GroupEvent) (now : ℕ) (rule : Rule) (x : Id) → is_some (owner start past x) ≡ true → (row : Option Row) → row_at (rows start past) x ≡ row
-    → rule.min_idle ≤ now - time_of start past x → is_idle now rule (row_at (rows start past) x) ≡ true
-idle-enough start past now rule x owned None f idle_is =
-    absurd (false≢true (ap is_some (ap of_row (sym f) ∙ ap of_row (row-found start past x) ∙ sym (owner-row start past x)) ∙ owned))
-idle-enough start past now rule x owned (Some row) f idle_is =
-    let old : rule.min_idle ≤ now - row.time = subst (λ (time : ℕ). rule.min_idle ≤ now - time) (sym (is-last-touched start past x row f).0) idle_is in
-    ap (is_idle now rule) f ∙ grind (arith, nat_tests, old)
+-- ---- a scan
 
--- an XCLAIM takes what it names, where that may be taken
-named-taken : (start : Id) (past : List GroupEvent) (now : ℕ) (present : List Id) (ask : Ask) (x : Id) → is_named_by ask x ≡ true
-    → IsTakenWhenIdle start past (record { now = now; present = present; ask = ask }) x → takes start past (record { now = now; present = present; ask = ask }) x ≡ true
-named-taken start past now present (read_new consumer limit noack) x e idle_is = absurd (false≢true e)
-named-taken start past now present (read_own consumer limit from) x e idle_is = absurd (false≢true e)
-named-taken start past now present (ack ids) x e idle_is = absurd (false≢true e)
-named-taken start past now present (join consumer) x e idle_is = absurd (false≢true e)
-named-taken start past now present (leave consumer) x e idle_is = absurd (false≢true e)
-named-taken start past now present (auto_claim consumer rule from limit) x e idle_is = absurd (false≢true e)
-named-taken start past now present (claim consumer rule ids) x e idle_is =
-    has_id-where (is_taken (rows start past) present now rule) (firsts ids) x
-    ∙ (λ i. (idle-enough start past now rule x idle_is.owned (row_at (rows start past) x) refl idle_is.idle i && idle_is.present i) && firsts-keeps ids x e i)
-
--- ---- scans
-
-AllShort : ℕ → List (List Id) → Type 0
-AllShort n [] = Unit {0}
-AllShort n (ids ∷ more) = (length ids ≤ n) × AllShort n more
-
-longer : (n : ℕ) (x : Id) (all : List (List Id)) → AllShort n all → AllShort (n + 1) (map (λ ids. x ∷ ids) all)
-unfolding AllShort
-longer n x [] short = tt
-longer n x (ids ∷ more) short = (omega (arith, short.0), longer n x more short.1)
-
-prefixes-short : (ids : List Id) → AllShort (length ids) (prefixes ids)
-unfolding AllShort
-prefixes-short [] = (omega arith, tt)
-prefixes-short (x ∷ xs) = (omega arith, subst (λ n. AllShort n (map (λ ids. x ∷ ids) (prefixes xs))) (omega arith) (longer (length xs) x (prefixes xs) (prefixes-short xs)))
-
-first-short : (n : ℕ) (test : List Id → Bool) (other : List Id) (all : List (List Id)) → length other ≤ n → AllShort n all → length (first_where test other all) ≤ n
-unfolding AllShort
-first-short n test other [] few short = few
-first-short n test other (ids ∷ more) few short = by (test ids) (first-short n test other more few short.1) where
-  by : (t : Bool) → length (first_where test other more) ≤ n → length (cond t ids (first_where test other more)) ≤ n
-  by true rest = short.0
-  by false rest = rest
-
--- the first that passes passes, or it is the other
+-- whether one of two is so
 passes-or : (test : List Id → Bool) (other : List Id) (all : List (List Id)) → (test (first_where test other all) ≡ true) ⊎ (first_where test other all ≡ other)
 passes-or test other [] = inr refl
 passes-or test other (ids ∷ more) = by (test ids) refl (passes-or test other more) where
@@ -180,12 +91,140 @@ hits-few r t (x ∷ xs) = by (r x) (t x) (hits-few r t xs) where
   by false true h = omega (arith, h)
   by false false h = h
 
-fewer-kept : (p : Id → Bool) (xs : List Id) → length (filter p xs) ≤ length xs
-fewer-kept p [] = omega arith
-fewer-kept p (x ∷ xs) = by (p x) (fewer-kept p xs) where
-  by : (t : Bool) → length (filter p xs) ≤ length xs → length (cond t (x ∷ filter p xs) (filter p xs)) ≤ length (x ∷ xs)
-  by true h = omega (arith, h)
-  by false h = omega (arith, h)
+ascends-first : (part rest : List Id) → Ascends (part ++ rest) → Ascends part
+ascends-first [] rest asc = tt
+ascends-first (p ∷ ps) rest asc = (above ps asc.0, ascends-first ps rest asc.1) where
+  above : (ids : List Id) → AllAbove p (ids ++ rest) → AllAbove p ids
+  above [] h = tt
+  above (y ∷ ys) h = (h.0, above ys h.1)
+
+-- rows in the order of their ids, none of which is 0-0
+abbrev AreRows : List (Id × Row) → Type 0
+AreRows all = Ascends (map (λ e. e.0) all) × AreNotZero (map (λ e. e.0) all)
+
+module _ (all : List (Id × Row)) (are : AreRows all) (now : ℕ) (present : List Id) (consumer : List ℕ) (rule : Rule) (from : Id) (limit : ℕ) where
+  this : GroupEvent
+  this = record { now = now; present = present; ask = auto_claim consumer rule from limit }
+
+  hit : Id → Bool
+  hit = is_hit all present now rule
+
+  part : List Id
+  part = scanned hit limit (from_start from all)
+
+  begins : Begins part (from_start from all)
+  unfolding hit part
+  begins = scanned-begins hit limit (from_start from all)
+
+  ascend : Ascends (part ++ begins.0)
+  ascend = subst Ascends begins.1 (ascends-where (λ y. not (is_below y from)) (map (λ e. e.0) all) are.0)
+
+  not_zero : AreNotZero (part ++ begins.0)
+  not_zero = subst AreNotZero begins.1 (λ x h. are.1 x (right (not (is_below x from)) (has_id (map (λ e. e.0) all) x) (sym (has_id-where (λ y. not (is_below y from)) (map (λ e. e.0) all) x) ∙ h)))
+
+  cursor-is : asked_cursor (auto_claim consumer rule from limit) now present all ≡ first_or_zero begins.0
+  unfolding hit part
+  cursor-is = ap first_or_zero (ap (drop (length part)) begins.1 ∙ drop-append_seam part begins.0)
+
+  part-from : (x : Id) → has_id part x ≡ true → has_id (from_start from all) x ≡ true
+  part-from x h = ap (λ ids. has_id ids x) begins.1 ∙ has_id-append part begins.0 x ∙ or_first (has_id part x) (has_id begins.0 x) h
+
+  -- it comes to what it scans
+  part-come : (x : Id) → has_id part x ≡ true → comes_to this all x ≡ true
+  unfolding this
+  part-come x h = both_of (not (is_below x from)) (is_before (asked_cursor (auto_claim consumer rule from limit) now present all) x)
+      (left (not (is_below x from)) (has_id (map (λ e. e.0) all) x) (sym (has_id-where (λ y. not (is_below y from)) (map (λ e. e.0) all) x) ∙ part-from x h))
+      (ap (λ c. is_before c x) cursor-is ∙ before-part part begins.0 ascend x h)
+
+  -- and scans the rows that it comes to
+  come-part : (x : Id) → has_id (map (λ e. e.0) all) x ≡ true → comes_to this all x ≡ true → has_id part x ≡ true
+  unfolding this
+  come-part x h comes = part-before part begins.0 ascend not_zero x
+      (ap (λ ids. has_id ids x) (sym begins.1) ∙ has_id-where (λ y. not (is_below y from)) (map (λ e. e.0) all) x
+      ∙ both_of (not (is_below x from)) (has_id (map (λ e. e.0) all) x) (left (not (is_below x from)) (is_before (asked_cursor (auto_claim consumer rule from limit) now present all) x) comes) h)
+      (ap (λ c. is_before c x) (sym cursor-is) ∙ right (not (is_below x from)) (is_before (asked_cursor (auto_claim consumer rule from limit) now present all) x) comes)
+
+  part-is : part ≡ filter (λ x. comes_to this all x) (map (λ e. e.0) all)
+  part-is = ascends-same part (filter (λ x. comes_to this all x) (map (λ e. e.0) all)) (ascends-first part begins.0 ascend) (ascends-where (λ x. comes_to this all x) (map (λ e. e.0) all) are.0) (λ x.
+      same_truth (has_id part x) (has_id (filter (λ y. comes_to this all y) (map (λ e. e.0) all)) x)
+      (λ h. has_id-where (λ y. comes_to this all y) (map (λ e. e.0) all) x ∙ both_of (comes_to this all x) (has_id (map (λ e. e.0) all) x) (part-come x h)
+      (right (not (is_below x from)) (has_id (map (λ e. e.0) all) x) (sym (has_id-where (λ y. not (is_below y from)) (map (λ e. e.0) all) x) ∙ part-from x h)))
+      (λ h. let is = sym (has_id-where (λ y. comes_to this all y) (map (λ e. e.0) all) x) ∙ h in
+      come-part x (right (comes_to this all x) (has_id (map (λ e. e.0) all) x) is) (left (comes_to this all x) (has_id (map (λ e. e.0) all) x) is)))
+
+  stops : is_enough hit limit part ≡ true → MayStop this all
+  unfolding this hit part
+  stops e = by (nat_le limit (length (filter hit part))) refl e where
+    few : length (filter hit part) ≤ length (filter (is_taken all present now rule) part) + length (filter (is_removed all present) part)
+    few = hits-few (is_removed all present) (is_taken all present now rule) part
+
+    by : (t : Bool) → nat_le limit (length (filter hit part)) ≡ t → (t || nat_le (10 * limit) (length part)) ≡ true → MayStop this all
+    by true f g = inl (let le : limit ≤ length (filter hit part) = grind (arith, nat_tests, f) in omega (arith, le, few))
+    by false f g = inr (subst (λ ids. 10 * limit ≤ length ids) part-is (grind (arith, nat_tests, g)))
+
+  far-enough : (asked_cursor (auto_claim consumer rule from limit) now present all ≡ zero_id) ⊎ MayStop this all
+  unfolding this hit part
+  far-enough = by (passes-or (is_enough hit limit) (from_start from all) (prefixes (from_start from all))) where
+    by : (is_enough hit limit part ≡ true) ⊎ (part ≡ from_start from all) → (asked_cursor (auto_claim consumer rule from limit) now present all ≡ zero_id) ⊎ MayStop this all
+    by (inl e) = inr (stops e)
+    by (inr e) = inl (ap (λ ids. first_or_zero (drop (length ids) (from_start from all))) e ∙ ap first_or_zero (drop-length (from_start from all)))
+
+-- ---- every ask
+
+-- an ask looks at the rows that it is asked for
+looked-asked : (ask : Ask) (now : ℕ) (present : List Id) (all : List (Id × Row)) → AreRows all → (x : Id) → has_id (looked_at ask now present all) x ≡ true
+    → is_asked_for (record { now = now; present = present; ask = ask }) all x ≡ true
+unfolding this hit part
+looked-asked (read_new consumer limit noack) now present all are x h = absurd (false≢true h)
+looked-asked (read_own consumer limit from) now present all are x h = absurd (false≢true h)
+looked-asked (ack ids) now present all are x h = absurd (false≢true h)
+looked-asked (join consumer) now present all are x h = absurd (false≢true h)
+looked-asked (leave consumer) now present all are x h = absurd (false≢true h)
+looked-asked (claim consumer rule ids) now present all are x h = or_first (has_id ids x) false (sym (firsts-has ids x) ∙ h)
+looked-asked (auto_claim consumer rule from limit) now present all are x h = part-come all are now present consumer rule from limit x h
+
+asked-looked : (ask : Ask) (now : ℕ) (present : List Id) (all : List (Id × Row)) → AreRows all → (x : Id) → has_id (map (λ e. e.0) all) x ≡ true
+    → is_asked_for (record { now = now; present = present; ask = ask }) all x ≡ true → has_id (looked_at ask now present all) x ≡ true
+unfolding this hit part
+asked-looked (read_new consumer limit noack) now present all are x row h = h
+asked-looked (read_own consumer limit from) now present all are x row h = h
+asked-looked (ack ids) now present all are x row h = h
+asked-looked (join consumer) now present all are x row h = h
+asked-looked (leave consumer) now present all are x row h = h
+asked-looked (claim consumer rule ids) now present all are x row h = firsts-has ids x ∙ or_false (has_id ids x) h where
+  or_false : (b : Bool) → (b || false) ≡ true → b ≡ true
+  or_false true e = e
+  or_false false e = e
+asked-looked (auto_claim consumer rule from limit) now present all are x row h = come-part all are now present consumer rule from limit x row h
+
+ascends-apart : (ids : List Id) → Ascends ids → AreApart ids
+ascends-apart [] asc = tt
+ascends-apart (x ∷ xs) asc = (not_itself x xs asc.0, ascends-apart xs asc.1)
+
+looked-apart : (ask : Ask) (now : ℕ) (present : List Id) (all : List (Id × Row)) → AreRows all → AreApart (looked_at ask now present all)
+unfolding hit part
+looked-apart (read_new consumer limit noack) now present all are = tt
+looked-apart (read_own consumer limit from) now present all are = tt
+looked-apart (ack ids) now present all are = tt
+looked-apart (join consumer) now present all are = tt
+looked-apart (leave consumer) now present all are = tt
+looked-apart (claim consumer rule ids) now present all are = apart-firsts ids
+looked-apart (auto_claim consumer rule from limit) now present all are =
+    ascends-apart (part all are now present consumer rule from limit)
+    (ascends-first (part all are now present consumer rule from limit) (begins all are now present consumer rule from limit).0 (ascend all are now present consumer rule from limit))
+
+goes-far : (ask : Ask) (now : ℕ) (present : List Id) (all : List (Id × Row)) → AreRows all
+    → (asked_cursor ask now present all ≡ zero_id) ⊎ MayStop (record { now = now; present = present; ask = ask }) all
+unfolding this hit part
+goes-far (read_new consumer limit noack) now present all are = inl refl
+goes-far (read_own consumer limit from) now present all are = inl refl
+goes-far (ack ids) now present all are = inl refl
+goes-far (join consumer) now present all are = inl refl
+goes-far (leave consumer) now present all are = inl refl
+goes-far (claim consumer rule ids) now present all are = inl refl
+goes-far (auto_claim consumer rule from limit) now present all are = far-enough all are now present consumer rule from limit
+
+-- ---- one claim
 
 -- an id with a row is among theirs
 row-listed : (es : List (Id × Row)) (x : Id) → is_some (row_at es x) ≡ true → has_id (map (λ e. e.0) es) x ≡ true
@@ -195,73 +234,123 @@ row-listed (e ∷ es) x found = by (is_same x e.0) found (row-listed es x) where
   by true f rest = refl
   by false f rest = rest f
 
-module _ (start : Id) (past : List GroupEvent) (now : ℕ) (present : List Id) (consumer : List ℕ) (rule : Rule) (from : Id) (limit : ℕ) (x : Id) where
-  this : GroupEvent
-  this = record { now = now; present = present; ask = auto_claim consumer rule from limit }
+module _ (start : Id) (past : List GroupEvent) (asc : PresentAscends past) (event : GroupEvent) (x : Id) where
+  met : List (Id × Row)
+  met = rows start past
 
-  all : List (Id × Row)
-  all = rows start past
+  asked_rule : Rule
+  asked_rule = rule_for event.ask
 
-  hit : Id → Bool
-  hit = is_hit all present now rule
+  looked : List Id
+  looked = looked_at event.ask event.now event.present met
 
-  part : List Id
-  part = scanned hit limit (from_start from all)
+  are-rows : AreRows met
+  unfolding met
+  are-rows = (ascends-rows start past asc, λ y h. above-not_zero start y
+      (above-has start (delivered start past) y (past-start start past)
+      (right (is_some (holding start past y)) (has_id (delivered start past) y) (sym (has_id-where (λ z. is_some (holding start past z)) (delivered start past) y) ∙ ap (λ l. has_id l y) (sym ids) ∙ h))))
+    where
+      ids : map (λ e. e.0) (rows start past) ≡ filter (λ y. is_some (holding start past y)) (delivered start past)
+      ids = ids-among (λ y. holding start past y) (delivered start past)
 
-  stops : is_enough hit limit part ≡ true → MayStop this all
-  unfolding this all hit part
-  stops e = by (nat_le limit (length (filter hit part))) refl e where
-    few : length (filter hit part) ≤ length (filter (is_taken all present now rule) part) + length (filter (is_removed all present) part)
-    few = hits-few (is_removed all present) (is_taken all present now rule) part
+  -- an owner has a row, and a row an owner
+  has-row : is_some (owner start past x) ≡ true → is_some (row_at met x) ≡ true
+  unfolding met
+  has-row owned = ap is_some (row-found start past x) ∙ by (holding start past x) (ap is_some (sym (owner-row start past x)) ∙ owned) where
+    by : (row : Option Row) → is_some (of_row row) ≡ true → is_some row ≡ true
+    by None e = e
+    by (Some row) e = refl
 
-    short : length part ≤ length all
-    short =
-        let first = first-short (length (from_start from all)) (is_enough hit limit) (from_start from all) (prefixes (from_start from all)) (omega arith) (prefixes-short (from_start from all)) in
-        let kept = fewer-kept (λ y. not (is_below y from)) (map (λ e. e.0) all) in
-        omega (arith, first, kept, length-map all (λ e. e.0))
+  has-owner : is_some (row_at met x) ≡ true → is_some (owner start past x) ≡ true
+  unfolding met
+  has-owner h = ap is_some (owner-row start past x ∙ sym (ap of_row (row-found start past x))) ∙ by (row_at (rows start past) x) h where
+    by : (row : Option Row) → is_some row ≡ true → is_some (of_row row) ≡ true
+    by None e = absurd (false≢true e)
+    by (Some row) e = refl
 
-    by : (t : Bool) → nat_le limit (length (filter hit part)) ≡ t → (t || nat_le (10 * limit) (length part)) ≡ true → MayStop this all
-    by true f g = inl (let le : limit ≤ length (filter hit part) = grind (arith, nat_tests, f) in omega (arith, le, few))
-    by false f g = inr (let le : 10 * limit ≤ length part = grind (arith, nat_tests, g) in omega (arith, le, short))
+  -- what may be taken is idle by its row
+  idle-by-row : IsTakenWhenIdle start past event x → is_taken met event.present event.now asked_rule x ≡ true
+  unfolding met asked_rule
+  idle-by-row may = by (row_at (rows start past) x) refl where
+    by : (row : Option Row) → row_at (rows start past) x ≡ row → (is_idle event.now (rule_for event.ask) (row_at (rows start past) x) && has_id event.present x) ≡ true
+    by None f = absurd (false≢true (ap is_some (sym f) ∙ has-row may.owned))
+    by (Some row) f =
+        let old : (rule_for event.ask).min_idle ≤ event.now - row.time =
+            subst (λ (least : ℕ). least ≤ event.now - row.time) (sym (looks event.ask event.now event.present (rows start past)).1)
+            (subst (λ (time : ℕ). least_idle event.ask ≤ event.now - time) (sym (is-last-touched start past x row f).0) may.idle) in
+        both_of (is_idle event.now (rule_for event.ask) (row_at (rows start past) x)) (has_id event.present x) (ap (is_idle event.now (rule_for event.ask)) f ∙ grind (arith, nat_tests, old)) may.present
 
-  scan-taken : not (is_below x from) ≡ true → IsTakenWhenIdle start past this x → (takes start past this x ≡ true) ⊎ MayStop this all
-  unfolding this all hit part
-  scan-taken low idle_is = by (passes-or (is_enough hit limit) (from_start from all) (prefixes (from_start from all))) where
-    has : is_some (row_at all x) ≡ true
-    has = ap is_some (row-found start past x) ∙ held (holding start past x) (ap is_some (sym (owner-row start past x)) ∙ idle_is.owned) where
-      held : (row : Option Row) → is_some (of_row row) ≡ true → is_some row ≡ true
-      held None e = e
-      held (Some row) e = refl
+  idle-by-time : is_taken met event.present event.now asked_rule x ≡ true → IsTakenWhenIdle start past event x
+  unfolding met asked_rule
+  idle-by-time h = by (row_at (rows start past) x) refl h where
+    by : (row : Option Row) → row_at (rows start past) x ≡ row → (is_idle event.now (rule_for event.ask) row && has_id event.present x) ≡ true → IsTakenWhenIdle start past event x
+    by None f t = absurd (false≢true t)
+    by (Some row) f t =
+        let test : nat_le (rule_for event.ask).min_idle (idle event.now row.time) ≡ true = left (nat_le (rule_for event.ask).min_idle (idle event.now row.time)) (has_id event.present x) t in
+        let old : (rule_for event.ask).min_idle ≤ event.now - row.time = grind (arith, nat_tests, test) in
+        record {
+          owned = has-owner (ap is_some f);
+          present = right (nat_le (rule_for event.ask).min_idle (idle event.now row.time)) (has_id event.present x) t;
+          idle = subst (λ (time : ℕ). least_idle event.ask ≤ event.now - time) (is-last-touched start past x row f).0
+              (subst (λ (least : ℕ). least ≤ event.now - row.time) (looks event.ask event.now event.present (rows start past)).1 old);
+        }
 
-    by : (is_enough hit limit part ≡ true) ⊎ (part ≡ from_start from all) → (takes start past this x ≡ true) ⊎ MayStop this all
-    by (inl e) = inr (stops e)
-    by (inr e) = inl (
-        has_id-where (is_taken all present now rule) part x
-        ∙ (λ i. taken_now i && has_id (e i) x)
-        ∙ has_id-where (λ y. not (is_below y from)) (map (λ e. e.0) all) x ∙ (λ i. low i && row-listed all x has i)
-        ) where
-          taken_now : is_taken all present now rule x ≡ true
-          taken_now = λ i. idle-enough start past now rule x idle_is.owned (row_at all x) refl idle_is.idle i && idle_is.present i
+  gone-by-row : IsRemovedWhenGone start past event x → is_removed met event.present x ≡ true
+  gone-by-row may = both_of (is_some (row_at met x)) (not (has_id event.present x)) (has-row may.owned) (ap not may.gone)
 
-asked-scan : (start : Id) (past : List GroupEvent) (now : ℕ) (present : List Id) (ask : Ask) (x : Id) → is_from_start ask x ≡ true
-    → IsTakenWhenIdle start past (record { now = now; present = present; ask = ask }) x
-    → (takes start past (record { now = now; present = present; ask = ask }) x ≡ true) ⊎ MayStop (record { now = now; present = present; ask = ask }) (rows start past)
-unfolding this all hit part
-asked-scan start past now present (read_new consumer limit noack) x e idle_is = absurd (false≢true e)
-asked-scan start past now present (read_own consumer limit from) x e idle_is = absurd (false≢true e)
-asked-scan start past now present (ack ids) x e idle_is = absurd (false≢true e)
-asked-scan start past now present (join consumer) x e idle_is = absurd (false≢true e)
-asked-scan start past now present (leave consumer) x e idle_is = absurd (false≢true e)
-asked-scan start past now present (claim consumer rule ids) x e idle_is = absurd (false≢true e)
-asked-scan start past now present (auto_claim consumer rule from limit) x e idle_is = scan-taken start past now present consumer rule from limit x e idle_is
+  gone-by-owner : is_removed met event.present x ≡ true → IsRemovedWhenGone start past event x
+  gone-by-owner h = record {
+    owned = has-owner (left (is_some (row_at met x)) (not (has_id event.present x)) h);
+    gone = by (has_id event.present x) (right (is_some (row_at met x)) (not (has_id event.present x)) h);
+  }
+    where
+      by : (b : Bool) → not b ≡ true → b ≡ false
+      by true e = absurd (false≢true e)
+      by false e = refl
 
-pub claims-idle : (start : Id) (events : List GroupEvent) → ClaimsWhatIsIdle start events
-claims-idle start events = λ later event earlier x e. (
-  taken-when-idle start earlier event x,
-  removed-when-gone start earlier event x,
-  named-taken start earlier event.now event.present event.ask x,
-  asked-scan start earlier event.now event.present event.ask x,
-)
+  takes-is : takes start past event x ≡ (is_taken met event.present event.now asked_rule x && has_id looked x)
+  unfolding met asked_rule looked
+  takes-is = ap (λ c. has_id c.take x) (looks event.ask event.now event.present (rows start past)).0 ∙ has_id-where (is_taken (rows start past) event.present event.now (rule_for event.ask)) _ x
+
+  removes-is : removes_pending start past event x ≡ (is_removed met event.present x && has_id looked x)
+  unfolding met asked_rule looked
+  removes-is = ap (λ c. has_id c.removed x) (looks event.ask event.now event.present (rows start past)).0 ∙ has_id-where (is_removed (rows start past) event.present) _ x
+
+  asked-for : has_id looked x ≡ true → is_asked_for event met x ≡ true
+  unfolding looked
+  asked-for = looked-asked event.ask event.now event.present met are-rows x
+
+  looked-for : is_asked_for event met x ≡ true → is_some (row_at met x) ≡ true → has_id looked x ≡ true
+  unfolding looked
+  looked-for asked row = asked-looked event.ask event.now event.present met are-rows x (row-listed met x row) asked
+
+  as-asked : ClaimsWhatIsAsked start past event x
+  unfolding met
+  as-asked = record {
+    takes_idle = λ h. idle-by-time (left _ (has_id looked x) (sym takes-is ∙ h));
+    removes_gone = λ h. gone-by-owner (left _ (has_id looked x) (sym removes-is ∙ h));
+    takes_asked = λ h. asked-for (right _ (has_id looked x) (sym takes-is ∙ h));
+    removes_asked = λ h. asked-for (right _ (has_id looked x) (sym removes-is ∙ h));
+    takes_all = λ asked may. takes-is ∙ both_of _ (has_id looked x) (idle-by-row may) (looked-for asked (has-row may.owned));
+    removes_all = λ asked may. removes-is ∙ both_of _ (has_id looked x) (gone-by-row may) (looked-for asked (has-row may.owned));
+  }
+
+in-turn : (start : Id) (past : List GroupEvent) → PresentAscends past → (event : GroupEvent) → ClaimsInTurn start past event
+unfolding met asked_rule looked
+in-turn start past asc event = record {
+  as_asked = as-asked start past asc event;
+  each_once = subst (λ (c : Claim). AreApart c.take) (sym (looks event.ask event.now event.present (rows start past)).0)
+      (apart-filter (is_taken (rows start past) event.present event.now (rule_for event.ask)) (looked_at event.ask event.now event.present (rows start past))
+      (looked-apart event.ask event.now event.present (rows start past) (are-rows start past asc event zero_id)));
+  far_enough = goes-far event.ask event.now event.present (rows start past) (are-rows start past asc event zero_id);
+}
+
+present-earlier : (later : List GroupEvent) (event : GroupEvent) (earlier : List GroupEvent) → PresentAscends (later ++ event ∷ earlier) → PresentAscends earlier
+present-earlier [] event earlier asc = asc.1
+present-earlier (first ∷ later) event earlier asc = present-earlier later event earlier asc.1
+
+pub claims-idle : (start : Id) (events : List GroupEvent) → PresentAscends events → ClaimsWhatIsIdle start events
+claims-idle start events asc = λ later event earlier e. in-turn start earlier (present-earlier later event earlier (subst PresentAscends e asc)) event
 
 -- ---- reads
 

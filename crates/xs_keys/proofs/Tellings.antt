@@ -1,6 +1,6 @@
 -- The replies to reads and claims tell what is delivered and taken, each entry as it was given.
-use Rattle.std.proofs.Common.{◌≡◌, ◌∙◌, inl, inr, ℕ, Bool, true, false, cond, ◌&&◌, ◌||◌, List, [], ◌∷◌, ◌++◌, Option, Some, None, Result, Ok, Err, is_some, filter, map, take, bytes_eq, sym, ap, subst, refl, zero, suc}
-use Rattle.std.proofs.lemmas.List.{append-nil}
+use Rattle.std.proofs.Common.{◌≡◌, ◌∙◌, inl, inr, ℕ, ◌+◌, ◌-◌, ◌≤◌, Bool, true, false, not, cond, ◌&&◌, ◌||◌, List, [], ◌∷◌, ◌++◌, length, Option, Some, None, Result, Ok, Err, is_some, filter, map, take, bytes_eq, sym, ap, subst, refl, zero, suc, arith}
+use Rattle.std.proofs.lemmas.List.{append-nil, length-map}
 use Rattle.std.proofs.lemmas.Bool.{false≢true}
 use Rattle.std.specs.List.{flat_map, list_all, list_any, IsDistinct, AllByRecursion}
 use Rattle.std.specs.Option.{option_map, option_map_or}
@@ -9,13 +9,17 @@ use Rattle.xs_stream.specs.declared.id.Id.{Id}
 use Rattle.xs_stream.specs.declared.field.Field.{Field}
 use Rattle.xs_stream.specs.Id.{is_below, is_same, has_id, zero_id, assigned}
 use Rattle.xs_stream.specs.declared.add.AddError.{AddError}
-use Rattle.xs_stream.specs.Kept.{ids_of, fields_at, limited}
-use Rattle.xs_stream.proofs.InOrder.{ids_of-filter}
+use Rattle.xs_stream.specs.Kept.{Kept, Ascends, ids_of, fields_at, is_trimmed, limited}
+use Rattle.xs_stream.proofs.InOrder.{ids_of-filter, length-filter-le}
 use Rattle.xs_stream.proofs.Order.{is_same-eq, is_same-refl}
-use Rattle.xs_group.specs.State.{State, Row, is_name, delivers, shown}
+use Rattle.xs_group.specs.State.{State, Row, is_name, delivers, shown, owned, acked, unless_acked}
+use Rattle.xs_group.specs.declared.claims.Scan as scans
 use Rattle.xs_group.specs.Claims.{Rule, claim_of, scan_of, claim_among, firsts, from_start, scanned, is_hit, is_taken, is_idle, row_at}
+use Rattle.xs_group.specs.Report.{is_asked, pending_row, summary_of}
+use Rattle.xs_group.proofs.RemovedRows.{length-change}
 use Rattle.xs_resp.specs.declared.reply.Reply.{Reply}
-use Rattle.xs_resp.specs.declared.reply.Reply.TheVariants.{Bulk, NullBulk, NullArray}
+use Rattle.xs_resp.specs.declared.reply.Reply.TheVariants.{Bulk, NullBulk, NullArray, Error, Int}
+use Rattle.xs_resp.specs.declared.fault.Fault.TheVariants.{NoGroup}
 use Rattle.xs_command.specs.WellFormed.{IsWellFormed, keys_of}
 use Rattle.xs_command.specs.declared.command.Command.{Command}
 use Rattle.xs_command.specs.declared.command.Command.TheVariants.{Ping, Quit, Add, Delete, TrimTo, Len, Scan, GroupCreate, GroupDestroy, ConsumerCreate, ConsumerDelete, ReadGroup, Ack, Pending, PendingRows, Claim, AutoClaim, DropKeys}
@@ -24,16 +28,27 @@ use Rattle.xs_command.specs.declared.command.ReadGroupCommand.{ReadGroupCommand}
 use Rattle.xs_command.specs.declared.command.ReadOne.{ReadOne}
 use Rattle.xs_command.specs.declared.command.ReadFrom.{ReadFrom}
 use Rattle.xs_command.specs.declared.command.ReadFrom.TheVariants.{New, After}
-use Rattle.xs_keys.specs.Life.{Change, added, opened, key_life, entry_of, given_in, top_of, live, stands, stream_of}
-use Rattle.xs_keys.specs.GroupEvent.{cursor, rows, claim, auto_claim}
-use Rattle.xs_keys.specs.GroupLife.{GroupLife, group_life, is_new, asks_new, acts, delivered_by, read_ask}
-use Rattle.xs_keys.specs.Content.{Content, Key, IsContent, IsGroup, GroupHolds, KeyHolds, made, group_in, entries_in, asked, serves}
-use Rattle.xs_keys.specs.Reply.{reply, assigned_reply, array, id_reply, field_replies, entry_reply, entries_reply, new_part, shown_by, parts, taken_reply, scan_shown}
-use Rattle.xs_keys.specs.Told.{given_at, TellsAddition, TellsRead, TellsReads, taken_by, IsTold}
-use Rattle.xs_keys.proofs.IdLists.{has_id-where}
-use Rattle.xs_keys.proofs.Names.{is_name-refl}
+use Rattle.xs_keys.specs.Life.{Change, added, deleted, trimmed_to, opened, key_life, entry_of, given_in, top_of, live, stands, stream_of}
+use Rattle.xs_keys.specs.GroupEvent.{delivered, cursor, holding, owner, rows, claim, auto_claim, ack}
+use Rattle.xs_keys.specs.GroupLife.{GroupLife, group_life, life_asked, present_in, is_new, asks_new, acts, delivered_by, read_ask}
+use Rattle.xs_keys.specs.Content.{Content, Key, IsContent, IsGroup, GroupHolds, KeyHolds, made, stream_after, group_in, entries_in, asked, serves}
+use Rattle.xs_keys.specs.Reply.{reply, assigned_reply, array, array_or_null, id_reply, field_replies, entry_reply, part, new_part, shown_by, parts, removed_by, of_group, owner_reply, summary_reply, row_reply, taken_reply, scan_shown}
+use Rattle.xs_keys.specs.Telling.{TellsEntry, TellsEntryOrNull, TellsEach, AreFirst}
+use Rattle.xs_keys.specs.Told.{given_at, TellsAddition, TellsFewer, present_count, pending_count, TellsNew, IsOwnPast, TellsRead, TellsReads, claimed_at, TellsTaken, TellsRows, IsTold}
+use Rattle.xs_keys.proofs.IdLists.{has_id-where, ascends-where}
+use Rattle.xs_keys.proofs.Names.{is_name-eq, is_name-refl}
+use Rattle.xs_keys.proofs.Streams.{ascends-live, stream-step}
+use Rattle.xs_keys.proofs.GroupSteps.{group-step}
+use Rattle.xs_keys.proofs.Deliveries.{ascends-delivered}
+use Rattle.xs_keys.proofs.Histories.{present-in-life}
 use Rattle.xs_keys.proofs.Contents.{no_life, asked-elsewhere, serves-known}
 use Rattle.xs_keys.proofs.Lives.{others-absent}
+use Rattle.xs_keys.proofs.Owners.{owner-row, of_row, held-delivered}
+use Rattle.xs_keys.proofs.Sights.{or_second}
+use Rattle.xs_keys.proofs.JobBooks.{owned-among, ascends-rows}
+use Rattle.xs_keys.proofs.Assigning.{assigned-claim, assigned-scan}
+use Rattle.xs_keys.proofs.RowsTold.{rows-told}
+use Rattle.xs_keys.proofs.FirstIds.{limited-first, first-as}
 use Rattle.xs_keys.proofs.AskSteps.{said-of}
 
 and-first : (a b : Bool) → (a && b) ≡ true → a ≡ true
@@ -60,34 +75,56 @@ fields-kept p (e ∷ es) x h = by (p e.0) (is_same x e.0) refl refl (fields-kept
   by false true k s rest = absurd (false≢true (sym k ∙ ap p (sym (is_same-eq x e.0 s)) ∙ h))
   by false false k s rest = rest
 
--- an entry that is in the stream
-entry-live : (changes : List Change) (x : Id) → has_id (ids_of (live changes)) x ≡ true → entry_reply (live changes) x ≡ entry_reply (given_in changes) x
-entry-live changes x h =
-    let stays : stands changes x ≡ true = and-first (stands changes x) (has_id (ids_of (given_in changes)) x)
-    (sym (ap (λ ids. has_id ids x) (ids_of-filter (stands changes) (given_in changes)) ∙ has_id-where (stands changes) (ids_of (given_in changes)) x) ∙ h) in
-    ap (λ (fields : Option (List Field)). array (id_reply x ∷ option_map_or (λ fs. array (flat_map field_replies fs)) fields NullArray ∷ [])) (fields-kept (stands changes) (given_in changes) x stays)
+-- an entry has fields exactly if it is there
+fields-found : (es : List (Id × List Field)) (x : Id) → has_id (ids_of es) x ≡ is_some (fields_at es x)
+fields-found [] x = refl
+fields-found (e ∷ es) x = by (is_same x e.0) (fields-found es x) where
+  by : (t : Bool) → has_id (ids_of es) x ≡ is_some (fields_at es x) → (t || has_id (ids_of es) x) ≡ is_some (cond t (Some e.1) (fields_at es x))
+  by true rest = refl
+  by false rest = rest
 
-map-among : (f g : Id → Reply) (xs : List Id) → ((x : Id) → has_id xs x ≡ true → f x ≡ g x) → map f xs ≡ map g xs
-map-among f g [] same = refl
-map-among f g (x ∷ xs) same =
-    let here : f x ≡ g x = same x (rw is_same-refl refl) in
-    let rest : map f xs ≡ map g xs = map-among f g xs (λ y h. same y (or-right (is_same y x) (has_id xs y) h)) in
-    λ i. here i ∷ rest i
-  where
-    or-right : (a b : Bool) → b ≡ true → (a || b) ≡ true
-    or-right true b e = refl
-    or-right false b e = e
+-- an entry that is in the stream is told as it was given
+tells-entry : (changes : List Change) (x : Id) → has_id (ids_of (live changes)) x ≡ true → TellsEntry (given_in changes) x (entry_reply (live changes) x)
+tells-entry changes x h = by (fields_at (live changes) x) refl where
+  stays : stands changes x ≡ true
+  stays = and-first (stands changes x) (has_id (ids_of (given_in changes)) x) (sym (ap (λ ids. has_id ids x) (ids_of-filter (stands changes) (given_in changes)) ∙ has_id-where (stands changes) (ids_of (given_in changes)) x) ∙ h)
 
-entries-live : (changes : List Change) (xs : List Id) → AreAmong xs (ids_of (live changes)) → entries_reply (live changes) xs ≡ entries_reply (given_in changes) xs
-entries-live changes xs among = ap array (map-among (entry_reply (live changes)) (entry_reply (given_in changes)) xs (λ x h. entry-live changes x (among x h)))
+  by : (fields : Option (List Field)) → fields_at (live changes) x ≡ fields → TellsEntry (given_in changes) x (entry_reply (live changes) x)
+  by None e = absurd (false≢true (sym (fields-found (live changes) x ∙ ap is_some e) ∙ h))
+  by (Some fields) e = (
+    fields,
+    sym (fields-kept (stands changes) (given_in changes) x stays) ∙ e,
+    ap (λ (f : Option (List Field)). array (id_reply x ∷ option_map_or (λ fs. array (flat_map field_replies fs)) f NullArray ∷ [])) e,
+  )
 
-part-live : (key : List ℕ) (changes : List Change) (xs : List Id) → AreAmong xs (ids_of (live changes)) → new_part key (live changes) xs ≡ new_part key (given_in changes) xs
-part-live key changes [] among = refl
-part-live key changes (x ∷ xs) among = ap (λ entries. array (Bulk key ∷ entries ∷ []) ∷ []) (entries-live changes (x ∷ xs) among)
+-- one that has left it, by the null array
+tells-null : (changes : List Change) (x : Id) → has_id (ids_of (live changes)) x ≡ false → entry_reply (live changes) x ≡ array (id_reply x ∷ NullArray ∷ [])
+tells-null changes x h = by (fields_at (live changes) x) refl where
+  by : (fields : Option (List Field)) → fields_at (live changes) x ≡ fields → entry_reply (live changes) x ≡ array (id_reply x ∷ NullArray ∷ [])
+  by None e = ap (λ (f : Option (List Field)). array (id_reply x ∷ option_map_or (λ fs. array (flat_map field_replies fs)) f NullArray ∷ [])) e
+  by (Some fields) e = absurd (false≢true (sym h ∙ fields-found (live changes) x ∙ ap is_some e))
 
-taken-live : (just_id : Bool) (changes : List Change) (xs : List Id) → AreAmong xs (ids_of (live changes)) → taken_reply just_id (live changes) xs ≡ taken_reply just_id (given_in changes) xs
-taken-live true changes xs among = refl
-taken-live false changes xs among = entries-live changes xs among
+tells-each : (Tells : Id → Reply → Type 0) (f : Id → Reply) (xs : List Id) → ((x : Id) → has_id xs x ≡ true → Tells x (f x)) → TellsEach Tells xs (map f xs)
+tells-each Tells f [] tells = tt
+tells-each Tells f (x ∷ xs) tells = (tells x (rw is_same-refl refl), tells-each Tells f xs (λ y h. tells y (or_second (is_same y x) (has_id xs y) h)))
+
+tells-entries : (changes : List Change) (xs : List Id) → AreAmong xs (ids_of (live changes)) → TellsEach (TellsEntry (given_in changes)) xs (map (entry_reply (live changes)) xs)
+tells-entries changes xs among = tells-each (TellsEntry (given_in changes)) (entry_reply (live changes)) xs (λ x h. tells-entry changes x (among x h))
+
+tells-own : (changes : List Change) (xs : List Id) → TellsEach (TellsEntryOrNull (given_in changes) (ids_of (live changes))) xs (map (entry_reply (live changes)) xs)
+tells-own changes xs = tells-each (TellsEntryOrNull (given_in changes) (ids_of (live changes))) (entry_reply (live changes)) xs (λ x h. (tells-entry changes x, tells-null changes x))
+
+tells-new : (key : List ℕ) (changes : List Change) (xs : List Id) → AreAmong xs (ids_of (live changes)) → TellsNew key (given_in changes) xs (new_part key (live changes) xs)
+tells-new key changes [] among = refl
+tells-new key changes (x ∷ xs) among = (map (entry_reply (live changes)) (x ∷ xs), refl, tells-entries changes (x ∷ xs) among)
+
+-- a claim tells what it takes
+abbrev TakenIs : Bool → List (Id × List Field) → List Id → Reply → Type 0
+TakenIs just_id given ids answer = (told : List Reply) × (answer ≡ array told) × TellsTaken just_id given ids told
+
+tells-taken : (just_id : Bool) (changes : List Change) (xs : List Id) → AreAmong xs (ids_of (live changes)) → TakenIs just_id (given_in changes) xs (taken_reply just_id (live changes) xs)
+tells-taken true changes xs among = (map id_reply xs, refl, tells-each (λ x answer. answer ≡ id_reply x) id_reply xs (λ x h. refl))
+tells-taken false changes xs among = (map (entry_reply (live changes)) xs, refl, tells-entries changes xs among)
 
 -- ---- what is delivered and taken is in the stream
 
@@ -156,25 +193,44 @@ there c past name group is is_open = by (get c name) (key_life past name) refl r
 
 -- ---- claims
 
+-- without the group there is nothing to say
+missing : (c : Content) (past : List (ℕ × Command)) (name group : List ℕ) → IsContent c past → is_some (group_life past name group) ≡ false → group_in (get c name) group ≡ None
+missing c past name group is gone = by (get c name) (key_life past name) (is name) where
+  within : (s : Option State) (l : Option GroupLife) → is_some l ≡ false → GroupHolds s l → s ≡ None
+  within None None g holds = refl
+  within (Some state) (Some life) g holds = absurd (false≢true (sym g))
+  within None (Some life) g holds = refl
+  within (Some state) None g holds = absurd holds
+
+  by : (k : Option Key) (s : Option (List Change)) → KeyHolds k s (λ g. group_life past name g) → group_in k group ≡ None
+  by None s holds = refl
+  by (Some key) (Some changes) holds = within (get key.groups group) (group_life past name group) gone (holds.1 group)
+  by (Some key) None holds = absurd holds
+
 -- what XCLAIM tells
 told-claim : (c : Content) (past : List (ℕ × Command)) (now : ℕ) (name group consumer : List ℕ) (rule : Rule) (ids : List Id) (t : IsThere c past name group)
-    → taken_reply rule.just_id t.key.stream.entries (claim_of t.state.rows.entries (ids_of t.key.stream.entries) now rule ids).take
-    ≡ taken_reply rule.just_id (given_at past name) (taken_by past now name group (claim consumer rule ids))
+    → TakenIs rule.just_id (given_at past name) (claimed_at past now name group (claim consumer rule ids)).claim.take
+    (taken_reply rule.just_id t.key.stream.entries (claim_of t.state.rows.entries (ids_of t.key.stream.entries) now rule ids).take)
 told-claim c past now name group consumer rule ids t =
     rw (t.changes_are, t.life_is, t.holds.rows_are, t.stream_is)
-    (taken-live rule.just_id t.changes (claim_of (rows t.life.start t.life.events) (ids_of (live t.changes)) now rule ids).take
+    (tells-taken rule.just_id t.changes (claim_of (rows t.life.start t.life.events) (ids_of (live t.changes)) now rule ids).take
     (taken-among (rows t.life.start t.life.events) (ids_of (live t.changes)) now rule (firsts ids)))
 
 -- what XAUTOCLAIM tells
 told-scan : (c : Content) (past : List (ℕ × Command)) (now : ℕ) (name group consumer : List ℕ) (rule : Rule) (start : Id) (limit : ℕ) (t : IsThere c past name group)
-    → taken_reply rule.just_id t.key.stream.entries (scan_of t.state.rows.entries (ids_of t.key.stream.entries) now rule start limit).claim.take
-    ≡ taken_reply rule.just_id (given_at past name) (taken_by past now name group (auto_claim consumer rule start limit))
+    → TakenIs rule.just_id (given_at past name) (claimed_at past now name group (auto_claim consumer rule start limit)).claim.take
+    (taken_reply rule.just_id t.key.stream.entries (scan_of t.state.rows.entries (ids_of t.key.stream.entries) now rule start limit).claim.take)
 told-scan c past now name group consumer rule start limit t =
     let es = rows t.life.start t.life.events in
     let present = ids_of (live t.changes) in
     rw (t.changes_are, t.life_is, t.holds.rows_are, t.stream_is)
-    (taken-live rule.just_id t.changes (scan_of es present now rule start limit).claim.take
+    (tells-taken rule.just_id t.changes (scan_of es present now rule start limit).claim.take
     (taken-among es present now rule (scanned (is_hit es present now rule) limit (from_start start es))))
+
+-- and where it goes on, and what it removes
+scan-is : (c : Content) (past : List (ℕ × Command)) (now : ℕ) (name group consumer : List ℕ) (rule : Rule) (start : Id) (limit : ℕ) (t : IsThere c past name group)
+    → scan_of t.state.rows.entries (ids_of t.key.stream.entries) now rule start limit ≡ claimed_at past now name group (auto_claim consumer rule start limit)
+scan-is c past now name group consumer rule start limit t = rw (t.changes_are, t.life_is, t.holds.rows_are, t.stream_is) refl
 
 -- ---- reads
 
@@ -184,18 +240,76 @@ delivers-there : (c : Content) (past : List (ℕ × Command)) (read : ReadGroupC
     → delivered_by past (ReadGroup read) name read.group ≡ delivers read.limit (cursor t.life.start t.life.events) (ids_of (live t.changes))
 delivers-there c past read name t act new = rw (new, act, is_name-refl read.group, t.life_is, t.changes_are) refl
 
+-- the entries that a consumer has
+module _ (past : List (ℕ × Command)) (key group : List ℕ) (life : GroupLife) (is : group_life past key group ≡ Some life) (consumer : List ℕ) where
+  held : Id → Option Row
+  held x = holding life.start life.events x
+
+  mine : Id → Bool
+  mine x = option_map_or (λ row. is_name row.consumer consumer) (held x) false
+
+  own : List Id
+  own = owned consumer (rows life.start life.events)
+
+  own-are : own ≡ filter (λ x. mine x) (delivered life.start life.events)
+  unfolding own mine held
+  own-are = owned-among consumer (λ x. holding life.start life.events x) (delivered life.start life.events)
+
+  has-own : (x : Id) → has_id own x ≡ (mine x && has_id (delivered life.start life.events) x)
+  has-own x = ap (λ ids. has_id ids x) own-are ∙ has_id-where (λ y. mine y) (delivered life.start life.events) x
+
+  own-owner : (x : Id) → has_id own x ≡ true → owner life.start life.events x ≡ Some consumer
+  unfolding mine held
+  own-owner x h = owner-row life.start life.events x ∙ by (holding life.start life.events x) (and-first (mine x) (has_id (delivered life.start life.events) x) (sym (has-own x) ∙ h)) where
+    by : (r : Option Row) → option_map_or (λ row. is_name row.consumer consumer) r false ≡ true → of_row r ≡ Some consumer
+    by None e = absurd (false≢true e)
+    by (Some row) e = ap Some (is_name-eq row.consumer consumer e)
+
+  owner-own : (x : Id) → owner life.start life.events x ≡ Some consumer → has_id own x ≡ true
+  unfolding mine held
+  owner-own x h = has-own x ∙ by (holding life.start life.events x) refl (sym (owner-row life.start life.events x) ∙ h) where
+    by : (r : Option Row) → holding life.start life.events x ≡ r → of_row r ≡ Some consumer → (option_map_or (λ row. is_name row.consumer consumer) (holding life.start life.events x) false && has_id (delivered life.start life.events) x) ≡ true
+    by None e f = absurd (subst (λ o. cond (is_some o) (Unit {0}) ⊥) (sym f) tt)
+    by (Some row) e f = rw (e, held-delivered life.start life.events x (ap is_some e)) (both (is_name row.consumer consumer) (ap (λ name. is_name name consumer) (some-is f) ∙ is_name-refl consumer)) where
+      both : (b : Bool) → b ≡ true → (b && true) ≡ true
+      both b g = rw g refl
+
+      some-is : Some row.consumer ≡ Some consumer → row.consumer ≡ consumer
+      some-is g = ap (λ (o : Option (List ℕ)). option_map_or (λ n. n) o []) g
+
+  -- those that a read shows are the first of them past an id
+  pub shows-first : (from : Id) (limit : Option ℕ) → AreFirst (IsOwnPast (Some life) consumer from) limit (shown consumer limit from (rows life.start life.events))
+  unfolding own
+  shows-first from limit = first-as (λ x. has_id past_from x ≡ true) (IsOwnPast (Some life) consumer from) limit (limited limit past_from)
+      (λ x h. let both = sym (has_id-where (λ y. is_below from y) own x) ∙ h in (own-owner x (and-second (is_below from x) (has_id own x) both), and-first (is_below from x) (has_id own x) both))
+      (λ x h. has_id-where (λ y. is_below from y) own x ∙ (λ i. h.1 i && owner-own x h.0 i))
+      (limited-first limit past_from (ascends-where (λ y. is_below from y) own (subst Ascends (sym own-are) (ascends-where (λ y. mine y) (delivered life.start life.events) (ascends-delivered life.start life.events (present-in-life past key group life is))))))
+    where
+      past_from : List Id
+      past_from = filter (λ y. is_below from y) (owned consumer (rows life.start life.events))
+
 -- one read of those that are left: its key and its group are as they were before the event
 told-read : (c next : Content) (past : List (ℕ × Command)) (read : ReadGroupCommand) (one : ReadOne) → IsThere c past one.key read.group → get next one.key ≡ get c one.key
     → acts past (ReadGroup read) ≡ true → (is_new one.from ≡ true → asks_new (ReadGroup read) one.key ≡ true)
-    → TellsRead past (ReadGroup read) one.key one.from
+    → TellsRead past read one.key one.from
     (option_map_or (shown_by read one.key one.from (entries_in (get next one.key))) (group_in (get next one.key) read.group) [])
 told-read c next past read one t same act asks = by one.from asks where
   by : (from : ReadFrom) → (is_new from ≡ true → asks_new (ReadGroup read) one.key ≡ true)
-      → TellsRead past (ReadGroup read) one.key from (option_map_or (shown_by read one.key from (entries_in (get next one.key))) (group_in (get next one.key) read.group) [])
+      → TellsRead past read one.key from (option_map_or (shown_by read one.key from (entries_in (get next one.key))) (group_in (get next one.key) read.group) [])
   by New new =
       rw (same, t.key_is, t.state_is, t.stream_is, t.holds.cursor_is, delivers-there c past read one.key t act (new refl), t.changes_are)
-      (part-live one.key t.changes (delivers read.limit (cursor t.life.start t.life.events) (ids_of (live t.changes))) (delivers-among read.limit (cursor t.life.start t.life.events) (ids_of (live t.changes))))
-  by (After id) new = rw (same, t.key_is, t.state_is) (entries_reply t.key.stream.entries (shown read.consumer read.limit id t.state.rows.entries), refl)
+      (tells-new one.key t.changes (delivers read.limit (cursor t.life.start t.life.events) (ids_of (live t.changes))) (delivers-among read.limit (cursor t.life.start t.life.events) (ids_of (live t.changes))))
+  by (After id) new =
+      let ids = shown read.consumer read.limit id (rows t.life.start t.life.events) in
+      let here : get next one.key ≡ Some t.key = same ∙ t.key_is in (
+        ids,
+        map (entry_reply (live t.changes)) ids,
+        (λ i. option_map_or (shown_by read one.key (After id) (entries_in (here i))) (group_in (here i) read.group) [])
+            ∙ ap (λ g. option_map_or (shown_by read one.key (After id) t.key.stream.entries) g []) t.state_is
+            ∙ (λ i. part one.key (t.stream_is i).entries (shown read.consumer read.limit id (t.holds.rows_are i)) ∷ []),
+        rw t.life_is (shows-first past one.key read.group t.life t.life_is read.consumer id read.limit),
+        rw t.changes_are (tells-own t.changes ids),
+      )
 
 -- the reads that are left
 told-reads : (c : Content) (past : List (ℕ × Command)) (now : ℕ) (read : ReadGroupCommand) → IsContent c past → acts past (ReadGroup read) ≡ true
@@ -203,7 +317,7 @@ told-reads : (c : Content) (past : List (ℕ × Command)) (now : ℕ) (read : Re
     → list_all (λ one. is_some (group_life past one.key read.group)) reads ≡ true
     → ((key : List ℕ) → list_any (λ one. is_name key one.key) reads ≡ true → get next key ≡ get c key)
     → ((key : List ℕ) → list_any (λ one. is_name key one.key && is_new one.from) reads ≡ true → asks_new (ReadGroup read) key ≡ true)
-    → TellsReads past (ReadGroup read) reads (parts next now read reads)
+    → TellsReads past read reads (parts next now read reads)
 unfolding IsDistinct
 told-reads c past now read is act [] next distinct open_all same asks = refl
 told-reads c past now read is act (one ∷ more) next distinct open_all same asks = (
@@ -215,21 +329,15 @@ told-reads c past now read is act (one ∷ more) next distinct open_all same ask
   told-reads c past now read is act more (asked next now one.key read.group (read_ask read one.from)) distinct.1
       (and-second (is_some (group_life past one.key read.group)) (list_all (λ o. is_some (group_life past o.key read.group)) more) open_all)
       (λ key among. asked-elsewhere next now one.key read.group (read_ask read one.from) key (others key more distinct.0 among)
-      ∙ same key (or-right (is_name key one.key) (list_any (λ o. is_name key o.key) more) among))
-      (λ key among. asks key (or-right (is_name key one.key && is_new one.from) (list_any (λ o. is_name key o.key && is_new o.from) more) among)),
+      ∙ same key (or_second (is_name key one.key) (list_any (λ o. is_name key o.key) more) among))
+      (λ key among. asks key (or_second (is_name key one.key && is_new one.from) (list_any (λ o. is_name key o.key && is_new o.from) more) among)),
 )
   where
-    or-right : (a b : Bool) → b ≡ true → (a || b) ≡ true
-    or-right true b e = refl
-    or-right false b e = e
-
     others : (key : List ℕ) (rest : List ReadOne) → AllByRecursion (λ y. bytes_eq one.key y ≡ false) (keys_of rest) → list_any (λ o. is_name key o.key) rest ≡ true → is_name key one.key ≡ false
     others key rest apart among = by (is_name key one.key) refl where
       by : (t : Bool) → is_name key one.key ≡ t → t ≡ false
       by false e = refl
       by true e = absurd (false≢true (sym (others-absent key one.key rest e apart) ∙ among))
-
--- ---- every command
 
 -- ---- additions
 
@@ -254,38 +362,148 @@ told-add past c now add is =
         subst (λ top. TellsAddition (given_in changes) add.fields (assigned_reply (assigned now top add.id)) (given_in changes ++ entry_of (assigned now (top_of (given_in changes)) add.id) add.fields))
         (sym (ap (λ s. s.top) h.0)) (told-addition (given_in changes) add.fields (assigned now (top_of (given_in changes)) add.id))
 
+-- ---- numbers
+
+-- a number of what goes, where no more goes than was there
+tells-fewer : (before after : ℕ) → after ≤ before → before - after + after ≡ before
+tells-fewer before after fewer = omega (arith, fewer)
+
+ids-length : (es : List (Id × List Field)) → length (ids_of es) ≡ length es
+ids-length es = length-map es (λ e. e.0)
+
+-- a change of a stream that only removes
+told-removal : (past : List (ℕ × Command)) (c : Content) (name : List ℕ) (change : Change) → IsContent c past
+    → ((kept : Kept) → length (stream_after change kept).entries ≤ length kept.entries)
+    → removed_by change (get c name) + length (present_in (cond (is_name name name) (option_map (λ changes. change ∷ changes) (key_life past name)) (key_life past name))) ≡ present_count name past
+told-removal past c name change is fewer =
+    subst (λ t. removed_by change (get c name) + length (present_in (cond t (option_map (λ changes. change ∷ changes) (key_life past name)) (key_life past name))) ≡ present_count name past)
+    (sym (is_name-refl name)) (by (get c name) (key_life past name) (is name))
+  where
+    by : (key : Option Key) (life : Option (List Change)) → KeyHolds key life (λ group. group_life past name group)
+        → removed_by change key + length (present_in (option_map (λ changes. change ∷ changes) life)) ≡ length (present_in life)
+    by None None holds = refl
+    by None (Some changes) holds = absurd holds
+    by (Some key) None holds = absurd holds
+    by (Some key) (Some changes) holds =
+        let before : length key.stream.entries ≡ length (ids_of (live changes)) = ap (λ (s : Kept). length s.entries) holds.0 ∙ sym (ids-length (live changes)) in
+        let after : length (stream_after change key.stream).entries ≡ length (ids_of (live (change ∷ changes))) =
+            ap (λ (s : Kept). length (stream_after change s).entries) holds.0 ∙ ap (λ (s : Kept). length s.entries) (sym (stream-step change changes)) ∙ sym (ids-length (live (change ∷ changes))) in
+        ap (λ n. length key.stream.entries - length (stream_after change key.stream).entries + n) (sym after)
+        ∙ tells-fewer (length key.stream.entries) (length (stream_after change key.stream).entries) (fewer key.stream) ∙ before
+
+told-length : (past : List (ℕ × Command)) (c : Content) (name : List ℕ) → IsContent c past → Int (length (entries_in (get c name))) ≡ Int (present_count name past)
+told-length past c name is = ap Int (by (get c name) (key_life past name) (is name)) where
+  by : (key : Option Key) (life : Option (List Change)) → KeyHolds key life (λ group. group_life past name group) → length (entries_in key) ≡ length (present_in life)
+  by None None holds = refl
+  by None (Some changes) holds = absurd holds
+  by (Some key) None holds = absurd holds
+  by (Some key) (Some changes) holds = ap (λ (s : Kept). length s.entries) holds.0 ∙ sym (ids-length (live changes))
+
+-- how many an acknowledgement settles
+told-ack : (past : List (ℕ × Command)) (c : Content) (now : ℕ) (name group : List ℕ) (ids : List Id) → IsContent c past
+    → TellsFewer (pending_count name group) past (now, Ack name group ids) (reply c now (Ack name group ids))
+told-ack past c now name group ids is = (_, refl, by (is_some (group_life past name group)) refl) where
+  gone : Option State → ℕ
+  gone group = option_map_or (λ g. length g.rows.entries - length (acked ids g).rows.entries) group 0
+
+  count : Option GroupLife → ℕ
+  count life = option_map_or (λ l. length (rows l.start l.events)) life 0
+
+  lived : Option GroupLife → Option GroupLife
+  lived life = life_asked now (present_in (key_life past name)) (ack ids) life
+
+  own : count (group_life ((now, Ack name group ids) ∷ past) name group) ≡ count (lived (group_life past name group))
+  own = λ i. count (cond (is_name-refl name i && is_name-refl group i) (life_asked now (present_in (key_life past name)) (ack ids) (group_life past name group)) (group_life past name group))
+
+  nothing : (life : Option GroupLife) → is_some life ≡ false → 0 + count (lived life) ≡ count life
+  nothing None e = refl
+  nothing (Some life) e = absurd (false≢true (sym e))
+
+  by : (t : Bool) → is_some (group_life past name group) ≡ t → gone (group_in (get c name) group) + pending_count name group ((now, Ack name group ids) ∷ past) ≡ pending_count name group past
+  by false e = (λ i. gone (missing c past name group is e i) + own i) ∙ nothing (group_life past name group) e
+  by true e =
+      let t = there c past name group is e in
+      let ascend : Ascends (present_in (key_life past name)) = rw t.changes_are (ascends-live t.changes) in
+      let step = group-step t.life t.state t.holds now (present_in (key_life past name)) ascend (ack ids) in
+      let number : gone (group_in (get c name) group) ≡ length t.state.rows.entries - length (acked ids t.state).rows.entries =
+          (λ i. gone (group_in (t.key_is i) group)) ∙ ap gone t.state_is in
+      let after : pending_count name group ((now, Ack name group ids) ∷ past) ≡ length (acked ids t.state).rows.entries =
+          own ∙ ap (λ l. count (lived l)) t.life_is ∙ ap length (sym step.rows_are) in
+      let before : pending_count name group past ≡ length t.state.rows.entries = ap count t.life_is ∙ ap length (sym t.holds.rows_are) in
+      (λ i. number i + after i) ∙ tells-fewer (length t.state.rows.entries) (length (acked ids t.state).rows.entries) (length-change (unless_acked ids) t.state.rows) ∙ sym before
+
+-- ---- every command
+
 pub is-told : (past : List (ℕ × Command)) (c : Content) (now : ℕ) (command : Command) → IsContent c past → IsWellFormed command → IsTold past now command (reply c now command)
-is-told past c now (ReadGroup read) is formed = λ act.
-    let served : serves c read ≡ true = serves-known read.reads c past read.group is ∙ act in (
-      parts c now read read.reads,
-      rw served refl,
-      told-reads c past now read is act read.reads c formed.1 act (λ key among. refl) (λ key among. among),
-    )
-is-told past c now (Claim command) is formed = λ is_open.
-    let t = there c past command.key command.group is is_open in
-    rw (t.key_is, t.state_is) (told-claim c past now command.key command.group command.consumer command.rule command.ids t)
-is-told past c now (AutoClaim command) is formed = λ is_open.
-    let t = there c past command.key command.group is is_open in
-    let found = scan_of t.state.rows.entries (ids_of t.key.stream.entries) now command.rule command.start command.limit in (
-      id_reply found.cursor,
-      array (map id_reply found.claim.removed),
-      said-of c command.key command.group t.key t.state t.key_is t.state_is
-          (λ entries g. scan_shown command.rule.just_id entries (scan_of g.rows.entries (ids_of entries) now command.rule command.start command.limit))
-          ∙ ap (λ taken. array (id_reply found.cursor ∷ taken ∷ array (map id_reply found.claim.removed) ∷ []))
-          (told-scan c past now command.key command.group command.consumer command.rule command.start command.limit t),
-    )
+is-told past c now (ReadGroup read) is formed = (
+  λ act. (
+    parts c now read read.reads,
+    ap (λ b. cond b (array_or_null (parts c now read read.reads)) (Error NoGroup)) (serves-known read.reads c past read.group is ∙ act),
+    told-reads c past now read is act read.reads c formed.1 act (λ key among. refl) (λ key among. among),
+  ),
+  λ gone. ap (λ b. cond b (array_or_null (parts c now read read.reads)) (Error NoGroup)) (serves-known read.reads c past read.group is ∙ gone),
+)
+is-told past c now (Claim command) is formed = (
+  λ is_open.
+      let t = there c past command.key command.group is is_open in
+      let told = told-claim c past now command.key command.group command.consumer command.rule command.ids t in (
+        told.0,
+        said-of c command.key command.group t.key t.state t.key_is t.state_is
+            (λ entries g. taken_reply command.rule.just_id entries (claim_of g.rows.entries (ids_of entries) now command.rule command.ids).take) ∙ told.1,
+        told.2,
+        rw (is_name-refl command.key, is_name-refl command.group, t.life_is, t.changes_are)
+            (assigned-claim t.life.start t.life.events now (ids_of (live t.changes)) command.consumer command.rule command.ids),
+      ),
+  λ gone. rw (missing c past command.key command.group is gone) refl,
+)
+is-told past c now (AutoClaim command) is formed = (
+  λ is_open.
+      let t = there c past command.key command.group is is_open in
+      let found = scan_of t.state.rows.entries (ids_of t.key.stream.entries) now command.rule command.start command.limit in
+      let told = told-scan c past now command.key command.group command.consumer command.rule command.start command.limit t in (
+        told.0,
+        said-of c command.key command.group t.key t.state t.key_is t.state_is
+            (λ entries g. scan_shown command.rule.just_id entries (scan_of g.rows.entries (ids_of entries) now command.rule command.start command.limit))
+            ∙ ap (λ taken. array (id_reply found.cursor ∷ taken ∷ array (map id_reply found.claim.removed) ∷ [])) told.1
+            ∙ ap (λ (s : scans.Scan). array (id_reply s.cursor ∷ array told.0 ∷ array (map id_reply s.claim.removed) ∷ []))
+            (scan-is c past now command.key command.group command.consumer command.rule command.start command.limit t),
+        told.2,
+        rw (is_name-refl command.key, is_name-refl command.group, t.life_is, t.changes_are)
+            (assigned-scan t.life.start t.life.events now (ids_of (live t.changes)) command.consumer command.rule command.start command.limit),
+      ),
+  λ gone. rw (missing c past command.key command.group is gone) refl,
+)
 is-told past c now (Ping message) is formed = tt
 is-told past c now Quit is formed = tt
 is-told past c now (Add add) is formed = told-add past c now add is
-is-told past c now (Delete key ids) is formed = tt
-is-told past c now (TrimTo key trim) is formed = tt
-is-told past c now (Len key) is formed = tt
+is-told past c now (Delete key ids) is formed = (_, refl, told-removal past c key (deleted ids) is (λ kept. length-filter-le (λ e. not (has_id ids e.0)) kept.entries))
+is-told past c now (TrimTo key trim) is formed =
+    (_, refl, told-removal past c key (trimmed_to trim) is (λ kept. length-filter-le (λ e. not (is_trimmed trim (ids_of kept.entries) e.0)) kept.entries))
+is-told past c now (Len key) is formed = told-length past c key is
 is-told past c now (Scan scan) is formed = tt
 is-told past c now (GroupCreate create) is formed = tt
 is-told past c now (GroupDestroy key group) is formed = tt
 is-told past c now (ConsumerCreate key group consumer) is formed = tt
 is-told past c now (ConsumerDelete key group consumer) is formed = tt
-is-told past c now (Ack key group ids) is formed = tt
-is-told past c now (Pending key group) is formed = tt
-is-told past c now (PendingRows pending) is formed = tt
+is-told past c now (Ack key group ids) is formed = told-ack past c now key group ids is
+is-told past c now (Pending key group) is formed = (
+  λ is_open.
+      let t = there c past key group is is_open in
+      let told = summary_of t.state in
+      let or_null : Option Id → Reply = λ x. option_map_or id_reply x NullBulk in
+      let rest : List Reply = or_null told.least ∷ or_null told.greatest ∷ array_or_null (map owner_reply told.owners) ∷ [] in (
+        rest,
+        (λ i. of_group (group_in (t.key_is i) group) (λ g. summary_reply (summary_of g))) ∙ ap (λ g. of_group g (λ s. summary_reply (summary_of s))) t.state_is
+            ∙ ap (λ n. array (Int n ∷ rest)) (ap length t.holds.rows_are ∙ sym (ap (λ life. option_map_or (λ l. length (rows l.start l.events)) life 0) t.life_is)),
+      ),
+  λ gone. rw (missing c past key group is gone) refl,
+)
+is-told past c now (PendingRows asked) is formed = (
+  λ is_open life life_is.
+      let t = there c past asked.key asked.group is is_open in
+      rw (t.key_is, t.state_is, t.holds.rows_are) (subst (λ (l : GroupLife). TellsRows asked now life (array (map row_reply (take asked.limit (map (pending_row now) (filter (is_asked asked.range asked.min_idle now asked.consumer) (rows l.start l.events)))))))
+      (ap (λ (l : Option GroupLife). option_map_or (λ a. a) l life) (sym life_is ∙ t.life_is))
+      (rows-told asked now life (ascends-rows life.start life.events (present-in-life past asked.key asked.group life life_is)))),
+  λ gone. rw (missing c past asked.key asked.group is gone) refl,
+)
 is-told past c now (DropKeys keys) is formed = tt

@@ -12,7 +12,7 @@ use Rattle.xs_group.specs.ExamplesRead.{pending}
 use Rattle.xs_keys.specs.GroupEvent.{Ask, read_new, read_own, ack, join, claim, auto_claim, rows, is_consumer}
 use Rattle.xs_keys.specs.GroupEvent.{leave, is_their_turn, is_settled, settles, owner, removes_pending}
 use Rattle.xs_keys.specs.Touched.{redelivers, touches, time_of, count_of}
-use Rattle.xs_keys.specs.Taken.{least_idle, is_named_by, is_from_start, MayStop}
+use Rattle.xs_keys.specs.Taken.{least_idle, is_named_by, is_from_start, is_before, comes_to, MayStop}
 use Rattle.xs_keys.specs.ExamplesHistory.{of_group, group_and}
 use Rattle.xs_keys.specs.ExamplesGroupEvents.{start, event, event_without, read_by_a, noack_by_b, first_by_a}
 use Rattle.xs_keys.specs.ExamplesGroupEvents.{claim_by_b}
@@ -125,6 +125,21 @@ pub record Touches : Type 0 where
   pub from_its_start_on : is_from_start (auto_claim (codes "b") of_an_hour (at 2 0) 9) (at 2 0) ≡ true
   pub not_before_its_start : is_from_start (auto_claim (codes "b") of_an_hour (at 2 0) 9) (at 1 0) ≡ false
   pub no_start_of_a_claim : is_from_start (claims of_an_hour) (at 2 0) ≡ false
+  pub below_a_cursor : is_before (at 3 0) (at 2 0) ≡ true
+  pub not_the_cursor_itself : is_before (at 3 0) (at 3 0) ≡ false
+  pub below_the_cursor_that_is_past_all : is_before (at 0 0) (at 3 0) ≡ true
+  pub comes_to_its_first :
+      comes_to (event 150 (auto_claim (codes "b") any_idle_time (at 0 0) 1)) (rows start (read_by_a ∷ [])) (at 2 0)
+      ≡ true
+  pub not_to_its_cursor :
+      comes_to (event 150 (auto_claim (codes "b") any_idle_time (at 0 0) 1)) (rows start (read_by_a ∷ [])) (at 3 0)
+      ≡ false
+  pub comes_to_all :
+      comes_to (event 150 (auto_claim (codes "b") any_idle_time (at 0 0) 2)) (rows start (read_by_a ∷ [])) (at 3 0)
+      ≡ true
+  pub not_to_what_is_below_its_start :
+      comes_to (event 150 (auto_claim (codes "b") any_idle_time (at 3 0) 2)) (rows start (read_by_a ∷ [])) (at 2 0)
+      ≡ false
   pub stops_at_its_count :
       MayStop (event 150 (auto_claim (codes "b") any_idle_time (at 0 0) 1)) (rows start (read_by_a ∷ []))
   pub not_sooner :

@@ -18,7 +18,7 @@ use Rattle.xs_keys.specs.GroupEvent.{delivered, cursor, claim, auto_claim}
 use Rattle.xs_keys.specs.GroupLife.{GroupLife, group_life, delivered_by}
 use Rattle.xs_keys.specs.Headline.{OfEachGroup}
 use Rattle.xs_keys.specs.Step.{takes_memory}
-use Rattle.xs_keys.specs.Told.{given_at, taken_by}
+use Rattle.xs_keys.specs.Told.{given_at, claimed_at}
 
 -- an event, where the words say a command
 abbrev pub event : ℕ → Result Command Fault → List (ℕ × Command)
@@ -211,13 +211,20 @@ pub record Told : Type 0 where
       ids_of (given_at (events 5 (three_and (codes "XDEL s 2-0" ∷ []))) (codes "s")) ≡ at 1 0 ∷ at 2 0 ∷ at 3 0 ∷ []
   pub nothing_of_another_key : given_at (events 5 (three_and [])) (codes "t") ≡ []
   pub claimed :
-      taken_by (events 5 (group_and (codes "XREADGROUP GROUP g a STREAMS s >" ∷ []))) 9 (codes "s") (codes "g")
-      (claim (codes "b") any_idle_time (at 3 0 ∷ at 1 0 ∷ at 2 0 ∷ [])) ≡ at 3 0 ∷ at 2 0 ∷ []
+      (claimed_at (events 5 (group_and (codes "XREADGROUP GROUP g a STREAMS s >" ∷ []))) 9 (codes "s") (codes "g")
+      (claim (codes "b") any_idle_time (at 3 0 ∷ at 1 0 ∷ at 2 0 ∷ []))).claim.take ≡ at 3 0 ∷ at 2 0 ∷ []
   pub claimed_if_in_the_stream :
-      taken_by (events 5 (group_and (codes "XREADGROUP GROUP g a STREAMS s >" ∷ codes "XDEL s 3-0" ∷ []))) 9 (codes "s")
-      (codes "g") (claim (codes "b") any_idle_time (at 3 0 ∷ at 2 0 ∷ [])) ≡ at 2 0 ∷ []
+      (claimed_at (events 5 (group_and (codes "XREADGROUP GROUP g a STREAMS s >" ∷ codes "XDEL s 3-0" ∷ []))) 9
+      (codes "s") (codes "g") (claim (codes "b") any_idle_time (at 3 0 ∷ at 2 0 ∷ []))).claim.take ≡ at 2 0 ∷ []
   pub claimed_by_a_scan :
-      taken_by (events 5 (group_and (codes "XREADGROUP GROUP g a STREAMS s >" ∷ []))) 9 (codes "s") (codes "g")
-      (auto_claim (codes "b") any_idle_time (at 0 0) 1) ≡ at 2 0 ∷ []
+      (claimed_at (events 5 (group_and (codes "XREADGROUP GROUP g a STREAMS s >" ∷ []))) 9 (codes "s") (codes "g")
+      (auto_claim (codes "b") any_idle_time (at 0 0) 1)).claim.take ≡ at 2 0 ∷ []
+  pub goes_on_at_the_next :
+      (claimed_at (events 5 (group_and (codes "XREADGROUP GROUP g a STREAMS s >" ∷ []))) 9 (codes "s") (codes "g")
+      (auto_claim (codes "b") any_idle_time (at 0 0) 1)).cursor ≡ at 3 0
+  pub came_to_the_end :
+      (claimed_at (events 5 (group_and (codes "XREADGROUP GROUP g a STREAMS s >" ∷ []))) 9 (codes "s") (codes "g")
+      (auto_claim (codes "b") any_idle_time (at 0 0) 2)).cursor ≡ at 0 0
   pub nothing_of_a_missing_group :
-      taken_by (events 5 (group_and [])) 9 (codes "s") (codes "h") (claim (codes "b") any_idle_time (at 2 0 ∷ [])) ≡ []
+      (claimed_at (events 5 (group_and [])) 9 (codes "s") (codes "h")
+      (claim (codes "b") any_idle_time (at 2 0 ∷ []))).claim.take ≡ []

@@ -36,11 +36,23 @@ pub record ToldAdditions : Type 0 where
   pub refused : Tells (group_and []) (codes "XADD s 3-0 f v") (Error SmallId)
   pub without_a_key : Tells (group_and []) (codes "XADD t NOMKSTREAM 9-0 f v") NullBulk
 
+-- and 2-0 was deleted
+abbrev pub with_a_deleted_one : List (List ℕ)
+with_a_deleted_one = group_and (codes "XREADGROUP GROUP g a STREAMS s >" ∷ codes "XDEL s 2" ∷ [])
+
 pub record ToldReads : Type 0 where
   pub new :
       Tells (group_and []) (codes "XREADGROUP GROUP g a STREAMS s >")
       (array (stream (codes "s") (second ∷ entry 3 0 ∷ []) ∷ []))
   pub own : Tells (group_and []) (codes "XREADGROUP GROUP g a STREAMS s 0") (array (stream (codes "s") [] ∷ []))
+  pub own_pending :
+      Tells read_by_a (codes "XREADGROUP GROUP g a STREAMS s 0")
+      (array (stream (codes "s") (second ∷ entry 3 0 ∷ []) ∷ []))
+  pub own_pending_past_an_id :
+      Tells read_by_a (codes "XREADGROUP GROUP g a STREAMS s 2") (array (stream (codes "s") (entry 3 0 ∷ []) ∷ []))
+  pub own_pending_with_a_deleted_one :
+      Tells with_a_deleted_one (codes "XREADGROUP GROUP g a COUNT 1 STREAMS s 0")
+      (array (stream (codes "s") (array (id 2 0 ∷ NullArray ∷ []) ∷ []) ∷ []))
   pub own_and_new :
       Tells two_groups (codes "XREADGROUP GROUP g a STREAMS t s 0 >")
       (array (stream (codes "t") [] ∷ stream (codes "s") (second ∷ entry 3 0 ∷ []) ∷ []))
@@ -50,6 +62,7 @@ pub record ToldReads : Type 0 where
   pub nothing_new : Tells read_by_a (codes "XREADGROUP GROUP g b STREAMS s >") NullArray
   pub not_nothing : Tells (group_and []) (codes "XREADGROUP GROUP g a STREAMS s >") NullArray → ⊥
   pub refused : Tells read_by_a (codes "XREADGROUP GROUP h b STREAMS s >") (Error NoGroup)
+  pub not_nothing_without_the_group : Tells read_by_a (codes "XREADGROUP GROUP h b STREAMS s >") NullArray → ⊥
 
 pub record ToldClaims : Type 0 where
   pub claimed : Tells read_by_a (codes "XCLAIM s g b 0 2") (array (second ∷ []))
@@ -58,9 +71,24 @@ pub record ToldClaims : Type 0 where
   pub no_claim : Tells read_by_a (codes "XCLAIM s h b 0 2") (Error NoGroup)
   pub scanned :
       Tells read_by_a (codes "XAUTOCLAIM s g b 0 2-1") (array (id 0 0 ∷ array (entry 3 0 ∷ []) ∷ array [] ∷ []))
+  pub scanned_one :
+      Tells read_by_a (codes "XAUTOCLAIM s g b 0 0 COUNT 1")
+      (array (id 3 0 ∷ array (second ∷ []) ∷ array [] ∷ []))
   pub scanned_without_a_deleted_one :
-      Tells (group_and (codes "XREADGROUP GROUP g a STREAMS s >" ∷ codes "XDEL s 2" ∷ []))
-      (codes "XAUTOCLAIM s g b 0 0") (array (id 0 0 ∷ array (entry 3 0 ∷ []) ∷ array (id 2 0 ∷ []) ∷ []))
+      Tells with_a_deleted_one (codes "XAUTOCLAIM s g b 0 0")
+      (array (id 0 0 ∷ array (entry 3 0 ∷ []) ∷ array (id 2 0 ∷ []) ∷ []))
   pub not_nothing_scanned : Tells read_by_a (codes "XAUTOCLAIM s g b 0 2-1") NullArray → ⊥
   pub no_scan : Tells read_by_a (codes "XAUTOCLAIM s h b 0 0") (Error NoGroup)
-  pub anything_else : Tells read_by_a (codes "XLEN s") (Int 3)
+
+pub record ToldNumbers : Type 0 where
+  pub acknowledged : Tells read_by_a (codes "XACK s g 2 3 7") (Int 2)
+  pub not_all_that_were_named : Tells read_by_a (codes "XACK s g 2 3 7") (Int 3) → ⊥
+  pub acknowledged_in_no_group : Tells read_by_a (codes "XACK s h 2") (Int 0)
+  pub deleted : Tells read_by_a (codes "XDEL s 2 9") (Int 1)
+  pub deleted_of_no_key : Tells read_by_a (codes "XDEL t 2") (Int 0)
+  pub trimmed : Tells read_by_a (codes "XTRIM s MAXLEN 1") (Int 2)
+  pub all_in_the_stream : Tells with_a_deleted_one (codes "XLEN s") (Int 2)
+  pub all_that_are_pending :
+      Tells with_a_deleted_one (codes "XPENDING s g")
+      (array (Int 2 ∷ id 2 0 ∷ id 3 0 ∷ array (array (name (codes "a") ∷ name (codes "2") ∷ []) ∷ []) ∷ []))
+  pub anything_else : Tells read_by_a (codes "PING") NullArray

@@ -4,7 +4,7 @@ use Rattle.std.specs.Prelude.{ℕ, Bool, false, not, List, [], Option, Some, Non
 use Rattle.std.specs.Prelude.{is_some, option_and_then, if◌then◌else◌}
 use Rattle.xs_group.specs.declared.claims.Claim.{Claim}
 use Rattle.xs_keys.specs.Ground.{option_map_or, Id, has_id, Rule, Row, is_name, delivers, claim_of, scan_of, with_some}
-use Rattle.xs_keys.specs.Ground.{is_below, first_row, shown, reread, claimed, unless_acked, unless_owned}
+use Rattle.xs_keys.specs.Ground.{is_below, zero_id, first_row, shown, reread, claimed, unless_acked, unless_owned}
 use Rattle.xs_keys.specs.Life.{greatest}
 
 -- what is asked; each but an acknowledgement names a consumer
@@ -31,15 +31,28 @@ asked_new _ present cursor = []
 abbrev pub delivers_at : GroupEvent → Id → List Id
 delivers_at event cursor = asked_new event.ask event.present cursor
 
+-- nothing is claimed
+abbrev pub no_claim : Claim
+no_claim = record { take = []; removed = [] }
+
 -- what an ask claims, over the rows it meets
 abbrev pub asked_claim : Ask → ℕ → List Id → List (Id × Row) → Claim
 asked_claim (claim consumer rule ids) now present rows = claim_of rows present now rule ids
 asked_claim (auto_claim consumer rule start limit) now present rows = (scan_of rows present now rule start limit).claim
-asked_claim _ now present rows = record { take = []; removed = [] }
+asked_claim _ now present rows = no_claim
 
 -- what an event claims, over the rows it meets
 abbrev pub claims_of : GroupEvent → List (Id × Row) → Claim
 claims_of event rows = asked_claim event.ask event.now event.present rows
+
+-- where a scan goes on, over the rows it meets, or 0-0 if it came to their end
+abbrev pub asked_cursor : Ask → ℕ → List Id → List (Id × Row) → Id
+asked_cursor (auto_claim consumer rule start limit) now present rows = (scan_of rows present now rule start limit).cursor
+asked_cursor _ now present rows = zero_id
+
+-- where an event goes on, over the rows it meets
+abbrev pub goes_on_at : GroupEvent → List (Id × Row) → Id
+goes_on_at event rows = asked_cursor event.ask event.now event.present rows
 
 -- the consumer that asks, or is asked for
 abbrev pub consumer_of : Ask → Option (List ℕ)

@@ -6,6 +6,7 @@ pub mod Taken
 pub mod GroupLife
 pub mod Content
 pub mod Reply
+pub mod Telling
 pub mod Told
 pub mod Job
 pub mod Presence
@@ -23,5 +24,6 @@ pub mod ExamplesAsked
 pub mod ExamplesContent
 pub mod ExamplesHeadline
 pub mod ExamplesTold
+pub mod ExamplesTelling
 pub mod ExamplesJob
 pub mod ExamplesPresence

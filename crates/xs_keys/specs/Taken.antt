@@ -1,9 +1,11 @@
 -- What claims take and what they remove, by looking back. (Redis, XCLAIM and XAUTOCLAIM.)
-use Rattle.std.specs.Prelude.{◌≡◌, ◌⊎◌, ℕ, ◌≤◌, ◌+◌, ◌-◌, ◌*◌, Bool, true, false, not, List, ◌∷◌, ◌++◌, length, is_some}
-use Rattle.xs_keys.specs.Ground.{option_map_or, Id, Row, is_below, has_id}
-use Rattle.xs_keys.specs.GroupEvent.{Ask, GroupEvent, claim, auto_claim, claims_of, rule_of, rows, takes}
-use Rattle.xs_keys.specs.GroupEvent.{removes_pending}
-use Rattle.xs_keys.specs.GroupEvent.{owner}
+use Rattle.std.specs.Prelude.{◌≡◌, ◌⊎◌, ℕ, ◌≤◌, ◌+◌, ◌-◌, ◌*◌, Bool, true, false, not, ◌&&◌, ◌||◌, List, ◌∷◌, ◌++◌}
+use Rattle.std.specs.Prelude.{map, filter, length, is_some}
+use Rattle.xs_stream.specs.Id.{is_same}
+use Rattle.xs_group.specs.Verdict.{AreApart}
+use Rattle.xs_keys.specs.Ground.{option_map_or, Id, Row, is_below, has_id, zero_id}
+use Rattle.xs_keys.specs.GroupEvent.{Ask, GroupEvent, claim, auto_claim, claims_of, goes_on_at, rule_of, rows, takes}
+use Rattle.xs_keys.specs.GroupEvent.{removes_pending, owner}
 use Rattle.xs_keys.specs.Touched.{time_of}
 
 -- the least idle time that is asked for
@@ -27,30 +29,56 @@ abbrev pub is_named_by : Ask → Id → Bool
 is_named_by (claim consumer rule ids) x = has_id ids x
 is_named_by _ x = false
 
--- an XAUTOCLAIM may come to the entry from its start on
+-- an XAUTOCLAIM starts at the entry or before it
 abbrev pub is_from_start : Ask → Id → Bool
 is_from_start (auto_claim consumer rule start limit) x = not (is_below x start)
 is_from_start _ x = false
+
+-- an entry is before a cursor; 0-0 is past all
+abbrev pub is_before : Id → Id → Bool
+is_before cursor x = is_same cursor zero_id || is_below x cursor
+
+-- an XAUTOCLAIM comes to the entry, over these rows: it is at its start or past it, and before the cursor where it goes
+-- on; a cursor of 0-0 is past all
+abbrev pub comes_to : GroupEvent → List (Id × Row) → Id → Bool
+comes_to event rows x = is_from_start event.ask x && is_before (goes_on_at event rows) x
 
 -- as many entries as a scan may claim or remove
 abbrev pub most_hits : Ask → ℕ
 most_hits (auto_claim consumer rule start limit) = limit
 most_hits _ = 0
 
--- over these rows a claim takes and removes as many as it may, or there are ten times as many rows, so that it may stop
+-- over these rows a claim takes and removes as many as it may, or it comes to ten times as many rows, so that it may stop
 abbrev pub MayStop : GroupEvent → List (Id × Row) → Type 0
 MayStop event rows =
     (most_hits event.ask ≤ length (claims_of event rows).take + length (claims_of event rows).removed)
-    ⊎ (10 * most_hits event.ask ≤ length rows)
+    ⊎ (10 * most_hits event.ask ≤ length (filter (λ x. comes_to event rows x) (map (λ e. e.0) rows)))
 
--- so it is with each claim of a life; and of the entries that may be taken so an XCLAIM takes each that it names, and
--- an XAUTOCLAIM each from its start on, unless it may stop
+-- a claim is asked for this entry: an XCLAIM names it, or an XAUTOCLAIM comes to it
+abbrev pub is_asked_for : GroupEvent → List (Id × Row) → Id → Bool
+is_asked_for event rows x = is_named_by event.ask x || comes_to event rows x
+
+-- a claim takes the entry exactly if it is asked for it and may take it, and removes it exactly if it is asked for it and
+-- it has left the stream
+pub record ClaimsWhatIsAsked (start : Id) (past : List GroupEvent) (event : GroupEvent) (x : Id) : Type 0 where
+  pub takes_idle : takes start past event x ≡ true → IsTakenWhenIdle start past event x
+  pub removes_gone : removes_pending start past event x ≡ true → IsRemovedWhenGone start past event x
+  pub takes_asked : takes start past event x ≡ true → is_asked_for event (rows start past) x ≡ true
+  pub removes_asked : removes_pending start past event x ≡ true → is_asked_for event (rows start past) x ≡ true
+  pub takes_all :
+      is_asked_for event (rows start past) x ≡ true → IsTakenWhenIdle start past event x
+      → takes start past event x ≡ true
+  pub removes_all :
+      is_asked_for event (rows start past) x ≡ true → IsRemovedWhenGone start past event x
+      → removes_pending start past event x ≡ true
+
+-- so it is with each claim of a life; it takes no entry twice; and a scan comes to the end of the rows, or may stop
+pub record ClaimsInTurn (start : Id) (past : List GroupEvent) (event : GroupEvent) : Type 0 where
+  pub as_asked : (x : Id) → ClaimsWhatIsAsked start past event x
+  pub each_once : AreApart (claims_of event (rows start past)).take
+  pub far_enough : (goes_on_at event (rows start past) ≡ zero_id) ⊎ MayStop event (rows start past)
+
 abbrev pub ClaimsWhatIsIdle : Id → List GroupEvent → Type 0
 ClaimsWhatIsIdle start events =
-    (later : List GroupEvent) (event : GroupEvent) (earlier : List GroupEvent) (x : Id)
-    → events ≡ later ++ event ∷ earlier
-    → (takes start earlier event x ≡ true → IsTakenWhenIdle start earlier event x)
-    × (removes_pending start earlier event x ≡ true → IsRemovedWhenGone start earlier event x)
-    × (is_named_by event.ask x ≡ true → IsTakenWhenIdle start earlier event x → takes start earlier event x ≡ true)
-    × (is_from_start event.ask x ≡ true → IsTakenWhenIdle start earlier event x
-    → (takes start earlier event x ≡ true) ⊎ MayStop event (rows start earlier))
+    (later : List GroupEvent) (event : GroupEvent) (earlier : List GroupEvent) → events ≡ later ++ event ∷ earlier
+    → ClaimsInTurn start earlier event

@@ -7,7 +7,8 @@ ghost use Rattle.xs_keys.specs.ExamplesContent as content;
 ghost use Rattle.xs_keys.specs.ExamplesHeadline as headline;
 ghost use Rattle.xs_keys.specs.ExamplesJob as job;
 ghost use Rattle.xs_keys.specs.ExamplesPresence as presence;
-ghost use Rattle.xs_keys.specs.ExamplesTold.{ToldAdditions, ToldReads, ToldClaims};
+ghost use Rattle.xs_keys.specs.ExamplesTold.{ToldAdditions, ToldReads, ToldClaims, ToldNumbers};
+ghost use Rattle.xs_keys.specs.ExamplesTelling as telling;
 
 /// Ids, ranges and trims.
 pub fn streams()
@@ -152,6 +153,21 @@ pub fn told_additions()
 /// What the replies to claims tell.
 pub fn told_claims()
     ensures { ToldClaims }
+{}
+
+/// How many an acknowledgement, a deletion and a trim take away, and what XPENDING and XLEN count.
+pub fn told_numbers()
+    ensures { ToldNumbers }
+{}
+
+/// How an entry is told.
+pub fn telling_of_entries()
+    ensures { telling.Telling }
+{}
+
+/// What the first of some ids are.
+pub fn first_ids()
+    ensures { telling.Firsts }
 {}
 
 /// Where an entry stands.

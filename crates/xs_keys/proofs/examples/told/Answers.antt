@@ -32,5 +32,7 @@ returns c = record {
   claimed = refl;
   claimed_if_in_the_stream = refl;
   claimed_by_a_scan = refl;
+  goes_on_at_the_next = refl;
+  came_to_the_end = refl;
   nothing_of_a_missing_group = refl;
 }

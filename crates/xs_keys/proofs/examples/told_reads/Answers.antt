@@ -1,4 +1,4 @@
-use Rattle.std.proofs.Common.{◌≡◌, ℕ, List, [], ◌∷◌, ◌++◌, refl, sym, ap, ◌∙◌, subst, T, arith}
+use Rattle.std.proofs.Common.{◌≡◌, ℕ, List, [], ◌∷◌, ◌++◌, Option, Some, None, refl, sym, ap, ◌∙◌, subst, T, arith, codes}
 use Rattle.xs_bytes.specs.SortedMap.{empty, get, insert_by, remove, change}
 use Rattle.xs_command.specs.Words.{is_word, word, behind_sign, integer, natural, id, low, high}
 use Rattle.xs_command.specs.Options.{up_to}
@@ -24,6 +24,11 @@ use Rattle.xs_command.specs.Del.{del}
 use Rattle.xs_command.specs.Read.{reads}
 use Rattle.xs_keys.specs.Ground.{Reply, NullArray}
 use Rattle.xs_keys.specs.Reply.{array, array_or_null}
+use Rattle.xs_keys.specs.Played.{id as id_told, entry}
+use Rattle.xs_keys.specs.ExamplesHistory.{events, group_and}
+use Rattle.xs_keys.specs.ExamplesTold.{second, two_groups, read_by_a, with_a_deleted_one}
+use Rattle.xs_stream.specs.Examples.{at}
+use Rattle.xs_keys.proofs.Tellings.{shows-first}
 use Rattle.xs_keys.proofs.examples.told_reads.Goals as goal
 
 -- tells the null array from any other reply
@@ -38,13 +43,51 @@ part_told told first rest x is_null all is_first is_rest =
     omega (arith, ap kind (is_null ∙ ap array_or_null (all ∙ ap (λ f. f ++ rest) is_first ∙ ap (λ r. (x ∷ []) ++ r) is_rest)))
 
 pub returns : goal.returns
-unfolding empty get insert_by remove change is_word word behind_sign integer natural id low high up_to name_of only leading_ids ids xgroup subcommand_of create destroy create_consumer delete_consumer create_option group_start streams each_from is_distinct read_from xreadgroup read_option reader xack xpending form idle_rows pending_rows optional xclaim claim_option xautoclaim auto_claim_option max_len min_id trim_option add_id field pairs fields ping quit xadd add_option xdel xtrim xlen xrange xrevrange scan_option del reads
+unfolding kind empty get insert_by remove change is_word word behind_sign integer natural id low high up_to name_of only leading_ids ids xgroup subcommand_of create destroy create_consumer delete_consumer create_option group_start streams each_from is_distinct read_from xreadgroup read_option reader xack xpending form idle_rows pending_rows optional xclaim claim_option xautoclaim auto_claim_option max_len min_id trim_option add_id field pairs fields ping quit xadd add_option xdel xtrim xlen xrange xrevrange scan_option del reads
 returns c = record {
-  new = λ h. (_, refl, (_, [], refl, refl, refl));
-  own = λ h. (_, refl, (_, [], refl, (array [], refl), refl));
-  own_and_new = λ h. (_, refl, (_, _, refl, (array [], refl), (_, [], refl, refl, refl)));
-  in_the_order_written = λ h. (_, refl, (_, _, refl, refl, (_, [], refl, refl, refl)));
-  nothing_new = λ h. ([], refl, ([], [], refl, refl, refl));
-  not_nothing = λ h. part_told (h refl).0 (h refl).2.0 (h refl).2.1 _ (h refl).1 (h refl).2.2 (h refl).2.3 (h refl).2.4;
-  refused = λ h. absurd (subst T (sym h) tt);
+  new = (λ h. (_, refl, (_, [], refl, (second ∷ entry 3 0 ∷ [], refl, ((_, refl, refl), ((_, refl, refl), tt))), refl)), λ h. absurd (subst T h tt));
+  own = (λ h. (_, refl, (_, [], refl, (_, [], refl, shows-first (events 5 (group_and [])) (codes "s") (codes "g") _ refl (codes "a") (at 0 0) None, tt), refl)), λ h. absurd (subst T h tt));
+  own_pending = (
+    λ h. (_, refl, (_, [], refl, (
+      _,
+      second ∷ entry 3 0 ∷ [],
+      refl,
+      shows-first (events 5 read_by_a) (codes "s") (codes "g") _ refl (codes "a") (at 0 0) None,
+      ((λ there. (_, refl, refl), λ gone. absurd (subst T gone tt)), ((λ there. (_, refl, refl), λ gone. absurd (subst T gone tt)), tt)),
+    ), refl)),
+    λ h. absurd (subst T h tt),
+  );
+  own_pending_past_an_id = (
+    λ h. (_, refl, (_, [], refl, (
+      _,
+      entry 3 0 ∷ [],
+      refl,
+      shows-first (events 5 read_by_a) (codes "s") (codes "g") _ refl (codes "a") (at 2 0) None,
+      ((λ there. (_, refl, refl), λ gone. absurd (subst T gone tt)), tt),
+    ), refl)),
+    λ h. absurd (subst T h tt),
+  );
+  own_pending_with_a_deleted_one = (
+    λ h. (_, refl, (_, [], refl, (
+      _,
+      array (id_told 2 0 ∷ NullArray ∷ []) ∷ [],
+      refl,
+      shows-first (events 5 with_a_deleted_one) (codes "s") (codes "g") _ refl (codes "a") (at 0 0) (Some 1),
+      ((λ there. absurd (subst T (sym there) tt), λ gone. refl), tt),
+    ), refl)),
+    λ h. absurd (subst T h tt),
+  );
+  own_and_new = (
+    λ h. (_, refl, (_, _, refl, (_, [], refl, shows-first (events 5 two_groups) (codes "t") (codes "g") _ refl (codes "a") (at 0 0) None, tt),
+      (_, [], refl, (second ∷ entry 3 0 ∷ [], refl, ((_, refl, refl), ((_, refl, refl), tt))), refl))),
+    λ h. absurd (subst T h tt),
+  );
+  in_the_order_written = (
+    λ h. (_, refl, (_, _, refl, (entry 7 0 ∷ [], refl, ((_, refl, refl), tt)), (_, [], refl, (second ∷ entry 3 0 ∷ [], refl, ((_, refl, refl), ((_, refl, refl), tt))), refl))),
+    λ h. absurd (subst T h tt),
+  );
+  nothing_new = (λ h. ([], refl, ([], [], refl, refl, refl)), λ h. absurd (subst T h tt));
+  not_nothing = λ h. let told = h.0 refl in part_told told.0 told.2.0 told.2.1 _ told.1 told.2.2 told.2.3.1 told.2.4;
+  refused = (λ h. absurd (subst T (sym h) tt), λ h. refl);
+  not_nothing_without_the_group = λ h. omega (arith, ap kind (h.1 refl));
 }

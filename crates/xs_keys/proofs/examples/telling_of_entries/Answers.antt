@@ -1,0 +1,28 @@
+use Rattle.std.proofs.Common.{◌≡◌, ℕ, List, [], ◌∷◌, length, Option, Some, None, is_some, refl, sym, ap, ◌∙◌, subst, T, arith}
+use Rattle.std.specs.List.{flat_map}
+use Rattle.std.specs.Option.{option_map_or}
+use Rattle.std.proofs.lemmas.Bool.{false≢true}
+use Rattle.xs_stream.specs.declared.field.Field.{Field}
+use Rattle.xs_keys.specs.Ground.{Reply, Array}
+use Rattle.xs_keys.specs.Reply.{array, field_replies}
+use Rattle.xs_keys.specs.Played.{id as id_told}
+use Rattle.xs_keys.proofs.examples.telling_of_entries.Goals as goal
+
+-- how many tokens a reply has behind its header
+size_of : Reply → ℕ
+size_of (Array items) = length items.tokens
+size_of _ = 0
+
+pub returns : goal.returns
+unfolding size_of
+returns c = record {
+  by_its_own_fields = (_, refl, refl);
+  not_without_its_fields = λ h. omega (arith, ap size_of (h.2 ∙ ap (λ (o : Option (List Field)). array (id_told 2 0 ∷ array (flat_map field_replies (option_map_or (λ a. a) o [])) ∷ [])) (sym h.1)));
+  not_one_that_was_never_given = λ h. false≢true (ap is_some h.1);
+  in_the_stream = (λ there. (_, refl, refl), λ gone. absurd (subst T gone tt));
+  no_longer = (λ there. absurd (subst T (sym there) tt), λ gone. refl);
+  no_longer_with_fields = λ h. omega (arith, ap size_of (h.1 refl));
+  both_in_turn = ((_, refl, refl), ((_, refl, refl), tt));
+  not_the_first_alone = λ h. h.1;
+  not_one_more = λ h. h.1;
+}
