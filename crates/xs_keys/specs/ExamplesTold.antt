@@ -48,6 +48,8 @@ pub record ToldReads : Type 0 where
   pub own_pending :
       Tells read_by_a (codes "XREADGROUP GROUP g a STREAMS s 0")
       (array (stream (codes "s") (second ∷ entry 3 0 ∷ []) ∷ []))
+  pub not_none_of_its_own :
+      Tells read_by_a (codes "XREADGROUP GROUP g a STREAMS s 0") (array (stream (codes "s") [] ∷ [])) → ⊥
   pub own_pending_past_an_id :
       Tells read_by_a (codes "XREADGROUP GROUP g a STREAMS s 2") (array (stream (codes "s") (entry 3 0 ∷ []) ∷ []))
   pub own_pending_with_a_deleted_one :

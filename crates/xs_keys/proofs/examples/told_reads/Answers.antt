@@ -1,4 +1,4 @@
-use Rattle.std.proofs.Common.{◌≡◌, ℕ, List, [], ◌∷◌, ◌++◌, Option, Some, None, refl, sym, ap, ◌∙◌, subst, T, arith, codes}
+use Rattle.std.proofs.Common.{◌≡◌, ◌⊎◌, inl, inr, ℕ, Bool, true, length, is_some, List, [], ◌∷◌, ◌++◌, Option, Some, None, refl, sym, ap, ◌∙◌, subst, T, arith, codes}
 use Rattle.xs_bytes.specs.SortedMap.{empty, get, insert_by, remove, change}
 use Rattle.xs_command.specs.Words.{is_word, word, behind_sign, integer, natural, id, low, high}
 use Rattle.xs_command.specs.Options.{up_to}
@@ -22,9 +22,18 @@ use Rattle.xs_command.specs.Xlen.{xlen}
 use Rattle.xs_command.specs.Xrange.{xrange, xrevrange, scan_option}
 use Rattle.xs_command.specs.Del.{del}
 use Rattle.xs_command.specs.Read.{reads}
-use Rattle.xs_keys.specs.Ground.{Reply, NullArray}
+use Rattle.std.proofs.lemmas.Bool.{false≢true}
+use Rattle.xs_stream.specs.declared.id.Id.{Id}
+use Rattle.xs_stream.specs.Id.{has_id}
+use Rattle.xs_resp.specs.declared.token.Token.{Token}
+use Rattle.xs_resp.specs.declared.token.Token.TheVariants as token
+use Rattle.xs_keys.specs.Ground.{Reply, Array, Bulk, NullArray}
+use Rattle.xs_keys.specs.Life.{key_life}
+use Rattle.xs_keys.specs.GroupLife.{present_in}
+use Rattle.xs_keys.specs.Telling.{TellsEntryOrNull, TellsEach}
+use Rattle.xs_keys.specs.Told.{given_at}
 use Rattle.xs_keys.specs.Reply.{array, array_or_null}
-use Rattle.xs_keys.specs.Played.{id as id_told, entry}
+use Rattle.xs_keys.specs.Played.{id as id_told, entry, stream}
 use Rattle.xs_keys.specs.ExamplesHistory.{events, group_and}
 use Rattle.xs_keys.specs.ExamplesTold.{second, two_groups, read_by_a, with_a_deleted_one}
 use Rattle.xs_stream.specs.Examples.{at}
@@ -42,8 +51,31 @@ unfolding kind
 part_told told first rest x is_null all is_first is_rest =
     omega (arith, ap kind (is_null ∙ ap array_or_null (all ∙ ap (λ f. f ++ rest) is_first ∙ ap (λ r. (x ∷ []) ++ r) is_rest)))
 
+-- how many entries the first stream of a reply has
+entries_in : Reply → ℕ
+entries_in (Array items) = by items.tokens where
+  by : List Token → ℕ
+  by (stream ∷ key ∷ token.Array count ∷ more) = count
+  by _ = 0
+entries_in _ = 0
+
+stream_told : (told first rest entries : List Reply) → array (stream (codes "s") [] ∷ []) ≡ array_or_null told → told ≡ first ++ rest → first ≡ array (Bulk (codes "s") ∷ array entries ∷ []) ∷ [] → 0 ≡ length entries
+unfolding entries_in
+stream_told told first rest entries is all is_first = ap entries_in (is ∙ ap array_or_null (all ∙ ap (λ f. f ++ rest) is_first))
+
+-- without entries no id is told
+none_told : (Tells : Id → Reply → Type 0) (ids : List Id) (entries : List Reply) → 0 ≡ length entries → has_id ids (at 2 0) ≡ true → TellsEach Tells ids entries → ⊥
+none_told Tells [] entries none has each = false≢true has
+none_told Tells (x ∷ xs) [] none has each = each
+none_told Tells (x ∷ xs) (first ∷ rest) none has each = omega (arith, none)
+
+-- what must be among all of its own is among them
+all_own : {A : Type 0} (b : Bool) → (b ≡ true) ⊎ A → (A → ⊥) → b ≡ true
+all_own b (inl e) other = e
+all_own b (inr a) other = absurd (other a)
+
 pub returns : goal.returns
-unfolding kind empty get insert_by remove change is_word word behind_sign integer natural id low high up_to name_of only leading_ids ids xgroup subcommand_of create destroy create_consumer delete_consumer create_option group_start streams each_from is_distinct read_from xreadgroup read_option reader xack xpending form idle_rows pending_rows optional xclaim claim_option xautoclaim auto_claim_option max_len min_id trim_option add_id field pairs fields ping quit xadd add_option xdel xtrim xlen xrange xrevrange scan_option del reads
+unfolding entries_in kind empty get insert_by remove change is_word word behind_sign integer natural id low high up_to name_of only leading_ids ids xgroup subcommand_of create destroy create_consumer delete_consumer create_option group_start streams each_from is_distinct read_from xreadgroup read_option reader xack xpending form idle_rows pending_rows optional xclaim claim_option xautoclaim auto_claim_option max_len min_id trim_option add_id field pairs fields ping quit xadd add_option xdel xtrim xlen xrange xrevrange scan_option del reads
 returns c = record {
   new = (λ h. (_, refl, (_, [], refl, (second ∷ entry 3 0 ∷ [], refl, ((_, refl, refl), ((_, refl, refl), tt))), refl)), λ h. absurd (subst T h tt));
   own = (λ h. (_, refl, (_, [], refl, (_, [], refl, shows-first (events 5 (group_and [])) (codes "s") (codes "g") _ refl (codes "a") (at 0 0) None, tt), refl)), λ h. absurd (subst T h tt));
@@ -57,6 +89,10 @@ returns c = record {
     ), refl)),
     λ h. absurd (subst T h tt),
   );
+  not_none_of_its_own = λ h.
+      let r = h.0 refl in
+      none_told (TellsEntryOrNull (given_at (events 5 read_by_a) (codes "s")) (present_in (key_life (events 5 read_by_a) (codes "s")))) r.2.3.0 r.2.3.1
+      (stream_told r.0 r.2.0 r.2.1 r.2.3.1 r.1 r.2.2 r.2.3.2) (all_own _ (r.2.3.3.in_full (at 2 0) (refl, refl)) (λ limited. false≢true (ap is_some limited.0))) r.2.3.4;
   own_pending_past_an_id = (
     λ h. (_, refl, (_, [], refl, (
       _,
