@@ -26,6 +26,7 @@ pub mod Takings
 pub mod ReadSteps
 pub mod Refusals
 pub mod Runs
+pub mod SecondTries
 pub mod Sights
 pub mod Staying
 pub mod Streams

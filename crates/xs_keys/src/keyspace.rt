@@ -1,5 +1,5 @@
 //! The keyspace.
-ghost use Rattle.std.specs.Prelude.{◌≡◌, IfOk, OnErr, All};
+ghost use Rattle.std.specs.Prelude.{◌≡◌, IfOk, OnErr, All, true};
 ghost use Rattle.xs_bytes.specs.SortedMap as map;
 ghost use Rattle.xs_command.specs.WellFormed.{IsWellFormed};
 ghost use Rattle.xs_keys.specs.Codes.{content_of};
@@ -7,6 +7,7 @@ ghost use Rattle.xs_keys.specs.Headline.{RunsOn};
 ghost use Rattle.xs_keys.specs.Step.{Step};
 
 use crate::keys::Keys;
+use crate::reserve::Reserve;
 use crate::{
     del, ping, xack, xadd, xautoclaim, xclaim, xdel, xgroup, xlen, xpending, xrange, xreadgroup,
     xtrim,
@@ -15,13 +16,17 @@ use std::alloc::{AllocError, Global};
 use std::collections::BTreeMap;
 use std::marker::Model;
 use xs_command::Command;
-use xs_resp::{Reply, Simple};
+use xs_resp::{Fault, Reply, Simple};
 use xs_stream::Moment;
 
 /// The keys and what they hold. A contract sees the content of a history.
+///
+/// When memory runs out, additions and new groups are refused first: a reserve of 4 MiB is made whole before each of
+/// them, and given back if another command finds no memory.
 #[derive(Drop)]
 pub struct Keyspace {
     keys: Keys,
+    reserve: Reserve,
     alloc: Global,
 }
 
@@ -43,6 +48,7 @@ impl Keyspace {
     {
         Self {
             keys: BTreeMap::new(alloc),
+            reserve: Reserve::new(alloc),
             alloc,
         }
     }
@@ -53,7 +59,11 @@ impl Keyspace {
         requires { IsWellFormed command.now }
         ensures { Step self.old now command.now result self.new }
     {
-        apply_to(&mut self.keys, self.alloc, now, command)
+        let reply = apply_to(&mut self.keys, &mut self.reserve, self.alloc, now, command);
+        if is_out_of_memory(&reply) && !grows(command) && self.reserve.give_back() {
+            return apply_to(&mut self.keys, &mut self.reserve, self.alloc, now, command);
+        }
+        reply
     }
 
     /// Applies one command that isn't needed any more, as `apply` does.
@@ -61,7 +71,7 @@ impl Keyspace {
         requires { IsWellFormed command }
         ensures { Step self.old now command result self.new }
     {
-        apply_to(&mut self.keys, self.alloc, now, &command)
+        self.apply(now, &command)
     }
 
     /// Applies commands at their moments, in order. A refusal means that nothing was applied; a command
@@ -80,20 +90,38 @@ impl Keyspace {
     }
 }
 
+/// Whether memory was refused.
+fn is_out_of_memory(reply: &Reply) -> bool
+    ensures { result ≡ true → reply.now ≡ Reply.Error Fault.Memory }
+{
+    matches!(reply, Reply::Error(Fault::Memory))
+}
+
+/// Whether the command puts in what stays until it is taken out, as producers do.
+fn grows(command: &Command) -> bool {
+    matches!(command, Command::Add(_) | Command::GroupCreate(_))
+}
+
 /// Applies one command to the keys.
-fn apply_to(keys: &mut Keys, alloc: Global, now: Moment, command: &Command) -> Reply
+fn apply_to(
+    keys: &mut Keys,
+    reserve: &mut Reserve,
+    alloc: Global,
+    now: Moment,
+    command: &Command,
+) -> Reply
     requires { IsWellFormed command.now }
     ensures { Step (content_of keys.old.entries) now command.now result (content_of keys.new.entries) }
 {
     match command {
         Command::Ping(message) => ping::ping(alloc, message),
         Command::Quit => Reply::Simple(Simple::Okay),
-        Command::Add(command) => xadd::add(keys, alloc, now, command),
+        Command::Add(command) => xadd::add(keys, reserve, alloc, now, command),
         Command::Delete { key, ids } => xdel::delete(keys, key, ids),
         Command::TrimTo { key, trim } => xtrim::trim(keys, key, *trim),
         Command::Len { key } => xlen::len(keys, key),
         Command::Scan(command) => xrange::range(keys, alloc, command),
-        Command::GroupCreate(command) => xgroup::create(keys, alloc, command),
+        Command::GroupCreate(command) => xgroup::create(keys, reserve, alloc, command),
         Command::GroupDestroy { key, group } => xgroup::destroy(keys, key, group),
         Command::ConsumerCreate {
             key,

@@ -8,6 +8,7 @@ mod keys;
 pub mod keyspace;
 pub mod laws;
 mod ping;
+mod reserve;
 mod showing;
 mod xack;
 mod xadd;

@@ -11,6 +11,7 @@ ghost use Rattle.xs_keys.specs.Reply.{fault_of};
 ghost use Rattle.xs_keys.specs.Step.{Step};
 
 use crate::keys::{Keys, Slot};
+use crate::reserve::Reserve;
 use std::alloc::Global;
 use std::collections::BTreeMap;
 use xs_bytes::Bytes;
@@ -21,6 +22,7 @@ use xs_stream::{AddError, Moment, Stream};
 /// Adds an entry to a stream and trims it then. The text of the id is made first, so that a refusal of
 /// memory leaves the stream as it was.
 fn try_add(
+    reserve: &mut Reserve,
     alloc: Global,
     stream: &mut Stream,
     now: Moment,
@@ -38,6 +40,9 @@ fn try_add(
         Ok(id) => id,
         Err(error) => return Err(error),
     };
+    if reserve.fill(alloc).is_err() {
+        return Err(AddError::Memory);
+    }
     let Ok(text) = id.text(alloc) else {
         return Err(AddError::Memory);
     };
@@ -63,17 +68,29 @@ fn fault_of_refusal(refusal: AddError) -> Fault
 }
 
 /// Adds an entry to a stream, and gives the reply.
-fn add_to(alloc: Global, stream: &mut Stream, now: Moment, add: &AddCommand) -> Reply
+fn add_to(
+    reserve: &mut Reserve,
+    alloc: Global,
+    stream: &mut Stream,
+    now: Moment,
+    add: &AddCommand,
+) -> Reply
     ensures { Adds stream.old now add.now result stream.new }
 {
-    match try_add(alloc, stream, now, add) {
+    match try_add(reserve, alloc, stream, now, add) {
         Ok(text) => Reply::Bulk(text),
         Err(refusal) => Reply::Error(fault_of_refusal(refusal)),
     }
 }
 
 /// Adds an entry to a key that isn't there, and makes the key where the command may.
-fn add_missing(keys: &mut Keys, alloc: Global, now: Moment, add: &AddCommand) -> Reply
+fn add_missing(
+    keys: &mut Keys,
+    reserve: &mut Reserve,
+    alloc: Global,
+    now: Moment,
+    add: &AddCommand,
+) -> Reply
     requires missing { map.get (content_of keys.old.entries) add.now.key ≡ None }
     requires well_formed { IsAddId add.now.id }
     ensures { Step (content_of keys.old.entries) now (Command.Add add.now) result (content_of keys.new.entries) }
@@ -85,7 +102,7 @@ fn add_missing(keys: &mut Keys, alloc: Global, now: Moment, add: &AddCommand) ->
         return Reply::Error(Fault::Memory);
     };
     let mut stream = Stream::new(alloc);
-    let Ok(text) = try_add(alloc, &mut stream, now, add) else {
+    let Ok(text) = try_add(reserve, alloc, &mut stream, now, add) else {
         return Reply::Error(Fault::Memory);
     };
     let groups = BTreeMap::new(alloc);
@@ -96,12 +113,18 @@ fn add_missing(keys: &mut Keys, alloc: Global, now: Moment, add: &AddCommand) ->
 }
 
 /// Adds an entry to the stream of a key.
-pub fn add(keys: &mut Keys, alloc: Global, now: Moment, add: &AddCommand) -> Reply
+pub fn add(
+    keys: &mut Keys,
+    reserve: &mut Reserve,
+    alloc: Global,
+    now: Moment,
+    add: &AddCommand,
+) -> Reply
     requires { IsAddId add.now.id }
     ensures { Step (content_of keys.old.entries) now (Command.Add add.now) result (content_of keys.new.entries) }
 {
     match keys.get_mut(&add.key) {
-        Some(slot) => add_to(alloc, &mut slot.stream, now, add),
-        None => add_missing(keys, alloc, now, add),
+        Some(slot) => add_to(reserve, alloc, &mut slot.stream, now, add),
+        None => add_missing(keys, reserve, alloc, now, add),
     }
 }

@@ -7,6 +7,7 @@ ghost use Rattle.xs_keys.specs.Grouping.{Creates};
 ghost use Rattle.xs_keys.specs.Step.{StepAtAnyTime};
 
 use crate::keys::{Groups, Keys, Slot};
+use crate::reserve::Reserve;
 use std::alloc::{AllocError, Global};
 use std::collections::BTreeMap;
 use xs_bytes::Bytes;
@@ -26,11 +27,20 @@ fn start_id(start: GroupStart, top: Id) -> Id
 }
 
 /// Makes a group among those of a key with this top.
-fn create_in(groups: &mut Groups, alloc: Global, top: Id, command: &GroupCreateCommand) -> Reply
+fn create_in(
+    groups: &mut Groups,
+    reserve: &mut Reserve,
+    alloc: Global,
+    top: Id,
+    command: &GroupCreateCommand,
+) -> Reply
     ensures { Creates command.now top (groups_of groups.old.entries) result (groups_of groups.new.entries) }
 {
     if groups.contains_key(&command.group) {
         return Reply::Error(Fault::Busy);
+    }
+    if reserve.fill(alloc).is_err() {
+        return Reply::Error(Fault::Memory);
     }
     let Ok(name) = Bytes::from_slice(alloc, command.group.as_slice()) else {
         return Reply::Error(Fault::Memory);
@@ -44,13 +54,21 @@ fn create_in(groups: &mut Groups, alloc: Global, top: Id, command: &GroupCreateC
 
 /// Makes a group of a key that isn't there, and the key with it where the command may. Both come by one
 /// insertion, so that a refusal of memory leaves neither.
-fn create_missing(keys: &mut Keys, alloc: Global, command: &GroupCreateCommand) -> Reply
+fn create_missing(
+    keys: &mut Keys,
+    reserve: &mut Reserve,
+    alloc: Global,
+    command: &GroupCreateCommand,
+) -> Reply
     requires { map.get (content_of keys.old.entries) command.now.key ≡ None }
     ensures { let old = content_of keys.old.entries in
         StepAtAnyTime old (Command.GroupCreate command.now) result (content_of keys.new.entries) }
 {
     if !command.make {
         return Reply::Error(Fault::NoKey);
+    }
+    if reserve.fill(alloc).is_err() {
+        return Reply::Error(Fault::Memory);
     }
     let Ok(key) = Bytes::from_slice(alloc, command.key.as_slice()) else {
         return Reply::Error(Fault::Memory);
@@ -71,16 +89,21 @@ fn create_missing(keys: &mut Keys, alloc: Global, command: &GroupCreateCommand) 
 }
 
 /// XGROUP CREATE.
-pub fn create(keys: &mut Keys, alloc: Global, command: &GroupCreateCommand) -> Reply
+pub fn create(
+    keys: &mut Keys,
+    reserve: &mut Reserve,
+    alloc: Global,
+    command: &GroupCreateCommand,
+) -> Reply
     ensures { let old = content_of keys.old.entries in
         StepAtAnyTime old (Command.GroupCreate command.now) result (content_of keys.new.entries) }
 {
     match keys.get_mut(&command.key) {
         Some(slot) => {
             let top = slot.stream.top();
-            create_in(&mut slot.groups, alloc, top, command)
+            create_in(&mut slot.groups, reserve, alloc, top, command)
         }
-        None => create_missing(keys, alloc, command),
+        None => create_missing(keys, reserve, alloc, command),
     }
 }
 

@@ -12,6 +12,9 @@ has c = ap is_some (get-content_of c.args.groups.now c.args.command.now.group) �
 pub returns-then-contains_key : goal.returns-then-contains_key
 returns-then-contains_key c = inl (has (goal.at.returns-then-contains_key c).After-contains_key ∙ c.if-contains_key.true, refl, refl)
 
+pub returns-then-is_err : goal.returns-then-is_err
+returns-then-is_err c = inr (inr (has (goal.at.returns-then-is_err c).After-contains_key ∙ c.if-contains_key.false, refl, refl))
+
 pub returns-in_default : goal.returns-in_default
 returns-in_default c = inr (inr (has (goal.at.returns-in_default c).After-contains_key ∙ c.if-contains_key.false, refl, refl))
 

@@ -9,6 +9,9 @@ use Rattle.xs_keys.specs.Codes.{content_of, groups_of}
 use Rattle.xs_keys.proofs.GroupMaking.{refused-step, makes-step}
 use Rattle.xs_keys.proofs.xgroup.create_missing.Goals as goal
 
+pub returns-then-is_err : goal.returns-then-is_err
+returns-then-is_err c = λ now. refused-step _ _ now c.args.command.now c.if-not-command.false c.requires refl
+
 pub returns-in_default : goal.returns-in_default
 returns-in_default c = λ now. refused-step _ _ now c.args.command.now c.if-not-command.false c.requires refl
 
