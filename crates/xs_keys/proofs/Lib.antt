@@ -17,6 +17,7 @@ pub mod Maps
 pub mod Names
 pub mod Owners
 pub mod PresentEntries
+pub mod WholeReplies
 pub mod Touches
 pub mod Takings
 pub mod ReadSteps

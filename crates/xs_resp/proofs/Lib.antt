@@ -1,3 +1,5 @@
+pub mod Marks
+pub mod Wholeness
 pub mod Replying
 pub mod Reading
 pub mod Outcomes

@@ -6,4 +6,4 @@ use Rattle.xs_keys.proofs.xpending.rows_shown.Given as goal
 
 -- the rows so far
 abbrev pub invariant-loop-row : goal.invariant-loop-row
-invariant-loop-row l = l.tokens.items ≡ flat_map tokens_of (map row_reply l.yielded)
+invariant-loop-row l = l.tokens ≡ flat_map tokens_of (map row_reply l.yielded)

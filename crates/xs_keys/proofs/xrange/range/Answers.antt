@@ -3,7 +3,7 @@ use Rattle.std.proofs.Math.Seq.{take-nil}
 use Rattle.xs_stream.specs.declared.range.Range.{Range}
 use Rattle.xs_stream.specs.Kept.{limited, ids_within}
 use Rattle.xs_resp.specs.declared.reply.Reply.TheVariants.{Array}
-use Rattle.xs_resp.specs.declared.token.Token.{Token}
+use Rattle.xs_resp.specs.Token.{Token}
 use Rattle.xs_resp.specs.Items.{Items}
 use Rattle.xs_keys.specs.Content.{Key}
 use Rattle.xs_keys.specs.Codes.{groups_of}

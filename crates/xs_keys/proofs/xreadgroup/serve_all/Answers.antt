@@ -18,7 +18,7 @@ next c = drop_more c.as_slice-reads.result.now c.loop-one.one-index c.one-item.r
 pub loop-one-init : goal.loop-one-init
 loop-one-init c = record {
   content = refl;
-  shown = rw c.new-tokens.ensures.items refl;
+  shown = rw c.new-tokens.ensures refl;
   counted = omega arith;
   there = ap (list_all (λ (one : ReadOne). is_some (group_in (get (content_of c.args.keys.now.entries) one.key) c.args.read.now.group))) c.as_slice-reads.ensures ∙ c.requires;
   made = rw c.in_ok-deliveries.ensures.items refl;
@@ -44,8 +44,8 @@ loop-one-preserved c =
     let before = content_of c.loop-one.keys.entries in
     let after = content_of c.serve_at.new.keys.entries in
     let one = c.one-item.result in
-    let tokens = c.loop-one.tokens.items in
-    let longer = c.serve_at.new.tokens.items in
+    let tokens = c.loop-one.tokens in
+    let longer = c.serve_at.new.tokens in
     let more = drop (c.loop-one.one-index + 1) reads in
     let served = c.in-Ok.served in
     let split = next (goal.at.loop-one-preserved c).After-one-item in
@@ -81,6 +81,6 @@ overflow_add-parts c =
     let before = content_of c.loop-one.keys.entries in
     let more = drop (c.loop-one.one-index + 1) reads in
     let split = next (goal.at.overflow_add-parts c).After-one-item in
-    let counted = count-more now read c.one-item.result more before (content_of c.serve_at.new.keys.entries) c.loop-one.tokens.items c.serve_at.new.tokens.items c.in-Ok.served c.in-Ok.ensures.ok c.loop-one.parts (length (parts first now read reads))
+    let counted = count-more now read c.one-item.result more before (content_of c.serve_at.new.keys.entries) c.loop-one.tokens c.serve_at.new.tokens c.in-Ok.served c.in-Ok.ensures.ok c.loop-one.parts (length (parts first now read reads))
     (ap (λ rest. c.loop-one.parts + length (parts before now read rest)) (sym split) ∙ c.loop-one.invariant.counted) in
     omega (arith, counted, parts-le first now read reads, c.loop-one.invariant.room, c.loop-one.deliveries.small)
