@@ -1,12 +1,12 @@
 -- The replies to commands are whole: no array says that it has more or fewer items than it has.
-use Rattle.std.proofs.Common.{ℕ, Bool, true, false, List, [], ◌∷◌, ◌++◌, map, Option, Some, None}
+use Rattle.std.proofs.Common.{ℕ, decimal, Bool, true, false, List, [], ◌∷◌, map, Option, Some, None}
 use Rattle.std.specs.List.{flat_map}
 use Rattle.xs_stream.specs.declared.id.Id.{Id}
 use Rattle.xs_stream.specs.declared.field.Field.{Field}
 use Rattle.xs_stream.specs.Kept.{fields_at, ids_of}
 use Rattle.xs_resp.specs.WholeReplies.{IsWhole, AreWhole}
 use Rattle.xs_resp.proofs.Wholeness.{items-whole, all-whole, whole-append}
-use Rattle.xs_keys.specs.Ground.{State, Reply, option_map_or, get, OwnerCount, GroupSummary, PendingRow, ReadGroupCommand, ReadOne, ReadFrom, New, After, delivers, Bulk, Int, NullBulk, NullArray}
+use Rattle.xs_keys.specs.Ground.{State, option_map_or, get, OwnerCount, GroupSummary, PendingRow, ReadGroupCommand, ReadOne, ReadFrom, New, After, delivers, Bulk, Int, NullBulk, NullArray}
 use Rattle.xs_keys.specs.GroupLife.{read_ask}
 use Rattle.xs_keys.specs.Content.{Content, asked, group_in, entries_in}
 use Rattle.xs_keys.specs.Reply.{array, array_or_null, id_reply, field_replies, entry_reply, present_reply, entries_reply, part, new_part, shown_by, parts, owner_reply, row_reply, taken_reply}
@@ -59,14 +59,14 @@ parts-whole content now read (one ∷ more) =
     whole-append this (parts after now read more) (shown-whole read one.key one.from (entries_in (get content one.key)) (group_in (get content one.key) read.group)) (parts-whole after now read more)
 
 owner-whole : (owner : OwnerCount) → IsWhole (owner_reply owner)
-owner-whole owner = tt
+owner-whole owner = items-whole (Bulk owner.consumer ∷ Bulk (decimal owner.count) ∷ []) (tt, (tt, tt))
 
 owners-whole : (owners : List OwnerCount) → IsWhole (array_or_null (map owner_reply owners))
 owners-whole [] = tt
 owners-whole (o ∷ os) = items-whole (map owner_reply (o ∷ os)) (all-whole owner_reply owner-whole (o ∷ os))
 
 pub row-whole : (row : PendingRow) → IsWhole (row_reply row)
-row-whole row = tt
+row-whole row = items-whole (id_reply row.id ∷ Bulk row.consumer ∷ Int row.idle ∷ Int row.count ∷ []) (tt, (tt, (tt, (tt, tt))))
 
 -- the four items of the short form of XPENDING
 module _ (summary : GroupSummary) where
@@ -74,5 +74,6 @@ module _ (summary : GroupSummary) where
   id-or-null None = tt
   id-or-null (Some id) = tt
 
-  pub summary-whole : AreWhole (Int summary.total ∷ option_map_or id_reply summary.least NullBulk ∷ option_map_or id_reply summary.greatest NullBulk ∷ array_or_null (map owner_reply summary.owners) ∷ [])
-  summary-whole = (tt, (id-or-null summary.least, (id-or-null summary.greatest, (owners-whole summary.owners, tt))))
+  pub summary-whole : (owners : List OwnerCount)
+      → AreWhole (Int summary.total ∷ option_map_or id_reply summary.least NullBulk ∷ option_map_or id_reply summary.greatest NullBulk ∷ array_or_null (map owner_reply owners) ∷ [])
+  summary-whole owners = (tt, (id-or-null summary.least, (id-or-null summary.greatest, (owners-whole owners, tt))))

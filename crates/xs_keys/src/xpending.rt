@@ -1,5 +1,6 @@
 //! XPENDING.
 ghost use Rattle.std.specs.Prelude.{◌≡◌, ◌++◌, map, IfOk, OnOk};
+ghost use Rattle.std.specs.List.{flat_map};
 ghost use Rattle.std.specs.Option.{option_map_or};
 ghost use Rattle.xs_group.specs.Report as report;
 ghost use Rattle.xs_resp.specs.ReplyItems.{tokens_of};
@@ -94,15 +95,23 @@ fn push_row(tokens: &mut Tokens, alloc: Global, row: PendingRow) -> Result<(), A
     tokens.push_int(row.count)
 }
 
+/// Appends rows of the long form.
+fn push_rows(tokens: &mut Tokens, alloc: Global, rows: Vec<PendingRow>) -> Result<(), AllocError>
+    ensures { OnOk result (tokens.new ≡ tokens.old ++ flat_map tokens_of (map row_reply rows.items)) }
+{
+    for row in rows {
+        push_row(tokens, alloc, row)?;
+    }
+    Ok(())
+}
+
 /// The long form.
 fn rows_shown(alloc: Global, rows: Vec<PendingRow>) -> Result<Reply, AllocError>
     ensures { IfOk result (λ reply. reply ≡ array (map row_reply rows.items)) }
 {
     let count = rows.len();
     let mut tokens = Tokens::with_capacity(alloc, count.saturating_mul(ROW_TOKENS))?;
-    for row in rows {
-        push_row(&mut tokens, alloc, row)?;
-    }
+    push_rows(&mut tokens, alloc, rows)?;
     Ok(Reply::Array(Replies::new(count, tokens)))
 }
 

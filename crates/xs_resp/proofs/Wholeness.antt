@@ -1,6 +1,7 @@
 -- Whole items, put together and taken apart.
 use Rattle.std.proofs.Common.{◌≡◌, ℕ, ◌+◌, zero, suc, List, [], ◌∷◌, ◌++◌, length, map, refl, sym, ap, ◌∙◌, subst, arith}
-use Rattle.std.proofs.lemmas.List.{length-map}
+use Rattle.std.proofs.lemmas.List.{length-map, append-nil}
+use Rattle.std.proofs.lemmas.List.Concat.{flat_map-append}
 use Rattle.std.specs.List.{flat_map}
 use Rattle.xs_resp.specs.declared.reply.Reply.{Reply}
 use Rattle.xs_resp.specs.declared.reply.Reply.TheVariants.{Simple, Error, Int, Bulk, NullBulk, Array, NullArray}
@@ -15,6 +16,7 @@ so-many : (n m : ℕ) (ts : List token.Token) → n ≡ m → AreItems n ts → 
 so-many n m ts same whole = subst (λ k. AreItems k ts) same whole
 
 pub items-append : (n m : ℕ) (ts us : List token.Token) → AreItems n ts → AreItems m us → AreItems (n + m) (ts ++ us)
+unfolding AreItems
 items-append zero m [] us first second = so-many m (0 + m) us (omega arith) second
 items-append zero m (t ∷ ts) us first second = absurd first
 items-append (suc n) m [] us first second = absurd first
@@ -25,6 +27,7 @@ items-append (suc n) m (t ∷ ts) us first second =
 
 -- the tokens of a whole reply are one item
 one-item : (r : Reply) → IsWhole r → AreItems 1 (tokens_of r)
+unfolding AreItems
 one-item (Simple s) whole = tt
 one-item (Error f) whole = tt
 one-item (Int n) whole = tt
@@ -34,6 +37,7 @@ one-item (Array items) whole = so-many items.count (items.count + 0) items.token
 one-item NullArray whole = tt
 
 pub items-whole : (rs : List Reply) → AreWhole rs → AreItems (length rs) (flat_map tokens_of rs)
+unfolding AreItems
 items-whole [] whole = tt
 items-whole (r ∷ rs) whole =
     so-many (1 + length rs) (suc (length rs)) (flat_map tokens_of (r ∷ rs)) (omega arith)
@@ -53,6 +57,7 @@ record Parts (n m : ℕ) (ts : List token.Token) : Type 0 where
   second : AreItems m back
 
 parted : (n m : ℕ) (ts : List token.Token) → AreItems (n + m) ts → Parts n m ts
+unfolding AreItems
 parted zero m ts whole = record { front = []; back = ts; all = refl; first = tt; second = so-many (0 + m) m ts (omega arith) whole }
 parted (suc n) m [] whole = absurd (so-many (suc n + m) (suc (n + m)) [] (omega arith) whole)
 parted (suc n) m (t ∷ ts) whole =
@@ -82,6 +87,7 @@ module _ (n : ℕ) (further : (back : List token.Token) → AreItems n back → 
   alone ts whole = so-many (0 + n) n ts (omega arith) whole
 
   from-first : (t : token.Token) (ts : List token.Token) → AreItems (own_items t + n) ts → Found (suc n) (t ∷ ts)
+  unfolding AreItems
   from-first (token.Simple s) ts whole = behind (Simple s) ts tt (alone ts whole)
   from-first (token.Error f) ts whole = behind (Error f) ts tt (alone ts whole)
   from-first (token.Int k) ts whole = behind (Int k) ts tt (alone ts whole)
@@ -94,6 +100,7 @@ module _ (n : ℕ) (further : (back : List token.Token) → AreItems n back → 
   from-first token.NullArray ts whole = behind NullArray ts tt (alone ts whole)
 
 found : (n : ℕ) (ts : List token.Token) → AreItems n ts → Found n ts
+unfolding AreItems
 found zero [] whole = record { replies = []; whole = tt; counted = refl; tokens = refl }
 found zero (t ∷ ts) whole = absurd whole
 found (suc n) [] whole = absurd whole
@@ -115,6 +122,11 @@ pub filled-each : {A : Type 0} (f : A → Reply) → ((x : A) → IsWhole (f x))
     → tokens ≡ before ++ flat_map tokens_of (map f xs) → AreItems count tokens
 filled-each f each xs count before tokens counted empty appended =
     filled (map f xs) count before tokens (all-whole f each xs) (counted ∙ sym (length-map xs f)) empty appended
+
+-- a reply more
+pub grown : (rs : List Reply) (r : Reply) (old new : List token.Token) → old ≡ flat_map tokens_of rs → new ≡ old ++ tokens_of r → new ≡ flat_map tokens_of (rs ++ r ∷ [])
+grown rs r old new is more =
+    more ∙ ap (λ o. o ++ tokens_of r) is ∙ ap (λ w. flat_map tokens_of rs ++ w) (sym (append-nil (tokens_of r))) ∙ sym (flat_map-append tokens_of rs (r ∷ []))
 
 pub whole-append : (rs others : List Reply) → AreWhole rs → AreWhole others → AreWhole (rs ++ others)
 whole-append [] others first second = second

@@ -8,7 +8,7 @@ own_items (Array n) = n
 own_items other = 0
 
 -- these tokens are this many items, each of them whole
-abbrev pub AreItems : ℕ → List Token → Type 0
+unfoldable pub AreItems : ℕ → List Token → Type 0
 AreItems zero [] = Unit {0}
 AreItems zero (t ∷ ts) = ⊥
 AreItems (suc n) [] = ⊥
