@@ -9,6 +9,9 @@ use crate::reply::Simple;
 use std::alloc::{AllocError, Global};
 use std::marker::Model;
 
+/// How many bytes of room the string of a token is given.
+const STRING_ROOM: usize = 16;
+
 /// A list of tokens. A token is a whole reply that is no array, or the header of an array, whose items follow it. The
 /// strings of all tokens lie in one buffer, one behind the other.
 #[derive(Debug, Drop)]
@@ -44,17 +47,17 @@ impl Tokens {
     pub fn with_capacity(alloc: Global, count: usize) -> Result<Self, AllocError>
         ensures { IfOk result (λ tokens. tokens ≡ []) }
     {
-        Ok(Self {
-            marks: Vec::with_capacity(alloc, count)?,
-            strings: Vec::new(alloc),
-        })
+        let mut tokens = Self::new(alloc);
+        tokens.reserve(count)?;
+        Ok(tokens)
     }
 
-    /// Makes room for so many tokens more.
+    /// Makes room for so many tokens more, whose strings are of usual length.
     pub fn reserve(&mut self, more: usize) -> Result<(), AllocError>
         ensures { self.new ≡ self.old }
     {
-        self.marks.reserve(more)
+        self.marks.reserve(more)?;
+        self.strings.reserve(more.saturating_mul(STRING_ROOM))
     }
 
     /// Appends a simple string. Nothing is appended on refusal, here and below.

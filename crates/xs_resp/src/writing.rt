@@ -85,13 +85,24 @@ fn write_digit(marker: u8, digit: u8, out: &mut Vec<u8>) -> Result<(), AllocErro
     out.extend_from_slice(&[marker, digit, b'\r', b'\n'])
 }
 
+/// Appends a marker, two digits and the end of the line.
+fn write_two_digits(marker: u8, ten: u8, one: u8, out: &mut Vec<u8>) -> Result<(), AllocError>
+    ensures { Writes result out.old.items out.new.items (marker ∷ ten ∷ one ∷ crlf) }
+{
+    out.extend_from_slice(&[marker, ten, one, b'\r', b'\n'])
+}
+
 /// Appends a marker, a number and the end of the line.
 fn write_line(marker: u8, number: u64, out: &mut Vec<u8>) -> Result<(), AllocError>
     ensures { Writes result out.old.items out.new.items (line marker number) }
 {
     if number < 10 {
-        // Most lengths and counts have one digit.
+        // Most lengths and counts have one digit or two.
         return write_digit(marker, b'0' + number as u8, out);
+    }
+    if number < 100 {
+        let number = number as u8;
+        return write_two_digits(marker, b'0' + number / 10, b'0' + number % 10, out);
     }
     out.push(marker)?;
     push_decimal(out, number)?;
