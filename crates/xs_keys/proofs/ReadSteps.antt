@@ -20,7 +20,7 @@ use Rattle.xs_keys.specs.GroupEvent.{Ask}
 use Rattle.xs_keys.specs.GroupLife.{read_ask}
 use Rattle.xs_keys.specs.Content.{Content, Key, asked, read_each, group_after, with_group, group_in, entries_in}
 use Rattle.xs_resp.specs.declared.reply.Reply.{Reply}
-use Rattle.xs_resp.specs.declared.token.Token.{Token}
+use Rattle.xs_resp.specs.Token.{Token}
 use Rattle.xs_resp.specs.ReplyItems.{tokens_of}
 use Rattle.xs_keys.specs.Step.{is_error}
 use Rattle.xs_keys.specs.Reply.{shown_by, new_part, parts, array_or_null}

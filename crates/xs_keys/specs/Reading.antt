@@ -1,7 +1,7 @@
 -- What the contracts of reads of groups say within the code.
 use Rattle.std.specs.Prelude.{◌≡◌, ℕ, List, [], ◌∷◌, ◌++◌, length, Some}
 use Rattle.std.specs.List.{flat_map}
-use Rattle.xs_resp.specs.declared.token.Token.{Token}
+use Rattle.xs_resp.specs.Token.{Token}
 use Rattle.xs_resp.specs.ReplyItems.{tokens_of}
 use Rattle.xs_group.specs.declared.delivery.Delivery.{Delivery}
 use Rattle.xs_group.specs.Delivered.{IsMade}

@@ -6,87 +6,61 @@ ghost use Rattle.xs_resp.specs.ReplyItems.{tokens_of};
 ghost use Rattle.xs_keys.specs.Reply.{array, field_replies, id_reply, entry_reply, present_reply, entries_reply};
 
 use std::alloc::{AllocError, Global};
-use xs_bytes::Bytes;
-use xs_resp::{Replies, Reply, Token};
+use xs_resp::{Replies, Reply, Tokens};
 use xs_stream::{Entry, Id, PackedFields, Stream};
 
 /// How many tokens an entry with one field has.
 pub const ENTRY_TOKENS: usize = 5;
 
 /// Appends an id.
-pub fn push_id(tokens: &mut Vec<Token>, alloc: Global, id: Id) -> Result<(), AllocError>
-    ensures { OnOk result (tokens.new.items ≡ tokens.old.items ++ tokens_of (id_reply id)) }
+pub fn push_id(tokens: &mut Tokens, alloc: Global, id: Id) -> Result<(), AllocError>
+    ensures { OnOk result (tokens.new ≡ tokens.old ++ tokens_of (id_reply id)) }
 {
     let text = id.text(alloc)?;
-    tokens.push(Token::Bulk(text))?;
-    Ok(())
-}
-
-/// Appends a string.
-pub fn push_bytes(tokens: &mut Vec<Token>, alloc: Global, bytes: &[u8]) -> Result<(), AllocError>
-    ensures { OnOk result (tokens.new.items ≡ tokens.old.items ++ tokens_of (Reply.Bulk bytes.now)) }
-{
-    let bytes = Bytes::from_slice(alloc, bytes)?;
-    tokens.push(Token::Bulk(bytes))?;
-    Ok(())
+    tokens.push_bulk(text.as_slice())
 }
 
 /// Appends the names and values of fields in turn.
-fn push_fields(
-    tokens: &mut Vec<Token>,
-    alloc: Global,
-    fields: PackedFields<'_>,
-) -> Result<(), AllocError>
-    ensures { OnOk result (tokens.new.items ≡ tokens.old.items
+fn push_fields(tokens: &mut Tokens, fields: PackedFields<'_>) -> Result<(), AllocError>
+    ensures { OnOk result (tokens.new ≡ tokens.old
         ++ tokens_of (array (flat_map field_replies fields.entry))) }
 {
     let Some(count) = (fields.count_left() as usize).checked_mul(2) else {
         return Err(AllocError);
     };
-    tokens.push(Token::Array(count))?;
+    tokens.push_array(count)?;
     for field in fields {
-        push_bytes(tokens, alloc, field.name())?;
-        push_bytes(tokens, alloc, field.value())?;
+        tokens.push_bulk(field.name())?;
+        tokens.push_bulk(field.value())?;
     }
     Ok(())
 }
 
 /// Appends an entry: its id, and its fields, or the null array where it isn't in the stream.
-fn push_entry(
-    tokens: &mut Vec<Token>,
-    alloc: Global,
-    stream: &Stream,
-    id: Id,
-) -> Result<(), AllocError>
-    ensures { OnOk result (tokens.new.items ≡ tokens.old.items ++ tokens_of (entry_reply stream.now.entries id)) }
+fn push_entry(tokens: &mut Tokens, alloc: Global, stream: &Stream, id: Id) -> Result<(), AllocError>
+    ensures { OnOk result (tokens.new ≡ tokens.old ++ tokens_of (entry_reply stream.now.entries id)) }
 {
-    tokens.push(Token::Array(2))?;
+    tokens.push_array(2)?;
     push_id(tokens, alloc, id)?;
     match stream.get(id) {
-        Some(fields) => push_fields(tokens, alloc, fields)?,
-        None => tokens.push(Token::NullArray)?,
+        Some(fields) => push_fields(tokens, fields),
+        None => tokens.push_null_array(),
     }
-    Ok(())
 }
 
 /// Appends an entry that its stream lends.
-pub fn push_present(
-    tokens: &mut Vec<Token>,
-    alloc: Global,
-    entry: &Entry<'_>,
-) -> Result<(), AllocError>
-    ensures { OnOk result (tokens.new.items ≡ tokens.old.items ++ tokens_of (present_reply entry.now)) }
+pub fn push_present(tokens: &mut Tokens, alloc: Global, entry: &Entry<'_>) -> Result<(), AllocError>
+    ensures { OnOk result (tokens.new ≡ tokens.old ++ tokens_of (present_reply entry.now)) }
 {
-    tokens.push(Token::Array(2))?;
+    tokens.push_array(2)?;
     push_id(tokens, alloc, entry.id())?;
-    push_fields(tokens, alloc, entry.fields())?;
-    Ok(())
+    push_fields(tokens, entry.fields())
 }
 
 /// Appends the entry with this id, or its id with the null array. If it stands at this place among entries that are lent,
 /// it isn't looked up.
 pub fn push_along(
-    tokens: &mut Vec<Token>,
+    tokens: &mut Tokens,
     alloc: Global,
     stream: &Stream,
     lent: &[Entry<'_>],
@@ -94,7 +68,7 @@ pub fn push_along(
     id: Id,
 ) -> Result<(), AllocError>
     requires { AreEntriesOf stream.now.entries lent.now }
-    ensures { OnOk result (tokens.new.items ≡ tokens.old.items ++ tokens_of (entry_reply stream.now.entries id)) }
+    ensures { OnOk result (tokens.new ≡ tokens.old ++ tokens_of (entry_reply stream.now.entries id)) }
 {
     if let Some(entry) = lent.get(place) {
         if entry.id() == id {
@@ -106,12 +80,12 @@ pub fn push_along(
 
 /// Appends the entries with these ids.
 pub fn push_entries(
-    tokens: &mut Vec<Token>,
+    tokens: &mut Tokens,
     alloc: Global,
     stream: &Stream,
     ids: &[Id],
 ) -> Result<(), AllocError>
-    ensures { OnOk result (tokens.new.items ≡ tokens.old.items
+    ensures { OnOk result (tokens.new ≡ tokens.old
         ++ flat_map tokens_of (map (entry_reply stream.now.entries) ids.now)) }
 {
     let Some(first) = ids.first() else {
@@ -127,11 +101,11 @@ pub fn push_entries(
 
 /// Appends entries that their stream lends.
 fn push_lent_entries(
-    tokens: &mut Vec<Token>,
+    tokens: &mut Tokens,
     alloc: Global,
     entries: &[Entry<'_>],
 ) -> Result<(), AllocError>
-    ensures { OnOk result (tokens.new.items ≡ tokens.old.items ++ flat_map tokens_of (map present_reply entries.now)) }
+    ensures { OnOk result (tokens.new ≡ tokens.old ++ flat_map tokens_of (map present_reply entries.now)) }
 {
     tokens.reserve(entries.len().saturating_mul(ENTRY_TOKENS))?;
     for entry in entries {
@@ -144,14 +118,14 @@ fn push_lent_entries(
 pub fn lent_entries(alloc: Global, entries: &[Entry<'_>]) -> Result<Reply, AllocError>
     ensures { IfOk result (λ reply. reply ≡ array (map present_reply entries.now)) }
 {
-    let mut tokens = Vec::new(alloc);
+    let mut tokens = Tokens::new(alloc);
     push_lent_entries(&mut tokens, alloc, entries)?;
     Ok(Reply::Array(Replies::new(entries.len(), tokens)))
 }
 
 /// Appends these ids.
-pub fn push_ids(tokens: &mut Vec<Token>, alloc: Global, ids: &[Id]) -> Result<(), AllocError>
-    ensures { OnOk result (tokens.new.items ≡ tokens.old.items ++ flat_map tokens_of (map id_reply ids.now)) }
+pub fn push_ids(tokens: &mut Tokens, alloc: Global, ids: &[Id]) -> Result<(), AllocError>
+    ensures { OnOk result (tokens.new ≡ tokens.old ++ flat_map tokens_of (map id_reply ids.now)) }
 {
     tokens.reserve(ids.len())?;
     for id in ids {
@@ -164,7 +138,7 @@ pub fn push_ids(tokens: &mut Vec<Token>, alloc: Global, ids: &[Id]) -> Result<()
 pub fn entries_shown(alloc: Global, stream: &Stream, ids: &[Id]) -> Result<Reply, AllocError>
     ensures { IfOk result (λ reply. reply ≡ entries_reply stream.now.entries ids.now) }
 {
-    let mut tokens = Vec::new(alloc);
+    let mut tokens = Tokens::new(alloc);
     push_entries(&mut tokens, alloc, stream, ids)?;
     Ok(Reply::Array(Replies::new(ids.len(), tokens)))
 }

@@ -14,32 +14,32 @@ use crate::showing::{push_entries, push_id, push_ids};
 use std::alloc::{AllocError, Global};
 use xs_command::{AutoClaimCommand, Command};
 use xs_group::{Group, Scan};
-use xs_resp::{Fault, Replies, Reply, Token};
+use xs_resp::{Fault, Replies, Reply, Tokens};
 use xs_stream::{Id, Moment, Stream};
 
 /// Appends an array of these ids.
-fn push_id_array(tokens: &mut Vec<Token>, alloc: Global, ids: &[Id]) -> Result<(), AllocError>
-    ensures { OnOk result (tokens.new.items ≡ tokens.old.items ++ tokens_of (array (map id_reply ids.now))) }
+fn push_id_array(tokens: &mut Tokens, alloc: Global, ids: &[Id]) -> Result<(), AllocError>
+    ensures { OnOk result (tokens.new ≡ tokens.old ++ tokens_of (array (map id_reply ids.now))) }
 {
-    tokens.push(Token::Array(ids.len()))?;
+    tokens.push_array(ids.len())?;
     push_ids(tokens, alloc, ids)
 }
 
 /// Appends the array of the entries that a claim took, or of their ids alone.
 fn push_taken(
-    tokens: &mut Vec<Token>,
+    tokens: &mut Tokens,
     alloc: Global,
     stream: &Stream,
     just_id: bool,
     ids: &[Id],
 ) -> Result<(), AllocError>
-    ensures { OnOk result (tokens.new.items ≡ tokens.old.items
+    ensures { OnOk result (tokens.new ≡ tokens.old
         ++ tokens_of (taken_reply just_id stream.now.entries ids.now)) }
 {
     if just_id {
         return push_id_array(tokens, alloc, ids);
     }
-    tokens.push(Token::Array(ids.len()))?;
+    tokens.push_array(ids.len())?;
     push_entries(tokens, alloc, stream, ids)
 }
 
@@ -52,7 +52,7 @@ fn scan_shown(
 ) -> Result<Reply, AllocError>
     ensures { IfOk result (λ reply. reply ≡ scan_shown just_id stream.now.entries scan.now) }
 {
-    let mut tokens = Vec::new(alloc);
+    let mut tokens = Tokens::new(alloc);
     push_id(&mut tokens, alloc, scan.cursor)?;
     push_taken(
         &mut tokens,

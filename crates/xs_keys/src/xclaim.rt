@@ -13,14 +13,14 @@ use crate::showing::{entries_shown, push_ids};
 use std::alloc::{AllocError, Global};
 use xs_command::{ClaimCommand, Command};
 use xs_group::Group;
-use xs_resp::{Fault, Replies, Reply};
+use xs_resp::{Fault, Replies, Reply, Tokens};
 use xs_stream::{Id, Moment, Stream};
 
 /// These ids.
 fn ids_shown(alloc: Global, ids: &[Id]) -> Result<Reply, AllocError>
     ensures { IfOk result (λ reply. reply ≡ array (map id_reply ids.now)) }
 {
-    let mut tokens = Vec::new(alloc);
+    let mut tokens = Tokens::new(alloc);
     push_ids(&mut tokens, alloc, ids)?;
     Ok(Reply::Array(Replies::new(ids.len(), tokens)))
 }

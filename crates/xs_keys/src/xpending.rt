@@ -1,5 +1,6 @@
 //! XPENDING.
 ghost use Rattle.std.specs.Prelude.{◌≡◌, ◌++◌, map, IfOk, OnOk};
+ghost use Rattle.std.specs.List.{flat_map};
 ghost use Rattle.std.specs.Option.{option_map_or};
 ghost use Rattle.xs_group.specs.Report as report;
 ghost use Rattle.xs_resp.specs.ReplyItems.{tokens_of};
@@ -13,7 +14,7 @@ use std::alloc::{AllocError, Global};
 use xs_bytes::{Bytes, decimal_text};
 use xs_command::{Command, PendingRowsCommand};
 use xs_group::{Group, GroupSummary, OwnerCount, PendingRow};
-use xs_resp::{Fault, Replies, Reply, Token};
+use xs_resp::{Fault, Replies, Reply, Tokens};
 use xs_stream::{Id, Moment};
 
 /// How many tokens the short form has beside its consumers.
@@ -26,42 +27,40 @@ const OWNER_TOKENS: usize = 3;
 const ROW_TOKENS: usize = 5;
 
 /// Appends an id, or the null string where there is none.
-fn push_id_or_null(tokens: &mut Vec<Token>, alloc: Global, id: Option<Id>) -> Result<(), AllocError>
-    ensures { OnOk result (tokens.new.items ≡ tokens.old.items
+fn push_id_or_null(tokens: &mut Tokens, alloc: Global, id: Option<Id>) -> Result<(), AllocError>
+    ensures { OnOk result (tokens.new ≡ tokens.old
         ++ tokens_of (option_map_or id_reply id Reply.NullBulk)) }
 {
     match id {
-        Some(id) => push_id(tokens, alloc, id)?,
-        None => tokens.push(Token::NullBulk)?,
+        Some(id) => push_id(tokens, alloc, id),
+        None => tokens.push_null_bulk(),
     }
-    Ok(())
 }
 
 /// Appends a consumer and its count.
-fn push_owner(tokens: &mut Vec<Token>, alloc: Global, owner: OwnerCount) -> Result<(), AllocError>
-    ensures { OnOk result (tokens.new.items ≡ tokens.old.items ++ tokens_of (owner_reply owner)) }
+fn push_owner(tokens: &mut Tokens, alloc: Global, owner: OwnerCount) -> Result<(), AllocError>
+    ensures { OnOk result (tokens.new ≡ tokens.old ++ tokens_of (owner_reply owner)) }
 {
     let OwnerCount { consumer, count } = owner;
-    tokens.push(Token::Array(2))?;
-    tokens.push(Token::Bulk(consumer))?;
-    tokens.push(Token::Bulk(decimal_text(alloc, count)?))?;
-    Ok(())
+    tokens.push_array(2)?;
+    tokens.push_bulk(consumer.as_slice())?;
+    let count = decimal_text(alloc, count)?;
+    tokens.push_bulk(count.as_slice())
 }
 
 /// Appends consumers with their counts.
 fn push_owners(
-    tokens: &mut Vec<Token>,
+    tokens: &mut Tokens,
     alloc: Global,
     owners: Vec<OwnerCount>,
 ) -> Result<(), AllocError>
-    ensures { OnOk result (tokens.new.items ≡ tokens.old.items
+    ensures { OnOk result (tokens.new ≡ tokens.old
         ++ tokens_of (array_or_null (map owner_reply owners.items))) }
 {
     if owners.is_empty() {
-        tokens.push(Token::NullArray)?;
-        return Ok(());
+        return tokens.push_null_array();
     }
-    tokens.push(Token::Array(owners.len()))?;
+    tokens.push_array(owners.len())?;
     for owner in owners {
         push_owner(tokens, alloc, owner)?;
     }
@@ -77,8 +76,8 @@ fn summary_shown(alloc: Global, summary: GroupSummary) -> Result<Reply, AllocErr
         .len()
         .saturating_mul(OWNER_TOKENS)
         .saturating_add(SUMMARY_TOKENS);
-    let mut tokens = Vec::with_capacity(alloc, room)?;
-    tokens.push(Token::Int(summary.total))?;
+    let mut tokens = Tokens::with_capacity(alloc, room)?;
+    tokens.push_int(summary.total)?;
     push_id_or_null(&mut tokens, alloc, summary.least)?;
     push_id_or_null(&mut tokens, alloc, summary.greatest)?;
     push_owners(&mut tokens, alloc, owners)?;
@@ -86,14 +85,23 @@ fn summary_shown(alloc: Global, summary: GroupSummary) -> Result<Reply, AllocErr
 }
 
 /// Appends a row of the long form.
-fn push_row(tokens: &mut Vec<Token>, alloc: Global, row: PendingRow) -> Result<(), AllocError>
-    ensures { OnOk result (tokens.new.items ≡ tokens.old.items ++ tokens_of (row_reply row)) }
+fn push_row(tokens: &mut Tokens, alloc: Global, row: PendingRow) -> Result<(), AllocError>
+    ensures { OnOk result (tokens.new ≡ tokens.old ++ tokens_of (row_reply row)) }
 {
-    tokens.push(Token::Array(4))?;
+    tokens.push_array(4)?;
     push_id(tokens, alloc, row.id)?;
-    tokens.push(Token::Bulk(row.consumer))?;
-    tokens.push(Token::Int(row.idle))?;
-    tokens.push(Token::Int(row.count))?;
+    tokens.push_bulk(row.consumer.as_slice())?;
+    tokens.push_int(row.idle)?;
+    tokens.push_int(row.count)
+}
+
+/// Appends rows of the long form.
+fn push_rows(tokens: &mut Tokens, alloc: Global, rows: Vec<PendingRow>) -> Result<(), AllocError>
+    ensures { OnOk result (tokens.new ≡ tokens.old ++ flat_map tokens_of (map row_reply rows.items)) }
+{
+    for row in rows {
+        push_row(tokens, alloc, row)?;
+    }
     Ok(())
 }
 
@@ -102,10 +110,8 @@ fn rows_shown(alloc: Global, rows: Vec<PendingRow>) -> Result<Reply, AllocError>
     ensures { IfOk result (λ reply. reply ≡ array (map row_reply rows.items)) }
 {
     let count = rows.len();
-    let mut tokens = Vec::with_capacity(alloc, count.saturating_mul(ROW_TOKENS))?;
-    for row in rows {
-        push_row(&mut tokens, alloc, row)?;
-    }
+    let mut tokens = Tokens::with_capacity(alloc, count.saturating_mul(ROW_TOKENS))?;
+    push_rows(&mut tokens, alloc, rows)?;
     Ok(Reply::Array(Replies::new(count, tokens)))
 }
 

@@ -9,7 +9,7 @@ use crate::keys::Keys;
 use crate::showing::lent_entries;
 use std::alloc::{AllocError, Global};
 use xs_command::{Command, ScanCommand};
-use xs_resp::{Fault, Replies, Reply};
+use xs_resp::{Fault, Replies, Reply, Tokens};
 use xs_stream::Stream;
 
 /// The entries of a range of a stream.
@@ -29,7 +29,7 @@ pub fn range(keys: &Keys, alloc: Global, command: &ScanCommand) -> Reply
         StepAtAnyTime old (Command.Scan command.now) result old }
 {
     let Some(slot) = keys.get(&command.key) else {
-        return Reply::Array(Replies::new(0, Vec::new(alloc)));
+        return Reply::Array(Replies::new(0, Tokens::new(alloc)));
     };
     match range_shown(alloc, &slot.stream, command) {
         Ok(reply) => reply,

@@ -16,12 +16,12 @@ ghost use Rattle.xs_keys.specs.Reading.{IsMadeAt, AreMade};
 ghost use Rattle.xs_keys.specs.Step.{Step};
 
 use crate::keys::{Groups, Keys, group_at};
-use crate::showing::{ENTRY_TOKENS, push_along, push_bytes};
+use crate::showing::{ENTRY_TOKENS, push_along};
 use std::alloc::{AllocError, Global};
 use xs_bytes::Bytes;
 use xs_command::{Command, ReadFrom, ReadGroupCommand, ReadOne};
 use xs_group::{Delivery, DeliveryRow, Group};
-use xs_resp::{Fault, Replies, Reply, Token};
+use xs_resp::{Fault, Replies, Reply, Tokens};
 use xs_stream::{Moment, Stream};
 
 /// A read of one group: what takes it back, and how many parts of the reply it has, none or one.
@@ -55,12 +55,12 @@ fn read_group(
 
 /// Appends the entries of these rows.
 fn push_rows(
-    tokens: &mut Vec<Token>,
+    tokens: &mut Tokens,
     alloc: Global,
     stream: &Stream,
     rows: &[DeliveryRow],
 ) -> Result<(), AllocError>
-    ensures { OnOk result (tokens.new.items ≡ tokens.old.items
+    ensures { OnOk result (tokens.new ≡ tokens.old
         ++ flat_map tokens_of (map (entry_reply stream.now.entries) (row_ids rows.now))) }
 {
     let Some(first) = rows.first() else {
@@ -76,24 +76,24 @@ fn push_rows(
 
 /// Appends a key, and the entries of these rows.
 fn push_stream(
-    tokens: &mut Vec<Token>,
+    tokens: &mut Tokens,
     alloc: Global,
     stream: &Stream,
     key: &Bytes,
     rows: &[DeliveryRow],
 ) -> Result<(), AllocError>
-    ensures { OnOk result (tokens.new.items ≡ tokens.old.items
+    ensures { OnOk result (tokens.new ≡ tokens.old
         ++ tokens_of (part key.now stream.now.entries (row_ids rows.now))) }
 {
-    tokens.push(Token::Array(2))?;
-    push_bytes(tokens, alloc, key.as_slice())?;
-    tokens.push(Token::Array(rows.len()))?;
+    tokens.push_array(2)?;
+    tokens.push_bulk(key.as_slice())?;
+    tokens.push_array(rows.len())?;
     push_rows(tokens, alloc, stream, rows)
 }
 
 /// Appends a read's part of the reply, and says how many parts that is: nothing new has none.
 fn push_part(
-    tokens: &mut Vec<Token>,
+    tokens: &mut Tokens,
     alloc: Global,
     stream: &Stream,
     key: &Bytes,
@@ -101,7 +101,7 @@ fn push_part(
     rows: &[DeliveryRow],
 ) -> Result<usize, AllocError>
     ensures { let shown = part_of from key.now stream.now.entries (row_ids rows.now) in
-        IfOk result (λ parts. IsShown shown parts tokens.old.items tokens.new.items) }
+        IfOk result (λ parts. IsShown shown parts tokens.old tokens.new) }
 {
     match from {
         ReadFrom::New => {
@@ -123,10 +123,10 @@ fn serve(
     now: Moment,
     read: &ReadGroupCommand,
     one: &ReadOne,
-    tokens: &mut Vec<Token>,
+    tokens: &mut Tokens,
 ) -> Result<Served, AllocError>
     ensures ok { IfOk result
-        (IsServed stream.now.entries now read.now one.now group.old group.new tokens.old.items tokens.new.items) }
+        (IsServed stream.now.entries now read.now one.now group.old group.new tokens.old tokens.new) }
     ensures err { OnErr result (group.new ≡ group.old) }
 {
     let delivery = read_group(group, alloc, stream, now, read, one.from)?;
@@ -154,13 +154,13 @@ fn serve_in(
     now: Moment,
     read: &ReadGroupCommand,
     one: &ReadOne,
-    tokens: &mut Vec<Token>,
+    tokens: &mut Tokens,
 ) -> Result<Served, AllocError>
     requires { is_some (finmap.get (groups_of groups.old.entries) read.now.group) ≡ true }
     ensures ok { let before = groups_of groups.old.entries in
         let after = groups_of groups.new.entries in
         IfOk result
-        (IsServedIn stream.now.entries now read.now one.now before after tokens.old.items tokens.new.items) }
+        (IsServedIn stream.now.entries now read.now one.now before after tokens.old tokens.new) }
     ensures err { OnErr result (groups_of groups.new.entries ≡ groups_of groups.old.entries) }
 {
     match groups.get_mut(&read.group) {
@@ -176,12 +176,12 @@ fn serve_at(
     now: Moment,
     read: &ReadGroupCommand,
     one: &ReadOne,
-    tokens: &mut Vec<Token>,
+    tokens: &mut Tokens,
 ) -> Result<Served, AllocError>
     requires { is_some (group_in (finmap.get (content_of keys.old.entries) one.now.key) read.now.group) ≡ true }
     ensures ok { let before = content_of keys.old.entries in
         let after = content_of keys.new.entries in
-        IfOk result (IsServedAt now read.now one.now before after tokens.old.items tokens.new.items) }
+        IfOk result (IsServedAt now read.now one.now before after tokens.old tokens.new) }
     ensures err { OnErr result (content_of keys.new.entries ≡ content_of keys.old.entries) }
 {
     match keys.get_mut(&one.key) {
@@ -250,7 +250,7 @@ fn serve_all(
 {
     let reads = read.reads.as_slice();
     let mut deliveries = Vec::with_capacity(alloc, reads.len())?;
-    let mut tokens = Vec::new(alloc);
+    let mut tokens = Tokens::new(alloc);
     let mut parts = 0usize;
     for one in reads {
         match serve_at(keys, alloc, now, read, one, &mut tokens) {

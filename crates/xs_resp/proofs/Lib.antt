@@ -1,4 +1,7 @@
+pub mod Marks
+pub mod Wholeness
 pub mod Replying
+pub mod TwoDigits
 pub mod Reading
 pub mod Outcomes
 pub mod Keeping

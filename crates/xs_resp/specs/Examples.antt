@@ -10,6 +10,8 @@ use Rattle.xs_resp.specs.declared.reply.Reply.{Reply}
 use Rattle.xs_resp.specs.declared.reply.Reply.TheVariants.{Simple, Error, Int, Bulk, NullBulk, Array, NullArray}
 use Rattle.xs_resp.specs.ReplyItems.{items_of}
 use Rattle.xs_resp.specs.ReplyText.{text}
+use Rattle.xs_resp.specs.Token as token
+use Rattle.xs_resp.specs.Whole.{AreItems}
 
 -- the bytes of a text in which `^` stands for the end of a line, CR LF
 abbrev pub wire : List ℕ → List ℕ
@@ -56,3 +58,13 @@ pub record FaultTexts : Type 0 where
   pub unsupported : text (Error Unsupported) ≡ wire (codes "-ERR not supported by this server^")
   pub memory : text (Error Memory) ≡ wire (codes "-OOM out of memory^")
   pub protocol : text (Error Protocol) ≡ wire (codes "-ERR Protocol error^")
+
+-- Which tokens are whole items.
+pub record Wholeness : Type 0 where
+  pub none : AreItems 0 []
+  pub an_array : AreItems 1 (token.Array 2 ∷ token.Int 1 ∷ token.Int 2 ∷ [])
+  pub arrays_in_arrays : AreItems 2 (token.Array 1 ∷ token.Array 1 ∷ token.Int 1 ∷ token.NullArray ∷ [])
+  pub three_of_none : AreItems 3 [] → ⊥
+  pub one_too_many : AreItems 2 (token.Int 1 ∷ []) → ⊥
+  pub one_too_few : AreItems 1 (token.Int 1 ∷ token.Int 2 ∷ []) → ⊥
+  pub an_inner_one_too_many : AreItems 1 (token.Array 2 ∷ token.Int 1 ∷ []) → ⊥

@@ -1,6 +1,6 @@
 -- The items of an array as contracts see them: in the order in which they are written, without nesting.
 use Rattle.std.specs.Prelude.{ℕ, List}
-use Rattle.xs_resp.specs.declared.token.Token.{Token}
+use Rattle.xs_resp.specs.Token.{Token}
 
 -- the items of an array: how many they are, and their tokens in turn
 pub record Items : Type 0 where

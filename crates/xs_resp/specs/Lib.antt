@@ -1,6 +1,10 @@
 pub mod FaultText
+pub mod Token
 pub mod Items
+pub mod Whole
+pub mod Marks
 pub mod ReplyItems
+pub mod WholeReplies
 pub mod ReplyText
 pub mod Outcome
 pub mod Part

@@ -3,12 +3,11 @@ use Rattle.std.specs.Prelude.{List, [], ◌∷◌, length}
 use Rattle.std.specs.List.{flat_map}
 use Rattle.xs_resp.specs.declared.reply.Reply.{Reply}
 use Rattle.xs_resp.specs.declared.reply.Reply.TheVariants.{Simple, Error, Int, Bulk, NullBulk, Array, NullArray}
-use Rattle.xs_resp.specs.declared.token.Token.{Token}
-use Rattle.xs_resp.specs.declared.token.Token.TheVariants as token
+use Rattle.xs_resp.specs.Token as token
 use Rattle.xs_resp.specs.Items.{Items}
 
 -- the tokens of a reply: of an array its header, and then the tokens of its items
-abbrev pub tokens_of : Reply → List Token
+abbrev pub tokens_of : Reply → List token.Token
 tokens_of (Simple s) = token.Simple s ∷ []
 tokens_of (Error f) = token.Error f ∷ []
 tokens_of (Int n) = token.Int n ∷ []

@@ -7,8 +7,7 @@ use Rattle.xs_resp.specs.declared.reply.Simple.TheVariants.{Okay, Pong}
 use Rattle.xs_resp.specs.declared.reply.Reply.{Reply}
 use Rattle.xs_resp.specs.FaultText.{fault_text}
 use Rattle.xs_resp.specs.Line.{crlf, line}
-use Rattle.xs_resp.specs.declared.token.Token.{Token}
-use Rattle.xs_resp.specs.declared.token.Token.TheVariants.{Simple, Error, Int, Bulk, NullBulk, Array, NullArray}
+use Rattle.xs_resp.specs.Token.{Token, Simple, Error, Int, Bulk, NullBulk, Array, NullArray}
 use Rattle.xs_resp.specs.ReplyItems.{tokens_of}
 
 -- what a simple string says

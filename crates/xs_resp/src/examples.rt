@@ -1,5 +1,5 @@
 //! Examples of what the definitions say, with values from outside.
-ghost use Rattle.xs_resp.specs.Examples.{Replies, FaultTexts};
+ghost use Rattle.xs_resp.specs.Examples.{Replies, FaultTexts, Wholeness};
 ghost use Rattle.xs_resp.specs.ExamplesRequests.{Requests, Undecided, Faults, Reader};
 ghost use Rattle.xs_resp.specs.ExamplesSpelling.{Spellings, Spelled, FaultKinds, Pieces, Stays};
 
@@ -11,6 +11,11 @@ pub fn replies()
 /// The texts of errors.
 pub fn fault_texts()
     ensures { FaultTexts }
+{}
+
+/// Which tokens are whole items.
+pub fn wholeness()
+    ensures { Wholeness }
 {}
 
 /// Bytes that are a request.

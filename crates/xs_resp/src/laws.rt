@@ -3,7 +3,10 @@ ghost use Rattle.std.specs.Prelude.{◌≡◌, ◌≤◌, ◌↔◌, ℕ, List, 
 ghost use Rattle.std.specs.List.{flat_map, concat};
 ghost use Rattle.xs_resp.specs.declared.reply.Reply.{Reply};
 ghost use Rattle.xs_resp.specs.declared.read_fault.Wrong.{Wrong};
+ghost use Rattle.xs_resp.specs.Items.{Items};
 ghost use Rattle.xs_resp.specs.ReplyItems.{items_of};
+ghost use Rattle.xs_resp.specs.Whole.{AreItems};
+ghost use Rattle.xs_resp.specs.WholeReplies.{AreWhole};
 ghost use Rattle.xs_resp.specs.ReplyText.{text};
 ghost use Rattle.xs_resp.specs.Line.{line};
 ghost use Rattle.xs_resp.specs.Outcome.{Keeps};
@@ -16,6 +19,14 @@ ghost use Rattle.xs_resp.specs.Pieces.{Reads, ReadsPieces};
 pub fn array_text()
     ensures { (replies : List Reply) →
         text (Reply.Array (items_of replies)) ≡ line 42 (length replies) ++ flat_map text replies }
+{}
+
+/// The items of whole replies are whole, and whole items are those of some whole replies.
+pub fn whole_items()
+    ensures made { (replies : List Reply) → AreWhole replies →
+        AreItems (items_of replies).count (items_of replies).tokens }
+    ensures found { (items : Items) → AreItems items.count items.tokens →
+        (replies : List Reply) × AreWhole replies × (items ≡ items_of replies) }
 {}
 
 /// A request is read exactly where it is spelled.

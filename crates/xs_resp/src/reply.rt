@@ -2,7 +2,7 @@
 ghost use Rattle.std.specs.Prelude.{◌≡◌, ◌==◌};
 
 use crate::fault::Fault;
-use crate::token::Token;
+use crate::tokens::Tokens;
 use std::marker::Model;
 use xs_bytes::Bytes;
 
@@ -35,42 +35,49 @@ pub enum Reply {
 }
 
 /// The items of an array: how many they are, and their tokens in turn. An item that is an array stands there as
-/// its header and the tokens of its own items, so a reply of many small arrays is one list in memory.
+/// its header and the tokens of its own items, so a reply of many small arrays is one list in memory. The tokens are
+/// always this many items, each of them whole.
 #[derive(Debug, Drop)]
 pub struct Replies {
     count: usize,
-    tokens: Vec<Token>,
+    tokens: Tokens,
 }
 
 impl Model for Replies {
     ghost use Rattle.xs_resp.specs.Items.{Items};
+    ghost use Rattle.xs_resp.specs.Whole.{AreItems};
 
     ghost Value = { Items };
 
-    ghost view = { λ b. record { count = b.count; tokens = b.tokens.items } };
+    ghost view = { λ b. record { count = b.count; tokens = b.tokens } };
+
+    ghost invariant = { λ b. AreItems b.count b.tokens };
 }
 
 impl Replies {
     ghost use Rattle.std.specs.Prelude.{◌≡◌};
+    ghost use Rattle.xs_resp.specs.Whole.{AreItems};
 
     /// So many items, of which these are the tokens. It takes no memory.
-    pub fn new(count: usize, tokens: Vec<Token>) -> Self
-        ensures { result ≡ record { count = count; tokens = tokens.items } }
+    pub fn new(count: usize, tokens: Tokens) -> Self
+        requires { AreItems count tokens }
+        ensures { result ≡ record { count = count; tokens = tokens } }
     {
         Self { count, tokens }
     }
 
     /// How many items there are.
     pub fn count(&self) -> usize
-        ensures { result ≡ self.now.count }
+        ensures value { result ≡ self.now.count }
+        ensures whole { AreItems self.now.count self.now.tokens }
     {
         self.count
     }
 
     /// The tokens of the items, in order.
-    pub fn tokens(&self) -> &[Token]
+    pub fn tokens(&self) -> &Tokens
         ensures { result.now ≡ self.now.tokens }
     {
-        self.tokens.as_slice()
+        &self.tokens
     }
 }

@@ -4,10 +4,11 @@ ghost use Rattle.std.specs.List.{flat_map};
 ghost use Rattle.xs_resp.specs.ReplyText.{text, token_text, simple_text, Writes};
 ghost use Rattle.xs_resp.specs.Line.{line, crlf};
 ghost use Rattle.xs_resp.specs.FaultText.{fault_text};
+ghost use Rattle.xs_resp.specs.Marks.{token_in, tokens_in, strings_length};
 
 use crate::fault::Fault;
+use crate::mark::Mark;
 use crate::reply::{Replies, Reply, Simple};
-use crate::token::Token;
 use std::alloc::AllocError;
 use xs_bytes::push_decimal;
 
@@ -45,23 +46,35 @@ fn write_items(items: &Replies, out: &mut Vec<u8>) -> Result<(), AllocError>
         (line 42 items.now.count ++ flat_map token_text items.now.tokens) }
 {
     write_line(b'*', items.count() as u64, out)?;
-    for token in items.tokens() {
-        write_token(token, out)?;
+    let (marks, strings) = items.tokens().parts();
+    write_tokens(marks, strings, out)
+}
+
+/// Appends tokens, whose strings stand one behind the other.
+fn write_tokens(marks: &[Mark], strings: &[u8], out: &mut Vec<u8>) -> Result<(), AllocError>
+    requires { strings_length marks.now ≡ length strings.now }
+    ensures { Writes result out.old.items out.new.items (flat_map token_text (tokens_in marks.now strings.now)) }
+{
+    let mut rest = strings;
+    for mark in marks {
+        let (string, behind) = rest.split_at(mark.string_length());
+        write_token(*mark, string, out)?;
+        rest = behind;
     }
     Ok(())
 }
 
-fn write_token(token: &Token, out: &mut Vec<u8>) -> Result<(), AllocError>
-    ensures { Writes result out.old.items out.new.items (token_text token.now) }
+fn write_token(mark: Mark, string: &[u8], out: &mut Vec<u8>) -> Result<(), AllocError>
+    ensures { Writes result out.old.items out.new.items (token_text (token_in mark string.now)) }
 {
-    match token {
-        Token::Simple(simple) => write_simple(*simple, out),
-        Token::Error(fault) => write_fault(*fault, out),
-        Token::Int(number) => write_line(b':', *number, out),
-        Token::Bulk(bytes) => write_bulk(bytes.as_slice(), out),
-        Token::NullBulk => out.extend_from_slice(b"$-1\r\n"),
-        Token::Array(count) => write_line(b'*', *count as u64, out),
-        Token::NullArray => out.extend_from_slice(b"*-1\r\n"),
+    match mark {
+        Mark::Simple(simple) => write_simple(simple, out),
+        Mark::Error(fault) => write_fault(fault, out),
+        Mark::Int(number) => write_line(b':', number, out),
+        Mark::Bulk(_) => write_bulk(string, out),
+        Mark::NullBulk => out.extend_from_slice(b"$-1\r\n"),
+        Mark::Array(count) => write_line(b'*', count as u64, out),
+        Mark::NullArray => out.extend_from_slice(b"*-1\r\n"),
     }
 }
 
@@ -72,13 +85,24 @@ fn write_digit(marker: u8, digit: u8, out: &mut Vec<u8>) -> Result<(), AllocErro
     out.extend_from_slice(&[marker, digit, b'\r', b'\n'])
 }
 
+/// Appends a marker, two digits and the end of the line.
+fn write_two_digits(marker: u8, ten: u8, one: u8, out: &mut Vec<u8>) -> Result<(), AllocError>
+    ensures { Writes result out.old.items out.new.items (marker ∷ ten ∷ one ∷ crlf) }
+{
+    out.extend_from_slice(&[marker, ten, one, b'\r', b'\n'])
+}
+
 /// Appends a marker, a number and the end of the line.
 fn write_line(marker: u8, number: u64, out: &mut Vec<u8>) -> Result<(), AllocError>
     ensures { Writes result out.old.items out.new.items (line marker number) }
 {
     if number < 10 {
-        // Most lengths and counts have one digit.
+        // Most lengths and counts have one digit or two.
         return write_digit(marker, b'0' + number as u8, out);
+    }
+    if number < 100 {
+        let number = number as u8;
+        return write_two_digits(marker, b'0' + number / 10, b'0' + number % 10, out);
     }
     out.push(marker)?;
     push_decimal(out, number)?;

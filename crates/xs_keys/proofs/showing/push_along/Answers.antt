@@ -12,4 +12,4 @@ returns-then-eq c =
     let found = c.in-Some.ensures.lookup in
     let is : IsEntryOf entries c.in-Some.entry.now = subst (IsEntryOf entries) (sym found.1) (is-lent entries c.args.lent.now c.args.place c.in-Some.entry.now found.3.0 c.requires) in
     let reply = lent-reply entries c.in-Some.entry.now c.id.result c.args.id is c.id.ensures (sym c.eq.ensures ∙ c.if-eq.true) in
-    subst (λ (r : Reply). OnOk c.push_present.result (c.push_present.new.tokens.items ≡ c.args.tokens.now.items ++ tokens_of r)) reply c.push_present.ensures
+    subst (λ (r : Reply). OnOk c.push_present.result (c.push_present.new.tokens ≡ c.args.tokens.now ++ tokens_of r)) reply c.push_present.ensures

@@ -6,4 +6,4 @@ use Rattle.xs_keys.proofs.showing.push_entries.Given as goal
 
 -- the entries so far
 abbrev pub invariant-loop-place : goal.invariant-loop-place
-invariant-loop-place l = l.tokens.items ≡ l.fn.tokens.items ++ flat_map tokens_of (map (entry_reply l.stream.entries) (take l.place l.ids))
+invariant-loop-place l = l.tokens ≡ l.fn.tokens ++ flat_map tokens_of (map (entry_reply l.stream.entries) (take l.place l.ids))

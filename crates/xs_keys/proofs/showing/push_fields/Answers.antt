@@ -2,8 +2,7 @@ use Rattle.std.proofs.Common.{◌≡◌, ℕ, ◌*◌, ◌∷◌, List, [], leng
 use Rattle.std.proofs.lemmas.List.{append-nil}
 use Rattle.std.specs.List.{flat_map}
 use Rattle.xs_stream.specs.declared.field.Field.{Field}
-use Rattle.xs_resp.specs.declared.token.Token.{Token}
-use Rattle.xs_resp.specs.declared.token.Token.TheVariants.{Array}
+use Rattle.xs_resp.specs.Token.{Token, Array}
 use Rattle.xs_resp.specs.ReplyItems.{tokens_of}
 use Rattle.xs_keys.specs.Ground.{Bulk}
 use Rattle.xs_keys.specs.Reply.{field_replies}
@@ -21,29 +20,29 @@ one-more f fs name value old some new e g h k = rw (k, h, e, g) (simp append_ass
 
 pub loop-field-init : goal.loop-field-init
 loop-field-init c =
-    let tokens = c.push.new.self.items in
+    let tokens = c.push_array.new.self in
     let fields = c.args.fields in (
       tt,
       tt,
       ap (λ (fs : List Field). tokens ++ flat_map tokens_of (flat_map field_replies fs)) c.into_iter-field-iterator.ensures.into_iter_gives
-          ∙ ap (λ ts. ts ++ flat_map tokens_of (flat_map field_replies fields)) c.in_ok-push.ensures.items
-          ∙ append_assoc c.args.tokens.now.items (Array c.in-Some.count ∷ []) (flat_map tokens_of (flat_map field_replies fields)),
+          ∙ ap (λ ts. ts ++ flat_map tokens_of (flat_map field_replies fields)) c.in_ok-push_array.ensures.ok
+          ∙ append_assoc c.args.tokens.now (Array c.in-Some.count ∷ []) (flat_map tokens_of (flat_map field_replies fields)),
     )
 
 pub loop-field-preserved : goal.loop-field-preserved
 loop-field-preserved c =
-    let tokens = c.loop-field.tokens.items in
+    let tokens = c.loop-field.tokens in
     let f = c.in-Some-field.field in (
       tt,
       tt,
-      one-more f c.next.new.self c.name.result.now c.value.result.now tokens c.push_bytes.new.tokens.items c.push_bytes-in-loop-field.new.tokens.items c.name.ensures c.value.ensures c.in_ok-push_bytes.ensures c.in_ok-push_bytes-2.ensures
+      one-more f c.next.new.self c.name.result.now c.value.result.now tokens c.push_bulk.new.self c.push_bulk-in-loop-field.new.self c.name.ensures c.value.ensures c.in_ok-push_bulk.ensures.ok c.in_ok-push_bulk-2.ensures.ok
           ∙ ap (λ (fs : List Field). tokens ++ flat_map tokens_of (flat_map field_replies fs)) (sym c.in-Some-field.ensures.steps) ∙ c.loop-field.invariant.2,
     )
 
 pub returns : goal.returns
 returns c =
-    let tokens = c.loop-field.tokens.items in
+    let tokens = c.loop-field.tokens in
     let fields = c.args.fields in
     let count : c.in-Some.count ≡ length (flat_map field_replies fields) = omega (arith, two-each fields, c.in-Some.ensures, c.count_left.ensures) in
     sym (append-nil tokens) ∙ ap (λ (fs : List Field). tokens ++ flat_map tokens_of (flat_map field_replies fs)) (sym c.in-None.ensures.steps.0) ∙ c.loop-field.invariant.2
-    ∙ ap (λ (n : ℕ). c.args.tokens.now.items ++ (Array n ∷ flat_map tokens_of (flat_map field_replies fields))) count
+    ∙ ap (λ (n : ℕ). c.args.tokens.now ++ (Array n ∷ flat_map tokens_of (flat_map field_replies fields))) count

@@ -1,7 +1,7 @@
 use Rattle.std.proofs.Common.{◌≡◌, ◌++◌, ◌∷◌}
 use Rattle.std.specs.List.{flat_map}
 use Rattle.xs_resp.specs.ReplyItems.{tokens_of}
-use Rattle.xs_resp.specs.declared.token.Token.TheVariants.{Array}
+use Rattle.xs_resp.specs.Token.{Array}
 use Rattle.xs_keys.specs.Reply.{field_replies}
 use Rattle.xs_keys.proofs.showing.push_fields.Given as goal
 
@@ -9,4 +9,4 @@ use Rattle.xs_keys.proofs.showing.push_fields.Given as goal
 abbrev pub invariant-loop-field : goal.invariant-loop-field
 invariant-loop-field l =
     (goal.iterator-loop-field).can_next l.field-iterator × (goal.iterator-loop-field).is_finite l.field-iterator
-    × (l.tokens.items ++ flat_map tokens_of (flat_map field_replies l.field-iterator) ≡ l.fn.tokens.items ++ (Array l.count ∷ flat_map tokens_of (flat_map field_replies l.fn.fields)))
+    × (l.tokens ++ flat_map tokens_of (flat_map field_replies l.field-iterator) ≡ l.fn.tokens ++ (Array l.count ∷ flat_map tokens_of (flat_map field_replies l.fn.fields)))

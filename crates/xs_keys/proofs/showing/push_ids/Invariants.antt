@@ -6,4 +6,4 @@ use Rattle.xs_keys.proofs.showing.push_ids.Given as goal
 
 -- the ids so far
 abbrev pub invariant-loop-id : goal.invariant-loop-id
-invariant-loop-id l = l.tokens.items ≡ l.fn.tokens.items ++ flat_map tokens_of (map id_reply (take l.id-index l.ids))
+invariant-loop-id l = l.tokens ≡ l.fn.tokens ++ flat_map tokens_of (map id_reply (take l.id-index l.ids))

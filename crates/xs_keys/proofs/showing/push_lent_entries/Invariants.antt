@@ -6,4 +6,4 @@ use Rattle.xs_keys.proofs.showing.push_lent_entries.Given as goal
 
 -- the entries so far
 abbrev pub invariant-loop-entry : goal.invariant-loop-entry
-invariant-loop-entry l = l.tokens.items ≡ l.fn.tokens.items ++ flat_map tokens_of (map present_reply (take l.entry-index l.entries))
+invariant-loop-entry l = l.tokens ≡ l.fn.tokens ++ flat_map tokens_of (map present_reply (take l.entry-index l.entries))

@@ -3,8 +3,9 @@ use Rattle.std.proofs.Math.Seq.{take-nil}
 use Rattle.xs_stream.specs.declared.range.Range.{Range}
 use Rattle.xs_stream.specs.Kept.{limited, ids_within}
 use Rattle.xs_resp.specs.declared.reply.Reply.TheVariants.{Array}
-use Rattle.xs_resp.specs.declared.token.Token.{Token}
+use Rattle.xs_resp.specs.Token.{Token}
 use Rattle.xs_resp.specs.Items.{Items}
+use Rattle.xs_resp.proofs.Wholeness.{filled}
 use Rattle.xs_keys.specs.Content.{Key}
 use Rattle.xs_keys.specs.Codes.{groups_of}
 use Rattle.xs_keys.proofs.AskSteps.{no-key, key-found}
@@ -20,13 +21,16 @@ none (Some n) range false = take-nil n
 none_with : List Token → Items
 none_with tokens = record { count = 0; tokens = tokens }
 
+pub new-requires-in_default : goal.new-requires-in_default
+new-requires-in_default c = filled [] 0 [] c.new.result tt refl refl c.new.ensures
+
 pub returns-in_default : goal.returns-in_default
 unfolding none_with
 returns-in_default c = λ now.
     let command = c.args.command.now in
     let missing = no-key c.args.keys.now command.key c.in_default.ensures.value in
     inl (record {
-      answer_is = rw (missing, none command.limit command.range command.reversed) (ap Array (c.new-in_default.ensures ∙ ap none_with c.new.ensures.items));
+      answer_is = rw (missing, none command.limit command.range command.reversed) (ap Array (c.new-in_default.ensures ∙ ap none_with c.new.ensures));
       content_is = refl;
     })
 

@@ -1,13 +1,16 @@
-use Rattle.std.proofs.Common.{◌≡◌, ◌<◌, ◌∷◌, ◌++◌, ◌∙◌, ◌+◌, true, drop, length, get_or, is_some, is_ok, sym, ap, refl, arith}
+use Rattle.std.proofs.Common.{◌≡◌, ◌<◌, [], ◌∷◌, ◌++◌, ◌∙◌, ◌+◌, true, drop, length, get_or, is_some, is_ok, sym, ap, refl, arith}
 use Rattle.std.specs.List.{flat_map, list_all}
-use Rattle.std.proofs.lemmas.List.{drop_more}
+use Rattle.std.proofs.lemmas.List.{drop_more, append-nil}
+use Rattle.std.proofs.Math.ListN.{drop_of_length-le}
 use Rattle.xs_bytes.specs.SortedMap.{get}
 use Rattle.xs_command.specs.declared.command.ReadOne.{ReadOne}
 use Rattle.xs_resp.specs.ReplyItems.{tokens_of}
+use Rattle.xs_resp.proofs.Wholeness.{filled}
 use Rattle.xs_keys.specs.Content.{group_in, read_each}
 use Rattle.xs_keys.specs.Codes.{content_of}
 use Rattle.xs_keys.specs.Reply.{parts}
 use Rattle.xs_keys.proofs.ReadSteps.{first-there, content-more, tokens-more, count-more, parts-le, there-more, made-push, served-made}
+use Rattle.xs_keys.proofs.WholeReplies.{parts-whole}
 use Rattle.xs_keys.proofs.xreadgroup.serve_all.Goals as goal
 use Rattle.xs_keys.proofs.xreadgroup.serve_all.Goals.{After-one-item}
 
@@ -18,7 +21,7 @@ next c = drop_more c.as_slice-reads.result.now c.loop-one.one-index c.one-item.r
 pub loop-one-init : goal.loop-one-init
 loop-one-init c = record {
   content = refl;
-  shown = rw c.new-tokens.ensures.items refl;
+  shown = rw c.new-tokens.ensures refl;
   counted = omega arith;
   there = ap (list_all (λ (one : ReadOne). is_some (group_in (get (content_of c.args.keys.now.entries) one.key) c.args.read.now.group))) c.as_slice-reads.ensures ∙ c.requires;
   made = rw c.in_ok-deliveries.ensures.items refl;
@@ -44,8 +47,8 @@ loop-one-preserved c =
     let before = content_of c.loop-one.keys.entries in
     let after = content_of c.serve_at.new.keys.entries in
     let one = c.one-item.result in
-    let tokens = c.loop-one.tokens.items in
-    let longer = c.serve_at.new.tokens.items in
+    let tokens = c.loop-one.tokens in
+    let longer = c.serve_at.new.tokens in
     let more = drop (c.loop-one.one-index + 1) reads in
     let served = c.in-Ok.served in
     let split = next (goal.at.loop-one-preserved c).After-one-item in
@@ -81,6 +84,19 @@ overflow_add-parts c =
     let before = content_of c.loop-one.keys.entries in
     let more = drop (c.loop-one.one-index + 1) reads in
     let split = next (goal.at.overflow_add-parts c).After-one-item in
-    let counted = count-more now read c.one-item.result more before (content_of c.serve_at.new.keys.entries) c.loop-one.tokens.items c.serve_at.new.tokens.items c.in-Ok.served c.in-Ok.ensures.ok c.loop-one.parts (length (parts first now read reads))
+    let counted = count-more now read c.one-item.result more before (content_of c.serve_at.new.keys.entries) c.loop-one.tokens c.serve_at.new.tokens c.in-Ok.served c.in-Ok.ensures.ok c.loop-one.parts (length (parts first now read reads))
     (ap (λ rest. c.loop-one.parts + length (parts before now read rest)) (sym split) ∙ c.loop-one.invariant.counted) in
     omega (arith, counted, parts-le first now read reads, c.loop-one.invariant.room, c.loop-one.deliveries.small)
+
+pub new-requires : goal.new-requires
+new-requires c =
+    let now = c.args.now in
+    let read = c.args.read.now in
+    let reads = c.as_slice-reads.result.now in
+    let first = content_of c.args.keys.now.entries in
+    let last = content_of c.loop-one.keys.entries in
+    let tokens = c.loop-one.tokens in
+    let none : drop c.loop-one.one-index reads ≡ [] = drop_of_length-le reads c.loop-one-test.false in
+    let counted = ap (λ rest. c.loop-one.parts + length (parts last now read rest)) (sym none) ∙ c.loop-one.invariant.counted in
+    let shown = ap (λ rest. tokens ++ flat_map tokens_of (parts last now read rest)) (sym none) ∙ c.loop-one.invariant.shown in
+    filled (parts first now read reads) c.loop-one.parts [] tokens (parts-whole first now read reads) (omega (arith, counted)) refl (sym (append-nil tokens) ∙ shown)

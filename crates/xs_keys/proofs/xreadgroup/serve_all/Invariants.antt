@@ -12,7 +12,7 @@ use Rattle.xs_keys.proofs.xreadgroup.serve_all.Given as goal
 abbrev pub invariant-loop-one : goal.invariant-loop-one
 invariant-loop-one l = record {
   content : read_each (content_of l.keys.entries) l.now l.read (drop l.one-index l.reads) ≡ read_each (content_of l.initial.keys.entries) l.now l.read l.reads;
-  shown : l.tokens.items ++ flat_map tokens_of (parts (content_of l.keys.entries) l.now l.read (drop l.one-index l.reads)) ≡ flat_map tokens_of (parts (content_of l.initial.keys.entries) l.now l.read l.reads);
+  shown : l.tokens ++ flat_map tokens_of (parts (content_of l.keys.entries) l.now l.read (drop l.one-index l.reads)) ≡ flat_map tokens_of (parts (content_of l.initial.keys.entries) l.now l.read l.reads);
   counted : l.parts + length (parts (content_of l.keys.entries) l.now l.read (drop l.one-index l.reads)) ≡ length (parts (content_of l.initial.keys.entries) l.now l.read l.reads);
   there : list_all (λ one. is_some (group_in (get (content_of l.keys.entries) one.key) l.read.group)) (drop l.one-index l.reads) ≡ true;
   made : AreMade l.read.group l.reads l.deliveries.items (content_of l.initial.keys.entries) (content_of l.keys.entries);

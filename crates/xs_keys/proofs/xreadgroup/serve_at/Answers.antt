@@ -33,8 +33,8 @@ returns-clause-ok c =
     let one = c.args.one.now in
     let key : Key = record { stream = c.slot.inside.stream; groups = groups_of c.slot.inside.groups.entries } in
     let at = (goal.at.returns-clause-ok c).After-serve_in in
-    IfOk-weaker c.serve_in.result (λ served. IsServedIn c.slot.inside.stream.entries c.args.now read one key.groups (groups_of c.serve_in.new.groups.entries) c.args.tokens.now.items c.serve_in.new.tokens.items served)
-    (λ served. IsServedAt c.args.now read one (content_of c.args.keys.now.entries) (content_of (c.get_mut.follows.lender (left at)).entries) c.args.tokens.now.items c.serve_in.new.tokens.items served)
+    IfOk-weaker c.serve_in.result (λ served. IsServedIn c.slot.inside.stream.entries c.args.now read one key.groups (groups_of c.serve_in.new.groups.entries) c.args.tokens.now c.serve_in.new.tokens served)
+    (λ served. IsServedAt c.args.now read one (content_of c.args.keys.now.entries) (content_of (c.get_mut.follows.lender (left at)).entries) c.args.tokens.now c.serve_in.new.tokens served)
     (λ served is. record { key = key; groups = groups_of c.serve_in.new.groups.entries; had = found (goal.at.returns-clause-ok c).After-slot; put = put at; serves = is }) c.serve_in.ensures.ok
 
 pub returns-clause-err : goal.returns-clause-err

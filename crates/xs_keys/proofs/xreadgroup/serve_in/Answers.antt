@@ -25,8 +25,8 @@ returns-clause-ok c =
     let entries = c.args.stream.now.entries in
     let read = c.args.read.now in
     let one = c.args.one.now in
-    IfOk-weaker c.serve.result (λ served. IsServed entries c.args.now read one c.in-Some.group.now c.serve.new.group c.args.tokens.now.items c.serve.new.tokens.items served)
-    (λ served. IsServedIn entries c.args.now read one (groups_of c.args.groups.now.entries) (groups_of (c.get_mut.follows.lender c.serve.new.group).entries) c.args.tokens.now.items c.serve.new.tokens.items served)
+    IfOk-weaker c.serve.result (λ served. IsServed entries c.args.now read one c.in-Some.group.now c.serve.new.group c.args.tokens.now c.serve.new.tokens served)
+    (λ served. IsServedIn entries c.args.now read one (groups_of c.args.groups.now.entries) (groups_of (c.get_mut.follows.lender c.serve.new.group).entries) c.args.tokens.now c.serve.new.tokens served)
     (λ served is. record { was = c.in-Some.group.now; is = c.serve.new.group; had = found (goal.at.returns-clause-ok c).After-serve; put = put (goal.at.returns-clause-ok c).After-serve; serves = is }) c.serve.ensures.ok
 
 pub returns-clause-err : goal.returns-clause-err

@@ -1,0 +1,13 @@
+-- Which replies are whole: no array says that it has more or fewer items than it has.
+use Rattle.std.specs.Prelude.{List, [], ◌∷◌}
+use Rattle.xs_resp.specs.declared.reply.Reply.{Reply}
+use Rattle.xs_resp.specs.declared.reply.Reply.TheVariants.{Array}
+use Rattle.xs_resp.specs.Whole.{AreItems}
+
+abbrev pub IsWhole : Reply → Type 0
+IsWhole (Array items) = AreItems items.count items.tokens
+IsWhole other = Unit {0}
+
+abbrev pub AreWhole : List Reply → Type 0
+AreWhole [] = Unit {0}
+AreWhole (r ∷ rs) = IsWhole r × AreWhole rs
