@@ -6,11 +6,15 @@ ghost use Rattle.std.specs.BTreeMap.{get, insert_entry, is_at, IsOrdered};
 ghost use Rattle.std.specs.List.Sorted.{IsStrictlySortedBy};
 ghost use Rattle.std.specs.Map.{keys_of, lookup, remove_entry};
 ghost use Rattle.xs_maps.specs.Seen.{seen_few};
+ghost use Rattle.std.specs.Range.Bound.{bound_map};
+ghost use Rattle.std_collections.specs.Btree.Order.{past, until};
 ghost use Rattle.std_collections.specs.Layout.BTreeMap.{seek};
+ghost use Rattle.std_collections.specs.Layout.BTreeMapQueries.{after_equal, end_test, span, start_test};
 
 use std::alloc::AllocError;
 use std::cmp::Ordering;
 use std::collections::BTreeMap;
+use std::ops::Bound;
 
 /// A few entries.
 #[derive(Drop)]
@@ -120,6 +124,73 @@ pub(crate) fn remove_few<K: Ord + Drop, V: Drop>(few: &mut Vec<(K, V)>, key: &K)
         }
         Err(_) => None,
     }
+}
+
+/// How the start of a range stands to a key.
+fn start_order<K: Ord>(start: Bound<&K>, key: &K) -> Ordering
+    ensures { result ≡ start_test K.cmp (bound_map (λ x. x.now) start.entry) key.now }
+{
+    match start {
+        Bound::Included(start) => start.cmp(key),
+        Bound::Excluded(start) => after_equal(start.cmp(key)),
+        Bound::Unbounded => Ordering::Less,
+    }
+}
+
+/// How the end of a range stands to a key.
+fn end_order<K: Ord>(end: Bound<&K>, key: &K) -> Ordering
+    ensures { result ≡ end_test K.cmp (bound_map (λ x. x.now) end.entry) key.now }
+{
+    match end {
+        Bound::Included(end) => after_equal(end.cmp(key)),
+        Bound::Excluded(end) => end.cmp(key),
+        Bound::Unbounded => Ordering::Greater,
+    }
+}
+
+/// Passes an equal key, as it does a lesser one.
+fn after_equal(order: Ordering) -> Ordering
+    ensures { result ≡ after_equal order }
+{
+    match order {
+        Ordering::Less => Ordering::Less,
+        Ordering::Equal | Ordering::Greater => Ordering::Greater,
+    }
+}
+
+/// The entries from the start of a range on.
+fn from_start<'a, K: Ord, V>(entries: &'a [(K, V)], start: Bound<&K>) -> &'a [(K, V)]
+    ensures { result.now ≡ past (start_test K.cmp (bound_map (λ x. x.now) start.entry)) entries.now }
+{
+    for (at, entry) in entries.iter().enumerate() {
+        if start_order(start, &entry.0).is_le() {
+            return &entries[at..];
+        }
+    }
+    &[]
+}
+
+/// The entries up to the end of a range.
+fn up_to_end<'a, K: Ord, V>(entries: &'a [(K, V)], end: Bound<&K>) -> &'a [(K, V)]
+    ensures { result.now ≡ until (end_test K.cmp (bound_map (λ x. x.now) end.entry)) entries.now }
+{
+    for (at, entry) in entries.iter().enumerate() {
+        if end_order(end, &entry.0).is_le() {
+            return &entries[..at];
+        }
+    }
+    entries
+}
+
+/// The entries of a range.
+pub(crate) fn part<'a, K: Ord, V>(
+    entries: &'a [(K, V)],
+    start: Bound<&K>,
+    end: Bound<&K>,
+) -> &'a [(K, V)]
+    ensures { result.now ≡ span K.cmp (bound_map (λ x. x.now) start.entry) (bound_map (λ x. x.now) end.entry) entries.now }
+{
+    from_start(up_to_end(entries, end), start)
 }
 
 impl<K: Ord, V> Few<K, V> {

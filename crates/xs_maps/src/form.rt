@@ -3,11 +3,15 @@ ghost use Rattle.std.specs.Prelude.{◌≡◌, Some, None, OnOk, OnErr};
 ghost use Rattle.std.specs.Option.{option_copied, option_copied_mut};
 ghost use Rattle.std.specs.Borrow.{sem};
 ghost use Rattle.std.specs.BTreeMap.{get, IsOrdered, IsUnchanged, Updates, UpdatesBy};
+ghost use Rattle.std.specs.BTreeMap.Range.{entries_between, IsLeBy, IsLtBy};
+ghost use Rattle.xs_maps.specs.Left.{left};
 ghost use Rattle.xs_maps.specs.Seen.{seen};
 
+use crate::entries::Left;
 use crate::few::{self, Few};
 use std::alloc::AllocError;
 use std::collections::BTreeMap;
+use std::ops::RangeBounds;
 
 /// So many entries lie in a vector.
 const FEW: usize = 8;
@@ -44,6 +48,25 @@ impl<K: Ord, V> Form<K, V> {
         match self {
             Form::Few(few) => few::value_in(&few.entries, key),
             Form::Many(many) => many.get(key),
+        }
+    }
+}
+
+impl<K: Ord, V> Form<K, V> {
+    /// The entries of a range.
+    pub(crate) fn range<R: RangeBounds<K> + Drop>(&self, range: R) -> Left<'_, K, V>
+        requires forward { R.is_forward range (IsLeBy K.cmp) (IsLtBy K.cmp) }
+        requires ordered { IsOrdered K.cmp (seen self.now) }
+        ensures { R.has_bounds range → left result
+            ≡ entries_between K.cmp (R.start_bound range) (R.end_bound range) (seen self.now).entries }
+    {
+        match self {
+            Form::Few(few) => Left::Few(few::part(
+                few.entries.as_slice(),
+                range.start_bound(),
+                range.end_bound(),
+            )),
+            Form::Many(many) => Left::Many(many.range(range)),
         }
     }
 }

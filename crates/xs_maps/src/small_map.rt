@@ -1,13 +1,16 @@
 //! A map in the order of its keys.
 ghost use Rattle.std.specs.Prelude.{◌≡◌, ◌<◌, ◌-◌, ◌↔◌, is_some, slice_get, Some, None, IsSome, IfSome, OnOk, OnErr};
+ghost use Rattle.std.specs.BTreeMap.Range.{entries_between, IsLeBy, IsLtBy};
 ghost use Rattle.std.specs.Option.{option_copied, option_copied_mut};
 ghost use Rattle.std.specs.Borrow.{sem};
 ghost use Rattle.std.specs.BTreeMap.{get, IsOrdered, IsEmpty, IsUnchanged, Updates, UpdatesBy, btree_map_len};
 
+use crate::entries::{Entries, Left};
 use crate::few::Few;
 use crate::form::Form;
 use std::alloc::{AllocError, Global};
 use std::marker::Model;
+use std::ops::RangeBounds;
 
 /// A map in the order of its keys. A contract sees it as a `BTreeMap`.
 #[derive(Drop)]
@@ -102,6 +105,28 @@ impl<K: Ord, V> SmallMap<K, V> {
                 None => None,
             },
             Form::Many(many) => many.last_key_value(),
+        }
+    }
+}
+
+impl<K: Ord, V> SmallMap<K, V> {
+    /// The entries of a range, in the order of their keys.
+    pub fn range<R: RangeBounds<K> + Drop>(&self, range: R) -> Entries<'_, K, V>
+        requires { R.is_forward range (IsLeBy K.cmp) (IsLtBy K.cmp) }
+        ensures { R.has_bounds range → result
+            ≡ entries_between K.cmp (R.start_bound range) (R.end_bound range) self.now.entries }
+    {
+        Entries::new(self.form.range(range))
+    }
+
+    /// All entries, in the order of their keys.
+    pub fn iter(&self) -> Entries<'_, K, V>
+        ensures rest { result ≡ self.now.entries }
+        ensures ordered { IsOrdered K.cmp self.now }
+    {
+        match &self.form {
+            Form::Few(few) => Entries::new(Left::Few(few.entries.as_slice())),
+            Form::Many(many) => Entries::new(Left::Many(many.range(..))),
         }
     }
 }
