@@ -1,9 +1,13 @@
 -- Entries in the order of their keys.
-use Rattle.std.proofs.Common.{◌≡◌, ℕ, List, [], ◌∷◌, ◌++◌, Bool, true, false, cond, Option, Some, None, Result, Ok, Err, OnOk, OnErr, Ordering, BTreeMap, refl, sym, ap, subst, ◌∙◌}
+use Rattle.std.proofs.Common.{◌≡◌, ℕ, List, [], ◌∷◌, ◌++◌, Bool, true, false, cond, Option, Some, None, is_some, slice_get, ◌||◌, Result, Ok, Err, OnOk, OnErr, Ordering, BTreeMap, refl, sym, ap, subst, ◌∙◌}
 use Rattle.std.specs.declared.cmp.Ordering.TheVariants.{Less}
 use Rattle.std.specs.Ordering.{match_ordering}
 use Rattle.std.specs.Cmp.{IsTotalOrder}
-use Rattle.std.specs.List.{AllByRecursion}
+use mathlib.Core.Bool.{true≢false}
+use Rattle.std.proofs.lemmas.Cmp.{tied_itself}
+use Rattle.std.specs.Ordering.{is_eq}
+use Rattle.std.specs.List.{AllByRecursion, list_any}
+use Rattle.std.specs.Option.{unwrap_or}
 use Rattle.std.specs.List.Sorted.{IsStrictlySortedBy}
 use Rattle.std.specs.Map.{keys_of, remove_entry}
 use Rattle.std.specs.BTreeMap.{insert_entry, is_at, IsOrdered, Updates}
@@ -50,6 +54,12 @@ module _ {K X : Type 0} {cmp : K → K → Ordering} (total : IsTotalOrder cmp) 
         let same = ap keys_of (put ∙ sym (insert_entry-Ok cmp k v m.entries i h) ∙ at.writes v) ∙ keys-set_value (is_at (cmp k)) m.entries v in
         subst (IsStrictlySortedBy cmp) (sym same) sorted
     by (Err i) h = subst (λ es. IsStrictlySortedBy cmp (keys_of es)) (insert_entry_err cmp k v m.entries i h ∙ sym put) (sorted_insert cmp k v total m.entries i sorted h)
+
+-- the first key is one of them
+pub first-in : {K : Type 0} {cmp : K → K → Ordering} → IsTotalOrder cmp → (ks : List K) (k : K) → slice_get ks 0 ≡ Some k → list_any (is_at (cmp k)) ks ≡ true
+first-in total [] k e = absurd (true≢false (ap is_some (sym e)))
+first-in {cmp = cmp} total (x ∷ xs) k e =
+    ap (λ b. b || list_any (is_at (cmp k)) xs) (ap (λ o. is_at (cmp k) (unwrap_or o k)) e ∙ ap is_eq (tied_itself total k))
 
 -- an entry less
 either : {A : Type 0} (P : A → Type 0) (t : Bool) (a b : A) → P a → P b → P (cond t a b)

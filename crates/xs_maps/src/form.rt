@@ -1,5 +1,5 @@
 //! Where the entries of a map lie.
-ghost use Rattle.std.specs.Prelude.{◌≡◌, Some, None, OnOk, OnErr};
+ghost use Rattle.std.specs.Prelude.{◌≡◌, ◌<◌, ◌^◌, length, Some, None, OnOk, OnErr};
 ghost use Rattle.std.specs.Option.{option_copied, option_copied_mut};
 ghost use Rattle.std.specs.Borrow.{sem};
 ghost use Rattle.std.specs.BTreeMap.{get, IsOrdered, IsUnchanged, Updates, UpdatesBy};
@@ -57,7 +57,8 @@ impl<K: Ord, V> Form<K, V> {
     pub(crate) fn range<R: RangeBounds<K> + Drop>(&self, range: R) -> Left<'_, K, V>
         requires forward { R.is_forward range (IsLeBy K.cmp) (IsLtBy K.cmp) }
         requires ordered { IsOrdered K.cmp (seen self.now) }
-        ensures { R.has_bounds range → left result
+        ensures fits { length (left result) < 2 ^ 64 }
+        ensures between { R.has_bounds range → left result
             ≡ entries_between K.cmp (R.start_bound range) (R.end_bound range) (seen self.now).entries }
     {
         match self {

@@ -1,5 +1,5 @@
 //! A map in the order of its keys.
-ghost use Rattle.std.specs.Prelude.{◌≡◌, ◌<◌, ◌-◌, ◌↔◌, is_some, slice_get, Some, None, IsSome, IfSome, OnOk, OnErr};
+ghost use Rattle.std.specs.Prelude.{◌≡◌, ◌<◌, ◌-◌, ◌^◌, ◌↔◌, length, is_some, slice_get, Some, None, IsSome, IfSome, OnOk, OnErr};
 ghost use Rattle.std.specs.BTreeMap.Range.{entries_between, IsLeBy, IsLtBy};
 ghost use Rattle.std.specs.Option.{option_copied, option_copied_mut};
 ghost use Rattle.std.specs.Borrow.{sem};
@@ -59,7 +59,7 @@ impl<K: Ord, V> SmallMap<K, V> {
 
     /// The value at a key.
     pub fn get(&self, key: &K) -> Option<&V>
-        ensures { option_copied result ≡ get K.cmp self.now key.now }
+        ensures value { option_copied result ≡ get K.cmp self.now key.now }
     {
         self.form.get(key)
     }
@@ -113,7 +113,8 @@ impl<K: Ord, V> SmallMap<K, V> {
     /// The entries of a range, in the order of their keys.
     pub fn range<R: RangeBounds<K> + Drop>(&self, range: R) -> Entries<'_, K, V>
         requires { R.is_forward range (IsLeBy K.cmp) (IsLtBy K.cmp) }
-        ensures { R.has_bounds range → result
+        ensures fits { length result < 2 ^ 64 }
+        ensures between { R.has_bounds range → result
             ≡ entries_between K.cmp (R.start_bound range) (R.end_bound range) self.now.entries }
     {
         Entries::new(self.form.range(range))

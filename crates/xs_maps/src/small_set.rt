@@ -1,7 +1,7 @@
 //! A set in the order of its keys.
-ghost use Rattle.std.specs.Prelude.{◌≡◌, ◌<◌, ◌↔◌, true, false, slice_get, Some, IsSome, IfSome, OnOk, OnErr};
+ghost use Rattle.std.specs.Prelude.{◌≡◌, ◌<◌, ◌↔◌, true, false, slice_get, Some, IsSome, IfSome, IsTrue, OnOk, OnErr};
 ghost use Rattle.std.specs.BTreeMap.Range.{IsLeBy, IsLtBy};
-ghost use Rattle.std.specs.BTreeSet.{btree_set_len, keys_between, IsEmpty, IsOrdered, IsUnchanged, Updates, UpdatesBy};
+ghost use Rattle.std.specs.BTreeSet.{btree_set_len, contains, keys_between, IsEmpty, IsOrdered, IsUnchanged, Updates, UpdatesBy};
 
 use crate::entries::Keys;
 use crate::small_map::SmallMap;
@@ -48,6 +48,7 @@ impl<K: Ord> SmallSet<K> {
     pub fn first(&self) -> Option<&K>
         ensures variant { IsSome result ↔ (0 < btree_set_len self.now) }
         ensures first { IfSome result (λ k. slice_get self.now.keys 0 ≡ Some k.now) }
+        ensures member { IfSome result (λ k. IsTrue (contains K.cmp self.now k.now)) }
     {
         match self.map.first() {
             Some((key, _)) => Some(key),
@@ -58,7 +59,7 @@ impl<K: Ord> SmallSet<K> {
     /// The keys in a range, in their order.
     pub fn range<R: RangeBounds<K> + Drop>(&self, range: R) -> Keys<'_, K>
         requires { R.is_forward range (IsLeBy K.cmp) (IsLtBy K.cmp) }
-        ensures { R.has_bounds range → result
+        ensures between { R.has_bounds range → result
             ≡ keys_between K.cmp (R.start_bound range) (R.end_bound range) self.now }
     {
         Keys::new(self.map.range(range))
@@ -84,7 +85,7 @@ impl<K: Ord + Drop> SmallSet<K> {
 
     /// Takes a key out. It takes no memory.
     pub fn remove(&mut self, key: &K)
-        ensures { UpdatesBy K.cmp (K.cmp key.now) self.old self.new false }
+        ensures updates { UpdatesBy K.cmp (K.cmp key.now) self.old self.new false }
     {
         let _ = self.map.remove(key);
     }

@@ -6,8 +6,8 @@ use Rattle.std_collections.proofs.TreeMap.Lent.{span_between}
 use Rattle.xs_maps.specs.Seen.{seen, seen_few}
 use Rattle.xs_maps.proofs.form.Form.range.Goals as goal
 
-pub returns-in-Few : goal.returns-in-Few
-returns-in-Few g c = λ told.
+pub returns-in-Few-clause-between : goal.returns-in-Few-clause-between
+returns-in-Few-clause-between g c = λ told.
     let cmp = g.K.Ord.cmp in
     let lo = g.R.RangeBounds.start_bound c.args.range in
     let hi = g.R.RangeBounds.end_bound c.args.range in
