@@ -23,7 +23,9 @@ fn insert_ids(own: &mut SmallSet<Id>, ids: &[Id]) -> Result<(), AllocError>
         × ((x : Id) → contains id_cmp own.new x ≡ (contains id_cmp own.old x || has_id done x))) }
 {
     for id in ids {
-        own.insert(*id)?;
+        let Ok(()) = own.insert(*id) else {
+            return Err(AllocError);
+        };
     }
     Ok(())
 }

@@ -1,5 +1,5 @@
 //! A few entries in a vector, in the order of their keys.
-ghost use Rattle.std.specs.Prelude.{◌≡◌, ◌≤◌, ◌+◌, ◌++◌, IfOk, OnOk, OnErr, length, vec_capacity, vec_len};
+ghost use Rattle.std.specs.Prelude.{◌≡◌, ◌≤◌, ◌+◌, ◌++◌, IfNone, IfOk, OnOk, OnErr, length, vec_capacity, vec_len};
 ghost use Rattle.std.specs.Option.{option_copied, option_copied_mut};
 ghost use Rattle.std.specs.Borrow.{sem};
 ghost use Rattle.std.specs.BTreeMap.{get, insert_entry, is_at, IsOrdered};
@@ -116,6 +116,7 @@ pub(crate) fn remove_few<K: Ord + Drop, V: Drop>(few: &mut Vec<(K, V)>, key: &K)
     requires { IsStrictlySortedBy K.cmp (keys_of few.old.items) }
     ensures value { result ≡ lookup (is_at (K.cmp key.now)) few.old.items }
     ensures entries { few.new.items ≡ remove_entry (is_at (K.cmp key.now)) few.old.items }
+    ensures unchanged { IfNone result (few.new.items ≡ few.old.items) }
 {
     match place(few.as_slice(), key) {
         Ok(at) => {

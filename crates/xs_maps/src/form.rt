@@ -1,5 +1,5 @@
 //! Where the entries of a map lie.
-ghost use Rattle.std.specs.Prelude.{◌≡◌, ◌<◌, ◌^◌, length, Some, None, OnOk, OnErr};
+ghost use Rattle.std.specs.Prelude.{◌≡◌, ◌<◌, ◌^◌, length, Some, None, IfNone, OnOk, OnErr};
 ghost use Rattle.std.specs.Option.{option_copied, option_copied_mut};
 ghost use Rattle.std.specs.Borrow.{sem};
 ghost use Rattle.std.specs.BTreeMap.{get, IsOrdered, IsUnchanged, Updates, UpdatesBy};
@@ -121,6 +121,7 @@ impl<K: Ord + Drop, V: Drop> Form<K, V> {
         requires { IsOrdered K.cmp (seen self.old) }
         ensures value { result ≡ get K.cmp (seen self.old) key.now }
         ensures updates { UpdatesBy K.cmp (K.cmp key.now) (seen self.old) (seen self.new) None }
+        ensures unchanged { IfNone result (IsUnchanged (seen self.old) (seen self.new)) }
         ensures ordered { IsOrdered K.cmp (seen self.new) }
     {
         match self {

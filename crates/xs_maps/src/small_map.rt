@@ -1,5 +1,5 @@
 //! A map in the order of its keys.
-ghost use Rattle.std.specs.Prelude.{◌≡◌, ◌<◌, ◌-◌, ◌^◌, ◌↔◌, length, is_some, slice_get, Some, None, IsSome, IfSome, OnOk, OnErr};
+ghost use Rattle.std.specs.Prelude.{◌≡◌, ◌<◌, ◌-◌, ◌^◌, ◌↔◌, length, is_some, slice_get, Some, None, IsSome, IfSome, IfNone, OnOk, OnErr};
 ghost use Rattle.std.specs.BTreeMap.Range.{entries_between, IsLeBy, IsLtBy};
 ghost use Rattle.std.specs.Option.{option_copied, option_copied_mut};
 ghost use Rattle.std.specs.Borrow.{sem};
@@ -145,6 +145,7 @@ impl<K: Ord + Drop, V: Drop> SmallMap<K, V> {
     pub fn remove(&mut self, key: &K) -> Option<V>
         ensures value { result ≡ get K.cmp self.old key.now }
         ensures updates { UpdatesBy K.cmp (K.cmp key.now) self.old self.new None }
+        ensures unchanged { IfNone result (IsUnchanged self.old self.new) }
     {
         self.form.remove(key)
     }
