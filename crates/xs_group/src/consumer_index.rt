@@ -9,21 +9,21 @@ ghost use Rattle.xs_group.specs.Verdict.{AreSomeOf};
 
 use crate::id_index::IdIndex;
 use std::alloc::AllocError;
-use std::collections::{BTreeMap, BTreeSet};
 use xs_bytes::Bytes;
+use xs_maps::{SmallMap, SmallSet};
 use xs_stream::Id;
 
 /// The ids of each consumer's pending entries.
-pub(crate) type ConsumerIndex = BTreeMap<Bytes, BTreeSet<Id>>;
+pub(crate) type ConsumerIndex = SmallMap<Bytes, SmallSet<Id>>;
 
 /// Puts these ids into a set, or, for want of memory, some of them.
-fn insert_ids(own: &mut BTreeSet<Id>, ids: &[Id]) -> Result<(), AllocError>
+fn insert_ids(own: &mut SmallSet<Id>, ids: &[Id]) -> Result<(), AllocError>
     ensures ok { OnOk result ((x : Id) → contains id_cmp own.new x ≡ (contains id_cmp own.old x || has_id ids.now x)) }
     ensures err { OnErr result ((done : List Id) × AreSomeOf done ids.now
         × ((x : Id) → contains id_cmp own.new x ≡ (contains id_cmp own.old x || has_id done x))) }
 {
     for id in ids {
-        let Ok(_) = own.insert(*id) else {
+        let Ok(()) = own.insert(*id) else {
             return Err(AllocError);
         };
     }
@@ -57,16 +57,16 @@ pub(crate) fn remove_id(owners: &mut ConsumerIndex, name: &Bytes, id: Id)
         ≡ (holds owners.old.entries n x && not (is_name n name.now && is_same x id)) }
 {
     if let Some(ids) = owners.get_mut(name) {
-        let _ = ids.remove(&id);
+        ids.remove(&id);
     }
 }
 
 /// Takes the rows of these ids out.
-pub(crate) fn remove_rows(rows: &mut IdIndex, ids: &BTreeSet<Id>)
+pub(crate) fn remove_rows(rows: &mut IdIndex, ids: &SmallSet<Id>)
     ensures { (x : Id) → indexed_row rows.new.entries x
         ≡ (if contains id_cmp ids.now x then None else indexed_row rows.old.entries x) }
 {
-    for id in ids {
+    for id in ids.iter() {
         let _ = rows.remove(id);
     }
 }

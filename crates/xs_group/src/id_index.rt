@@ -8,11 +8,11 @@ ghost use Rattle.xs_group.specs.Indexes.{rows_of, indexed_row, AreFree};
 use crate::name::Name;
 use crate::pending_entry::PendingEntry;
 use std::alloc::AllocError;
-use std::collections::BTreeMap;
+use xs_maps::SmallMap;
 use xs_stream::{Id, Moment};
 
 /// The pending entries by id.
-pub(crate) type IdIndex = BTreeMap<Id, PendingEntry>;
+pub(crate) type IdIndex = SmallMap<Id, PendingEntry>;
 
 /// Puts in a row that is delivered for the first time.
 fn put_row(rows: &mut IdIndex, name: &Name, now: Moment, id: Id) -> Result<(), AllocError>
@@ -21,10 +21,7 @@ fn put_row(rows: &mut IdIndex, name: &Name, now: Moment, id: Id) -> Result<(), A
     ensures err { OnErr result (rows.new.entries ≡ rows.old.entries) }
 {
     let consumer = name.share()?;
-    match rows.insert(id, PendingEntry::new(consumer, now, 1)) {
-        Ok(_) => Ok(()),
-        Err(_) => Err(AllocError),
-    }
+    rows.insert(id, PendingEntry::new(consumer, now, 1))
 }
 
 /// Takes the rows of these ids out. It takes no memory.

@@ -22,9 +22,9 @@ use crate::pending_entry::PendingEntry;
 use crate::reports::{GroupSummary, PendingRow};
 use crate::{claims, moving, reading, reports};
 use std::alloc::{AllocError, Global};
-use std::collections::{BTreeMap, BTreeSet};
 use std::marker::Model;
 use xs_bytes::{Bytes, List};
+use xs_maps::{SmallMap, SmallSet};
 use xs_stream::{Id, Moment, Range, Stream};
 
 /// The consumers and the pending entries. Both indexes hold the same pairs of a consumer and an id.
@@ -52,8 +52,8 @@ impl Pending {
         ensures { result ≡ record { consumers = empty; rows = empty } }
     {
         Self {
-            rows: BTreeMap::new(alloc),
-            owners: BTreeMap::new(alloc),
+            rows: SmallMap::new(alloc),
+            owners: SmallMap::new(alloc),
         }
     }
 
@@ -73,10 +73,8 @@ impl Pending {
             return Ok(false);
         }
         let text = Bytes::from_slice(alloc, name.as_slice())?;
-        match self.owners.insert(text, BTreeSet::new(alloc)) {
-            Ok(_) => Ok(true),
-            Err(_) => Err(AllocError),
-        }
+        self.owners.insert(text, SmallSet::new(alloc))?;
+        Ok(true)
     }
 
     /// Takes an id out.

@@ -8,9 +8,9 @@ ghost use Rattle.xs_group.specs.Delivered.{new_rows, touch_set};
 use crate::delivery::{DeliveryRow, Touch};
 use crate::pending_entry::raised;
 use std::alloc::{AllocError, Global};
-use std::collections::BTreeSet;
 use std::ops::Bound;
 use xs_bytes::List;
+use xs_maps::SmallSet;
 use xs_stream::{Entry, Id, Moment, Stream};
 
 /// The last of these ids, or the one before them.
@@ -63,7 +63,7 @@ pub(crate) fn is_present_along(stream: &Stream, lent: &[Entry<'_>], place: usize
 /// The ids of a set above this one, in their order, at most `limit` of them.
 pub(crate) fn limited_above(
     alloc: Global,
-    ids: &BTreeSet<Id>,
+    ids: &SmallSet<Id>,
     from: Id,
     limit: Option<u64>,
 ) -> Result<List<Id>, AllocError>
@@ -74,7 +74,7 @@ pub(crate) fn limited_above(
 }
 
 /// The ids of a set above this one, in their order, at most this many.
-fn ids_above(alloc: Global, ids: &BTreeSet<Id>, from: Id, most: u64) -> Result<Vec<Id>, AllocError>
+fn ids_above(alloc: Global, ids: &SmallSet<Id>, from: Id, most: u64) -> Result<Vec<Id>, AllocError>
     ensures { IfOk result (λ above. above.items ≡ take most (filter (λ x. is_below from x) ids.now.keys)) }
 {
     let mut above = Vec::new(alloc);

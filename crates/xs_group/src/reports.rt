@@ -12,9 +12,9 @@ use crate::consumer_index::ConsumerIndex;
 use crate::id_index::IdIndex;
 use crate::pending_entry::PendingEntry;
 use std::alloc::{AllocError, Global};
-use std::collections::BTreeSet;
 use std::ops::Bound;
 use xs_bytes::{Bytes, List};
+use xs_maps::SmallSet;
 use xs_stream::{Id, Moment, Range};
 
 /// A consumer with the number of its pending entries.
@@ -56,7 +56,7 @@ pub struct PendingRow {
 pub(crate) fn least(rows: &IdIndex) -> Option<Id>
     ensures { result ≡ first_id rows.now.entries }
 {
-    match rows.first_key_value() {
+    match rows.first() {
         Some((id, _)) => Some(*id),
         None => None,
     }
@@ -66,7 +66,7 @@ pub(crate) fn least(rows: &IdIndex) -> Option<Id>
 pub(crate) fn greatest(rows: &IdIndex) -> Option<Id>
     ensures { result ≡ last_id rows.now.entries }
 {
-    match rows.last_key_value() {
+    match rows.last() {
         Some((id, _)) => Some(*id),
         None => None,
     }
@@ -84,7 +84,7 @@ pub(crate) fn owner_counts(
         ≡ owners_told (names_of owners.now.entries) (rows_of _rows.now.entries)) }
 {
     let mut counts = Vec::with_capacity(alloc, owners.len())?;
-    for (name, ids) in owners {
+    for (name, ids) in owners.iter() {
         let count = ids.len() as u64;
         if count == 0 {
             continue;
@@ -142,7 +142,7 @@ pub(crate) fn rows_within(
 pub(crate) fn rows_of_ids(
     alloc: Global,
     rows: &IdIndex,
-    ids: &BTreeSet<Id>,
+    ids: &SmallSet<Id>,
     range: Range,
     min_idle: u64,
     now: Moment,

@@ -24,7 +24,7 @@ loop-id-init c =
     let hit = is_hit rows present c.args.now c.args.rule.now in
     let is : c.into_iter-id-iterator.result ≡ entries_between id_cmp (Included c.args.start) Unbounded rows = c.into_iter-id-iterator.ensures.into_iter_gives ∙ c.range-past.ensures.between tt in
     let all : keys c.into_iter-id-iterator.result ≡ from_start c.args.start rows = ap keys is ∙ keys-between c.args.start rows in
-    let few : length c.into_iter-id-iterator.result < 9223372036854775808 = omega (arith, c.range-past.ensures.fits, ap length c.into_iter-id-iterator.ensures.into_iter_gives) in
+    let few : length c.into_iter-id-iterator.result < 18446744073709551616 = omega (arith, c.range-past.ensures.fits, ap length c.into_iter-id-iterator.ensures.into_iter_gives) in
     record {
       few = omega arith;
       small = omega arith;

@@ -17,7 +17,7 @@ invariant-loop-id l =
     let more = scanned_after hit l.limit l.hits l.seen rest in
     record {
       few : l.hits ≤ l.seen;
-      small : l.seen + length l.id-iterator < 9223372036854775808;
+      small : l.seen + length l.id-iterator < 18446744073709551616;
       found : AreFound rows l.id-iterator;
       taken : l.found.take.items ++ filter (is_taken rows present l.fn.now l.rule) more ≡ filter (is_taken rows present l.fn.now l.rule) part;
       removed : l.found.removed.items ++ filter (is_removed rows present) more ≡ filter (is_removed rows present) part;

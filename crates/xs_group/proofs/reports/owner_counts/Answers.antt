@@ -18,7 +18,7 @@ pub loop-name-init : goal.loop-name-init
 loop-name-init c =
     let owners = c.args.owners.now in
     let rows = (rows_of c.args._rows.now.entries).entries in
-    let is = c.into_iter-name-iterator.ensures.into_iter_gives.0 in
+    let is = c.into_iter-name-iterator.ensures.into_iter_gives ∙ c.iter-name-items.ensures.rest in
     record {
       held = subst (AreHeld owners.entries) (sym is) (held-all owners c.requires.ordered);
       counted = λ i. c.in_ok-counts.ensures.items i ++ told rows (is i);

@@ -12,16 +12,16 @@ pub returns-then-contains_key-clause-ok : goal.returns-then-contains_key-clause-
 returns-then-contains_key-clause-ok c =
     held-again c.args.self.now c.args.name.now (rw (← c.self.view_is) (has_name-names_of c.self.inside.owners.entries c.args.name.now ∙ sym c.if-contains_key.ensures))
 
-text_is : (c : goal.Joined-insert-2) → c.in_ok-text.text ≡ c.args.name.now
+text_is : (c : goal.In_ok-insert) → c.in_ok-text.text ≡ c.args.name.now
 text_is c = c.in_ok-text.ensures ∙ c.as_slice.ensures
 
-pub invariant_of-self : goal.invariant_of-self
-invariant_of-self c = agreed-joined c.self.inside.rows.entries c.self.inside.owners c.insert.new.self c.in_ok-text.text c.new.result c.self.invariant
-    (ap (λ k. is_some (ids_at c.self.inside.owners.entries k)) (text_is c) ∙ sym c.if-contains_key.ensures) c.new.ensures.empty c.in-Ok.ensures.updates
+pub invariant_of-self-2 : goal.invariant_of-self-2
+invariant_of-self-2 c = agreed-joined c.self.inside.rows.entries c.self.inside.owners c.insert.new.self c.in_ok-text.text c.new.result c.self.invariant
+    (ap (λ k. is_some (ids_at c.self.inside.owners.entries k)) (text_is c) ∙ sym c.if-contains_key.ensures) c.new.ensures c.in_ok-insert.ensures.updates
 
-pub returns-in-Ok-clause-made : goal.returns-in-Ok-clause-made
-returns-in-Ok-clause-made c = rw (← c.self.view_is) (ap not (c.if-contains_key.ensures ∙ sym (has_name-names_of c.self.inside.owners.entries c.args.name.now)))
+pub returns-clause-made : goal.returns-clause-made
+returns-clause-made c = rw (← c.self.view_is) (ap not (c.if-contains_key.ensures ∙ sym (has_name-names_of c.self.inside.owners.entries c.args.name.now)))
 
-pub returns-in-Ok-clause-ok : goal.returns-in-Ok-clause-ok
-returns-in-Ok-clause-ok c = rw (← c.self.view_is) (ap (λ names. record { consumers = names; rows = rows_of c.self.inside.rows.entries })
-    (names-joined c.self.inside.owners c.insert.new.self c.in_ok-text.text c.new.result c.in-Ok.ensures.updates ∙ ap (with_name (names_of c.self.inside.owners.entries)) (text_is c)))
+pub returns-clause-ok : goal.returns-clause-ok
+returns-clause-ok c = rw (← c.self.view_is) (ap (λ names. record { consumers = names; rows = rows_of c.self.inside.rows.entries })
+    (names-joined c.self.inside.owners c.insert.new.self c.in_ok-text.text c.new.result c.in_ok-insert.ensures.updates ∙ ap (with_name (names_of c.self.inside.owners.entries)) (text_is c)))

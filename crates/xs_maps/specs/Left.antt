@@ -1,0 +1,9 @@
+-- The entries that an iterator has left, wherever they lie.
+use Rattle.std.specs.Prelude.{List}
+use Rattle.xs_maps.specs.declared.entries.Left.{Left}
+use Rattle.xs_maps.specs.declared.entries.Left.TheVariants.{Few, Many}
+
+module _ {K X : Type 0} where
+  abbrev pub left : Left K X → List (K × X)
+  left (Few few) = few.now
+  left (Many many) = many
