@@ -25,8 +25,8 @@ use Rattle.xs_command.specs.Read.{reads}
 use Rattle.std.proofs.lemmas.Bool.{false≢true}
 use Rattle.xs_stream.specs.declared.id.Id.{Id}
 use Rattle.xs_stream.specs.Id.{has_id}
-use Rattle.xs_resp.specs.declared.token.Token.{Token}
-use Rattle.xs_resp.specs.declared.token.Token.TheVariants as token
+use Rattle.xs_resp.specs.Token.{Token}
+use Rattle.xs_resp.specs.Token as token
 use Rattle.xs_keys.specs.Ground.{Reply, Array, Bulk, NullArray}
 use Rattle.xs_keys.specs.Life.{key_life}
 use Rattle.xs_keys.specs.GroupLife.{present_in}
