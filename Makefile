@@ -46,7 +46,7 @@ edits:
 extra:
 	rt all check
 	python3 scripts/extra.py check
-	python3 scripts/extra.py test xs_stream_refusals xs_resp_refusals xs_group_refusals xs_keys_refusals
+	python3 scripts/extra.py test xs_stream_refusals xs_maps_refusals xs_resp_refusals xs_group_refusals xs_keys_refusals
 
 # Runs the tests that say so, and the worked cases, with each allocation refused in turn. Needs cc.
 refusals:

@@ -1,7 +1,7 @@
 -- What a map ends as, where a `&mut` to a value is returned.
 use Rattle.std.specs.Prelude.{◌≡◌, Bool, Option}
 use Rattle.std.specs.Borrow.{LendsSo, Fml, RattleType, MutBor}
-use Rattle.std.specs.BTreeMap.{BTreeMap, WritesThrough}
+use Rattle.std.specs.BTreeMap.{WritesThrough}
 use Rattle.std.specs.declared.cmp.Ordering.{Ordering}
 use Rattle.xs_maps.specs.Seen.{seen, seen_few}
 use Rattle.xs_maps.specs.declared.few.Few.{Few}

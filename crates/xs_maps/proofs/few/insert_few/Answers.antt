@@ -1,4 +1,4 @@
-use Rattle.std.proofs.Common.{◌<◌, ◌≤◌, length, vec_len, sym, ap, ◌∙◌, arith}
+use Rattle.std.proofs.Common.{length, sym, ap, ◌∙◌, arith}
 use Rattle.std.specs.List.{insert}
 use Rattle.std_collections.specs.Layout.BTreeMap.{seek}
 use Rattle.std_collections.proofs.Seek.{seek-Ok, seek_err, insert_entry-Ok, insert_entry_err}

@@ -1,4 +1,4 @@
-use Rattle.std.proofs.Common.{◌≡◌, ℕ, suc, length, sym, ap, ◌∙◌, subst, arith}
+use Rattle.std.proofs.Common.{◌≡◌, suc, length, sym, ap, ◌∙◌, subst, arith}
 use Rattle.std_collections.proofs.Seek.{AboveFirst}
 use Rattle.xs_maps.proofs.Places.{less-at, equal-at, above-all, above-more}
 use Rattle.xs_maps.proofs.few.place.Goals as goal

@@ -10,7 +10,7 @@ loop-preserved g c =
     let tree = c.loop.tree.entries in
     let entry : g.row.K.Denot × g.row.V.Denot = (c.in-Some.key, c.in-Some.value) in
     let all : few ++ entry ∷ tree ≡ c.args.few.now.items =
-        sym (append_assoc few (entry ∷ []) tree) ∙ ap (λ es. es ++ tree) (sym c.in-Some.ensures.items) ∙ c.loop.invariant.all in
+    sym (append_assoc few (entry ∷ []) tree) ∙ ap (λ es. es ++ tree) (sym c.in-Some.ensures.items) ∙ c.loop.invariant.all in
     let sorted = subst (λ es. IsStrictlySortedBy g.K.Ord.cmp (keys_of es)) (sym all) c.requires in
     let len = c.in-Some.ensures.len in
     let cap = c.in-Some.ensures.capacity in

@@ -1,4 +1,4 @@
-use Rattle.std.proofs.Common.{◌<◌, vec_len, sym, ap, ◌∙◌, arith}
+use Rattle.std.proofs.Common.{sym, ap, ◌∙◌, arith}
 use Rattle.std_collections.specs.Layout.BTreeMap.{seek}
 use Rattle.std_collections.proofs.Seek.{seek-Ok}
 use Rattle.xs_maps.proofs.Places.{value-found, nothing-found}

@@ -1,4 +1,4 @@
-use Rattle.std.proofs.Common.{◌<◌, vec_len, sym, ap, ◌∙◌, refl, arith, inl}
+use Rattle.std.proofs.Common.{sym, ap, ◌∙◌, refl, arith, inl}
 use Rattle.std.specs.BTreeMap.{is_at}
 use Rattle.std.specs.BTreeMap.Comparable.{le_lt_trans}
 use Rattle.std.specs.Vec.{with_item}
@@ -25,9 +25,13 @@ returns-in-Ok g c =
     let entry = c.index_mut.result.now in
     let is = c.index_mut.ensures.value in
     let ok = ap (seek compare) (sym c.as_slice.ensures.value) ∙ sym c.place.ensures ∙ c.in-Ok.is in (
-      (refl, (λ w. writes_through total compare (total.congr c.args.key.now) m
-          (btree_map (with_item c.args.self.now.entries at (entry.0, w)).items (inl tt)) c.requires w
-          (set-value m.entries at entry w is ∙ (found_at compare m.entries at ok).writes w)), refl),
+      (
+        refl,
+        (λ w. writes_through total compare (total.congr c.args.key.now) m
+            (btree_map (with_item c.args.self.now.entries at (entry.0, w)).items (inl tt)) c.requires w
+            (set-value m.entries at entry w is ∙ (found_at compare m.entries at ok).writes w)),
+        refl,
+      ),
       record { writes_back = tt; value = value-found compare m.entries at ok entry is },
     )
 
