@@ -17,8 +17,9 @@ serve:
 
 # The merge gate. Proves everything from nothing, tries the edits of must-fail/, and runs the tests and the program that
 # it built: the worked cases, the great scripts, connections made at random, and a server as its users run it. Then the
-# model of how threads wait for each other is explored.
+# model of how threads wait for each other is explored. Before that, docs/PROOFS.md has to name the edits that there are.
 test:
+	python3 scripts/edits_table.py --check
 	rt ci
 	python3 conformance/run.py $(PROGRAM) script
 	python3 conformance/great.py $(PROGRAM)
