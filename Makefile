@@ -1,4 +1,4 @@
-.PHONY: run serve test check model edits extra refusals compare clients hostile
+.PHONY: run serve install test check model edits extra refusals compare clients hostile
 
 PROGRAM = crates/xs_server/out/xs_server
 BUILD = python3 scripts/build.py out/build.log
@@ -14,6 +14,14 @@ serve:
 	@echo "Proving and building xs_server; out/build.log says more. The first time takes 40 minutes and more of processor time."
 	@$(BUILD)
 	@$(PROGRAM) serve --port 6379 --workers 16 --each 1000000
+
+# Proves and builds the program, and puts it and its unit for systemd below PREFIX (and DESTDIR, if that is given).
+PREFIX = /usr/local
+install:
+	@$(BUILD)
+	install -D -m 755 $(PROGRAM) $(DESTDIR)$(PREFIX)/bin/xs_server
+	install -D -m 644 service/xs_server.service $(DESTDIR)$(PREFIX)/lib/systemd/system/xs_server.service
+	sed -i 's,/usr/local,$(PREFIX),' $(DESTDIR)$(PREFIX)/lib/systemd/system/xs_server.service
 
 # The merge gate. Proves everything from nothing, tries the edits of must-fail/, and runs the tests and the program that
 # it built: the worked cases, the great scripts, connections made at random, and a server as its users run it. Then the
