@@ -246,9 +246,12 @@ module _ (start : Id) (past : List GroupEvent) (asc : PresentAscends past) (even
 
   are-rows : AreRows met
   unfolding met
-  are-rows = (ascends-rows start past asc, λ y h. above-not_zero start y
-      (above-has start (delivered start past) y (past-start start past)
-      (right (is_some (holding start past y)) (has_id (delivered start past) y) (sym (has_id-where (λ z. is_some (holding start past z)) (delivered start past) y) ∙ ap (λ l. has_id l y) (sym ids) ∙ h))))
+  are-rows = (
+    ascends-rows start past asc,
+    λ y h. above-not_zero start y
+        (above-has start (delivered start past) y (past-start start past)
+        (right (is_some (holding start past y)) (has_id (delivered start past) y) (sym (has_id-where (λ z. is_some (holding start past z)) (delivered start past) y) ∙ ap (λ l. has_id l y) (sym ids) ∙ h))),
+  )
     where
       ids : map (λ e. e.0) (rows start past) ≡ filter (λ y. is_some (holding start past y)) (delivered start past)
       ids = ids-among (λ y. holding start past y) (delivered start past)
@@ -276,8 +279,8 @@ module _ (start : Id) (past : List GroupEvent) (asc : PresentAscends past) (even
     by None f = absurd (false≢true (ap is_some (sym f) ∙ has-row may.owned))
     by (Some row) f =
         let old : (rule_for event.ask).min_idle ≤ event.now - row.time =
-            subst (λ (least : ℕ). least ≤ event.now - row.time) (sym (looks event.ask event.now event.present (rows start past)).1)
-            (subst (λ (time : ℕ). least_idle event.ask ≤ event.now - time) (sym (is-last-touched start past x row f).0) may.idle) in
+        subst (λ (least : ℕ). least ≤ event.now - row.time) (sym (looks event.ask event.now event.present (rows start past)).1)
+        (subst (λ (time : ℕ). least_idle event.ask ≤ event.now - time) (sym (is-last-touched start past x row f).0) may.idle) in
         both_of (is_idle event.now (rule_for event.ask) (row_at (rows start past) x)) (has_id event.present x) (ap (is_idle event.now (rule_for event.ask)) f ∙ grind (arith, nat_tests, old)) may.present
 
   idle-by-time : is_taken met event.present event.now asked_rule x ≡ true → IsTakenWhenIdle start past event x

@@ -387,7 +387,7 @@ told-removal past c name change is fewer =
     by (Some key) (Some changes) holds =
         let before : length key.stream.entries ≡ length (ids_of (live changes)) = ap (λ (s : Kept). length s.entries) holds.0 ∙ sym (ids-length (live changes)) in
         let after : length (stream_after change key.stream).entries ≡ length (ids_of (live (change ∷ changes))) =
-            ap (λ (s : Kept). length (stream_after change s).entries) holds.0 ∙ ap (λ (s : Kept). length s.entries) (sym (stream-step change changes)) ∙ sym (ids-length (live (change ∷ changes))) in
+        ap (λ (s : Kept). length (stream_after change s).entries) holds.0 ∙ ap (λ (s : Kept). length s.entries) (sym (stream-step change changes)) ∙ sym (ids-length (live (change ∷ changes))) in
         ap (λ n. length key.stream.entries - length (stream_after change key.stream).entries + n) (sym after)
         ∙ tells-fewer (length key.stream.entries) (length (stream_after change key.stream).entries) (fewer key.stream) ∙ before
 
@@ -426,9 +426,9 @@ told-ack past c now name group ids is = (_, refl, by (is_some (group_life past n
       let ascend : Ascends (present_in (key_life past name)) = rw t.changes_are (ascends-live t.changes) in
       let step = group-step t.life t.state t.holds now (present_in (key_life past name)) ascend (ack ids) in
       let number : gone (group_in (get c name) group) ≡ length t.state.rows.entries - length (acked ids t.state).rows.entries =
-          (λ i. gone (group_in (t.key_is i) group)) ∙ ap gone t.state_is in
+      (λ i. gone (group_in (t.key_is i) group)) ∙ ap gone t.state_is in
       let after : pending_count name group ((now, Ack name group ids) ∷ past) ≡ length (acked ids t.state).rows.entries =
-          own ∙ ap (λ l. count (lived l)) t.life_is ∙ ap length (sym step.rows_are) in
+      own ∙ ap (λ l. count (lived l)) t.life_is ∙ ap length (sym step.rows_are) in
       let before : pending_count name group past ≡ length t.state.rows.entries = ap count t.life_is ∙ ap length (sym t.holds.rows_are) in
       (λ i. number i + after i) ∙ tells-fewer (length t.state.rows.entries) (length (acked ids t.state).rows.entries) (length-change (unless_acked ids) t.state.rows) ∙ sym before
 

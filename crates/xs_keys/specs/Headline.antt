@@ -160,8 +160,8 @@ AtEachEvent (first ∷ past) history Holds =
     (later : List (ℕ × Command)) (e : ℕ × Command) (earlier : List (ℕ × Command)) → history ≡ later ++ e ∷ earlier
     → AreWellFormed (first ∷ past) ⊎ IsWellFormed e.1 → Holds earlier e
 
--- an event delivers nothing of a life that isn't open at it, or that it doesn't read; and what is delivered in a life
--- is what its events deliver, one after the other
+-- an event delivers nothing in a group that has no open life at it; and what is delivered in a life is what its events
+-- deliver, one after the other
 abbrev pub LivesAreApart : List (ℕ × Command) → ℕ × Command → Type 0
 LivesAreApart earlier e =
     (key group : List ℕ)

@@ -80,13 +80,23 @@ returns c = record {
   new = (λ h. (_, refl, (_, [], refl, (second ∷ entry 3 0 ∷ [], refl, ((_, refl, refl), ((_, refl, refl), tt))), refl)), λ h. absurd (subst T h tt));
   own = (λ h. (_, refl, (_, [], refl, (_, [], refl, shows-first (events 5 (group_and [])) (codes "s") (codes "g") _ refl (codes "a") (at 0 0) None, tt), refl)), λ h. absurd (subst T h tt));
   own_pending = (
-    λ h. (_, refl, (_, [], refl, (
+    λ h. (
       _,
-      second ∷ entry 3 0 ∷ [],
       refl,
-      shows-first (events 5 read_by_a) (codes "s") (codes "g") _ refl (codes "a") (at 0 0) None,
-      ((λ there. (_, refl, refl), λ gone. absurd (subst T gone tt)), ((λ there. (_, refl, refl), λ gone. absurd (subst T gone tt)), tt)),
-    ), refl)),
+      (
+        _,
+        [],
+        refl,
+        (
+          _,
+          second ∷ entry 3 0 ∷ [],
+          refl,
+          shows-first (events 5 read_by_a) (codes "s") (codes "g") _ refl (codes "a") (at 0 0) None,
+          ((λ there. (_, refl, refl), λ gone. absurd (subst T gone tt)), ((λ there. (_, refl, refl), λ gone. absurd (subst T gone tt)), tt)),
+        ),
+        refl,
+      ),
+    ),
     λ h. absurd (subst T h tt),
   );
   not_none_of_its_own = λ h.
@@ -94,28 +104,57 @@ returns c = record {
       none_told (TellsEntryOrNull (given_at (events 5 read_by_a) (codes "s")) (present_in (key_life (events 5 read_by_a) (codes "s")))) r.2.3.0 r.2.3.1
       (stream_told r.0 r.2.0 r.2.1 r.2.3.1 r.1 r.2.2 r.2.3.2) (all_own _ (r.2.3.3.in_full (at 2 0) (refl, refl)) (λ limited. false≢true (ap is_some limited.0))) r.2.3.4;
   own_pending_past_an_id = (
-    λ h. (_, refl, (_, [], refl, (
+    λ h. (
       _,
-      entry 3 0 ∷ [],
       refl,
-      shows-first (events 5 read_by_a) (codes "s") (codes "g") _ refl (codes "a") (at 2 0) None,
-      ((λ there. (_, refl, refl), λ gone. absurd (subst T gone tt)), tt),
-    ), refl)),
+      (
+        _,
+        [],
+        refl,
+        (
+          _,
+          entry 3 0 ∷ [],
+          refl,
+          shows-first (events 5 read_by_a) (codes "s") (codes "g") _ refl (codes "a") (at 2 0) None,
+          ((λ there. (_, refl, refl), λ gone. absurd (subst T gone tt)), tt),
+        ),
+        refl,
+      ),
+    ),
     λ h. absurd (subst T h tt),
   );
   own_pending_with_a_deleted_one = (
-    λ h. (_, refl, (_, [], refl, (
+    λ h. (
       _,
-      array (id_told 2 0 ∷ NullArray ∷ []) ∷ [],
       refl,
-      shows-first (events 5 with_a_deleted_one) (codes "s") (codes "g") _ refl (codes "a") (at 0 0) (Some 1),
-      ((λ there. absurd (subst T (sym there) tt), λ gone. refl), tt),
-    ), refl)),
+      (
+        _,
+        [],
+        refl,
+        (
+          _,
+          array (id_told 2 0 ∷ NullArray ∷ []) ∷ [],
+          refl,
+          shows-first (events 5 with_a_deleted_one) (codes "s") (codes "g") _ refl (codes "a") (at 0 0) (Some 1),
+          ((λ there. absurd (subst T (sym there) tt), λ gone. refl), tt),
+        ),
+        refl,
+      ),
+    ),
     λ h. absurd (subst T h tt),
   );
   own_and_new = (
-    λ h. (_, refl, (_, _, refl, (_, [], refl, shows-first (events 5 two_groups) (codes "t") (codes "g") _ refl (codes "a") (at 0 0) None, tt),
-      (_, [], refl, (second ∷ entry 3 0 ∷ [], refl, ((_, refl, refl), ((_, refl, refl), tt))), refl))),
+    λ h. (
+      _,
+      refl,
+      (
+        _,
+        _,
+        refl,
+        (_, [], refl, shows-first (events 5 two_groups) (codes "t") (codes "g") _ refl (codes "a") (at 0 0) None, tt),
+        (_, [], refl, (second ∷ entry 3 0 ∷ [], refl, ((_, refl, refl), ((_, refl, refl), tt))), refl),
+      ),
+    ),
     λ h. absurd (subst T h tt),
   );
   in_the_order_written = (
