@@ -4,10 +4,15 @@
     great.py PROGRAM
 
 No proof can tell a want of memory that is invented past some size; so these have ample memory, and each reply is the
-one that the Redis page of its command tells. The last line is 'N passed, M failed'; the status is 1 where M > 0.
+one that the Redis page of its command tells. One more has too little memory for its additions: these are refused, and
+the commands of consumers are not. The last line is 'N passed, M failed'; the status is 1 where M > 0.
 """
+import io
+import resource
 import subprocess
 import sys
+
+from real_redis import read_reply
 
 MANY = 10_000
 GREAT = 1_000_000
@@ -111,6 +116,24 @@ def runs_as_told(program, script):
     return run(program, ["script"], lines.encode()) == ("".join(reply for _, reply in pairs).encode(), 0, b"")
 
 
+def refuses_additions_first(program):
+    """Under a limit of its address space additions are refused, and nothing that consumers ask. Once the queue is empty
+    there is memory for additions again."""
+    limit, count = 60_000_000, 60_000
+    added = [f"XADD q {place}-1 f {'v' * 1000}" for place in range(1, count + 1)]
+    asked = ["XREADGROUP GROUP g c COUNT 100 STREAMS q >", "XPENDING q g", "XLEN q"] * 100
+    commands = ["XGROUP CREATE q g 0 MKSTREAM", *added, *asked, "XTRIM q MAXLEN 0", "XADD q 100000-1 f v"]
+    done = subprocess.run([program, "script"], input="".join(f"0 c {command}\n" for command in commands).encode(),
+                          capture_output=True, timeout=300,
+                          preexec_fn=lambda: resource.setrlimit(resource.RLIMIT_AS, (limit, limit)))
+    stream = io.BytesIO(done.stdout)
+    replies = [read_reply(stream) for _ in commands]
+    refused = [reply.startswith(b"-OOM ") for reply in replies]
+    entries = refused[1:count + 1].count(False)
+    return (done.returncode == 0 and not stream.read() and 1000 < entries < count and True not in refused[count + 1:]
+            and replies[-2:] == [number(entries).encode(), bulk("100000-1").encode()])
+
+
 def refuses_a_longer_line(program):
     line = "0 c PING " + "x" * (LINE_LIMIT + 1 - len("0 c PING ")) + "\n"
     return run(program, ["script"], line.encode()) == (b"", 2, b"xs_server: line 1 is not a script line\n")
@@ -124,6 +147,7 @@ def refuses_words(program, words):
 def checks(program):
     for script in SCRIPTS:
         yield script.__name__, runs_as_told(program, script)
+    yield "additions are refused first", refuses_additions_first(program)
     yield "a line above the limit", refuses_a_longer_line(program)
     yield "a command line of many words", refuses_words(program, ["script"] * MANY)
     yield "a command line of a great word", refuses_words(program, ["x" * 100_000])
