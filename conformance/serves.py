@@ -228,9 +228,12 @@ def vanished(server):
 def listens_here_alone(server):
     """It listens on its port of 127.0.0.1, and on nothing else."""
     folder = f"/proc/{server.child.pid}/fd"
-    links = [os.readlink(f"{folder}/{name}") for name in os.listdir(folder)]
+    links, listening = [], []
+    for name in os.listdir(folder):
+        # a connection that has just ended may close its descriptor meanwhile
+        with contextlib.suppress(FileNotFoundError):
+            links.append(os.readlink(f"{folder}/{name}"))
     inodes = {link[8:-1] for link in links if link.startswith("socket:[")}
-    listening = []
     for table in ("tcp", "tcp6", "udp", "udp6"):
         with open(f"/proc/{server.child.pid}/net/{table}", encoding="ascii") as rows:
             fields = [row.split() for row in list(rows)[1:]]
