@@ -15,3 +15,4 @@ pub mod Sequences
 pub mod Decisions
 pub mod Cutting
 pub mod Nexts
+pub mod Skipping
