@@ -18,3 +18,4 @@ pub mod Sequences
 pub mod Decisions
 pub mod Cutting
 pub mod Nexts
+pub mod Skipping

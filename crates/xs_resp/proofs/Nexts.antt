@@ -2,12 +2,13 @@
 use Rattle.std.proofs.Common.{◌≡◌, ℕ, ◌+◌, ◌<◌, ◌≤◌, List, [], ◌∷◌, ◌++◌, length, take, drop, Option, Some, None, Result, Ok, Err, inl, inr, sym, ap, ◌∙◌, subst, refl, arith, append_assoc, length-append, length-drop}
 use Rattle.std.proofs.lemmas.List.{append-nil, length-take-le, take-append-drop, drop-append-le}
 use Rattle.xs_resp.specs.declared.read_fault.Wrong.{Wrong}
+use Rattle.xs_resp.specs.declared.read_fault.Wrong.TheVariants.{Length, Shape, Limit}
 use Rattle.xs_resp.specs.declared.read_fault.ReadFault.{ReadFault}
 use Rattle.xs_resp.specs.declared.read_fault.ReadFault.TheVariants.{Memory}
 use Rattle.xs_resp.specs.Grammar.{Spells, SpellsAll}
 use Rattle.xs_resp.specs.Outcome.{Outcome, Keeps}
 use Rattle.xs_resp.specs.Reading.{Found, request}
-use Rattle.xs_resp.specs.Held.{Held, Next, NextOf, fed, held_length}
+use Rattle.xs_resp.specs.Held.{Held, HasNext, Next, NextOf, Skips, fed, held_length}
 use Rattle.xs_resp.proofs.Decisions.{request-read, request-keeps}
 
 -- a request was taken
@@ -48,6 +49,18 @@ fault-of bytes (Err wrong) fault new e other (is, left) = (wrong, e)
 pub next-fault : (old : Held) (bytes : List ℕ) (fault : ReadFault) (new : Held) → old ≡ Ok bytes → (fault ≡ Memory → ⊥) → Next old (Err fault) new → (wrong : Wrong) × (request bytes ≡ Err wrong)
 next-fault old bytes fault new e other next = fault-of bytes (request bytes) fault new refl other (subst (λ h. Next h (Err fault) new) e next)
 
+memory-of : (bytes : List ℕ) (outcome : Outcome Found) (new : Held) → request bytes ≡ outcome → NextOf bytes outcome (Err Memory) new → HasNext new
+memory-of bytes (Ok (Some found)) new e (inl (is, left)) = cc
+memory-of bytes (Ok (Some found)) new e (inr (is, left)) = record { bytes = bytes; holds = left; whole = (found, e) }
+memory-of bytes (Ok None) new e (is, left) = cc
+memory-of bytes (Err Length) new e (is, left) = cc
+memory-of bytes (Err Shape) new e (is, left) = cc
+memory-of bytes (Err Limit) new e (is, left) = cc
+
+-- a request for which memory ran out is whole, and is still held
+pub next-memory : (old : Held) (bytes : List ℕ) (new : Held) → old ≡ Ok bytes → Next old (Err Memory) new → HasNext new
+next-memory old bytes new e next = memory-of bytes (request bytes) new refl (subst (λ h. Next h (Err Memory) new) e next)
+
 -- a request has bytes
 spelled-some : (bytes : List ℕ) (words : List (List ℕ)) → Spells bytes words → 0 < length bytes
 spelled-some bytes words spells = elim spells.spelled [ inl is ↦ omega (arith, ap length is) | inr is ↦ omega (arith, ap length is.1) ]
@@ -61,6 +74,14 @@ next-shorter (Ok bytes) words new next =
     let len = length-take-le is.found.end bytes read.within in
     omega (arith, ap held_length is.left, length-drop is.found.end bytes, some, len, read.within)
 next-shorter (Err wrong) words new (is, left) = cc
+
+-- so does one that was passed over
+pub skip-shorter : (old : Held) (count : ℕ) (new : Held) → Skips old count new → held_length new < held_length old
+skip-shorter old count new skips =
+    let read = request-read skips.bytes skips.found skips.read in
+    let some = spelled-some (take skips.found.end skips.bytes) skips.found.words read.spells in
+    let len = length-take-le skips.found.end skips.bytes read.within in
+    omega (arith, ap held_length skips.holds, ap held_length skips.left, length-drop skips.found.end skips.bytes, some, len, read.within)
 
 -- a piece more
 pub fed-length : (old : Held) (got : List ℕ) → held_length (fed old got) ≤ held_length old + length got

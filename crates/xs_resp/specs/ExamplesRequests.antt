@@ -5,7 +5,7 @@ use Rattle.xs_resp.specs.declared.read_fault.Wrong.TheVariants.{Length, Shape, L
 use Rattle.xs_resp.specs.declared.read_fault.ReadFault.TheVariants as fault
 use Rattle.xs_resp.specs.Outcome.{Outcome}
 use Rattle.xs_resp.specs.Reading.{Found, request}
-use Rattle.xs_resp.specs.Held.{fed, held_length, is_partial, Next}
+use Rattle.xs_resp.specs.Held.{fed, held_length, is_partial, HasNext, Next, Skips}
 use Rattle.xs_resp.specs.Examples.{wire}
 
 -- these words, in so many bytes
@@ -90,3 +90,11 @@ pub record Reader : Type 0 where
   pub gives_no_other_words : Next (Ok (wire (codes "*1^$1^a^"))) (Ok (Some (codes "b" ∷ []))) (Ok []) → ⊥
   pub forgets_no_fault : Next (Ok (codes "x")) (Err fault.Shape) (Ok []) → ⊥
   pub waits_on_no_fault : Next (Ok (codes "x")) (Ok None) (Ok (codes "x")) → ⊥
+  pub has_a_request : HasNext (Ok (wire (codes "*1^$1^a^x")))
+  pub has_a_request_of_no_words : HasNext (Ok (wire (codes "*0^")))
+  pub has_no_part_of_one : HasNext (Ok (wire (codes "*1^"))) → ⊥
+  pub has_none_once_failed : HasNext (Err Shape) → ⊥
+  pub skips_two_words : Skips (Ok (wire (codes "*2^$1^a^$0^^*0"))) 2 (Ok (codes "*0"))
+  pub skips_no_words : Skips (Ok (wire (codes "*0^*0^"))) 0 (Ok (wire (codes "*0^")))
+  pub skips_no_word_less : Skips (Ok (wire (codes "*2^$1^a^$0^^"))) 2 (Ok (wire (codes "$0^^"))) → ⊥
+  pub counts_no_word_less : Skips (Ok (wire (codes "*2^$1^a^$0^^"))) 1 (Ok []) → ⊥

@@ -6,7 +6,7 @@ use Rattle.xs_resp.specs.declared.read_fault.ReadFault.{ReadFault}
 use Rattle.xs_resp.specs.declared.read_fault.ReadFault.TheVariants.{Memory}
 use Rattle.xs_resp.specs.Outcome.{Outcome}
 use Rattle.xs_resp.specs.Faulting.{fault_of}
-use Rattle.xs_resp.specs.Reading.{Found, request}
+use Rattle.xs_resp.specs.Reading.{Found, request, IsWhole}
 
 -- the bytes that a reader holds, or the fault with which it has failed
 abbrev pub Held : Type 0
@@ -39,3 +39,18 @@ NextOf bytes (Err wrong) result new = (result ≡ Err (fault_of wrong)) × (new 
 abbrev pub Next : Held → Result (Option (List (List ℕ))) ReadFault → Held → Type 0
 Next (Ok bytes) result new = NextOf bytes (request bytes) result new
 Next (Err wrong) result new = (result ≡ Err (fault_of wrong)) × (new ≡ Err wrong)
+
+-- a whole request stands at the front of what is held
+pub record HasNext (held : Held) : Type 0 where
+  pub bytes : List ℕ
+  pub holds : held ≡ Ok bytes
+  pub whole : IsWhole (request bytes)
+
+-- the next request, which has so many words, is passed over
+pub record Skips (old : Held) (count : ℕ) (new : Held) : Type 0 where
+  pub bytes : List ℕ
+  pub found : Found
+  pub holds : old ≡ Ok bytes
+  pub read : request bytes ≡ Ok (Some found)
+  pub count_is : count ≡ length found.words
+  pub left : new ≡ Ok (drop found.end bytes)

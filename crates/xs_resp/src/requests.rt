@@ -1,8 +1,9 @@
 //! The reader of requests, from bytes that come in pieces.
-ghost use Rattle.std.specs.Prelude.{◌≡◌, ◌≤◌, ◌-◌, length, drop, IsOk, IsErr, OnOk, OnErr, Ok, Err};
-ghost use Rattle.xs_resp.specs.Held.{fed, is_partial, Next};
+ghost use Rattle.std.specs.Prelude.{◌≡◌, ◌≤◌, ◌-◌, length, drop, IsOk, IsErr, IfOk, OnOk, OnErr, Ok, Err};
+ghost use Rattle.xs_resp.specs.Held.{fed, is_partial, HasNext, Next, Skips};
 
 use crate::copying::words_of;
+use crate::header::{Part, read_header};
 use crate::progress::{Progress, read_on};
 use crate::read_fault::{ReadFault, Wrong};
 use crate::word::rest_of;
@@ -45,8 +46,8 @@ impl Model for Requests {
 }
 
 impl Requests {
-    ghost use Rattle.std.specs.Prelude.{◌≡◌, ◌≢◌, ℕ, List, [], None, OnOk, OnErr, IsOk, IsErr, Ok};
-    ghost use Rattle.xs_resp.specs.Held.{fed, is_partial, Next};
+    ghost use Rattle.std.specs.Prelude.{◌≡◌, ◌≢◌, ℕ, List, [], None, IfOk, OnOk, OnErr, IsOk, IsErr, Ok};
+    ghost use Rattle.xs_resp.specs.Held.{fed, is_partial, HasNext, Next, Skips};
 
     /// A reader that holds nothing.
     pub fn new(alloc: Global) -> Self
@@ -58,6 +59,28 @@ impl Requests {
             start: 0,
             state: State::Between,
         }
+    }
+
+    /// A reader that holds nothing, with memory for so many bytes.
+    pub fn with_capacity(alloc: Global, capacity: usize) -> Result<Self, AllocError>
+        ensures { IfOk result (λ requests. requests ≡ Ok []) }
+    {
+        Ok(Self {
+            alloc,
+            bytes: Vec::with_capacity(alloc, capacity)?,
+            start: 0,
+            state: State::Between,
+        })
+    }
+
+    /// Drops all that is held, and a fault. Its memory is kept, but for what a great request took.
+    pub fn clear(&mut self)
+        ensures { self.new ≡ Ok [] }
+    {
+        self.bytes.clear();
+        self.bytes.shrink_to(KEPT);
+        self.start = 0;
+        self.state = State::Between;
     }
 
     /// Takes a piece in. A failed reader drops it, and takes no memory. Unchanged on refusal.
@@ -108,6 +131,20 @@ impl Requests {
         self.start = used - make_room(&mut self.bytes, used);
         self.state = State::Between;
         Ok(Some(words))
+    }
+
+    /// Passes over the next request, which is whole, and says how many words it has. It takes no memory.
+    pub fn skip(&mut self) -> usize
+        requires { HasNext self.old }
+        ensures { Skips self.old result self.new }
+    {
+        let bytes = rest_of(self.bytes.as_slice(), self.start);
+        let header = read_header(Part::Count, bytes).unwrap().unwrap();
+        let reached = read_on(bytes, None).unwrap().unwrap();
+        let end = self.start + reached.at;
+        self.start = end - make_room(&mut self.bytes, end);
+        self.state = State::Between;
+        header.number
     }
 
     /// Whether bytes are held. A failed reader holds none.
