@@ -7,7 +7,7 @@ pub mod ReplyItems
 pub mod WholeReplies
 pub mod ReplyText
 pub mod Left
-pub mod Place
+pub mod Position
 pub mod Fitting
 pub mod Outcome
 pub mod Part

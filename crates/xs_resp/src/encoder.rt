@@ -4,7 +4,7 @@ ghost use Rattle.std.specs.List.{flat_map};
 ghost use Rattle.xs_resp.specs.ReplyText.{text, token_text};
 ghost use Rattle.xs_resp.specs.Marks.{token_in};
 ghost use Rattle.xs_resp.specs.Left.{left, left_of, string_of, strings_of};
-ghost use Rattle.xs_resp.specs.Place.{IsEncoding};
+ghost use Rattle.xs_resp.specs.Position.{IsEncoding};
 ghost use Rattle.xs_resp.specs.Fitting.{Appends};
 
 use crate::mark::Mark;
@@ -22,7 +22,7 @@ const COPIED: usize = 4_096;
 
 /// How far a reply is written.
 #[derive(Clone, Copy)]
-pub(crate) struct Place {
+pub(crate) struct Position {
     /// How many of its tokens are written.
     taken: usize,
     /// How many bytes their strings have.
@@ -32,7 +32,7 @@ pub(crate) struct Place {
 }
 
 /// The end of a reply that is one token.
-const END: Place = Place {
+const END: Position = Position {
     taken: 1,
     at: 0,
     is_lent: false,
@@ -44,21 +44,21 @@ const END: Place = Place {
 pub struct Encoder {
     gathered: Vec<u8>,
     reply: Reply,
-    place: Place,
+    position: Position,
 }
 
 impl Model for Encoder {
     ghost use Rattle.std.specs.Prelude.{◌≡◌, ◌≤◌, [], false, drop, vec_capacity};
     ghost use Rattle.xs_resp.specs.ReplyItems.{tokens_of};
     ghost use Rattle.xs_resp.specs.Left.{Left, pieces};
-    ghost use Rattle.xs_resp.specs.Place.{IsEncoding};
+    ghost use Rattle.xs_resp.specs.Position.{IsEncoding};
 
     ghost Value = { Left };
 
-    ghost view = { λ e. pieces e.gathered.items e.place.is_lent (drop e.place.taken (tokens_of e.reply)) };
+    ghost view = { λ e. pieces e.gathered.items e.position.is_lent (drop e.position.taken (tokens_of e.reply)) };
 
     ghost invariant = { λ e. (16384 ≤ vec_capacity e.gathered)
-        × IsEncoding e.gathered.items (tokens_of e.reply) e.place };
+        × IsEncoding e.gathered.items (tokens_of e.reply) e.position };
 }
 
 impl Encoder {
@@ -69,7 +69,7 @@ impl Encoder {
         Ok(Self {
             gathered: Vec::with_capacity(alloc, GATHERED)?,
             reply: Reply::NullArray,
-            place: END,
+            position: END,
         })
     }
 
@@ -80,7 +80,7 @@ impl Encoder {
     {
         self.reply = reply;
         self.gathered.clear();
-        self.place = gather(&Sequence::new(&self.reply), 0, 0, &mut self.gathered);
+        self.position = gather(&Sequence::new(&self.reply), 0, 0, &mut self.gathered);
     }
 
     /// The front of what is left. It is empty only if nothing is left.
@@ -88,9 +88,9 @@ impl Encoder {
         ensures piece { result.now ≡ self.now.piece }
         ensures all { self.now.piece ≡ [] → self.now.behind ≡ [] }
     {
-        if self.place.is_lent && self.gathered.is_empty() {
+        if self.position.is_lent && self.gathered.is_empty() {
             return Sequence::new(&self.reply)
-                .token(self.place.taken, self.place.at)
+                .token(self.position.taken, self.position.at)
                 .string;
         }
         self.gathered.as_slice()
@@ -100,16 +100,16 @@ impl Encoder {
     pub fn advance(&mut self)
         ensures { left self.new ≡ self.old.behind }
     {
-        let Place { taken, at, is_lent } = self.place;
+        let Position { taken, at, is_lent } = self.position;
         let was_lent = is_lent && self.gathered.is_empty();
         self.gathered.clear();
         if was_lent {
             let tokens = Sequence::new(&self.reply);
             let written = tokens.token(taken, at);
             let _ = self.gathered.extend_from_slice(b"\r\n");
-            self.place = gather(&tokens, written.next, written.end, &mut self.gathered);
+            self.position = gather(&tokens, written.next, written.end, &mut self.gathered);
         } else if !is_lent {
-            self.place = gather(&Sequence::new(&self.reply), taken, at, &mut self.gathered);
+            self.position = gather(&Sequence::new(&self.reply), taken, at, &mut self.gathered);
             if self.gathered.is_empty() {
                 self.clear();
             }
@@ -122,7 +122,7 @@ impl Encoder {
     {
         self.gathered.clear();
         self.reply = Reply::NullArray;
-        self.place = END;
+        self.position = END;
     }
 }
 
@@ -137,12 +137,12 @@ enum Fit {
 }
 
 /// Appends tokens from this one on, as many as there is room for.
-fn gather(tokens: &Sequence<'_>, start: usize, begin: usize, out: &mut Vec<u8>) -> Place
+fn gather(tokens: &Sequence<'_>, start: usize, begin: usize, out: &mut Vec<u8>) -> Position
     requires room { 16384 ≤ vec_capacity out.old }
     requires within { start ≤ length tokens.now }
     requires strings { begin ≡ length (strings_of (take start tokens.now)) }
     ensures room { 16384 ≤ vec_capacity out.new }
-    ensures place { IsEncoding out.new.items tokens.now result }
+    ensures position { IsEncoding out.new.items tokens.now result }
     ensures header { result.is_lent ≡ true → 0 < length out.new.items }
     ensures text { out.new.items ++ left_of result.is_lent (drop result.taken tokens.now)
         ≡ out.old.items ++ flat_map token_text (drop start tokens.now) }
@@ -156,19 +156,19 @@ fn gather(tokens: &Sequence<'_>, start: usize, begin: usize, out: &mut Vec<u8>) 
                 taken = found.next;
                 at = found.end;
             }
-            Fit::Header => return Place {
+            Fit::Header => return Position {
                 taken,
                 at,
                 is_lent: true,
             },
-            Fit::Nothing => return Place {
+            Fit::Nothing => return Position {
                 taken,
                 at,
                 is_lent: false,
             },
         }
     }
-    Place {
+    Position {
         taken,
         at,
         is_lent: false,
