@@ -31,6 +31,14 @@ pub(crate) struct Position {
     is_lent: bool,
 }
 
+impl Position {
+    fn new(taken: usize, at: usize, is_lent: bool) -> Self
+        ensures { result ≡ record { taken = taken; at = at; is_lent = is_lent } }
+    {
+        Self { taken, at, is_lent }
+    }
+}
+
 /// The end of a reply that is one token.
 const END: Position = Position {
     taken: 1,
@@ -156,23 +164,11 @@ fn gather(tokens: &Sequence<'_>, start: usize, begin: usize, out: &mut Vec<u8>) 
                 taken = found.next;
                 at = found.end;
             }
-            Fit::Header => return Position {
-                taken,
-                at,
-                is_lent: true,
-            },
-            Fit::Nothing => return Position {
-                taken,
-                at,
-                is_lent: false,
-            },
+            Fit::Header => return Position::new(taken, at, true),
+            Fit::Nothing => return Position::new(taken, at, false),
         }
     }
-    Position {
-        taken,
-        at,
-        is_lent: false,
-    }
+    Position::new(taken, at, false)
 }
 
 /// Appends a token, or the header of a long string, if there is room.

@@ -13,6 +13,8 @@ pub mod read_fault;
 pub mod reply;
 pub mod requests;
 mod sequence;
+#[cfg(test)]
+mod tests;
 pub mod tokens;
 mod word;
 pub mod writing;
