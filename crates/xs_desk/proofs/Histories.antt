@@ -10,7 +10,8 @@ use Rattle.xs_resp.specs.declared.reply.Reply.{Reply}
 use Rattle.xs_command.specs.declared.command.Command.{Command}
 use Rattle.xs_command.specs.WellFormed.{IsWellFormed}
 use Rattle.xs_keys.specs.Content.{Content}
-use Rattle.xs_keys.specs.Headline.{Follows, Answers, RunsOn}
+use Rattle.xs_keys.specs.EachReply.{Follows, Answers}
+use Rattle.xs_keys.specs.Headline.{RunsOn}
 use Rattle.xs_keys.specs.Step.{Step}
 use Rattle.xs_keys.proofs.Lawfulness.{content-lawful}
 use Rattle.xs_keys.proofs.Runs.{step-follows, headline}

@@ -2,7 +2,7 @@
 ghost use Rattle.std.specs.Prelude.{◌≡◌, ◌++◌, ◌∷◌, [], ℕ, List};
 ghost use Rattle.xs_command.specs.declared.command.Command.{Command};
 ghost use Rattle.xs_keys.specs.Headline.{AreWellFormed, Headline, LivesAreApart};
-ghost use Rattle.xs_keys.specs.Job.{EachGoesAlong};
+ghost use Rattle.xs_keys.specs.Move.{EachGoesAlong};
 ghost use Rattle.xs_desk.specs.History.{ServedCall, Desk, IsHistory, events_of, replies_of};
 ghost use Rattle.xs_desk.specs.Serving.{ServesAll};
 

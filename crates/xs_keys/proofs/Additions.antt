@@ -15,9 +15,10 @@ use Rattle.xs_resp.specs.declared.reply.Reply.TheVariants.{Bulk}
 use Rattle.xs_command.specs.declared.command.AddCommand.{AddCommand}
 use Rattle.xs_command.specs.declared.command.Command.TheVariants.{Add}
 use Rattle.xs_keys.specs.Life.{added}
-use Rattle.xs_keys.specs.Content.{Key, new_key, stream_after}
+use Rattle.xs_keys.specs.Content.{Key}
+use Rattle.xs_keys.specs.After.{new_key, stream_after}
 use Rattle.xs_keys.specs.Codes.{content_of}
-use Rattle.xs_keys.specs.Reply.{assigned_reply}
+use Rattle.xs_keys.specs.ReplyParts.{assigned_reply}
 use Rattle.xs_keys.specs.Step.{Step, is_error}
 use Rattle.xs_keys.specs.Adding.{Adds, text_of}
 use Rattle.xs_keys.proofs.Names.{insert-same}

@@ -10,13 +10,14 @@ use Rattle.xs_stream.specs.declared.id.Id.{Id}
 use Rattle.xs_stream.specs.declared.field.Field.{Field}
 use Rattle.xs_stream.specs.Kept.{Kept, ids_of}
 use Rattle.xs_group.specs.State.{State}
-use Rattle.xs_keys.specs.GroupEvent.{Ask}
-use Rattle.xs_keys.specs.Content.{Content, Key, asked, group_after, with_group, group_in, entries_in}
+use Rattle.xs_keys.specs.Ask.{Ask}
+use Rattle.xs_keys.specs.Content.{Content, Key}
+use Rattle.xs_keys.specs.After.{asked, group_after, with_group, group_in, entries_in}
 use Rattle.xs_keys.specs.Codes.{content_of, groups_of}
 use Rattle.xs_resp.specs.declared.reply.Reply.{Reply}
 use Rattle.xs_resp.specs.declared.reply.Reply.TheVariants.{Error}
 use Rattle.xs_resp.specs.declared.fault.Fault.TheVariants.{NoGroup}
-use Rattle.xs_keys.specs.Reply.{of_group, taken_reply}
+use Rattle.xs_keys.specs.ReplyParts.{of_group, taken_reply}
 use Rattle.xs_keys.specs.Step.{is_error}
 use Rattle.xs_keys.proofs.Maps.{get-content_of, content-insert}
 use Rattle.xs_keys.proofs.Names.{insert-same}

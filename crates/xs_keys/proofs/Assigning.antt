@@ -6,7 +6,9 @@ use Rattle.xs_stream.specs.Id.{has_id}
 use Rattle.xs_group.specs.declared.claims.Claim.{Claim}
 use Rattle.xs_group.specs.State.{Row}
 use Rattle.xs_group.specs.Claims.{Rule, claimed, claimed_row}
-use Rattle.xs_keys.specs.GroupEvent.{Ask, GroupEvent, claim, auto_claim, claim_of_event, pending_row_at, rows, owner}
+use Rattle.xs_keys.specs.Ask.{Ask, claim, auto_claim}
+use Rattle.xs_keys.specs.GroupEvent.{GroupEvent, claim_of_event, pending_row_at, rows}
+use Rattle.xs_keys.specs.Owner.{owner}
 use Rattle.xs_keys.specs.GroupLife.{GroupLife}
 use Rattle.xs_keys.specs.Told.{IsAssigned}
 use Rattle.xs_keys.proofs.Owners.{claimed-over, owner-row, row-found, of_row}

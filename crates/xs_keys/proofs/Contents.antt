@@ -16,9 +16,10 @@ use Rattle.xs_command.specs.declared.command.GroupCreateCommand.{GroupCreateComm
 use Rattle.xs_command.specs.declared.command.ReadGroupCommand.{ReadGroupCommand}
 use Rattle.xs_command.specs.declared.command.ReadOne.{ReadOne}
 use Rattle.xs_keys.specs.Life.{Change, added, deleted, trimmed_to, is_listed, opened, key_life}
-use Rattle.xs_keys.specs.GroupEvent.{Ask, join, leave, ack, claim, auto_claim}
+use Rattle.xs_keys.specs.Ask.{Ask, join, leave, ack, claim, auto_claim}
 use Rattle.xs_keys.specs.GroupLife.{GroupLife, present_in, starting_id, new_life, life_after_ask, ask_of_read, life_after_reads, group_life}
-use Rattle.xs_keys.specs.Content.{Key, Content, IsGroup, GroupHolds, KeyHolds, IsContent, new_key, made, stream_after, key_after, changed, without_keys, group_after, with_group, asked, created, group_in, serves, read_each, after}
+use Rattle.xs_keys.specs.Content.{Key, Content, IsGroup, GroupHolds, KeyHolds, IsContent}
+use Rattle.xs_keys.specs.After.{new_key, made, stream_after, key_after, changed, without_keys, group_after, with_group, asked, created, group_in, serves, read_each, after}
 use Rattle.xs_keys.proofs.Names.{is_name-eq, get-insert, get-remove, same_map, same_names}
 use Rattle.xs_keys.proofs.Streams.{stream-step, ascends-live}
 use Rattle.xs_keys.proofs.GroupSteps.{group-step, group-new}

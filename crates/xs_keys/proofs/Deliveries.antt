@@ -5,8 +5,9 @@ use Rattle.xs_stream.specs.declared.id.Id.{Id}
 use Rattle.xs_stream.specs.Id.{is_below, has_id}
 use Rattle.xs_stream.specs.Kept.{Ascends, AllAbove}
 use Rattle.xs_keys.specs.Life.{greatest}
-use Rattle.xs_keys.specs.GroupEvent.{Ask, GroupEvent, read_new, read_own, ack, join, leave, claim, auto_claim, new_ids_of_ask, delivered, cursor, new_ids_of_event}
-use Rattle.xs_keys.specs.Headline.{HadItsTurn}
+use Rattle.xs_keys.specs.Ask.{Ask, read_new, read_own, ack, join, leave, claim, auto_claim, new_ids_of_ask}
+use Rattle.xs_keys.specs.GroupEvent.{GroupEvent, delivered, cursor, new_ids_of_event}
+use Rattle.xs_keys.specs.EachDelivery.{HadItsTurn}
 use Rattle.xs_keys.proofs.IdLists.{above-delivers, ascends-delivers, ascends-append, above-lower, not_above, has_id-append, delivers-up_to, above-append, not_among}
 use Rattle.xs_keys.proofs.Streams.{greatest-up}
 use Rattle.xs_keys.proofs.GroupSteps.{up_to-delivered, cursor-step}

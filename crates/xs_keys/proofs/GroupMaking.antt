@@ -13,7 +13,8 @@ use Rattle.xs_resp.specs.declared.fault.Fault.TheVariants.{Memory}
 use Rattle.xs_command.specs.declared.command.GroupCreateCommand.{GroupCreateCommand}
 use Rattle.xs_command.specs.declared.command.Command.TheVariants.{GroupCreate}
 use Rattle.xs_keys.specs.GroupLife.{starting_id}
-use Rattle.xs_keys.specs.Content.{Content, Key, new_key, with_group}
+use Rattle.xs_keys.specs.Content.{Content, Key}
+use Rattle.xs_keys.specs.After.{new_key, with_group}
 use Rattle.xs_keys.specs.Codes.{content_of}
 use Rattle.xs_keys.specs.Grouping.{Creates}
 use Rattle.xs_keys.specs.Step.{Step}

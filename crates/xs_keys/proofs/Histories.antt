@@ -10,7 +10,7 @@ use Rattle.xs_command.specs.declared.command.GroupCreateCommand.{GroupCreateComm
 use Rattle.xs_command.specs.declared.command.ReadGroupCommand.{ReadGroupCommand}
 use Rattle.xs_command.specs.declared.command.ReadOne.{ReadOne}
 use Rattle.xs_keys.specs.Life.{Change, is_listed, key_life}
-use Rattle.xs_keys.specs.GroupEvent.{Ask, join, leave, ack, claim, auto_claim}
+use Rattle.xs_keys.specs.Ask.{Ask, join, leave, ack, claim, auto_claim}
 use Rattle.std.specs.Option.{option_or}
 use Rattle.xs_keys.specs.GroupLife.{GroupLife, present_in, new_life, life_after_ask, ask_of_read, life_after_reads, group_life_after, reads_of, group_of, group_life}
 use Rattle.xs_keys.proofs.Streams.{ascends-live}

@@ -10,12 +10,14 @@ use Rattle.xs_stream.specs.Kept.{ids_of, Ascends, AllAbove}
 use Rattle.xs_stream.proofs.Order.{is_same-eq, is_same-refl, is_same-symm, below-not_back}
 use Rattle.xs_group.specs.State.{Row, is_name, delivers, owned}
 use Rattle.xs_keys.specs.Life.{Change, key_life, given_in, live}
-use Rattle.xs_keys.specs.GroupEvent.{GroupEvent, delivered, cursor, last_assigned, owner, rows_among, pending_row_at, rows}
+use Rattle.xs_keys.specs.GroupEvent.{GroupEvent, delivered, cursor, rows_among, pending_row_at, rows}
+use Rattle.xs_keys.specs.Owner.{last_assigned, owner}
 use Rattle.xs_keys.specs.GroupLife.{GroupLife, group_life}
 use Rattle.xs_keys.specs.Content.{Content, Key, IsGroup, GroupHolds, KeyHolds, IsContent}
-use Rattle.xs_keys.specs.Reply.{array, array_or_null, id_reply, of_group, owner_reply, summary_reply}
+use Rattle.xs_keys.specs.ReplyParts.{array, array_or_null, id_reply, of_group, owner_reply, summary_reply}
 use Rattle.xs_keys.specs.Ground.{Command, State, Reply, Int, NullBulk, get, summary_of}
-use Rattle.xs_keys.specs.Job.{Place, before_start, waiting, dropped, handed_out, pending, settled, place_of, StandsAt, HasOnePlace, is_at, is_pending, jobs_at, BooksBalance, TellsPending}
+use Rattle.xs_keys.specs.Place.{Place, before_start, waiting, dropped, handed_out, pending, settled, place_of, StandsAt, HasOnePlace}
+use Rattle.xs_keys.specs.Books.{is_at, is_pending, jobs_at, BooksBalance, TellsPending}
 use Rattle.xs_keys.proofs.IdLists.{ascends-where, has_id-where, not_above}
 use Rattle.xs_keys.proofs.Streams.{ascends-given, ascends-live}
 use Rattle.xs_keys.proofs.Deliveries.{PresentAscends, ascends-delivered}

@@ -31,9 +31,13 @@ use Rattle.xs_command.specs.declared.command.ReadFrom.TheVariants.{New, After}
 use Rattle.xs_command.specs.declared.command.ClaimCommand.{ClaimCommand}
 use Rattle.xs_command.specs.declared.command.AutoClaimCommand.{AutoClaimCommand}
 use Rattle.xs_keys.specs.Life.{Change, added, deleted, trimmed_to, is_listed, opened, key_life_after, key_life, entry_of, gives, given_in, top, drops, stands, live}
-use Rattle.xs_keys.specs.GroupEvent.{Ask, GroupEvent, join, leave, ack, claim, auto_claim, new_ids_of_ask, claim_of_ask, consumer_of, keeps_pending, is_acknowledgement_of, drops_consumer, delivered, cursor, last_assigned, owner, pending_row_at, rows}
+use Rattle.xs_keys.specs.Ask.{Ask, join, leave, ack, claim, auto_claim, new_ids_of_ask, claim_of_ask, consumer_of, keeps_pending, is_acknowledgement_of, drops_consumer}
+use Rattle.xs_keys.specs.GroupEvent.{GroupEvent, delivered, cursor, pending_row_at, rows}
+use Rattle.xs_keys.specs.Owner.{last_assigned, owner}
 use Rattle.xs_keys.specs.GroupLife.{GroupLife, present_in, starting_id, new_life, life_after_ask, ask_of_read, life_after_reads, group_life_after, reads_of, group_of, group_life, is_new, reads_new_entries}
-use Rattle.xs_keys.specs.Job.{Place, before_start, waiting, dropped, handed_out, pending, settled, place_of, deletes_entry, is_trimmed_below_one, trims_entry, reads_new_entries_in, with_noack, claims_by_id, claims_entry, consumer_of_command, acknowledges_entry, removes_consumer, begins_job, ends_group, found_at, HasArrow, HasToMove, trims_new, IsFirstPlace, GoesAlong, place_in, place_after, is_final, GoesOnFor}
+use Rattle.xs_keys.specs.Place.{Place, before_start, waiting, dropped, handed_out, pending, settled, place_of, place_in, place_after}
+use Rattle.xs_keys.specs.Effect.{deletes_entry, is_trimmed_below_one, trims_entry, reads_new_entries_in, with_noack, claims_by_id, claims_entry, consumer_of_command, acknowledges_entry, removes_consumer, begins_job, ends_group}
+use Rattle.xs_keys.specs.Move.{found_at, HasArrow, HasToMove, trims_new, IsFirstPlace, GoesAlong, is_final, GoesOnFor}
 use Rattle.xs_keys.proofs.IdLists.{has_id-append, has_id-where}
 use Rattle.xs_keys.proofs.Streams.{gives-not_new, up_to-live}
 use Rattle.xs_stream.proofs.Order.{below-irrefl, is_same-eq, below-not_back, not_above-trans}

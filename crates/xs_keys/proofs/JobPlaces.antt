@@ -6,9 +6,11 @@ use Rattle.xs_stream.specs.Id.{is_below, has_id}
 use Rattle.xs_stream.specs.Kept.{ids_of}
 use Rattle.xs_stream.proofs.Order.{up_to-below}
 use Rattle.xs_keys.specs.Life.{Change, live}
-use Rattle.xs_keys.specs.GroupEvent.{GroupEvent, new_ids_of_event, consumer_of, keeps_pending, delivered, cursor, rows, takes, last_assigned, settles, is_settled, owner}
+use Rattle.xs_keys.specs.GroupEvent.{GroupEvent, new_ids_of_event, delivered, cursor, rows}
+use Rattle.xs_keys.specs.Ask.{consumer_of, keeps_pending}
+use Rattle.xs_keys.specs.Owner.{takes, last_assigned, settles, is_settled, owner}
 use Rattle.xs_keys.specs.GroupLife.{GroupLife}
-use Rattle.xs_keys.specs.Job.{Place, before_start, waiting, dropped, handed_out, pending, settled, place_of_delivered, place_of, StandsAt, HasOnePlace}
+use Rattle.xs_keys.specs.Place.{Place, before_start, waiting, dropped, handed_out, pending, settled, place_of_delivered, place_of, StandsAt, HasOnePlace}
 use Rattle.xs_keys.proofs.IdLists.{has_id-append, not_among}
 use Rattle.xs_keys.proofs.GroupSteps.{up_to-delivered}
 use Rattle.xs_keys.proofs.Deliveries.{PresentAscends, start-up, past-start}

@@ -9,9 +9,11 @@ use Rattle.xs_stream.specs.Kept.{Ascends, AllAbove, AllUpTo}
 use Rattle.xs_group.specs.State.{Row, State, is_name, delivers, first_row, shown, again, unless_owned}
 use Rattle.xs_command.specs.declared.command.Command.{Command}
 use Rattle.xs_keys.specs.Life.{Change, key_life, stream_of}
-use Rattle.xs_keys.specs.GroupEvent.{Ask, GroupEvent, read_new, read_own, ack, join, leave, claim, auto_claim, delivered, cursor, is_consumer, row_after_ask, rows_among, pending_row_at, rows}
+use Rattle.xs_keys.specs.Ask.{Ask, read_new, read_own, ack, join, leave, claim, auto_claim, row_after_ask}
+use Rattle.xs_keys.specs.GroupEvent.{GroupEvent, delivered, cursor, is_consumer, rows_among, pending_row_at, rows}
 use Rattle.xs_keys.specs.GroupLife.{GroupLife, group_life}
-use Rattle.xs_keys.specs.Content.{Key, Content, IsGroup, GroupHolds, KeyHolds, IsContent, IsLawfulStream, IsLawfulGroup, IsLawfulKey, IsLawfulContent}
+use Rattle.xs_keys.specs.Content.{Key, Content, IsGroup, GroupHolds, KeyHolds, IsContent}
+use Rattle.xs_keys.specs.LawfulContent.{IsLawfulStream, IsLawfulGroup, IsLawfulKey, IsLawfulContent}
 use Rattle.xs_keys.proofs.Streams.{ascends-live, up_to-live}
 use Rattle.xs_keys.proofs.GroupRows.{row_ids}
 use Rattle.xs_keys.proofs.GroupSteps.{up_to-rows}

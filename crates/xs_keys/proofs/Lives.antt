@@ -16,7 +16,8 @@ use Rattle.xs_command.specs.declared.command.ReadOne.{ReadOne}
 use Rattle.xs_command.specs.declared.command.ReadFrom.{ReadFrom}
 use Rattle.xs_command.specs.declared.command.ReadFrom.TheVariants.{New, After}
 use Rattle.xs_keys.specs.Life.{Change, is_listed, key_life}
-use Rattle.xs_keys.specs.GroupEvent.{Ask, join, leave, ack, claim, auto_claim, new_ids_of_ask, delivered, cursor}
+use Rattle.xs_keys.specs.Ask.{Ask, join, leave, ack, claim, auto_claim, new_ids_of_ask}
+use Rattle.xs_keys.specs.GroupEvent.{delivered, cursor}
 use Rattle.xs_keys.specs.GroupLife.{GroupLife, limit_of, present_in, new_life, life_after_ask, ask_of_read, life_after_reads, group_of, group_life, is_new, reads_new_entries, has_all_groups, ids_delivered_by, GoesOn}
 use Rattle.xs_keys.proofs.Names.{is_name-eq}
 

@@ -8,7 +8,7 @@ use Rattle.xs_stream.specs.declared.range.Range.{Range}
 use Rattle.xs_stream.specs.Kept.{ids_of, fields_at, Ascends, is_within, ids_within, entries_within, limited, IsEntryOf, AreEntriesOf}
 use Rattle.xs_stream.proofs.Lending.{within-found}
 use Rattle.xs_stream.proofs.InOrder.{ids_of-filter}
-use Rattle.xs_keys.specs.Reply.{entry_reply, present_reply}
+use Rattle.xs_keys.specs.ReplyParts.{entry_reply, present_reply}
 
 abbrev Entries : Type 0
 Entries = List (Id × List Field)

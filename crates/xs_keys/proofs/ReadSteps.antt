@@ -16,14 +16,16 @@ use Rattle.xs_command.specs.declared.command.ReadOne.{ReadOne}
 use Rattle.xs_command.specs.declared.command.ReadFrom.{ReadFrom}
 use Rattle.xs_command.specs.declared.command.ReadFrom.TheVariants.{New, After}
 use Rattle.xs_keys.specs.declared.xreadgroup.Served.{Served}
-use Rattle.xs_keys.specs.GroupEvent.{Ask}
+use Rattle.xs_keys.specs.Ask.{Ask}
 use Rattle.xs_keys.specs.GroupLife.{ask_of_read}
-use Rattle.xs_keys.specs.Content.{Content, Key, asked, read_each, group_after, with_group, group_in, entries_in}
+use Rattle.xs_keys.specs.Content.{Content, Key}
+use Rattle.xs_keys.specs.After.{asked, read_each, group_after, with_group, group_in, entries_in}
 use Rattle.xs_resp.specs.declared.reply.Reply.{Reply}
 use Rattle.xs_resp.specs.Token.{Token}
 use Rattle.xs_resp.specs.ReplyItems.{tokens_of}
 use Rattle.xs_keys.specs.Step.{is_error}
-use Rattle.xs_keys.specs.Reply.{shown_by, new_part, parts, array_or_null}
+use Rattle.xs_keys.specs.Reply.{shown_by, parts}
+use Rattle.xs_keys.specs.ReplyParts.{new_part, array_or_null}
 use Rattle.xs_keys.specs.Reading.{ids_shown, part_of, IsShown, IsServedAt, IsMadeIn, IsMadeAt, AreMade}
 use Rattle.xs_keys.proofs.Names.{get-insert, is_name-eq, is_name-refl, same_map}
 

@@ -29,10 +29,12 @@ use Rattle.xs_command.specs.declared.command.Command.TheVariants.{Ping, Quit, Ad
 use Rattle.xs_command.specs.declared.command.GroupCreateCommand.{GroupCreateCommand}
 use Rattle.xs_command.specs.declared.command.ReadGroupCommand.{ReadGroupCommand}
 use Rattle.xs_keys.specs.Life.{added}
-use Rattle.xs_keys.specs.GroupEvent.{Ask, join, leave, claim, auto_claim}
+use Rattle.xs_keys.specs.Ask.{Ask, join, leave, claim, auto_claim}
 use Rattle.xs_keys.specs.GroupLife.{starting_id}
-use Rattle.xs_keys.specs.Content.{Content, Key, stream_with, changed, asked, with_group, created, made, group_in, entries_in, serves, read_each, after}
-use Rattle.xs_keys.specs.Reply.{array_or_null, assigned_reply, of_group, of_key, parts, taken_reply, scan_shown, reply}
+use Rattle.xs_keys.specs.Content.{Content, Key}
+use Rattle.xs_keys.specs.After.{stream_with, changed, asked, with_group, created, made, group_in, entries_in, serves, read_each, after}
+use Rattle.xs_keys.specs.ReplyParts.{array_or_null, assigned_reply, of_group, of_key, taken_reply, scan_shown}
+use Rattle.xs_keys.specs.Reply.{parts, reply}
 use Rattle.xs_keys.specs.Step.{is_error, IsUnchangedIfRefused}
 use Rattle.xs_keys.proofs.AskSteps.{asked-missing}
 use Rattle.xs_keys.proofs.Names.{insert-same}

@@ -14,9 +14,10 @@ use Rattle.xs_group.specs.State.{Row, idle, is_name}
 use Rattle.xs_group.specs.Claims.{row_at}
 use Rattle.xs_group.specs.Report.{is_of, is_asked, pending_row}
 use Rattle.xs_command.specs.declared.command.PendingRowsCommand.{PendingRowsCommand}
-use Rattle.xs_keys.specs.GroupEvent.{owner, rows}
+use Rattle.xs_keys.specs.Owner.{owner}
+use Rattle.xs_keys.specs.GroupEvent.{rows}
 use Rattle.xs_keys.specs.GroupLife.{GroupLife}
-use Rattle.xs_keys.specs.Reply.{array, row_reply}
+use Rattle.xs_keys.specs.ReplyParts.{array, row_reply}
 use Rattle.xs_keys.specs.Ground.{Reply}
 use Rattle.xs_keys.specs.Telling.{TellsEach}
 use Rattle.xs_keys.specs.Told.{IsAskedRow, TellsRow, TellsRows}

@@ -6,7 +6,10 @@ use Rattle.xs_command.specs.declared.command.Command.{Command}
 use Rattle.xs_command.specs.WellFormed.{IsWellFormed}
 use Rattle.xs_keys.specs.Content.{Content, IsContent}
 use Rattle.xs_keys.specs.Told.{IsTold}
-use Rattle.xs_keys.specs.Headline.{Follows, Answers, AreWellFormed, AtEachEvent, LivesAreApart, Headline, RunsOn, DeliversNew, HasOneOwner}
+use Rattle.xs_keys.specs.EachReply.{Follows, Answers}
+use Rattle.xs_keys.specs.Headline.{AreWellFormed, AtEachEvent, LivesAreApart, Headline, RunsOn}
+use Rattle.xs_keys.specs.EachDelivery.{DeliversNew}
+use Rattle.xs_keys.specs.EachOwner.{HasOneOwner}
 use Rattle.xs_keys.specs.Step.{Step}
 use Rattle.xs_keys.specs.GroupLife.{GroupLife, group_life}
 use Rattle.xs_keys.proofs.Lawfulness.{content-lawful}
@@ -24,7 +27,8 @@ use Rattle.xs_keys.proofs.JobPlaces.{has-one-place}
 use Rattle.xs_keys.proofs.JobMoves.{goes-along}
 use Rattle.xs_keys.proofs.JobBooks.{balances}
 use Rattle.xs_keys.specs.Life.{Change, key_life}
-use Rattle.xs_keys.specs.Job.{HasItsPlaces, EachGoesAlong}
+use Rattle.xs_keys.specs.Books.{HasItsPlaces}
+use Rattle.xs_keys.specs.Move.{EachGoesAlong}
 use Rattle.xs_keys.specs.Presence.{EntriesAreAdded, EntriesStay, GroupsAreCreated, GroupsStay}
 use Rattle.xs_keys.proofs.Comings.{entries-added, groups-created}
 use Rattle.xs_keys.proofs.Refusals.{refused-unchanged}

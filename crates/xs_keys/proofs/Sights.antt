@@ -16,7 +16,8 @@ use Rattle.xs_command.specs.declared.command.GroupCreateCommand.{GroupCreateComm
 use Rattle.xs_command.specs.declared.command.ReadGroupCommand.{ReadGroupCommand}
 use Rattle.xs_command.specs.declared.command.ReadOne.{ReadOne}
 use Rattle.xs_keys.specs.Life.{Change, added, deleted, trimmed_to, is_listed, opened, key_life_after, key_life, greatest, gives, given_in, top, stands, live}
-use Rattle.xs_keys.specs.GroupEvent.{Ask, GroupEvent, read_new, read_own, join, leave, ack, claim, auto_claim, new_ids_of_ask, new_ids_of_event, delivered, cursor}
+use Rattle.xs_keys.specs.Ask.{Ask, read_new, read_own, join, leave, ack, claim, auto_claim, new_ids_of_ask}
+use Rattle.xs_keys.specs.GroupEvent.{GroupEvent, new_ids_of_event, delivered, cursor}
 use Rattle.xs_keys.specs.GroupLife.{GroupLife, present_in, new_life, life_after_ask, ask_of_read, life_after_reads, group_life_after, reads_of, group_of, group_life}
 use Rattle.xs_keys.proofs.IdLists.{has_id-append, has_id-where, not_above, not_among}
 use Rattle.xs_keys.proofs.Streams.{greatest-append, greatest-up, up_to-top, gives-not_new}

@@ -13,9 +13,9 @@ use Rattle.xs_command.specs.declared.command.Command.TheVariants.{Ping, Quit, Ad
 use Rattle.xs_command.specs.declared.command.ReadGroupCommand.{ReadGroupCommand}
 use Rattle.xs_command.specs.declared.command.ReadOne.{ReadOne}
 use Rattle.xs_keys.specs.Life.{Change, added, deleted, trimmed_to, is_listed, opened, key_life_after, key_life, gives, given_in, top, drops, stands, live}
-use Rattle.xs_keys.specs.GroupEvent.{Ask, join, leave, ack, claim, auto_claim}
+use Rattle.xs_keys.specs.Ask.{Ask, join, leave, ack, claim, auto_claim}
 use Rattle.xs_keys.specs.GroupLife.{GroupLife, present_in, starting_id, new_life, life_after_ask, ask_of_read, life_after_reads, group_life_after, reads_of, group_of, group_life}
-use Rattle.xs_keys.specs.Job.{ends_group}
+use Rattle.xs_keys.specs.Effect.{ends_group}
 use Rattle.xs_keys.specs.Presence.{removes_entry, has_to_remove, Stays, EntriesStay, has_to_create, GroupsStay}
 use Rattle.xs_keys.proofs.Sights.{first_of, second_of, both_of, or_first, live-given, live-before, given-up_to}
 use Rattle.xs_keys.proofs.JobMoves.{was-dropped, not-live, trimmed-below}

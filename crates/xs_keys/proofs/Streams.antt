@@ -12,7 +12,7 @@ use Rattle.xs_stream.proofs.Order.{is_same-refl, below-irrefl, below-not_same, b
 use Rattle.xs_stream.proofs.Assigning.{assigned-above}
 use Rattle.xs_stream.proofs.InOrder.{ids_of-append, ascends-push, ascends-filter, up_to-filter, filter-filter}
 use Rattle.xs_keys.specs.Life.{Change, added, deleted, trimmed_to, greatest, top_of, entry_of, gives, given_in, top, drops, stands, live, stream_of}
-use Rattle.xs_keys.specs.Content.{stream_with, stream_after}
+use Rattle.xs_keys.specs.After.{stream_with, stream_after}
 
 pub greatest-append : (a : Id) (xs ys : List Id) → greatest a (xs ++ ys) ≡ greatest (greatest a xs) ys
 greatest-append a [] ys = refl

@@ -16,10 +16,12 @@ use Rattle.xs_group.specs.Claims.{Rule, row_at, is_idle, is_taken, is_removed, i
 use Rattle.xs_group.specs.Verdict.{AreApart}
 use Rattle.xs_group.proofs.Settling.{apart-filter, apart-firsts}
 use Rattle.xs_keys.specs.Life.{greatest}
-use Rattle.xs_keys.specs.GroupEvent.{Ask, GroupEvent, read_new, read_own, ack, join, leave, claim, auto_claim, claim_of_ask, scan_end_of_ask, rule_of, delivered, pending_row_at, rows, takes, is_removed_by_claim, new_ids_of_ask, new_ids_of_event, cursor, owner}
+use Rattle.xs_keys.specs.Ask.{Ask, read_new, read_own, ack, join, leave, claim, auto_claim, claim_of_ask, scan_end_of_ask, rule_of, new_ids_of_ask}
+use Rattle.xs_keys.specs.GroupEvent.{GroupEvent, delivered, pending_row_at, rows, new_ids_of_event, cursor}
+use Rattle.xs_keys.specs.Owner.{takes, is_removed_by_claim, owner}
 use Rattle.xs_keys.specs.Taken.{least_idle, IsTakenWhenIdle, IsRemovedWhenGone, is_named_by, is_from_start, is_before, comes_to, is_asked_for, MayStop, ClaimsWhatIsAsked, ClaimsInTurn, ClaimsWhatIsIdle}
 use Rattle.xs_keys.specs.Touched.{time_of}
-use Rattle.xs_keys.specs.Headline.{DeliversInFull}
+use Rattle.xs_keys.specs.EachDelivery.{DeliversInFull}
 use Rattle.xs_keys.proofs.IdLists.{has_id-where, has_id-append, ascends-where, not_among}
 use Rattle.xs_stream.proofs.Order.{not_above-trans}
 use Rattle.xs_keys.proofs.Streams.{greatest-up, up_to-greatest}

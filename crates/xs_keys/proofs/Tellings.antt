@@ -29,12 +29,18 @@ use Rattle.xs_command.specs.declared.command.ReadOne.{ReadOne}
 use Rattle.xs_command.specs.declared.command.ReadFrom.{ReadFrom}
 use Rattle.xs_command.specs.declared.command.ReadFrom.TheVariants.{New, After}
 use Rattle.xs_keys.specs.Life.{Change, added, deleted, trimmed_to, opened, key_life, entry_of, given_in, top_of, live, stands, stream_of}
-use Rattle.xs_keys.specs.GroupEvent.{delivered, cursor, pending_row_at, owner, rows, claim, auto_claim, ack}
+use Rattle.xs_keys.specs.GroupEvent.{delivered, cursor, pending_row_at, rows}
+use Rattle.xs_keys.specs.Owner.{owner}
+use Rattle.xs_keys.specs.Ask.{claim, auto_claim, ack}
 use Rattle.xs_keys.specs.GroupLife.{GroupLife, group_life, life_after_ask, present_in, is_new, reads_new_entries, has_all_groups, ids_delivered_by, ask_of_read}
-use Rattle.xs_keys.specs.Content.{Content, Key, IsContent, IsGroup, GroupHolds, KeyHolds, made, stream_after, group_in, entries_in, asked, serves}
-use Rattle.xs_keys.specs.Reply.{reply, assigned_reply, array, array_or_null, id_reply, field_replies, entry_reply, part, new_part, shown_by, parts, removed_by, of_group, owner_reply, summary_reply, row_reply, taken_reply, scan_shown}
+use Rattle.xs_keys.specs.Content.{Content, Key, IsContent, IsGroup, GroupHolds, KeyHolds}
+use Rattle.xs_keys.specs.After.{made, stream_after, group_in, entries_in, asked, serves}
+use Rattle.xs_keys.specs.Reply.{reply, shown_by, parts, removed_by}
+use Rattle.xs_keys.specs.ReplyParts.{assigned_reply, array, array_or_null, id_reply, field_replies, entry_reply, part, new_part, of_group, owner_reply, summary_reply, row_reply, taken_reply, scan_shown}
 use Rattle.xs_keys.specs.Telling.{TellsEntry, TellsEntryOrNull, TellsEach, AreFirst}
-use Rattle.xs_keys.specs.Told.{given_at, TellsAddition, TellsFewer, present_count, pending_count, TellsNew, IsOwnPast, TellsRead, TellsReads, claimed_at, TellsTaken, TellsRows, IsTold}
+use Rattle.xs_keys.specs.Life.{given_at}
+use Rattle.xs_keys.specs.Told.{TellsAddition, TellsFewer, present_count, pending_count, claimed_at, TellsTaken, TellsRows, IsTold}
+use Rattle.xs_keys.specs.TellsReads.{TellsNew, IsOwnPast, TellsRead, TellsReads}
 use Rattle.xs_keys.proofs.IdLists.{has_id-where, ascends-where}
 use Rattle.xs_keys.proofs.Names.{is_name-eq, is_name-refl}
 use Rattle.xs_keys.proofs.Streams.{ascends-live, stream-step}

@@ -5,7 +5,8 @@ use Rattle.xs_stream.specs.Id.{has_id}
 use Rattle.xs_group.specs.declared.claims.Claim.{Claim}
 use Rattle.xs_group.specs.Claims.{Rule, claim_of, scan_of, claimed, claimed_row, claim_time, claim_count}
 use Rattle.xs_group.specs.State.{Row, is_name, delivers, first_row, shown, again, raised, unless_acked, unless_owned}
-use Rattle.xs_keys.specs.GroupEvent.{Ask, GroupEvent, read_new, read_own, ack, join, leave, claim, auto_claim, cursor, row_after_ask, new_ids_of_ask, claim_of_ask, keeps_pending, pending_row_at, rows}
+use Rattle.xs_keys.specs.Ask.{Ask, read_new, read_own, ack, join, leave, claim, auto_claim, row_after_ask, new_ids_of_ask, claim_of_ask, keeps_pending}
+use Rattle.xs_keys.specs.GroupEvent.{GroupEvent, cursor, pending_row_at, rows}
 use Rattle.xs_keys.specs.Touched.{own_ids_shown, time_of_touch, count_of_touch, time_of, count_of, IsLastTouched}
 use Rattle.xs_keys.proofs.Owners.{row-found}
 

@@ -8,8 +8,10 @@ use Rattle.xs_resp.specs.WholeReplies.{IsWhole, AreWhole}
 use Rattle.xs_resp.proofs.Wholeness.{items-whole, all-whole, whole-append}
 use Rattle.xs_keys.specs.Ground.{State, option_map_or, get, OwnerCount, GroupSummary, PendingRow, ReadGroupCommand, ReadOne, ReadFrom, New, After, delivers, Bulk, Int, NullBulk, NullArray}
 use Rattle.xs_keys.specs.GroupLife.{ask_of_read}
-use Rattle.xs_keys.specs.Content.{Content, asked, group_in, entries_in}
-use Rattle.xs_keys.specs.Reply.{array, array_or_null, id_reply, field_replies, entry_reply, present_reply, entries_reply, part, new_part, shown_by, parts, owner_reply, row_reply, taken_reply}
+use Rattle.xs_keys.specs.Content.{Content}
+use Rattle.xs_keys.specs.After.{asked, group_in, entries_in}
+use Rattle.xs_keys.specs.ReplyParts.{array, array_or_null, id_reply, field_replies, entry_reply, present_reply, entries_reply, part, new_part, owner_reply, row_reply, taken_reply}
+use Rattle.xs_keys.specs.Reply.{shown_by, parts}
 
 fields-whole : (fields : List Field) → AreWhole (flat_map field_replies fields)
 fields-whole [] = tt

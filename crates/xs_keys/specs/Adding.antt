@@ -7,8 +7,8 @@ use Rattle.xs_stream.specs.Kept.{Kept}
 use Rattle.xs_command.specs.declared.command.AddCommand.{AddCommand}
 use Rattle.xs_keys.specs.Ground.{Reply, Error, Memory}
 use Rattle.xs_keys.specs.Life.{added}
-use Rattle.xs_keys.specs.Content.{stream_after}
-use Rattle.xs_keys.specs.Reply.{assigned_reply}
+use Rattle.xs_keys.specs.After.{stream_after}
+use Rattle.xs_keys.specs.ReplyParts.{assigned_reply}
 use Rattle.xs_keys.specs.Event.{Bytes}
 
 -- an addition to a stream is the model's, or memory ran out where the model refuses nothing, and nothing has changed

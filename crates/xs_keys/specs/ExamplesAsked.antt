@@ -9,8 +9,11 @@ use Rattle.xs_group.specs.declared.claims.ClaimTime.TheVariants as time
 use Rattle.xs_group.specs.Claims.{Rule}
 use Rattle.xs_group.specs.State.{Row}
 use Rattle.xs_group.specs.ExamplesRead.{pending}
-use Rattle.xs_keys.specs.GroupEvent.{Ask, read_new, read_own, ack, join, claim, auto_claim, rows, is_consumer}
-use Rattle.xs_keys.specs.GroupEvent.{leave, is_their_turn, is_settled, settles, owner, is_removed_by_claim}
+use Rattle.xs_keys.specs.Ask.{Ask, read_new, read_own, ack, join, claim, auto_claim}
+use Rattle.xs_keys.specs.GroupEvent.{rows, is_consumer}
+use Rattle.xs_keys.specs.Ask.{leave}
+use Rattle.xs_keys.specs.GroupEvent.{is_their_turn}
+use Rattle.xs_keys.specs.Owner.{is_settled, settles, owner, is_removed_by_claim}
 use Rattle.xs_keys.specs.Touched.{is_redelivered_by, is_touched_by, time_of, count_of}
 use Rattle.xs_keys.specs.Taken.{least_idle, is_named_by, is_from_start, is_before, comes_to, MayStop}
 use Rattle.xs_keys.specs.ExamplesHistory.{of_group, group_and}

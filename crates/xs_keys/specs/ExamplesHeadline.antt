@@ -11,13 +11,15 @@ use Rattle.xs_command.specs.ExamplesStreams.{field}
 use Rattle.xs_command.specs.declared.command.AddCommand.{AddCommand}
 use Rattle.xs_keys.specs.Ground.{Kept, Simple, Error, Int, NullBulk, Okay, Pong, Memory, NoKey, Busy, Command, Ping}
 use Rattle.xs_keys.specs.Ground.{GroupCreateCommand, At}
-use Rattle.xs_keys.specs.GroupEvent.{GroupEvent, read_new, ack, join}
+use Rattle.xs_keys.specs.GroupEvent.{GroupEvent}
+use Rattle.xs_keys.specs.Ask.{read_new, ack, join}
 use Rattle.xs_keys.specs.GroupLife.{GroupLife, GoesOn}
-use Rattle.xs_keys.specs.Headline.{OwnerAfter, NoOwnerAfter, Follows, Answers}
+use Rattle.xs_keys.specs.EachOwner.{OwnerAfter, NoOwnerAfter}
+use Rattle.xs_keys.specs.EachReply.{Follows, Answers}
 use Rattle.xs_keys.specs.Step.{is_error}
 use Rattle.xs_keys.specs.Adding.{Adds}
 use Rattle.xs_keys.specs.Grouping.{Creates}
-use Rattle.xs_keys.specs.Reply.{fault_of}
+use Rattle.xs_keys.specs.ReplyParts.{fault_of}
 use Rattle.xs_keys.specs.Played.{id}
 use Rattle.xs_keys.specs.ExamplesGroupEvents.{start, event, read_by_a, noack_by_b, first_by_a, claim_by_b}
 

@@ -14,11 +14,13 @@ use Rattle.xs_command.specs.Read.{reads}
 use Rattle.xs_command.specs.Examples.{line}
 use Rattle.xs_command.specs.ExamplesStreams.{field}
 use Rattle.xs_keys.specs.Life.{Change, key_life, given_in, top, live, stream_of}
-use Rattle.xs_keys.specs.GroupEvent.{delivered, cursor, claim, auto_claim}
+use Rattle.xs_keys.specs.GroupEvent.{delivered, cursor}
+use Rattle.xs_keys.specs.Ask.{claim, auto_claim}
 use Rattle.xs_keys.specs.GroupLife.{GroupLife, group_life, ids_delivered_by}
 use Rattle.xs_keys.specs.Headline.{OfEachGroup}
 use Rattle.xs_keys.specs.Step.{takes_memory}
-use Rattle.xs_keys.specs.Told.{given_at, claimed_at}
+use Rattle.xs_keys.specs.Life.{given_at}
+use Rattle.xs_keys.specs.Told.{claimed_at}
 
 -- an event, where the words say a command
 abbrev pub event : ℕ → Result Command Fault → List (ℕ × Command)

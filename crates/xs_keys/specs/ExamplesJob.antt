@@ -7,14 +7,18 @@ use Rattle.xs_stream.specs.Examples.{at}
 use Rattle.xs_command.specs.declared.command.Command.{Command}
 use Rattle.xs_command.specs.Read.{reads}
 use Rattle.xs_command.specs.Examples.{line}
-use Rattle.xs_keys.specs.Job.{Place, before_start, waiting, dropped, handed_out, pending, settled, StandsAt, HasArrow}
+use Rattle.xs_keys.specs.Place.{Place, before_start, waiting, dropped, handed_out, pending, settled, StandsAt}
+use Rattle.xs_keys.specs.Move.{HasArrow}
 use Rattle.xs_command.specs.declared.command.GroupStart.TheVariants.{Top, At}
 use Rattle.xs_keys.specs.Presence.{StartsBehind}
-use Rattle.xs_keys.specs.Job.{GoesAlong, place_after, is_at, is_pending, is_final, GoesOnFor, jobs_at}
+use Rattle.xs_keys.specs.Move.{GoesAlong, is_final, GoesOnFor}
+use Rattle.xs_keys.specs.Place.{place_after}
+use Rattle.xs_keys.specs.Books.{is_at, is_pending, jobs_at}
 use Rattle.xs_keys.specs.ExamplesHistory.{event, events}
 use Rattle.xs_keys.specs.ExamplesGroupEvents.{event_over, read_by_a, noack_by_b}
 use Rattle.xs_keys.specs.ExamplesHeadline.{life}
-use Rattle.xs_keys.specs.GroupEvent.{GroupEvent, ack}
+use Rattle.xs_keys.specs.GroupEvent.{GroupEvent}
+use Rattle.xs_keys.specs.Ask.{ack}
 use Rattle.xs_keys.specs.Life.{Change, key_life}
 use Rattle.xs_keys.specs.GroupLife.{GroupLife, group_life}
 

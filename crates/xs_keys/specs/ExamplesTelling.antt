@@ -3,7 +3,7 @@
 use Rattle.std.specs.Prelude.{◌≡◌, ℕ, true, List, [], ◌∷◌, codes, Option, Some, None}
 use Rattle.xs_stream.specs.Examples.{at}
 use Rattle.xs_keys.specs.Ground.{Id, Field, has_id, Reply, NullArray}
-use Rattle.xs_keys.specs.Reply.{array}
+use Rattle.xs_keys.specs.ReplyParts.{array}
 use Rattle.xs_keys.specs.Telling.{TellsEntry, TellsEntryOrNull, TellsEach, AreFirst}
 use Rattle.xs_keys.specs.Played.{name, id, entry}
 

@@ -4,7 +4,7 @@ use Rattle.std.specs.Prelude.{ℕ, List, [], ◌∷◌, codes}
 use Rattle.xs_command.specs.Read.{reads}
 use Rattle.xs_command.specs.Examples.{line}
 use Rattle.xs_keys.specs.Ground.{Command, Reply, Error, Int, NoGroup, SmallId, NullArray, NullBulk}
-use Rattle.xs_keys.specs.Reply.{array}
+use Rattle.xs_keys.specs.ReplyParts.{array}
 use Rattle.xs_keys.specs.Told.{IsTold}
 use Rattle.xs_keys.specs.Played.{name, id, entry, stream}
 use Rattle.xs_keys.specs.ExamplesHistory.{event, events, group_and}

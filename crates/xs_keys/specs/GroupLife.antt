@@ -6,7 +6,8 @@ use Rattle.xs_keys.specs.Ground.{delivers, Command, GroupCreate, GroupDestroy, C
 use Rattle.xs_keys.specs.Ground.{ReadGroup, Ack, Claim, AutoClaim, DropKeys, GroupStart, Top, At, GroupCreateCommand}
 use Rattle.xs_keys.specs.Ground.{ReadGroupCommand, ReadOne, ReadFrom, New, After}
 use Rattle.xs_keys.specs.Life.{Change, is_listed, opened, key_life, live, top}
-use Rattle.xs_keys.specs.GroupEvent.{Ask, GroupEvent, read_new, read_own, ack, join, leave, claim, auto_claim}
+use Rattle.xs_keys.specs.Ask.{Ask, read_new, read_own, ack, join, leave, claim, auto_claim}
+use Rattle.xs_keys.specs.GroupEvent.{GroupEvent}
 use Rattle.xs_keys.specs.GroupEvent.{delivered, cursor}
 use Rattle.xs_keys.specs.Event.{Bytes, History}
 

@@ -89,3 +89,7 @@ live past = filter (λ e. stands past e.0) (given_in past)
 -- the stream: its top and what is live
 abbrev pub stream_of : List Change → Kept
 stream_of past = record { top = top past; entries = live past }
+
+-- all entries ever given in the open life of a key, with the fields that they were given with
+abbrev pub given_at : History → Bytes → Entries
+given_at past key = option_map_or given_in (key_life past key) []

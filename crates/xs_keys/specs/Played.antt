@@ -4,8 +4,10 @@ use Rattle.xs_bytes.specs.SortedMap.{empty}
 use Rattle.xs_keys.specs.Ground.{Fault, Reply, Simple, Error, Int, Bulk, NullArray, Okay, Command}
 use Rattle.xs_command.specs.Read.{reads}
 use Rattle.xs_command.specs.Examples.{line}
-use Rattle.xs_keys.specs.Content.{Content, after}
-use Rattle.xs_keys.specs.Reply.{array, id_reply, reply}
+use Rattle.xs_keys.specs.Content.{Content}
+use Rattle.xs_keys.specs.After.{after}
+use Rattle.xs_keys.specs.ReplyParts.{array, id_reply}
+use Rattle.xs_keys.specs.Reply.{reply}
 use Rattle.xs_keys.specs.Event.{Bytes}
 
 -- a line of words at a moment, with its reply

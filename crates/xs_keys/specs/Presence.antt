@@ -5,8 +5,8 @@ use Rattle.xs_keys.specs.Ground.{Id, Field, has_id, ids_of, is_name, Command, Ad
 use Rattle.xs_keys.specs.Ground.{GroupStart, Top, At}
 use Rattle.xs_keys.specs.Life.{Change, is_listed, key_life, top_of}
 use Rattle.xs_keys.specs.GroupLife.{GroupLife, group_life, present_in}
-use Rattle.xs_keys.specs.Job.{deletes_entry, trims_entry, ends_group}
-use Rattle.xs_keys.specs.Told.{given_at}
+use Rattle.xs_keys.specs.Effect.{deletes_entry, trims_entry, ends_group}
+use Rattle.xs_keys.specs.Life.{given_at}
 use Rattle.xs_keys.specs.Event.{Bytes, Event, History, Entries}
 
 -- ---- entries

@@ -10,8 +10,10 @@ use Rattle.xs_keys.specs.Ground.{NameMap, get, insert, Id, Field, ids_of, delive
 use Rattle.xs_keys.specs.Ground.{ReadGroupCommand}
 use Rattle.xs_keys.specs.Ground.{ReadOne, ReadFrom, New, After}
 use Rattle.xs_keys.specs.GroupLife.{ask_of_read}
-use Rattle.xs_keys.specs.Content.{Content, Key, group_after}
-use Rattle.xs_keys.specs.Reply.{part, new_part, shown_by}
+use Rattle.xs_keys.specs.Content.{Content, Key}
+use Rattle.xs_keys.specs.After.{group_after}
+use Rattle.xs_keys.specs.ReplyParts.{part, new_part}
+use Rattle.xs_keys.specs.Reply.{shown_by}
 use Rattle.xs_keys.specs.Event.{Bytes, Entries}
 
 -- these parts of a reply were counted and appended

@@ -2,7 +2,8 @@
 use Rattle.std.specs.Prelude.{◌≡◌, ℕ, Bool, true, false, ◌⊎◌, Some}
 use Rattle.xs_keys.specs.Ground.{Memory, Reply, Error, Command, Ping, Add, Scan}
 use Rattle.xs_keys.specs.Ground.{GroupCreate, ConsumerCreate, ReadGroup, Pending, PendingRows, Claim, AutoClaim}
-use Rattle.xs_keys.specs.Content.{Content, after}
+use Rattle.xs_keys.specs.Content.{Content}
+use Rattle.xs_keys.specs.After.{after}
 use Rattle.xs_keys.specs.Reply.{reply}
 
 -- the commands that may find no memory

@@ -4,8 +4,10 @@ use Rattle.std.specs.Prelude.{map, filter, length, is_some}
 use Rattle.xs_stream.specs.Id.{is_same}
 use Rattle.xs_group.specs.Verdict.{AreApart}
 use Rattle.xs_keys.specs.Ground.{option_map_or, Id, Row, is_below, has_id, zero_id}
-use Rattle.xs_keys.specs.GroupEvent.{Ask, GroupEvent, claim, auto_claim, claim_of_event, scan_end_of_event, rule_of, rows, takes}
-use Rattle.xs_keys.specs.GroupEvent.{is_removed_by_claim, owner}
+use Rattle.xs_keys.specs.Ask.{Ask, claim, auto_claim, rule_of}
+use Rattle.xs_keys.specs.GroupEvent.{GroupEvent, claim_of_event, scan_end_of_event, rows}
+use Rattle.xs_keys.specs.Owner.{takes}
+use Rattle.xs_keys.specs.Owner.{is_removed_by_claim, owner}
 use Rattle.xs_keys.specs.Touched.{time_of}
 use Rattle.xs_keys.specs.Event.{PendingEntries}
 

@@ -2,7 +2,7 @@
 -- Reply".)
 use Rattle.std.specs.Prelude.{◌≡◌, ◌⊎◌, ℕ, ◌≤◌, true, false, List, [], ◌∷◌, length, Option, Some}
 use Rattle.xs_keys.specs.Ground.{flat_map, Id, Field, has_id, fields_at, Ascends, AllUpTo, Reply, NullArray}
-use Rattle.xs_keys.specs.Reply.{array, id_reply, field_replies}
+use Rattle.xs_keys.specs.ReplyParts.{array, id_reply, field_replies}
 use Rattle.xs_keys.specs.Event.{Entries}
 
 -- an entry: its id, and the fields that it was given with

@@ -3,26 +3,25 @@
 -- pending; and an acknowledgement, a deletion and a trim tell how many they take away. (Redis, XADD, XREADGROUP, XCLAIM,
 -- XAUTOCLAIM, XPENDING, XACK, XDEL, XTRIM and XLEN, "RESP2 Reply".)
 use Rattle.std.specs.Prelude.{◌≡◌, ◌⊎◌, ℕ, ◌+◌, ◌-◌, ◌≤◌, Bool, true, false, List, [], ◌∷◌, ◌++◌, map, length, Option}
-use Rattle.std.specs.Prelude.{Some, None, is_some, option_and_then}
+use Rattle.std.specs.Prelude.{Some, None, is_some}
 use Rattle.xs_stream.specs.Kept.{is_within}
 use Rattle.xs_group.specs.declared.claims.Scan.{Scan}
 use Rattle.xs_group.specs.declared.claims.Claim as claims
 use Rattle.xs_command.specs.declared.command.PendingRowsCommand.{PendingRowsCommand}
 use Rattle.xs_keys.specs.Ground.{option_map_or, Id, Field, Command, Add, Delete, TrimTo, Len, ReadGroup, Ack, Pending}
-use Rattle.xs_keys.specs.Ground.{PendingRows, Claim, AutoClaim, ReadGroupCommand, ReadOne, ReadFrom, New, After, Reply}
-use Rattle.xs_keys.specs.Ground.{Error, NoGroup, Int, Bulk, NullBulk, zero_id, is_below, has_id}
-use Rattle.xs_keys.specs.Life.{key_life, given_in}
-use Rattle.xs_keys.specs.GroupEvent.{Ask, GroupEvent, claim, auto_claim, no_claim, claim_of_event, scan_end_of_event, rows, owner}
+use Rattle.xs_keys.specs.Ground.{PendingRows, Claim, AutoClaim, Reply, Error, NoGroup, Int, Bulk, NullBulk, zero_id}
+use Rattle.xs_keys.specs.Ground.{has_id}
+use Rattle.xs_keys.specs.Life.{key_life, given_at}
+use Rattle.xs_keys.specs.Ask.{Ask, claim, auto_claim, no_claim}
+use Rattle.xs_keys.specs.GroupEvent.{GroupEvent, claim_of_event, scan_end_of_event, rows}
+use Rattle.xs_keys.specs.Owner.{owner}
 use Rattle.xs_keys.specs.Touched.{time_of, count_of}
-use Rattle.xs_keys.specs.GroupLife.{GroupLife, group_life, present_in, has_all_groups, ids_delivered_by}
-use Rattle.xs_keys.specs.Reply.{array, array_or_null, id_reply}
-use Rattle.xs_keys.specs.Telling.{TellsEntry, TellsEntryOrNull, TellsEach, AreFirst}
+use Rattle.xs_keys.specs.GroupLife.{GroupLife, group_life, present_in, has_all_groups}
+use Rattle.xs_keys.specs.ReplyParts.{array, array_or_null, id_reply}
+use Rattle.xs_keys.specs.Telling.{TellsEntry, TellsEach, AreFirst}
 use Rattle.xs_keys.specs.Step.{is_error}
 use Rattle.xs_keys.specs.Event.{Bytes, Event, History, Entries}
-
--- all entries ever given in the open life of a key, with the fields that they were given with
-abbrev pub given_at : History → Bytes → Entries
-given_at past key = option_map_or given_in (key_life past key) []
+use Rattle.xs_keys.specs.TellsReads.{owner_in, TellsReads}
 
 -- an addition tells the id of the one entry that it gives, with its fields, or that it gives none: by an error, or by
 -- the null bulk string if it may not make the key
@@ -42,38 +41,6 @@ present_count key past = length (present_in (key_life past key))
 abbrev pub pending_count : Bytes → Bytes → History → ℕ
 pending_count key group past =
     option_map_or (λ life. length (rows life.start life.events)) (group_life past key group) 0
-
--- the part of a reply for a stream with these new entries; without any there is none
-abbrev pub TellsNew : Bytes → Entries → List Id → List Reply → Type 0
-TellsNew key given [] told = told ≡ []
-TellsNew key given (x ∷ xs) told =
-    (entries : List Reply) × (told ≡ array (Bulk key ∷ array entries ∷ []) ∷ [])
-    × TellsEach (TellsEntry given) (x ∷ xs) entries
-
--- the owner of an entry in a group
-abbrev pub owner_in : Option GroupLife → Id → Option Bytes
-owner_in life x = option_and_then (λ l. owner l.start l.events x) life
-
--- it is pending with the consumer in the group, and past the id
-abbrev pub IsOwnPast : Option GroupLife → Bytes → Id → Id → Type 0
-IsOwnPast life consumer from x = (owner_in life x ≡ Some consumer) × (is_below from x ≡ true)
-
--- the part of a reply for one stream that an event reads: with `>` what the event delivers in the group, with an id the
--- first entries past it that are pending with the consumer
-abbrev pub TellsRead : History → ReadGroupCommand → Bytes → ReadFrom → List Reply → Type 0
-TellsRead past read key New told =
-    TellsNew key (given_at past key) (ids_delivered_by past (ReadGroup read) key read.group) told
-TellsRead past read key (After id) told =
-    (ids : List Id) × (entries : List Reply) × (told ≡ array (Bulk key ∷ array entries ∷ []) ∷ [])
-    × AreFirst (IsOwnPast (group_life past key read.group) read.consumer id) read.limit ids
-    × TellsEach (TellsEntryOrNull (given_at past key) (present_in (key_life past key))) ids entries
-
--- the parts of all streams, in the order written
-abbrev pub TellsReads : History → ReadGroupCommand → List ReadOne → List Reply → Type 0
-TellsReads past read [] told = told ≡ []
-TellsReads past read (one ∷ more) told =
-    (first rest : List Reply) × (told ≡ first ++ rest)
-    × TellsRead past read one.key one.from first × TellsReads past read more rest
 
 -- what a claim takes and removes in a group, and where it goes on
 abbrev pub claimed_at : History → ℕ → Bytes → Bytes → Ask → Scan

@@ -2,7 +2,7 @@
 ghost use Rattle.std.specs.Prelude.{◌≡◌};
 ghost use Rattle.std.specs.Option.{option_map};
 ghost use Rattle.xs_bytes.specs.SortedMap as map;
-ghost use Rattle.xs_keys.specs.Content.{group_in};
+ghost use Rattle.xs_keys.specs.After.{group_in};
 ghost use Rattle.xs_keys.specs.Codes.{content_of};
 
 use std::collections::BTreeMap;

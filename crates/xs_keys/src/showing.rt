@@ -3,7 +3,7 @@ ghost use Rattle.std.specs.Prelude.{◌≡◌, ◌++◌, IfOk, OnOk, map};
 ghost use Rattle.std.specs.List.{flat_map};
 ghost use Rattle.xs_stream.specs.Kept.{AreEntriesOf};
 ghost use Rattle.xs_resp.specs.ReplyItems.{tokens_of};
-ghost use Rattle.xs_keys.specs.Reply.{array, field_replies, id_reply, entry_reply, present_reply, entries_reply};
+ghost use Rattle.xs_keys.specs.ReplyParts.{array, field_replies, id_reply, entry_reply, present_reply, entries_reply};
 
 use std::alloc::{AllocError, Global};
 use xs_resp::{Replies, Reply, Tokens};

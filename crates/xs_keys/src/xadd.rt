@@ -4,10 +4,10 @@ ghost use Rattle.xs_bytes.specs.SortedMap as map;
 ghost use Rattle.xs_stream.specs.Id.{assigned};
 ghost use Rattle.xs_command.specs.WellFormed.{IsAddId};
 ghost use Rattle.xs_keys.specs.Life.{added};
-ghost use Rattle.xs_keys.specs.Content.{stream_after};
+ghost use Rattle.xs_keys.specs.After.{stream_after};
 ghost use Rattle.xs_keys.specs.Adding.{text_of, Adds};
 ghost use Rattle.xs_keys.specs.Codes.{content_of};
-ghost use Rattle.xs_keys.specs.Reply.{fault_of};
+ghost use Rattle.xs_keys.specs.ReplyParts.{fault_of};
 ghost use Rattle.xs_keys.specs.Step.{Step};
 
 use crate::keys::{Keys, Slot};

@@ -2,10 +2,10 @@
 ghost use Rattle.std.specs.Prelude.{◌≡◌, map, IfOk, OnOk, OnErr};
 ghost use Rattle.xs_stream.specs.Kept.{ids_of};
 ghost use Rattle.xs_group.specs.Claims as claims;
-ghost use Rattle.xs_keys.specs.GroupEvent.{claim};
-ghost use Rattle.xs_keys.specs.Content.{group_after};
+ghost use Rattle.xs_keys.specs.Ask.{claim};
+ghost use Rattle.xs_keys.specs.After.{group_after};
 ghost use Rattle.xs_keys.specs.Codes.{content_of};
-ghost use Rattle.xs_keys.specs.Reply.{array, id_reply, taken_reply};
+ghost use Rattle.xs_keys.specs.ReplyParts.{array, id_reply, taken_reply};
 ghost use Rattle.xs_keys.specs.Step.{Step};
 
 use crate::keys::Keys;

@@ -5,7 +5,7 @@ ghost use Rattle.std.specs.Option.{option_map_or};
 ghost use Rattle.xs_group.specs.Report as report;
 ghost use Rattle.xs_resp.specs.ReplyItems.{tokens_of};
 ghost use Rattle.xs_keys.specs.Codes.{content_of};
-ghost use Rattle.xs_keys.specs.Reply.{array, array_or_null, id_reply, owner_reply, row_reply, summary_reply};
+ghost use Rattle.xs_keys.specs.ReplyParts.{array, array_or_null, id_reply, owner_reply, row_reply, summary_reply};
 ghost use Rattle.xs_keys.specs.Step.{Step, StepAtAnyTime};
 
 use crate::keys::{Keys, group_at};

@@ -9,7 +9,7 @@ use Rattle.xs_keys.specs.Content.{Content, IsContent}
 use Rattle.xs_server.specs.Device.{capped}
 use Rattle.xs_server.specs.Line.{line_of}
 use Rattle.xs_server.specs.Answering.{Answered, IsAnswer}
-use Rattle.xs_keys.specs.Headline.{Follows, Answers}
+use Rattle.xs_keys.specs.EachReply.{Follows, Answers}
 use Rattle.xs_keys.proofs.Runs.{step-follows, headline}
 use Rattle.xs_server.specs.Script.{Script, Served, AreServed, events_of, answers_of, IsScript}
 use Rattle.xs_server.specs.Serving.{StepAt}

@@ -4,7 +4,8 @@ use Rattle.std.specs.List.{flat_map, list_any}
 use Rattle.xs_resp.specs.declared.reply.Reply.{Reply}
 use Rattle.xs_resp.specs.ReplyText.{text}
 use Rattle.xs_command.specs.declared.command.Command.{Command}
-use Rattle.xs_keys.specs.Headline.{Follows, Headline}
+use Rattle.xs_keys.specs.EachReply.{Follows}
+use Rattle.xs_keys.specs.Headline.{Headline}
 use Rattle.xs_server.specs.Answering.{Answered, IsAnswer}
 use Rattle.xs_server.specs.Line.{is_line_end, line_of}
 

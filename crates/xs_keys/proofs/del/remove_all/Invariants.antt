@@ -1,5 +1,5 @@
 use Rattle.std.proofs.Common.{◌≡◌, ◌+◌, ◌≤◌, drop}
-use Rattle.xs_keys.specs.Content.{without_keys}
+use Rattle.xs_keys.specs.After.{without_keys}
 use Rattle.xs_keys.specs.Codes.{content_of}
 use Rattle.xs_keys.specs.Reply.{existing}
 use Rattle.xs_keys.proofs.del.remove_all.Given as goal

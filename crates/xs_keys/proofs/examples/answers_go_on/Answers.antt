@@ -1,7 +1,7 @@
 use Rattle.std.proofs.Common.{ℕ, List, [], ◌∷◌, None, refl, inl}
 use Rattle.xs_keys.specs.Ground.{Command, Ping, Simple, Pong}
 use Rattle.xs_keys.specs.Content.{IsContent}
-use Rattle.xs_keys.specs.Headline.{Follows}
+use Rattle.xs_keys.specs.EachReply.{Follows}
 use Rattle.xs_keys.specs.ExamplesHeadline.{ping}
 use Rattle.xs_bytes.specs.SortedMap.{empty, get, insert_by, remove, change}
 use Rattle.xs_keys.proofs.examples.answers_go_on.Goals as goal

@@ -23,7 +23,8 @@ use Rattle.xs_command.specs.Xlen.{xlen}
 use Rattle.xs_command.specs.Xrange.{xrange, xrevrange, scan_option}
 use Rattle.xs_command.specs.Del.{del}
 use Rattle.xs_command.specs.Read.{reads}
-use Rattle.xs_keys.specs.Job.{before_start, waiting, dropped, settled, is_at}
+use Rattle.xs_keys.specs.Place.{before_start, waiting, dropped, settled}
+use Rattle.xs_keys.specs.Books.{is_at}
 use Rattle.xs_keys.proofs.examples.comings_of_a_job.Goals as goal
 
 pub returns : goal.returns

@@ -28,7 +28,8 @@ use Rattle.xs_stream.specs.Examples.{at}
 use Rattle.xs_command.specs.declared.command.Command.{Command}
 use Rattle.xs_command.specs.Examples.{line}
 use Rattle.xs_group.specs.State.{is_name}
-use Rattle.xs_keys.specs.Job.{Place, before_start, waiting, dropped, handed_out, pending, settled, is_final}
+use Rattle.xs_keys.specs.Place.{Place, before_start, waiting, dropped, handed_out, pending, settled}
+use Rattle.xs_keys.specs.Move.{is_final}
 use Rattle.xs_keys.specs.ExamplesHistory.{event}
 use Rattle.xs_keys.specs.ExamplesJob.{leads_by, with_c}
 use Rattle.xs_keys.proofs.examples.no_arrows_of_a_job.Goals as goal

@@ -4,7 +4,7 @@ use Rattle.std.specs.Option.{option_map_or}
 use Rattle.std.proofs.lemmas.Bool.{false≢true}
 use Rattle.xs_stream.specs.declared.field.Field.{Field}
 use Rattle.xs_keys.specs.Ground.{Reply, Array}
-use Rattle.xs_keys.specs.Reply.{array, field_replies}
+use Rattle.xs_keys.specs.ReplyParts.{array, field_replies}
 use Rattle.xs_keys.specs.Played.{id as id_told}
 use Rattle.xs_keys.proofs.examples.telling_of_entries.Goals as goal
 

@@ -24,9 +24,9 @@ use Rattle.xs_command.specs.Del.{del}
 use Rattle.xs_command.specs.Read.{reads}
 use Rattle.xs_stream.specs.declared.id.Id.{Id}
 use Rattle.xs_keys.specs.Ground.{Reply, Array, NullArray}
-use Rattle.xs_keys.specs.Reply.{array}
+use Rattle.xs_keys.specs.ReplyParts.{array}
 use Rattle.xs_keys.specs.Telling.{TellsEntry, TellsEach}
-use Rattle.xs_keys.specs.Told.{given_at}
+use Rattle.xs_keys.specs.Life.{given_at}
 use Rattle.xs_keys.specs.ExamplesHistory.{events}
 use Rattle.xs_stream.specs.Examples.{at}
 use Rattle.xs_keys.specs.Played.{id as id_told, entry}

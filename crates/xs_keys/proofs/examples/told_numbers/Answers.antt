@@ -23,7 +23,7 @@ use Rattle.xs_command.specs.Xrange.{xrange, xrevrange, scan_option}
 use Rattle.xs_command.specs.Del.{del}
 use Rattle.xs_command.specs.Read.{reads}
 use Rattle.xs_keys.specs.Ground.{Reply, Int}
-use Rattle.xs_keys.specs.Reply.{array}
+use Rattle.xs_keys.specs.ReplyParts.{array}
 use Rattle.xs_keys.specs.Played.{name, id as id_told}
 use Rattle.xs_keys.proofs.examples.told_numbers.Goals as goal
 

@@ -31,8 +31,8 @@ use Rattle.xs_keys.specs.Ground.{Reply, Array, Bulk, NullArray}
 use Rattle.xs_keys.specs.Life.{key_life}
 use Rattle.xs_keys.specs.GroupLife.{present_in}
 use Rattle.xs_keys.specs.Telling.{TellsEntryOrNull, TellsEach}
-use Rattle.xs_keys.specs.Told.{given_at}
-use Rattle.xs_keys.specs.Reply.{array, array_or_null}
+use Rattle.xs_keys.specs.Life.{given_at}
+use Rattle.xs_keys.specs.ReplyParts.{array, array_or_null}
 use Rattle.xs_keys.specs.Played.{id as id_told, entry, stream}
 use Rattle.xs_keys.specs.ExamplesHistory.{events, group_and}
 use Rattle.xs_keys.specs.ExamplesTold.{second, two_groups, read_by_a, with_a_deleted_one}

@@ -1,5 +1,6 @@
 use Rattle.std.proofs.Common.{◌∙◌, sym, ap}
-use Rattle.xs_keys.specs.Content.{Key, group_in}
+use Rattle.xs_keys.specs.Content.{Key}
+use Rattle.xs_keys.specs.After.{group_in}
 use Rattle.xs_keys.specs.Codes.{groups_of}
 use Rattle.xs_keys.proofs.Maps.{get-content_of}
 use Rattle.xs_keys.proofs.AskSteps.{no-key, key-found}

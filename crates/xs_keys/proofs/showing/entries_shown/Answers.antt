@@ -1,6 +1,6 @@
 use Rattle.std.proofs.Common.{refl}
 use Rattle.xs_resp.proofs.Wholeness.{filled-each}
-use Rattle.xs_keys.specs.Reply.{entry_reply}
+use Rattle.xs_keys.specs.ReplyParts.{entry_reply}
 use Rattle.xs_keys.proofs.WholeReplies.{entry-whole}
 use Rattle.xs_keys.proofs.showing.entries_shown.Goals as goal
 

@@ -1,6 +1,6 @@
 use Rattle.std.proofs.Common.{refl}
 use Rattle.xs_resp.proofs.Wholeness.{filled-each}
-use Rattle.xs_keys.specs.Reply.{present_reply}
+use Rattle.xs_keys.specs.ReplyParts.{present_reply}
 use Rattle.xs_keys.proofs.WholeReplies.{present-whole}
 use Rattle.xs_keys.proofs.showing.lent_entries.Goals as goal
 

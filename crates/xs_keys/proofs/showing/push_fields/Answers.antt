@@ -5,7 +5,7 @@ use Rattle.xs_stream.specs.declared.field.Field.{Field}
 use Rattle.xs_resp.specs.Token.{Token, Array}
 use Rattle.xs_resp.specs.ReplyItems.{tokens_of}
 use Rattle.xs_keys.specs.Ground.{Bulk}
-use Rattle.xs_keys.specs.Reply.{field_replies}
+use Rattle.xs_keys.specs.ReplyParts.{field_replies}
 use Rattle.xs_keys.proofs.showing.push_fields.Goals as goal
 
 -- a field is two replies

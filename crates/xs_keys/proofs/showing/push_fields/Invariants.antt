@@ -2,7 +2,7 @@ use Rattle.std.proofs.Common.{◌≡◌, ◌++◌, ◌∷◌}
 use Rattle.std.specs.List.{flat_map}
 use Rattle.xs_resp.specs.ReplyItems.{tokens_of}
 use Rattle.xs_resp.specs.Token.{Array}
-use Rattle.xs_keys.specs.Reply.{field_replies}
+use Rattle.xs_keys.specs.ReplyParts.{field_replies}
 use Rattle.xs_keys.proofs.showing.push_fields.Given as goal
 
 -- the tokens so far and those of the fields that are left are all

@@ -1,7 +1,7 @@
 use Rattle.std.proofs.Common.{◌≡◌, ◌++◌, take, map}
 use Rattle.std.specs.List.{flat_map}
 use Rattle.xs_resp.specs.ReplyItems.{tokens_of}
-use Rattle.xs_keys.specs.Reply.{id_reply}
+use Rattle.xs_keys.specs.ReplyParts.{id_reply}
 use Rattle.xs_keys.proofs.showing.push_ids.Given as goal
 
 -- the ids so far

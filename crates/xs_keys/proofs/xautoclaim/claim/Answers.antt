@@ -3,10 +3,12 @@ use Rattle.xs_bytes.specs.SortedMap.{get}
 use Rattle.xs_stream.specs.Kept.{ids_of}
 use Rattle.xs_group.specs.Claims.{scan_of}
 use Rattle.xs_command.specs.declared.command.Command.TheVariants.{AutoClaim}
-use Rattle.xs_keys.specs.GroupEvent.{auto_claim}
-use Rattle.xs_keys.specs.Reply.{reply, scan_shown}
+use Rattle.xs_keys.specs.Ask.{auto_claim}
+use Rattle.xs_keys.specs.Reply.{reply}
+use Rattle.xs_keys.specs.ReplyParts.{scan_shown}
 use Rattle.xs_keys.specs.Step.{is_error}
-use Rattle.xs_keys.specs.Content.{Key, group_in}
+use Rattle.xs_keys.specs.Content.{Key}
+use Rattle.xs_keys.specs.After.{group_in}
 use Rattle.xs_keys.specs.Codes.{content_of, groups_of}
 use Rattle.xs_keys.proofs.AskSteps.{asked-missing, no-key, Misses, misses, missed-asked, Writes, writes-found, written-asked, written-same, said-of}
 use Rattle.xs_keys.proofs.xautoclaim.claim.Goals as goal

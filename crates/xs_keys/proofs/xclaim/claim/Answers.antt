@@ -2,8 +2,9 @@ use Rattle.std.proofs.Common.{◌≡◌, None, sym, ap, refl, inl, inr}
 use Rattle.xs_bytes.specs.SortedMap.{get}
 use Rattle.xs_stream.specs.Kept.{ids_of}
 use Rattle.xs_group.specs.Claims.{claim_of}
-use Rattle.xs_keys.specs.GroupEvent.{claim}
-use Rattle.xs_keys.specs.Content.{Key, group_in}
+use Rattle.xs_keys.specs.Ask.{claim}
+use Rattle.xs_keys.specs.Content.{Key}
+use Rattle.xs_keys.specs.After.{group_in}
 use Rattle.xs_keys.specs.Codes.{content_of, groups_of}
 use Rattle.xs_keys.proofs.AskSteps.{asked-missing, no-key, Misses, misses, missed-asked, Writes, writes-found, written-asked, written-same, no-error-taken}
 use Rattle.xs_keys.proofs.xclaim.claim.Goals as goal

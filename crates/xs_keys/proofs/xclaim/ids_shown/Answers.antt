@@ -1,6 +1,6 @@
 use Rattle.std.proofs.Common.{refl}
 use Rattle.xs_resp.proofs.Wholeness.{filled-each}
-use Rattle.xs_keys.specs.Reply.{id_reply}
+use Rattle.xs_keys.specs.ReplyParts.{id_reply}
 use Rattle.xs_keys.proofs.WholeReplies.{id-whole}
 use Rattle.xs_keys.proofs.xclaim.ids_shown.Goals as goal
 

@@ -1,8 +1,9 @@
 use Rattle.std.proofs.Common.{◌≡◌, None, sym, ap, refl, inl}
 use Rattle.xs_bytes.specs.SortedMap.{get}
 use Rattle.xs_resp.specs.declared.reply.Reply.TheVariants.{Int}
-use Rattle.xs_keys.specs.GroupEvent.{leave}
-use Rattle.xs_keys.specs.Content.{Key, group_in}
+use Rattle.xs_keys.specs.Ask.{leave}
+use Rattle.xs_keys.specs.Content.{Key}
+use Rattle.xs_keys.specs.After.{group_in}
 use Rattle.xs_keys.specs.Codes.{content_of, groups_of}
 use Rattle.xs_keys.proofs.AskSteps.{asked-missing, no-key, Misses, misses, missed-asked, Writes, writes-found, written-asked}
 use Rattle.xs_keys.proofs.xgroup.delete_consumer.Goals as goal

@@ -2,7 +2,7 @@ use Rattle.std.proofs.Common.{◌≡◌, ◌++◌, map, length, ◌∷◌}
 use Rattle.std.specs.List.{flat_map}
 use Rattle.xs_resp.specs.ReplyItems.{tokens_of}
 use Rattle.xs_resp.specs.Token.{Array}
-use Rattle.xs_keys.specs.Reply.{owner_reply}
+use Rattle.xs_keys.specs.ReplyParts.{owner_reply}
 use Rattle.xs_keys.proofs.xpending.push_owners.Given as goal
 
 -- the header and the consumers so far

@@ -1,7 +1,7 @@
 use Rattle.std.proofs.Common.{◌≡◌, ◌++◌, map}
 use Rattle.std.specs.List.{flat_map}
 use Rattle.xs_resp.specs.ReplyItems.{tokens_of}
-use Rattle.xs_keys.specs.Reply.{row_reply}
+use Rattle.xs_keys.specs.ReplyParts.{row_reply}
 use Rattle.xs_keys.proofs.xpending.push_rows.Given as goal
 
 -- the rows so far

@@ -1,6 +1,6 @@
 use Rattle.std.proofs.Common.{arith}
 use Rattle.xs_resp.proofs.Wholeness.{filled-each}
-use Rattle.xs_keys.specs.Reply.{row_reply}
+use Rattle.xs_keys.specs.ReplyParts.{row_reply}
 use Rattle.xs_keys.proofs.WholeReplies.{row-whole}
 use Rattle.xs_keys.proofs.xpending.rows_shown.Goals as goal
 

@@ -5,7 +5,7 @@ use Rattle.std.proofs.lemmas.List.Folds.{list_all_at, list_all_more}
 use Rattle.xs_bytes.specs.SortedMap.{get}
 use Rattle.xs_group.specs.State.{State}
 use Rattle.xs_command.specs.declared.command.ReadOne.{ReadOne}
-use Rattle.xs_keys.specs.Content.{group_in}
+use Rattle.xs_keys.specs.After.{group_in}
 use Rattle.xs_keys.specs.Codes.{content_of}
 use Rattle.xs_keys.proofs.xreadgroup.all_there.Goals as goal
 

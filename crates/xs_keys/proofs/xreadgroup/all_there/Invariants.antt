@@ -1,7 +1,7 @@
 use Rattle.std.proofs.Common.{◌≡◌, true, take, is_some}
 use Rattle.std.specs.List.{list_all}
 use Rattle.xs_bytes.specs.SortedMap.{get}
-use Rattle.xs_keys.specs.Content.{group_in}
+use Rattle.xs_keys.specs.After.{group_in}
 use Rattle.xs_keys.specs.Codes.{content_of}
 use Rattle.xs_keys.proofs.xreadgroup.all_there.Given as goal
 

@@ -6,7 +6,7 @@ use Rattle.xs_bytes.specs.SortedMap.{get}
 use Rattle.xs_command.specs.declared.command.ReadOne.{ReadOne}
 use Rattle.xs_resp.specs.ReplyItems.{tokens_of}
 use Rattle.xs_resp.proofs.Wholeness.{filled}
-use Rattle.xs_keys.specs.Content.{group_in, read_each}
+use Rattle.xs_keys.specs.After.{group_in, read_each}
 use Rattle.xs_keys.specs.Codes.{content_of}
 use Rattle.xs_keys.specs.Reply.{parts}
 use Rattle.xs_keys.proofs.ReadSteps.{first-there, content-more, tokens-more, count-more, parts-le, there-more, made-push, served-made}

@@ -2,7 +2,7 @@ use Rattle.std.proofs.Common.{◌≡◌, ◌≤◌, ◌+◌, ◌++◌, true, dro
 use Rattle.std.specs.List.{flat_map, list_all}
 use Rattle.xs_bytes.specs.SortedMap.{get}
 use Rattle.xs_resp.specs.ReplyItems.{tokens_of}
-use Rattle.xs_keys.specs.Content.{group_in, read_each}
+use Rattle.xs_keys.specs.After.{group_in, read_each}
 use Rattle.xs_keys.specs.Codes.{content_of}
 use Rattle.xs_keys.specs.Reply.{parts}
 use Rattle.xs_keys.specs.Reading.{AreMade}

@@ -3,7 +3,8 @@ use Rattle.std.proofs.lemmas.Bool.{false≢true}
 use Rattle.std.proofs.lemmas.Result.{IfOk-weaker, on_err_weaker}
 use Rattle.xs_bytes.specs.SortedMap.{NameMap, get, insert}
 use Rattle.xs_group.specs.State.{State}
-use Rattle.xs_keys.specs.Content.{Key, group_in}
+use Rattle.xs_keys.specs.Content.{Key}
+use Rattle.xs_keys.specs.After.{group_in}
 use Rattle.xs_keys.specs.Codes.{content_of, groups_of}
 use Rattle.xs_keys.specs.Reading.{IsServedIn, IsServedAt}
 use Rattle.xs_keys.proofs.Maps.{get-content_of, content-insert}

@@ -1,7 +1,8 @@
 use Rattle.std.proofs.Common.{length, is_some, sym, ap, refl, inl, arith}
 use Rattle.xs_resp.specs.declared.reply.Reply.TheVariants.{Int}
 use Rattle.xs_keys.specs.Life.{trimmed_to}
-use Rattle.xs_keys.specs.Content.{Key, key_after}
+use Rattle.xs_keys.specs.Content.{Key}
+use Rattle.xs_keys.specs.After.{key_after}
 use Rattle.xs_keys.specs.Codes.{groups_of}
 use Rattle.xs_keys.proofs.Maps.{content-insert}
 use Rattle.xs_keys.proofs.AskSteps.{no-key, key-found}

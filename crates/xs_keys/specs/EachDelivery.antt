@@ -1,0 +1,33 @@
+-- Each delivery of new entries: in id order, each once, and in full. (Redis, XREADGROUP.)
+use Rattle.std.specs.Prelude.{◌≡◌, ℕ, Bool, true, false, ◌⊎◌, Option, Some, List, ◌∷◌, ◌++◌, length}
+use Rattle.xs_keys.specs.Ground.{Id, is_below, has_id, Ascends, AllAbove}
+use Rattle.xs_keys.specs.GroupEvent.{GroupEvent, delivered, new_ids_of_event, cursor, is_their_turn}
+use Rattle.xs_keys.specs.Ask.{read_new}
+use Rattle.xs_keys.specs.GroupLife.{GroupLife}
+use Rattle.xs_keys.specs.Event.{Bytes}
+
+-- one of the events is their turn, and the id is delivered exactly where it is in the stream then
+pub record HadItsTurn (start : Id) (events : List GroupEvent) (x : Id) : Type 0 where
+  pub later : List GroupEvent
+  pub event : GroupEvent
+  pub earlier : List GroupEvent
+  pub among : events ≡ later ++ event ∷ earlier
+  pub theirs : is_their_turn start earlier event x ≡ true
+  pub exactly : has_id (delivered start events) x ≡ has_id event.present x
+
+-- a read of new entries delivers as many as it asks for, or leaves no entry in the stream past the cursor
+abbrev pub DeliversInFull : Id → List GroupEvent → Type 0
+DeliversInFull start events =
+    (later : List GroupEvent) (event : GroupEvent) (earlier : List GroupEvent) → events ≡ later ++ event ∷ earlier
+    → (consumer : Bytes) (limit : Option ℕ) (noack : Bool) → event.ask ≡ read_new consumer limit noack
+    → (limit ≡ Some (length (new_ids_of_event event (cursor start earlier))))
+    ⊎ ((x : Id) → has_id event.present x ≡ true → is_below (cursor start (event ∷ earlier)) x ≡ false)
+
+-- new deliveries: in id order and each once, past the start, exactly the entries in the stream at their turn, and as
+-- many as are asked for
+pub record DeliversNew (life : GroupLife) : Type 0 where
+  pub ascend : Ascends (delivered life.start life.events)
+  pub past_start : AllAbove life.start (delivered life.start life.events)
+  pub at_their_turn : (x : Id) → is_below life.start x ≡ true → is_below (cursor life.start life.events) x ≡ false
+      → HadItsTurn life.start life.events x
+  pub in_full : DeliversInFull life.start life.events

@@ -1,0 +1,62 @@
+-- Each owner: an entry that is pending has exactly one until it is settled. (Redis Streams, "Consumer groups"; XACK;
+-- XCLAIM; XAUTOCLAIM.)
+use Rattle.std.specs.Prelude.{◌≡◌, Bool, true, false, ◌⊎◌, Some, not, ◌||◌, List, [], ◌∷◌, ◌++◌, None, is_some}
+use Rattle.xs_keys.specs.Ground.{Id, option_map}
+use Rattle.xs_group.specs.Claims.{row_at}
+use Rattle.xs_keys.specs.Touched.{IsLastTouched}
+use Rattle.xs_keys.specs.Taken.{ClaimsWhatIsIdle}
+use Rattle.xs_keys.specs.GroupEvent.{GroupEvent, rows}
+use Rattle.xs_keys.specs.Ask.{consumer_of}
+use Rattle.xs_keys.specs.Owner.{is_made_pending_by, takes, settles, owner}
+use Rattle.xs_keys.specs.GroupLife.{GroupLife}
+use Rattle.xs_keys.specs.Event.{Bytes}
+
+-- one of these later events settles it
+abbrev pub is_settled_in : Id → List GroupEvent → List GroupEvent → Id → Bool
+is_settled_in start [] before x = false
+is_settled_in start (event ∷ later) before x = settles start (later ++ before) event x || is_settled_in start later before x
+
+-- after a delivery without NOACK there is an owner exactly as long as nothing has settled the entry
+abbrev pub OwnedUntilSettled : Id → List GroupEvent → Type 0
+OwnedUntilSettled start events =
+    (later : List GroupEvent) (event : GroupEvent) (earlier : List GroupEvent) (x : Id)
+    → events ≡ later ++ event ∷ earlier
+    → is_made_pending_by start earlier event x ≡ true
+    → is_some (owner start events x) ≡ not (is_settled_in start later (event ∷ earlier) x)
+
+-- what one event makes of an owner: it stays, or the event settles the entry and there is none, or a claim takes it
+abbrev pub OwnerAfter : Id → List GroupEvent → GroupEvent → Id → Bytes → Type 0
+OwnerAfter start past event x name =
+    (owner start (event ∷ past) x ≡ Some name)
+    ⊎ (((settles start past event x ≡ true) × (owner start (event ∷ past) x ≡ None))
+    ⊎ ((takes start past event x ≡ true) × (owner start (event ∷ past) x ≡ consumer_of event.ask)))
+
+-- without an owner there is none, unless the event delivers the entry
+abbrev pub NoOwnerAfter : Id → List GroupEvent → GroupEvent → Id → Type 0
+NoOwnerAfter start past event x =
+    (owner start (event ∷ past) x ≡ None)
+    ⊎ ((is_made_pending_by start past event x ≡ true) × (owner start (event ∷ past) x ≡ consumer_of event.ask))
+
+-- the owner changes only by a claim, and comes only by a delivery; and what is delivered without NOACK, or taken by a
+-- claim, belongs to the consumer who asked
+abbrev pub ChangesByClaims : Id → List GroupEvent → Type 0
+ChangesByClaims start events =
+    (later : List GroupEvent) (event : GroupEvent) (earlier : List GroupEvent) (x : Id)
+    → events ≡ later ++ event ∷ earlier
+    → ((name : Bytes) → owner start earlier x ≡ Some name → OwnerAfter start earlier event x name)
+    × (owner start earlier x ≡ None → NoOwnerAfter start earlier event x)
+    × ((is_made_pending_by start earlier event x || takes start earlier event x) ≡ true
+    → owner start (event ∷ earlier) x ≡ consumer_of event.ask)
+
+-- an entry has an owner exactly where it is pending, and the owner is the consumer of its pending row
+abbrev pub IsPendingWithOwner : Id → List GroupEvent → Type 0
+IsPendingWithOwner start events =
+    (x : Id) → owner start events x ≡ option_map (λ row. row.consumer) (row_at (rows start events) x)
+
+-- one owner until settled, and a claim takes only what has been idle for as long as it asks
+pub record HasOneOwner (life : GroupLife) : Type 0 where
+  pub is_pending : IsPendingWithOwner life.start life.events
+  pub is_last_touched : IsLastTouched life.start life.events
+  pub claims_idle : ClaimsWhatIsIdle life.start life.events
+  pub until_settled : OwnedUntilSettled life.start life.events
+  pub by_claims : ChangesByClaims life.start life.events

@@ -1,0 +1,41 @@
+-- Each reply: the model's, or that memory ran out.
+use Rattle.std.specs.Prelude.{◌≡◌, ℕ, true, false, ◌⊎◌, List, [], ◌∷◌}
+use Rattle.xs_keys.specs.Ground.{Memory, Reply, Error, Command}
+use Rattle.xs_command.specs.WellFormed.{IsWellFormed}
+use Rattle.xs_keys.specs.Content.{Content, IsContent}
+use Rattle.xs_keys.specs.Reply.{reply}
+use Rattle.xs_keys.specs.Step.{takes_memory, is_error, IsUnchangedIfRefused}
+use Rattle.xs_keys.specs.Owner.{takes}
+use Rattle.xs_keys.specs.Told.{IsTold}
+use Rattle.xs_keys.specs.Event.{Event, History}
+
+-- an event of the history: its command is well formed, and its reply is the model's, at the content of the events
+-- before it; what it tells a consumer of entries is what it delivers or claims; and what is refused changes nothing
+pub record IsAnswered (past : History) (now : ℕ) (command : Command) (answer : Reply) : Type 0 where
+  pub formed : IsWellFormed command
+  pub content : Content
+  pub left_by : IsContent content past
+  pub answer_is : answer ≡ reply content now command
+  pub told : IsTold past now command answer
+  pub unchanged : IsUnchangedIfRefused content now command
+
+-- it was refused for want of memory, where the command takes some and the model refuses nothing
+pub record IsLeftOut (past : History) (now : ℕ) (command : Command) (answer : Reply) : Type 0 where
+  pub takes : takes_memory command ≡ true
+  pub content : Content
+  pub left_by : IsContent content past
+  pub no_other : is_error (reply content now command) ≡ false
+  pub answer_is : answer ≡ Error Memory
+
+-- at a moment, over a past, a command is answered so, and this history follows: the event joins it, or is left out
+abbrev pub Follows : ℕ → History → Command → Reply → History → Type 0
+Follows now past command answer next =
+    (IsAnswered past now command answer × (next ≡ (now, command) ∷ past))
+    ⊎ (IsLeftOut past now command answer × (next ≡ past))
+
+-- from a past on, these are answers to these events, one after the other, and the last history has those that joined it
+abbrev pub Answers : History → List Event → List Reply → History → Type 0
+Answers past [] [] last = last ≡ past
+Answers past (e ∷ events) (answer ∷ answers) last =
+    (next : History) × Follows e.0 past e.1 answer next × Answers next events answers last
+Answers past _ _ last = ⊥

@@ -1,0 +1,92 @@
+-- How a job moves: the arrows from place to place, and what has to move. (Redis Streams, "Consumer groups"; XREADGROUP,
+-- XACK, XCLAIM.)
+use Rattle.std.specs.Prelude.{◌≡◌, ◌⊎◌, Bool, true, false, not, ◌&&◌, ◌||◌, List, [], ◌∷◌, nat_le, Option, Some, None}
+use Rattle.std.specs.Prelude.{if◌then◌else◌}
+use Rattle.xs_command.specs.WellFormed.{IsWellFormed}
+use Rattle.xs_stream.specs.declared.trim.Trim.TheVariants.{MaxLen, MinId}
+use Rattle.xs_keys.specs.Ground.{option_map_or, Id, Trim, is_below, has_id, Command, Add, GroupStart, Top, At}
+use Rattle.xs_keys.specs.Ground.{GroupCreate}
+use Rattle.xs_keys.specs.Life.{key_life}
+use Rattle.xs_keys.specs.GroupLife.{present_in}
+use Rattle.xs_keys.specs.Event.{Bytes, Event, History}
+use Rattle.xs_keys.specs.Place.{Place, before_start, waiting, dropped, handed_out, pending, settled, place_after}
+use Rattle.xs_keys.specs.Effect.{deletes_entry, trims_entry, reads_new_entries_in, with_noack, claims_by_id}
+use Rattle.xs_keys.specs.Effect.{claims_entry, consumer_of_command, acknowledges_entry, removes_consumer, begins_job}
+use Rattle.xs_keys.specs.Effect.{ends_group}
+
+-- the arrows: a command that meets these ids in the stream may lead an entry from here to there
+abbrev pub HasArrow : Command → Bytes → Bytes → List Id → Id → Place → Place → Type 0
+HasArrow command key group present x waiting dropped =
+    (deletes_entry command key x || trims_entry command key present x) ≡ true
+HasArrow command key group present x waiting handed_out = (reads_new_entries_in command key group && with_noack command) ≡ true
+HasArrow command key group present x waiting (pending consumer) =
+    ((reads_new_entries_in command key group && not (with_noack command)) ≡ true) × (consumer_of_command command ≡ Some consumer)
+HasArrow command key group present x (pending one) (pending other) =
+    ((claims_entry command key group x && has_id present x) ≡ true) × (consumer_of_command command ≡ Some other)
+HasArrow command key group present x (pending consumer) settled =
+    (acknowledges_entry command key group x || (removes_consumer command key group consumer
+    || (claims_entry command key group x && not (has_id present x)))) ≡ true
+HasArrow command key group present x _ _ = ⊥
+
+-- and some have to: a deletion drops what waits; and an acknowledgement, the removal of its consumer, and a claim by
+-- its id that finds it deleted settle what is pending
+abbrev pub HasToMove : Command → Bytes → Bytes → List Id → Id → Place → Place → Type 0
+HasToMove command key group present x waiting there = deletes_entry command key x ≡ true → there ≡ dropped
+HasToMove command key group present x (pending consumer) there =
+    (acknowledges_entry command key group x || (removes_consumer command key group consumer
+    || (claims_by_id command key group x && not (has_id present x)))) ≡ true
+    → there ≡ settled
+HasToMove command key group present x _ there = Unit {0}
+
+-- a new group with this start finds a given entry past it; at `$` none is
+abbrev pub is_past : GroupStart → Id → Bool
+is_past Top x = false
+is_past (At id) x = is_below id x
+
+-- where a new group finds an entry that was given
+abbrev pub found_at : GroupStart → List Id → Id → Place
+found_at start present x =
+    if not (is_past start x) then before_start else (if has_id present x then waiting else dropped)
+
+-- a trim drops the entry with which it comes: it leaves none, or what it leaves begins above
+abbrev pub trims_new : Trim → Id → Bool
+trims_new (MaxLen n) x = nat_le n 0
+trims_new (MinId low) x = is_below x low
+
+-- where an entry stands at first: one that is added waits, unless the addition's own trim drops it or the group starts
+-- above it; one that was there before the group is where the new group finds it
+abbrev pub IsFirstPlace : Command → List Id → Id → Place → Type 0
+IsFirstPlace (Add add) present x before_start = Unit {0}
+IsFirstPlace (Add add) present x waiting = Unit {0}
+IsFirstPlace (Add add) present x dropped = option_map_or (λ trim. trims_new trim x) add.trim false ≡ true
+IsFirstPlace (GroupCreate create) present x there = there ≡ found_at create.start present x
+IsFirstPlace _ present x there = ⊥
+
+-- what a command makes of an entry: it comes, as one that is given or with the group; it stays where it is, or goes
+-- along an arrow; or the life of the group ends
+abbrev pub GoesAlong : Command → Bytes → Bytes → List Id → Id → Option Place → Option Place → Type 0
+GoesAlong command key group present x None None = Unit {0}
+GoesAlong command key group present x None (Some there) =
+    (begins_job command key group ≡ true) × IsFirstPlace command present x there
+GoesAlong command key group present x (Some here) None = ends_group command key group ≡ true
+GoesAlong command key group present x (Some here) (Some there) =
+    ((there ≡ here) ⊎ HasArrow command key group present x here there)
+    × HasToMove command key group present x here there
+
+-- from here no arrow leads on
+abbrev pub is_final : Place → Bool
+is_final waiting = false
+is_final (pending consumer) = false
+is_final _ = true
+
+-- while these events come, newest first, the life of the group goes on
+abbrev pub GoesOnFor : Bytes → Bytes → History → Type 0
+GoesOnFor key group [] = Unit {0}
+GoesOnFor key group (e ∷ later) = IsWellFormed e.1 × (ends_group e.1 key group ≡ false) × GoesOnFor key group later
+
+-- an event leaves each entry at its place, or leads it along an arrow
+abbrev pub EachGoesAlong : History → Event → Type 0
+EachGoesAlong earlier e =
+    (key group : Bytes) (x : Id)
+    → GoesAlong e.1 key group (present_in (key_life earlier key)) x (place_after earlier key group x)
+    (place_after (e ∷ earlier) key group x)

@@ -1,0 +1,59 @@
+-- The places of a job: where an entry stands for a group. (Redis Streams, "Consumer groups"; XPENDING.)
+use Rattle.std.specs.Prelude.{◌≡◌, true, false, not, List, Option, Some, None, is_some, if◌then◌else◌}
+use Rattle.xs_keys.specs.Ground.{Id, is_below, has_id, ids_of}
+use Rattle.xs_keys.specs.Life.{Change, key_life, given_in, live}
+use Rattle.xs_keys.specs.GroupEvent.{delivered, cursor}
+use Rattle.xs_keys.specs.Owner.{last_assigned, owner}
+use Rattle.xs_keys.specs.GroupLife.{GroupLife, group_life}
+use Rattle.xs_keys.specs.Event.{Bytes, History}
+
+-- where an entry stands in a life of a group
+pub data Place : Type 0 where
+  before_start : Place  -- at or below the start: not the group's
+  waiting : Place  -- in the stream, and its turn is still to come
+  dropped : Place  -- deleted or trimmed before its turn
+  handed_out : Place  -- delivered with NOACK: nobody owes an acknowledgement
+  pending : Bytes → Place  -- delivered, and pending with this consumer
+  settled : Place  -- acknowledged, given up with its consumer, or found deleted by a claim
+
+-- where a delivered entry stands: to whom it was last assigned, and who has it
+abbrev pub place_of_delivered : Option Bytes → Option Bytes → Place
+place_of_delivered None has = handed_out
+place_of_delivered (Some last) None = settled
+place_of_delivered (Some last) (Some consumer) = pending consumer
+
+-- where an entry stands, by the life of the group and the ids in the stream
+abbrev pub place_of : GroupLife → List Id → Id → Place
+place_of life present x =
+    if not (is_below life.start x) then before_start
+    else (if has_id (delivered life.start life.events) x
+    then place_of_delivered (last_assigned life.start life.events x) (owner life.start life.events x)
+    else (if has_id present x then waiting else dropped))
+
+-- what it is to stand at each place, none by way of another
+abbrev pub StandsAt : GroupLife → List Id → Id → Place → Type 0
+StandsAt life present x before_start = is_below life.start x ≡ false
+StandsAt life present x waiting = (has_id present x ≡ true) × (is_below (cursor life.start life.events) x ≡ true)
+StandsAt life present x dropped =
+    (is_below life.start x ≡ true) × (has_id present x ≡ false) × (has_id (delivered life.start life.events) x ≡ false)
+StandsAt life present x handed_out =
+    (has_id (delivered life.start life.events) x ≡ true) × (last_assigned life.start life.events x ≡ None)
+StandsAt life present x (pending consumer) = owner life.start life.events x ≡ Some consumer
+StandsAt life present x settled =
+    (is_some (last_assigned life.start life.events x) ≡ true) × (owner life.start life.events x ≡ None)
+
+-- it stands at one place, and at no other
+abbrev pub HasOnePlace : GroupLife → List Id → Id → Type 0
+HasOnePlace life present x =
+    StandsAt life present x (place_of life present x)
+    × ((other : Place) → StandsAt life present x other → other ≡ place_of life present x)
+
+-- where an entry stands, by the open lives of its key and of the group; none where it was not given, or no life is open
+abbrev pub place_in : Option (List Change) → Option GroupLife → Id → Option Place
+place_in (Some changes) (Some life) x =
+    if has_id (ids_of (given_in changes)) x then Some (place_of life (ids_of (live changes)) x) else None
+place_in _ _ x = None
+
+-- where it stands after a history
+abbrev pub place_after : History → Bytes → Bytes → Id → Option Place
+place_after past key group x = place_in (key_life past key) (group_life past key group) x
