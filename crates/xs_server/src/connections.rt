@@ -1,6 +1,8 @@
 //! Connections: requests in, replies out, over any port.
 pub mod answering;
+pub mod buffers;
 pub mod connection;
 pub mod ending;
+pub mod second_tries;
 pub mod serve;
 pub mod serve_alone;

@@ -21,7 +21,7 @@ use std::time::Clock;
 /// How many places the rings of a lane have.
 const DEPTH: usize = 16;
 
-/// A gate for each worker. They share the listener and the announcement of its port.
+/// A gate for each worker, with its memory. They share the listener and the announcement of its port.
 fn gates_of<S: Clock + Copy + Drop, W: Sink + Drop>(
     system: S,
     alloc: Global,
@@ -32,18 +32,19 @@ fn gates_of<S: Clock + Copy + Drop, W: Sink + Drop>(
     ensures { IfOk result (λ gates. length gates.items ≡ options.workers) }
 {
     let listener = Arc::new(alloc, listener)?;
-    let announcement = Arc::new(alloc, Announcement::new(out, options.port))?;
+    let announcement = Arc::new(alloc, Announcement::new(out, options.port, options.workers))?;
     let mut gates = Vec::new(alloc);
     for _worker in 0..options.workers {
         let (listener, announcement) = (Arc::try_clone(&listener)?, Arc::try_clone(&announcement)?);
-        gates.push(TcpGate::new(alloc, system, listener, announcement, options.each))?;
+        let gate = TcpGate::new(alloc, system, listener, announcement, options.each)?;
+        gates.push(gate)?;
     }
     Ok(gates)
 }
 
 /// Listens on a port of 127.0.0.1, and serves the connections that come, as many as the options say. The port is
-/// announced on `out` once every thread has started. It gives the status of the program: 0 if the work came to its end,
-/// else 1, and the cause is said on `errors`.
+/// announced on `out` once every thread has started and made what it keeps. It gives the status of the program: 0 if
+/// the work came to its end, else 1, and the cause is said on `errors`.
 pub fn serve_and_report<
     W: Sink + Send + Drop + 'static,
     E: Sink,

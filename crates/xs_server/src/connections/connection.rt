@@ -1,21 +1,25 @@
 //! A connection, with no IO of its own: each of its turns answers a request.
-ghost use Rattle.std.specs.Prelude.{◌≡◌, ℕ, List, [], Ok, Err};
+ghost use Rattle.std.specs.Prelude.{◌≡◌, ℕ, List, [], Ok, Err, IfOk};
 ghost use Rattle.xs_resp.specs.Grammar.{IsOpen};
 ghost use Rattle.xs_resp.specs.Held.{held_length};
 ghost use Rattle.xs_server.specs.Connection.{IsNew, ServesBy, Stands};
 
 use crate::connections::answering::answer;
 use crate::connections::ending::{Ending, ServeFault};
+use crate::connections::second_tries::{WorkerReserve, next_request};
 use crate::machines::machine::{Machine, Turn};
-use std::alloc::Global;
+use std::alloc::{AllocError, Global};
 use std::sync::Wait;
 use xs_desk::Port;
+use xs_keys::Reserve;
 use xs_resp::{Fault, ReadFault, Reply, Requests, encode};
 
 /// A connection: the bytes that came in and aren't taken yet, and the text that it owes.
 #[derive(Drop)]
 pub struct Connection {
     alloc: Global,
+    /// It is made whole before each request, and given back for the words and the command of a small one.
+    pub reserve: WorkerReserve,
     pub requests: Requests,
     /// The text of a reply.
     pub owed: Vec<u8>,
@@ -26,17 +30,40 @@ pub struct Connection {
 /// How many bytes of memory the buffer keeps that a great reply made large.
 const KEPT: usize = 65_536;
 
+/// How many bytes of requests are held without more memory: those of one read, and twice a request of 16 KiB.
+const ROOM: usize = 131_072;
+
 impl Connection {
-    /// A connection before its first byte. It takes no memory.
-    pub fn new(alloc: Global) -> Self
-        ensures { IsNew result }
+    /// A connection before its first byte, with all the memory that small requests need, but the reserve.
+    pub fn new(alloc: Global) -> Result<Self, AllocError>
+        ensures { IfOk result IsNew }
     {
-        Self {
+        Ok(Self {
             alloc,
-            requests: Requests::new(alloc),
-            owed: Vec::new(alloc),
+            reserve: Reserve::new(alloc),
+            requests: Requests::with_capacity(alloc, ROOM)?,
+            owed: Vec::with_capacity(alloc, KEPT)?,
             replies: 0,
-        }
+        })
+    }
+
+    /// Makes the reserve whole, as far as there is memory.
+    pub fn fill_reserve(&mut self)
+        ensures requests { self.new.requests ≡ self.old.requests }
+        ensures owed { self.new.owed ≡ self.old.owed }
+        ensures replies { self.new.replies ≡ self.old.replies }
+    {
+        let _ = self.reserve.fill(self.alloc);
+    }
+
+    /// Begins the next connection, with the memory of this one.
+    pub fn clear(&mut self)
+        ensures { IsNew self.new }
+    {
+        self.requests.clear();
+        self.owed.clear();
+        self.owed.shrink_to(KEPT);
+        self.replies = 0;
     }
 }
 
@@ -66,12 +93,14 @@ impl<P: Port, T: Wait> Machine<P, T> for Connection {
 
     fn advance(&mut self, rt: &T, port: &mut P) -> Turn<Result<Ending, ServeFault>> {
         let replies = self.replies;
-        match self.requests.next() {
+        let _ = self.reserve.fill(self.alloc);
+        match next_request(&mut self.requests, &mut self.reserve) {
             Ok(Some(words)) => {
                 if words.is_empty() {
                     return Turn::Goes;
                 }
-                let Ok(said) = answer(rt, self.alloc, port, words.as_slice()) else {
+                let Ok(said) = answer(rt, self.alloc, &mut self.reserve, port, words.as_slice())
+                else {
                     return Turn::Ends(Err(ServeFault::Port { replies }));
                 };
                 let Ok(()) = encode(&said.reply, &mut self.owed) else {
@@ -84,7 +113,15 @@ impl<P: Port, T: Wait> Machine<P, T> for Connection {
             }
             Ok(None) => Turn::Waits,
             Err(fault) => match fault {
-                ReadFault::Memory => Turn::Ends(Err(ServeFault::Memory { replies })),
+                ReadFault::Memory => {
+                    if self.requests.skip() == 0 {
+                        return Turn::Goes;
+                    }
+                    let Ok(()) = encode(&Reply::Error(Fault::Memory), &mut self.owed) else {
+                        return Turn::Ends(Err(ServeFault::Memory { replies }));
+                    };
+                    Turn::Goes
+                }
                 _ => {
                     let Ok(()) = encode(&Reply::Error(Fault::Protocol), &mut self.owed) else {
                         return Turn::Ends(Err(ServeFault::Memory { replies }));

@@ -205,7 +205,7 @@ fn a_refused_connection_is_served_again(rt: HostRuntime) -> Result<(), Fail> {
 fn gives_a_great_buffer_back(rt: HostRuntime) -> Result<(), Fail> {
     let alloc = rt.alloc();
     let reply = Reply::Bulk(Bytes::new(vec![in alloc; b'x'; 1_000_000]?));
-    let mut connection = Connection::new(alloc);
+    let mut connection = Connection::new(alloc)?;
     assert_eq!(rt; encode(&reply, &mut connection.owed), Ok(()));
     assert_eq!(rt; connection.owed.len(), 1_000_012);
     Machine::<Alone<Still>, HostRuntime>::paid(&mut connection);

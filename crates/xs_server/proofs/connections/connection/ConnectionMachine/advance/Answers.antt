@@ -28,7 +28,7 @@ next-fewer (Err wrong) result new (is, left) = omega (arith, ap held_length left
 
 pub returns-then-is_empty-clause-turns : goal.returns-then-is_empty-clause-turns
 returns-then-is_empty-clause-turns g c = λ first read sent s.
-    let n = next-words c.args.self.now.requests s.rest c.in-Ok-Some.words c.next.new.self s.holds (rw c.in-Ok-Some.field-0-is at c.in-Ok-Some.ensures.next) in
+    let n = next-words c.args.self.now.requests s.rest c.in-Ok-Some.words c.next_request.new.requests s.holds (rw c.in-Ok-Some.field-0-is at c.in-Ok-Some.ensures) in
     let none = empty-none c.in-Ok-Some.words c.is_empty.result c.is_empty.ensures c.if-is_empty.true in
     let port = c.args.port.now in
     record {
@@ -42,13 +42,13 @@ returns-then-is_empty-clause-turns g c = λ first read sent s.
     }
 
 pub returns-then-is_empty-clause-less : goal.returns-then-is_empty-clause-less
-returns-then-is_empty-clause-less g c = λ going. next-shorter c.args.self.now.requests c.in-Ok-Some.words c.next.new.self (rw c.in-Ok-Some.field-0-is at c.in-Ok-Some.ensures.next)
+returns-then-is_empty-clause-less g c = λ going. next-shorter c.args.self.now.requests c.in-Ok-Some.words c.next_request.new.requests (rw c.in-Ok-Some.field-0-is at c.in-Ok-Some.ensures)
 
 pub returns-in_default-clause-turns : goal.returns-in_default-clause-turns
 returns-in_default-clause-turns g c = λ first read sent stands.
     let connection = c.args.self.now in
     let s = settled g.P.Port.replies first c.args.port.now read sent connection stands c.requires in
-    let n = next-words connection.requests s.rest c.in-Ok-Some.words c.next.new.self s.holds (rw c.in-Ok-Some.field-0-is at c.in-Ok-Some.ensures.next) in
+    let n = next-words connection.requests s.rest c.in-Ok-Some.words c.next_request.new.requests s.holds (rw c.in-Ok-Some.field-0-is at c.in-Ok-Some.ensures) in
     let err = c.in_default.ensures.err in
     let fails = port-fails g.P.Port.fails c.args.port.now c.answer.new.port s.rest n.found c.as_slice.result.now err.0 n.read (n.words_are ∙ sym c.as_slice.ensures) err.1 err.2 in
     ends-now (ServesBy g.P.Port.replies g.P.Port.fails g.P.Port.gone) (λ count. Err (fault.Write connection.replies)) itself (Err (fault.Port connection.replies)) first read sent connection.owed.items c.answer.new.port
@@ -59,8 +59,8 @@ pub returns-in_default-encode-clause-turns : goal.returns-in_default-encode-clau
 returns-in_default-encode-clause-turns g c = λ first read sent stands.
     let connection = c.args.self.now in
     let s = settled g.P.Port.replies first c.args.port.now read sent connection stands c.requires in
-    let one = one-answered g.P.Port.replies c.args.port.now c.answer.new.port s.rest connection.requests c.next.new.self c.in-Ok-Some.words c.as_slice.result.now c.in-Ok.said.reply c.in-Ok.said.quits c.is_empty.result
-    s.holds (rw c.in-Ok-Some.field-0-is at c.in-Ok-Some.ensures.next) (sym c.as_slice.ensures) c.is_empty.ensures c.if-is_empty.false c.in-Ok.ensures.ok in
+    let one = one-answered g.P.Port.replies c.args.port.now c.answer.new.port s.rest connection.requests c.next_request.new.requests c.in-Ok-Some.words c.as_slice.result.now c.in-Ok.said.reply c.in-Ok.said.quits c.is_empty.result
+    s.holds (rw c.in-Ok-Some.field-0-is at c.in-Ok-Some.ensures) (sym c.as_slice.ensures) c.is_empty.ensures c.if-is_empty.false c.in-Ok.ensures.ok in
     ends-now (ServesBy g.P.Port.replies g.P.Port.fails g.P.Port.gone) (λ count. Err (fault.Write connection.replies)) itself (Err (fault.Memory connection.replies)) first read sent c.encode.new.out.items c.answer.new.port
     (c.in_default-encode.ensures.err ∙ none-came connection.owed.items (omega (arith, c.requires)))
     (answer-lost g.P.Port.replies g.P.Port.fails g.P.Port.gone first c.args.port.now c.answer.new.port read sent s.rest one.0 s.exchanges one.1 connection.replies s.answered s.written one.2)
@@ -69,8 +69,8 @@ pub returns-then-said-clause-turns : goal.returns-then-said-clause-turns
 returns-then-said-clause-turns g c = λ first read sent stands.
     let connection = c.args.self.now in
     let s = settled g.P.Port.replies first c.args.port.now read sent connection stands c.requires in
-    let one = one-answered g.P.Port.replies c.args.port.now c.answer.new.port s.rest connection.requests c.next.new.self c.in-Ok-Some.words c.as_slice.result.now c.in-Ok.said.reply c.in-Ok.said.quits c.is_empty.result
-    s.holds (rw c.in-Ok-Some.field-0-is at c.in-Ok-Some.ensures.next) (sym c.as_slice.ensures) c.is_empty.ensures c.if-is_empty.false c.in-Ok.ensures.ok in
+    let one = one-answered g.P.Port.replies c.args.port.now c.answer.new.port s.rest connection.requests c.next_request.new.requests c.in-Ok-Some.words c.as_slice.result.now c.in-Ok.said.reply c.in-Ok.said.quits c.is_empty.result
+    s.holds (rw c.in-Ok-Some.field-0-is at c.in-Ok-Some.ensures) (sym c.as_slice.ensures) c.is_empty.ensures c.if-is_empty.false c.in-Ok.ensures.ok in
     let owes = c.in-Ok-encode.ensures.ok ∙ ap (λ o. o ++ text c.in-Ok.said.reply) (none-came connection.owed.items (omega (arith, c.requires))) ∙ ap text (sym one.4) in
     ends-quit g.P.Port.replies g.P.Port.fails g.P.Port.gone first c.answer.new.port read sent c.encode.new.out.items one.0 s.exchanges one.1 connection.replies
     (answered-again g.P.Port.replies first c.args.port.now c.answer.new.port read s.rest one.0 s.exchanges (one.1 ∷ []) s.answered one.2) s.written owes (one.5 ∙ c.if-said.true)
@@ -79,8 +79,8 @@ pub returns-else-said-clause-turns : goal.returns-else-said-clause-turns
 returns-else-said-clause-turns g c = λ first read sent stands.
     let connection = c.args.self.now in
     let s = settled g.P.Port.replies first c.args.port.now read sent connection stands c.requires in
-    let one = one-answered g.P.Port.replies c.args.port.now c.answer.new.port s.rest connection.requests c.next.new.self c.in-Ok-Some.words c.as_slice.result.now c.in-Ok.said.reply c.in-Ok.said.quits c.is_empty.result
-    s.holds (rw c.in-Ok-Some.field-0-is at c.in-Ok-Some.ensures.next) (sym c.as_slice.ensures) c.is_empty.ensures c.if-is_empty.false c.in-Ok.ensures.ok in
+    let one = one-answered g.P.Port.replies c.args.port.now c.answer.new.port s.rest connection.requests c.next_request.new.requests c.in-Ok-Some.words c.as_slice.result.now c.in-Ok.said.reply c.in-Ok.said.quits c.is_empty.result
+    s.holds (rw c.in-Ok-Some.field-0-is at c.in-Ok-Some.ensures) (sym c.as_slice.ensures) c.is_empty.ensures c.if-is_empty.false c.in-Ok.ensures.ok in
     let owes = c.in-Ok-encode.ensures.ok ∙ ap (λ o. o ++ text c.in-Ok.said.reply) (none-came connection.owed.items (omega (arith, c.requires))) ∙ ap text (sym one.4) in
     record {
       exchanges = s.exchanges;
@@ -93,14 +93,14 @@ returns-else-said-clause-turns g c = λ first read sent stands.
     }
 
 pub returns-else-said-clause-less : goal.returns-else-said-clause-less
-returns-else-said-clause-less g c = λ going. next-shorter c.args.self.now.requests c.in-Ok-Some.words c.next.new.self (rw c.in-Ok-Some.field-0-is at c.in-Ok-Some.ensures.next)
+returns-else-said-clause-less g c = λ going. next-shorter c.args.self.now.requests c.in-Ok-Some.words c.next_request.new.requests (rw c.in-Ok-Some.field-0-is at c.in-Ok-Some.ensures)
 
 pub returns-in-Ok-None-clause-waits : goal.returns-in-Ok-None-clause-waits
 returns-in-Ok-None-clause-waits g c = λ waiting.
-    let next = rw (c.in-Ok-None.field-0-is) at c.in-Ok-None.ensures.next in
-    let same = next-same c.args.self.now.requests c.next.new.self next in (
+    let next = rw (c.in-Ok-None.field-0-is) at c.in-Ok-None.ensures in
+    let same = next-same c.args.self.now.requests c.next_request.new.requests next in (
       none-came c.args.self.now.owed.items (omega (arith, c.requires)),
-      λ bytes is. request-open bytes (next-none c.args.self.now.requests bytes c.next.new.self (sym same ∙ is) next).0,
+      λ bytes is. request-open bytes (next-none c.args.self.now.requests bytes c.next_request.new.requests (sym same ∙ is) next).0,
     )
 
 pub returns-in-Ok-encode-2 : goal.returns-in-Ok-encode-2
@@ -108,10 +108,10 @@ returns-in-Ok-encode-2 g c = record {
   turns = λ first read sent stands.
       let connection = c.args.self.now in
       let s = settled g.P.Port.replies first c.args.port.now read sent connection stands c.requires in
-      let wrong = next-fault connection.requests s.rest c.in-Err.fault c.next.new.self s.holds c.in_default-fault.not-Memory c.in-Err.ensures.next in
+      let wrong = next-fault connection.requests s.rest c.in-Err.fault c.next_request.new.requests s.holds c.in_default-fault.not-Memory c.in-Err.ensures in
       let owes = c.in-Ok-encode-2.ensures.ok ∙ ap (λ o. o ++ text (Error Protocol)) (none-came connection.owed.items (omega (arith, c.requires))) in
       ends-refused g.P.Port.replies g.P.Port.fails g.P.Port.gone first c.args.port.now read sent c.encode-in_default-fault.new.out.items s.rest s.exchanges connection.replies wrong.0 s.answered s.written owes (request-fault s.rest wrong.0 wrong.1);
   waits = λ e. cc;
   less = λ e. cc;
-  same = next-fewer c.args.self.now.requests (Err c.in-Err.fault) c.next.new.self c.in-Err.ensures.next;
+  same = next-fewer c.args.self.now.requests (Err c.in-Err.fault) c.next_request.new.requests c.in-Err.ensures;
 }

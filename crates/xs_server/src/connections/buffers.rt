@@ -1,0 +1,21 @@
+//! The memory of a worker's connections.
+use crate::connections::connection::Connection;
+use crate::devices::chunk::Chunk;
+use std::alloc::{AllocError, Global};
+
+/// What a worker keeps from connection to connection: the memory for what it reads, holds and writes, and its reserve.
+#[derive(Drop)]
+pub struct Buffers {
+    pub chunk: Chunk,
+    pub connection: Connection,
+}
+
+impl Buffers {
+    /// All but the reserve.
+    pub fn new(alloc: Global) -> Result<Self, AllocError> {
+        Ok(Self {
+            chunk: Chunk::new(alloc)?,
+            connection: Connection::new(alloc)?,
+        })
+    }
+}
