@@ -23,7 +23,7 @@ install:
 	install -D -m 644 service/xs_server.service $(DESTDIR)$(PREFIX)/lib/systemd/system/xs_server.service
 	sed -i 's,/usr/local,$(PREFIX),' $(DESTDIR)$(PREFIX)/lib/systemd/system/xs_server.service
 
-# The merge gate. Proves everything from nothing, tries the edits of must-fail/, and runs the tests and the program that
+# CI. Proves everything from nothing, tries the edits of must-fail/, and runs the tests and the program that
 # it built: the worked cases, the great scripts, connections made at random, and a server as its users run it. Then the
 # model of how threads wait for each other is explored. Before that, docs/PROOFS.md has to name the edits that there are.
 test:
@@ -47,7 +47,7 @@ check:
 model:
 	python3 model/run.py
 
-# Tries the further wrong bodies of edits/, which the gate leaves out: the prover has to refuse each.
+# Tries the further wrong bodies of edits/, which CI leaves out: the prover has to refuse each.
 edits:
 	python3 edits/run.py
 

@@ -5,7 +5,7 @@
 
 After each case every worker of the server has to answer a PING, all at once. Replies are those of the Redis pages of
 the commands and of the RESP specification; docs/COMMANDS.md has the texts of errors. What is short stands in serves.py,
-which the gate runs. The last line is 'N passed, M failed'; the status is 1 if M > 0.
+which CI runs. The last line is 'N passed, M failed'; the status is 1 if M > 0.
 """
 import contextlib
 import random

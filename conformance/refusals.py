@@ -3,7 +3,7 @@
 
     refusals.py [CRATE ..]      the tests of these crates, or of all
 
-Tests that only refusals can fail are crates of extra.txt, so that the gate doesn't prove them. It builds the tests by
+Tests that only refusals can fail are crates of extra.txt, so that CI doesn't prove them. It builds the tests by
 `rt test`, and then runs the test program with refuse.c loaded into it (`cc` makes a library of that file). A test whose
 name says `a_refused` or `a_refusal` runs with its first allocation refused, then with its second, and so on, until a run
 asks for fewer; one whose name says `take_no_memory` or `takes_no_memory` with all refused from the first on, then from
@@ -86,7 +86,7 @@ def build_and_refuse(crate, library, told):
 
 
 def all_tested():
-    """The crates whose tests are run with allocations refused: those for this, and those of the gate that have tests."""
+    """The crates whose tests are run with allocations refused: those for this, and those of crates.txt that have tests."""
     source = [(name, os.path.join(laid_down.TOP, "crates", name, "src")) for name in laid_down.lines_of("crates.txt")]
     tested = [name for name, at in source if any("tests.rt" in names for _, _, names in os.walk(at))]
     return [*(name for name in laid_down.lines_of("extra.txt") if name.endswith("_refusals")), *tested]

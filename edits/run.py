@@ -3,8 +3,8 @@
 
     run.py [CRATE..]        needs the toolchain
 
-The gate tries those of crates/CRATE/must-fail; the ones here show clauses that no edit there does. edits/CRATE/NAME.edit
-has the same form. In a copy of the repository they stand in the place of those of the gate, and `rt must-fail` tries
+CI tries those of crates/CRATE/must-fail; the ones here show clauses that no edit there does. edits/CRATE/NAME.edit
+has the same form. In a copy of the repository they stand in the place of those in must-fail/, and `rt must-fail` tries
 them, over what checks in this repository kept. It prints a line for each, with the first goal that stays open. The last
 line is 'N refused, M failed'; the status is 1 if M > 0.
 """
@@ -21,7 +21,7 @@ import laid_down  # noqa: E402
 
 
 def lay_down(folder, tried):
-    """Copies the repository, with the edits of these crates in the place of those of the gate."""
+    """Copies the repository, with the edits of these crates in the place of those in must-fail/."""
     laid_down.lay_down(folder)
     for crate in tried:
         place = os.path.join(folder, "crates", crate, "must-fail")

@@ -1,6 +1,6 @@
 /* How the lanes of a desk and their keeper wait for each other, as a model that Spin explores whole.
 
-   It follows crates/xs_desk: watch.rt, waiting.rt, seat.rt, client.rt, lane.rt and keeper.rt. Loads and stores have one
+   It follows crates/xs_desk: poll_set.rt, waiting.rt, lane_end.rt, client.rt, lane.rt and keeper.rt. Loads and stores have one
    order, as SeqCst gives them, and each is a step of its own; but two loads are one step if what they read can only
    turn one way in between. A ring is the number of its places in use. How many looks come before the last one is left
    open: any look may be the last. One client may have as many calls under way as its rings have places, the other one

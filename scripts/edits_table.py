@@ -1,5 +1,5 @@
 #!/usr/bin/env python3
-"""Writes the table of the wrong bodies that the gate tries into docs/PROOFS.md.
+"""Writes the table of the wrong bodies that CI tries into docs/PROOFS.md.
 
     edits_table.py            writes it
     edits_table.py --check    says whether it is as the folders have it; the status is 1 if it isn't
@@ -21,7 +21,7 @@ def edits_of(crate):
 
 def table():
     """A row for each crate that has edits."""
-    rows = ["| Crate | Wrong bodies that the gate tries |\n", "|---|---|\n"]
+    rows = ["| Crate | Wrong bodies that CI tries |\n", "|---|---|\n"]
     for crate in sorted(os.listdir(os.path.join(TOP, "crates"))):
         edits = edits_of(crate)
         if edits:

@@ -1,5 +1,5 @@
 #!/usr/bin/env python3
-"""Works on the crates of extra.txt, which the gate leaves out, in a copy of the repository.
+"""Works on the crates of extra.txt, which CI leaves out, in a copy of the repository.
 
     extra.py fmt            lays out their files as rt fmt does
     extra.py check [NAME..] proves them, over the crates of crates.txt as they were checked last

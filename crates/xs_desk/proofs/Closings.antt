@@ -3,17 +3,17 @@ use Rattle.std.specs.Prelude.{◌≡◌, ℕ, ◌+◌, ◌<◌, true, List, [], 
 use Rattle.std.proofs.Common.{sym, ◌∙◌, ap, subst, inl, inr, arith, length-append}
 use Rattle.std.proofs.lemmas.List.{set-get_or}
 use Rattle.std.proofs.lemmas.Option.{slice_get_read}
-use Rattle.xs_desk.specs.declared.seat.Seat.{Seat}
+use Rattle.xs_desk.specs.declared.lane_end.LaneEnd.{LaneEnd}
 use Rattle.xs_desk.specs.declared.summary.LaneSummary.{LaneSummary}
 use Rattle.xs_desk.specs.History.{LaneOf}
-use Rattle.xs_desk.specs.Seats.{lane_of}
+use Rattle.xs_desk.specs.LaneEnds.{lane_of}
 use Rattle.xs_desk.specs.Callers.{Caller, AreEnds, IsSide}
 use Rattle.xs_desk.specs.Closing.{SumsUp, SumUp}
 use Rattle.xs_desk.proofs.Lists.{same_some, snoc-cases}
-use Rattle.xs_desk.proofs.Looking.{seat-at}
+use Rattle.xs_desk.proofs.Looking.{lane_end-at}
 
 -- the seat and the end that were found are the two sides of lane k
-pub side-of : (all : List Seat) (lanes : List LaneOf) (ends0 ends : List Caller) (k at : ℕ) (s : Seat) (e : Caller)
+pub side-of : (all : List LaneEnd) (lanes : List LaneOf) (ends0 ends : List Caller) (k at : ℕ) (s : LaneEnd) (e : Caller)
     → AreEnds lanes ends0 → ends ≡ ends0 → map lane_of all ≡ lanes → k < length all → s ≡ get_or all k s → at < length ends → e ≡ get_or ends at e
     → ((x : Caller) × (slice_get ends at ≡ Some x) × (x.lane ≡ k))
     → (slice_get lanes k ≡ Some (lane_of s)) × (slice_get ends0 at ≡ Some e) × (e.lane ≡ k) × IsSide (lane_of s) e
@@ -23,9 +23,9 @@ side-of all lanes ends0 ends k at s e are same maps lt q lt' q' found =
     let lane : e.lane ≡ k = ap (λ (c : Caller). c.lane) (sym x) ∙ found.2 in
     let here0 : slice_get ends0 at ≡ Some e = subst (λ es. slice_get es at ≡ Some e) same here in
     let a = are at e here0 in
-    let seat : slice_get lanes k ≡ Some (lane_of s) = subst (λ ls. slice_get ls k ≡ Some (lane_of s)) maps (seat-at all k s lt q) in
-    let l : a.0 ≡ lane_of s = same_some _ _ (sym a.1 ∙ ap (λ (j : ℕ). slice_get lanes j) lane ∙ seat) in
-    (seat, here0, lane, subst (λ (m : LaneOf). IsSide m e) l a.2)
+    let lane_end : slice_get lanes k ≡ Some (lane_of s) = subst (λ ls. slice_get ls k ≡ Some (lane_of s)) maps (lane_end-at all k s lt q) in
+    let l : a.0 ≡ lane_of s = same_some _ _ (sym a.1 ∙ ap (λ (j : ℕ). slice_get lanes j) lane ∙ lane_end) in
+    (lane_end, here0, lane, subst (λ (m : LaneOf). IsSide m e) l a.2)
 
 pub sum-up-none : (lanes : List LaneOf) (ends : List Caller) → SumUp lanes ends 0 []
 sum-up-none lanes ends = record { count = refl; each = λ j l s gl gs. absurd (cc) }

@@ -6,16 +6,16 @@ use Rattle.std.proofs.lemmas.List.{map-set}
 use Rattle.std.proofs.lemmas.Option.{slice_get-map, slice_get_read}
 use Rattle.std.specs.Option.{option_map}
 use Rattle.xs_keys.specs.Content.{Content}
-use Rattle.xs_desk.specs.declared.seat.Seat.{Seat}
+use Rattle.xs_desk.specs.declared.lane_end.LaneEnd.{LaneEnd}
 use Rattle.xs_desk.specs.History.{Desk, ServedCall}
 use Rattle.xs_desk.specs.Serving.{Serves, Turns, HasPlaces}
-use Rattle.xs_desk.specs.Seats.{lane_of, desk_of, scene, Answers}
+use Rattle.xs_desk.specs.LaneEnds.{lane_of, desk_of, scene, Answers}
 use Rattle.xs_desk.proofs.Turning.{turns-more, places-stay}
 
-pub seat-at : (all : List Seat) (i : ℕ) (s : Seat) → i < length all → s ≡ get_or all i s → slice_get (map lane_of all) i ≡ Some (lane_of s)
-seat-at all i s lt e = slice_get-map lane_of all i ∙ ap (λ o. option_map lane_of o) (slice_get_read all (length all) i s refl lt e)
+pub lane_end-at : (all : List LaneEnd) (i : ℕ) (s : LaneEnd) → i < length all → s ≡ get_or all i s → slice_get (map lane_of all) i ≡ Some (lane_of s)
+lane_end-at all i s lt e = slice_get-map lane_of all i ∙ ap (λ o. option_map lane_of o) (slice_get_read all (length all) i s refl lt e)
 
-module _ {C : Type 0} (gives : C → ℕ → C → Type 0) (old : Desk) (clock : C) (n : ℕ) (all : List Seat) (i : ℕ) (s s' : Seat) (c c' : Content) (p p' : ℕ) (k k' : C)
+module _ {C : Type 0} (gives : C → ℕ → C → Type 0) (old : Desk) (clock : C) (n : ℕ) (all : List LaneEnd) (i : ℕ) (s s' : LaneEnd) (c c' : Content) (p p' : ℕ) (k k' : C)
     (lt : i < length all) (e : s ≡ get_or all i s) where
   -- nothing has changed
   rests-desk : scene s' c' p' k' ≡ scene s c p k → desk_of (slice_set all i s') c' p' ≡ desk_of all c p
@@ -43,7 +43,7 @@ module _ {C : Type 0} (gives : C → ℕ → C → Type 0) (old : Desk) (clock :
   unfolding call_of
   serves-desk a = record {
     lane = lane_of s;
-    here = seat-at all i s lt e;
+    here = lane_end-at all i s lt e;
     lanes_are = map-set lane_of all i s' ∙ ap (λ x. slice_set (map lane_of all) i x) a.lane_is;
     ticket_is = a.ticket_is;
     place_is = a.place_is;

@@ -3,9 +3,9 @@ use Rattle.std.specs.Prelude.{◌≡◌, ℕ, zero, suc, ◌+◌, List, [], ◌�
 use Rattle.std.proofs.Common.{sym, ◌∙◌, ap, subst, arith}
 use Rattle.std.proofs.lemmas.List.{map-append, length-map}
 use Rattle.xs_bytes.specs.SortedMap.{empty}
-use Rattle.xs_desk.specs.declared.seat.Seat.{Seat}
+use Rattle.xs_desk.specs.declared.lane_end.LaneEnd.{LaneEnd}
 use Rattle.xs_desk.specs.History.{LaneOf, IsHistory}
-use Rattle.xs_desk.specs.Seats.{lane_of, desk_of}
+use Rattle.xs_desk.specs.LaneEnds.{lane_of, desk_of}
 use Rattle.xs_desk.specs.Callers.{Caller}
 use Rattle.xs_desk.specs.Opening.{IsNew, AreNew}
 use Rattle.xs_desk.proofs.Histories.{runs-none}
@@ -16,9 +16,9 @@ new-snoc k depth (x ∷ xs) [] l c a n = absurd a
 new-snoc k depth [] (y ∷ ys) l c a n = absurd a
 new-snoc k depth (x ∷ xs) (y ∷ ys) l c a n = (a.0, new-snoc (k + 1) depth xs ys l c a.1 (subst (λ j. IsNew j depth l c) (omega arith) n))
 
-pub seats_grow : (depth : ℕ) (all : List Seat) (cs : List Caller) (s : Seat) (c : Caller) → AreNew 0 depth (map lane_of all) cs → IsNew (length all) depth (lane_of s) c
+pub lane_ends_grow : (depth : ℕ) (all : List LaneEnd) (cs : List Caller) (s : LaneEnd) (c : Caller) → AreNew 0 depth (map lane_of all) cs → IsNew (length all) depth (lane_of s) c
     → AreNew 0 depth (map lane_of (all ++ s ∷ [])) (cs ++ c ∷ [])
-seats_grow depth all cs s c a n =
+lane_ends_grow depth all cs s c a n =
     subst (λ ls. AreNew 0 depth ls (cs ++ c ∷ [])) (sym (map-append lane_of all (s ∷ [])))
     (new-snoc 0 depth (map lane_of all) cs (lane_of s) c a (subst (λ j. IsNew j depth (lane_of s) c) (omega (arith, length-map all lane_of)) n))
 
@@ -29,7 +29,7 @@ new-lane k depth [] (y ∷ ys) a j l e = absurd a
 new-lane k depth (x ∷ xs) (y ∷ ys) a zero l e = let q : x ≡ l = cc in (ap (λ (z : LaneOf). z.popped) (sym q) ∙ a.0.popped, ap (λ (z : LaneOf). z.sent) (sym q) ∙ a.0.sent)
 new-lane k depth (x ∷ xs) (y ∷ ys) a (suc j) l e = new-lane (k + 1) depth xs ys a.1 j l e
 
-pub new_history : (depth : ℕ) (all : List Seat) (cs : List Caller) → AreNew 0 depth (map lane_of all) cs → IsHistory [] (desk_of all empty 0)
+pub new_history : (depth : ℕ) (all : List LaneEnd) (cs : List Caller) → AreNew 0 depth (map lane_of all) cs → IsHistory [] (desk_of all empty 0)
 new_history depth all cs a = record {
   places = λ i n e. absurd (cc);
   tickets = λ k i n e. absurd (cc);

@@ -1,7 +1,7 @@
 pub mod History
 pub mod Rings
 pub mod Serving
-pub mod Seats
+pub mod LaneEnds
 pub mod Callers
 pub mod Asking
 pub mod Opening

@@ -2,8 +2,8 @@
 ghost use Rattle.std.specs.Prelude.{◌≡◌, ◌++◌, ◌∷◌, [], ◌<◌, length, IfOk, IfErr, IsOk, MatchOption};
 
 use crate::answer::{Answer, Formed};
-use crate::waiting::Sleeper;
-use crate::watch::Notice;
+use crate::poll_set::Registration;
+use crate::waiting::Backoff;
 use rtrb::{Consumer, Producer, PushError};
 use std::alloc::Global;
 use std::marker::Model;
@@ -24,8 +24,8 @@ pub struct Client {
     lane: usize,
     ticket: u64,
     // Tells the keeper.
-    notice: Notice,
-    sleeper: Sleeper,
+    registration: Registration,
+    backoff: Backoff,
     // Set once nobody is served any more.
     gone: Arc<AtomicBool>,
 }
@@ -73,8 +73,8 @@ impl Client {
         lane: usize,
         calls: Producer<Command, Global, Formed>,
         answers: Consumer<Answer>,
-        notice: Notice,
-        sleeper: Sleeper,
+        registration: Registration,
+        backoff: Backoff,
         gone: Arc<AtomicBool>,
     ) -> Client
         requires { sent calls ≡ [] }
@@ -85,8 +85,8 @@ impl Client {
             answers,
             lane,
             ticket: 0,
-            notice,
-            sleeper,
+            registration,
+            backoff,
             gone,
         }
     }
@@ -111,8 +111,8 @@ impl Client {
         match self.calls.push(command) {
             Ok(()) => {
                 self.ticket = next;
-                self.sleeper.begin_anew();
-                self.notice.give();
+                self.backoff.begin_anew();
+                self.registration.notify();
                 Ok(ticket)
             }
             Err(PushError::Full(back)) => Err(Full(back)),
@@ -125,13 +125,13 @@ impl Client {
         ensures { MatchOption result (self.new ≡ self.old)
             (λ answer. self.new ≡ record self.old { taken = self.old.taken ++ answer ∷ [] }) }
     {
-        self.sleeper.begin_look();
+        self.backoff.begin_look();
         let answer = self.answers.pop().ok()?;
-        self.sleeper.found(answer.moment);
+        self.backoff.found(answer.moment);
         // The keeper passes over a call only while the ring of answers is full, so behind an answer that is taken.
         // Without a further call there is nothing to tell, and the keeper sleeps on.
         if answer.ticket.saturating_add(1) < self.ticket {
-            self.notice.give();
+            self.registration.notify();
         }
         Some(answer)
     }
@@ -140,7 +140,7 @@ impl Client {
     /// answer. After many such in a row it parks until the keeper has answered or is gone; before that it comes back
     /// at once, for another `take`.
     pub fn idle<R: Wait>(&self, rt: &R) {
-        self.sleeper.rest(rt);
+        self.backoff.snooze(rt);
     }
 
     /// Whether the keeper is gone. Where it is, and a `take` after that gives nothing, no answer comes any more.

@@ -4,13 +4,13 @@ ghost use Rattle.std.specs.Prelude.{IsFalse, slice_get, Some, vec_capacity};
 ghost use Rattle.xs_bytes.specs.SortedMap.{empty};
 ghost use Rattle.xs_keys.specs.Headline.{RunsOn};
 ghost use Rattle.xs_desk.specs.History.{ServedCall, IsHistory, events_of, replies_of};
-ghost use Rattle.xs_desk.specs.Seats.{lane_of};
+ghost use Rattle.xs_desk.specs.LaneEnds.{lane_of};
 ghost use Rattle.xs_desk.specs.Callers.{Caller, AreEnds, HasEnd, IsSide};
 ghost use Rattle.xs_desk.specs.Closing.{SumsUp, SumUp, AreEven, IsRefused};
 
 use crate::client::Ended;
 use crate::keeper::Keeper;
-use crate::seat::Seat;
+use crate::lane_end::LaneEnd;
 use crate::summary::{LaneSummary, Summary};
 use std::alloc::Global;
 
@@ -51,37 +51,37 @@ fn has_all(ended: &Vec<Ended>, lanes: usize) -> bool
 }
 
 /// Looks at both rings of a lane with both ends of each.
-fn sum_up(seat: &mut Seat, end: &mut Ended) -> LaneSummary
-    requires side { IsSide (lane_of seat.old) end.old }
-    requires even { length (lane_of seat.old).sent ≡ length (lane_of seat.old).popped }
-    ensures seat { lane_of seat.new ≡ lane_of seat.old }
+fn sum_up(lane_end: &mut LaneEnd, end: &mut Ended) -> LaneSummary
+    requires side { IsSide (lane_of lane_end.old) end.old }
+    requires even { length (lane_of lane_end.old).sent ≡ length (lane_of lane_end.old).popped }
+    ensures lane_end { lane_of lane_end.new ≡ lane_of lane_end.old }
     ensures end { end.new ≡ end.old }
-    ensures summary { SumsUp (lane_of seat.old) end.old result }
+    ensures summary { SumsUp (lane_of lane_end.old) end.old result }
 {
-    let left = seat.calls.slots_beside(&mut end.calls);
-    let untaken = end.answers.slots_beside(&mut seat.answers);
+    let left = lane_end.calls.slots_beside(&mut end.calls);
+    let untaken = end.answers.slots_beside(&mut lane_end.answers);
     LaneSummary {
-        served: seat.ticket,
+        served: lane_end.ticket,
         left: left as u64,
         untaken: untaken as u64,
     }
 }
 
 /// Sums up each lane. The room for it was made before, and the ends are all there.
-fn sum_up_all(seats: &mut Vec<Seat>, ended: &mut Vec<Ended>, lanes: &mut Vec<LaneSummary>)
-    requires room { (lanes.old.items ≡ []) × (length seats.old.items ≤ vec_capacity lanes.old) }
-    requires ends { AreEnds (map lane_of seats.old.items) ended.old.items }
-    requires all { (k : ℕ) → k < length seats.old.items → HasEnd ended.old.items k }
-    requires even { AreEven (map lane_of seats.old.items) }
-    ensures { SumUp (map lane_of seats.old.items) ended.old.items (length seats.old.items) lanes.new.items }
+fn sum_up_all(lane_ends: &mut Vec<LaneEnd>, ended: &mut Vec<Ended>, lanes: &mut Vec<LaneSummary>)
+    requires room { (lanes.old.items ≡ []) × (length lane_ends.old.items ≤ vec_capacity lanes.old) }
+    requires ends { AreEnds (map lane_of lane_ends.old.items) ended.old.items }
+    requires all { (k : ℕ) → k < length lane_ends.old.items → HasEnd ended.old.items k }
+    requires even { AreEven (map lane_of lane_ends.old.items) }
+    ensures { SumUp (map lane_of lane_ends.old.items) ended.old.items (length lane_ends.old.items) lanes.new.items }
 {
-    for k in 0..seats.len() {
+    for k in 0..lane_ends.len() {
         let Some(at) = end_of(ended, k) else {
             unreachable!();
         };
         let end = &mut ended[at];
-        let seat = &mut seats[k];
-        let summary = sum_up(seat, end);
+        let lane_end = &mut lane_ends[k];
+        let summary = sum_up(lane_end, end);
         if lanes.push(summary).is_err() {
             unreachable!();
         }
@@ -107,8 +107,8 @@ pub fn close(alloc: Global, keeper: Keeper, ended: Vec<Ended>) -> Result<Summary
     let Ok(mut lanes) = Vec::with_capacity(alloc, count) else {
         return Err(CloseError::Memory(keeper, ended));
     };
-    let (mut seats, keyspace) = keeper.into_parts();
+    let (mut lane_ends, keyspace) = keeper.into_parts();
     let mut ended = ended;
-    sum_up_all(&mut seats, &mut ended, &mut lanes);
+    sum_up_all(&mut lane_ends, &mut ended, &mut lanes);
     Ok(Summary { lanes, keyspace })
 }

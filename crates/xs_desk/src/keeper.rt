@@ -1,11 +1,11 @@
 //! The keeper of a desk.
 ghost use Rattle.std.specs.Prelude.{◌≡◌, ℕ, ◌+◌, ◌^◌, length, MatchResult};
 ghost use Rattle.xs_desk.specs.Serving.{HasPlaces, Turns};
-ghost use Rattle.xs_desk.specs.Seats.{desk_of};
+ghost use Rattle.xs_desk.specs.LaneEnds.{desk_of};
 
-use crate::seat::{Look, Seat};
-use crate::waiting::{Bell, Sleeper};
-use crate::watch::Awake;
+use crate::lane_end::{LaneEnd, Look};
+use crate::poll_set::PollSet;
+use crate::waiting::{Backoff, Waker};
 use std::alloc::AllocError;
 use std::marker::Model;
 use std::snapshot::Snapshot;
@@ -26,11 +26,11 @@ pub enum KeeperError {
 /// The keeper of a desk: it has the keyspace, and one side of each lane. Contracts see the lanes, what the keyspace
 /// holds, and the next place. Where it is dropped, each lane is told that it is gone.
 pub struct Keeper {
-    seats: Vec<Seat>,
+    lane_ends: Vec<LaneEnd>,
     keyspace: Keyspace,
     place: u64,
-    awake: Awake,
-    sleeper: Sleeper,
+    poll_set: PollSet,
+    backoff: Backoff,
     // Set once nobody is served any more.
     gone: Arc<AtomicBool>,
 }
@@ -42,25 +42,25 @@ impl Model for Keeper {
 
     ghost use Rattle.std.specs.Prelude.{List};
     ghost use Rattle.xs_desk.specs.History.{ServedCall, IsHistory};
-    ghost use Rattle.xs_desk.specs.Seats.{desk_of};
+    ghost use Rattle.xs_desk.specs.LaneEnds.{desk_of};
 
-    ghost view = { λ k. desk_of k.seats.items k.keyspace k.place };
+    ghost view = { λ k. desk_of k.lane_ends.items k.keyspace k.place };
 
     ghost invariant = { λ k. (history : List ServedCall)
-        × IsHistory history (desk_of k.seats.items k.keyspace k.place) };
+        × IsHistory history (desk_of k.lane_ends.items k.keyspace k.place) };
 }
 
 impl Drop for Keeper {
     fn drop(self) {
         let Keeper {
-            seats,
+            lane_ends,
             keyspace: _keyspace,
             place: _,
-            awake: _awake,
-            sleeper: _sleeper,
+            poll_set: _awake,
+            backoff: _sleeper,
             gone,
         } = self;
-        say_gone(&seats, &gone);
+        say_gone(&lane_ends, &gone);
     }
 }
 
@@ -74,64 +74,51 @@ impl Promise<Keeper> for SameRings {
     ghost kept_by = { λ p keeper. KeepsRings p.0.value keeper };
 }
 
-/// Wakes an idle keeper.
-#[derive(Drop)]
-pub struct Waker {
-    bell: Bell,
-}
-
-impl Waker {
-    /// Gives the keeper's token.
-    pub fn wake(&self) {
-        self.bell.wake();
-    }
-}
-
 /// Tells each lane that nobody is served any more. A lane reads the flag before it looks for an answer, and parks after
 /// that; so its token, which comes after the flag, ends a park that began on the flag as it was before.
-fn say_gone(seats: &Vec<Seat>, gone: &Arc<AtomicBool>) {
+fn say_gone(lane_ends: &Vec<LaneEnd>, gone: &Arc<AtomicBool>) {
     gone.store(true, Ordering::SeqCst);
-    for seat in seats {
-        seat.bell.wake();
+    for lane_end in lane_ends {
+        lane_end.waker.wake();
     }
 }
 
 /// Looks once at each lane that isn't at rest, in order.
 fn serve_each<C: Clock>(
-    seats: &mut Vec<Seat>,
-    awake: &mut Awake,
-    sleeper: &mut Sleeper,
+    lane_ends: &mut Vec<LaneEnd>,
+    poll_set: &mut PollSet,
+    backoff: &mut Backoff,
     keyspace: &mut Keyspace,
     place: &mut u64,
     clock: &mut C,
 ) -> Result<u64, KeeperError>
-    requires { HasPlaces (desk_of seats.old.items keyspace.old place.old) }
+    requires { HasPlaces (desk_of lane_ends.old.items keyspace.old place.old) }
     ensures { MatchResult result
-        (λ n. Turns C.gives (desk_of seats.old.items keyspace.old place.old) clock.old n (length seats.old.items)
-        (desk_of seats.new.items keyspace.new place.new) clock.new)
+        (λ n. Turns C.gives (desk_of lane_ends.old.items keyspace.old place.old) clock.old n (length lane_ends.old.items)
+        (desk_of lane_ends.new.items keyspace.new place.new) clock.new)
         (λ _. (n : ℕ)
-        × Turns C.gives (desk_of seats.old.items keyspace.old place.old) clock.old n (length seats.old.items)
-        (desk_of seats.new.items keyspace.new place.new) clock.new × (place.new + 1 ≡ 2 ^ 64)) }
+        × Turns C.gives (desk_of lane_ends.old.items keyspace.old place.old) clock.old n (length lane_ends.old.items)
+        (desk_of lane_ends.new.items keyspace.new place.new) clock.new × (place.new + 1 ≡ 2 ^ 64)) }
 {
     let mut served = 0;
     // A bit for each lane to look at; the lowest is that of lane `next`, and those below it have had their turn.
-    let mut lanes = awake.begin_turn();
+    let mut lanes = poll_set.begin_turn();
     let mut next = 0;
     while lanes != 0 {
         let passed_over = lanes.trailing_zeros();
         let k = next + passed_over as usize;
-        if k >= seats.len() {
+        if k >= lane_ends.len() {
             break;
         }
         lanes = lanes.wrapping_shr(passed_over) >> 1;
         next = k + 1;
-        let seat = &mut seats[k];
-        match seat.serve(keyspace, place, clock) {
+        let lane_end = &mut lane_ends[k];
+        match lane_end.serve(keyspace, place, clock) {
             Look::Idle => {}
             Look::Served(moment) => {
                 served += 1;
-                awake.found(k);
-                sleeper.found(moment);
+                poll_set.found(k);
+                backoff.found(moment);
             }
             Look::Exhausted => return Err(KeeperError::Exhausted),
         }
@@ -143,26 +130,26 @@ impl Keeper {
     ghost use Rattle.std.specs.Prelude.{◌≡◌, ℕ, ◌+◌, ◌^◌, ◌<◌, length, List, [], MatchResult};
     ghost use Rattle.xs_desk.specs.History.{ServedCall, IsHistory};
     ghost use Rattle.xs_desk.specs.Serving.{Turns};
-    ghost use Rattle.xs_desk.specs.Seats.{desk_of};
+    ghost use Rattle.xs_desk.specs.LaneEnds.{desk_of};
     ghost use Rattle.xs_desk.specs.Keeping.{KeepsRings};
 
     /// A keeper that has served nobody.
     pub(crate) fn new(
-        seats: Vec<Seat>,
+        lane_ends: Vec<LaneEnd>,
         keyspace: Keyspace,
-        awake: Awake,
-        sleeper: Sleeper,
+        poll_set: PollSet,
+        backoff: Backoff,
         gone: Arc<AtomicBool>,
     ) -> Keeper
-        requires { IsHistory [] (desk_of seats.items keyspace 0) }
-        ensures { result ≡ desk_of seats.items keyspace 0 }
+        requires { IsHistory [] (desk_of lane_ends.items keyspace 0) }
+        ensures { result ≡ desk_of lane_ends.items keyspace 0 }
     {
         Keeper {
-            seats,
+            lane_ends,
             keyspace,
             place: 0,
-            awake,
-            sleeper,
+            poll_set,
+            backoff,
             gone,
         }
     }
@@ -171,7 +158,7 @@ impl Keeper {
     pub fn lanes(&self) -> usize
         ensures { result ≡ length self.now.lanes }
     {
-        self.seats.len()
+        self.lane_ends.len()
     }
 
     /// Looks at each lane once, in order, and serves at most one call of each, at the moment that the clock gives. A
@@ -190,11 +177,11 @@ impl Keeper {
         ensures rings { KeepsRings self.old self.new }
         ensures last { self.new.place < 2 ^ 64 }
     {
-        self.sleeper.begin_look();
+        self.backoff.begin_look();
         let served = serve_each(
-            &mut self.seats,
-            &mut self.awake,
-            &mut self.sleeper,
+            &mut self.lane_ends,
+            &mut self.poll_set,
+            &mut self.backoff,
             &mut self.keyspace,
             &mut self.place,
             clock,
@@ -202,7 +189,7 @@ impl Keeper {
         // That the place is a number of 64 bits is known of it once it is read.
         let _place = self.place;
         let Ok(count) = served else {
-            say_gone(&self.seats, &self.gone);
+            say_gone(&self.lane_ends, &self.gone);
             return Err(KeeperError::Exhausted);
         };
         Ok(count)
@@ -212,28 +199,27 @@ impl Keeper {
     /// After many such turns in a row it parks until a lane or a waker gives the keeper's token; before that it comes
     /// back at once, for another turn.
     pub fn idle<R: Wait>(&self, rt: &R) {
-        self.sleeper.rest(rt);
+        self.backoff.snooze(rt);
     }
 
     /// What wakes this keeper.
     pub fn waker(&self) -> Result<Waker, AllocError> {
-        let bell = self.sleeper.bell()?;
-        Ok(Waker { bell })
+        self.backoff.waker()
     }
 
     /// Takes the keeper apart, where nobody waits for it any more.
-    pub(crate) fn into_parts(self) -> (Vec<Seat>, Keyspace)
+    pub(crate) fn into_parts(self) -> (Vec<LaneEnd>, Keyspace)
         ensures parts { (place : ℕ) × (self ≡ desk_of result.0.items result.1 place) }
         ensures history { (history : List ServedCall) × IsHistory history self }
     {
         let Keeper {
-            seats,
+            lane_ends,
             keyspace,
             place: _,
-            awake: _awake,
-            sleeper: _sleeper,
+            poll_set: _awake,
+            backoff: _sleeper,
             gone: _gone,
         } = self;
-        (seats, keyspace)
+        (lane_ends, keyspace)
     }
 }

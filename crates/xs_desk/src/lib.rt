@@ -5,25 +5,26 @@
 
 pub mod alone;
 pub mod answer;
+mod call_rate;
 pub mod client;
 pub mod closing;
 pub mod keeper;
 pub mod lane;
+mod lane_end;
 pub mod laws;
 pub mod opening;
-mod pace;
+mod poll_set;
 pub mod port;
-mod seat;
 pub mod summary;
 mod waiting;
-mod watch;
 
 pub use alone::Alone;
 pub use answer::{Answer, next_place};
 pub use client::{Client, Ended, Full};
 pub use closing::{CloseError, close};
-pub use keeper::{Keeper, KeeperError, SameRings, Waker};
+pub use keeper::{Keeper, KeeperError, SameRings};
 pub use lane::Lane;
 pub use opening::{DeskError, desk};
 pub use port::{Port, PortFault};
 pub use summary::{LaneSummary, Summary};
+pub use waiting::Waker;

@@ -1,15 +1,15 @@
 //! Making a desk.
 ghost use Rattle.std.specs.Prelude.{◌≡◌, ℕ, length, map, IfOk, MatchResult};
 ghost use Rattle.xs_bytes.specs.SortedMap.{empty};
-ghost use Rattle.xs_desk.specs.Seats.{lane_of};
+ghost use Rattle.xs_desk.specs.LaneEnds.{lane_of};
 ghost use Rattle.xs_desk.specs.Opening.{AreNew, IsNew, IsDeskError, IsLaneCount, IsDepth};
 
 use crate::answer::{Answer, Formed};
 use crate::client::Client;
 use crate::keeper::Keeper;
-use crate::seat::Seat;
-use crate::waiting::{LAST_LOOK_OF_KEEPER, LAST_LOOK_OF_LANE, Sleeper};
-use crate::watch::Awake;
+use crate::lane_end::LaneEnd;
+use crate::poll_set::PollSet;
+use crate::waiting::{Backoff, LAST_LOOK_OF_KEEPER, LAST_LOOK_OF_LANE};
 use rtrb::RingBuffer;
 use std::alloc::{AllocError, Global};
 use std::sync::Arc;
@@ -43,53 +43,53 @@ fn open_lane(
     alloc: Global,
     lane: usize,
     depth: usize,
-    awake: &mut Awake,
-    keeper: &Sleeper,
+    poll_set: &mut PollSet,
+    keeper: &Backoff,
     gone: &Arc<AtomicBool>,
-) -> Result<(Seat, Client), AllocError>
+) -> Result<(LaneEnd, Client), AllocError>
     ensures { IfOk result (λ r. IsNew lane depth (lane_of r.0) r.1) }
 {
     let (to_keeper, calls) = RingBuffer::<Command>::with_protocol::<Global, Formed>(alloc, depth)?;
     let (answers, from_keeper) = RingBuffer::<Answer>::new(alloc, depth)?;
-    let sleeper = Sleeper::new(alloc, LAST_LOOK_OF_LANE)?;
-    let bell = sleeper.bell()?;
-    let seat = Seat {
+    let backoff = Backoff::new(alloc, LAST_LOOK_OF_LANE)?;
+    let waker = backoff.waker()?;
+    let lane_end = LaneEnd {
         calls,
         answers,
         ticket: 0,
-        bell,
+        waker,
     };
     let gone = Arc::try_clone(gone)?;
     let client = Client::new(
         lane,
         to_keeper,
         from_keeper,
-        awake.watch(lane, keeper.bell()?)?,
-        sleeper,
+        poll_set.register(lane, keeper.waker()?)?,
+        backoff,
         gone,
     );
-    Ok((seat, client))
+    Ok((lane_end, client))
 }
 
-#[tactic(auto, using(crate::proofs::Openings::seats_grow))]
+#[tactic(auto, using(crate::proofs::Openings::lane_ends_grow))]
 fn open_lanes(
     alloc: Global,
     count: usize,
     depth: usize,
-    awake: &mut Awake,
-    keeper: &Sleeper,
+    poll_set: &mut PollSet,
+    keeper: &Backoff,
     gone: &Arc<AtomicBool>,
-) -> Result<(Vec<Seat>, Vec<Client>), AllocError>
+) -> Result<(Vec<LaneEnd>, Vec<Client>), AllocError>
     ensures { IfOk result (λ r. AreNew 0 depth (map lane_of r.0.items) r.1.items × (length r.0.items ≡ count)) }
 {
-    let mut seats = Vec::with_capacity(alloc, count)?;
+    let mut lane_ends = Vec::with_capacity(alloc, count)?;
     let mut clients = Vec::with_capacity(alloc, count)?;
     for lane in 0..count {
-        let (seat, client) = open_lane(alloc, lane, depth, awake, keeper, gone)?;
-        seats.push(seat)?;
+        let (lane_end, client) = open_lane(alloc, lane, depth, poll_set, keeper, gone)?;
+        lane_ends.push(lane_end)?;
         clients.push(client)?;
     }
-    Ok((seats, clients))
+    Ok((lane_ends, clients))
 }
 
 #[tactic(auto, using(crate::proofs::Openings::new_history))]
@@ -97,12 +97,12 @@ fn open_desk(alloc: Global, count: usize, depth: usize) -> Result<(Keeper, Vec<C
     ensures { IfOk result (λ r. AreNew 0 depth r.0.lanes r.1.items × (length r.0.lanes ≡ count) × (r.0.keyspace ≡ empty)
         × (r.0.place ≡ 0)) }
 {
-    let sleeper = Sleeper::new(alloc, LAST_LOOK_OF_KEEPER)?;
+    let backoff = Backoff::new(alloc, LAST_LOOK_OF_KEEPER)?;
     let gone = Arc::new(alloc, AtomicBool::new(false))?;
-    let mut awake = Awake::new(alloc)?;
-    let (seats, clients) = open_lanes(alloc, count, depth, &mut awake, &sleeper, &gone)?;
+    let mut poll_set = PollSet::new(alloc)?;
+    let (lane_ends, clients) = open_lanes(alloc, count, depth, &mut poll_set, &backoff, &gone)?;
     Ok((
-        Keeper::new(seats, Keyspace::new(alloc), awake, sleeper, gone),
+        Keeper::new(lane_ends, Keyspace::new(alloc), poll_set, backoff, gone),
         clients,
     ))
 }

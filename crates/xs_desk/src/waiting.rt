@@ -7,12 +7,12 @@
 //!
 //! Before the look after which it may park it says that it sleeps, and the other side gives its token only then. No
 //! token is lost, since all loads and stores have one order, those of the rings too, which the ported `rtrb` makes so:
-//! the sleeper stores the flag, looks, and parks; the other side pushes or takes something, and loads the flag. Where
+//! a side stores the flag, looks, and parks; the other side pushes or takes something, and loads the flag. If
 //! the look came before the push, so did the store, and the load finds the flag set: the token is given, and ends the
-//! park, even one that begins later. Where the look came after the push, it has found what was pushed; at a lane at
-//! rest the keeper's look is one at its notice, which comes before the load too (`watch.rt`). A token that nobody
-//! needed ends one park too early, after which the sleeper looks again.
-use crate::pace::Pace;
+//! park, even one that begins later. If the look came after the push, it has found what was pushed; at a lane at rest
+//! the keeper looks at its notice, which comes before the load too (`poll_set.rt`). A token that nobody needed ends one
+//! park too early, after which the side looks again.
+use crate::call_rate::CallRate;
 use crossbeam_utils::sync::{Parker, Unparker};
 use std::alloc::{AllocError, Global};
 use std::sync::atomic::{AtomicBool, Ordering};
@@ -35,9 +35,9 @@ pub(crate) const LAST_LOOK_OF_LANE: u32 = SPINS + YIELDS_OF_LANE + 1;
 /// The look after which the keeper parks, where it finds nothing.
 pub(crate) const LAST_LOOK_OF_KEEPER: u32 = SPINS + YIELDS_OF_KEEPER + 1;
 
-/// One side's own waiting.
+/// How one side waits: it looks again, then yields the processor, then parks.
 #[derive(Drop)]
-pub(crate) struct Sleeper {
+pub(crate) struct Backoff {
     // Looks that found nothing, one after the other, with the one begun; at most `last_look`.
     looks: u32,
     // The look after which it parks.
@@ -45,33 +45,33 @@ pub(crate) struct Sleeper {
     sleeps: Arc<AtomicBool>,
     parker: Parker,
     // Of the calls that this side serves or takes the answers to.
-    pace: Pace,
+    call_rate: CallRate,
 }
 
-/// What wakes the other side.
+/// What wakes the other side: an idle keeper, or a lane.
 #[derive(Drop)]
-pub(crate) struct Bell {
+pub struct Waker {
     sleeps: Arc<AtomicBool>,
     unparker: Unparker,
 }
 
-impl Sleeper {
-    pub fn new(alloc: Global, last_look: u32) -> Result<Sleeper, AllocError> {
+impl Backoff {
+    pub fn new(alloc: Global, last_look: u32) -> Result<Backoff, AllocError> {
         let sleeps = Arc::new(alloc, AtomicBool::new(false))?;
         let parker = Parker::new(alloc)?;
-        Ok(Sleeper {
+        Ok(Backoff {
             looks: 0,
             last_look,
             sleeps,
             parker,
-            pace: Pace::new(),
+            call_rate: CallRate::new(),
         })
     }
 
-    pub fn bell(&self) -> Result<Bell, AllocError> {
+    pub fn waker(&self) -> Result<Waker, AllocError> {
         let sleeps = Arc::try_clone(&self.sleeps)?;
         let unparker = self.parker.unparker().clone()?;
-        Ok(Bell { sleeps, unparker })
+        Ok(Waker { sleeps, unparker })
     }
 
     /// Begins a look. It stands before the look itself.
@@ -79,7 +79,7 @@ impl Sleeper {
         if self.looks < self.last_look {
             self.looks += 1;
         }
-        if self.looks > SPINS && !self.pace.is_swift() {
+        if self.looks > SPINS && !self.call_rate.is_high() {
             self.looks = self.last_look;
         }
         if self.may_sleep() {
@@ -90,7 +90,7 @@ impl Sleeper {
     /// The look has found a call, or the answer to one, that was applied at this moment.
     pub fn found(&mut self, moment: Moment) {
         self.begin_anew();
-        self.pace.call_at(moment);
+        self.call_rate.call_at(moment);
     }
 
     /// From here on looks that find nothing are counted anew.
@@ -107,7 +107,7 @@ impl Sleeper {
     }
 
     /// Waits a little where the look has found nothing; after the last look it waits for the token.
-    pub fn rest<R: Wait>(&self, rt: &R) {
+    pub fn snooze<R: Wait>(&self, rt: &R) {
         if self.may_sleep() {
             self.parker.park(rt);
         } else if self.looks > SPINS {
@@ -118,9 +118,9 @@ impl Sleeper {
     }
 }
 
-impl Bell {
+impl Waker {
     /// Gives the token if the other side may sleep.
-    pub fn ring(&self) {
+    pub(crate) fn wake_if_asleep(&self) {
         if self.sleeps.load(Ordering::SeqCst) {
             self.unparker.unpark();
         }

@@ -6,7 +6,7 @@ use Rattle.xs_stream.specs.Id.{has_id}
 use Rattle.xs_group.specs.declared.claims.Claim.{Claim}
 use Rattle.xs_group.specs.State.{Row}
 use Rattle.xs_group.specs.Claims.{Rule, claimed, claimed_row}
-use Rattle.xs_keys.specs.GroupEvent.{Ask, GroupEvent, claim, auto_claim, claims_of, holding, rows, owner}
+use Rattle.xs_keys.specs.GroupEvent.{Ask, GroupEvent, claim, auto_claim, claim_of_event, pending_row_at, rows, owner}
 use Rattle.xs_keys.specs.GroupLife.{GroupLife}
 use Rattle.xs_keys.specs.Told.{IsAssigned}
 use Rattle.xs_keys.proofs.Owners.{claimed-over, owner-row, row-found, of_row}
@@ -31,22 +31,22 @@ module _ (start : Id) (past : List GroupEvent) (now : ℕ) (present : List Id) (
   abbrev pub event : Ask → GroupEvent
   event ask = record { now = now; present = present; ask = ask }
 
-  assigned : (ask : Ask) → ((x : Id) → holding start (event ask ∷ past) x ≡ option_and_then (claimed consumer now rule (claims_of (event ask) (rows start past)) x) (holding start past x))
-      → IsAssigned consumer (claims_of (event ask) (rows start past)) (Some (record { start = start; events = past })) (Some (record { start = start; events = event ask ∷ past }))
+  assigned : (ask : Ask) → ((x : Id) → pending_row_at start (event ask ∷ past) x ≡ option_and_then (claimed consumer now rule (claim_of_event (event ask) (rows start past)) x) (pending_row_at start past x))
+      → IsAssigned consumer (claim_of_event (event ask) (rows start past)) (Some (record { start = start; events = past })) (Some (record { start = start; events = event ask ∷ past }))
   assigned ask row_is = record {
     taken = λ x t.
         let over = claimed-over ask now present (rows start past) x t in
         owner-row start (event ask ∷ past) x ∙ ap of_row (row_is x)
-        ∙ taken-row consumer now rule (claims_of (event ask) (rows start past)) x (holding start past x) t over.1 (ap is_some (sym (row-found start past x)) ∙ over.0);
-    removed = λ x t. owner-row start (event ask ∷ past) x ∙ ap of_row (row_is x) ∙ removed-row consumer now rule (claims_of (event ask) (rows start past)) x (holding start past x) t;
-    others = λ x t f. owner-row start (event ask ∷ past) x ∙ ap of_row (row_is x) ∙ other-row consumer now rule (claims_of (event ask) (rows start past)) x (holding start past x) t f
+        ∙ taken-row consumer now rule (claim_of_event (event ask) (rows start past)) x (pending_row_at start past x) t over.1 (ap is_some (sym (row-found start past x)) ∙ over.0);
+    removed = λ x t. owner-row start (event ask ∷ past) x ∙ ap of_row (row_is x) ∙ removed-row consumer now rule (claim_of_event (event ask) (rows start past)) x (pending_row_at start past x) t;
+    others = λ x t f. owner-row start (event ask ∷ past) x ∙ ap of_row (row_is x) ∙ other-row consumer now rule (claim_of_event (event ask) (rows start past)) x (pending_row_at start past x) t f
         ∙ sym (owner-row start past x);
   }
 
-  pub assigned-claim : (ids : List Id) → IsAssigned consumer (claims_of (event (claim consumer rule ids)) (rows start past))
+  pub assigned-claim : (ids : List Id) → IsAssigned consumer (claim_of_event (event (claim consumer rule ids)) (rows start past))
       (Some (record { start = start; events = past })) (Some (record { start = start; events = event (claim consumer rule ids) ∷ past }))
   assigned-claim ids = assigned (claim consumer rule ids) (λ x. refl)
 
-  pub assigned-scan : (from : Id) (limit : ℕ) → IsAssigned consumer (claims_of (event (auto_claim consumer rule from limit)) (rows start past))
+  pub assigned-scan : (from : Id) (limit : ℕ) → IsAssigned consumer (claim_of_event (event (auto_claim consumer rule from limit)) (rows start past))
       (Some (record { start = start; events = past })) (Some (record { start = start; events = event (auto_claim consumer rule from limit) ∷ past }))
   assigned-scan from limit = assigned (auto_claim consumer rule from limit) (λ x. refl)

@@ -15,16 +15,16 @@ use Rattle.xs_command.specs.declared.command.GroupStart.{GroupStart}
 use Rattle.xs_command.specs.declared.command.GroupStart.TheVariants.{Top, At}
 use Rattle.xs_command.specs.declared.command.ReadGroupCommand.{ReadGroupCommand}
 use Rattle.xs_command.specs.declared.command.ReadOne.{ReadOne}
-use Rattle.xs_keys.specs.Life.{Change, added, deleted, trimmed_to, is_listed, opened, key_lived, key_life, given_in, top, top_of}
+use Rattle.xs_keys.specs.Life.{Change, added, deleted, trimmed_to, is_listed, opened, key_life_after, key_life, given_in, top, top_of}
 use Rattle.xs_keys.specs.GroupEvent.{Ask, join, leave, ack, claim, auto_claim}
-use Rattle.xs_keys.specs.GroupLife.{GroupLife, present_in, starting_id, life_opened, life_asked, read_ask, life_read, group_lived, reads_of, group_of, group_life}
+use Rattle.xs_keys.specs.GroupLife.{GroupLife, present_in, starting_id, new_life, life_after_ask, ask_of_read, life_after_reads, group_life_after, reads_of, group_of, group_life}
 use Rattle.xs_keys.specs.Presence.{adds_or_drops, EntriesAreAdded, StartsBehind, MakesGroup, GroupsAreCreated}
 use Rattle.xs_keys.proofs.JobPlaces.{life_of}
 
 -- ---- entries
 
 given-stays : (now : ℕ) (command : Command) (key : List ℕ) (life : Option (List Change))
-    → (option_map_or given_in (key_lived now command key life) [] ≡ option_map_or given_in life []) ⊎ (adds_or_drops command key ≡ true)
+    → (option_map_or given_in (key_life_after now command key life) [] ≡ option_map_or given_in life []) ⊎ (adds_or_drops command key ≡ true)
 given-stays now (Ping message) key life = inl refl
 given-stays now Quit key life = inl refl
 given-stays now (Add add) key life = by (is_name key add.key) where
@@ -69,14 +69,14 @@ entries-added earlier e = λ key. given-stays e.0 e.1 key (key_life earlier key)
 -- ---- groups
 
 -- no ask makes a group
-asked-none : (now : ℕ) (present : List Id) (ask : Ask) (t : Bool) → cond t (life_asked now present ask None) None ≡ None
+asked-none : (now : ℕ) (present : List Id) (ask : Ask) (t : Bool) → cond t (life_after_ask now present ask None) None ≡ None
 asked-none now present ask true = refl
 asked-none now present ask false = refl
 
-read-none : (now : ℕ) (present : List Id) (read : ReadGroupCommand) (key : List ℕ) (reads : List ReadOne) → life_read now present read key reads None ≡ None
+read-none : (now : ℕ) (present : List Id) (read : ReadGroupCommand) (key : List ℕ) (reads : List ReadOne) → life_after_reads now present read key reads None ≡ None
 read-none now present read key [] = refl
 read-none now present read key (one ∷ more) =
-    ap (life_read now present read key more) (asked-none now present (read_ask read one.from) (is_name key one.key)) ∙ read-none now present read key more
+    ap (life_after_reads now present read key more) (asked-none now present (ask_of_read read one.from) (is_name key one.key)) ∙ read-none now present read key more
 
 either-none : (t : Bool) (life : Option GroupLife) → life ≡ None → cond t life None ≡ None
 either-none true life e = e
@@ -100,7 +100,7 @@ made-at create None given g life e = absurd (false≢true (ap is_some e))
 made-at create (Some changes) given g life e = starts-behind create.start changes given g life.start (ap (λ o. option_map_or (λ l. l.start) o zero_id) (sym e))
 
 makes-group : (now : ℕ) (command : Command) (key group : List ℕ) (served : Bool) (stream : Option (List Change)) (life : GroupLife)
-    → group_lived now command key group served stream None ≡ Some life → MakesGroup command key group (option_map_or given_in stream []) life.start
+    → group_life_after now command key group served stream None ≡ Some life → MakesGroup command key group (option_map_or given_in stream []) life.start
 makes-group now (Ping message) key group served stream life e = false≢true (ap is_some e)
 makes-group now Quit key group served stream life e = false≢true (ap is_some e)
 makes-group now (Add add) key group served stream life e = false≢true (ap is_some e)
@@ -109,7 +109,7 @@ makes-group now (TrimTo name trim) key group served stream life e = false≢true
 makes-group now (Len name) key group served stream life e = false≢true (ap is_some e)
 makes-group now (Scan scan) key group served stream life e = false≢true (ap is_some e)
 makes-group now (GroupCreate create) key group served stream life e = by (is_name key create.key && is_name group create.group) e where
-  by : (t : Bool) → cond t (life_opened create stream) None ≡ Some life → (t ≡ true) × StartsBehind create.start (option_map_or given_in stream []) life.start
+  by : (t : Bool) → cond t (new_life create stream) None ≡ Some life → (t ≡ true) × StartsBehind create.start (option_map_or given_in stream []) life.start
   by true f = (refl, made-at create (opened create.make stream) (option_map_or given_in stream []) (opened-given create.make stream) life f)
   by false f = absurd (false≢true (ap is_some f))
 makes-group now (GroupDestroy name g) key group served stream life e = never _ (either-none (is_name key name && is_name group g) None refl) life e
@@ -128,4 +128,4 @@ pub groups-created : (earlier : List (ℕ × Command)) (e : ℕ × Command) → 
 groups-created earlier e = λ key group life none is.
     let served = list_all (λ one. is_some (group_life earlier one.key (group_of e.1))) (reads_of e.1) in
     makes-group e.0 e.1 key group served (key_life earlier key) life
-    (subst (λ before. group_lived e.0 e.1 key group served (key_life earlier key) before ≡ Some life) none is)
+    (subst (λ before. group_life_after e.0 e.1 key group served (key_life earlier key) before ≡ Some life) none is)

@@ -17,7 +17,7 @@ use Rattle.xs_command.specs.declared.command.ReadGroupCommand.{ReadGroupCommand}
 use Rattle.xs_command.specs.declared.command.ReadOne.{ReadOne}
 use Rattle.xs_keys.specs.Life.{Change, added, deleted, trimmed_to, is_listed, opened, key_life}
 use Rattle.xs_keys.specs.GroupEvent.{Ask, join, leave, ack, claim, auto_claim}
-use Rattle.xs_keys.specs.GroupLife.{GroupLife, present_in, starting_id, life_opened, life_asked, read_ask, life_read, group_life}
+use Rattle.xs_keys.specs.GroupLife.{GroupLife, present_in, starting_id, new_life, life_after_ask, ask_of_read, life_after_reads, group_life}
 use Rattle.xs_keys.specs.Content.{Key, Content, IsGroup, GroupHolds, KeyHolds, IsContent, new_key, made, stream_after, key_after, changed, without_keys, group_after, with_group, asked, created, group_in, serves, read_each, after}
 use Rattle.xs_keys.proofs.Names.{is_name-eq, get-insert, get-remove, same_map, same_names}
 use Rattle.xs_keys.proofs.Streams.{stream-step, ascends-live}
@@ -84,28 +84,28 @@ holds-dropped false key life lives h = h
 -- ---- an ask of a group
 
 holds-asked : (g : State) (life : Option GroupLife) (now : ℕ) (present : List Id) → Ascends present → (ask : Ask) → GroupHolds (Some g) life
-    → GroupHolds (Some (group_after now present ask g)) (life_asked now present ask life)
+    → GroupHolds (Some (group_after now present ask g)) (life_after_ask now present ask life)
 holds-asked g None now present asc ask h = absurd h
 holds-asked g (Some life) now present asc ask h = group-step life g h now present asc ask
 
-no_ask : (life : Option GroupLife) (now : ℕ) (present : List Id) (ask : Ask) → GroupHolds None life → GroupHolds None (life_asked now present ask life)
+no_ask : (life : Option GroupLife) (now : ℕ) (present : List Id) (ask : Ask) → GroupHolds None life → GroupHolds None (life_after_ask now present ask life)
 no_ask None now present ask h = tt
 no_ask (Some life) now present ask h = absurd h
 
 -- where there is no such group, no group is changed
 unasked : (groups : NameMap State) (lives : List ℕ → Option GroupLife) (group : List ℕ) (now : ℕ) (present : List Id) (ask : Ask) → GroupsHold groups lives → get groups group ≡ None
-    → GroupsHold groups (λ g. cond (is_name g group) (life_asked now present ask (lives g)) (lives g))
+    → GroupsHold groups (λ g. cond (is_name g group) (life_after_ask now present ask (lives g)) (lives g))
 unasked groups lives group now present ask h none = λ g. by g (is_name g group) refl where
-  by : (g : List ℕ) (t : Bool) → is_name g group ≡ t → GroupHolds (get groups g) (cond t (life_asked now present ask (lives g)) (lives g))
+  by : (g : List ℕ) (t : Bool) → is_name g group ≡ t → GroupHolds (get groups g) (cond t (life_after_ask now present ask (lives g)) (lives g))
   by g true e =
       let gone : get groups g ≡ None = ap (get groups) (is_name-eq g group e) ∙ none in
-      subst (λ s. GroupHolds s (life_asked now present ask (lives g))) (sym gone) (no_ask (lives g) now present ask (subst (λ s. GroupHolds s (lives g)) gone (h g)))
+      subst (λ s. GroupHolds s (life_after_ask now present ask (lives g))) (sym gone) (no_ask (lives g) now present ask (subst (λ s. GroupHolds s (lives g)) gone (h g)))
   by g false e = h g
 
 asks-groups : (groups : NameMap State) (lives : List ℕ → Option GroupLife) (group : List ℕ) (s : State) (now : ℕ) (present : List Id) → Ascends present → (ask : Ask) → GroupsHold groups lives
-    → get groups group ≡ Some s → GroupsHold (insert groups group (group_after now present ask s)) (λ g. cond (is_name g group) (life_asked now present ask (lives g)) (lives g))
-asks-groups groups lives group s now present asc ask h is = λ g. subst (λ x. GroupHolds x (cond (is_name g group) (life_asked now present ask (lives g)) (lives g))) (sym (get-insert groups group (group_after now present ask s) g)) (by g (is_name g group) refl) where
-  by : (g : List ℕ) (t : Bool) → is_name g group ≡ t → GroupHolds (cond t (Some (group_after now present ask s)) (get groups g)) (cond t (life_asked now present ask (lives g)) (lives g))
+    → get groups group ≡ Some s → GroupsHold (insert groups group (group_after now present ask s)) (λ g. cond (is_name g group) (life_after_ask now present ask (lives g)) (lives g))
+asks-groups groups lives group s now present asc ask h is = λ g. subst (λ x. GroupHolds x (cond (is_name g group) (life_after_ask now present ask (lives g)) (lives g))) (sym (get-insert groups group (group_after now present ask s) g)) (by g (is_name g group) refl) where
+  by : (g : List ℕ) (t : Bool) → is_name g group ≡ t → GroupHolds (cond t (Some (group_after now present ask s)) (get groups g)) (cond t (life_after_ask now present ask (lives g)) (lives g))
   by g true e = holds-asked s (lives g) now present asc ask (subst (λ x. GroupHolds x (lives g)) (ap (get groups) (is_name-eq g group e) ∙ is) (h g))
   by g false e = h g
 
@@ -119,7 +119,7 @@ asked_key c now name group ask key = option_map_or (λ k. asked_group c now name
 -- the key of the group
 asks-key : (c : Content) (now : ℕ) (name group : List ℕ) (ask : Ask) (key : Key) (changes : List Change) (lives : List ℕ → Option GroupLife) (s : Option State) (q : List ℕ)
     → get key.groups group ≡ s → get c name ≡ Some key → is_name q name ≡ true → KeyHolds (Some key) (Some changes) lives
-    → KeyHolds (get (asked_group c now name group ask key s) q) (Some changes) (λ g. cond (is_name g group) (life_asked now (ids_of key.stream.entries) ask (lives g)) (lives g))
+    → KeyHolds (get (asked_group c now name group ask key s) q) (Some changes) (λ g. cond (is_name g group) (life_after_ask now (ids_of key.stream.entries) ask (lives g)) (lives g))
 asks-key c now name group ask key changes lives None q none is same h =
     rw (is_name-eq q name same, is) (h.0, unasked key.groups lives group now (ids_of key.stream.entries) ask h.1 none)
 asks-key c now name group ask key changes lives (Some s) q found is same h =
@@ -129,13 +129,13 @@ asks-key c now name group ask key changes lives (Some s) q found is same h =
 
 asks-here : (c : Content) (now : ℕ) (name group : List ℕ) (ask : Ask) (key : Option Key) (stream : Option (List Change)) (lives : List ℕ → Option GroupLife) (q : List ℕ)
     → get c name ≡ key → is_name q name ≡ true → KeyHolds key stream lives
-    → KeyHolds (get (asked_key c now name group ask key) q) stream (λ g. cond (is_name g group) (life_asked now (present_in stream) ask (lives g)) (lives g))
+    → KeyHolds (get (asked_key c now name group ask key) q) stream (λ g. cond (is_name g group) (life_after_ask now (present_in stream) ask (lives g)) (lives g))
 asks-here c now name group ask None None lives q none same h = rw (is_name-eq q name same, none) (λ g. by g (is_name g group)) where
-  by : (g : List ℕ) (t : Bool) → GroupHolds None (cond t (life_asked now [] ask (lives g)) (lives g))
+  by : (g : List ℕ) (t : Bool) → GroupHolds None (cond t (life_after_ask now [] ask (lives g)) (lives g))
   by g true = no_ask (lives g) now [] ask (h g)
   by g false = h g
 asks-here c now name group ask (Some key) (Some changes) lives q is same h =
-    subst (λ k. KeyHolds (get (asked_key c now name group ask (Some key)) q) (Some changes) (λ g. cond (is_name g group) (life_asked now (ids_of k.entries) ask (lives g)) (lives g))) h.0
+    subst (λ k. KeyHolds (get (asked_key c now name group ask (Some key)) q) (Some changes) (λ g. cond (is_name g group) (life_after_ask now (ids_of k.entries) ask (lives g)) (lives g))) h.0
     (asks-key c now name group ask key changes lives (get key.groups group) q refl is same h)
 asks-here c now name group ask None (Some changes) lives q is same h = absurd h
 asks-here c now name group ask (Some key) None lives q is same h = absurd h
@@ -152,10 +152,10 @@ pub asked-elsewhere : (c : Content) (now : ℕ) (name group : List ℕ) (ask : A
 asked-elsewhere c now name group ask q other = asked-other c now name group ask (get c name) q other
 
 pub holds-ask : (c : Content) (streams : List ℕ → Option (List Change)) (lives : List ℕ → List ℕ → Option GroupLife) (now : ℕ) (name group : List ℕ) (ask : Ask)
-    → Holds c streams lives → Holds (asked c now name group ask) streams (λ q g. cond (is_name q name && is_name g group) (life_asked now (present_in (streams q)) ask (lives q g)) (lives q g))
+    → Holds c streams lives → Holds (asked c now name group ask) streams (λ q g. cond (is_name q name && is_name g group) (life_after_ask now (present_in (streams q)) ask (lives q g)) (lives q g))
 holds-ask c streams lives now name group ask h = λ q. by q (is_name q name) refl where
   by : (q : List ℕ) (t : Bool) → is_name q name ≡ t
-      → KeyHolds (get (asked c now name group ask) q) (streams q) (λ g. cond (t && is_name g group) (life_asked now (present_in (streams q)) ask (lives q g)) (lives q g))
+      → KeyHolds (get (asked c now name group ask) q) (streams q) (λ g. cond (t && is_name g group) (life_after_ask now (present_in (streams q)) ask (lives q g)) (lives q g))
   by q true e = asks-here c now name group ask (get c name) (streams q) (lives q) q refl e (subst (λ n. KeyHolds (get c n) (streams q) (lives q)) (is_name-eq q name e) (h q))
   by q false e = subst (λ k. KeyHolds k (streams q) (lives q)) (sym (asked-other c now name group ask (get c name) q e)) (h q)
 
@@ -168,23 +168,23 @@ part-read false true a b = refl
 part-read false false a b = refl
 
 read-lives : (t : Bool) (now : ℕ) (present : List Id) (read : ReadGroupCommand) (q : List ℕ) (more : List ReadOne) (here : Bool) (a b : Option GroupLife)
-    → cond t (life_read now present read q more (cond (here && t) a b)) (cond (here && t) a b) ≡ cond t (life_read now present read q more (cond here a b)) b
+    → cond t (life_after_reads now present read q more (cond (here && t) a b)) (cond (here && t) a b) ≡ cond t (life_after_reads now present read q more (cond here a b)) b
 read-lives true now present read q more true a b = refl
 read-lives true now present read q more false a b = refl
 read-lives false now present read q more true a b = refl
 read-lives false now present read q more false a b = refl
 
 holds-reads : (reads : List ReadOne) (c : Content) (streams : List ℕ → Option (List Change)) (lives : List ℕ → List ℕ → Option GroupLife) (now : ℕ) (read : ReadGroupCommand)
-    → Holds c streams lives → Holds (read_each c now read reads) streams (λ q g. cond (is_name g read.group) (life_read now (present_in (streams q)) read q reads (lives q g)) (lives q g))
+    → Holds c streams lives → Holds (read_each c now read reads) streams (λ q g. cond (is_name g read.group) (life_after_reads now (present_in (streams q)) read q reads (lives q g)) (lives q g))
 holds-reads [] c streams lives now read h = λ q. subst (KeyHolds (get c q) (streams q)) (λ i g. same (is_name g read.group) (lives q g) i) (h q) where
   same : (t : Bool) (a : Option GroupLife) → a ≡ cond t a a
   same true a = refl
   same false a = refl
 holds-reads (one ∷ more) c streams lives now read h =
-    let next = holds-reads more (asked c now one.key read.group (read_ask read one.from)) streams _ now read (holds-ask c streams lives now one.key read.group (read_ask read one.from) h) in
+    let next = holds-reads more (asked c now one.key read.group (ask_of_read read one.from)) streams _ now read (holds-ask c streams lives now one.key read.group (ask_of_read read one.from) h) in
     λ q. subst (KeyHolds (get (read_each c now read (one ∷ more)) q) (streams q))
     (λ i g. read-lives (is_name g read.group) now (present_in (streams q)) read q more (is_name q one.key)
-    (life_asked now (present_in (streams q)) (read_ask read one.from) (lives q g)) (lives q g) i)
+    (life_after_ask now (present_in (streams q)) (ask_of_read read one.from) (lives q g)) (lives q g) i)
     (next q)
 
 group-known : (key : Option Key) (stream : Option (List Change)) (lives : List ℕ → Option GroupLife) (group : List ℕ) → KeyHolds key stream lives → is_some (group_in key group) ≡ is_some (lives group)
@@ -208,25 +208,25 @@ serves-known (one ∷ more) c past group h =
 
 -- a new group among others
 begins : (groups : NameMap State) (lives : List ℕ → Option GroupLife) (create : GroupCreateCommand) (stream : Option (List Change)) (start : Id) → GroupsHold groups lives
-    → get groups create.group ≡ None → life_opened create stream ≡ Some (record { start = start; events = [] })
-    → GroupsHold (insert groups create.group (new_group start)) (λ g. cond (is_name g create.group) (option_or (lives g) (life_opened create stream)) (lives g))
-begins groups lives create stream start h none opens = λ g. subst (λ x. GroupHolds x (cond (is_name g create.group) (option_or (lives g) (life_opened create stream)) (lives g))) (sym (get-insert groups create.group (new_group start) g)) (by g (is_name g create.group) refl) where
-  by : (g : List ℕ) (t : Bool) → is_name g create.group ≡ t → GroupHolds (cond t (Some (new_group start)) (get groups g)) (cond t (option_or (lives g) (life_opened create stream)) (lives g))
+    → get groups create.group ≡ None → new_life create stream ≡ Some (record { start = start; events = [] })
+    → GroupsHold (insert groups create.group (new_group start)) (λ g. cond (is_name g create.group) (option_or (lives g) (new_life create stream)) (lives g))
+begins groups lives create stream start h none opens = λ g. subst (λ x. GroupHolds x (cond (is_name g create.group) (option_or (lives g) (new_life create stream)) (lives g))) (sym (get-insert groups create.group (new_group start) g)) (by g (is_name g create.group) refl) where
+  by : (g : List ℕ) (t : Bool) → is_name g create.group ≡ t → GroupHolds (cond t (Some (new_group start)) (get groups g)) (cond t (option_or (lives g) (new_life create stream)) (lives g))
   by g true e =
       let gone : lives g ≡ None = no_life (lives g) (subst (λ s. GroupHolds s (lives g)) (ap (get groups) (is_name-eq g create.group e) ∙ none) (h g)) in
-      subst (GroupHolds (Some (new_group start))) (sym (ap (λ l. option_or l (life_opened create stream)) gone ∙ opens)) (group-new start)
+      subst (GroupHolds (Some (new_group start))) (sym (ap (λ l. option_or l (new_life create stream)) gone ∙ opens)) (group-new start)
   by g false e = h g
 
 -- a group that is there already stays
 stays : (groups : NameMap State) (lives : List ℕ → Option GroupLife) (create : GroupCreateCommand) (stream : Option (List Change)) (s : State) → GroupsHold groups lives → get groups create.group ≡ Some s
-    → GroupsHold groups (λ g. cond (is_name g create.group) (option_or (lives g) (life_opened create stream)) (lives g))
+    → GroupsHold groups (λ g. cond (is_name g create.group) (option_or (lives g) (new_life create stream)) (lives g))
 stays groups lives create stream s h is = λ g. by g (is_name g create.group) refl where
-  open_life : (x : Option State) (l : Option GroupLife) → is_some x ≡ true → GroupHolds x l → GroupHolds x (option_or l (life_opened create stream))
+  open_life : (x : Option State) (l : Option GroupLife) → is_some x ≡ true → GroupHolds x l → GroupHolds x (option_or l (new_life create stream))
   open_life (Some s) (Some l) e h = h
   open_life (Some s) None e h = absurd h
   open_life None l e h = absurd (false≢true e)
 
-  by : (g : List ℕ) (t : Bool) → is_name g create.group ≡ t → GroupHolds (get groups g) (cond t (option_or (lives g) (life_opened create stream)) (lives g))
+  by : (g : List ℕ) (t : Bool) → is_name g create.group ≡ t → GroupHolds (get groups g) (cond t (option_or (lives g) (new_life create stream)) (lives g))
   by g true e = open_life (get groups g) (lives g) (ap (λ n. is_some (get groups n)) (is_name-eq g create.group e) ∙ ap is_some is) (h g)
   by g false e = h g
 
@@ -235,16 +235,16 @@ makes : (c : Content) (create : GroupCreateCommand)
 makes c create =
     ap (λ s. cond (is_some s) c (insert c create.key (with_group new_key create.group (new_group (starting_id create.start new_key.stream.top))))) (get-empty _ create.group)
 
-opens_new : (create : GroupCreateCommand) → create.make ≡ true → life_opened create None ≡ Some (record { start = starting_id create.start new_key.stream.top; events = [] })
+opens_new : (create : GroupCreateCommand) → create.make ≡ true → new_life create None ≡ Some (record { start = starting_id create.start new_key.stream.top; events = [] })
 opens_new create m = rw m refl
 
-opens_none : (create : GroupCreateCommand) → create.make ≡ false → life_opened create None ≡ None
+opens_none : (create : GroupCreateCommand) → create.make ≡ false → new_life create None ≡ None
 opens_none create m = rw m refl
 
 creates-key : (c : Content) (create : GroupCreateCommand) (key : Key) (changes : List Change) (lives : List ℕ → Option GroupLife) (s : Option State) (q : List ℕ)
     → get key.groups create.group ≡ s → get c create.key ≡ Some key → is_name q create.key ≡ true → KeyHolds (Some key) (Some changes) lives
     → KeyHolds (get (cond (is_some s) c (insert c create.key (with_group key create.group (new_group (starting_id create.start key.stream.top))))) q)
-    (Some changes) (λ g. cond (is_name g create.group) (option_or (lives g) (life_opened create (Some changes))) (lives g))
+    (Some changes) (λ g. cond (is_name g create.group) (option_or (lives g) (new_life create (Some changes))) (lives g))
 creates-key c create key changes lives (Some s) q found is same h = rw (is_name-eq q create.key same, is) (h.0, stays key.groups lives create (Some changes) s h.1 found)
 creates-key c create key changes lives None q none is same h =
     rw (get-insert c create.key (with_group key create.group (new_group (starting_id create.start key.stream.top))) q, same)
@@ -252,17 +252,17 @@ creates-key c create key changes lives None q none is same h =
 
 creates-here : (c : Content) (create : GroupCreateCommand) (make : Bool) → create.make ≡ make → (key : Option Key) (stream : Option (List Change)) (lives : List ℕ → Option GroupLife) (q : List ℕ)
     → get c create.key ≡ key → is_name q create.key ≡ true → KeyHolds key stream lives
-    → KeyHolds (get (created c create (made make key)) q) (opened make stream) (λ g. cond (is_name g create.group) (option_or (lives g) (life_opened create stream)) (lives g))
+    → KeyHolds (get (created c create (made make key)) q) (opened make stream) (λ g. cond (is_name g create.group) (option_or (lives g) (new_life create stream)) (lives g))
 creates-here c create true m None None lives q none same h =
-    subst (λ k. KeyHolds k (Some []) (λ g. cond (is_name g create.group) (option_or (lives g) (life_opened create None)) (lives g)))
+    subst (λ k. KeyHolds k (Some []) (λ g. cond (is_name g create.group) (option_or (lives g) (new_life create None)) (lives g)))
     (sym (ap (λ k. get k q) (makes c create) ∙ get-insert c create.key (with_group new_key create.group (new_group (starting_id create.start new_key.stream.top))) q
     ∙ ap (λ b. cond b (Some (with_group new_key create.group (new_group (starting_id create.start new_key.stream.top)))) (get c q)) same))
     (refl, begins empty lives create None (starting_id create.start new_key.stream.top) (no_groups lives h) (get-empty _ create.group) (opens_new create m))
 creates-here c create false m None None lives q none same h =
-    subst (λ k. KeyHolds k None (λ g. cond (is_name g create.group) (option_or (lives g) (life_opened create None)) (lives g)))
+    subst (λ k. KeyHolds k None (λ g. cond (is_name g create.group) (option_or (lives g) (new_life create None)) (lives g)))
     (sym (ap (get c) (is_name-eq q create.key same) ∙ none)) (λ g. by g (is_name g create.group)) where
-      by : (g : List ℕ) (t : Bool) → GroupHolds None (cond t (option_or (lives g) (life_opened create None)) (lives g))
-      by g true = subst (GroupHolds None) (sym (ap (λ l. option_or l (life_opened create None)) (no_life (lives g) (h g)) ∙ opens_none create m)) tt
+      by : (g : List ℕ) (t : Bool) → GroupHolds None (cond t (option_or (lives g) (new_life create None)) (lives g))
+      by g true = subst (GroupHolds None) (sym (ap (λ l. option_or l (new_life create None)) (no_life (lives g) (h g)) ∙ opens_none create m)) tt
       by g false = h g
 creates-here c create make m (Some key) (Some changes) lives q is same h =
     creates-key c create key changes lives (get key.groups create.group) q refl is same h
@@ -329,10 +329,10 @@ module _ (c : Content) (past : List (ℕ × Command)) (h : IsContent c past) (q 
 
   step-created : (create : GroupCreateCommand)
       → KeyHolds (get (created c create (made create.make (get c create.key))) q) (cond (is_name q create.key) (opened create.make (key_life past q)) (key_life past q))
-      (λ g. cond (is_name q create.key && is_name g create.group) (option_or (group_life past q g) (life_opened create (key_life past q))) (group_life past q g))
+      (λ g. cond (is_name q create.key && is_name g create.group) (option_or (group_life past q g) (new_life create (key_life past q))) (group_life past q g))
   step-created create = by (is_name q create.key) refl where
     by : (t : Bool) → is_name q create.key ≡ t → KeyHolds (get (created c create (made create.make (get c create.key))) q) (cond t (opened create.make (key_life past q)) (key_life past q))
-        (λ g. cond (t && is_name g create.group) (option_or (group_life past q g) (life_opened create (key_life past q))) (group_life past q g))
+        (λ g. cond (t && is_name g create.group) (option_or (group_life past q g) (new_life create (key_life past q))) (group_life past q g))
     by true e = creates-here c create create.make refl (get c create.key) (key_life past q) (λ g. group_life past q g) q refl e (at_name create.key e)
     by false e = subst (λ k. KeyHolds k (key_life past q) (λ g. group_life past q g)) (sym (created-other c create (made create.make (get c create.key)) q e)) (h q)
 
@@ -344,15 +344,15 @@ module _ (c : Content) (past : List (ℕ × Command)) (h : IsContent c past) (q 
     by false e = subst (λ k. KeyHolds k (key_life past q) (λ g. group_life past q g)) (sym (destroyed-other c name group (get c name) q e)) (h q)
 
 step-asked : (c : Content) (past : List (ℕ × Command)) (now : ℕ) (name group : List ℕ) (ask : Ask) → IsContent c past
-    → Holds (asked c now name group ask) (key_life past) (λ q g. cond (is_name q name && is_name g group) (life_asked now (present_in (key_life past q)) ask (group_life past q g)) (group_life past q g))
+    → Holds (asked c now name group ask) (key_life past) (λ q g. cond (is_name q name && is_name g group) (life_after_ask now (present_in (key_life past q)) ask (group_life past q g)) (group_life past q g))
 step-asked c past now name group ask h = holds-ask c (key_life past) (λ q g. group_life past q g) now name group ask h
 
 step-read : (c : Content) (past : List (ℕ × Command)) (now : ℕ) (read : ReadGroupCommand) → IsContent c past
     → Holds (cond (serves c read) (read_each c now read read.reads) c) (key_life past)
-    (λ q g. cond (is_name g read.group && list_all (λ one. is_some (group_life past one.key read.group)) read.reads) (life_read now (present_in (key_life past q)) read q read.reads (group_life past q g)) (group_life past q g))
+    (λ q g. cond (is_name g read.group && list_all (λ one. is_some (group_life past one.key read.group)) read.reads) (life_after_reads now (present_in (key_life past q)) read q read.reads (group_life past q g)) (group_life past q g))
 step-read c past now read h = by (serves c read) (serves-known read.reads c past read.group h) where
   kept_lives : (q : List ℕ) → List ℕ → Bool → Option GroupLife
-  kept_lives q g t = cond (is_name g read.group && t) (life_read now (present_in (key_life past q)) read q read.reads (group_life past q g)) (group_life past q g)
+  kept_lives q g t = cond (is_name g read.group && t) (life_after_reads now (present_in (key_life past q)) read q read.reads (group_life past q g)) (group_life past q g)
 
   whole : (a : Bool) (x y : Option GroupLife) → cond a x y ≡ cond (a && true) x y
   whole true x y = refl
@@ -363,14 +363,14 @@ step-read c past now read h = by (serves c read) (serves-known read.reads c past
   none false x y = refl
 
   by : (t : Bool) → t ≡ list_all (λ one. is_some (group_life past one.key read.group)) read.reads → Holds (cond t (read_each c now read read.reads) c) (key_life past)
-      (λ q g. cond (is_name g read.group && list_all (λ one. is_some (group_life past one.key read.group)) read.reads) (life_read now (present_in (key_life past q)) read q read.reads (group_life past q g)) (group_life past q g))
-  by true e = subst (λ b. Holds (read_each c now read read.reads) (key_life past) (λ q g. cond (is_name g read.group && b) (life_read now (present_in (key_life past q)) read q read.reads (group_life past q g)) (group_life past q g))) e
+      (λ q g. cond (is_name g read.group && list_all (λ one. is_some (group_life past one.key read.group)) read.reads) (life_after_reads now (present_in (key_life past q)) read q read.reads (group_life past q g)) (group_life past q g))
+  by true e = subst (λ b. Holds (read_each c now read read.reads) (key_life past) (λ q g. cond (is_name g read.group && b) (life_after_reads now (present_in (key_life past q)) read q read.reads (group_life past q g)) (group_life past q g))) e
       (λ q. subst (KeyHolds (get (read_each c now read read.reads) q) (key_life past q))
-      (λ i g. whole (is_name g read.group) (life_read now (present_in (key_life past q)) read q read.reads (group_life past q g)) (group_life past q g) i)
+      (λ i g. whole (is_name g read.group) (life_after_reads now (present_in (key_life past q)) read q read.reads (group_life past q g)) (group_life past q g) i)
       (holds-reads read.reads c (key_life past) (λ q g. group_life past q g) now read h q))
-  by false e = subst (λ b. Holds c (key_life past) (λ q g. cond (is_name g read.group && b) (life_read now (present_in (key_life past q)) read q read.reads (group_life past q g)) (group_life past q g))) e
+  by false e = subst (λ b. Holds c (key_life past) (λ q g. cond (is_name g read.group && b) (life_after_reads now (present_in (key_life past q)) read q read.reads (group_life past q g)) (group_life past q g))) e
       (λ q. subst (KeyHolds (get c q) (key_life past q))
-      (λ i g. none (is_name g read.group) (life_read now (present_in (key_life past q)) read q read.reads (group_life past q g)) (group_life past q g) i) (h q))
+      (λ i g. none (is_name g read.group) (life_after_reads now (present_in (key_life past q)) read q read.reads (group_life past q g)) (group_life past q g) i) (h q))
 
 -- one event more
 pub content-step : (past : List (ℕ × Command)) (c : Content) (now : ℕ) (command : Command) → IsContent c past → IsContent (after c now command) ((now, command) ∷ past)

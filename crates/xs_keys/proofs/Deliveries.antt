@@ -5,7 +5,7 @@ use Rattle.xs_stream.specs.declared.id.Id.{Id}
 use Rattle.xs_stream.specs.Id.{is_below, has_id}
 use Rattle.xs_stream.specs.Kept.{Ascends, AllAbove}
 use Rattle.xs_keys.specs.Life.{greatest}
-use Rattle.xs_keys.specs.GroupEvent.{Ask, GroupEvent, read_new, read_own, ack, join, leave, claim, auto_claim, asked_new, delivered, cursor, delivers_at}
+use Rattle.xs_keys.specs.GroupEvent.{Ask, GroupEvent, read_new, read_own, ack, join, leave, claim, auto_claim, new_ids_of_ask, delivered, cursor, new_ids_of_event}
 use Rattle.xs_keys.specs.Headline.{HadItsTurn}
 use Rattle.xs_keys.proofs.IdLists.{above-delivers, ascends-delivers, ascends-append, above-lower, not_above, has_id-append, delivers-up_to, above-append, not_among}
 use Rattle.xs_keys.proofs.Streams.{greatest-up}
@@ -16,7 +16,7 @@ abbrev pub PresentAscends : List GroupEvent → Type 0
 PresentAscends [] = Unit {0}
 PresentAscends (event ∷ past) = Ascends event.present × PresentAscends past
 
-above-asked : (ask : Ask) (present : List Id) (a : Id) → AllAbove a (asked_new ask present a)
+above-asked : (ask : Ask) (present : List Id) (a : Id) → AllAbove a (new_ids_of_ask ask present a)
 above-asked (read_new consumer limit noack) present a = above-delivers limit a present
 above-asked (read_own consumer limit from) present a = tt
 above-asked (ack ids) present a = tt
@@ -25,7 +25,7 @@ above-asked (leave consumer) present a = tt
 above-asked (claim consumer rule ids) present a = tt
 above-asked (auto_claim consumer rule start limit) present a = tt
 
-ascends-asked : (ask : Ask) (present : List Id) (a : Id) → Ascends present → Ascends (asked_new ask present a)
+ascends-asked : (ask : Ask) (present : List Id) (a : Id) → Ascends present → Ascends (new_ids_of_ask ask present a)
 ascends-asked (read_new consumer limit noack) present a h = ascends-delivers limit a present h
 ascends-asked (read_own consumer limit from) present a h = tt
 ascends-asked (ack ids) present a h = tt
@@ -35,7 +35,7 @@ ascends-asked (claim consumer rule ids) present a h = tt
 ascends-asked (auto_claim consumer rule start limit) present a h = tt
 
 -- what an event delivers is above the cursor
-pub above-after : (start : Id) (past : List GroupEvent) (event : GroupEvent) → AllAbove (cursor start past) (delivers_at event (cursor start past))
+pub above-after : (start : Id) (past : List GroupEvent) (event : GroupEvent) → AllAbove (cursor start past) (new_ids_of_event event (cursor start past))
 above-after start past event = above-asked event.ask event.present (cursor start past)
 
 pub start-up : (start : Id) (past : List GroupEvent) → is_below (cursor start past) start ≡ false
@@ -45,21 +45,21 @@ start-up start past = greatest-up start (delivered start past)
 pub ascends-delivered : (start : Id) (events : List GroupEvent) → PresentAscends events → Ascends (delivered start events)
 ascends-delivered start [] h = tt
 ascends-delivered start (event ∷ past) h =
-    ascends-append (cursor start past) (delivered start past) (delivers_at event (cursor start past)) (ascends-delivered start past h.1) (up_to-delivered start past)
+    ascends-append (cursor start past) (delivered start past) (new_ids_of_event event (cursor start past)) (ascends-delivered start past h.1) (up_to-delivered start past)
     (ascends-asked event.ask event.present (cursor start past) h.0) (above-after start past event)
 
 -- and are past the start
 pub past-start : (start : Id) (events : List GroupEvent) → AllAbove start (delivered start events)
 past-start start [] = tt
 past-start start (event ∷ past) =
-    above-append start (delivered start past) (delivers_at event (cursor start past)) (past-start start past)
-    (above-lower start (cursor start past) (delivers_at event (cursor start past)) (start-up start past) (above-after start past event))
+    above-append start (delivered start past) (new_ids_of_event event (cursor start past)) (past-start start past)
+    (above-lower start (cursor start past) (new_ids_of_event event (cursor start past)) (start-up start past) (above-after start past event))
 
 -- ---- their turn
 
 -- an id that the cursor passes at an event is delivered exactly where it is in the stream
-exactly-at : (ask : Ask) (present : List Id) (a x : Id) → Ascends present → is_below a x ≡ true → is_below (greatest a (asked_new ask present a)) x ≡ false
-    → has_id (asked_new ask present a) x ≡ has_id present x
+exactly-at : (ask : Ask) (present : List Id) (a x : Id) → Ascends present → is_below a x ≡ true → is_below (greatest a (new_ids_of_ask ask present a)) x ≡ false
+    → has_id (new_ids_of_ask ask present a) x ≡ has_id present x
 exactly-at (read_new consumer limit noack) present a x asc low high = delivers-up_to limit present a x asc low high
 exactly-at (read_own consumer limit from) present a x asc low high = absurd (false≢true (sym high ∙ low))
 exactly-at (ack ids) present a x asc low high = absurd (false≢true (sym high ∙ low))
@@ -76,7 +76,7 @@ pub had-event : (start : Id) (events : List GroupEvent) (x : Id) → PresentAsce
 had-event start [] x h low high = absurd (false≢true (sym high ∙ low))
 had-event start (event ∷ past) x h low high = by (is_below (cursor start past) x) refl (λ up. had-event start past x h.1 low up) where
   new : List Id
-  new = delivers_at event (cursor start past)
+  new = new_ids_of_event event (cursor start past)
 
   -- an id up to the cursor before isn't delivered anew
   not_new : is_below (cursor start past) x ≡ false → has_id new x ≡ false

@@ -10,7 +10,7 @@ use Rattle.xs_stream.specs.Kept.{Ascends, AllAbove, AllUpTo}
 use Rattle.xs_group.specs.State.{Row, Rows, State, Names, is_name, has_name, with_name, delivers, last_of, first_row, with_rows, delivered_to, shown, reread, reread_by, new_group, acked, unless_acked, unless_owned, without_consumer}
 use Rattle.xs_group.specs.Claims.{Rule, claimed, claim_of, scan_of}
 use Rattle.xs_keys.specs.Life.{greatest}
-use Rattle.xs_keys.specs.GroupEvent.{Ask, GroupEvent, read_new, read_own, ack, join, leave, claim, auto_claim, delivers_at, delivered, cursor, is_consumer, rows_among, holding, rows}
+use Rattle.xs_keys.specs.GroupEvent.{Ask, GroupEvent, read_new, read_own, ack, join, leave, claim, auto_claim, new_ids_of_event, delivered, cursor, is_consumer, rows_among, pending_row_at, rows}
 use Rattle.xs_keys.specs.GroupLife.{GroupLife}
 use Rattle.xs_keys.specs.Content.{IsGroup, group_after}
 use Rattle.xs_keys.proofs.Names.{get-insert, get-remove}
@@ -23,36 +23,36 @@ use Rattle.xs_keys.proofs.GroupRows.{row_ids, each_row, each-among, among-append
 pub up_to-delivered : (start : Id) (past : List GroupEvent) → AllUpTo (cursor start past) (delivered start past)
 up_to-delivered start past = up_to-greatest start (delivered start past)
 
-pub cursor-step : (start : Id) (t : GroupEvent) (past : List GroupEvent) → cursor start (t ∷ past) ≡ greatest (cursor start past) (delivers_at t (cursor start past))
-cursor-step start t past = greatest-append start (delivered start past) (delivers_at t (cursor start past))
+pub cursor-step : (start : Id) (t : GroupEvent) (past : List GroupEvent) → cursor start (t ∷ past) ≡ greatest (cursor start past) (new_ids_of_event t (cursor start past))
+cursor-step start t past = greatest-append start (delivered start past) (new_ids_of_event t (cursor start past))
 
 -- ---- rows
 
 pub up_to-rows : (start : Id) (past : List GroupEvent) → AllUpTo (cursor start past) (row_ids (rows start past))
-up_to-rows start past = up_to-among (cursor start past) (λ x. holding start past x) (delivered start past) (up_to-delivered start past)
+up_to-rows start past = up_to-among (cursor start past) (λ x. pending_row_at start past x) (delivered start past) (up_to-delivered start past)
 
 -- an event that delivers nothing changes rows that are there
 rows-changed : (start : Id) (past : List GroupEvent) (f : Id → Row → Option Row) (r : Rows) → r.entries ≡ rows start past
-    → (change f r).entries ≡ rows_among (λ x. option_and_then (f x) (holding start past x)) (delivered start past ++ [])
+    → (change f r).entries ≡ rows_among (λ x. option_and_then (f x) (pending_row_at start past x)) (delivered start past ++ [])
 unfolding change
 rows-changed start past f r e =
-    ap (each f) e ∙ each-among f (λ x. holding start past x) (delivered start past)
-    ∙ ap (rows_among (λ x. option_and_then (f x) (holding start past x))) (sym (append-nil (delivered start past)))
+    ap (each f) e ∙ each-among f (λ x. pending_row_at start past x) (delivered start past)
+    ∙ ap (rows_among (λ x. option_and_then (f x) (pending_row_at start past x))) (sym (append-nil (delivered start past)))
 
-rows-same : (start : Id) (past : List GroupEvent) (r : Rows) → r.entries ≡ rows start past → r.entries ≡ rows_among (λ x. holding start past x) (delivered start past ++ [])
-rows-same start past r e = e ∙ ap (rows_among (λ x. holding start past x)) (sym (append-nil (delivered start past)))
+rows-same : (start : Id) (past : List GroupEvent) (r : Rows) → r.entries ≡ rows start past → r.entries ≡ rows_among (λ x. pending_row_at start past x) (delivered start past ++ [])
+rows-same start past r e = e ∙ ap (rows_among (λ x. pending_row_at start past x)) (sym (append-nil (delivered start past)))
 
 module _ (start : Id) (past : List GroupEvent) (consumer : List ℕ) (now : ℕ) (new : List Id) (above : AllAbove (cursor start past) new) (asc : Ascends new) where
   -- what a delivery makes of a row
   row_after : Bool → Id → Option Row
-  row_after noack x = cond (has_id new x) (cond noack None (Some (first_row consumer now))) (holding start past x)
+  row_after noack x = cond (has_id new x) (cond noack None (Some (first_row consumer now))) (pending_row_at start past x)
 
   -- ids that were there before keep their rows
   old-rows : (noack : Bool) → rows_among (row_after noack) (delivered start past) ≡ rows start past
   unfolding row_after
   old-rows noack =
-      among-alike (cursor start past) (row_after noack) (λ x. holding start past x)
-      (λ x up. ap (λ b. cond b (cond noack None (Some (first_row consumer now))) (holding start past x)) (not_above (cursor start past) x new up above))
+      among-alike (cursor start past) (row_after noack) (λ x. pending_row_at start past x)
+      (λ x up. ap (λ b. cond b (cond noack None (Some (first_row consumer now))) (pending_row_at start past x)) (not_above (cursor start past) x new up above))
       (delivered start past) (up_to-delivered start past)
 
   -- the new ones get one, unless with NOACK
@@ -60,7 +60,7 @@ module _ (start : Id) (past : List GroupEvent) (consumer : List ℕ) (now : ℕ)
   unfolding row_after
   new-rows noack =
       among-known new (row_after noack) (λ x. cond noack None (Some (first_row consumer now)))
-      (λ x is. ap (λ b. cond b (cond noack None (Some (first_row consumer now))) (holding start past x)) is) new (λ x e. e)
+      (λ x is. ap (λ b. cond b (cond noack None (Some (first_row consumer now))) (pending_row_at start past x)) is) new (λ x e. e)
       ∙ by noack
     where
       by : (t : Bool) → rows_among (λ x. cond t None (Some (first_row consumer now))) new ≡ cond t [] (each_row (first_row consumer now) new)
@@ -105,7 +105,7 @@ module _ (life : GroupLife) (g : State) (h : IsGroup g life) (now : ℕ) (presen
   still : g.cursor ≡ greatest life.start (delivered life.start life.events ++ [])
   still = h.cursor_is ∙ ap (greatest life.start) (sym (append-nil (delivered life.start life.events)))
 
-  changed_rows : (f : Id → Row → Option Row) → (change f g.rows).entries ≡ rows_among (λ x. option_and_then (f x) (holding life.start life.events x)) (delivered life.start life.events ++ [])
+  changed_rows : (f : Id → Row → Option Row) → (change f g.rows).entries ≡ rows_among (λ x. option_and_then (f x) (pending_row_at life.start life.events x)) (delivered life.start life.events ++ [])
   changed_rows f = rows-changed life.start life.events f g.rows h.rows_are
 
   step-read_new : (consumer : List ℕ) (limit : Option ℕ) (noack : Bool) → IsGroup (delivered_to consumer now limit noack present g) (lived (read_new consumer limit noack))

@@ -12,7 +12,7 @@ use Rattle.xs_command.specs.declared.command.ReadOne.{ReadOne}
 use Rattle.xs_keys.specs.Life.{Change, is_listed, key_life}
 use Rattle.xs_keys.specs.GroupEvent.{Ask, join, leave, ack, claim, auto_claim}
 use Rattle.std.specs.Option.{option_or}
-use Rattle.xs_keys.specs.GroupLife.{GroupLife, present_in, life_opened, life_asked, read_ask, life_read, group_lived, reads_of, group_of, group_life}
+use Rattle.xs_keys.specs.GroupLife.{GroupLife, present_in, new_life, life_after_ask, ask_of_read, life_after_reads, group_life_after, reads_of, group_of, group_life}
 use Rattle.xs_keys.proofs.Streams.{ascends-live}
 use Rattle.xs_keys.proofs.Deliveries.{PresentAscends}
 
@@ -25,26 +25,26 @@ present-ascends : (stream : Option (List Change)) → Ascends (present_in stream
 present-ascends None = tt
 present-ascends (Some changes) = ascends-live changes
 
-meets-asked : (now : ℕ) (present : List Id) (ask : Ask) (life : Option GroupLife) → Ascends present → MeetsAscending life → MeetsAscending (life_asked now present ask life)
+meets-asked : (now : ℕ) (present : List Id) (ask : Ask) (life : Option GroupLife) → Ascends present → MeetsAscending life → MeetsAscending (life_after_ask now present ask life)
 meets-asked now present ask None asc h = tt
 meets-asked now present ask (Some life) asc h = (asc, h)
 
 meets-read : (now : ℕ) (present : List Id) (read : ReadGroupCommand) (key : List ℕ) (reads : List ReadOne) (life : Option GroupLife) → Ascends present → MeetsAscending life
-    → MeetsAscending (life_read now present read key reads life)
+    → MeetsAscending (life_after_reads now present read key reads life)
 meets-read now present read key [] life asc h = h
 meets-read now present read key (one ∷ more) life asc h =
-    meets-read now present read key more (cond (is_name key one.key) (life_asked now present (read_ask read one.from) life) life) asc (by (is_name key one.key))
+    meets-read now present read key more (cond (is_name key one.key) (life_after_ask now present (ask_of_read read one.from) life) life) asc (by (is_name key one.key))
   where
-    by : (t : Bool) → MeetsAscending (cond t (life_asked now present (read_ask read one.from) life) life)
-    by true = meets-asked now present (read_ask read one.from) life asc h
+    by : (t : Bool) → MeetsAscending (cond t (life_after_ask now present (ask_of_read read one.from) life) life)
+    by true = meets-asked now present (ask_of_read read one.from) life asc h
     by false = h
 
-meets-opened : (make : Bool) (create : GroupCreateCommand) → create.make ≡ make → (stream : Option (List Change)) → MeetsAscending (life_opened create stream)
+meets-opened : (make : Bool) (create : GroupCreateCommand) → create.make ≡ make → (stream : Option (List Change)) → MeetsAscending (new_life create stream)
 meets-opened make create m (Some changes) = tt
 meets-opened true create m None = rw m tt
 meets-opened false create m None = rw m tt
 
-meets-created : (create : GroupCreateCommand) (stream : Option (List Change)) (life : Option GroupLife) → MeetsAscending life → MeetsAscending (option_or life (life_opened create stream))
+meets-created : (create : GroupCreateCommand) (stream : Option (List Change)) (life : Option GroupLife) → MeetsAscending life → MeetsAscending (option_or life (new_life create stream))
 meets-created create stream None h = meets-opened create.make create refl stream
 meets-created create stream (Some life) h = h
 
@@ -53,22 +53,22 @@ either true one other h k = h
 either false one other h k = k
 
 meets-lived : (now : ℕ) (command : Command) (key group : List ℕ) (served : Bool) (stream : Option (List Change)) (life : Option GroupLife) → MeetsAscending life
-    → MeetsAscending (group_lived now command key group served stream life)
-meets-lived now (GroupCreate create) key group served stream life h = either (is_name key create.key && is_name group create.group) (option_or life (life_opened create stream)) life (meets-created create stream life h) h
+    → MeetsAscending (group_life_after now command key group served stream life)
+meets-lived now (GroupCreate create) key group served stream life h = either (is_name key create.key && is_name group create.group) (option_or life (new_life create stream)) life (meets-created create stream life h) h
 meets-lived now (GroupDestroy k g) key group served stream life h = either (is_name key k && is_name group g) None life tt h
 meets-lived now (ConsumerCreate k g consumer) key group served stream life h =
-    either (is_name key k && is_name group g) (life_asked now (present_in stream) (join consumer) life) life (meets-asked now (present_in stream) (join consumer) life (present-ascends stream) h) h
+    either (is_name key k && is_name group g) (life_after_ask now (present_in stream) (join consumer) life) life (meets-asked now (present_in stream) (join consumer) life (present-ascends stream) h) h
 meets-lived now (ConsumerDelete k g consumer) key group served stream life h =
-    either (is_name key k && is_name group g) (life_asked now (present_in stream) (leave consumer) life) life (meets-asked now (present_in stream) (leave consumer) life (present-ascends stream) h) h
+    either (is_name key k && is_name group g) (life_after_ask now (present_in stream) (leave consumer) life) life (meets-asked now (present_in stream) (leave consumer) life (present-ascends stream) h) h
 meets-lived now (ReadGroup read) key group served stream life h =
-    either (is_name group read.group && served) (life_read now (present_in stream) read key read.reads life) life (meets-read now (present_in stream) read key read.reads life (present-ascends stream) h) h
+    either (is_name group read.group && served) (life_after_reads now (present_in stream) read key read.reads life) life (meets-read now (present_in stream) read key read.reads life (present-ascends stream) h) h
 meets-lived now (Ack k g ids) key group served stream life h =
-    either (is_name key k && is_name group g) (life_asked now (present_in stream) (ack ids) life) life (meets-asked now (present_in stream) (ack ids) life (present-ascends stream) h) h
+    either (is_name key k && is_name group g) (life_after_ask now (present_in stream) (ack ids) life) life (meets-asked now (present_in stream) (ack ids) life (present-ascends stream) h) h
 meets-lived now (Claim c) key group served stream life h =
-    either (is_name key c.key && is_name group c.group) (life_asked now (present_in stream) (claim c.consumer c.rule c.ids) life) life
+    either (is_name key c.key && is_name group c.group) (life_after_ask now (present_in stream) (claim c.consumer c.rule c.ids) life) life
     (meets-asked now (present_in stream) (claim c.consumer c.rule c.ids) life (present-ascends stream) h) h
 meets-lived now (AutoClaim c) key group served stream life h =
-    either (is_name key c.key && is_name group c.group) (life_asked now (present_in stream) (auto_claim c.consumer c.rule c.start c.limit) life) life
+    either (is_name key c.key && is_name group c.group) (life_after_ask now (present_in stream) (auto_claim c.consumer c.rule c.start c.limit) life) life
     (meets-asked now (present_in stream) (auto_claim c.consumer c.rule c.start c.limit) life (present-ascends stream) h) h
 meets-lived now (DropKeys keys) key group served stream life h = either (is_listed keys key) None life tt h
 meets-lived now (Ping message) key group served stream life h = h

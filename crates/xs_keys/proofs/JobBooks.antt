@@ -10,7 +10,7 @@ use Rattle.xs_stream.specs.Kept.{ids_of, Ascends, AllAbove}
 use Rattle.xs_stream.proofs.Order.{is_same-eq, is_same-refl, is_same-symm, below-not_back}
 use Rattle.xs_group.specs.State.{Row, is_name, delivers, owned}
 use Rattle.xs_keys.specs.Life.{Change, key_life, given_in, live}
-use Rattle.xs_keys.specs.GroupEvent.{GroupEvent, delivered, cursor, last_assigned, owner, rows_among, holding, rows}
+use Rattle.xs_keys.specs.GroupEvent.{GroupEvent, delivered, cursor, last_assigned, owner, rows_among, pending_row_at, rows}
 use Rattle.xs_keys.specs.GroupLife.{GroupLife, group_life}
 use Rattle.xs_keys.specs.Content.{Content, Key, IsGroup, GroupHolds, KeyHolds, IsContent}
 use Rattle.xs_keys.specs.Reply.{array, array_or_null, id_reply, of_group, owner_reply, summary_reply}
@@ -74,8 +74,8 @@ ids-among row_of (x ∷ xs) = by (row_of x) (ids-among row_of xs) where
 
 pub ascends-rows : (start : Id) (events : List GroupEvent) → PresentAscends events → Ascends (map (λ e. e.0) (rows start events))
 ascends-rows start events asc =
-    subst Ascends (sym (ids-among (λ x. holding start events x) (delivered start events)))
-    (ascends-where (λ x. is_some (holding start events x)) (delivered start events) (ascends-delivered start events asc))
+    subst Ascends (sym (ids-among (λ x. pending_row_at start events x) (delivered start events)))
+    (ascends-where (λ x. is_some (pending_row_at start events x)) (delivered start events) (ascends-delivered start events asc))
 
 -- and those of one consumer's rows are those whose row is its own
 pub owned-among : (name : List ℕ) (row_of : Id → Option Row) (ids : List Id) → owned name (rows_among row_of ids) ≡ filter (λ x. option_map_or (λ row. is_name row.consumer name) (row_of x) false) ids
@@ -176,8 +176,8 @@ module _ (life : GroupLife) (changes : List Change) (asc : PresentAscends life.e
             let is = only (place_of life (ids_of (live changes)) x) e in
             absurd (false≢true (ap is_some (sym o ∙ subst (StandsAt life (ids_of (live changes)) x) is.1 (has-one-place life changes asc sees x).0)))
 
-  held : (test : List ℕ → Bool) (x : Id) → option_map_or test (owner life.start life.events x) false ≡ option_map_or (λ row. test row.consumer) (holding life.start life.events x) false
-  held test x = ap (λ o. option_map_or test o false) (owner-row life.start life.events x) ∙ by (holding life.start life.events x) where
+  held : (test : List ℕ → Bool) (x : Id) → option_map_or test (owner life.start life.events x) false ≡ option_map_or (λ row. test row.consumer) (pending_row_at life.start life.events x) false
+  held test x = ap (λ o. option_map_or test o false) (owner-row life.start life.events x) ∙ by (pending_row_at life.start life.events x) where
     by : (r : Option Row) → option_map_or test (of_row r) false ≡ option_map_or (λ row. test row.consumer) r false
     by None = refl
     by (Some row) = refl
@@ -232,15 +232,15 @@ add-up above place is (x ∷ xs) = one-more x (place x) (above x) (is x) _ _ _ _
 pub balances : (life : GroupLife) (changes : List Change) → PresentAscends life.events → Sees changes life.events → BooksBalance changes life
 balances life changes asc sees =
     let all_pending = pending-are life changes asc sees is_pending (λ name. true) is-pending (λ name. refl)
-    ∙ filter-same _ _ (delivered life.start life.events) (λ x. held life changes asc sees (λ name. true) x ∙ by (holding life.start life.events x))
-    ∙ sym (ids-among (λ x. holding life.start life.events x) (delivered life.start life.events)) in
+    ∙ filter-same _ _ (delivered life.start life.events) (λ x. held life changes asc sees (λ name. true) x ∙ by (pending_row_at life.start life.events x))
+    ∙ sym (ids-among (λ x. pending_row_at life.start life.events x) (delivered life.start life.events)) in
     record {
       waiting_are = waiting-are life changes asc sees;
       pending_are = all_pending;
       of_consumers = λ consumer.
           pending-are life changes asc sees (is_at (pending consumer)) (λ name. is_name name consumer) (is-pending-with consumer) (λ name. refl)
           ∙ filter-same _ _ (delivered life.start life.events) (held life changes asc sees (λ name. is_name name consumer))
-          ∙ sym (owned-among consumer (λ x. holding life.start life.events x) (delivered life.start life.events));
+          ∙ sym (owned-among consumer (λ x. pending_row_at life.start life.events x) (delivered life.start life.events));
       add_up = add-up (λ x. is_below life.start x) (λ x. place_of life (ids_of (live changes)) x)
           (λ x. place-past (is_below life.start x) (has_id (delivered life.start life.events) x) (has_id (ids_of (live changes)) x) (last_assigned life.start life.events x) (owner life.start life.events x))
           (ids_of (given_in changes))

@@ -30,10 +30,10 @@ use Rattle.xs_command.specs.declared.command.ReadFrom.{ReadFrom}
 use Rattle.xs_command.specs.declared.command.ReadFrom.TheVariants.{New, After}
 use Rattle.xs_command.specs.declared.command.ClaimCommand.{ClaimCommand}
 use Rattle.xs_command.specs.declared.command.AutoClaimCommand.{AutoClaimCommand}
-use Rattle.xs_keys.specs.Life.{Change, added, deleted, trimmed_to, is_listed, opened, key_lived, key_life, entry_of, gives, given_in, top, drops, stands, live}
-use Rattle.xs_keys.specs.GroupEvent.{Ask, GroupEvent, join, leave, ack, claim, auto_claim, asked_new, asked_claim, consumer_of, keeps_pending, acks, drops_consumer, delivered, cursor, last_assigned, owner, holding, rows}
-use Rattle.xs_keys.specs.GroupLife.{GroupLife, present_in, starting_id, life_opened, life_asked, read_ask, life_read, group_lived, reads_of, group_of, group_life, is_new, asks_new}
-use Rattle.xs_keys.specs.Job.{Place, before_start, waiting, dropped, handed_out, pending, settled, place_of, deletes_entry, is_trimmed_below_one, trims_entry, reads_new, with_noack, claims_by_id, claims_entry, asker, acknowledges_entry, removes_consumer, begins_job, ends_group, found_at, HasArrow, HasToMove, trims_new, IsFirstPlace, GoesAlong, place_in, place_after, is_final, GoesOnFor}
+use Rattle.xs_keys.specs.Life.{Change, added, deleted, trimmed_to, is_listed, opened, key_life_after, key_life, entry_of, gives, given_in, top, drops, stands, live}
+use Rattle.xs_keys.specs.GroupEvent.{Ask, GroupEvent, join, leave, ack, claim, auto_claim, new_ids_of_ask, claim_of_ask, consumer_of, keeps_pending, is_acknowledgement_of, drops_consumer, delivered, cursor, last_assigned, owner, pending_row_at, rows}
+use Rattle.xs_keys.specs.GroupLife.{GroupLife, present_in, starting_id, new_life, life_after_ask, ask_of_read, life_after_reads, group_life_after, reads_of, group_of, group_life, is_new, reads_new_entries}
+use Rattle.xs_keys.specs.Job.{Place, before_start, waiting, dropped, handed_out, pending, settled, place_of, deletes_entry, is_trimmed_below_one, trims_entry, reads_new_entries_in, with_noack, claims_by_id, claims_entry, consumer_of_command, acknowledges_entry, removes_consumer, begins_job, ends_group, found_at, HasArrow, HasToMove, trims_new, IsFirstPlace, GoesAlong, place_in, place_after, is_final, GoesOnFor}
 use Rattle.xs_keys.proofs.IdLists.{has_id-append, has_id-where}
 use Rattle.xs_keys.proofs.Streams.{gives-not_new, up_to-live}
 use Rattle.xs_stream.proofs.Order.{below-irrefl, is_same-eq, below-not_back, not_above-trans}
@@ -174,19 +174,19 @@ module _ (command : Command) (key group : List ℕ) (x : Id) where
 
 -- what an ask does to an entry the command is told to do
 record Causes (command : Command) (key group : List ℕ) (ids : List Id) (x : Id) (now : ℕ) (ask : Ask) : Type 0 where
-  hands_out : (a : Id) → has_id (asked_new ask ids a) x ≡ true → keeps_pending ask ≡ false → (reads_new command key group && with_noack command) ≡ true
-  delivers : (a : Id) → has_id (asked_new ask ids a) x ≡ true → keeps_pending ask ≡ true → ((reads_new command key group && not (with_noack command)) ≡ true) × (asker command ≡ consumer_of ask)
-  takes : (es : List (Id × Row)) → has_id (asked_claim ask now ids es).take x ≡ true → ((claims_entry command key group x && has_id ids x) ≡ true) × (asker command ≡ consumer_of ask)
-  settles : (es : List (Id × Row)) (name : List ℕ) → (acks ask x || (drops_consumer ask name || has_id (asked_claim ask now ids es).removed x)) ≡ true
+  hands_out : (a : Id) → has_id (new_ids_of_ask ask ids a) x ≡ true → keeps_pending ask ≡ false → (reads_new_entries_in command key group && with_noack command) ≡ true
+  delivers : (a : Id) → has_id (new_ids_of_ask ask ids a) x ≡ true → keeps_pending ask ≡ true → ((reads_new_entries_in command key group && not (with_noack command)) ≡ true) × (consumer_of_command command ≡ consumer_of ask)
+  takes : (es : List (Id × Row)) → has_id (claim_of_ask ask now ids es).take x ≡ true → ((claims_entry command key group x && has_id ids x) ≡ true) × (consumer_of_command command ≡ consumer_of ask)
+  settles : (es : List (Id × Row)) (name : List ℕ) → (is_acknowledgement_of ask x || (drops_consumer ask name || has_id (claim_of_ask ask now ids es).removed x)) ≡ true
       → (acknowledges_entry command key group x || (removes_consumer command key group name || (claims_entry command key group x && not (has_id ids x)))) ≡ true
   no_deletion : deletes_entry command key x ≡ false
   must : (es : List (Id × Row)) → is_some (row_at es x) ≡ true → (name : List ℕ)
       → (acknowledges_entry command key group x || (removes_consumer command key group name || (claims_by_id command key group x && not (has_id ids x)))) ≡ true
-      → (acks ask x || (drops_consumer ask name || has_id (asked_claim ask now ids es).removed x)) ≡ true
+      → (is_acknowledgement_of ask x || (drops_consumer ask name || has_id (claim_of_ask ask now ids es).removed x)) ≡ true
 
 -- whose owner is there has a row
 has-row : (start : Id) (events : List GroupEvent) (x : Id) (name : List ℕ) → owner start events x ≡ Some name → is_some (row_at (rows start events) x) ≡ true
-has-row start events x name o = ap is_some (row-found start events x) ∙ by (holding start events x) (sym (owner-row start events x) ∙ o) where
+has-row start events x name o = ap is_some (row-found start events x) ∙ by (pending_row_at start events x) (sym (owner-row start events x) ∙ o) where
   by : (r : Option Row) → of_row r ≡ Some name → is_some r ≡ true
   by None e = ap is_some e
   by (Some row) e = refl
@@ -196,7 +196,7 @@ once-assigned true b = refl
 once-assigned false b = refl
 
 goes-asked : (command : Command) (key group : List ℕ) (x : Id) (now : ℕ) (ask : Ask) (stream : Option (List Change)) (life : Option GroupLife) → Causes command key group (present_in stream) x now ask
-    → GoesAlong command key group (present_in stream) x (place_in stream life x) (place_in stream (life_asked now (present_in stream) ask life) x)
+    → GoesAlong command key group (present_in stream) x (place_in stream life x) (place_in stream (life_after_ask now (present_in stream) ask life) x)
 goes-asked command key group x now ask None life causes = tt
 goes-asked command key group x now ask (Some changes) None causes = tt
 goes-asked command key group x now ask (Some changes) (Some life) causes = by (has_id (ids_of (given_in changes)) x) where
@@ -216,8 +216,8 @@ goes-asked command key group x now ask (Some changes) (Some life) causes = by (h
   how (was_settled s name l e f) =
       inr (along command key group x (ids_of (live changes)) _ _ (pending name) settled e f
       (causes.settles (rows life.start life.events) name
-      (once-assigned (acks ask x) (drops_consumer ask name || has_id (asked_claim ask now (ids_of (live changes)) (rows life.start life.events)).removed x)
-      ∙ ap (λ last. (acks ask x && is_some last) || (option_map_or (drops_consumer ask) last false || has_id (asked_claim ask now (ids_of (live changes)) (rows life.start life.events)).removed x)) (sym l) ∙ s)))
+      (once-assigned (is_acknowledgement_of ask x) (drops_consumer ask name || has_id (claim_of_ask ask now (ids_of (live changes)) (rows life.start life.events)).removed x)
+      ∙ ap (λ last. (is_acknowledgement_of ask x && is_some last) || (option_map_or (drops_consumer ask) last false || has_id (claim_of_ask ask now (ids_of (live changes)) (rows life.start life.events)).removed x)) (sym l) ∙ s)))
 
   owes : (here : Place) → place_of life (ids_of (live changes)) x ≡ here
       → HasToMove command key group (ids_of (live changes)) x here (place_of (life_of life.start (record { now = now; present = ids_of (live changes); ask = ask } ∷ life.events)) (ids_of (live changes)) x)
@@ -229,8 +229,8 @@ goes-asked command key group x now ask (Some changes) (Some life) causes = by (h
       let o = pending-owner (is_below life.start x) (has_id (delivered life.start life.events) x) (has_id (ids_of (live changes)) x) (last_assigned life.start life.events x) (owner life.start life.events x) name e in
       let l = owner-last life.start life.events x name o in
       settled-now life.start life.events (record { now = now; present = ids_of (live changes); ask = ask }) x (ids_of (live changes)) refl name o
-      (ap (λ last. (acks ask x && is_some last) || (option_map_or (drops_consumer ask) last false || has_id (asked_claim ask now (ids_of (live changes)) (rows life.start life.events)).removed x)) l
-      ∙ sym (once-assigned (acks ask x) (drops_consumer ask name || has_id (asked_claim ask now (ids_of (live changes)) (rows life.start life.events)).removed x))
+      (ap (λ last. (is_acknowledgement_of ask x && is_some last) || (option_map_or (drops_consumer ask) last false || has_id (claim_of_ask ask now (ids_of (live changes)) (rows life.start life.events)).removed x)) l
+      ∙ sym (once-assigned (is_acknowledgement_of ask x) (drops_consumer ask name || has_id (claim_of_ask ask now (ids_of (live changes)) (rows life.start life.events)).removed x))
       ∙ causes.must (rows life.start life.events) (has-row life.start life.events x name o) name s)
   owes settled e = tt
 
@@ -323,11 +323,11 @@ auto_claim-causes c key group here ids x now = record {
   must = λ es found name e. absurd (false≢true e);
 }
 
-read-causes : (read : ReadGroupCommand) (from : ReadFrom) (key group : List ℕ) → is_name group read.group ≡ true → (is_new from ≡ true → asks_new (ReadGroup read) key ≡ true) → (ids : List Id) (x : Id) (now : ℕ)
-    → Causes (ReadGroup read) key group ids x now (read_ask read from)
+read-causes : (read : ReadGroupCommand) (from : ReadFrom) (key group : List ℕ) → is_name group read.group ≡ true → (is_new from ≡ true → reads_new_entries (ReadGroup read) key ≡ true) → (ids : List Id) (x : Id) (now : ℕ)
+    → Causes (ReadGroup read) key group ids x now (ask_of_read read from)
 read-causes read New key group here asks ids x now = record {
-  hands_out = λ a e f. both_of (is_name group read.group && asks_new (ReadGroup read) key) read.noack (both_of (is_name group read.group) (asks_new (ReadGroup read) key) here (asks refl)) (by read.noack f);
-  delivers = λ a e f. (both_of (is_name group read.group && asks_new (ReadGroup read) key) (not read.noack) (both_of (is_name group read.group) (asks_new (ReadGroup read) key) here (asks refl)) f, refl);
+  hands_out = λ a e f. both_of (is_name group read.group && reads_new_entries (ReadGroup read) key) read.noack (both_of (is_name group read.group) (reads_new_entries (ReadGroup read) key) here (asks refl)) (by read.noack f);
+  delivers = λ a e f. (both_of (is_name group read.group && reads_new_entries (ReadGroup read) key) (not read.noack) (both_of (is_name group read.group) (reads_new_entries (ReadGroup read) key) here (asks refl)) f, refl);
   takes = λ es e. absurd (false≢true e);
   settles = λ es name e. absurd (false≢true e);
   no_deletion = refl;
@@ -348,21 +348,21 @@ read-causes read (After id) key group here asks ids x now = record {
 -- ---- reads
 
 goes-read : (now : ℕ) (read : ReadGroupCommand) (key group : List ℕ) → is_name group read.group ≡ true → (stream : Option (List Change)) (life : Option GroupLife) (x : Id) (reads : List ReadOne) → IsDistinct bytes_eq (keys_of reads)
-    → (list_any (λ one. is_name key one.key && is_new one.from) reads ≡ true → asks_new (ReadGroup read) key ≡ true)
-    → GoesAlong (ReadGroup read) key group (present_in stream) x (place_in stream life x) (place_in stream (life_read now (present_in stream) read key reads life) x)
+    → (list_any (λ one. is_name key one.key && is_new one.from) reads ≡ true → reads_new_entries (ReadGroup read) key ≡ true)
+    → GoesAlong (ReadGroup read) key group (present_in stream) x (place_in stream life x) (place_in stream (life_after_reads now (present_in stream) read key reads life) x)
 unfolding IsDistinct
 goes-read now read key group here stream life x [] distinct asks = same (ReadGroup read) key group x (record { no_deletion = refl; no_settling = λ ids name. refl }) (present_in stream) (place_in stream life x)
 goes-read now read key group here stream life x (one ∷ more) distinct asks =
     by (is_name key one.key) refl (goes-read now read key group here stream life x more distinct.1 (λ e. asks (or_second (is_name key one.key && is_new one.from) _ e)))
   where
     by : (t : Bool) → is_name key one.key ≡ t
-        → GoesAlong (ReadGroup read) key group (present_in stream) x (place_in stream life x) (place_in stream (life_read now (present_in stream) read key more life) x)
-        → GoesAlong (ReadGroup read) key group (present_in stream) x (place_in stream life x) (place_in stream (life_read now (present_in stream) read key more (cond t (life_asked now (present_in stream) (read_ask read one.from) life) life)) x)
+        → GoesAlong (ReadGroup read) key group (present_in stream) x (place_in stream life x) (place_in stream (life_after_reads now (present_in stream) read key more life) x)
+        → GoesAlong (ReadGroup read) key group (present_in stream) x (place_in stream life x) (place_in stream (life_after_reads now (present_in stream) read key more (cond t (life_after_ask now (present_in stream) (ask_of_read read one.from) life) life)) x)
     by false e rest = rest
     by true e rest =
         subst (λ l. GoesAlong (ReadGroup read) key group (present_in stream) x (place_in stream life x) (place_in stream l x))
-        (sym (not-read now (present_in stream) read key more (life_asked now (present_in stream) (read_ask read one.from) life) (others-absent key one.key more e distinct.0)))
-        (goes-asked (ReadGroup read) key group x now (read_ask read one.from) stream life
+        (sym (not-read now (present_in stream) read key more (life_after_ask now (present_in stream) (ask_of_read read one.from) life) (others-absent key one.key more e distinct.0)))
+        (goes-asked (ReadGroup read) key group x now (ask_of_read read one.from) stream life
         (read-causes read one.from key group here (λ f. asks (or_first _ _ (both_of (is_name key one.key) (is_new one.from) e f))) (present_in stream) x now))
 
 -- ---- an event
@@ -370,7 +370,7 @@ goes-read now read key group here stream life x (one ∷ more) distinct asks =
 -- a command that asks the group, where it is this one
 asks-group : (command : Command) (key group : List ℕ) (x : Id) (now : ℕ) (ask : Ask) (stream : Option (List Change)) (life : Option GroupLife) (t : Bool)
     → (t ≡ true → Causes command key group (present_in stream) x now ask) → (t ≡ false → IsIdle command key group x)
-    → GoesAlong command key group (present_in stream) x (place_in stream life x) (place_in stream (cond t (life_asked now (present_in stream) ask life) life) x)
+    → GoesAlong command key group (present_in stream) x (place_in stream life x) (place_in stream (cond t (life_after_ask now (present_in stream) ask life) life) x)
 asks-group command key group x now ask stream life true causes idle = goes-asked command key group x now ask stream life (causes refl)
 asks-group command key group x now ask stream life false causes idle = same command key group x (idle refl) (present_in stream) (place_in stream life x)
 
@@ -483,9 +483,9 @@ new-group (At id) changes x given = refl
 new-group Top changes x given = ap (λ b. place_by b false (has_id (ids_of (live changes)) x) None None) (given-up_to changes x given)
 
 opens : (create : GroupCreateCommand) (key group : List ℕ) (x : Id) → begins_job (GroupCreate create) key group ≡ true → (stream : Option (List Change))
-    → GoesAlong (GroupCreate create) key group (present_in stream) x (place_in stream None x) (place_in (opened create.make stream) (life_opened create stream) x)
+    → GoesAlong (GroupCreate create) key group (present_in stream) x (place_in stream None x) (place_in (opened create.make stream) (new_life create stream) x)
 opens create key group x is stream =
-    subst (λ p. GoesAlong (GroupCreate create) key group (present_in stream) x p (place_in (opened create.make stream) (life_opened create stream) x)) (sym (none-life stream x))
+    subst (λ p. GoesAlong (GroupCreate create) key group (present_in stream) x p (place_in (opened create.make stream) (new_life create stream) x)) (sym (none-life stream x))
     (by (opened create.make stream) (same_ids create.make stream))
   where
     same_ids : (make : Bool) (stream : Option (List Change)) → present_in (opened make stream) ≡ present_in stream
@@ -503,7 +503,7 @@ opens create key group x is stream =
       given false g = tt
 
 pub goes-lived : (now : ℕ) (command : Command) (key group : List ℕ) (served : Bool) (stream : Option (List Change)) (life : Option GroupLife) (x : Id) → IsWellFormed command → SeesItsKey stream life
-    → GoesAlong command key group (present_in stream) x (place_in stream life x) (place_in (key_lived now command key stream) (group_lived now command key group served stream life) x)
+    → GoesAlong command key group (present_in stream) x (place_in stream life x) (place_in (key_life_after now command key stream) (group_life_after now command key group served stream life) x)
 goes-lived now (Ping message) key group served stream life x formed sees = same (Ping message) key group x (record { no_deletion = refl; no_settling = λ ids name. refl }) (present_in stream) (place_in stream life x)
 goes-lived now Quit key group served stream life x formed sees = same Quit key group x (record { no_deletion = refl; no_settling = λ ids name. refl }) (present_in stream) (place_in stream life x)
 goes-lived now (Add add) key group served stream life x formed sees =
@@ -533,9 +533,9 @@ goes-lived now (Scan scan) key group served stream life x formed sees = same (Sc
 goes-lived now (GroupCreate create) key group served stream None x formed sees = by (is_name key create.key && is_name group create.group) refl where
   by : (t : Bool) → (is_name key create.key && is_name group create.group) ≡ t
       → GoesAlong (GroupCreate create) key group (present_in stream) x (place_in stream None x)
-      (place_in (cond (is_name key create.key) (opened create.make stream) stream) (cond t (life_opened create stream) None) x)
+      (place_in (cond (is_name key create.key) (opened create.make stream) stream) (cond t (new_life create stream) None) x)
   by true e =
-      subst (λ t. GoesAlong (GroupCreate create) key group (present_in stream) x (place_in stream None x) (place_in (cond t (opened create.make stream) stream) (life_opened create stream) x))
+      subst (λ t. GoesAlong (GroupCreate create) key group (present_in stream) x (place_in stream None x) (place_in (cond t (opened create.make stream) stream) (new_life create stream) x))
       (sym (first_of (is_name key create.key) (is_name group create.group) e)) (opens create key group x e stream)
   by false e = unborn (GroupCreate create) key group x (present_in stream) stream (cond (is_name key create.key) (opened create.make stream) stream)
 goes-lived now (GroupCreate create) key group served None (Some life) x formed sees = absurd sees
@@ -557,7 +557,7 @@ goes-lived now (ConsumerDelete k g consumer) key group served stream life x form
     (λ away. record { no_deletion = refl; no_settling = λ ids name. ap (λ b. (b && is_name name consumer) || false) away })
 goes-lived now (ReadGroup read) key group served stream life x formed sees = by (is_name group read.group) refl served where
   by : (t : Bool) → is_name group read.group ≡ t → (s : Bool)
-      → GoesAlong (ReadGroup read) key group (present_in stream) x (place_in stream life x) (place_in stream (cond (t && s) (life_read now (present_in stream) read key read.reads life) life) x)
+      → GoesAlong (ReadGroup read) key group (present_in stream) x (place_in stream life x) (place_in stream (cond (t && s) (life_after_reads now (present_in stream) read key read.reads life) life) x)
   by true e true = goes-read now read key group e stream life x read.reads formed.1 (λ f. f)
   by true e false = same (ReadGroup read) key group x (record { no_deletion = refl; no_settling = λ ids name. refl }) (present_in stream) (place_in stream life x)
   by false e s = same (ReadGroup read) key group x (record { no_deletion = refl; no_settling = λ ids name. refl }) (present_in stream) (place_in stream life x)

@@ -6,7 +6,7 @@ use Rattle.xs_stream.specs.Id.{is_below, has_id}
 use Rattle.xs_stream.specs.Kept.{ids_of}
 use Rattle.xs_stream.proofs.Order.{up_to-below}
 use Rattle.xs_keys.specs.Life.{Change, live}
-use Rattle.xs_keys.specs.GroupEvent.{GroupEvent, delivers_at, consumer_of, keeps_pending, delivered, cursor, rows, takes, last_assigned, settles, is_settled, owner}
+use Rattle.xs_keys.specs.GroupEvent.{GroupEvent, new_ids_of_event, consumer_of, keeps_pending, delivered, cursor, rows, takes, last_assigned, settles, is_settled, owner}
 use Rattle.xs_keys.specs.GroupLife.{GroupLife}
 use Rattle.xs_keys.specs.Job.{Place, before_start, waiting, dropped, handed_out, pending, settled, place_of_delivered, place_of, StandsAt, HasOnePlace}
 use Rattle.xs_keys.proofs.IdLists.{has_id-append, not_among}
@@ -21,12 +21,12 @@ use Rattle.xs_keys.proofs.Sights.{Sees, none-stranded, asked-present, or_first, 
 pub assigned-delivered : (start : Id) (events : List GroupEvent) (x : Id) → is_some (last_assigned start events x) ≡ true → has_id (delivered start events) x ≡ true
 assigned-delivered start [] x e = absurd (false≢true e)
 assigned-delivered start (event ∷ past) x e =
-    has_id-append (delivered start past) (delivers_at event (cursor start past)) x
-    ∙ by (has_id (delivers_at event (cursor start past)) x) refl (keeps_pending event.ask) refl (takes start past event x) refl (assigned-delivered start past x)
+    has_id-append (delivered start past) (new_ids_of_event event (cursor start past)) x
+    ∙ by (has_id (new_ids_of_event event (cursor start past)) x) refl (keeps_pending event.ask) refl (takes start past event x) refl (assigned-delivered start past x)
   where
-    by : (n : Bool) → has_id (delivers_at event (cursor start past)) x ≡ n → (k : Bool) → keeps_pending event.ask ≡ k → (t : Bool) → takes start past event x ≡ t
+    by : (n : Bool) → has_id (new_ids_of_event event (cursor start past)) x ≡ n → (k : Bool) → keeps_pending event.ask ≡ k → (t : Bool) → takes start past event x ≡ t
         → (is_some (last_assigned start past x) ≡ true → has_id (delivered start past) x ≡ true)
-        → (has_id (delivered start past) x || has_id (delivers_at event (cursor start past)) x) ≡ true
+        → (has_id (delivered start past) x || has_id (new_ids_of_event event (cursor start past)) x) ≡ true
     by true n k f t g before = or_second _ _ n
     by false n k f true g before = or_first _ _ (owned-delivered start past x (taken-owned start past event x g))
     by false n k f false g before = or_first _ _ (before (ap is_some (sym (not_assigned k f)) ∙ e)) where
@@ -105,8 +105,8 @@ has-one-place life changes asc sees x = (
 -- what an event of a group makes of the place of an entry
 pub data Went (start : Id) (past : List GroupEvent) (event : GroupEvent) (x : Id) (here there : Place) : Type 0 where
   stayed : there ≡ here → Went start past event x here there
-  was_handed_out : has_id (delivers_at event (cursor start past)) x ≡ true → keeps_pending event.ask ≡ false → here ≡ waiting → there ≡ handed_out → Went start past event x here there
-  was_delivered : has_id (delivers_at event (cursor start past)) x ≡ true → keeps_pending event.ask ≡ true → (name : List ℕ) → consumer_of event.ask ≡ Some name
+  was_handed_out : has_id (new_ids_of_event event (cursor start past)) x ≡ true → keeps_pending event.ask ≡ false → here ≡ waiting → there ≡ handed_out → Went start past event x here there
+  was_delivered : has_id (new_ids_of_event event (cursor start past)) x ≡ true → keeps_pending event.ask ≡ true → (name : List ℕ) → consumer_of event.ask ≡ Some name
       → here ≡ waiting → there ≡ pending name → Went start past event x here there
   was_taken : takes start past event x ≡ true → (one other : List ℕ) → consumer_of event.ask ≡ Some other → here ≡ pending one → there ≡ pending other → Went start past event x here there
   was_settled : settles start past event x ≡ true → (name : List ℕ) → last_assigned start past x ≡ Some name → here ≡ pending name → there ≡ settled → Went start past event x here there
@@ -116,8 +116,8 @@ named None e = absurd (false≢true e)
 named (Some name) e = (name, refl)
 
 module _ (start : Id) (before : List GroupEvent) (event : GroupEvent) (x : Id) (present : List Id) (saw : event.present ≡ present) where
-  delivered-after : has_id (delivered start (event ∷ before)) x ≡ (has_id (delivered start before) x || has_id (delivers_at event (cursor start before)) x)
-  delivered-after = has_id-append (delivered start before) (delivers_at event (cursor start before)) x
+  delivered-after : has_id (delivered start (event ∷ before)) x ≡ (has_id (delivered start before) x || has_id (new_ids_of_event event (cursor start before)) x)
+  delivered-after = has_id-append (delivered start before) (new_ids_of_event event (cursor start before)) x
 
   -- where it stands after the event, if it was delivered before
   after-delivered : has_id (delivered start before) x ≡ true
@@ -169,7 +169,7 @@ module _ (start : Id) (before : List GroupEvent) (event : GroupEvent) (x : Id) (
   -- it wasn't
   went-undelivered : has_id (delivered start before) x ≡ false → Goes
   unfolding Goes
-  went-undelivered d = by (has_id (delivers_at event (cursor start before)) x) refl (keeps_pending event.ask) refl where
+  went-undelivered d = by (has_id (new_ids_of_event event (cursor start before)) x) refl (keeps_pending event.ask) refl where
     none_had : owner start before x ≡ None
     none_had = only (owner start before x) refl where
       only : (o : Option (List ℕ)) → owner start before x ≡ o → owner start before x ≡ None
@@ -188,7 +188,7 @@ module _ (start : Id) (before : List GroupEvent) (event : GroupEvent) (x : Id) (
       only false e = refl
       only true e = absurd (false≢true (ap is_some (sym none_had) ∙ taken-owned start before event x e))
 
-    by : (n : Bool) → has_id (delivers_at event (cursor start before)) x ≡ n → (k : Bool) → keeps_pending event.ask ≡ k
+    by : (n : Bool) → has_id (new_ids_of_event event (cursor start before)) x ≡ n → (k : Bool) → keeps_pending event.ask ≡ k
         → Went start before event x (place_of (life_of start before) present x) (place_of (life_of start (event ∷ before)) present x)
     by false n k f =
         let after = delivered-after ∙ (λ i. d i || n i) in
@@ -215,7 +215,7 @@ module _ (start : Id) (before : List GroupEvent) (event : GroupEvent) (x : Id) (
       keeps false f =
           was_handed_out n f waits
           (at-delivered start (event ∷ before) present x now
-          ∙ (λ i. place_of_delivered (cond ((f i && has_id (delivers_at event (cursor start before)) x) || not_taken i) (consumer_of event.ask) (none_last i)) (owner start (event ∷ before) x)))
+          ∙ (λ i. place_of_delivered (cond ((f i && has_id (new_ids_of_event event (cursor start before)) x) || not_taken i) (consumer_of event.ask) (none_last i)) (owner start (event ∷ before) x)))
 
   pub went : Went start before event x (place_of (life_of start before) present x) (place_of (life_of start (event ∷ before)) present x)
   unfolding Goes

@@ -9,7 +9,7 @@ use Rattle.xs_stream.specs.Kept.{Ascends, AllAbove, AllUpTo}
 use Rattle.xs_group.specs.State.{Row, State, is_name, delivers, first_row, shown, again, unless_owned}
 use Rattle.xs_command.specs.declared.command.Command.{Command}
 use Rattle.xs_keys.specs.Life.{Change, key_life, stream_of}
-use Rattle.xs_keys.specs.GroupEvent.{Ask, GroupEvent, read_new, read_own, ack, join, leave, claim, auto_claim, delivered, cursor, is_consumer, asked_row, rows_among, holding, rows}
+use Rattle.xs_keys.specs.GroupEvent.{Ask, GroupEvent, read_new, read_own, ack, join, leave, claim, auto_claim, delivered, cursor, is_consumer, row_after_ask, rows_among, pending_row_at, rows}
 use Rattle.xs_keys.specs.GroupLife.{GroupLife, group_life}
 use Rattle.xs_keys.specs.Content.{Key, Content, IsGroup, GroupHolds, KeyHolds, IsContent, IsLawfulStream, IsLawfulGroup, IsLawfulKey, IsLawfulContent}
 use Rattle.xs_keys.proofs.Streams.{ascends-live, up_to-live}
@@ -46,13 +46,13 @@ unfolding or_else
 same_some a b e = ap (λ o. or_else o a) e
 
 -- what was a consumer is one still, unless it is taken out
-still : (drops brings before : Bool) → drops ≡ false → before ≡ true → cond drops false (cond brings true before) ≡ true
+still : (drops adds_consumer before : Bool) → drops ≡ false → before ≡ true → cond drops false (cond adds_consumer true before) ≡ true
 still drops true before d b = rw d refl
 still drops false before d b = rw d b
 
 -- what is brought in is one
-brought : (drops brings before : Bool) → drops ≡ false → brings ≡ true → cond drops false (cond brings true before) ≡ true
-brought drops brings before d b = rw (d, b) refl
+brought : (drops adds_consumer before : Bool) → drops ≡ false → adds_consumer ≡ true → cond drops false (cond adds_consumer true before) ≡ true
+brought drops adds_consumer before d b = rw (d, b) refl
 
 abbrev IsOfConsumers : List GroupEvent → Option Row → Type 0
 IsOfConsumers past r = (row : Row) → r ≡ Some row → is_consumer past row.consumer ≡ true
@@ -95,7 +95,7 @@ module _ (past : List GroupEvent) (now : ℕ) (present : List Id) (a : Id) (es :
   of-claim consumer rule false true (Some o) h row e = ap (λ n. cond (is_name n consumer) true (is_consumer past n)) (sym (ap (λ p. p.consumer) (same_some (claimed_row consumer now rule o) row e))) ∙ ap (λ b. cond b true (is_consumer past consumer)) (is_name-refl consumer)
   of-claim consumer rule false false (Some o) h row e = still false (is_name row.consumer consumer) (is_consumer past row.consumer) refl (h row e)
 
-  of-asked : (ask : Ask) (r : Option Row) → IsOfConsumers past r → IsOfConsumers (record { now = now; present = present; ask = ask } ∷ past) (asked_row ask now present a es x r)
+  of-asked : (ask : Ask) (r : Option Row) → IsOfConsumers past r → IsOfConsumers (record { now = now; present = present; ask = ask } ∷ past) (row_after_ask ask now present a es x r)
   of-asked (read_new consumer limit noack) r h = λ row e. of-new consumer limit noack (has_id (delivers limit a present) x) r h row e
   of-asked (read_own consumer limit from) r h = λ row e. of-own consumer (has_id (shown consumer limit from es) x && has_id present x) r h row e
   of-asked (ack ids) r h = λ row e. of-ack (has_id ids x) r h row e
@@ -106,17 +106,17 @@ module _ (past : List GroupEvent) (now : ℕ) (present : List Id) (a : Id) (es :
   of-asked (auto_claim consumer rule start limit) r h = λ row e.
       let c = (scan_of es present now rule start limit).claim in of-claim consumer rule (has_id c.removed x) (has_id c.take x) r h row e
 
-of-consumers : (start : Id) (events : List GroupEvent) (x : Id) → IsOfConsumers events (holding start events x)
+of-consumers : (start : Id) (events : List GroupEvent) (x : Id) → IsOfConsumers events (pending_row_at start events x)
 of-consumers start [] x = λ row e. absurd (false≢true (ap is_some e))
 of-consumers start (event ∷ past) x =
-    of-asked past event.now event.present (cursor start past) (rows start past) x event.ask (holding start past x) (of-consumers start past x)
+    of-asked past event.now event.present (cursor start past) (rows start past) x event.ask (pending_row_at start past x) (of-consumers start past x)
 
 -- ---- groups, keys, contents
 
 lawful-group : (g : State) (life : GroupLife) → IsGroup g life → PresentAscends life.events → IsLawfulGroup g
 unfolding get
 lawful-group g life h asc = record {
-  ascends = subst (λ es. Ascends (row_ids es)) (sym h.rows_are) (ascends-among (λ x. holding life.start life.events x) (delivered life.start life.events) (ascends-delivered life.start life.events asc));
+  ascends = subst (λ es. Ascends (row_ids es)) (sym h.rows_are) (ascends-among (λ x. pending_row_at life.start life.events x) (delivered life.start life.events) (ascends-delivered life.start life.events asc));
   up_to_cursor = subst (λ es. AllUpTo g.cursor (row_ids es)) (sym h.rows_are) (subst (λ c. AllUpTo c (row_ids (rows life.start life.events))) (sym h.cursor_is) (up_to-rows life.start life.events));
   of_consumers = λ x row e.
       h.consumers_are row.consumer ∙ of-consumers life.start life.events x row (sym (row-found life.start life.events x) ∙ ap (λ es. row_at es x) (sym h.rows_are) ∙ e);

@@ -16,8 +16,8 @@ use Rattle.xs_command.specs.declared.command.ReadOne.{ReadOne}
 use Rattle.xs_command.specs.declared.command.ReadFrom.{ReadFrom}
 use Rattle.xs_command.specs.declared.command.ReadFrom.TheVariants.{New, After}
 use Rattle.xs_keys.specs.Life.{Change, is_listed, key_life}
-use Rattle.xs_keys.specs.GroupEvent.{Ask, join, leave, ack, claim, auto_claim, asked_new, delivered, cursor}
-use Rattle.xs_keys.specs.GroupLife.{GroupLife, limit_of, present_in, life_opened, life_asked, read_ask, life_read, group_of, group_life, is_new, asks_new, acts, delivered_by, GoesOn}
+use Rattle.xs_keys.specs.GroupEvent.{Ask, join, leave, ack, claim, auto_claim, new_ids_of_ask, delivered, cursor}
+use Rattle.xs_keys.specs.GroupLife.{GroupLife, limit_of, present_in, new_life, life_after_ask, ask_of_read, life_after_reads, group_of, group_life, is_new, reads_new_entries, has_all_groups, ids_delivered_by, GoesOn}
 use Rattle.xs_keys.proofs.Names.{is_name-eq}
 
 -- ---- events that deliver nothing
@@ -35,25 +35,25 @@ ended None = refl
 ended (Some life) = refl
 
 -- an ask that delivers nothing
-asks-none : (now : ℕ) (present : List Id) (ask : Ask) (life : Option GroupLife) → ((a : Id) → asked_new ask present a ≡ []) → GoesOn life [] (life_asked now present ask life)
+asks-none : (now : ℕ) (present : List Id) (ask : Ask) (life : Option GroupLife) → ((a : Id) → new_ids_of_ask ask present a ≡ []) → GoesOn life [] (life_after_ask now present ask life)
 asks-none now present ask None none = refl
 asks-none now present ask (Some life) none = (refl, ap (λ new. delivered life.start life.events ++ new) (none (cursor life.start life.events)))
 
-opens : (make : Bool) (create : GroupCreateCommand) → create.make ≡ make → (stream : Option (List Change)) → GoesOn None [] (life_opened create stream)
+opens : (make : Bool) (create : GroupCreateCommand) → create.make ≡ make → (stream : Option (List Change)) → GoesOn None [] (new_life create stream)
 opens make create m (Some changes) = (refl, refl)
 opens true create m None = rw m (refl, refl)
 opens false create m None = rw m refl
 
-creates : (create : GroupCreateCommand) (stream : Option (List Change)) (life : Option GroupLife) → GoesOn life [] (option_or life (life_opened create stream))
+creates : (create : GroupCreateCommand) (stream : Option (List Change)) (life : Option GroupLife) → GoesOn life [] (option_or life (new_life create stream))
 creates create stream None = opens create.make create refl stream
 creates create stream (Some life) = stays (Some life)
 
 -- ---- reads
 
-no-life-read : (now : ℕ) (present : List Id) (read : ReadGroupCommand) (key : List ℕ) (reads : List ReadOne) → life_read now present read key reads None ≡ None
+no-life-read : (now : ℕ) (present : List Id) (read : ReadGroupCommand) (key : List ℕ) (reads : List ReadOne) → life_after_reads now present read key reads None ≡ None
 no-life-read now present read key [] = refl
 no-life-read now present read key (one ∷ more) = by (is_name key one.key) (no-life-read now present read key more) where
-  by : (t : Bool) → life_read now present read key more None ≡ None → life_read now present read key more (cond t None None) ≡ None
+  by : (t : Bool) → life_after_reads now present read key more None ≡ None → life_after_reads now present read key more (cond t None None) ≡ None
   by true e = e
   by false e = e
 
@@ -64,11 +64,11 @@ delivered_in command present life = option_map_or (λ l. delivers (limit_of comm
 abbrev pub absent : List ℕ → List ReadOne → Bool
 absent key reads = list_any (λ one. is_name key one.key) reads
 
-pub not-read : (now : ℕ) (present : List Id) (read : ReadGroupCommand) (key : List ℕ) (reads : List ReadOne) (life : Option GroupLife) → absent key reads ≡ false → life_read now present read key reads life ≡ life
+pub not-read : (now : ℕ) (present : List Id) (read : ReadGroupCommand) (key : List ℕ) (reads : List ReadOne) (life : Option GroupLife) → absent key reads ≡ false → life_after_reads now present read key reads life ≡ life
 not-read now present read key [] life e = refl
 not-read now present read key (one ∷ more) life e = by (is_name key one.key) e (λ f. not-read now present read key more life f) where
-  by : (t : Bool) → (t || list_any (λ o. is_name key o.key) more) ≡ false → (list_any (λ o. is_name key o.key) more ≡ false → life_read now present read key more life ≡ life)
-      → life_read now present read key more (cond t (life_asked now present (read_ask read one.from) life) life) ≡ life
+  by : (t : Bool) → (t || list_any (λ o. is_name key o.key) more) ≡ false → (list_any (λ o. is_name key o.key) more ≡ false → life_after_reads now present read key more life ≡ life)
+      → life_after_reads now present read key more (cond t (life_after_ask now present (ask_of_read read one.from) life) life) ≡ life
   by true f rest = absurd (false≢true (sym f))
   by false f rest = rest f
 
@@ -92,26 +92,26 @@ others-absent key a (one ∷ more) same h = rw (other-name key a one.key same h.
 
 -- the reads of a life that is open
 reads-on : (now : ℕ) (present : List Id) (read : ReadGroupCommand) (key : List ℕ) (reads : List ReadOne) (b : GroupLife) → IsDistinct bytes_eq (keys_of reads)
-    → GoesOn (Some b) (cond (list_any (λ one. is_name key one.key && is_new one.from) reads) (delivers read.limit (cursor b.start b.events) present) []) (life_read now present read key reads (Some b))
+    → GoesOn (Some b) (cond (list_any (λ one. is_name key one.key && is_new one.from) reads) (delivers read.limit (cursor b.start b.events) present) []) (life_after_reads now present read key reads (Some b))
 unfolding IsDistinct
 reads-on now present read key [] b distinct = (refl, sym (append-nil (delivered b.start b.events)))
 reads-on now present read key (one ∷ more) b distinct = by (is_name key one.key) refl (reads-on now present read key more b distinct.1) where
   here : (from : ReadFrom) → list_any (λ o. is_name key o.key && is_new o.from) more ≡ false
-      → GoesOn (Some b) (cond (is_new from || list_any (λ o. is_name key o.key && is_new o.from) more) (delivers read.limit (cursor b.start b.events) present) []) (life_asked now present (read_ask read from) (Some b))
+      → GoesOn (Some b) (cond (is_new from || list_any (λ o. is_name key o.key && is_new o.from) more) (delivers read.limit (cursor b.start b.events) present) []) (life_after_ask now present (ask_of_read read from) (Some b))
   here New e = (refl, refl)
   here (After id) e = rw e (refl, refl)
 
   by : (t : Bool) → is_name key one.key ≡ t
-      → GoesOn (Some b) (cond (list_any (λ o. is_name key o.key && is_new o.from) more) (delivers read.limit (cursor b.start b.events) present) []) (life_read now present read key more (Some b))
+      → GoesOn (Some b) (cond (list_any (λ o. is_name key o.key && is_new o.from) more) (delivers read.limit (cursor b.start b.events) present) []) (life_after_reads now present read key more (Some b))
       → GoesOn (Some b) (cond ((t && is_new one.from) || list_any (λ o. is_name key o.key && is_new o.from) more) (delivers read.limit (cursor b.start b.events) present) [])
-      (life_read now present read key more (cond t (life_asked now present (read_ask read one.from) (Some b)) (Some b)))
+      (life_after_reads now present read key more (cond t (life_after_ask now present (ask_of_read read one.from) (Some b)) (Some b)))
   by true e rest =
       let gone = others-absent key one.key more e distinct.0 in
-      subst (GoesOn (Some b) _) (sym (not-read now present read key more (life_asked now present (read_ask read one.from) (Some b)) gone)) (here one.from (not-asked key more gone))
+      subst (GoesOn (Some b) _) (sym (not-read now present read key more (life_after_ask now present (ask_of_read read one.from) (Some b)) gone)) (here one.from (not-asked key more gone))
   by false e rest = rest
 
 reads-life : (now : ℕ) (present : List Id) (read : ReadGroupCommand) (key : List ℕ) (life : Option GroupLife) → IsDistinct bytes_eq (keys_of read.reads)
-    → GoesOn life (cond (list_any (λ one. is_name key one.key && is_new one.from) read.reads) (delivered_in (ReadGroup read) present life) []) (life_read now present read key read.reads life)
+    → GoesOn life (cond (list_any (λ one. is_name key one.key && is_new one.from) read.reads) (delivered_in (ReadGroup read) present life) []) (life_after_reads now present read key read.reads life)
 reads-life now present read key None distinct = subst (GoesOn None _) (sym (no-life-read now present read key read.reads)) (by (list_any (λ one. is_name key one.key && is_new one.from) read.reads)) where
   by : (t : Bool) → cond {A = List Id} t [] [] ≡ []
   by true = refl
@@ -120,9 +120,9 @@ reads-life now present read key (Some b) distinct = reads-on now present read ke
 
 reads-go-on : (now : ℕ) (present : List Id) (read : ReadGroupCommand) (key : List ℕ) (life : Option GroupLife) (acting : Bool) → IsDistinct bytes_eq (keys_of read.reads)
     → GoesOn life (cond (list_any (λ one. is_name key one.key && is_new one.from) read.reads && acting) (delivered_in (ReadGroup read) present life) [])
-    (cond acting (life_read now present read key read.reads life) life)
+    (cond acting (life_after_reads now present read key read.reads life) life)
 reads-go-on now present read key life true distinct =
-    subst (λ b. GoesOn life (cond b (delivered_in (ReadGroup read) present life) []) (life_read now present read key read.reads life)) (sym (and-true (list_any (λ one. is_name key one.key && is_new one.from) read.reads)))
+    subst (λ b. GoesOn life (cond b (delivered_in (ReadGroup read) present life) []) (life_after_reads now present read key read.reads life)) (sym (and-true (list_any (λ one. is_name key one.key && is_new one.from) read.reads)))
     (reads-life now present read key life distinct)
   where
     and-true : (b : Bool) → (b && true) ≡ b
@@ -138,16 +138,16 @@ reads-go-on now present read key life false distinct =
 -- ---- an event
 
 -- an ask of one group, which delivers nothing
-quiet : (past : List (ℕ × Command)) (now : ℕ) (key group k g : List ℕ) (ask : Ask) → ((a : Id) → asked_new ask (present_in (key_life past key)) a ≡ [])
-    → GoesOn (group_life past key group) [] (cond (is_name key k && is_name group g) (life_asked now (present_in (key_life past key)) ask (group_life past key group)) (group_life past key group))
+quiet : (past : List (ℕ × Command)) (now : ℕ) (key group k g : List ℕ) (ask : Ask) → ((a : Id) → new_ids_of_ask ask (present_in (key_life past key)) a ≡ [])
+    → GoesOn (group_life past key group) [] (cond (is_name key k && is_name group g) (life_after_ask now (present_in (key_life past key)) ask (group_life past key group)) (group_life past key group))
 quiet past now key group k g ask none =
-    either (is_name key k && is_name group g) (group_life past key group) (life_asked now (present_in (key_life past key)) ask (group_life past key group)) (group_life past key group)
+    either (is_name key k && is_name group g) (group_life past key group) (life_after_ask now (present_in (key_life past key)) ask (group_life past key group)) (group_life past key group)
     (asks-none now (present_in (key_life past key)) ask (group_life past key group) none) (stays (group_life past key group))
 
 pub goes-on : (past : List (ℕ × Command)) (now : ℕ) (command : Command) (key group : List ℕ) → IsWellFormed command
-    → GoesOn (group_life past key group) (delivered_by past command key group) (group_life ((now, command) ∷ past) key group)
+    → GoesOn (group_life past key group) (ids_delivered_by past command key group) (group_life ((now, command) ∷ past) key group)
 goes-on past now (GroupCreate create) key group formed =
-    either (is_name key create.key && is_name group create.group) (group_life past key group) (option_or (group_life past key group) (life_opened create (key_life past key))) (group_life past key group)
+    either (is_name key create.key && is_name group create.group) (group_life past key group) (option_or (group_life past key group) (new_life create (key_life past key))) (group_life past key group)
     (creates create (key_life past key) (group_life past key group)) (stays (group_life past key group))
 goes-on past now (GroupDestroy k g) key group formed =
     either (is_name key k && is_name group g) (group_life past key group) None (group_life past key group) (ended (group_life past key group)) (stays (group_life past key group))
@@ -172,18 +172,18 @@ goes-on past now (Pending k g) key group formed = stays (group_life past key gro
 goes-on past now (PendingRows p) key group formed = stays (group_life past key group)
 
 -- without a life that is open nothing is delivered
-pub closed : (past : List (ℕ × Command)) (command : Command) (key group : List ℕ) → group_life past key group ≡ None → delivered_by past command key group ≡ []
+pub closed : (past : List (ℕ × Command)) (command : Command) (key group : List ℕ) → group_life past key group ≡ None → ids_delivered_by past command key group ≡ []
 closed past command key group e =
-    ap (λ life. cond (asks_new command key && (is_name group (group_of command) && acts past command)) (delivered_in command (present_in (key_life past key)) life) []) e
-    ∙ by (asks_new command key && (is_name group (group_of command) && acts past command))
+    ap (λ life. cond (reads_new_entries command key && (is_name group (group_of command) && has_all_groups past command)) (delivered_in command (present_in (key_life past key)) life) []) e
+    ∙ by (reads_new_entries command key && (is_name group (group_of command) && has_all_groups past command))
   where
     by : (t : Bool) → cond {A = List Id} t [] [] ≡ []
     by true = refl
     by false = refl
 
 -- nor by an event on another key or group
-pub elsewhere : (past : List (ℕ × Command)) (command : Command) (key group : List ℕ) → (is_name group (group_of command) ≡ false) ⊎ (asks_new command key ≡ false) → delivered_by past command key group ≡ []
-elsewhere past command key group (inl e) = rw e (by (asks_new command key)) where
+pub elsewhere : (past : List (ℕ × Command)) (command : Command) (key group : List ℕ) → (is_name group (group_of command) ≡ false) ⊎ (reads_new_entries command key ≡ false) → ids_delivered_by past command key group ≡ []
+elsewhere past command key group (inl e) = rw e (by (reads_new_entries command key)) where
   by : (t : Bool) → cond {A = List Id} (t && false) (delivered_in command (present_in (key_life past key)) (group_life past key group)) [] ≡ []
   by true = refl
   by false = refl

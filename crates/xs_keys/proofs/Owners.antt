@@ -8,8 +8,8 @@ use Rattle.xs_stream.proofs.Order.{is_same-eq}
 use Rattle.xs_group.specs.declared.claims.Claim.{Claim}
 use Rattle.xs_group.specs.Claims.{Rule, row_at, is_idle, is_removed, is_taken, claim_among, firsts, claim_of, from_start, is_hit, scanned, scan_of, claimed, claimed_row}
 use Rattle.xs_group.specs.State.{Row, is_name, delivers, first_row, shown, again, reread, unless_acked, unless_owned}
-use Rattle.xs_keys.specs.GroupEvent.{Ask, GroupEvent, read_new, read_own, ack, join, leave, claim, auto_claim, asked_new, asked_claim, consumer_of, keeps_pending, acks, drops_consumer, delivered, cursor, delivers_at, asked_row, rows_among, holding, rows, delivers_pending, takes, assigns, last_assigned, removes, settles, is_settled, owner}
-use Rattle.xs_keys.specs.Headline.{OwnerAfter, NoOwnerAfter, settled_in, OwnedUntilSettled, ChangesByClaims}
+use Rattle.xs_keys.specs.GroupEvent.{Ask, GroupEvent, read_new, read_own, ack, join, leave, claim, auto_claim, new_ids_of_ask, claim_of_ask, consumer_of, keeps_pending, is_acknowledgement_of, drops_consumer, delivered, cursor, new_ids_of_event, row_after_ask, rows_among, pending_row_at, rows, is_made_pending_by, takes, is_assigned_by, last_assigned, removes, settles, is_settled, owner}
+use Rattle.xs_keys.specs.Headline.{OwnerAfter, NoOwnerAfter, is_settled_in, OwnedUntilSettled, ChangesByClaims}
 use Rattle.xs_keys.proofs.IdLists.{has_id-append, has_id-where, not_above, not_among}
 use Rattle.xs_keys.proofs.GroupSteps.{up_to-delivered}
 use Rattle.xs_keys.proofs.Deliveries.{above-after}
@@ -56,7 +56,7 @@ or-right true b e = refl
 or-right false b e = e
 
 asked-held : (ask : Ask) (now : ℕ) (present : List Id) (a : Id) (es : List (Id × Row)) (x : Id) (r : Option Row)
-    → is_some (asked_row ask now present a es x r) ≡ true → (has_id (asked_new ask present a) x ≡ true) ⊎ (is_some r ≡ true)
+    → is_some (row_after_ask ask now present a es x r) ≡ true → (has_id (new_ids_of_ask ask present a) x ≡ true) ⊎ (is_some r ≡ true)
 asked-held (read_new consumer limit noack) now present a es x r e = by (has_id (delivers limit a present) x) e where
   by : (t : Bool) → is_some (cond t (cond noack None (Some (first_row consumer now))) r) ≡ true → (t ≡ true) ⊎ (is_some r ≡ true)
   by true e = inl refl
@@ -68,40 +68,40 @@ asked-held (leave consumer) now present a es x r e = inr (nothing (unless_owned 
 asked-held (claim consumer rule ids) now present a es x r e = inr (nothing (claimed consumer now rule (claim_of es present now rule ids) x) r e)
 asked-held (auto_claim consumer rule start limit) now present a es x r e = inr (nothing (claimed consumer now rule (scan_of es present now rule start limit).claim x) r e)
 
-pub held-delivered : (start : Id) (events : List GroupEvent) (x : Id) → is_some (holding start events x) ≡ true → has_id (delivered start events) x ≡ true
+pub held-delivered : (start : Id) (events : List GroupEvent) (x : Id) → is_some (pending_row_at start events x) ≡ true → has_id (delivered start events) x ≡ true
 held-delivered start [] x e = absurd (false≢true e)
 held-delivered start (event ∷ past) x e =
-    has_id-append (delivered start past) (delivers_at event (cursor start past)) x
-    ∙ by (asked-held event.ask event.now event.present (cursor start past) (rows start past) x (holding start past x) e) (held-delivered start past x)
+    has_id-append (delivered start past) (new_ids_of_event event (cursor start past)) x
+    ∙ by (asked-held event.ask event.now event.present (cursor start past) (rows start past) x (pending_row_at start past x) e) (held-delivered start past x)
   where
-    by : (has_id (delivers_at event (cursor start past)) x ≡ true) ⊎ (is_some (holding start past x) ≡ true) → (is_some (holding start past x) ≡ true → has_id (delivered start past) x ≡ true)
-        → (has_id (delivered start past) x || has_id (delivers_at event (cursor start past)) x) ≡ true
+    by : (has_id (new_ids_of_event event (cursor start past)) x ≡ true) ⊎ (is_some (pending_row_at start past x) ≡ true) → (is_some (pending_row_at start past x) ≡ true → has_id (delivered start past) x ≡ true)
+        → (has_id (delivered start past) x || has_id (new_ids_of_event event (cursor start past)) x) ≡ true
     by (inl new) before = or-right _ _ new
     by (inr held) before = or-left _ _ (before held)
 
 -- what was delivered isn't delivered again
-pub not-again : (start : Id) (past : List GroupEvent) (event : GroupEvent) (x : Id) → has_id (delivered start past) x ≡ true → has_id (delivers_at event (cursor start past)) x ≡ false
+pub not-again : (start : Id) (past : List GroupEvent) (event : GroupEvent) (x : Id) → has_id (delivered start past) x ≡ true → has_id (new_ids_of_event event (cursor start past)) x ≡ false
 not-again start past event x d = by (is_below (cursor start past) x) refl where
-  by : (t : Bool) → is_below (cursor start past) x ≡ t → has_id (delivers_at event (cursor start past)) x ≡ false
-  by false up = not_above (cursor start past) x (delivers_at event (cursor start past)) up (above-after start past event)
+  by : (t : Bool) → is_below (cursor start past) x ≡ t → has_id (new_ids_of_event event (cursor start past)) x ≡ false
+  by false up = not_above (cursor start past) x (new_ids_of_event event (cursor start past)) up (above-after start past event)
   by true up = absurd (false≢true (sym (not_among (cursor start past) (delivered start past) x up (up_to-delivered start past)) ∙ d))
 
 -- what is delivered now had no row
-pub not-held : (start : Id) (past : List GroupEvent) (event : GroupEvent) (x : Id) → has_id (delivers_at event (cursor start past)) x ≡ true → holding start past x ≡ None
-not-held start past event x e = by (holding start past x) refl where
-  by : (r : Option Row) → holding start past x ≡ r → r ≡ None
+pub not-held : (start : Id) (past : List GroupEvent) (event : GroupEvent) (x : Id) → has_id (new_ids_of_event event (cursor start past)) x ≡ true → pending_row_at start past x ≡ None
+not-held start past event x e = by (pending_row_at start past x) refl where
+  by : (r : Option Row) → pending_row_at start past x ≡ r → r ≡ None
   by None f = refl
   by (Some row) f = absurd (false≢true (sym (not-again start past event x (held-delivered start past x (ap is_some f))) ∙ e))
 
-unheld : (start : Id) (events : List GroupEvent) (x : Id) → has_id (delivered start events) x ≡ false → (r : Option Row) → holding start events x ≡ r → None ≡ r
+unheld : (start : Id) (events : List GroupEvent) (x : Id) → has_id (delivered start events) x ≡ false → (r : Option Row) → pending_row_at start events x ≡ r → None ≡ r
 unheld start events x e None f = refl
 unheld start events x e (Some row) f = absurd (false≢true (sym e ∙ held-delivered start events x (ap is_some f)))
 
-pub row-found : (start : Id) (events : List GroupEvent) (x : Id) → row_at (rows start events) x ≡ holding start events x
-row-found start events x = find-among (λ y. holding start events y) (delivered start events) x ∙ by (has_id (delivered start events) x) refl where
-  by : (t : Bool) → has_id (delivered start events) x ≡ t → cond t (holding start events x) None ≡ holding start events x
+pub row-found : (start : Id) (events : List GroupEvent) (x : Id) → row_at (rows start events) x ≡ pending_row_at start events x
+row-found start events x = find-among (λ y. pending_row_at start events y) (delivered start events) x ∙ by (has_id (delivered start events) x) refl where
+  by : (t : Bool) → has_id (delivered start events) x ≡ t → cond t (pending_row_at start events x) None ≡ pending_row_at start events x
   by true e = refl
-  by false e = unheld start events x e (holding start events x) refl
+  by false e = unheld start events x e (pending_row_at start events x) refl
 
 -- ---- what a claim takes and removes
 
@@ -149,7 +149,7 @@ over es present now rule ids x e =
     gone true b = refl
     gone false b = refl
 
-asked-over : (ask : Ask) (now : ℕ) (present : List Id) (es : List (Id × Row)) (x : Id) → IsOver es x (asked_claim ask now present es)
+asked-over : (ask : Ask) (now : ℕ) (present : List Id) (es : List (Id × Row)) (x : Id) → IsOver es x (claim_of_ask ask now present es)
 unfolding IsOver
 asked-over (read_new consumer limit noack) now present es x = λ e. absurd (false≢true e)
 asked-over (read_own consumer limit from) now present es x = λ e. absurd (false≢true e)
@@ -159,8 +159,8 @@ asked-over (leave consumer) now present es x = λ e. absurd (false≢true e)
 asked-over (claim consumer rule ids) now present es x = over es present now rule (firsts ids) x
 asked-over (auto_claim consumer rule start limit) now present es x = over es present now rule (scanned (is_hit es present now rule) limit (from_start start es)) x
 
-pub claimed-over : (ask : Ask) (now : ℕ) (present : List Id) (es : List (Id × Row)) (x : Id) → has_id (asked_claim ask now present es).take x ≡ true
-    → (is_some (row_at es x) ≡ true) × (has_id (asked_claim ask now present es).removed x ≡ false)
+pub claimed-over : (ask : Ask) (now : ℕ) (present : List Id) (es : List (Id × Row)) (x : Id) → has_id (claim_of_ask ask now present es).take x ≡ true
+    → (is_some (row_at es x) ≡ true) × (has_id (claim_of_ask ask now present es).removed x ≡ false)
 unfolding IsOver
 claimed-over ask now present es x e = asked-over ask now present es x e
 
@@ -178,8 +178,8 @@ owner-by false false settled asking last = refl
 
 -- what an event makes of the owner
 pub owner-step : (start : Id) (past : List GroupEvent) (event : GroupEvent) (x : Id)
-    → owner start (event ∷ past) x ≡ cond (assigns start past event x) (consumer_of event.ask) (cond (settles start past event x) None (owner start past x))
-owner-step start past event x = owner-by (assigns start past event x) (settles start past event x) (is_settled start past x) (consumer_of event.ask) (last_assigned start past x)
+    → owner start (event ∷ past) x ≡ cond (is_assigned_by start past event x) (consumer_of event.ask) (cond (settles start past event x) None (owner start past x))
+owner-step start past event x = owner-by (is_assigned_by start past event x) (settles start past event x) (is_settled start past x) (consumer_of event.ask) (last_assigned start past x)
 
 stays-settled : (s : Bool) → s ≡ false → (o : Option (List ℕ)) → cond s None o ≡ o
 stays-settled s e o = rw e refl
@@ -194,15 +194,15 @@ settles-none a b c p q r = rw (p, q, r) refl
 
 -- ---- the owner is that of the row
 
-module _ (start : Id) (past : List GroupEvent) (now : ℕ) (present : List Id) (x : Id) (ih : owner start past x ≡ of_row (holding start past x)) where
+module _ (start : Id) (past : List GroupEvent) (now : ℕ) (present : List Id) (x : Id) (ih : owner start past x ≡ of_row (pending_row_at start past x)) where
   t : Ask → GroupEvent
   t ask = record { now = now; present = present; ask = ask }
 
   Agrees : Ask → Type 0
-  Agrees ask = owner start (t ask ∷ past) x ≡ of_row (holding start (t ask ∷ past) x)
+  Agrees ask = owner start (t ask ∷ past) x ≡ of_row (pending_row_at start (t ask ∷ past) x)
 
   -- nothing is assigned or settled, and the row's consumer stays
-  quiet : (ask : Ask) → assigns start past (t ask) x ≡ false → settles start past (t ask) x ≡ false → of_row (holding start past x) ≡ of_row (holding start (t ask ∷ past) x) → Agrees ask
+  quiet : (ask : Ask) → is_assigned_by start past (t ask) x ≡ false → settles start past (t ask) x ≡ false → of_row (pending_row_at start past x) ≡ of_row (pending_row_at start (t ask ∷ past) x) → Agrees ask
   unfolding Agrees
   quiet ask a s same =
       owner-step start past (t ask) x ∙ (λ i. cond (a i) (consumer_of (t ask).ask) (cond (s i) None (owner start past x))) ∙ ih ∙ same
@@ -216,7 +216,7 @@ module _ (start : Id) (past : List GroupEvent) (now : ℕ) (present : List Id) (
       (settles-none false (removes (t (read_new consumer limit noack)) (last_assigned start past x)) false refl (removes-none (t (read_new consumer limit noack)) (λ _. refl) (last_assigned start past x)) refl)
     where
       by : (quietly d : Bool) → has_id (delivers limit (cursor start past) present) x ≡ d → (s : Bool) → s ≡ false
-          → cond ((not quietly && d) || false) (Some consumer) (cond s None (owner start past x)) ≡ of_row (cond d (cond quietly None (Some (first_row consumer now))) (holding start past x))
+          → cond ((not quietly && d) || false) (Some consumer) (cond s None (owner start past x)) ≡ of_row (cond d (cond quietly None (Some (first_row consumer now))) (pending_row_at start past x))
       by true true e s f = stays-settled s f (owner start past x) ∙ ih ∙ ap of_row (not-held start past (t (read_new consumer limit noack)) x e)
       by false true e s f = refl
       by true false e s f = stays-settled s f (owner start past x) ∙ ih
@@ -227,7 +227,7 @@ module _ (start : Id) (past : List GroupEvent) (now : ℕ) (present : List Id) (
   agree-own consumer limit from =
       quiet (read_own consumer limit from) refl
       (settles-none false (removes (t (read_own consumer limit from)) (last_assigned start past x)) false refl (removes-none (t (read_own consumer limit from)) (λ _. refl) (last_assigned start past x)) refl)
-      (by (holding start past x) (has_id (shown consumer limit from (rows start past)) x && has_id present x))
+      (by (pending_row_at start past x) (has_id (shown consumer limit from (rows start past)) x && has_id present x))
     where
       by : (r : Option Row) (b : Bool) → of_row r ≡ of_row (option_and_then (λ row. cond b (Some (again now row)) (Some row)) r)
       by None b = refl
@@ -245,7 +245,7 @@ module _ (start : Id) (past : List GroupEvent) (now : ℕ) (present : List Id) (
       owner-step start past (t (ack ids)) x
       ∙ ap (λ b. cond {A = Option (List ℕ)} b None (owner start past x)) (or-none (has_id ids x && is_some (last_assigned start past x)) (removes (t (ack ids)) (last_assigned start past x) || false) (settles-none false _ false refl (removes-none (t (ack ids)) (λ _. refl) (last_assigned start past x)) refl))
       ∙ once-assigned (has_id ids x) (last_assigned start past x) (is_settled start past x)
-      ∙ ap (cond (has_id ids x) None) ih ∙ by (holding start past x) (has_id ids x)
+      ∙ ap (cond (has_id ids x) None) ih ∙ by (pending_row_at start past x) (has_id ids x)
     where
       once-assigned : (a : Bool) (last : Option (List ℕ)) (settled : Bool) → cond (a && is_some last) None (cond settled None last) ≡ cond a None (cond settled None last)
       once-assigned true None true = refl
@@ -262,7 +262,7 @@ module _ (start : Id) (past : List GroupEvent) (now : ℕ) (present : List Id) (
   agree-leave : (consumer : List ℕ) → Agrees (leave consumer)
   unfolding Agrees t or_else
   agree-leave consumer =
-      owner-step start past (t (leave consumer)) x ∙ by (is_settled start past x) (last_assigned start past x) (holding start past x) ih
+      owner-step start past (t (leave consumer)) x ∙ by (is_settled start past x) (last_assigned start past x) (pending_row_at start past x) ih
     where
       by : (settled : Bool) (last : Option (List ℕ)) (r : Option Row) → cond settled None last ≡ of_row r
           → cond (removes (t (leave consumer)) last || false) None (cond settled None last) ≡ of_row (option_and_then (unless_owned consumer x) r)
@@ -286,10 +286,10 @@ module _ (start : Id) (past : List GroupEvent) (now : ℕ) (present : List Id) (
 
   -- a claim
   agree-claims : (consumer : List ℕ) (rule : Rule) (c : Claim) → IsOver (rows start past) x c → (s : Bool) → s ≡ has_id c.removed x
-      → cond (has_id c.take x) (Some consumer) (cond s None (owner start past x)) ≡ of_row (option_and_then (claimed consumer now rule c x) (holding start past x))
+      → cond (has_id c.take x) (Some consumer) (cond s None (owner start past x)) ≡ of_row (option_and_then (claimed consumer now rule c x) (pending_row_at start past x))
   unfolding IsOver
   agree-claims consumer rule c over_rows s e = ap (λ b. cond (has_id c.take x) (Some consumer) (cond b None (owner start past x))) e ∙ ap (λ o. cond (has_id c.take x) (Some consumer) (cond (has_id c.removed x) None o)) ih
-      ∙ by (holding start past x) (has_id c.removed x) (has_id c.take x) (λ f. let is = over_rows f in (ap is_some (sym (row-found start past x)) ∙ is.0, is.1))
+      ∙ by (pending_row_at start past x) (has_id c.removed x) (has_id c.take x) (λ f. let is = over_rows f in (ap is_some (sym (row-found start past x)) ∙ is.0, is.1))
     where
       by : (r : Option Row) (gone taken : Bool) → (taken ≡ true → (is_some r ≡ true) × (gone ≡ false))
           → cond taken (Some consumer) (cond gone None (of_row r)) ≡ of_row (option_and_then (λ row. cond gone None (cond taken (Some (claimed_row consumer now rule row)) (Some row))) r)
@@ -315,8 +315,8 @@ module _ (start : Id) (past : List GroupEvent) (now : ℕ) (present : List Id) (
       ∙ agree-claims consumer rule (scan_of (rows start past) present now rule from limit).claim (asked-over (auto_claim consumer rule from limit) now present (rows start past) x)
       (settles start past (t (auto_claim consumer rule from limit)) x) (none-or (removes (t (auto_claim consumer rule from limit)) (last_assigned start past x)) _ (removes-none (t (auto_claim consumer rule from limit)) (λ _. refl) (last_assigned start past x)))
 
-agree-asked : (start : Id) (past : List GroupEvent) (now : ℕ) (present : List Id) (ask : Ask) (x : Id) → owner start past x ≡ of_row (holding start past x)
-    → owner start (record { now = now; present = present; ask = ask } ∷ past) x ≡ of_row (holding start (record { now = now; present = present; ask = ask } ∷ past) x)
+agree-asked : (start : Id) (past : List GroupEvent) (now : ℕ) (present : List Id) (ask : Ask) (x : Id) → owner start past x ≡ of_row (pending_row_at start past x)
+    → owner start (record { now = now; present = present; ask = ask } ∷ past) x ≡ of_row (pending_row_at start (record { now = now; present = present; ask = ask } ∷ past) x)
 unfolding Agrees t
 agree-asked start past now present (read_new consumer limit noack) x ih = agree-new start past now present x ih consumer limit noack
 agree-asked start past now present (read_own consumer limit from) x ih = agree-own start past now present x ih consumer limit from
@@ -327,15 +327,15 @@ agree-asked start past now present (claim consumer rule ids) x ih = agree-claim 
 agree-asked start past now present (auto_claim consumer rule from limit) x ih = agree-auto_claim start past now present x ih consumer rule from limit
 
 -- the owner by looking back is that of the row
-pub owner-row : (start : Id) (events : List GroupEvent) (x : Id) → owner start events x ≡ of_row (holding start events x)
+pub owner-row : (start : Id) (events : List GroupEvent) (x : Id) → owner start events x ≡ of_row (pending_row_at start events x)
 owner-row start [] x = refl
 owner-row start (event ∷ past) x = agree-asked start past event.now event.present event.ask x (owner-row start past x)
 
 -- ---- the owner changes only by a claim
 
 -- a claim that takes an id settles nothing
-pub taken-unsettled : (ask : Ask) (now : ℕ) (present : List Id) (es : List (Id × Row)) (x : Id) (last : Option (List ℕ)) → has_id (asked_claim ask now present es).take x ≡ true
-    → ((acks ask x && is_some last) || (removes (record { now = now; present = present; ask = ask }) last || has_id (asked_claim ask now present es).removed x)) ≡ false
+pub taken-unsettled : (ask : Ask) (now : ℕ) (present : List Id) (es : List (Id × Row)) (x : Id) (last : Option (List ℕ)) → has_id (claim_of_ask ask now present es).take x ≡ true
+    → ((is_acknowledgement_of ask x && is_some last) || (removes (record { now = now; present = present; ask = ask }) last || has_id (claim_of_ask ask now present es).removed x)) ≡ false
 taken-unsettled (read_new consumer limit noack) now present es x last e = absurd (false≢true e)
 taken-unsettled (read_own consumer limit from) now present es x last e = absurd (false≢true e)
 taken-unsettled (ack ids) now present es x last e = absurd (false≢true e)
@@ -349,7 +349,7 @@ taken-unsettled (auto_claim consumer rule from limit) now present es x last e =
 -- what is taken has an owner
 pub taken-owned : (start : Id) (past : List GroupEvent) (event : GroupEvent) (x : Id) → takes start past event x ≡ true → is_some (owner start past x) ≡ true
 taken-owned start past event x e =
-    ap is_some (owner-row start past x) ∙ some-row (holding start past x)
+    ap is_some (owner-row start past x) ∙ some-row (pending_row_at start past x)
     ∙ ap is_some (sym (row-found start past x)) ∙ (claimed-over event.ask event.now event.present (rows start past) x e).0
   where
     some-row : (r : Option Row) → is_some (of_row r) ≡ is_some r
@@ -358,13 +358,13 @@ taken-owned start past event x e =
 
 -- what has an owner was delivered
 pub owned-delivered : (start : Id) (past : List GroupEvent) (x : Id) → is_some (owner start past x) ≡ true → has_id (delivered start past) x ≡ true
-owned-delivered start past x e = held-delivered start past x (some-row (holding start past x) (ap is_some (sym (owner-row start past x)) ∙ e)) where
+owned-delivered start past x e = held-delivered start past x (some-row (pending_row_at start past x) (ap is_some (sym (owner-row start past x)) ∙ e)) where
   some-row : (r : Option Row) → is_some (of_row r) ≡ true → is_some r ≡ true
   some-row None f = f
   some-row (Some row) f = refl
 
 -- what was delivered is assigned by claims alone
-pub assigned-again : (start : Id) (past : List GroupEvent) (event : GroupEvent) (x : Id) → has_id (delivered start past) x ≡ true → assigns start past event x ≡ takes start past event x
+pub assigned-again : (start : Id) (past : List GroupEvent) (event : GroupEvent) (x : Id) → has_id (delivered start past) x ≡ true → is_assigned_by start past event x ≡ takes start past event x
 assigned-again start past event x d = ap (λ b. (keeps_pending event.ask && b) || takes start past event x) (not-again start past event x d) ∙ by (keeps_pending event.ask) where
   by : (k : Bool) → ((k && false) || takes start past event x) ≡ takes start past event x
   by true = refl
@@ -381,12 +381,12 @@ owner-after start past event x name e = by (takes start past event x) refl (sett
   by false t false s = inl (step ∙ (λ i. cond (t i) (consumer_of event.ask) (cond (s i) None (owner start past x))) ∙ e)
 
 pub no-owner-after : (start : Id) (past : List GroupEvent) (event : GroupEvent) (x : Id) → owner start past x ≡ None → NoOwnerAfter start past event x
-no-owner-after start past event x e = by (delivers_pending start past event x) refl (takes start past event x) refl where
+no-owner-after start past event x e = by (is_made_pending_by start past event x) refl (takes start past event x) refl where
   none : (s : Bool) → cond s None (owner start past x) ≡ None
   none true = refl
   none false = e
 
-  by : (new : Bool) → delivers_pending start past event x ≡ new → (taken : Bool) → takes start past event x ≡ taken → NoOwnerAfter start past event x
+  by : (new : Bool) → is_made_pending_by start past event x ≡ new → (taken : Bool) → takes start past event x ≡ taken → NoOwnerAfter start past event x
   by true d taken t = inr (d, owner-step start past event x ∙ ap (λ b. cond (b || takes start past event x) (consumer_of event.ask) (cond (settles start past event x) None (owner start past x))) d)
   by false d true t = absurd (false≢true (sym (ap is_some e) ∙ taken-owned start past event x t))
   by false d false t =
@@ -403,7 +403,7 @@ pending-named (leave consumer) e = refl
 pending-named (claim consumer rule ids) e = refl
 pending-named (auto_claim consumer rule from limit) e = refl
 
-pub claim-named : (ask : Ask) (now : ℕ) (present : List Id) (es : List (Id × Row)) (x : Id) → has_id (asked_claim ask now present es).take x ≡ true → is_some (consumer_of ask) ≡ true
+pub claim-named : (ask : Ask) (now : ℕ) (present : List Id) (es : List (Id × Row)) (x : Id) → has_id (claim_of_ask ask now present es).take x ≡ true → is_some (consumer_of ask) ≡ true
 claim-named (read_new consumer limit noack) now present es x e = refl
 claim-named (read_own consumer limit from) now present es x e = refl
 claim-named (ack ids) now present es x e = absurd (false≢true e)
@@ -416,14 +416,14 @@ claim-named (auto_claim consumer rule from limit) now present es x e = refl
 still-delivered : (start : Id) (later : List GroupEvent) (before : List GroupEvent) (x : Id) → has_id (delivered start before) x ≡ true → has_id (delivered start (later ++ before)) x ≡ true
 still-delivered start [] before x d = d
 still-delivered start (u ∷ later) before x d =
-    has_id-append (delivered start (later ++ before)) (delivers_at u (cursor start (later ++ before))) x ∙ or-left _ _ (still-delivered start later before x d)
+    has_id-append (delivered start (later ++ before)) (new_ids_of_event u (cursor start (later ++ before))) x ∙ or-left _ _ (still-delivered start later before x d)
 
-delivered-now : (start : Id) (past : List GroupEvent) (event : GroupEvent) (x : Id) → delivers_pending start past event x ≡ true → has_id (delivered start (event ∷ past)) x ≡ true
+delivered-now : (start : Id) (past : List GroupEvent) (event : GroupEvent) (x : Id) → is_made_pending_by start past event x ≡ true → has_id (delivered start (event ∷ past)) x ≡ true
 delivered-now start past event x e =
-    has_id-append (delivered start past) (delivers_at event (cursor start past)) x ∙ or-right _ _ (and-second (keeps_pending event.ask) _ e)
+    has_id-append (delivered start past) (new_ids_of_event event (cursor start past)) x ∙ or-right _ _ (and-second (keeps_pending event.ask) _ e)
 
-pub until-settled : (start : Id) (later : List GroupEvent) (event : GroupEvent) (earlier : List GroupEvent) (x : Id) → delivers_pending start earlier event x ≡ true
-    → is_some (owner start (later ++ event ∷ earlier) x) ≡ not (settled_in start later (event ∷ earlier) x)
+pub until-settled : (start : Id) (later : List GroupEvent) (event : GroupEvent) (earlier : List GroupEvent) (x : Id) → is_made_pending_by start earlier event x ≡ true
+    → is_some (owner start (later ++ event ∷ earlier) x) ≡ not (is_settled_in start later (event ∷ earlier) x)
 until-settled start [] event earlier x e =
     ap is_some (owner-step start earlier event x ∙ ap (λ b. cond (b || takes start earlier event x) (consumer_of event.ask) (cond (settles start earlier event x) None (owner start earlier x))) e)
     ∙ pending-named event.ask (and-first (keeps_pending event.ask) _ e)
@@ -443,23 +443,23 @@ until-settled start (u ∷ later) event earlier x e = by (takes start past u x) 
   unsettled true h = h
   unsettled false h = refl
 
-  by : (taken : Bool) → takes start past u x ≡ taken → is_some (owner start past x) ≡ not (settled_in start later (event ∷ earlier) x)
-      → is_some (owner start (u ∷ past) x) ≡ not (settles start past u x || settled_in start later (event ∷ earlier) x)
+  by : (taken : Bool) → takes start past u x ≡ taken → is_some (owner start past x) ≡ not (is_settled_in start later (event ∷ earlier) x)
+      → is_some (owner start (u ∷ past) x) ≡ not (settles start past u x || is_settled_in start later (event ∷ earlier) x)
   by true t ih =
       let free = taken-unsettled u.ask u.now u.present (rows start past) x (last_assigned start past x) t in
-      let none = unsettled (settled_in start later (event ∷ earlier) x) (sym (taken-owned start past u x t) ∙ ih) in
+      let none = unsettled (is_settled_in start later (event ∷ earlier) x) (sym (taken-owned start past u x t) ∙ ih) in
       ap is_some (step ∙ ap (λ b. cond b (consumer_of u.ask) (cond (settles start past u x) None (owner start past x))) t)
       ∙ claim-named u.ask u.now u.present (rows start past) x t ∙ sym (λ i. not (free i || none i))
   by false t ih =
       ap is_some (step ∙ ap (λ b. cond b (consumer_of u.ask) (cond (settles start past u x) None (owner start past x))) t)
-      ∙ kept_or_not (settles start past u x) (owner start past x) (settled_in start later (event ∷ earlier) x) ih
+      ∙ kept_or_not (settles start past u x) (owner start past x) (is_settled_in start later (event ∷ earlier) x) ih
 
 pub owned-until-settled : (start : Id) (events : List GroupEvent) → OwnedUntilSettled start events
 owned-until-settled start events = λ later event earlier x e d.
     ap (λ ts. is_some (owner start ts x)) e ∙ until-settled start later event earlier x d
 
 -- what is delivered or taken belongs to the consumer who asked
-assigned-owner : (start : Id) (past : List GroupEvent) (event : GroupEvent) (x : Id) → assigns start past event x ≡ true → owner start (event ∷ past) x ≡ consumer_of event.ask
+assigned-owner : (start : Id) (past : List GroupEvent) (event : GroupEvent) (x : Id) → is_assigned_by start past event x ≡ true → owner start (event ∷ past) x ≡ consumer_of event.ask
 assigned-owner start past event x h = λ i. cond (cond (h i) false (settles start past event x || is_settled start past x)) None (cond (h i) (consumer_of event.ask) (last_assigned start past x))
 
 pub changes-by-claims : (start : Id) (events : List GroupEvent) → ChangesByClaims start events

@@ -17,7 +17,7 @@ use Rattle.xs_command.specs.declared.command.ReadFrom.{ReadFrom}
 use Rattle.xs_command.specs.declared.command.ReadFrom.TheVariants.{New, After}
 use Rattle.xs_keys.specs.declared.xreadgroup.Served.{Served}
 use Rattle.xs_keys.specs.GroupEvent.{Ask}
-use Rattle.xs_keys.specs.GroupLife.{read_ask}
+use Rattle.xs_keys.specs.GroupLife.{ask_of_read}
 use Rattle.xs_keys.specs.Content.{Content, Key, asked, read_each, group_after, with_group, group_in, entries_in}
 use Rattle.xs_resp.specs.declared.reply.Reply.{Reply}
 use Rattle.xs_resp.specs.Token.{Token}
@@ -60,10 +60,10 @@ asked-at content now name group_name ask key was had has = rw (had, has) refl
 -- ---- one read
 
 module _ (now : ℕ) (read : ReadGroupCommand) (one : ReadOne) (before after : Content) (tokens longer : List Token) (served : Served) where
-  pub served-content : IsServedAt now read one before after tokens longer served → after ≡ asked before now one.key read.group (read_ask read one.from)
+  pub served-content : IsServedAt now read one before after tokens longer served → after ≡ asked before now one.key read.group (ask_of_read read one.from)
   served-content s =
       s.put ∙ ap (λ (groups : NameMap State). insert before one.key (record { stream = s.key.stream; groups = groups })) (s.serves.put ∙ ap (λ (g : State). insert s.key.groups read.group g) s.serves.serves.left)
-      ∙ sym (asked-at before now one.key read.group (read_ask read one.from) s.key s.serves.was s.had s.serves.had)
+      ∙ sym (asked-at before now one.key read.group (ask_of_read read one.from) s.key s.serves.was s.had s.serves.had)
 
   pub served-shown : IsServedAt now read one before after tokens longer served
       → IsShown (option_map_or (shown_by read one.key one.from (entries_in (get before one.key))) (group_in (get before one.key) read.group) []) served.parts tokens longer
@@ -231,7 +231,7 @@ pub parts-le : (content : Content) (now : ℕ) (read : ReadGroupCommand) (reads 
 parts-le content now read [] = omega arith
 parts-le content now read (one ∷ more) =
     let this = option_map_or (shown_by read one.key one.from (entries_in (get content one.key))) (group_in (get content one.key) read.group) [] in
-    let after = asked content now one.key read.group (read_ask read one.from) in
+    let after = asked content now one.key read.group (ask_of_read read one.from) in
     omega (arith, one-part read one.key one.from (entries_in (get content one.key)) (group_in (get content one.key) read.group), parts-le after now read more, length-append this (parts after now read more))
 
 -- what is served is never an error

@@ -15,9 +15,9 @@ use Rattle.xs_command.specs.declared.command.Command.TheVariants.{Ping, Quit, Ad
 use Rattle.xs_command.specs.declared.command.GroupCreateCommand.{GroupCreateCommand}
 use Rattle.xs_command.specs.declared.command.ReadGroupCommand.{ReadGroupCommand}
 use Rattle.xs_command.specs.declared.command.ReadOne.{ReadOne}
-use Rattle.xs_keys.specs.Life.{Change, added, deleted, trimmed_to, is_listed, opened, key_lived, key_life, greatest, gives, given_in, top, stands, live}
-use Rattle.xs_keys.specs.GroupEvent.{Ask, GroupEvent, read_new, read_own, join, leave, ack, claim, auto_claim, asked_new, delivers_at, delivered, cursor}
-use Rattle.xs_keys.specs.GroupLife.{GroupLife, present_in, life_opened, life_asked, read_ask, life_read, group_lived, reads_of, group_of, group_life}
+use Rattle.xs_keys.specs.Life.{Change, added, deleted, trimmed_to, is_listed, opened, key_life_after, key_life, greatest, gives, given_in, top, stands, live}
+use Rattle.xs_keys.specs.GroupEvent.{Ask, GroupEvent, read_new, read_own, join, leave, ack, claim, auto_claim, new_ids_of_ask, new_ids_of_event, delivered, cursor}
+use Rattle.xs_keys.specs.GroupLife.{GroupLife, present_in, new_life, life_after_ask, ask_of_read, life_after_reads, group_life_after, reads_of, group_of, group_life}
 use Rattle.xs_keys.proofs.IdLists.{has_id-append, has_id-where, not_above, not_among}
 use Rattle.xs_keys.proofs.Streams.{greatest-append, greatest-up, up_to-top, gives-not_new}
 use Rattle.xs_keys.proofs.Deliveries.{PresentAscends, had-event}
@@ -162,28 +162,28 @@ sees-opened make stream None h = tt
 sees-opened make None (Some life) h = absurd h
 sees-opened make (Some changes) (Some life) h = h
 
-sees-asked : (now : ℕ) (ask : Ask) (stream : Option (List Change)) (life : Option GroupLife) → SeesItsKey stream life → SeesItsKey stream (life_asked now (present_in stream) ask life)
+sees-asked : (now : ℕ) (ask : Ask) (stream : Option (List Change)) (life : Option GroupLife) → SeesItsKey stream life → SeesItsKey stream (life_after_ask now (present_in stream) ask life)
 sees-asked now ask stream None h = tt
 sees-asked now ask None (Some life) h = h
 sees-asked now ask (Some changes) (Some life) h = ([], changes, refl, refl, h)
 
 sees-read : (now : ℕ) (read : ReadGroupCommand) (key : List ℕ) (reads : List ReadOne) (stream : Option (List Change)) (life : Option GroupLife) → SeesItsKey stream life
-    → SeesItsKey stream (life_read now (present_in stream) read key reads life)
+    → SeesItsKey stream (life_after_reads now (present_in stream) read key reads life)
 sees-read now read key [] stream life h = h
 sees-read now read key (one ∷ more) stream life h =
-    sees-read now read key more stream (cond (is_name key one.key) (life_asked now (present_in stream) (read_ask read one.from) life) life) (by (is_name key one.key))
+    sees-read now read key more stream (cond (is_name key one.key) (life_after_ask now (present_in stream) (ask_of_read read one.from) life) life) (by (is_name key one.key))
   where
-    by : (t : Bool) → SeesItsKey stream (cond t (life_asked now (present_in stream) (read_ask read one.from) life) life)
-    by true = sees-asked now (read_ask read one.from) stream life h
+    by : (t : Bool) → SeesItsKey stream (cond t (life_after_ask now (present_in stream) (ask_of_read read one.from) life) life)
+    by true = sees-asked now (ask_of_read read one.from) stream life h
     by false = h
 
-sees-begun : (make : Bool) (create : GroupCreateCommand) → create.make ≡ make → (stream : Option (List Change)) → SeesItsKey (opened create.make stream) (life_opened create stream)
+sees-begun : (make : Bool) (create : GroupCreateCommand) → create.make ≡ make → (stream : Option (List Change)) → SeesItsKey (opened create.make stream) (new_life create stream)
 sees-begun make create m (Some changes) = tt
 sees-begun true create m None = rw m tt
 sees-begun false create m None = rw m tt
 
 sees-created : (create : GroupCreateCommand) (stream : Option (List Change)) (life : Option GroupLife) → SeesItsKey stream life
-    → SeesItsKey (opened create.make stream) (option_or life (life_opened create stream))
+    → SeesItsKey (opened create.make stream) (option_or life (new_life create stream))
 sees-created create stream None h = sees-begun create.make create refl stream
 sees-created create None (Some life) h = absurd h
 sees-created create (Some changes) (Some life) h = h
@@ -204,7 +204,7 @@ sees-key true new old life h k = h
 sees-key false new old life h k = k
 
 sees-lived : (now : ℕ) (command : Command) (key group : List ℕ) (served : Bool) (stream : Option (List Change)) (life : Option GroupLife) → SeesItsKey stream life
-    → SeesItsKey (key_lived now command key stream) (group_lived now command key group served stream life)
+    → SeesItsKey (key_life_after now command key stream) (group_life_after now command key group served stream life)
 sees-lived now (Ping message) key group served stream life h = h
 sees-lived now Quit key group served stream life h = h
 sees-lived now (Add add) key group served stream life h =
@@ -217,24 +217,24 @@ sees-lived now (TrimTo name trim) key group served stream life h =
 sees-lived now (Len name) key group served stream life h = h
 sees-lived now (Scan scan) key group served stream life h = h
 sees-lived now (GroupCreate create) key group served stream life h =
-    sees-either (is_name key create.key) (is_name group create.group) (opened create.make stream) stream (option_or life (life_opened create stream)) life
+    sees-either (is_name key create.key) (is_name group create.group) (opened create.make stream) stream (option_or life (new_life create stream)) life
     (sees-created create stream life h) (sees-opened create.make stream life h) h
 sees-lived now (GroupDestroy k g) key group served stream life h = sees-group (is_name key k && is_name group g) stream None life tt h
 sees-lived now (ConsumerCreate k g consumer) key group served stream life h =
-    sees-group (is_name key k && is_name group g) stream (life_asked now (present_in stream) (join consumer) life) life (sees-asked now (join consumer) stream life h) h
+    sees-group (is_name key k && is_name group g) stream (life_after_ask now (present_in stream) (join consumer) life) life (sees-asked now (join consumer) stream life h) h
 sees-lived now (ConsumerDelete k g consumer) key group served stream life h =
-    sees-group (is_name key k && is_name group g) stream (life_asked now (present_in stream) (leave consumer) life) life (sees-asked now (leave consumer) stream life h) h
+    sees-group (is_name key k && is_name group g) stream (life_after_ask now (present_in stream) (leave consumer) life) life (sees-asked now (leave consumer) stream life h) h
 sees-lived now (ReadGroup read) key group served stream life h =
-    sees-group (is_name group read.group && served) stream (life_read now (present_in stream) read key read.reads life) life (sees-read now read key read.reads stream life h) h
+    sees-group (is_name group read.group && served) stream (life_after_reads now (present_in stream) read key read.reads life) life (sees-read now read key read.reads stream life h) h
 sees-lived now (Ack k g ids) key group served stream life h =
-    sees-group (is_name key k && is_name group g) stream (life_asked now (present_in stream) (ack ids) life) life (sees-asked now (ack ids) stream life h) h
+    sees-group (is_name key k && is_name group g) stream (life_after_ask now (present_in stream) (ack ids) life) life (sees-asked now (ack ids) stream life h) h
 sees-lived now (Pending k g) key group served stream life h = h
 sees-lived now (PendingRows p) key group served stream life h = h
 sees-lived now (Claim c) key group served stream life h =
-    sees-group (is_name key c.key && is_name group c.group) stream (life_asked now (present_in stream) (claim c.consumer c.rule c.ids) life) life
+    sees-group (is_name key c.key && is_name group c.group) stream (life_after_ask now (present_in stream) (claim c.consumer c.rule c.ids) life) life
     (sees-asked now (claim c.consumer c.rule c.ids) stream life h) h
 sees-lived now (AutoClaim c) key group served stream life h =
-    sees-group (is_name key c.key && is_name group c.group) stream (life_asked now (present_in stream) (auto_claim c.consumer c.rule c.start c.limit) life) life
+    sees-group (is_name key c.key && is_name group c.group) stream (life_after_ask now (present_in stream) (auto_claim c.consumer c.rule c.start c.limit) life) life
     (sees-asked now (auto_claim c.consumer c.rule c.start c.limit) stream life h) h
 sees-lived now (DropKeys keys) key group served stream life h = by (is_listed keys key) where
   by : (t : Bool) → SeesItsKey (cond t None stream) (cond t None life)
@@ -263,7 +263,7 @@ limited-has (Some n) xs x e = by n xs e where
     or_both true f g = refl
     or_both false f g = g f
 
-pub asked-present : (ask : Ask) (present : List Id) (a x : Id) → has_id (asked_new ask present a) x ≡ true → has_id present x ≡ true
+pub asked-present : (ask : Ask) (present : List Id) (a x : Id) → has_id (new_ids_of_ask ask present a) x ≡ true → has_id present x ≡ true
 asked-present (read_new consumer limit noack) present a x e =
     second_of (is_below a x) (has_id present x) (sym (has_id-where (λ y. is_below a y) present x) ∙ limited-has limit (filter (λ y. is_below a y) present) x e)
 asked-present (read_own consumer limit from) present a x e = absurd (false≢true e)
@@ -277,9 +277,9 @@ pub delivered-given : (start : Id) (changes : List Change) (events : List GroupE
 delivered-given start changes [] x h e = absurd (false≢true e)
 delivered-given start changes (event ∷ past) x h e =
     ap (λ cs. has_id (ids_of (given_in cs)) x) h.2
-    ∙ given-still h.0 h.1 x (by (has_id (delivered start past) x) refl (sym (has_id-append (delivered start past) (delivers_at event (cursor start past)) x) ∙ e) (delivered-given start h.1 past x h.4))
+    ∙ given-still h.0 h.1 x (by (has_id (delivered start past) x) refl (sym (has_id-append (delivered start past) (new_ids_of_event event (cursor start past)) x) ∙ e) (delivered-given start h.1 past x h.4))
   where
-    by : (t : Bool) → has_id (delivered start past) x ≡ t → (t || has_id (delivers_at event (cursor start past)) x) ≡ true
+    by : (t : Bool) → has_id (delivered start past) x ≡ t → (t || has_id (new_ids_of_event event (cursor start past)) x) ≡ true
         → (has_id (delivered start past) x ≡ true → has_id (ids_of (given_in h.1)) x ≡ true) → has_id (ids_of (given_in h.1)) x ≡ true
     by true d f before = before d
     by false d f before =

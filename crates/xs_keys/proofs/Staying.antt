@@ -12,9 +12,9 @@ use Rattle.xs_command.specs.declared.command.Command.{Command}
 use Rattle.xs_command.specs.declared.command.Command.TheVariants.{Ping, Quit, Add, Delete, TrimTo, Len, Scan, GroupCreate, GroupDestroy, ConsumerCreate, ConsumerDelete, ReadGroup, Ack, Pending, PendingRows, Claim, AutoClaim, DropKeys}
 use Rattle.xs_command.specs.declared.command.ReadGroupCommand.{ReadGroupCommand}
 use Rattle.xs_command.specs.declared.command.ReadOne.{ReadOne}
-use Rattle.xs_keys.specs.Life.{Change, added, deleted, trimmed_to, is_listed, opened, key_lived, key_life, gives, given_in, top, drops, stands, live}
+use Rattle.xs_keys.specs.Life.{Change, added, deleted, trimmed_to, is_listed, opened, key_life_after, key_life, gives, given_in, top, drops, stands, live}
 use Rattle.xs_keys.specs.GroupEvent.{Ask, join, leave, ack, claim, auto_claim}
-use Rattle.xs_keys.specs.GroupLife.{GroupLife, present_in, starting_id, life_opened, life_asked, read_ask, life_read, group_lived, reads_of, group_of, group_life}
+use Rattle.xs_keys.specs.GroupLife.{GroupLife, present_in, starting_id, new_life, life_after_ask, ask_of_read, life_after_reads, group_life_after, reads_of, group_of, group_life}
 use Rattle.xs_keys.specs.Job.{ends_group}
 use Rattle.xs_keys.specs.Presence.{removes_entry, has_to_remove, Stays, EntriesStay, has_to_create, GroupsStay}
 use Rattle.xs_keys.proofs.Sights.{first_of, second_of, both_of, or_first, live-given, live-before, given-up_to}
@@ -79,7 +79,7 @@ adds command key x change true None true does idle = record {
 }
 
 stays : (now : ℕ) (command : Command) (key : List ℕ) (stream : Option (List Change)) (x : Id)
-    → Stays command key (present_in stream) (present_in (key_lived now command key stream)) (ids_of (option_map_or given_in stream [])) x
+    → Stays command key (present_in stream) (present_in (key_life_after now command key stream)) (ids_of (option_map_or given_in stream [])) x
 stays now (Ping message) key stream x = same (Ping message) key (present_in stream) (ids_of (option_map_or given_in stream [])) x refl
 stays now Quit key stream x = same Quit key (present_in stream) (ids_of (option_map_or given_in stream [])) x refl
 stays now (Add add) key stream x =
@@ -131,19 +131,19 @@ entries-stay earlier e = λ key x. stays e.0 e.1 key (key_life earlier key) x
 
 -- ---- groups
 
-asked-open : (now : ℕ) (present : List Id) (ask : Ask) (t : Bool) (life : GroupLife) → is_some (cond t (life_asked now present ask (Some life)) (Some life)) ≡ true
+asked-open : (now : ℕ) (present : List Id) (ask : Ask) (t : Bool) (life : GroupLife) → is_some (cond t (life_after_ask now present ask (Some life)) (Some life)) ≡ true
 asked-open now present ask true life = refl
 asked-open now present ask false life = refl
 
-read-open : (now : ℕ) (present : List Id) (read : ReadGroupCommand) (key : List ℕ) (reads : List ReadOne) (life : Option GroupLife) → is_some life ≡ true → is_some (life_read now present read key reads life) ≡ true
+read-open : (now : ℕ) (present : List Id) (read : ReadGroupCommand) (key : List ℕ) (reads : List ReadOne) (life : Option GroupLife) → is_some life ≡ true → is_some (life_after_reads now present read key reads life) ≡ true
 read-open now present read key [] life is = is
 read-open now present read key (one ∷ more) None is = absurd (false≢true is)
 read-open now present read key (one ∷ more) (Some life) is =
-    read-open now present read key more (cond (is_name key one.key) (life_asked now present (read_ask read one.from) (Some life)) (Some life))
-    (asked-open now present (read_ask read one.from) (is_name key one.key) life)
+    read-open now present read key more (cond (is_name key one.key) (life_after_ask now present (ask_of_read read one.from) (Some life)) (Some life))
+    (asked-open now present (ask_of_read read one.from) (is_name key one.key) life)
 
 stays-open : (now : ℕ) (command : Command) (key group : List ℕ) (served : Bool) (stream : Option (List Change)) (life : GroupLife)
-    → is_some (group_lived now command key group served stream (Some life)) ≡ not (ends_group command key group)
+    → is_some (group_life_after now command key group served stream (Some life)) ≡ not (ends_group command key group)
 stays-open now (Ping message) key group served stream life = refl
 stays-open now Quit key group served stream life = refl
 stays-open now (Add add) key group served stream life = refl
@@ -152,7 +152,7 @@ stays-open now (TrimTo name trim) key group served stream life = refl
 stays-open now (Len name) key group served stream life = refl
 stays-open now (Scan scan) key group served stream life = refl
 stays-open now (GroupCreate create) key group served stream life = by (is_name key create.key && is_name group create.group) where
-  by : (t : Bool) → is_some (cond t (option_or (Some life) (life_opened create stream)) (Some life)) ≡ true
+  by : (t : Bool) → is_some (cond t (option_or (Some life) (new_life create stream)) (Some life)) ≡ true
   by true = refl
   by false = refl
 stays-open now (GroupDestroy name g) key group served stream life = by (is_name key name && is_name group g) where
@@ -162,7 +162,7 @@ stays-open now (GroupDestroy name g) key group served stream life = by (is_name 
 stays-open now (ConsumerCreate name g consumer) key group served stream life = asked-open now (present_in stream) (join consumer) (is_name key name && is_name group g) life
 stays-open now (ConsumerDelete name g consumer) key group served stream life = asked-open now (present_in stream) (leave consumer) (is_name key name && is_name group g) life
 stays-open now (ReadGroup read) key group served stream life = by (is_name group read.group && served) where
-  by : (t : Bool) → is_some (cond t (life_read now (present_in stream) read key read.reads (Some life)) (Some life)) ≡ true
+  by : (t : Bool) → is_some (cond t (life_after_reads now (present_in stream) read key read.reads (Some life)) (Some life)) ≡ true
   by true = read-open now (present_in stream) read key read.reads (Some life) refl
   by false = refl
 stays-open now (Ack name g ids) key group served stream life = asked-open now (present_in stream) (ack ids) (is_name key name && is_name group g) life
@@ -177,7 +177,7 @@ stays-open now (DropKeys keys) key group served stream life = by (is_listed keys
   by false = refl
 
 created : (now : ℕ) (command : Command) (key group : List ℕ) (served : Bool) (stream : Option (List Change)) (life : Option GroupLife)
-    → has_to_create command key group stream ≡ true → is_some (group_lived now command key group served stream life) ≡ true
+    → has_to_create command key group stream ≡ true → is_some (group_life_after now command key group served stream life) ≡ true
 created now (Ping message) key group served stream life e = absurd (false≢true e)
 created now Quit key group served stream life e = absurd (false≢true e)
 created now (Add add) key group served stream life e = absurd (false≢true e)
@@ -193,7 +193,7 @@ created now (GroupCreate create) key group served stream life e =
     made false None e f = e
     made make (Some changes) e f = refl
 
-    new : (t : Bool) → t ≡ true → (life : Option GroupLife) → is_some (cond t (option_or life (life_opened create stream)) life) ≡ true
+    new : (t : Bool) → t ≡ true → (life : Option GroupLife) → is_some (cond t (option_or life (new_life create stream)) life) ≡ true
     new false e life = absurd (false≢true e)
     new true e (Some life) = refl
     new true f None = made create.make stream (second_of (is_name key create.key && is_name group create.group) (create.make || is_some stream) e) (λ changes. record { start = starting_id create.start (top changes); events = [] })
@@ -214,6 +214,6 @@ groups-stay earlier e = λ key group. (
   λ has_to. created e.0 e.1 key group (list_all (λ one. is_some (group_life earlier one.key (group_of e.1))) (reads_of e.1)) (key_life earlier key) (group_life earlier key group) has_to,
 ) where
   by : (key group : List ℕ) (life : Option GroupLife) → is_some life ≡ true
-      → is_some (group_lived e.0 e.1 key group (list_all (λ one. is_some (group_life earlier one.key (group_of e.1))) (reads_of e.1)) (key_life earlier key) life) ≡ not (ends_group e.1 key group)
+      → is_some (group_life_after e.0 e.1 key group (list_all (λ one. is_some (group_life earlier one.key (group_of e.1))) (reads_of e.1)) (key_life earlier key) life) ≡ not (ends_group e.1 key group)
   by key group None is = absurd (false≢true is)
   by key group (Some life) is = stays-open e.0 e.1 key group (list_all (λ one. is_some (group_life earlier one.key (group_of e.1))) (reads_of e.1)) (key_life earlier key) life

@@ -16,7 +16,7 @@ use Rattle.xs_group.specs.Claims.{Rule, row_at, is_idle, is_taken, is_removed, i
 use Rattle.xs_group.specs.Verdict.{AreApart}
 use Rattle.xs_group.proofs.Settling.{apart-filter, apart-firsts}
 use Rattle.xs_keys.specs.Life.{greatest}
-use Rattle.xs_keys.specs.GroupEvent.{Ask, GroupEvent, read_new, read_own, ack, join, leave, claim, auto_claim, asked_claim, asked_cursor, rule_of, delivered, holding, rows, takes, removes_pending, asked_new, delivers_at, cursor, owner}
+use Rattle.xs_keys.specs.GroupEvent.{Ask, GroupEvent, read_new, read_own, ack, join, leave, claim, auto_claim, claim_of_ask, scan_end_of_ask, rule_of, delivered, pending_row_at, rows, takes, is_removed_by_claim, new_ids_of_ask, new_ids_of_event, cursor, owner}
 use Rattle.xs_keys.specs.Taken.{least_idle, IsTakenWhenIdle, IsRemovedWhenGone, is_named_by, is_from_start, is_before, comes_to, is_asked_for, MayStop, ClaimsWhatIsAsked, ClaimsInTurn, ClaimsWhatIsIdle}
 use Rattle.xs_keys.specs.Touched.{time_of}
 use Rattle.xs_keys.specs.Headline.{DeliversInFull}
@@ -53,7 +53,7 @@ rule_for ask = option_map_or (λ rule. rule) (rule_of ask) (record { min_idle = 
 
 -- what is claimed is claimed among those
 looks : (ask : Ask) (now : ℕ) (present : List Id) (all : List (Id × Row))
-    → (asked_claim ask now present all ≡ claim_among all present now (rule_for ask) (looked_at ask now present all)) × ((rule_for ask).min_idle ≡ least_idle ask)
+    → (claim_of_ask ask now present all ≡ claim_among all present now (rule_for ask) (looked_at ask now present all)) × ((rule_for ask).min_idle ≡ least_idle ask)
 looks (read_new consumer limit noack) now present all = (refl, refl)
 looks (read_own consumer limit from) now present all = (refl, refl)
 looks (ack ids) now present all = (refl, refl)
@@ -122,7 +122,7 @@ module _ (all : List (Id × Row)) (are : AreRows all) (now : ℕ) (present : Lis
   not_zero : AreNotZero (part ++ begins.0)
   not_zero = subst AreNotZero begins.1 (λ x h. are.1 x (right (not (is_below x from)) (has_id (map (λ e. e.0) all) x) (sym (has_id-where (λ y. not (is_below y from)) (map (λ e. e.0) all) x) ∙ h)))
 
-  cursor-is : asked_cursor (auto_claim consumer rule from limit) now present all ≡ first_or_zero begins.0
+  cursor-is : scan_end_of_ask (auto_claim consumer rule from limit) now present all ≡ first_or_zero begins.0
   unfolding hit part
   cursor-is = ap first_or_zero (ap (drop (length part)) begins.1 ∙ drop-append_seam part begins.0)
 
@@ -132,7 +132,7 @@ module _ (all : List (Id × Row)) (are : AreRows all) (now : ℕ) (present : Lis
   -- it comes to what it scans
   part-come : (x : Id) → has_id part x ≡ true → comes_to this all x ≡ true
   unfolding this
-  part-come x h = both_of (not (is_below x from)) (is_before (asked_cursor (auto_claim consumer rule from limit) now present all) x)
+  part-come x h = both_of (not (is_below x from)) (is_before (scan_end_of_ask (auto_claim consumer rule from limit) now present all) x)
       (left (not (is_below x from)) (has_id (map (λ e. e.0) all) x) (sym (has_id-where (λ y. not (is_below y from)) (map (λ e. e.0) all) x) ∙ part-from x h))
       (ap (λ c. is_before c x) cursor-is ∙ before-part part begins.0 ascend x h)
 
@@ -141,8 +141,8 @@ module _ (all : List (Id × Row)) (are : AreRows all) (now : ℕ) (present : Lis
   unfolding this
   come-part x h comes = part-before part begins.0 ascend not_zero x
       (ap (λ ids. has_id ids x) (sym begins.1) ∙ has_id-where (λ y. not (is_below y from)) (map (λ e. e.0) all) x
-      ∙ both_of (not (is_below x from)) (has_id (map (λ e. e.0) all) x) (left (not (is_below x from)) (is_before (asked_cursor (auto_claim consumer rule from limit) now present all) x) comes) h)
-      (ap (λ c. is_before c x) (sym cursor-is) ∙ right (not (is_below x from)) (is_before (asked_cursor (auto_claim consumer rule from limit) now present all) x) comes)
+      ∙ both_of (not (is_below x from)) (has_id (map (λ e. e.0) all) x) (left (not (is_below x from)) (is_before (scan_end_of_ask (auto_claim consumer rule from limit) now present all) x) comes) h)
+      (ap (λ c. is_before c x) (sym cursor-is) ∙ right (not (is_below x from)) (is_before (scan_end_of_ask (auto_claim consumer rule from limit) now present all) x) comes)
 
   part-is : part ≡ filter (λ x. comes_to this all x) (map (λ e. e.0) all)
   part-is = ascends-same part (filter (λ x. comes_to this all x) (map (λ e. e.0) all)) (ascends-first part begins.0 ascend) (ascends-where (λ x. comes_to this all x) (map (λ e. e.0) all) are.0) (λ x.
@@ -162,10 +162,10 @@ module _ (all : List (Id × Row)) (are : AreRows all) (now : ℕ) (present : Lis
     by true f g = inl (let le : limit ≤ length (filter hit part) = grind (arith, nat_tests, f) in omega (arith, le, few))
     by false f g = inr (subst (λ ids. 10 * limit ≤ length ids) part-is (grind (arith, nat_tests, g)))
 
-  far-enough : (asked_cursor (auto_claim consumer rule from limit) now present all ≡ zero_id) ⊎ MayStop this all
+  far-enough : (scan_end_of_ask (auto_claim consumer rule from limit) now present all ≡ zero_id) ⊎ MayStop this all
   unfolding this hit part
   far-enough = by (passes-or (is_enough hit limit) (from_start from all) (prefixes (from_start from all))) where
-    by : (is_enough hit limit part ≡ true) ⊎ (part ≡ from_start from all) → (asked_cursor (auto_claim consumer rule from limit) now present all ≡ zero_id) ⊎ MayStop this all
+    by : (is_enough hit limit part ≡ true) ⊎ (part ≡ from_start from all) → (scan_end_of_ask (auto_claim consumer rule from limit) now present all ≡ zero_id) ⊎ MayStop this all
     by (inl e) = inr (stops e)
     by (inr e) = inl (ap (λ ids. first_or_zero (drop (length ids) (from_start from all))) e ∙ ap first_or_zero (drop-length (from_start from all)))
 
@@ -214,7 +214,7 @@ looked-apart (auto_claim consumer rule from limit) now present all are =
     (ascends-first (part all are now present consumer rule from limit) (begins all are now present consumer rule from limit).0 (ascend all are now present consumer rule from limit))
 
 goes-far : (ask : Ask) (now : ℕ) (present : List Id) (all : List (Id × Row)) → AreRows all
-    → (asked_cursor ask now present all ≡ zero_id) ⊎ MayStop (record { now = now; present = present; ask = ask }) all
+    → (scan_end_of_ask ask now present all ≡ zero_id) ⊎ MayStop (record { now = now; present = present; ask = ask }) all
 unfolding this hit part
 goes-far (read_new consumer limit noack) now present all are = inl refl
 goes-far (read_own consumer limit from) now present all are = inl refl
@@ -250,16 +250,16 @@ module _ (start : Id) (past : List GroupEvent) (asc : PresentAscends past) (even
     ascends-rows start past asc,
     λ y h. above-not_zero start y
         (above-has start (delivered start past) y (past-start start past)
-        (right (is_some (holding start past y)) (has_id (delivered start past) y) (sym (has_id-where (λ z. is_some (holding start past z)) (delivered start past) y) ∙ ap (λ l. has_id l y) (sym ids) ∙ h))),
+        (right (is_some (pending_row_at start past y)) (has_id (delivered start past) y) (sym (has_id-where (λ z. is_some (pending_row_at start past z)) (delivered start past) y) ∙ ap (λ l. has_id l y) (sym ids) ∙ h))),
   )
     where
-      ids : map (λ e. e.0) (rows start past) ≡ filter (λ y. is_some (holding start past y)) (delivered start past)
-      ids = ids-among (λ y. holding start past y) (delivered start past)
+      ids : map (λ e. e.0) (rows start past) ≡ filter (λ y. is_some (pending_row_at start past y)) (delivered start past)
+      ids = ids-among (λ y. pending_row_at start past y) (delivered start past)
 
   -- an owner has a row, and a row an owner
   has-row : is_some (owner start past x) ≡ true → is_some (row_at met x) ≡ true
   unfolding met
-  has-row owned = ap is_some (row-found start past x) ∙ by (holding start past x) (ap is_some (sym (owner-row start past x)) ∙ owned) where
+  has-row owned = ap is_some (row-found start past x) ∙ by (pending_row_at start past x) (ap is_some (sym (owner-row start past x)) ∙ owned) where
     by : (row : Option Row) → is_some (of_row row) ≡ true → is_some row ≡ true
     by None e = e
     by (Some row) e = refl
@@ -315,7 +315,7 @@ module _ (start : Id) (past : List GroupEvent) (asc : PresentAscends past) (even
   unfolding met asked_rule looked
   takes-is = ap (λ c. has_id c.take x) (looks event.ask event.now event.present (rows start past)).0 ∙ has_id-where (is_taken (rows start past) event.present event.now (rule_for event.ask)) _ x
 
-  removes-is : removes_pending start past event x ≡ (is_removed met event.present x && has_id looked x)
+  removes-is : is_removed_by_claim start past event x ≡ (is_removed met event.present x && has_id looked x)
   unfolding met asked_rule looked
   removes-is = ap (λ c. has_id c.removed x) (looks event.ask event.now event.present (rows start past)).0 ∙ has_id-where (is_removed (rows start past) event.present) _ x
 
@@ -394,12 +394,12 @@ full (Some n) a present = by (nat_le n (length above)) refl where
 pub in-full : (start : Id) (events : List GroupEvent) → DeliversInFull start events
 in-full start events = λ later event earlier e consumer limit noack asks.
     let a = cursor start earlier in
-    let same : delivers_at event a ≡ delivers limit a event.present = ap (λ (ask : Ask). asked_new ask event.present a) asks in
+    let same : new_ids_of_event event a ≡ delivers limit a event.present = ap (λ (ask : Ask). new_ids_of_ask ask event.present a) asks in
     by event earlier limit same (full limit a event.present) where
-      by : (event : GroupEvent) (earlier : List GroupEvent) (limit : Option ℕ) → delivers_at event (cursor start earlier) ≡ delivers limit (cursor start earlier) event.present
+      by : (event : GroupEvent) (earlier : List GroupEvent) (limit : Option ℕ) → new_ids_of_event event (cursor start earlier) ≡ delivers limit (cursor start earlier) event.present
           → (limit ≡ Some (length (delivers limit (cursor start earlier) event.present)))
           ⊎ ((x : Id) → has_id event.present x ≡ true → is_below (greatest (cursor start earlier) (delivers limit (cursor start earlier) event.present)) x ≡ false)
-          → (limit ≡ Some (length (delivers_at event (cursor start earlier)))) ⊎ ((x : Id) → has_id event.present x ≡ true → is_below (cursor start (event ∷ earlier)) x ≡ false)
+          → (limit ≡ Some (length (new_ids_of_event event (cursor start earlier)))) ⊎ ((x : Id) → has_id event.present x ≡ true → is_below (cursor start (event ∷ earlier)) x ≡ false)
       by event earlier limit same (inl e) = inl (e ∙ ap (λ (ids : List Id). Some (length ids)) (sym same))
       by event earlier limit same (inr f) =
           inr (λ x h. ap (λ (c : Id). is_below c x) (cursor-step start event earlier ∙ ap (greatest (cursor start earlier)) same) ∙ f x h)

@@ -29,8 +29,8 @@ use Rattle.xs_command.specs.declared.command.ReadOne.{ReadOne}
 use Rattle.xs_command.specs.declared.command.ReadFrom.{ReadFrom}
 use Rattle.xs_command.specs.declared.command.ReadFrom.TheVariants.{New, After}
 use Rattle.xs_keys.specs.Life.{Change, added, deleted, trimmed_to, opened, key_life, entry_of, given_in, top_of, live, stands, stream_of}
-use Rattle.xs_keys.specs.GroupEvent.{delivered, cursor, holding, owner, rows, claim, auto_claim, ack}
-use Rattle.xs_keys.specs.GroupLife.{GroupLife, group_life, life_asked, present_in, is_new, asks_new, acts, delivered_by, read_ask}
+use Rattle.xs_keys.specs.GroupEvent.{delivered, cursor, pending_row_at, owner, rows, claim, auto_claim, ack}
+use Rattle.xs_keys.specs.GroupLife.{GroupLife, group_life, life_after_ask, present_in, is_new, reads_new_entries, has_all_groups, ids_delivered_by, ask_of_read}
 use Rattle.xs_keys.specs.Content.{Content, Key, IsContent, IsGroup, GroupHolds, KeyHolds, made, stream_after, group_in, entries_in, asked, serves}
 use Rattle.xs_keys.specs.Reply.{reply, assigned_reply, array, array_or_null, id_reply, field_replies, entry_reply, part, new_part, shown_by, parts, removed_by, of_group, owner_reply, summary_reply, row_reply, taken_reply, scan_shown}
 use Rattle.xs_keys.specs.Telling.{TellsEntry, TellsEntryOrNull, TellsEach, AreFirst}
@@ -236,14 +236,14 @@ scan-is c past now name group consumer rule start limit t = rw (t.changes_are, t
 
 -- what a read with `>` delivers in a group that is there
 delivers-there : (c : Content) (past : List (ℕ × Command)) (read : ReadGroupCommand) (name : List ℕ) (t : IsThere c past name read.group)
-    → acts past (ReadGroup read) ≡ true → asks_new (ReadGroup read) name ≡ true
-    → delivered_by past (ReadGroup read) name read.group ≡ delivers read.limit (cursor t.life.start t.life.events) (ids_of (live t.changes))
+    → has_all_groups past (ReadGroup read) ≡ true → reads_new_entries (ReadGroup read) name ≡ true
+    → ids_delivered_by past (ReadGroup read) name read.group ≡ delivers read.limit (cursor t.life.start t.life.events) (ids_of (live t.changes))
 delivers-there c past read name t act new = rw (new, act, is_name-refl read.group, t.life_is, t.changes_are) refl
 
 -- the entries that a consumer has
 module _ (past : List (ℕ × Command)) (key group : List ℕ) (life : GroupLife) (is : group_life past key group ≡ Some life) (consumer : List ℕ) where
   held : Id → Option Row
-  held x = holding life.start life.events x
+  held x = pending_row_at life.start life.events x
 
   mine : Id → Bool
   mine x = option_map_or (λ row. is_name row.consumer consumer) (held x) false
@@ -253,22 +253,22 @@ module _ (past : List (ℕ × Command)) (key group : List ℕ) (life : GroupLife
 
   own-are : own ≡ filter (λ x. mine x) (delivered life.start life.events)
   unfolding own mine held
-  own-are = owned-among consumer (λ x. holding life.start life.events x) (delivered life.start life.events)
+  own-are = owned-among consumer (λ x. pending_row_at life.start life.events x) (delivered life.start life.events)
 
   has-own : (x : Id) → has_id own x ≡ (mine x && has_id (delivered life.start life.events) x)
   has-own x = ap (λ ids. has_id ids x) own-are ∙ has_id-where (λ y. mine y) (delivered life.start life.events) x
 
   own-owner : (x : Id) → has_id own x ≡ true → owner life.start life.events x ≡ Some consumer
   unfolding mine held
-  own-owner x h = owner-row life.start life.events x ∙ by (holding life.start life.events x) (and-first (mine x) (has_id (delivered life.start life.events) x) (sym (has-own x) ∙ h)) where
+  own-owner x h = owner-row life.start life.events x ∙ by (pending_row_at life.start life.events x) (and-first (mine x) (has_id (delivered life.start life.events) x) (sym (has-own x) ∙ h)) where
     by : (r : Option Row) → option_map_or (λ row. is_name row.consumer consumer) r false ≡ true → of_row r ≡ Some consumer
     by None e = absurd (false≢true e)
     by (Some row) e = ap Some (is_name-eq row.consumer consumer e)
 
   owner-own : (x : Id) → owner life.start life.events x ≡ Some consumer → has_id own x ≡ true
   unfolding mine held
-  owner-own x h = has-own x ∙ by (holding life.start life.events x) refl (sym (owner-row life.start life.events x) ∙ h) where
-    by : (r : Option Row) → holding life.start life.events x ≡ r → of_row r ≡ Some consumer → (option_map_or (λ row. is_name row.consumer consumer) (holding life.start life.events x) false && has_id (delivered life.start life.events) x) ≡ true
+  owner-own x h = has-own x ∙ by (pending_row_at life.start life.events x) refl (sym (owner-row life.start life.events x) ∙ h) where
+    by : (r : Option Row) → pending_row_at life.start life.events x ≡ r → of_row r ≡ Some consumer → (option_map_or (λ row. is_name row.consumer consumer) (pending_row_at life.start life.events x) false && has_id (delivered life.start life.events) x) ≡ true
     by None e f = absurd (subst (λ o. cond (is_some o) (Unit {0}) ⊥) (sym f) tt)
     by (Some row) e f = rw (e, held-delivered life.start life.events x (ap is_some e)) (both (is_name row.consumer consumer) (ap (λ name. is_name name consumer) (some-is f) ∙ is_name-refl consumer)) where
       both : (b : Bool) → b ≡ true → (b && true) ≡ true
@@ -290,11 +290,11 @@ module _ (past : List (ℕ × Command)) (key group : List ℕ) (life : GroupLife
 
 -- one read of those that are left: its key and its group are as they were before the event
 told-read : (c next : Content) (past : List (ℕ × Command)) (read : ReadGroupCommand) (one : ReadOne) → IsThere c past one.key read.group → get next one.key ≡ get c one.key
-    → acts past (ReadGroup read) ≡ true → (is_new one.from ≡ true → asks_new (ReadGroup read) one.key ≡ true)
+    → has_all_groups past (ReadGroup read) ≡ true → (is_new one.from ≡ true → reads_new_entries (ReadGroup read) one.key ≡ true)
     → TellsRead past read one.key one.from
     (option_map_or (shown_by read one.key one.from (entries_in (get next one.key))) (group_in (get next one.key) read.group) [])
 told-read c next past read one t same act asks = by one.from asks where
-  by : (from : ReadFrom) → (is_new from ≡ true → asks_new (ReadGroup read) one.key ≡ true)
+  by : (from : ReadFrom) → (is_new from ≡ true → reads_new_entries (ReadGroup read) one.key ≡ true)
       → TellsRead past read one.key from (option_map_or (shown_by read one.key from (entries_in (get next one.key))) (group_in (get next one.key) read.group) [])
   by New new =
       rw (same, t.key_is, t.state_is, t.stream_is, t.holds.cursor_is, delivers-there c past read one.key t act (new refl), t.changes_are)
@@ -312,11 +312,11 @@ told-read c next past read one t same act asks = by one.from asks where
       )
 
 -- the reads that are left
-told-reads : (c : Content) (past : List (ℕ × Command)) (now : ℕ) (read : ReadGroupCommand) → IsContent c past → acts past (ReadGroup read) ≡ true
+told-reads : (c : Content) (past : List (ℕ × Command)) (now : ℕ) (read : ReadGroupCommand) → IsContent c past → has_all_groups past (ReadGroup read) ≡ true
     → (reads : List ReadOne) (next : Content) → IsDistinct bytes_eq (keys_of reads)
     → list_all (λ one. is_some (group_life past one.key read.group)) reads ≡ true
     → ((key : List ℕ) → list_any (λ one. is_name key one.key) reads ≡ true → get next key ≡ get c key)
-    → ((key : List ℕ) → list_any (λ one. is_name key one.key && is_new one.from) reads ≡ true → asks_new (ReadGroup read) key ≡ true)
+    → ((key : List ℕ) → list_any (λ one. is_name key one.key && is_new one.from) reads ≡ true → reads_new_entries (ReadGroup read) key ≡ true)
     → TellsReads past read reads (parts next now read reads)
 unfolding IsDistinct
 told-reads c past now read is act [] next distinct open_all same asks = refl
@@ -326,9 +326,9 @@ told-reads c past now read is act (one ∷ more) next distinct open_all same ask
   refl,
   told-read c next past read one (there c past one.key read.group is (and-first (is_some (group_life past one.key read.group)) (list_all (λ o. is_some (group_life past o.key read.group)) more) open_all))
       (same one.key (rw (is_name-refl one.key) refl)) act (λ new. asks one.key (rw (is_name-refl one.key, new) refl)),
-  told-reads c past now read is act more (asked next now one.key read.group (read_ask read one.from)) distinct.1
+  told-reads c past now read is act more (asked next now one.key read.group (ask_of_read read one.from)) distinct.1
       (and-second (is_some (group_life past one.key read.group)) (list_all (λ o. is_some (group_life past o.key read.group)) more) open_all)
-      (λ key among. asked-elsewhere next now one.key read.group (read_ask read one.from) key (others key more distinct.0 among)
+      (λ key among. asked-elsewhere next now one.key read.group (ask_of_read read one.from) key (others key more distinct.0 among)
       ∙ same key (or_second (is_name key one.key) (list_any (λ o. is_name key o.key) more) among))
       (λ key among. asks key (or_second (is_name key one.key && is_new one.from) (list_any (λ o. is_name key o.key && is_new o.from) more) among)),
 )
@@ -410,10 +410,10 @@ told-ack past c now name group ids is = (_, refl, by (is_some (group_life past n
   count life = option_map_or (λ l. length (rows l.start l.events)) life 0
 
   lived : Option GroupLife → Option GroupLife
-  lived life = life_asked now (present_in (key_life past name)) (ack ids) life
+  lived life = life_after_ask now (present_in (key_life past name)) (ack ids) life
 
   own : count (group_life ((now, Ack name group ids) ∷ past) name group) ≡ count (lived (group_life past name group))
-  own = λ i. count (cond (is_name-refl name i && is_name-refl group i) (life_asked now (present_in (key_life past name)) (ack ids) (group_life past name group)) (group_life past name group))
+  own = λ i. count (cond (is_name-refl name i && is_name-refl group i) (life_after_ask now (present_in (key_life past name)) (ack ids) (group_life past name group)) (group_life past name group))
 
   nothing : (life : Option GroupLife) → is_some life ≡ false → 0 + count (lived life) ≡ count life
   nothing None e = refl

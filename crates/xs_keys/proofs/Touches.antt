@@ -5,8 +5,8 @@ use Rattle.xs_stream.specs.Id.{has_id}
 use Rattle.xs_group.specs.declared.claims.Claim.{Claim}
 use Rattle.xs_group.specs.Claims.{Rule, claim_of, scan_of, claimed, claimed_row, claim_time, claim_count}
 use Rattle.xs_group.specs.State.{Row, is_name, delivers, first_row, shown, again, raised, unless_acked, unless_owned}
-use Rattle.xs_keys.specs.GroupEvent.{Ask, GroupEvent, read_new, read_own, ack, join, leave, claim, auto_claim, cursor, asked_row, asked_new, asked_claim, keeps_pending, holding, rows}
-use Rattle.xs_keys.specs.Touched.{shown_again, time_given, count_given, time_of, count_of, IsLastTouched}
+use Rattle.xs_keys.specs.GroupEvent.{Ask, GroupEvent, read_new, read_own, ack, join, leave, claim, auto_claim, cursor, row_after_ask, new_ids_of_ask, claim_of_ask, keeps_pending, pending_row_at, rows}
+use Rattle.xs_keys.specs.Touched.{own_ids_shown, time_of_touch, count_of_touch, time_of, count_of, IsLastTouched}
 use Rattle.xs_keys.proofs.Owners.{row-found}
 
 -- the row has that time and that count
@@ -31,14 +31,14 @@ has-some row time count h = h row refl
 -- whether an ask touches an id, over the cursor and the rows that it meets
 asked_touch : Ask → ℕ → List Id → Id → List (Id × Row) → Id → Bool
 asked_touch ask now present a es x =
-    ((keeps_pending ask && has_id (asked_new ask present a) x) || has_id (asked_claim ask now present es).take x)
-    || (has_id (shown_again ask es) x && has_id present x)
+    ((keeps_pending ask && has_id (new_ids_of_ask ask present a) x) || has_id (claim_of_ask ask now present es).take x)
+    || (has_id (own_ids_shown ask es) x && has_id present x)
 
 -- time and count after an ask
 Touched : Ask → ℕ → List Id → Id → List (Id × Row) → Id → Option Row → ℕ → ℕ → Type 0
 Touched ask now present a es x r time count =
     let touch = asked_touch ask now present a es x in
-    Has (asked_row ask now present a es x r) (cond touch (time_given ask now) time) (cond touch (count_given ask count) count)
+    Has (row_after_ask ask now present a es x r) (cond touch (time_of_touch ask now) time) (cond touch (count_of_touch ask count) count)
 
 claim-has : (consumer : List ℕ) (now : ℕ) (rule : Rule) (c : Claim) (x : Id) (r : Option Row) (time count : ℕ) → Has r time count
     → Has (option_and_then (claimed consumer now rule c x) r) (cond (has_id c.take x) (claim_time rule.when now) time) (cond (has_id c.take x) (claim_count rule.retry rule.just_id count) count)
@@ -94,11 +94,11 @@ asked-touched (auto_claim consumer rule start limit) now present a es x r time c
     let c = (scan_of es present now rule start limit).claim in
     subst (λ t. Has (option_and_then (claimed consumer now rule c x) r) (cond t (claim_time rule.when now) time) (cond t (claim_count rule.retry rule.just_id count) count)) (sym (or-false (has_id c.take x))) (claim-has consumer now rule c x r time count h)
 
-held-touched : (start : Id) (events : List GroupEvent) (x : Id) → Has (holding start events x) (time_of start events x) (count_of start events x)
+held-touched : (start : Id) (events : List GroupEvent) (x : Id) → Has (pending_row_at start events x) (time_of start events x) (count_of start events x)
 unfolding Touched asked_touch
 held-touched start [] x = none-has _ _
 held-touched start (event ∷ past) x =
-    asked-touched event.ask event.now event.present (cursor start past) (rows start past) x (holding start past x) (time_of start past x) (count_of start past x) (held-touched start past x)
+    asked-touched event.ask event.now event.present (cursor start past) (rows start past) x (pending_row_at start past x) (time_of start past x) (count_of start past x) (held-touched start past x)
 
 pub is-last-touched : (start : Id) (events : List GroupEvent) → IsLastTouched start events
 unfolding Has

@@ -7,7 +7,7 @@ use Rattle.xs_stream.specs.Kept.{fields_at, ids_of}
 use Rattle.xs_resp.specs.WholeReplies.{IsWhole, AreWhole}
 use Rattle.xs_resp.proofs.Wholeness.{items-whole, all-whole, whole-append}
 use Rattle.xs_keys.specs.Ground.{State, option_map_or, get, OwnerCount, GroupSummary, PendingRow, ReadGroupCommand, ReadOne, ReadFrom, New, After, delivers, Bulk, Int, NullBulk, NullArray}
-use Rattle.xs_keys.specs.GroupLife.{read_ask}
+use Rattle.xs_keys.specs.GroupLife.{ask_of_read}
 use Rattle.xs_keys.specs.Content.{Content, asked, group_in, entries_in}
 use Rattle.xs_keys.specs.Reply.{array, array_or_null, id_reply, field_replies, entry_reply, present_reply, entries_reply, part, new_part, shown_by, parts, owner_reply, row_reply, taken_reply}
 
@@ -55,7 +55,7 @@ pub parts-whole : (content : Content) (now : ℕ) (read : ReadGroupCommand) (rea
 parts-whole content now read [] = tt
 parts-whole content now read (one ∷ more) =
     let this = option_map_or (shown_by read one.key one.from (entries_in (get content one.key))) (group_in (get content one.key) read.group) [] in
-    let after = asked content now one.key read.group (read_ask read one.from) in
+    let after = asked content now one.key read.group (ask_of_read read one.from) in
     whole-append this (parts after now read more) (shown-whole read one.key one.from (entries_in (get content one.key)) (group_in (get content one.key) read.group)) (parts-whole after now read more)
 
 owner-whole : (owner : OwnerCount) → IsWhole (owner_reply owner)

@@ -9,6 +9,7 @@ use Rattle.xs_keys.specs.Ground.{Reply, Error, Memory}
 use Rattle.xs_keys.specs.Life.{added}
 use Rattle.xs_keys.specs.Content.{stream_after}
 use Rattle.xs_keys.specs.Reply.{assigned_reply}
+use Rattle.xs_keys.specs.Event.{Bytes}
 
 -- an addition to a stream is the model's, or memory ran out where the model refuses nothing, and nothing has changed
 abbrev pub Adds : Kept → ℕ → AddCommand → Reply → Kept → Type 0
@@ -18,6 +19,6 @@ Adds old now add answer new =
     ⊎ ((is_ok (assigned now old.top add.id) ≡ true) × (answer ≡ Error Memory) × (new ≡ old))
 
 -- the printed id, where one is assigned
-abbrev pub text_of : Result Id AddError → Option (List ℕ)
+abbrev pub text_of : Result Id AddError → Option Bytes
 text_of (Ok id) = Some (printed id)
 text_of (Err refusal) = None

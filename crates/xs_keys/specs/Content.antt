@@ -10,7 +10,8 @@ use Rattle.xs_keys.specs.Ground.{AutoClaim, DropKeys, GroupCreateCommand, ReadGr
 use Rattle.xs_keys.specs.Life.{Change, key_life, stream_of, added, deleted, trimmed_to}
 use Rattle.xs_keys.specs.GroupEvent.{Ask, read_new, read_own, ack, join, leave, claim, auto_claim, cursor, is_consumer}
 use Rattle.xs_keys.specs.GroupEvent.{rows}
-use Rattle.xs_keys.specs.GroupLife.{GroupLife, group_life, starting_id, read_ask}
+use Rattle.xs_keys.specs.GroupLife.{GroupLife, group_life, starting_id, ask_of_read}
+use Rattle.xs_keys.specs.Event.{Bytes, History, Entries}
 
 -- what a key holds: its stream, and its groups by name
 pub record Key : Type 0 where
@@ -24,7 +25,7 @@ Content = NameMap Key
 -- a group's cursor, consumers and rows are those of its life
 pub record IsGroup (group : State) (life : GroupLife) : Type 0 where
   pub cursor_is : group.cursor ≡ cursor life.start life.events
-  pub consumers_are : (name : List ℕ) → has_name group.consumers name ≡ is_consumer life.events name
+  pub consumers_are : (name : Bytes) → has_name group.consumers name ≡ is_consumer life.events name
   pub rows_are : group.rows.entries ≡ rows life.start life.events
 
 -- a group is there exactly where its life is open
@@ -34,16 +35,16 @@ GroupHolds (Some group) (Some life) = IsGroup group life
 GroupHolds _ _ = ⊥
 
 -- so is a key; without one there are no groups
-abbrev pub KeyHolds : Option Key → Option (List Change) → (List ℕ → Option GroupLife) → Type 0
-KeyHolds None None lives = (group : List ℕ) → GroupHolds None (lives group)
+abbrev pub KeyHolds : Option Key → Option (List Change) → (Bytes → Option GroupLife) → Type 0
+KeyHolds None None lives = (group : Bytes) → GroupHolds None (lives group)
 KeyHolds (Some key) (Some changes) lives =
-    (key.stream ≡ stream_of changes) × ((group : List ℕ) → GroupHolds (get key.groups group) (lives group))
+    (key.stream ≡ stream_of changes) × ((group : Bytes) → GroupHolds (get key.groups group) (lives group))
 KeyHolds _ _ lives = ⊥
 
 -- the content that a history leaves
-abbrev pub IsContent : Content → List (ℕ × Command) → Type 0
+abbrev pub IsContent : Content → History → Type 0
 IsContent content past =
-    (name : List ℕ) → KeyHolds (get content name) (key_life past name) (λ group. group_life past name group)
+    (name : Bytes) → KeyHolds (get content name) (key_life past name) (λ group. group_life past name group)
 
 -- the ids in the stream ascend, and none is above the top
 pub record IsLawfulStream (stream : Kept) : Type 0 where
@@ -59,10 +60,10 @@ pub record IsLawfulGroup (group : State) : Type 0 where
 
 pub record IsLawfulKey (key : Key) : Type 0 where
   pub stream : IsLawfulStream key.stream
-  pub groups : (name : List ℕ) (group : State) → get key.groups name ≡ Some group → IsLawfulGroup group
+  pub groups : (name : Bytes) (group : State) → get key.groups name ≡ Some group → IsLawfulGroup group
 
 abbrev pub IsLawfulContent : Content → Type 0
-IsLawfulContent content = (name : List ℕ) (key : Key) → get content name ≡ Some key → IsLawfulKey key
+IsLawfulContent content = (name : Bytes) (key : Key) → get content name ≡ Some key → IsLawfulKey key
 
 -- a new key has an empty stream, and no groups
 abbrev pub new_key : Key
@@ -89,11 +90,11 @@ abbrev pub key_after : Change → Key → Key
 key_after change key = record key { stream = stream_after change key.stream }
 
 -- a change of a key that is there
-abbrev pub changed : Content → List ℕ → Change → Option Key → Content
+abbrev pub changed : Content → Bytes → Change → Option Key → Content
 changed content name change key = option_map_or (λ k. insert content name (key_after change k)) key content
 
 -- without these keys
-abbrev pub without_keys : List (List ℕ) → Content → Content
+abbrev pub without_keys : List Bytes → Content → Content
 without_keys [] content = content
 without_keys (name ∷ names) content = without_keys names (remove content name)
 
@@ -110,11 +111,11 @@ group_after now present (auto_claim consumer rule start limit) group =
     claimed_by consumer now rule (scan_of group.rows.entries present now rule start limit).claim group
 
 -- a key with this group
-abbrev pub with_group : Key → List ℕ → State → Key
+abbrev pub with_group : Key → Bytes → State → Key
 with_group key name group = record key { groups = insert key.groups name group }
 
 -- an ask of a group of a key, where both are there
-abbrev pub asked : Content → ℕ → List ℕ → List ℕ → Ask → Content
+abbrev pub asked : Content → ℕ → Bytes → Bytes → Ask → Content
 asked content now name group_name ask =
     let with_asked : Key → State → Content = λ key group.
     insert content name (with_group key group_name (group_after now (ids_of key.stream.entries) ask group)) in
@@ -128,10 +129,10 @@ created content create (Some key) =
     else insert content create.key (with_group key create.group (new_group (starting_id create.start key.stream.top)))
 
 -- the group of a key, and the entries of a key
-abbrev pub group_in : Option Key → List ℕ → Option State
+abbrev pub group_in : Option Key → Bytes → Option State
 group_in key group_name = option_and_then (λ k. get k.groups group_name) key
 
-abbrev pub entries_in : Option Key → List (Id × List Field)
+abbrev pub entries_in : Option Key → Entries
 entries_in key = option_map_or (λ k. k.stream.entries) key []
 
 -- each key and group that a read names is there
@@ -142,7 +143,7 @@ serves content read = list_all (λ one. is_some (group_in (get content one.key) 
 abbrev pub read_each : Content → ℕ → ReadGroupCommand → List ReadOne → Content
 read_each content now read [] = content
 read_each content now read (one ∷ more) =
-    read_each (asked content now one.key read.group (read_ask read one.from)) now read more
+    read_each (asked content now one.key read.group (ask_of_read read one.from)) now read more
 
 -- the content after a command at a moment
 abbrev pub after : Content → ℕ → Command → Content

@@ -10,8 +10,8 @@ use Rattle.xs_group.specs.Claims.{Rule}
 use Rattle.xs_group.specs.State.{Row}
 use Rattle.xs_group.specs.ExamplesRead.{pending}
 use Rattle.xs_keys.specs.GroupEvent.{Ask, read_new, read_own, ack, join, claim, auto_claim, rows, is_consumer}
-use Rattle.xs_keys.specs.GroupEvent.{leave, is_their_turn, is_settled, settles, owner, removes_pending}
-use Rattle.xs_keys.specs.Touched.{redelivers, touches, time_of, count_of}
+use Rattle.xs_keys.specs.GroupEvent.{leave, is_their_turn, is_settled, settles, owner, is_removed_by_claim}
+use Rattle.xs_keys.specs.Touched.{is_redelivered_by, is_touched_by, time_of, count_of}
 use Rattle.xs_keys.specs.Taken.{least_idle, is_named_by, is_from_start, is_before, comes_to, MayStop}
 use Rattle.xs_keys.specs.ExamplesHistory.{of_group, group_and}
 use Rattle.xs_keys.specs.ExamplesGroupEvents.{start, event, event_without, read_by_a, noack_by_b, first_by_a}
@@ -84,18 +84,18 @@ abbrev pub now_and_ids_alone : Rule
 now_and_ids_alone = record { min_idle = 0; when = time.Now; retry = None; just_id = true }
 
 pub record Touches : Type 0 where
-  pub at_its_delivery : touches start [] read_by_a (at 2 0) ≡ true
-  pub not_with_noack : touches start [] noack_by_b (at 2 0) ≡ false
-  pub by_a_claim : touches start (read_by_a ∷ []) claim_by_b (at 2 0) ≡ true
-  pub not_by_a_claim_of_another : touches start (read_by_a ∷ []) claim_by_b (at 3 0) ≡ false
-  pub shown_again : redelivers start (read_by_a ∷ []) (event 200 reread_by_a) (at 2 0) ≡ true
-  pub touched_again : touches start (read_by_a ∷ []) (event 200 reread_by_a) (at 2 0) ≡ true
+  pub at_its_delivery : is_touched_by start [] read_by_a (at 2 0) ≡ true
+  pub not_with_noack : is_touched_by start [] noack_by_b (at 2 0) ≡ false
+  pub by_a_claim : is_touched_by start (read_by_a ∷ []) claim_by_b (at 2 0) ≡ true
+  pub not_by_a_claim_of_another : is_touched_by start (read_by_a ∷ []) claim_by_b (at 3 0) ≡ false
+  pub own_ids_shown : is_redelivered_by start (read_by_a ∷ []) (event 200 reread_by_a) (at 2 0) ≡ true
+  pub touched_again : is_touched_by start (read_by_a ∷ []) (event 200 reread_by_a) (at 2 0) ≡ true
   pub not_shown_to_another :
-      redelivers start (read_by_a ∷ []) (event 200 (read_own (codes "b") None (at 0 0))) (at 2 0) ≡ false
+      is_redelivered_by start (read_by_a ∷ []) (event 200 (read_own (codes "b") None (at 0 0))) (at 2 0) ≡ false
   pub not_past_its_count :
-      redelivers start (read_by_a ∷ []) (event 200 (read_own (codes "a") (Some 1) (at 0 0))) (at 3 0) ≡ false
-  pub not_a_deleted_one : redelivers start (read_by_a ∷ []) (event_without 200 reread_by_a) (at 2 0) ≡ false
-  pub not_by_an_acknowledgement : touches start (read_by_a ∷ []) (event 200 (ack (at 2 0 ∷ []))) (at 2 0) ≡ false
+      is_redelivered_by start (read_by_a ∷ []) (event 200 (read_own (codes "a") (Some 1) (at 0 0))) (at 3 0) ≡ false
+  pub not_a_deleted_one : is_redelivered_by start (read_by_a ∷ []) (event_without 200 reread_by_a) (at 2 0) ≡ false
+  pub not_by_an_acknowledgement : is_touched_by start (read_by_a ∷ []) (event 200 (ack (at 2 0 ∷ []))) (at 2 0) ≡ false
   pub time_of_delivery : time_of start (event 200 (join (codes "c")) ∷ read_by_a ∷ []) (at 2 0) ≡ 100
   pub time_of_a_claim : time_of start (claim_by_b ∷ read_by_a ∷ []) (at 2 0) ≡ 150
   pub time_of_one_that_was_not_claimed : time_of start (claim_by_b ∷ read_by_a ∷ []) (at 3 0) ≡ 100
@@ -145,8 +145,8 @@ pub record Touches : Type 0 where
   pub not_sooner :
       MayStop (event 150 (auto_claim (codes "b") any_idle_time (at 0 0) 3)) (rows start (read_by_a ∷ [])) → ⊥
   pub removed_when_deleted :
-      removes_pending start (read_by_a ∷ []) (event_without 200 (claims any_idle_time)) (at 2 0) ≡ true
-  pub not_removed_when_there : removes_pending start (read_by_a ∷ []) claim_by_b (at 2 0) ≡ false
+      is_removed_by_claim start (read_by_a ∷ []) (event_without 200 (claims any_idle_time)) (at 2 0) ≡ true
+  pub not_removed_when_there : is_removed_by_claim start (read_by_a ∷ []) claim_by_b (at 2 0) ≡ false
   pub turn_after_an_own_read : is_their_turn start (event 50 reread_by_a ∷ []) read_by_a (at 2 0) ≡ true
   pub turn_after_the_first : is_their_turn start (first_by_a ∷ []) read_by_a (at 2 0) ≡ false
   pub turn_at_the_second :

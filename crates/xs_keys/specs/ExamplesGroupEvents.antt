@@ -10,9 +10,9 @@ use Rattle.xs_group.specs.Claims.{Rule}
 use Rattle.xs_group.specs.ExamplesRead.{pending}
 use Rattle.xs_keys.specs.GroupEvent.{Ask, GroupEvent, read_new, read_own, ack, join, leave, claim, auto_claim}
 use Rattle.xs_keys.specs.GroupEvent.{delivered, cursor}
-use Rattle.xs_keys.specs.GroupEvent.{is_their_turn, is_consumer, rows, delivers_pending, takes, settles}
-use Rattle.xs_keys.specs.GroupEvent.{assigns, last_assigned, is_settled, owner, consumer_of}
-use Rattle.xs_keys.specs.Headline.{settled_in}
+use Rattle.xs_keys.specs.GroupEvent.{is_their_turn, is_consumer, rows, is_made_pending_by, takes, settles}
+use Rattle.xs_keys.specs.GroupEvent.{is_assigned_by, last_assigned, is_settled, owner, consumer_of}
+use Rattle.xs_keys.specs.Headline.{is_settled_in}
 
 -- the group starts at 1-0
 abbrev pub start : Id
@@ -61,10 +61,10 @@ pub record Turns : Type 0 where
   pub delivered_in_order : delivered start (noack_by_b ∷ first_by_a ∷ []) ≡ at 2 0 ∷ at 3 0 ∷ []
   pub cursor_behind_both : cursor start (noack_by_b ∷ first_by_a ∷ []) ≡ at 3 0
   pub cursor_of_a_start_past_all : cursor (at 9 0) (read_by_a ∷ []) ≡ at 9 0
-  pub pending_without_noack : delivers_pending start [] read_by_a (at 3 0) ≡ true
-  pub not_with_noack : delivers_pending start [] noack_by_b (at 3 0) ≡ false
-  pub not_what_isnt_delivered : delivers_pending start [] first_by_a (at 3 0) ≡ false
-  pub not_by_a_claim : delivers_pending start (read_by_a ∷ []) claim_by_b (at 2 0) ≡ false
+  pub pending_without_noack : is_made_pending_by start [] read_by_a (at 3 0) ≡ true
+  pub not_with_noack : is_made_pending_by start [] noack_by_b (at 3 0) ≡ false
+  pub not_what_isnt_delivered : is_made_pending_by start [] first_by_a (at 3 0) ≡ false
+  pub not_by_a_claim : is_made_pending_by start (read_by_a ∷ []) claim_by_b (at 2 0) ≡ false
 
 pub record Consumers : Type 0 where
   pub by_a_read : is_consumer (read_by_a ∷ []) (codes "a") ≡ true
@@ -139,9 +139,9 @@ pub record Settling : Type 0 where
   pub taken_by_a_claim : takes start (read_by_a ∷ []) claim_by_b (at 2 0) ≡ true
   pub another_isnt_taken : takes start (read_by_a ∷ []) claim_by_b (at 3 0) ≡ false
   pub not_taken_before_its_delivery : takes start [] claim_by_b (at 2 0) ≡ false
-  pub assigned_by_a_read : assigns start [] read_by_a (at 2 0) ≡ true
-  pub assigned_by_a_claim : assigns start (read_by_a ∷ []) claim_by_b (at 2 0) ≡ true
-  pub not_by_noack : assigns start [] noack_by_b (at 2 0) ≡ false
+  pub assigned_by_a_read : is_assigned_by start [] read_by_a (at 2 0) ≡ true
+  pub assigned_by_a_claim : is_assigned_by start (read_by_a ∷ []) claim_by_b (at 2 0) ≡ true
+  pub not_by_noack : is_assigned_by start [] noack_by_b (at 2 0) ≡ false
   pub last_by_a_claim :
       last_assigned start (event 200 (ack (at 2 0 ∷ [])) ∷ claim_by_b ∷ read_by_a ∷ []) (at 2 0) ≡ Some (codes "b")
   pub settled :
@@ -149,12 +149,12 @@ pub record Settling : Type 0 where
   pub not_settled : is_settled start (claim_by_b ∷ read_by_a ∷ []) (at 2 0) ≡ false
   pub not_settled_too_early : is_settled start (event 200 (ack (at 2 0 ∷ [])) ∷ []) (at 2 0) ≡ false
   pub settled_later :
-      settled_in start (event 300 (join (codes "c")) ∷ event 200 (ack (at 2 0 ∷ [])) ∷ []) (read_by_a ∷ []) (at 2 0)
+      is_settled_in start (event 300 (join (codes "c")) ∷ event 200 (ack (at 2 0 ∷ [])) ∷ []) (read_by_a ∷ []) (at 2 0)
       ≡ true
   pub settled_by_the_last :
-      settled_in start (event 300 (ack (at 2 0 ∷ [])) ∷ event 200 (join (codes "c")) ∷ []) (read_by_a ∷ []) (at 2 0)
+      is_settled_in start (event 300 (ack (at 2 0 ∷ [])) ∷ event 200 (join (codes "c")) ∷ []) (read_by_a ∷ []) (at 2 0)
       ≡ true
-  pub not_settled_later : settled_in start (claim_by_b ∷ []) (read_by_a ∷ []) (at 2 0) ≡ false
+  pub not_settled_later : is_settled_in start (claim_by_b ∷ []) (read_by_a ∷ []) (at 2 0) ≡ false
 
 pub record Rows : Type 0 where
   pub of_a_read :

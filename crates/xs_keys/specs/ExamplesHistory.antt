@@ -15,7 +15,7 @@ use Rattle.xs_command.specs.Examples.{line}
 use Rattle.xs_command.specs.ExamplesStreams.{field}
 use Rattle.xs_keys.specs.Life.{Change, key_life, given_in, top, live, stream_of}
 use Rattle.xs_keys.specs.GroupEvent.{delivered, cursor, claim, auto_claim}
-use Rattle.xs_keys.specs.GroupLife.{GroupLife, group_life, delivered_by}
+use Rattle.xs_keys.specs.GroupLife.{GroupLife, group_life, ids_delivered_by}
 use Rattle.xs_keys.specs.Headline.{OfEachGroup}
 use Rattle.xs_keys.specs.Step.{takes_memory}
 use Rattle.xs_keys.specs.Told.{given_at, claimed_at}
@@ -145,7 +145,7 @@ pub record Deliveries : Type 0 where
 -- what the event of some words delivers behind those lines
 abbrev pub new_of : List (ℕ × Command) → List (List ℕ) → List ℕ → List ℕ → List Id
 new_of [] lines key group = []
-new_of (e ∷ es) lines key group = delivered_by (events 5 lines) e.1 key group
+new_of (e ∷ es) lines key group = ids_delivered_by (events 5 lines) e.1 key group
 
 abbrev pub delivers_behind : List (List ℕ) → List ℕ → List ℕ → List ℕ → List Id
 delivers_behind lines words key group = new_of (event 5 (reads (line words))) lines key group

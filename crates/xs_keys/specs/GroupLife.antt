@@ -8,6 +8,7 @@ use Rattle.xs_keys.specs.Ground.{ReadGroupCommand, ReadOne, ReadFrom, New, After
 use Rattle.xs_keys.specs.Life.{Change, is_listed, opened, key_life, live, top}
 use Rattle.xs_keys.specs.GroupEvent.{Ask, GroupEvent, read_new, read_own, ack, join, leave, claim, auto_claim}
 use Rattle.xs_keys.specs.GroupEvent.{delivered, cursor}
+use Rattle.xs_keys.specs.Event.{Bytes, History}
 
 -- a life of a group: the id behind which it starts, and its events, newest first
 pub record GroupLife : Type 0 where
@@ -24,92 +25,92 @@ starting_id Top top = top
 starting_id (At id) top = id
 
 -- a new life; a missing key must be made with it
-abbrev pub life_opened : GroupCreateCommand → Option (List Change) → Option GroupLife
-life_opened create stream =
+abbrev pub new_life : GroupCreateCommand → Option (List Change) → Option GroupLife
+new_life create stream =
     let begin : Id → GroupLife = λ id. record { start = starting_id create.start id; events = [] } in
     option_map (λ changes. begin (top changes)) (opened create.make stream)
 
 -- one event more
-abbrev pub life_asked : ℕ → List Id → Ask → Option GroupLife → Option GroupLife
-life_asked now present ask life =
+abbrev pub life_after_ask : ℕ → List Id → Ask → Option GroupLife → Option GroupLife
+life_after_ask now present ask life =
     let event : GroupEvent = record { now = now; present = present; ask = ask } in
     option_map (λ l. record { start = l.start; events = event ∷ l.events }) life
 
 -- what a read asks of one stream
-abbrev pub read_ask : ReadGroupCommand → ReadFrom → Ask
-read_ask read New = read_new read.consumer read.limit read.noack
-read_ask read (After id) = read_own read.consumer read.limit id
+abbrev pub ask_of_read : ReadGroupCommand → ReadFrom → Ask
+ask_of_read read New = read_new read.consumer read.limit read.noack
+ask_of_read read (After id) = read_own read.consumer read.limit id
 
 -- the reads of this key, in their order
-abbrev pub life_read : ℕ → List Id → ReadGroupCommand → List ℕ → List ReadOne → Option GroupLife → Option GroupLife
-life_read now present read key [] life = life
-life_read now present read key (one ∷ more) life =
-    let next = if is_name key one.key then life_asked now present (read_ask read one.from) life else life in
-    life_read now present read key more next
+abbrev pub life_after_reads : ℕ → List Id → ReadGroupCommand → Bytes → List ReadOne → Option GroupLife → Option GroupLife
+life_after_reads now present read key [] life = life
+life_after_reads now present read key (one ∷ more) life =
+    let next = if is_name key one.key then life_after_ask now present (ask_of_read read one.from) life else life in
+    life_after_reads now present read key more next
 
 -- the life of a group after an event, from whether a read is served whole, and the lives of its key and its own before;
 -- one that is open goes on where the group is to be created
-abbrev pub group_lived :
-    ℕ → Command → List ℕ → List ℕ → Bool → Option (List Change) → Option GroupLife → Option GroupLife
-group_lived now (GroupCreate create) key group served stream life =
-    if is_name key create.key && is_name group create.group then option_or life (life_opened create stream) else life
-group_lived now (GroupDestroy k g) key group served stream life =
+abbrev pub group_life_after :
+    ℕ → Command → Bytes → Bytes → Bool → Option (List Change) → Option GroupLife → Option GroupLife
+group_life_after now (GroupCreate create) key group served stream life =
+    if is_name key create.key && is_name group create.group then option_or life (new_life create stream) else life
+group_life_after now (GroupDestroy k g) key group served stream life =
     if is_name key k && is_name group g then None else life
-group_lived now (ConsumerCreate k g consumer) key group served stream life =
-    if is_name key k && is_name group g then life_asked now (present_in stream) (join consumer) life else life
-group_lived now (ConsumerDelete k g consumer) key group served stream life =
-    if is_name key k && is_name group g then life_asked now (present_in stream) (leave consumer) life else life
-group_lived now (ReadGroup read) key group served stream life =
-    if is_name group read.group && served then life_read now (present_in stream) read key read.reads life else life
-group_lived now (Ack k g ids) key group served stream life =
-    if is_name key k && is_name group g then life_asked now (present_in stream) (ack ids) life else life
-group_lived now (Claim c) key group served stream life =
+group_life_after now (ConsumerCreate k g consumer) key group served stream life =
+    if is_name key k && is_name group g then life_after_ask now (present_in stream) (join consumer) life else life
+group_life_after now (ConsumerDelete k g consumer) key group served stream life =
+    if is_name key k && is_name group g then life_after_ask now (present_in stream) (leave consumer) life else life
+group_life_after now (ReadGroup read) key group served stream life =
+    if is_name group read.group && served then life_after_reads now (present_in stream) read key read.reads life else life
+group_life_after now (Ack k g ids) key group served stream life =
+    if is_name key k && is_name group g then life_after_ask now (present_in stream) (ack ids) life else life
+group_life_after now (Claim c) key group served stream life =
     if is_name key c.key && is_name group c.group
-    then life_asked now (present_in stream) (claim c.consumer c.rule c.ids) life else life
-group_lived now (AutoClaim c) key group served stream life =
+    then life_after_ask now (present_in stream) (claim c.consumer c.rule c.ids) life else life
+group_life_after now (AutoClaim c) key group served stream life =
     if is_name key c.key && is_name group c.group
-    then life_asked now (present_in stream) (auto_claim c.consumer c.rule c.start c.limit) life else life
-group_lived now (DropKeys keys) key group served stream life = if is_listed keys key then None else life
-group_lived now _ key group served stream life = life
+    then life_after_ask now (present_in stream) (auto_claim c.consumer c.rule c.start c.limit) life else life
+group_life_after now (DropKeys keys) key group served stream life = if is_listed keys key then None else life
+group_life_after now _ key group served stream life = life
 
 -- what a command reads of groups: each key, and from where on; other commands read none
 abbrev pub reads_of : Command → List ReadOne
 reads_of (ReadGroup read) = read.reads
 reads_of _ = []
 
-abbrev pub group_of : Command → List ℕ
+abbrev pub group_of : Command → Bytes
 group_of (ReadGroup read) = read.group
 group_of _ = []
 
 -- the open life of a group of a key, looking back over all events
-abbrev pub group_life : List (ℕ × Command) → List ℕ → List ℕ → Option GroupLife
+abbrev pub group_life : History → Bytes → Bytes → Option GroupLife
 group_life [] key group = None
 group_life (e ∷ past) key group =
     let served = list_all (λ one. is_some (group_life past one.key (group_of e.1))) (reads_of e.1) in
-    group_lived e.0 e.1 key group served (key_life past key) (group_life past key group)
+    group_life_after e.0 e.1 key group served (key_life past key) (group_life past key group)
 
 abbrev pub is_new : ReadFrom → Bool
 is_new New = true
 is_new (After id) = false
 
 -- the event asks for new entries of the key
-abbrev pub asks_new : Command → List ℕ → Bool
-asks_new command key = list_any (λ one. is_name key one.key && is_new one.from) (reads_of command)
+abbrev pub reads_new_entries : Command → Bytes → Bool
+reads_new_entries command key = list_any (λ one. is_name key one.key && is_new one.from) (reads_of command)
 
 -- it acts: each key and group that it reads is there
-abbrev pub acts : List (ℕ × Command) → Command → Bool
-acts past command = list_all (λ one. is_some (group_life past one.key (group_of command))) (reads_of command)
+abbrev pub has_all_groups : History → Command → Bool
+has_all_groups past command = list_all (λ one. is_some (group_life past one.key (group_of command))) (reads_of command)
 
 abbrev pub limit_of : Command → Option ℕ
 limit_of (ReadGroup read) = read.limit
 limit_of _ = None
 
 -- what an event delivers in a group, meeting this past: the first of the ids in the stream that are above the cursor
-abbrev pub delivered_by : List (ℕ × Command) → Command → List ℕ → List ℕ → List Id
-delivered_by past command key group =
+abbrev pub ids_delivered_by : History → Command → Bytes → Bytes → List Id
+ids_delivered_by past command key group =
     let present = present_in (key_life past key) in
     let new : GroupLife → List Id = λ life. delivers (limit_of command) (cursor life.start life.events) present in
-    if asks_new command key && (is_name group (group_of command) && acts past command)
+    if reads_new_entries command key && (is_name group (group_of command) && has_all_groups past command)
     then option_map_or new (group_life past key group) [] else []
 
 -- an event and the life of a group: the life goes on, with what the event delivers of it, and nothing else;

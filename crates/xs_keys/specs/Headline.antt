@@ -12,12 +12,13 @@ use Rattle.xs_keys.specs.Reply.{reply}
 use Rattle.xs_keys.specs.Step.{takes_memory, is_error, IsUnchangedIfRefused}
 use Rattle.xs_keys.specs.Touched.{IsLastTouched}
 use Rattle.xs_keys.specs.Taken.{ClaimsWhatIsIdle}
-use Rattle.xs_keys.specs.GroupEvent.{GroupEvent, read_new, consumer_of, delivered, delivers_at, cursor, is_their_turn}
-use Rattle.xs_keys.specs.GroupEvent.{delivers_pending, takes, settles, owner, rows}
-use Rattle.xs_keys.specs.GroupLife.{GroupLife, group_life, delivered_by, GoesOn}
+use Rattle.xs_keys.specs.GroupEvent.{GroupEvent, read_new, consumer_of, delivered, new_ids_of_event, cursor, is_their_turn}
+use Rattle.xs_keys.specs.GroupEvent.{is_made_pending_by, takes, settles, owner, rows}
+use Rattle.xs_keys.specs.GroupLife.{GroupLife, group_life, ids_delivered_by, GoesOn}
 use Rattle.xs_keys.specs.Told.{IsTold}
 use Rattle.xs_keys.specs.Job.{EachHasAPlace, EachGoesAlong}
 use Rattle.xs_keys.specs.Presence.{EntriesAreAdded, EntriesStay, GroupsAreCreated, GroupsStay}
+use Rattle.xs_keys.specs.Event.{Bytes, Event, History}
 
 -- one of the events is their turn, and the id is delivered exactly where it is in the stream then
 pub record HadItsTurn (start : Id) (events : List GroupEvent) (x : Id) : Type 0 where
@@ -32,8 +33,8 @@ pub record HadItsTurn (start : Id) (events : List GroupEvent) (x : Id) : Type 0 
 abbrev pub DeliversInFull : Id → List GroupEvent → Type 0
 DeliversInFull start events =
     (later : List GroupEvent) (event : GroupEvent) (earlier : List GroupEvent) → events ≡ later ++ event ∷ earlier
-    → (consumer : List ℕ) (limit : Option ℕ) (noack : Bool) → event.ask ≡ read_new consumer limit noack
-    → (limit ≡ Some (length (delivers_at event (cursor start earlier))))
+    → (consumer : Bytes) (limit : Option ℕ) (noack : Bool) → event.ask ≡ read_new consumer limit noack
+    → (limit ≡ Some (length (new_ids_of_event event (cursor start earlier))))
     ⊎ ((x : Id) → has_id event.present x ≡ true → is_below (cursor start (event ∷ earlier)) x ≡ false)
 
 -- new deliveries: in id order and each once, past the start, exactly the entries in the stream at their turn, and as
@@ -46,20 +47,20 @@ pub record DeliversNew (life : GroupLife) : Type 0 where
   pub in_full : DeliversInFull life.start life.events
 
 -- one of these later events settles it
-abbrev pub settled_in : Id → List GroupEvent → List GroupEvent → Id → Bool
-settled_in start [] before x = false
-settled_in start (event ∷ later) before x = settles start (later ++ before) event x || settled_in start later before x
+abbrev pub is_settled_in : Id → List GroupEvent → List GroupEvent → Id → Bool
+is_settled_in start [] before x = false
+is_settled_in start (event ∷ later) before x = settles start (later ++ before) event x || is_settled_in start later before x
 
 -- after a delivery without NOACK there is an owner exactly as long as nothing has settled the entry
 abbrev pub OwnedUntilSettled : Id → List GroupEvent → Type 0
 OwnedUntilSettled start events =
     (later : List GroupEvent) (event : GroupEvent) (earlier : List GroupEvent) (x : Id)
     → events ≡ later ++ event ∷ earlier
-    → delivers_pending start earlier event x ≡ true
-    → is_some (owner start events x) ≡ not (settled_in start later (event ∷ earlier) x)
+    → is_made_pending_by start earlier event x ≡ true
+    → is_some (owner start events x) ≡ not (is_settled_in start later (event ∷ earlier) x)
 
 -- what one event makes of an owner: it stays, or the event settles the entry and there is none, or a claim takes it
-abbrev pub OwnerAfter : Id → List GroupEvent → GroupEvent → Id → List ℕ → Type 0
+abbrev pub OwnerAfter : Id → List GroupEvent → GroupEvent → Id → Bytes → Type 0
 OwnerAfter start past event x name =
     (owner start (event ∷ past) x ≡ Some name)
     ⊎ (((settles start past event x ≡ true) × (owner start (event ∷ past) x ≡ None))
@@ -69,7 +70,7 @@ OwnerAfter start past event x name =
 abbrev pub NoOwnerAfter : Id → List GroupEvent → GroupEvent → Id → Type 0
 NoOwnerAfter start past event x =
     (owner start (event ∷ past) x ≡ None)
-    ⊎ ((delivers_pending start past event x ≡ true) × (owner start (event ∷ past) x ≡ consumer_of event.ask))
+    ⊎ ((is_made_pending_by start past event x ≡ true) × (owner start (event ∷ past) x ≡ consumer_of event.ask))
 
 -- the owner changes only by a claim, and comes only by a delivery; and what is delivered without NOACK, or taken by a
 -- claim, belongs to the consumer who asked
@@ -77,9 +78,9 @@ abbrev pub ChangesByClaims : Id → List GroupEvent → Type 0
 ChangesByClaims start events =
     (later : List GroupEvent) (event : GroupEvent) (earlier : List GroupEvent) (x : Id)
     → events ≡ later ++ event ∷ earlier
-    → ((name : List ℕ) → owner start earlier x ≡ Some name → OwnerAfter start earlier event x name)
+    → ((name : Bytes) → owner start earlier x ≡ Some name → OwnerAfter start earlier event x name)
     × (owner start earlier x ≡ None → NoOwnerAfter start earlier event x)
-    × ((delivers_pending start earlier event x || takes start earlier event x) ≡ true
+    × ((is_made_pending_by start earlier event x || takes start earlier event x) ≡ true
     → owner start (event ∷ earlier) x ≡ consumer_of event.ask)
 
 -- an entry has an owner exactly where it is pending, and the owner is the consumer of its pending row
@@ -97,7 +98,7 @@ pub record HasOneOwner (life : GroupLife) : Type 0 where
 
 -- an event of the history: its command is well formed, and its reply is the model's, at the content of the events
 -- before it; what it tells a consumer of entries is what it delivers or claims; and what is refused changes nothing
-pub record IsAnswered (past : List (ℕ × Command)) (now : ℕ) (command : Command) (answer : Reply) : Type 0 where
+pub record IsAnswered (past : History) (now : ℕ) (command : Command) (answer : Reply) : Type 0 where
   pub formed : IsWellFormed command
   pub content : Content
   pub left_by : IsContent content past
@@ -106,7 +107,7 @@ pub record IsAnswered (past : List (ℕ × Command)) (now : ℕ) (command : Comm
   pub unchanged : IsUnchangedIfRefused content now command
 
 -- it was refused for want of memory, where the command takes some and the model refuses nothing
-pub record IsLeftOut (past : List (ℕ × Command)) (now : ℕ) (command : Command) (answer : Reply) : Type 0 where
+pub record IsLeftOut (past : History) (now : ℕ) (command : Command) (answer : Reply) : Type 0 where
   pub takes : takes_memory command ≡ true
   pub content : Content
   pub left_by : IsContent content past
@@ -114,63 +115,63 @@ pub record IsLeftOut (past : List (ℕ × Command)) (now : ℕ) (command : Comma
   pub answer_is : answer ≡ Error Memory
 
 -- at a moment, over a past, a command is answered so, and this history follows: the event joins it, or is left out
-abbrev pub Follows : ℕ → List (ℕ × Command) → Command → Reply → List (ℕ × Command) → Type 0
+abbrev pub Follows : ℕ → History → Command → Reply → History → Type 0
 Follows now past command answer next =
     (IsAnswered past now command answer × (next ≡ (now, command) ∷ past))
     ⊎ (IsLeftOut past now command answer × (next ≡ past))
 
 -- from a past on, these are answers to these events, one after the other, and the last history has those that joined it
-abbrev pub Answers : List (ℕ × Command) → List (ℕ × Command) → List Reply → List (ℕ × Command) → Type 0
+abbrev pub Answers : History → List Event → List Reply → History → Type 0
 Answers past [] [] last = last ≡ past
 Answers past (e ∷ events) (answer ∷ answers) last =
-    (next : List (ℕ × Command)) × Follows e.0 past e.1 answer next × Answers next events answers last
+    (next : History) × Follows e.0 past e.1 answer next × Answers next events answers last
 Answers past _ _ last = ⊥
 
 -- each group of a history, at each time of it: what holds of each of its lives
-abbrev pub OfEachGroup : List (ℕ × Command) → (GroupLife → Type 0) → Type 0
+abbrev pub OfEachGroup : History → (GroupLife → Type 0) → Type 0
 OfEachGroup history Holds =
-    (later earlier : List (ℕ × Command)) → history ≡ later ++ earlier
-    → (key group : List ℕ) (life : GroupLife) → group_life earlier key group ≡ Some life → Holds life
+    (later earlier : History) → history ≡ later ++ earlier
+    → (key group : Bytes) (life : GroupLife) → group_life earlier key group ≡ Some life → Holds life
 
 -- each life of a group, in any history
 abbrev pub OfEachLife : (GroupLife → Type 0) → Type 0
 OfEachLife Holds =
-    (past : List (ℕ × Command)) (key group : List ℕ) (life : GroupLife)
+    (past : History) (key group : Bytes) (life : GroupLife)
     → group_life past key group ≡ Some life → Holds life
 
 -- at each time of a history, the ids given in the open life of each key ascend
-abbrev pub IdsAscend : List (ℕ × Command) → Type 0
+abbrev pub IdsAscend : History → Type 0
 IdsAscend history =
-    (later earlier : List (ℕ × Command)) → history ≡ later ++ earlier
-    → (key : List ℕ) (changes : List Change) → key_life earlier key ≡ Some changes → Ascends (ids_of (given_in changes))
+    (later earlier : History) → history ≡ later ++ earlier
+    → (key : Bytes) (changes : List Change) → key_life earlier key ≡ Some changes → Ascends (ids_of (given_in changes))
 
 -- each command of a history is well formed
-abbrev pub AreWellFormed : List (ℕ × Command) → Type 0
+abbrev pub AreWellFormed : History → Type 0
 AreWellFormed [] = Unit {0}
 AreWellFormed (e ∷ past) = IsWellFormed e.1 × AreWellFormed past
 
 -- so it is at each event of a history, meeting the events before it. If the history began with nothing, that is all:
 -- each event of a run is well formed. If it began with other events, they or the event in question have to be.
 abbrev pub AtEachEvent :
-    List (ℕ × Command) → List (ℕ × Command) → (List (ℕ × Command) → ℕ × Command → Type 0) → Type 0
+    History → History → (History → Event → Type 0) → Type 0
 AtEachEvent [] history Holds =
-    (later : List (ℕ × Command)) (e : ℕ × Command) (earlier : List (ℕ × Command)) → history ≡ later ++ e ∷ earlier
+    (later : History) (e : Event) (earlier : History) → history ≡ later ++ e ∷ earlier
     → Holds earlier e
 AtEachEvent (first ∷ past) history Holds =
-    (later : List (ℕ × Command)) (e : ℕ × Command) (earlier : List (ℕ × Command)) → history ≡ later ++ e ∷ earlier
+    (later : History) (e : Event) (earlier : History) → history ≡ later ++ e ∷ earlier
     → AreWellFormed (first ∷ past) ⊎ IsWellFormed e.1 → Holds earlier e
 
 -- an event delivers nothing in a group that has no open life at it; and what is delivered in a life is what its events
 -- deliver, one after the other
-abbrev pub LivesAreApart : List (ℕ × Command) → ℕ × Command → Type 0
+abbrev pub LivesAreApart : History → Event → Type 0
 LivesAreApart earlier e =
-    (key group : List ℕ)
-    → GoesOn (group_life earlier key group) (delivered_by earlier e.1 key group) (group_life (e ∷ earlier) key group)
+    (key group : Bytes)
+    → GoesOn (group_life earlier key group) (ids_delivered_by earlier e.1 key group) (group_life (e ∷ earlier) key group)
 
 -- each event of a history leads from the content before it to the content after it, and each content is lawful
-abbrev pub StepsLawfully : List (ℕ × Command) → Type 0
+abbrev pub StepsLawfully : History → Type 0
 StepsLawfully history =
-    (later : List (ℕ × Command)) (e : ℕ × Command) (earlier : List (ℕ × Command)) → history ≡ later ++ e ∷ earlier
+    (later : History) (e : Event) (earlier : History) → history ≡ later ++ e ∷ earlier
     → (content : Content) → IsContent content earlier
     → IsLawfulContent content × IsContent (after content e.0 e.1) (e ∷ earlier)
 
@@ -180,7 +181,7 @@ StepsLawfully history =
 -- each entry has one place in each group at each time, and goes from one to another along the arrows alone; entries and
 -- groups come and go by their own commands alone
 pub record Headline
-    (past events : List (ℕ × Command)) (answers : List Reply) (history : List (ℕ × Command)) : Type 0 where
+    (past : History) (events : List Event) (answers : List Reply) (history : History) : Type 0 where
   pub replies : Answers past events answers history
   pub formed : AreWellFormed past → AreWellFormed history
   pub steps : StepsLawfully history
@@ -197,8 +198,8 @@ pub record Headline
 
 -- over any history that left the old content, the headline holds, and the new content is lawful and that of
 -- the history with the events that were applied
-abbrev pub RunsOn : Content → List (ℕ × Command) → List Reply → Content → Type 0
+abbrev pub RunsOn : Content → List Event → List Reply → Content → Type 0
 RunsOn old events answers new =
-    (past : List (ℕ × Command)) → IsContent old past
-    → (history : List (ℕ × Command))
+    (past : History) → IsContent old past
+    → (history : History)
     × Headline past events answers history × IsContent new history × IsLawfulContent new

@@ -14,10 +14,11 @@ use Rattle.xs_keys.specs.Ground.{GroupCreate, GroupDestroy, ConsumerDelete, Read
 use Rattle.xs_keys.specs.Ground.{Pending, Reply, Int}
 use Rattle.xs_keys.specs.Life.{Change, is_listed, key_life, given_in, top_of, live}
 use Rattle.xs_keys.specs.GroupEvent.{delivered, cursor, last_assigned, owner, rows}
-use Rattle.xs_keys.specs.GroupLife.{GroupLife, group_life, group_of, asks_new, present_in}
+use Rattle.xs_keys.specs.GroupLife.{GroupLife, group_life, group_of, reads_new_entries, present_in}
 use Rattle.xs_keys.specs.Content.{Content}
 use Rattle.xs_keys.specs.Reply.{array, reply}
 use Rattle.xs_keys.specs.Told.{given_at}
+use Rattle.xs_keys.specs.Event.{Bytes, Event, History}
 
 -- where an entry stands in a life of a group
 pub data Place : Type 0 where
@@ -25,11 +26,11 @@ pub data Place : Type 0 where
   waiting : Place  -- in the stream, and its turn is still to come
   dropped : Place  -- deleted or trimmed before its turn
   handed_out : Place  -- delivered with NOACK: nobody owes an acknowledgement
-  pending : List ℕ → Place  -- delivered, and pending with this consumer
+  pending : Bytes → Place  -- delivered, and pending with this consumer
   settled : Place  -- acknowledged, given up with its consumer, or found deleted by a claim
 
 -- where a delivered entry stands: to whom it was last assigned, and who has it
-abbrev pub place_of_delivered : Option (List ℕ) → Option (List ℕ) → Place
+abbrev pub place_of_delivered : Option Bytes → Option Bytes → Place
 place_of_delivered None has = handed_out
 place_of_delivered (Some last) None = settled
 place_of_delivered (Some last) (Some consumer) = pending consumer
@@ -63,7 +64,7 @@ HasOnePlace life present x =
 -- ---- how it moves
 
 -- the command deletes the entry
-abbrev pub deletes_entry : Command → List ℕ → Id → Bool
+abbrev pub deletes_entry : Command → Bytes → Id → Bool
 deletes_entry (Delete k ids) key x = is_name key k && has_id ids x
 deletes_entry _ key x = false
 
@@ -73,72 +74,72 @@ is_trimmed_below_one (MaxLen n) present x = nat_le n (count_above x present + 1)
 is_trimmed_below_one (MinId low) present x = is_below x low
 
 -- it trims the entry away, by itself or behind an addition
-abbrev pub trims_entry : Command → List ℕ → List Id → Id → Bool
+abbrev pub trims_entry : Command → Bytes → List Id → Id → Bool
 trims_entry (Add add) key present x =
     is_name key add.key && option_map_or (λ trim. is_trimmed_below_one trim present x) add.trim false
 trims_entry (TrimTo k trim) key present x = is_name key k && is_trimmed trim present x
 trims_entry _ key present x = false
 
 -- it reads new entries of the key in the group
-abbrev pub reads_new : Command → List ℕ → List ℕ → Bool
-reads_new command key group = is_name group (group_of command) && asks_new command key
+abbrev pub reads_new_entries_in : Command → Bytes → Bytes → Bool
+reads_new_entries_in command key group = is_name group (group_of command) && reads_new_entries command key
 
 abbrev pub with_noack : Command → Bool
 with_noack (ReadGroup read) = read.noack
 with_noack _ = false
 
 -- it claims the entry in the group by its id
-abbrev pub claims_by_id : Command → List ℕ → List ℕ → Id → Bool
+abbrev pub claims_by_id : Command → Bytes → Bytes → Id → Bool
 claims_by_id (Claim c) key group x = (is_name key c.key && is_name group c.group) && has_id c.ids x
 claims_by_id _ key group x = false
 
 -- it scans the group for what it claims
-abbrev pub scans_group : Command → List ℕ → List ℕ → Bool
+abbrev pub scans_group : Command → Bytes → Bytes → Bool
 scans_group (AutoClaim c) key group = is_name key c.key && is_name group c.group
 scans_group _ key group = false
 
-abbrev pub claims_entry : Command → List ℕ → List ℕ → Id → Bool
+abbrev pub claims_entry : Command → Bytes → Bytes → Id → Bool
 claims_entry command key group x = scans_group command key group || claims_by_id command key group x
 
 -- the consumer that reads or claims
-abbrev pub asker : Command → Option (List ℕ)
-asker (ReadGroup read) = Some read.consumer
-asker (Claim c) = Some c.consumer
-asker (AutoClaim c) = Some c.consumer
-asker _ = None
+abbrev pub consumer_of_command : Command → Option Bytes
+consumer_of_command (ReadGroup read) = Some read.consumer
+consumer_of_command (Claim c) = Some c.consumer
+consumer_of_command (AutoClaim c) = Some c.consumer
+consumer_of_command _ = None
 
 -- it acknowledges the entry in the group
-abbrev pub acknowledges_entry : Command → List ℕ → List ℕ → Id → Bool
+abbrev pub acknowledges_entry : Command → Bytes → Bytes → Id → Bool
 acknowledges_entry (Ack k g ids) key group x = (is_name key k && is_name group g) && has_id ids x
 acknowledges_entry _ key group x = false
 
 -- it removes the consumer from the group
-abbrev pub removes_consumer : Command → List ℕ → List ℕ → List ℕ → Bool
+abbrev pub removes_consumer : Command → Bytes → Bytes → Bytes → Bool
 removes_consumer (ConsumerDelete k g consumer) key group name =
     (is_name key k && is_name group g) && is_name name consumer
 removes_consumer _ key group name = false
 
 -- it gives entries to the stream, or makes the group
-abbrev pub begins_job : Command → List ℕ → List ℕ → Bool
+abbrev pub begins_job : Command → Bytes → Bytes → Bool
 begins_job (Add add) key group = is_name key add.key
 begins_job (GroupCreate create) key group = is_name key create.key && is_name group create.group
 begins_job _ key group = false
 
 -- it ends the life of the group
-abbrev pub ends_group : Command → List ℕ → List ℕ → Bool
+abbrev pub ends_group : Command → Bytes → Bytes → Bool
 ends_group (GroupDestroy k g) key group = is_name key k && is_name group g
 ends_group (DropKeys keys) key group = is_listed keys key
 ends_group _ key group = false
 
 -- the arrows: a command that meets these ids in the stream may lead an entry from here to there
-abbrev pub HasArrow : Command → List ℕ → List ℕ → List Id → Id → Place → Place → Type 0
+abbrev pub HasArrow : Command → Bytes → Bytes → List Id → Id → Place → Place → Type 0
 HasArrow command key group present x waiting dropped =
     (deletes_entry command key x || trims_entry command key present x) ≡ true
-HasArrow command key group present x waiting handed_out = (reads_new command key group && with_noack command) ≡ true
+HasArrow command key group present x waiting handed_out = (reads_new_entries_in command key group && with_noack command) ≡ true
 HasArrow command key group present x waiting (pending consumer) =
-    ((reads_new command key group && not (with_noack command)) ≡ true) × (asker command ≡ Some consumer)
+    ((reads_new_entries_in command key group && not (with_noack command)) ≡ true) × (consumer_of_command command ≡ Some consumer)
 HasArrow command key group present x (pending one) (pending other) =
-    ((claims_entry command key group x && has_id present x) ≡ true) × (asker command ≡ Some other)
+    ((claims_entry command key group x && has_id present x) ≡ true) × (consumer_of_command command ≡ Some other)
 HasArrow command key group present x (pending consumer) settled =
     (acknowledges_entry command key group x || (removes_consumer command key group consumer
     || (claims_entry command key group x && not (has_id present x)))) ≡ true
@@ -146,7 +147,7 @@ HasArrow command key group present x _ _ = ⊥
 
 -- and some have to: a deletion drops what waits; and an acknowledgement, the removal of its consumer, and a claim by
 -- its id that finds it deleted settle what is pending
-abbrev pub HasToMove : Command → List ℕ → List ℕ → List Id → Id → Place → Place → Type 0
+abbrev pub HasToMove : Command → Bytes → Bytes → List Id → Id → Place → Place → Type 0
 HasToMove command key group present x waiting there = deletes_entry command key x ≡ true → there ≡ dropped
 HasToMove command key group present x (pending consumer) there =
     (acknowledges_entry command key group x || (removes_consumer command key group consumer
@@ -180,7 +181,7 @@ IsFirstPlace _ present x there = ⊥
 
 -- what a command makes of an entry: it comes, as one that is given or with the group; it stays where it is, or goes
 -- along an arrow; or the life of the group ends
-abbrev pub GoesAlong : Command → List ℕ → List ℕ → List Id → Id → Option Place → Option Place → Type 0
+abbrev pub GoesAlong : Command → Bytes → Bytes → List Id → Id → Option Place → Option Place → Type 0
 GoesAlong command key group present x None None = Unit {0}
 GoesAlong command key group present x None (Some there) =
     (begins_job command key group ≡ true) × IsFirstPlace command present x there
@@ -196,7 +197,7 @@ place_in (Some changes) (Some life) x =
 place_in _ _ x = None
 
 -- where it stands after a history
-abbrev pub place_after : List (ℕ × Command) → List ℕ → List ℕ → Id → Option Place
+abbrev pub place_after : History → Bytes → Bytes → Id → Option Place
 place_after past key group x = place_in (key_life past key) (group_life past key group) x
 
 -- ---- for good
@@ -208,7 +209,7 @@ is_final (pending consumer) = false
 is_final _ = true
 
 -- while these events come, newest first, the life of the group goes on
-abbrev pub GoesOnFor : List ℕ → List ℕ → List (ℕ × Command) → Type 0
+abbrev pub GoesOnFor : Bytes → Bytes → History → Type 0
 GoesOnFor key group [] = Unit {0}
 GoesOnFor key group (e ∷ later) = IsWellFormed e.1 × (ends_group e.1 key group ≡ false) × GoesOnFor key group later
 
@@ -239,7 +240,7 @@ pub record BooksBalance (changes : List Change) (life : GroupLife) : Type 0 wher
   pub waiting_are :
       jobs_at (is_at waiting) changes life ≡ delivers None (cursor life.start life.events) (ids_of (live changes))
   pub pending_are : jobs_at is_pending changes life ≡ map (λ e. e.0) (rows life.start life.events)
-  pub of_consumers : (consumer : List ℕ) →
+  pub of_consumers : (consumer : Bytes) →
       jobs_at (is_at (pending consumer)) changes life ≡ owned consumer (rows life.start life.events)
   pub add_up : length (filter (λ x. is_below life.start x) (ids_of (given_in changes)))
       ≡ length (jobs_at (is_at waiting) changes life) + (length (jobs_at (is_at dropped) changes life)
@@ -247,7 +248,7 @@ pub record BooksBalance (changes : List Change) (life : GroupLife) : Type 0 wher
       + length (jobs_at (is_at settled) changes life))))
 
 -- XPENDING of the group tells this many first
-abbrev pub TellsPending : Content → ℕ → List ℕ → List ℕ → ℕ → Type 0
+abbrev pub TellsPending : Content → ℕ → Bytes → Bytes → ℕ → Type 0
 TellsPending content now key group n =
     (rest : List Reply) × (reply content now (Pending key group) ≡ array (Int n ∷ rest))
 
@@ -259,15 +260,15 @@ pub record HasItsPlaces (changes : List Change) (life : GroupLife) : Type 0 wher
   pub balances : BooksBalance changes life
 
 -- at each time of a history each entry has one place in each group
-abbrev pub EachHasAPlace : List (ℕ × Command) → Type 0
+abbrev pub EachHasAPlace : History → Type 0
 EachHasAPlace history =
-    (later earlier : List (ℕ × Command)) → history ≡ later ++ earlier
-    → (key group : List ℕ) (changes : List Change) (life : GroupLife)
+    (later earlier : History) → history ≡ later ++ earlier
+    → (key group : Bytes) (changes : List Change) (life : GroupLife)
     → key_life earlier key ≡ Some changes → group_life earlier key group ≡ Some life → HasItsPlaces changes life
 
 -- an event leaves each entry at its place, or leads it along an arrow
-abbrev pub EachGoesAlong : List (ℕ × Command) → ℕ × Command → Type 0
+abbrev pub EachGoesAlong : History → Event → Type 0
 EachGoesAlong earlier e =
-    (key group : List ℕ) (x : Id)
+    (key group : Bytes) (x : Id)
     → GoesAlong e.1 key group (present_in (key_life earlier key)) x (place_after earlier key group x)
     (place_after (e ∷ earlier) key group x)

@@ -1,3 +1,4 @@
+pub mod Event
 pub mod Ground
 pub mod Life
 pub mod GroupEvent

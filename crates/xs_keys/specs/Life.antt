@@ -4,9 +4,10 @@ use Rattle.std.specs.Prelude.{filter, Result, Ok, Err, is_ok}
 use Rattle.xs_keys.specs.Ground.{option_map, option_map_or, option_or, list_any, Id, AddId, Trim, Field, is_name}
 use Rattle.xs_keys.specs.Ground.{Command, Add, Delete, TrimTo, GroupCreate, DropKeys, AddError, is_below, has_id}
 use Rattle.xs_keys.specs.Ground.{zero_id, is_trimmed, assigned, Kept, ids_of}
+use Rattle.xs_keys.specs.Event.{Bytes, History, Entries}
 
 -- the name is one of these; names of keys, groups and consumers are lists of bytes
-abbrev pub is_listed : List (List ℕ) → List ℕ → Bool
+abbrev pub is_listed : List Bytes → Bytes → Bool
 is_listed names name = list_any (is_name name) names
 
 -- what an event, a command at a moment, asks of the stream of a key: an addition at a moment, a deletion, a trim
@@ -20,22 +21,22 @@ abbrev pub opened : Bool → Option (List Change) → Option (List Change)
 opened make life = option_or life (if make then Some [] else None)
 
 -- the life of a key after an event: its changes, newest first, or none where no life is open
-abbrev pub key_lived : ℕ → Command → List ℕ → Option (List Change) → Option (List Change)
-key_lived now (Add add) key life =
+abbrev pub key_life_after : ℕ → Command → Bytes → Option (List Change) → Option (List Change)
+key_life_after now (Add add) key life =
     let change = added now add.id add.fields add.trim in
     if is_name key add.key then option_map (λ changes. change ∷ changes) (opened add.make life) else life
-key_lived now (Delete name ids) key life =
+key_life_after now (Delete name ids) key life =
     if is_name key name then option_map (λ changes. deleted ids ∷ changes) life else life
-key_lived now (TrimTo name trim) key life =
+key_life_after now (TrimTo name trim) key life =
     if is_name key name then option_map (λ changes. trimmed_to trim ∷ changes) life else life
-key_lived now (GroupCreate create) key life = if is_name key create.key then opened create.make life else life
-key_lived now (DropKeys keys) key life = if is_listed keys key then None else life
-key_lived now _ key life = life
+key_life_after now (GroupCreate create) key life = if is_name key create.key then opened create.make life else life
+key_life_after now (DropKeys keys) key life = if is_listed keys key then None else life
+key_life_after now _ key life = life
 
 -- the open life of a key, looking back over all events
-abbrev pub key_life : List (ℕ × Command) → List ℕ → Option (List Change)
+abbrev pub key_life : History → Bytes → Option (List Change)
 key_life [] key = None
-key_life (e ∷ past) key = key_lived e.0 e.1 key (key_life past key)
+key_life (e ∷ past) key = key_life_after e.0 e.1 key (key_life past key)
 
 -- the greatest of an id and these
 abbrev pub greatest : Id → List Id → Id
@@ -43,21 +44,21 @@ greatest a [] = a
 greatest a (x ∷ xs) = greatest (if is_below a x then x else a) xs
 
 -- the greatest id given, or 0-0
-abbrev pub top_of : List (Id × List Field) → Id
+abbrev pub top_of : Entries → Id
 top_of given = greatest zero_id (ids_of given)
 
 -- the entry of an assigned id
-abbrev pub entry_of : Result Id AddError → List Field → List (Id × List Field)
+abbrev pub entry_of : Result Id AddError → List Field → Entries
 entry_of (Ok id) fields = (id, fields) ∷ []
 entry_of (Err refusal) fields = []
 
 -- what a change gives to a stream with this top: an addition its entry, unless it is refused
-abbrev pub gives : Change → Id → List (Id × List Field)
+abbrev pub gives : Change → Id → Entries
 gives (added now id fields trim) top = entry_of (assigned now top id) fields
 gives _ top = []
 
 -- all that was given in a life, in the order of the events, deleted entries included
-abbrev pub given_in : List Change → List (Id × List Field)
+abbrev pub given_in : List Change → Entries
 given_in [] = []
 given_in (change ∷ past) = given_in past ++ gives change (top_of (given_in past))
 
@@ -82,7 +83,7 @@ stands (change ∷ past) x =
     else (if has_id (ids_of new) x then true else stands past x)
 
 -- the entries that are in the stream
-abbrev pub live : List Change → List (Id × List Field)
+abbrev pub live : List Change → Entries
 live past = filter (λ e. stands past e.0) (given_in past)
 
 -- the stream: its top and what is live

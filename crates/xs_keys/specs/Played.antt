@@ -6,14 +6,15 @@ use Rattle.xs_command.specs.Read.{reads}
 use Rattle.xs_command.specs.Examples.{line}
 use Rattle.xs_keys.specs.Content.{Content, after}
 use Rattle.xs_keys.specs.Reply.{array, id_reply, reply}
+use Rattle.xs_keys.specs.Event.{Bytes}
 
 -- a line of words at a moment, with its reply
 pub record Exchange : Type 0 where
   pub now : ℕ
-  pub words : List ℕ
+  pub words : Bytes
   pub answer : Reply
 
-abbrev pub at : ℕ → List ℕ → Reply → Exchange
+abbrev pub at : ℕ → Bytes → Reply → Exchange
 at now words answer = record { now = now; words = words; answer = answer }
 
 -- the reply to what the words say, and the content after it
@@ -36,7 +37,7 @@ IsPlayed exchanges = replies_to empty exchanges ≡ map (λ x. x.answer) exchang
 abbrev pub ok : Reply
 ok = Simple Okay
 
-abbrev pub name : List ℕ → Reply
+abbrev pub name : Bytes → Reply
 name bytes = Bulk bytes
 
 abbrev pub number : ℕ → Reply
@@ -54,9 +55,9 @@ abbrev pub gone : ℕ → ℕ → Reply
 gone ms seq = array (id ms seq ∷ NullArray ∷ [])
 
 -- a stream with entries, in the reply to a read
-abbrev pub stream : List ℕ → List Reply → Reply
+abbrev pub stream : Bytes → List Reply → Reply
 stream key entries = array (name key ∷ array entries ∷ [])
 
 -- a pending entry
-abbrev pub row : Reply → List ℕ → ℕ → ℕ → Reply
+abbrev pub row : Reply → Bytes → ℕ → ℕ → Reply
 row id consumer idle count = array (id ∷ name consumer ∷ Int idle ∷ Int count ∷ [])

@@ -9,9 +9,10 @@ use Rattle.xs_keys.specs.declared.xreadgroup.Served.{Served}
 use Rattle.xs_keys.specs.Ground.{NameMap, get, insert, Id, Field, ids_of, delivers, shown, State, Reply}
 use Rattle.xs_keys.specs.Ground.{ReadGroupCommand}
 use Rattle.xs_keys.specs.Ground.{ReadOne, ReadFrom, New, After}
-use Rattle.xs_keys.specs.GroupLife.{read_ask}
+use Rattle.xs_keys.specs.GroupLife.{ask_of_read}
 use Rattle.xs_keys.specs.Content.{Content, Key, group_after}
 use Rattle.xs_keys.specs.Reply.{part, new_part, shown_by}
+use Rattle.xs_keys.specs.Event.{Bytes, Entries}
 
 -- these parts of a reply were counted and appended
 pub record IsShown (shown : List Reply) (count : ℕ) (before after : List Token) : Type 0 where
@@ -24,21 +25,21 @@ ids_shown read New present group = delivers read.limit group.cursor present
 ids_shown read (After id) present group = shown read.consumer read.limit id group.rows.entries
 
 -- its part of the reply
-abbrev pub part_of : ReadFrom → List ℕ → List (Id × List Field) → List Id → List Reply
+abbrev pub part_of : ReadFrom → Bytes → Entries → List Id → List Reply
 part_of New key entries ids = new_part key entries ids
 part_of (After id) key entries ids = part key entries ids ∷ []
 
 -- a read of a group was served: what it left, what it shows, and what takes it back
 pub record IsServed
-    (entries : List (Id × List Field)) (now : ℕ) (read : ReadGroupCommand) (one : ReadOne) (before after : State)
+    (entries : Entries) (now : ℕ) (read : ReadGroupCommand) (one : ReadOne) (before after : State)
     (tokens longer : List Token) (served : Served) : Type 0 where
-  pub left : after ≡ group_after now (ids_of entries) (read_ask read one.from) before
+  pub left : after ≡ group_after now (ids_of entries) (ask_of_read read one.from) before
   pub shows : IsShown (shown_by read one.key one.from entries before) served.parts tokens longer
   pub made : IsMade before after served.delivery
 
 -- so was one of these groups
 pub record IsServedIn
-    (entries : List (Id × List Field)) (now : ℕ) (read : ReadGroupCommand) (one : ReadOne)
+    (entries : Entries) (now : ℕ) (read : ReadGroupCommand) (one : ReadOne)
     (before after : NameMap State) (tokens longer : List Token) (served : Served) : Type 0 where
   pub was : State
   pub is : State
@@ -57,7 +58,7 @@ pub record IsServedAt
   pub serves : IsServedIn key.stream.entries now read one key.groups groups tokens longer served
 
 -- a read of one of these groups made the ones of the others, and answered this delivery
-pub record IsMadeIn (group : List ℕ) (before after : NameMap State) (delivery : Delivery) : Type 0 where
+pub record IsMadeIn (group : Bytes) (before after : NameMap State) (delivery : Delivery) : Type 0 where
   pub was : State
   pub is : State
   pub had : get before group ≡ Some was
@@ -65,7 +66,7 @@ pub record IsMadeIn (group : List ℕ) (before after : NameMap State) (delivery 
   pub made : IsMade was is delivery
 
 -- so did one of a group of these keys
-pub record IsMadeAt (group key_name : List ℕ) (before after : Content) (delivery : Delivery) : Type 0 where
+pub record IsMadeAt (group key_name : Bytes) (before after : Content) (delivery : Delivery) : Type 0 where
   pub key : Key
   pub groups : NameMap State
   pub had : get before key_name ≡ Some key
@@ -73,7 +74,7 @@ pub record IsMadeAt (group key_name : List ℕ) (before after : Content) (delive
   pub made : IsMadeIn group key.groups groups delivery
 
 -- the first of these reads made the one content of the other, and answered these deliveries, one after the other
-abbrev pub AreMade : List ℕ → List ReadOne → List Delivery → Content → Content → Type 0
+abbrev pub AreMade : Bytes → List ReadOne → List Delivery → Content → Content → Type 0
 AreMade group reads [] first last = last ≡ first
 AreMade group [] (d ∷ ds) first last = ⊥
 AreMade group (one ∷ more) (d ∷ ds) first last =

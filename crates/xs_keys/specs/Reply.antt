@@ -12,8 +12,9 @@ use Rattle.xs_keys.specs.Ground.{scan_of, acked, owned_count, summary_of, pendin
 use Rattle.xs_stream.specs.declared.add.AddError.TheVariants as add_error
 use Rattle.xs_group.specs.declared.claims.Scan as scans
 use Rattle.xs_keys.specs.Life.{Change, deleted, trimmed_to}
-use Rattle.xs_keys.specs.GroupLife.{read_ask}
+use Rattle.xs_keys.specs.GroupLife.{ask_of_read}
 use Rattle.xs_keys.specs.Content.{Content, Key, stream_after, made, asked, serves, group_in, entries_in}
+use Rattle.xs_keys.specs.Event.{Bytes, Entries}
 
 -- an array of these replies
 abbrev pub array : List Reply → Reply
@@ -31,7 +32,7 @@ abbrev pub field_replies : Field → List Reply
 field_replies field = Bulk field.name ∷ Bulk field.value ∷ []
 
 -- an entry: its id and its fields; one that is no longer there has the null array
-abbrev pub entry_reply : List (Id × List Field) → Id → Reply
+abbrev pub entry_reply : Entries → Id → Reply
 entry_reply entries id =
     let fields = option_map_or (λ fs. array (flat_map field_replies fs)) (fields_at entries id) NullArray in
     array (id_reply id ∷ fields ∷ [])
@@ -40,7 +41,7 @@ entry_reply entries id =
 abbrev pub present_reply : Id × List Field → Reply
 present_reply entry = array (id_reply entry.0 ∷ array (flat_map field_replies entry.1) ∷ [])
 
-abbrev pub entries_reply : List (Id × List Field) → List Id → Reply
+abbrev pub entries_reply : Entries → List Id → Reply
 entries_reply entries ids = array (map (entry_reply entries) ids)
 
 -- the error of a refused addition
@@ -60,7 +61,7 @@ removed_by change key =
     option_map_or (λ k. length k.stream.entries - length (stream_after change k.stream).entries) key 0
 
 -- DEL: how many of these keys there are, each counted once
-abbrev pub existing : List (List ℕ) → Content → ℕ
+abbrev pub existing : List Bytes → Content → ℕ
 existing [] content = 0
 existing (name ∷ names) content = (if has_key content name then 1 else 0) + existing names (remove content name)
 
@@ -73,16 +74,16 @@ abbrev pub of_key : Option Key → (Key → Reply) → Reply
 of_key key said = option_map_or said key (Error NoKey)
 
 -- a stream in the reply to a read: its key and its entries
-abbrev pub part : List ℕ → List (Id × List Field) → List Id → Reply
+abbrev pub part : Bytes → Entries → List Id → Reply
 part key entries ids = array (Bulk key ∷ entries_reply entries ids ∷ [])
 
 -- a stream with nothing new is left out
-abbrev pub new_part : List ℕ → List (Id × List Field) → List Id → List Reply
+abbrev pub new_part : Bytes → Entries → List Id → List Reply
 new_part key entries [] = []
 new_part key entries (x ∷ xs) = part key entries (x ∷ xs) ∷ []
 
 -- what one read of a group shows
-abbrev pub shown_by : ReadGroupCommand → List ℕ → ReadFrom → List (Id × List Field) → State → List Reply
+abbrev pub shown_by : ReadGroupCommand → Bytes → ReadFrom → Entries → State → List Reply
 shown_by read key New entries group = new_part key entries (delivers read.limit group.cursor (ids_of entries))
 shown_by read key (After id) entries group =
     part key entries (shown read.consumer read.limit id group.rows.entries) ∷ []
@@ -93,7 +94,7 @@ parts content now read [] = []
 parts content now read (one ∷ more) =
     let key = get content one.key in
     option_map_or (shown_by read one.key one.from (entries_in key)) (group_in key read.group) []
-    ++ parts (asked content now one.key read.group (read_ask read one.from)) now read more
+    ++ parts (asked content now one.key read.group (ask_of_read read one.from)) now read more
 
 -- XPENDING, the short form: a consumer with the number of its pending entries
 abbrev pub owner_reply : OwnerCount → Reply
@@ -111,11 +112,11 @@ abbrev pub row_reply : PendingRow → Reply
 row_reply row = array (id_reply row.id ∷ Bulk row.consumer ∷ Int row.idle ∷ Int row.count ∷ [])
 
 -- XCLAIM and XAUTOCLAIM: the entries that a claim took, or their ids alone
-abbrev pub taken_reply : Bool → List (Id × List Field) → List Id → Reply
+abbrev pub taken_reply : Bool → Entries → List Id → Reply
 taken_reply just_id entries ids = if just_id then array (map id_reply ids) else entries_reply entries ids
 
 -- XAUTOCLAIM: where to go on, what was taken, and the ids that were removed
-abbrev pub scan_shown : Bool → List (Id × List Field) → scans.Scan → Reply
+abbrev pub scan_shown : Bool → Entries → scans.Scan → Reply
 scan_shown just_id entries s =
     array (id_reply s.cursor ∷ taken_reply just_id entries s.claim.take ∷ array (map id_reply s.claim.removed) ∷ [])
 

@@ -4,9 +4,10 @@ use Rattle.std.specs.Prelude.{map, filter, length, is_some}
 use Rattle.xs_stream.specs.Id.{is_same}
 use Rattle.xs_group.specs.Verdict.{AreApart}
 use Rattle.xs_keys.specs.Ground.{option_map_or, Id, Row, is_below, has_id, zero_id}
-use Rattle.xs_keys.specs.GroupEvent.{Ask, GroupEvent, claim, auto_claim, claims_of, goes_on_at, rule_of, rows, takes}
-use Rattle.xs_keys.specs.GroupEvent.{removes_pending, owner}
+use Rattle.xs_keys.specs.GroupEvent.{Ask, GroupEvent, claim, auto_claim, claim_of_event, scan_end_of_event, rule_of, rows, takes}
+use Rattle.xs_keys.specs.GroupEvent.{is_removed_by_claim, owner}
 use Rattle.xs_keys.specs.Touched.{time_of}
+use Rattle.xs_keys.specs.Event.{PendingEntries}
 
 -- the least idle time that is asked for
 abbrev pub least_idle : Ask → ℕ
@@ -40,8 +41,8 @@ is_before cursor x = is_same cursor zero_id || is_below x cursor
 
 -- an XAUTOCLAIM comes to the entry, over these rows: it is at its start or past it, and before the cursor where it goes
 -- on; a cursor of 0-0 is past all
-abbrev pub comes_to : GroupEvent → List (Id × Row) → Id → Bool
-comes_to event rows x = is_from_start event.ask x && is_before (goes_on_at event rows) x
+abbrev pub comes_to : GroupEvent → PendingEntries → Id → Bool
+comes_to event rows x = is_from_start event.ask x && is_before (scan_end_of_event event rows) x
 
 -- as many entries as a scan may claim or remove
 abbrev pub most_hits : Ask → ℕ
@@ -49,34 +50,34 @@ most_hits (auto_claim consumer rule start limit) = limit
 most_hits _ = 0
 
 -- over these rows a claim takes and removes as many as it may, or it comes to ten times as many rows, so that it may stop
-abbrev pub MayStop : GroupEvent → List (Id × Row) → Type 0
+abbrev pub MayStop : GroupEvent → PendingEntries → Type 0
 MayStop event rows =
-    (most_hits event.ask ≤ length (claims_of event rows).take + length (claims_of event rows).removed)
+    (most_hits event.ask ≤ length (claim_of_event event rows).take + length (claim_of_event event rows).removed)
     ⊎ (10 * most_hits event.ask ≤ length (filter (λ x. comes_to event rows x) (map (λ e. e.0) rows)))
 
 -- a claim is asked for this entry: an XCLAIM names it, or an XAUTOCLAIM comes to it
-abbrev pub is_asked_for : GroupEvent → List (Id × Row) → Id → Bool
+abbrev pub is_asked_for : GroupEvent → PendingEntries → Id → Bool
 is_asked_for event rows x = is_named_by event.ask x || comes_to event rows x
 
 -- a claim takes the entry exactly if it is asked for it and may take it, and removes it exactly if it is asked for it and
 -- it has left the stream
 pub record ClaimsWhatIsAsked (start : Id) (past : List GroupEvent) (event : GroupEvent) (x : Id) : Type 0 where
   pub takes_idle : takes start past event x ≡ true → IsTakenWhenIdle start past event x
-  pub removes_gone : removes_pending start past event x ≡ true → IsRemovedWhenGone start past event x
+  pub removes_gone : is_removed_by_claim start past event x ≡ true → IsRemovedWhenGone start past event x
   pub takes_asked : takes start past event x ≡ true → is_asked_for event (rows start past) x ≡ true
-  pub removes_asked : removes_pending start past event x ≡ true → is_asked_for event (rows start past) x ≡ true
+  pub removes_asked : is_removed_by_claim start past event x ≡ true → is_asked_for event (rows start past) x ≡ true
   pub takes_all :
       is_asked_for event (rows start past) x ≡ true → IsTakenWhenIdle start past event x
       → takes start past event x ≡ true
   pub removes_all :
       is_asked_for event (rows start past) x ≡ true → IsRemovedWhenGone start past event x
-      → removes_pending start past event x ≡ true
+      → is_removed_by_claim start past event x ≡ true
 
 -- so it is with each claim of a life; it takes no entry twice; and a scan comes to the end of the rows, or may stop
 pub record ClaimsInTurn (start : Id) (past : List GroupEvent) (event : GroupEvent) : Type 0 where
   pub as_asked : (x : Id) → ClaimsWhatIsAsked start past event x
-  pub each_once : AreApart (claims_of event (rows start past)).take
-  pub far_enough : (goes_on_at event (rows start past) ≡ zero_id) ⊎ MayStop event (rows start past)
+  pub each_once : AreApart (claim_of_event event (rows start past)).take
+  pub far_enough : (scan_end_of_event event (rows start past) ≡ zero_id) ⊎ MayStop event (rows start past)
 
 abbrev pub ClaimsWhatIsIdle : Id → List GroupEvent → Type 0
 ClaimsWhatIsIdle start events =

@@ -3,15 +3,16 @@
 use Rattle.std.specs.Prelude.{◌≡◌, ◌⊎◌, ℕ, ◌≤◌, true, false, List, [], ◌∷◌, length, Option, Some}
 use Rattle.xs_keys.specs.Ground.{flat_map, Id, Field, has_id, fields_at, Ascends, AllUpTo, Reply, NullArray}
 use Rattle.xs_keys.specs.Reply.{array, id_reply, field_replies}
+use Rattle.xs_keys.specs.Event.{Entries}
 
 -- an entry: its id, and the fields that it was given with
-abbrev pub TellsEntry : List (Id × List Field) → Id → Reply → Type 0
+abbrev pub TellsEntry : Entries → Id → Reply → Type 0
 TellsEntry given x answer =
     (fields : List Field) × (fields_at given x ≡ Some fields)
     × (answer ≡ array (id_reply x ∷ array (flat_map field_replies fields) ∷ []))
 
 -- an entry that may have left the stream: then it has the null array in place of fields
-abbrev pub TellsEntryOrNull : List (Id × List Field) → List Id → Id → Reply → Type 0
+abbrev pub TellsEntryOrNull : Entries → List Id → Id → Reply → Type 0
 TellsEntryOrNull given present x answer =
     (has_id present x ≡ true → TellsEntry given x answer)
     × (has_id present x ≡ false → answer ≡ array (id_reply x ∷ NullArray ∷ []))

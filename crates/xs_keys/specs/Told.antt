@@ -12,103 +12,104 @@ use Rattle.xs_keys.specs.Ground.{option_map_or, Id, Field, Command, Add, Delete,
 use Rattle.xs_keys.specs.Ground.{PendingRows, Claim, AutoClaim, ReadGroupCommand, ReadOne, ReadFrom, New, After, Reply}
 use Rattle.xs_keys.specs.Ground.{Error, NoGroup, Int, Bulk, NullBulk, zero_id, is_below, has_id}
 use Rattle.xs_keys.specs.Life.{key_life, given_in}
-use Rattle.xs_keys.specs.GroupEvent.{Ask, GroupEvent, claim, auto_claim, no_claim, claims_of, goes_on_at, rows, owner}
+use Rattle.xs_keys.specs.GroupEvent.{Ask, GroupEvent, claim, auto_claim, no_claim, claim_of_event, scan_end_of_event, rows, owner}
 use Rattle.xs_keys.specs.Touched.{time_of, count_of}
-use Rattle.xs_keys.specs.GroupLife.{GroupLife, group_life, present_in, acts, delivered_by}
+use Rattle.xs_keys.specs.GroupLife.{GroupLife, group_life, present_in, has_all_groups, ids_delivered_by}
 use Rattle.xs_keys.specs.Reply.{array, array_or_null, id_reply}
 use Rattle.xs_keys.specs.Telling.{TellsEntry, TellsEntryOrNull, TellsEach, AreFirst}
 use Rattle.xs_keys.specs.Step.{is_error}
+use Rattle.xs_keys.specs.Event.{Bytes, Event, History, Entries}
 
 -- all entries ever given in the open life of a key, with the fields that they were given with
-abbrev pub given_at : List (ℕ × Command) → List ℕ → List (Id × List Field)
+abbrev pub given_at : History → Bytes → Entries
 given_at past key = option_map_or given_in (key_life past key) []
 
 -- an addition tells the id of the one entry that it gives, with its fields, or that it gives none: by an error, or by
 -- the null bulk string if it may not make the key
-abbrev pub TellsAddition : List (Id × List Field) → List Field → Reply → List (Id × List Field) → Type 0
+abbrev pub TellsAddition : Entries → List Field → Reply → Entries → Type 0
 TellsAddition before fields answer after =
     ((id : Id) × (answer ≡ id_reply id) × (after ≡ before ++ (id, fields) ∷ []))
     ⊎ (((is_error answer ≡ true) ⊎ (answer ≡ NullBulk)) × (after ≡ before))
 
 -- a number, by which there are fewer after the event than before it
-abbrev pub TellsFewer : (List (ℕ × Command) → ℕ) → List (ℕ × Command) → ℕ × Command → Reply → Type 0
+abbrev pub TellsFewer : (History → ℕ) → History → Event → Reply → Type 0
 TellsFewer count past event answer = (n : ℕ) × (answer ≡ Int n) × (n + count (event ∷ past) ≡ count past)
 
 -- how many entries are in the stream of a key, and how many are pending in a group
-abbrev pub present_count : List ℕ → List (ℕ × Command) → ℕ
+abbrev pub present_count : Bytes → History → ℕ
 present_count key past = length (present_in (key_life past key))
 
-abbrev pub pending_count : List ℕ → List ℕ → List (ℕ × Command) → ℕ
+abbrev pub pending_count : Bytes → Bytes → History → ℕ
 pending_count key group past =
     option_map_or (λ life. length (rows life.start life.events)) (group_life past key group) 0
 
 -- the part of a reply for a stream with these new entries; without any there is none
-abbrev pub TellsNew : List ℕ → List (Id × List Field) → List Id → List Reply → Type 0
+abbrev pub TellsNew : Bytes → Entries → List Id → List Reply → Type 0
 TellsNew key given [] told = told ≡ []
 TellsNew key given (x ∷ xs) told =
     (entries : List Reply) × (told ≡ array (Bulk key ∷ array entries ∷ []) ∷ [])
     × TellsEach (TellsEntry given) (x ∷ xs) entries
 
 -- the owner of an entry in a group
-abbrev pub owner_in : Option GroupLife → Id → Option (List ℕ)
+abbrev pub owner_in : Option GroupLife → Id → Option Bytes
 owner_in life x = option_and_then (λ l. owner l.start l.events x) life
 
 -- it is pending with the consumer in the group, and past the id
-abbrev pub IsOwnPast : Option GroupLife → List ℕ → Id → Id → Type 0
+abbrev pub IsOwnPast : Option GroupLife → Bytes → Id → Id → Type 0
 IsOwnPast life consumer from x = (owner_in life x ≡ Some consumer) × (is_below from x ≡ true)
 
 -- the part of a reply for one stream that an event reads: with `>` what the event delivers in the group, with an id the
 -- first entries past it that are pending with the consumer
-abbrev pub TellsRead : List (ℕ × Command) → ReadGroupCommand → List ℕ → ReadFrom → List Reply → Type 0
+abbrev pub TellsRead : History → ReadGroupCommand → Bytes → ReadFrom → List Reply → Type 0
 TellsRead past read key New told =
-    TellsNew key (given_at past key) (delivered_by past (ReadGroup read) key read.group) told
+    TellsNew key (given_at past key) (ids_delivered_by past (ReadGroup read) key read.group) told
 TellsRead past read key (After id) told =
     (ids : List Id) × (entries : List Reply) × (told ≡ array (Bulk key ∷ array entries ∷ []) ∷ [])
     × AreFirst (IsOwnPast (group_life past key read.group) read.consumer id) read.limit ids
     × TellsEach (TellsEntryOrNull (given_at past key) (present_in (key_life past key))) ids entries
 
 -- the parts of all streams, in the order written
-abbrev pub TellsReads : List (ℕ × Command) → ReadGroupCommand → List ReadOne → List Reply → Type 0
+abbrev pub TellsReads : History → ReadGroupCommand → List ReadOne → List Reply → Type 0
 TellsReads past read [] told = told ≡ []
 TellsReads past read (one ∷ more) told =
     (first rest : List Reply) × (told ≡ first ++ rest)
     × TellsRead past read one.key one.from first × TellsReads past read more rest
 
 -- what a claim takes and removes in a group, and where it goes on
-abbrev pub claimed_at : List (ℕ × Command) → ℕ → List ℕ → List ℕ → Ask → Scan
+abbrev pub claimed_at : History → ℕ → Bytes → Bytes → Ask → Scan
 claimed_at past now key group ask =
     let event : GroupEvent = record { now = now; present = present_in (key_life past key); ask = ask } in
     let scan : GroupLife → Scan = λ life. record {
-      cursor = goes_on_at event (rows life.start life.events);
-      claim = claims_of event (rows life.start life.events);
+      cursor = scan_end_of_event event (rows life.start life.events);
+      claim = claim_of_event event (rows life.start life.events);
     } in
     option_map_or scan (group_life past key group) (record { cursor = zero_id; claim = no_claim })
 
 -- what is taken is the consumer's from then on, what is removed is nobody's, and all else stays with its owner
-pub record IsAssigned (consumer : List ℕ) (claimed : claims.Claim) (before after : Option GroupLife) : Type 0 where
+pub record IsAssigned (consumer : Bytes) (claimed : claims.Claim) (before after : Option GroupLife) : Type 0 where
   pub taken : (x : Id) → has_id claimed.take x ≡ true → owner_in after x ≡ Some consumer
   pub removed : (x : Id) → has_id claimed.removed x ≡ true → owner_in after x ≡ None
   pub others :
       (x : Id) → has_id claimed.take x ≡ false → has_id claimed.removed x ≡ false → owner_in after x ≡ owner_in before x
 
 -- the entries that a claim takes, or their ids alone
-abbrev pub TellsTaken : Bool → List (Id × List Field) → List Id → List Reply → Type 0
+abbrev pub TellsTaken : Bool → Entries → List Id → List Reply → Type 0
 TellsTaken true given ids told = TellsEach (λ x answer. answer ≡ id_reply x) ids told
 TellsTaken false given ids told = TellsEach (TellsEntry given) ids told
 
 -- an XPENDING with a range asks for the entry: it is pending, within the range, has been for long enough, and belongs to
 -- the consumer if one is named
 pub record IsAskedRow (asked : PendingRowsCommand) (now : ℕ) (life : GroupLife) (x : Id) : Type 0 where
-  pub consumer : List ℕ
+  pub consumer : Bytes
   pub owned : owner life.start life.events x ≡ Some consumer
   pub within : is_within asked.range x ≡ true
   pub long_enough : asked.min_idle ≤ now - time_of life.start life.events x
-  pub named : (name : List ℕ) → asked.consumer ≡ Some name → consumer ≡ name
+  pub named : (name : Bytes) → asked.consumer ≡ Some name → consumer ≡ name
 
 -- its row: the id, its owner, how long ago the time is that it was last given, and how often it was delivered
 abbrev pub TellsRow : ℕ → GroupLife → Id → Reply → Type 0
 TellsRow now life x answer =
-    (consumer : List ℕ) × (owner life.start life.events x ≡ Some consumer)
+    (consumer : Bytes) × (owner life.start life.events x ≡ Some consumer)
     × (answer ≡ array (id_reply x ∷ Bulk consumer ∷ Int (now - time_of life.start life.events x)
     ∷ Int (count_of life.start life.events x) ∷ []))
 
@@ -124,14 +125,14 @@ IfThere there answer Told = (there ≡ true → Told) × (there ≡ false → an
 
 -- an addition tells what it gives, a read what it delivers or what its consumer has, and a claim what it takes; XPENDING
 -- tells what is pending; and an acknowledgement and a removal tell how many they take away
-abbrev pub IsTold : List (ℕ × Command) → ℕ → Command → Reply → Type 0
+abbrev pub IsTold : History → ℕ → Command → Reply → Type 0
 IsTold past now (Add add) answer =
     TellsAddition (given_at past add.key) add.fields answer (given_at ((now, Add add) ∷ past) add.key)
 IsTold past now (Delete key ids) answer = TellsFewer (present_count key) past (now, Delete key ids) answer
 IsTold past now (TrimTo key trim) answer = TellsFewer (present_count key) past (now, TrimTo key trim) answer
 IsTold past now (Len key) answer = answer ≡ Int (present_count key past)
 IsTold past now (ReadGroup read) answer =
-    IfThere (acts past (ReadGroup read)) answer
+    IfThere (has_all_groups past (ReadGroup read)) answer
     ((told : List Reply) × (answer ≡ array_or_null told) × TellsReads past read read.reads told)
 IsTold past now (Ack key group ids) answer = TellsFewer (pending_count key group) past (now, Ack key group ids) answer
 IsTold past now (Pending key group) answer =

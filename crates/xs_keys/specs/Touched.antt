@@ -4,41 +4,42 @@ use Rattle.std.specs.Prelude.{◌≡◌, ℕ, Bool, List, [], ◌∷◌, Some, �
 use Rattle.xs_group.specs.Claims.{row_at, claim_time, claim_count}
 use Rattle.xs_group.specs.State.{raised}
 use Rattle.xs_keys.specs.Ground.{option_map_or, Id, Row, has_id, shown}
-use Rattle.xs_keys.specs.GroupEvent.{Ask, GroupEvent, read_new, read_own, rule_of, rows, assigns}
+use Rattle.xs_keys.specs.GroupEvent.{Ask, GroupEvent, read_new, read_own, rule_of, rows, is_assigned_by}
+use Rattle.xs_keys.specs.Event.{PendingEntries}
 
 -- the own pending entries that an ask shows once more, over the rows it meets
-abbrev pub shown_again : Ask → List (Id × Row) → List Id
-shown_again (read_own consumer limit from) rows = shown consumer limit from rows
-shown_again _ rows = []
+abbrev pub own_ids_shown : Ask → PendingEntries → List Id
+own_ids_shown (read_own consumer limit from) rows = shown consumer limit from rows
+own_ids_shown _ rows = []
 
 -- the event delivers it once more to the consumer who has it: it is shown, and still in the stream
-abbrev pub redelivers : Id → List GroupEvent → GroupEvent → Id → Bool
-redelivers start past event x = has_id (shown_again event.ask (rows start past)) x && has_id event.present x
+abbrev pub is_redelivered_by : Id → List GroupEvent → GroupEvent → Id → Bool
+is_redelivered_by start past event x = has_id (own_ids_shown event.ask (rows start past)) x && has_id event.present x
 
 -- it is delivered without NOACK, taken by a claim, or delivered once more
-abbrev pub touches : Id → List GroupEvent → GroupEvent → Id → Bool
-touches start past event x = assigns start past event x || redelivers start past event x
+abbrev pub is_touched_by : Id → List GroupEvent → GroupEvent → Id → Bool
+is_touched_by start past event x = is_assigned_by start past event x || is_redelivered_by start past event x
 
 -- the time that it gets: that of the claim, else now
-abbrev pub time_given : Ask → ℕ → ℕ
-time_given ask now = option_map_or (λ rule. claim_time rule.when now) (rule_of ask) now
+abbrev pub time_of_touch : Ask → ℕ → ℕ
+time_of_touch ask now = option_map_or (λ rule. claim_time rule.when now) (rule_of ask) now
 
 -- the count that it gets: 1 at its delivery, that of the claim, else one more
-abbrev pub count_given : Ask → ℕ → ℕ
-count_given (read_new consumer limit noack) count = 1
-count_given ask count = option_map_or (λ r. claim_count r.retry r.just_id count) (rule_of ask) (raised count)
+abbrev pub count_of_touch : Ask → ℕ → ℕ
+count_of_touch (read_new consumer limit noack) count = 1
+count_of_touch ask count = option_map_or (λ r. claim_count r.retry r.just_id count) (rule_of ask) (raised count)
 
 -- the time that it got from the last event that touched it
 abbrev pub time_of : Id → List GroupEvent → Id → ℕ
 time_of start [] x = 0
 time_of start (event ∷ past) x =
-    if touches start past event x then time_given event.ask event.now else time_of start past x
+    if is_touched_by start past event x then time_of_touch event.ask event.now else time_of start past x
 
 -- the count that it got from the last event that touched it
 abbrev pub count_of : Id → List GroupEvent → Id → ℕ
 count_of start [] x = 0
 count_of start (event ∷ past) x =
-    if touches start past event x then count_given event.ask (count_of start past x) else count_of start past x
+    if is_touched_by start past event x then count_of_touch event.ask (count_of start past x) else count_of start past x
 
 -- time and count of a pending row are those of the last event that touched it
 abbrev pub IsLastTouched : Id → List GroupEvent → Type 0

@@ -10,8 +10,8 @@ ghost use Rattle.xs_group.specs.State.{is_name};
 ghost use Rattle.xs_command.specs.declared.command.Command.{Command};
 ghost use Rattle.xs_command.specs.WellFormed.{IsWellFormed};
 ghost use Rattle.xs_keys.specs.Life.{Change, key_life, given_in, live};
-ghost use Rattle.xs_keys.specs.GroupEvent.{delivered, cursor, holding, owner};
-ghost use Rattle.xs_keys.specs.GroupLife.{GroupLife, group_life, group_of, present_in, asks_new, delivered_by, GoesOn};
+ghost use Rattle.xs_keys.specs.GroupEvent.{delivered, cursor, pending_row_at, owner};
+ghost use Rattle.xs_keys.specs.GroupLife.{GroupLife, group_life, group_of, present_in, reads_new_entries, ids_delivered_by, GoesOn};
 ghost use Rattle.xs_keys.specs.Content.{Content, IsContent, after, IsLawfulContent};
 ghost use Rattle.xs_keys.specs.Reply.{reply};
 ghost use Rattle.xs_keys.specs.Step.{IsUnchangedIfRefused};
@@ -23,16 +23,17 @@ ghost use Rattle.xs_keys.specs.Job.{is_pending, jobs_at, BooksBalance, TellsPend
 ghost use Rattle.xs_keys.specs.Presence.{EntriesAreAdded, EntriesStay, GroupsAreCreated, GroupsStay};
 ghost use Rattle.xs_keys.specs.Headline.{HadItsTurn, DeliversInFull, OwnedUntilSettled, ChangesByClaims};
 ghost use Rattle.xs_keys.specs.Headline.{IsPendingWithOwner, OfEachLife};
+ghost use Rattle.xs_keys.specs.Event.{Bytes, Event, History};
 
 /// The empty history leaves the empty content; an event leads from the content of a history to the
 /// content of the history followed by it; a history has one content; and that is lawful.
 pub fn step_law()
     ensures empty { IsContent map.empty [] }
-    ensures step { (past : List (ℕ × Command)) (content : Content) (now : ℕ) (command : Command) →
+    ensures step { (past : History) (content : Content) (now : ℕ) (command : Command) →
         IsContent content past → IsContent (after content now command) ((now, command) ∷ past) }
-    ensures unique { (past : List (ℕ × Command)) (one other : Content) →
+    ensures unique { (past : History) (one other : Content) →
         IsContent one past → IsContent other past → one ≡ other }
-    ensures lawful { (past : List (ℕ × Command)) (content : Content) →
+    ensures lawful { (past : History) (content : Content) →
         IsContent content past → IsLawfulContent content }
 {}
 
@@ -44,7 +45,7 @@ pub fn what_is_refused_changes_nothing()
 
 /// The ids given in the life of a key ascend.
 pub fn ids_ascend()
-    ensures { (past : List (ℕ × Command)) (name : List ℕ) (changes : List Change) → key_life past name ≡ Some changes →
+    ensures { (past : History) (name : Bytes) (changes : List Change) → key_life past name ≡ Some changes →
         Ascends (ids_of (given_in changes)) }
 {}
 
@@ -78,29 +79,29 @@ pub fn one_owner_until_settled()
 /// of the group is open: before its start, or after its end. What is delivered in a life is what its
 /// events deliver, one after the other, and nothing else.
 pub fn lives_are_apart()
-    ensures elsewhere { (past : List (ℕ × Command)) (command : Command) (key group : List ℕ) →
-        (is_name group (group_of command) ≡ false) ⊎ (asks_new command key ≡ false)
-        → delivered_by past command key group ≡ [] }
-    ensures outside { (past : List (ℕ × Command)) (command : Command) (key group : List ℕ) →
-        group_life past key group ≡ None → delivered_by past command key group ≡ [] }
-    ensures goes_on { (past : List (ℕ × Command)) (now : ℕ) (command : Command) (key group : List ℕ) →
+    ensures elsewhere { (past : History) (command : Command) (key group : Bytes) →
+        (is_name group (group_of command) ≡ false) ⊎ (reads_new_entries command key ≡ false)
+        → ids_delivered_by past command key group ≡ [] }
+    ensures outside { (past : History) (command : Command) (key group : Bytes) →
+        group_life past key group ≡ None → ids_delivered_by past command key group ≡ [] }
+    ensures goes_on { (past : History) (now : ℕ) (command : Command) (key group : Bytes) →
         IsWellFormed command →
-        let new = delivered_by past command key group in
+        let new = ids_delivered_by past command key group in
         GoesOn (group_life past key group) new (group_life ((now, command) ∷ past) key group) }
 {}
 
 /// What an accepted read with `>` tells its consumer are the entries that the event delivers in the group, and what an
 /// accepted claim tells are those that it takes, each with the fields that it was given with (ids alone under JUSTID).
 pub fn what_is_told_is_what_was_delivered()
-    ensures { (past : List (ℕ × Command)) (content : Content) (now : ℕ) (command : Command) →
+    ensures { (past : History) (content : Content) (now : ℕ) (command : Command) →
         IsContent content past → IsWellFormed command → IsTold past now command (reply content now command) }
 {}
 
 /// The owner, searched for by looking back for the last event that assigned the entry and for a later one
 /// that settled it, is the consumer of the row that the proofs go over.
 pub fn owner_is_of_the_row()
-    ensures holding { OfEachLife (λ life. (x : Id) →
-        owner life.start life.events x ≡ option_map (λ row. row.consumer) (holding life.start life.events x)) }
+    ensures pending_row_at { OfEachLife (λ life. (x : Id) →
+        owner life.start life.events x ≡ option_map (λ row. row.consumer) (pending_row_at life.start life.events x)) }
     ensures pending { OfEachLife (λ life. IsPendingWithOwner life.start life.events) }
 {}
 
@@ -128,23 +129,23 @@ pub fn a_claim_takes_what_is_idle()
 /// doubled or without an owner: what waits, what was dropped or handed out, the rows that XPENDING shows and what is
 /// settled are all that was given past the start.
 pub fn the_life_of_a_job()
-    ensures one_place { (past : List (ℕ × Command)) (key group : List ℕ) (changes : List Change) (life : GroupLife) →
+    ensures one_place { (past : History) (key group : Bytes) (changes : List Change) (life : GroupLife) →
         key_life past key ≡ Some changes → group_life past key group ≡ Some life →
         (x : Id) → has_id (ids_of (given_in changes)) x ≡ true → HasOnePlace life (ids_of (live changes)) x }
-    ensures goes_along { (past : List (ℕ × Command)) (now : ℕ) (command : Command) (key group : List ℕ) (x : Id) →
+    ensures goes_along { (past : History) (now : ℕ) (command : Command) (key group : Bytes) (x : Id) →
         IsWellFormed command →
         GoesAlong command key group (present_in (key_life past key)) x (place_after past key group x)
         (place_after ((now, command) ∷ past) key group x) }
-    ensures additions { (earlier : List (ℕ × Command)) (e : ℕ × Command) → EntriesAreAdded earlier e }
-    ensures presence { (earlier : List (ℕ × Command)) (e : ℕ × Command) → EntriesStay earlier e }
-    ensures groups { (earlier : List (ℕ × Command)) (e : ℕ × Command) → GroupsAreCreated earlier e }
-    ensures open_groups { (earlier : List (ℕ × Command)) (e : ℕ × Command) → GroupsStay earlier e }
-    ensures for_good { (later earlier : List (ℕ × Command)) (key group : List ℕ) (x : Id) (here : Place) →
+    ensures additions { (earlier : History) (e : Event) → EntriesAreAdded earlier e }
+    ensures presence { (earlier : History) (e : Event) → EntriesStay earlier e }
+    ensures groups { (earlier : History) (e : Event) → GroupsAreCreated earlier e }
+    ensures open_groups { (earlier : History) (e : Event) → GroupsStay earlier e }
+    ensures for_good { (later earlier : History) (key group : Bytes) (x : Id) (here : Place) →
         GoesOnFor key group later → is_final here ≡ true → place_after earlier key group x ≡ Some here →
         place_after (later ++ earlier) key group x ≡ Some here }
-    ensures balances { (past : List (ℕ × Command)) (key group : List ℕ) (changes : List Change) (life : GroupLife) →
+    ensures balances { (past : History) (key group : Bytes) (changes : List Change) (life : GroupLife) →
         key_life past key ≡ Some changes → group_life past key group ≡ Some life → BooksBalance changes life }
-    ensures told { (past : List (ℕ × Command)) (content : Content) (now : ℕ) (key group : List ℕ)
+    ensures told { (past : History) (content : Content) (now : ℕ) (key group : Bytes)
         (changes : List Change) (life : GroupLife) → IsContent content past → key_life past key ≡ Some changes →
         group_life past key group ≡ Some life →
         TellsPending content now key group (length (jobs_at is_pending changes life)) }

@@ -6,7 +6,7 @@ ghost use Rattle.xs_bytes.specs.SortedMap.{NameMap};
 ghost use Rattle.xs_stream.specs.Kept.{ids_of};
 ghost use Rattle.xs_group.specs.State.{State};
 ghost use Rattle.xs_group.specs.Delivered.{IsMade, row_ids};
-ghost use Rattle.xs_keys.specs.GroupLife.{read_ask};
+ghost use Rattle.xs_keys.specs.GroupLife.{ask_of_read};
 ghost use Rattle.xs_keys.specs.Content.{Content, group_after, group_in, serves, read_each};
 ghost use Rattle.xs_keys.specs.Codes.{content_of, groups_of};
 ghost use Rattle.xs_resp.specs.ReplyItems.{tokens_of};
@@ -41,7 +41,7 @@ fn read_group(
     from: ReadFrom,
 ) -> Result<Delivery, AllocError>
     ensures ok { OnOk result (group.new
-        ≡ group_after now (ids_of stream.now.entries) (read_ask read.now from) group.old) }
+        ≡ group_after now (ids_of stream.now.entries) (ask_of_read read.now from) group.old) }
     ensures rows { IfOk result (λ d. row_ids d.rows ≡ ids_shown read.now from (ids_of stream.now.entries) group.old) }
     ensures made { IfOk result (λ d. IsMade group.old group.new d) }
     ensures err { OnErr result (group.new ≡ group.old) }

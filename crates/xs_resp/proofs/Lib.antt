@@ -1,6 +1,9 @@
 pub mod Marks
 pub mod Wholeness
 pub mod Replying
+pub mod FaultLengths
+pub mod TokensAt
+pub mod Encoding
 pub mod TwoDigits
 pub mod Reading
 pub mod Outcomes

@@ -6,6 +6,9 @@ pub mod Marks
 pub mod ReplyItems
 pub mod WholeReplies
 pub mod ReplyText
+pub mod Left
+pub mod Position
+pub mod Fitting
 pub mod Outcome
 pub mod Part
 pub mod Header

@@ -2,6 +2,7 @@
 #![tactic(auto)]
 
 mod copying;
+pub mod encoder;
 pub mod examples;
 pub mod fault;
 mod header;
@@ -11,10 +12,14 @@ mod progress;
 pub mod read_fault;
 pub mod reply;
 pub mod requests;
+mod sequence;
+#[cfg(test)]
+mod tests;
 pub mod tokens;
 mod word;
 pub mod writing;
 
+pub use encoder::Encoder;
 pub use fault::Fault;
 pub use read_fault::{ReadFault, Wrong};
 pub use reply::{Replies, Reply, Simple};

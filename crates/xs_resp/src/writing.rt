@@ -1,5 +1,5 @@
 //! Replies as bytes (RESP protocol specification, version 2).
-ghost use Rattle.std.specs.Prelude.{◌≡◌, ◌++◌, ◌∷◌, OnOk, OnErr, length};
+ghost use Rattle.std.specs.Prelude.{◌≡◌, ◌++◌, ◌∷◌, OnOk, OnErr, length, ◌+◌, ◌≤◌, vec_len, vec_capacity, IsOk};
 ghost use Rattle.std.specs.List.{flat_map};
 ghost use Rattle.xs_resp.specs.ReplyText.{text, token_text, simple_text, Writes};
 ghost use Rattle.xs_resp.specs.Line.{line, crlf};
@@ -9,8 +9,11 @@ ghost use Rattle.xs_resp.specs.Marks.{token_in, tokens_in, strings_length};
 use crate::fault::Fault;
 use crate::mark::Mark;
 use crate::reply::{Replies, Reply, Simple};
+use itoa::Buffer;
 use std::alloc::AllocError;
-use xs_bytes::push_decimal;
+
+/// No token has more bytes beside its string.
+pub(crate) const SHORT: usize = 128;
 
 /// Appends the text of a reply. `out` is unchanged on refusal.
 pub fn encode(reply: &Reply, out: &mut Vec<u8>) -> Result<(), AllocError>
@@ -64,8 +67,10 @@ fn write_tokens(marks: &[Mark], strings: &[u8], out: &mut Vec<u8>) -> Result<(),
     Ok(())
 }
 
-fn write_token(mark: Mark, string: &[u8], out: &mut Vec<u8>) -> Result<(), AllocError>
-    ensures { Writes result out.old.items out.new.items (token_text (token_in mark string.now)) }
+pub(crate) fn write_token(mark: Mark, string: &[u8], out: &mut Vec<u8>) -> Result<(), AllocError>
+    ensures text { Writes result out.old.items out.new.items (token_text (token_in mark string.now)) }
+    ensures grows { vec_capacity out.old ≤ vec_capacity out.new }
+    ensures fits { vec_len out.old + (length string.now + 128) ≤ vec_capacity out.old → IsOk result }
 {
     match mark {
         Mark::Simple(simple) => write_simple(simple, out),
@@ -80,21 +85,30 @@ fn write_token(mark: Mark, string: &[u8], out: &mut Vec<u8>) -> Result<(), Alloc
 
 /// Appends a marker, a digit and the end of the line.
 fn write_digit(marker: u8, digit: u8, out: &mut Vec<u8>) -> Result<(), AllocError>
-    ensures { Writes result out.old.items out.new.items (marker ∷ digit ∷ crlf) }
+    ensures text { Writes result out.old.items out.new.items (marker ∷ digit ∷ crlf) }
+    ensures grows { vec_capacity out.old ≤ vec_capacity out.new }
+    ensures fits { vec_len out.old + 8 ≤ vec_capacity out.old → IsOk result }
+    ensures short { vec_len out.new ≤ vec_len out.old + 8 }
 {
     out.extend_from_slice(&[marker, digit, b'\r', b'\n'])
 }
 
 /// Appends a marker, two digits and the end of the line.
 fn write_two_digits(marker: u8, ten: u8, one: u8, out: &mut Vec<u8>) -> Result<(), AllocError>
-    ensures { Writes result out.old.items out.new.items (marker ∷ ten ∷ one ∷ crlf) }
+    ensures text { Writes result out.old.items out.new.items (marker ∷ ten ∷ one ∷ crlf) }
+    ensures grows { vec_capacity out.old ≤ vec_capacity out.new }
+    ensures fits { vec_len out.old + 8 ≤ vec_capacity out.old → IsOk result }
+    ensures short { vec_len out.new ≤ vec_len out.old + 8 }
 {
     out.extend_from_slice(&[marker, ten, one, b'\r', b'\n'])
 }
 
 /// Appends a marker, a number and the end of the line.
-fn write_line(marker: u8, number: u64, out: &mut Vec<u8>) -> Result<(), AllocError>
-    ensures { Writes result out.old.items out.new.items (line marker number) }
+pub(crate) fn write_line(marker: u8, number: u64, out: &mut Vec<u8>) -> Result<(), AllocError>
+    ensures text { Writes result out.old.items out.new.items (line marker number) }
+    ensures grows { vec_capacity out.old ≤ vec_capacity out.new }
+    ensures fits { vec_len out.old + 32 ≤ vec_capacity out.old → IsOk result }
+    ensures short { vec_len out.new ≤ vec_len out.old + 32 }
 {
     if number < 10 {
         // Most lengths and counts have one digit or two.
@@ -105,13 +119,16 @@ fn write_line(marker: u8, number: u64, out: &mut Vec<u8>) -> Result<(), AllocErr
         return write_two_digits(marker, b'0' + number / 10, b'0' + number % 10, out);
     }
     out.push(marker)?;
-    push_decimal(out, number)?;
+    let mut digits = Buffer::new();
+    out.extend_from_slice(digits.format(number).as_bytes())?;
     out.extend_from_slice(b"\r\n")
 }
 
 fn write_bulk(bytes: &[u8], out: &mut Vec<u8>) -> Result<(), AllocError>
-    ensures { Writes result out.old.items out.new.items
+    ensures text { Writes result out.old.items out.new.items
         (line 36 (length bytes.now) ++ bytes.now ++ crlf) }
+    ensures grows { vec_capacity out.old ≤ vec_capacity out.new }
+    ensures fits { vec_len out.old + (length bytes.now + 128) ≤ vec_capacity out.old → IsOk result }
 {
     write_line(b'$', bytes.len() as u64, out)?;
     out.extend_from_slice(bytes)?;
@@ -119,7 +136,9 @@ fn write_bulk(bytes: &[u8], out: &mut Vec<u8>) -> Result<(), AllocError>
 }
 
 fn write_simple(simple: Simple, out: &mut Vec<u8>) -> Result<(), AllocError>
-    ensures { Writes result out.old.items out.new.items (43 ∷ simple_text simple ++ crlf) }
+    ensures text { Writes result out.old.items out.new.items (43 ∷ simple_text simple ++ crlf) }
+    ensures grows { vec_capacity out.old ≤ vec_capacity out.new }
+    ensures fits { vec_len out.old + 128 ≤ vec_capacity out.old → IsOk result }
 {
     match simple {
         Simple::Okay => out.extend_from_slice(b"+OK\r\n"),
@@ -127,8 +146,11 @@ fn write_simple(simple: Simple, out: &mut Vec<u8>) -> Result<(), AllocError>
     }
 }
 
+#[tactic(auto, using(crate::proofs::FaultLengths::fault_length))]
 fn write_fault(fault: Fault, out: &mut Vec<u8>) -> Result<(), AllocError>
-    ensures { Writes result out.old.items out.new.items (45 ∷ fault_text fault ++ crlf) }
+    ensures text { Writes result out.old.items out.new.items (45 ∷ fault_text fault ++ crlf) }
+    ensures grows { vec_capacity out.old ≤ vec_capacity out.new }
+    ensures fits { vec_len out.old + 128 ≤ vec_capacity out.old → IsOk result }
 {
     out.push(b'-')?;
     out.extend_from_slice(fault.text().as_bytes())?;

@@ -1,16 +1,16 @@
 use Rattle.std.proofs.Common.{◌≡◌, ◌≤◌, ◌-◌, length}
 use Rattle.xs_desk.specs.Serving.{Turns, HasPlaces}
-use Rattle.xs_desk.specs.Seats.{desk_of}
+use Rattle.xs_desk.specs.LaneEnds.{desk_of}
 use Rattle.xs_desk.proofs.keeper.serve_each.Given as goal
 
 -- the lanes below the next one have had their turn
 abbrev pub invariant-loop-lanes : goal.invariant-loop-lanes
 invariant-loop-lanes g l = record {
-  turned : Turns g.C.Clock.gives (desk_of l.fn.seats.items l.fn.keyspace l.fn.place) l.fn.clock l.served l.next (desk_of l.seats.items l.keyspace l.place) l.clock;
-  room : HasPlaces (desk_of l.seats.items l.keyspace l.place);
-  lanes : length l.seats.items ≡ length l.fn.seats.items;
-  within : l.next ≤ length l.seats.items;
+  turned : Turns g.C.Clock.gives (desk_of l.fn.lane_ends.items l.fn.keyspace l.fn.place) l.fn.clock l.served l.next (desk_of l.lane_ends.items l.keyspace l.place) l.clock;
+  room : HasPlaces (desk_of l.lane_ends.items l.keyspace l.place);
+  lanes : length l.lane_ends.items ≡ length l.fn.lane_ends.items;
+  within : l.next ≤ length l.lane_ends.items;
 }
 
 abbrev pub decreases-loop-lanes : goal.decreases-loop-lanes
-decreases-loop-lanes g l = length l.seats.items - l.next
+decreases-loop-lanes g l = length l.lane_ends.items - l.next

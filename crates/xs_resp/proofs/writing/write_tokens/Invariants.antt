@@ -1,4 +1,4 @@
-use Rattle.std.proofs.Common.{◌≡◌, ◌++◌, take, drop, length}
+use Rattle.std.proofs.Common.{◌≡◌, ◌++◌, take, drop}
 use Rattle.std.specs.List.{flat_map}
 use Rattle.xs_resp.specs.ReplyText.{token_text}
 use Rattle.xs_resp.specs.Marks.{strings_length, tokens_in}

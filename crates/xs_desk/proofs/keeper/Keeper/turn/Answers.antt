@@ -1,4 +1,4 @@
-use Rattle.xs_desk.specs.Seats.{desk_of}
+use Rattle.xs_desk.specs.LaneEnds.{desk_of}
 use Rattle.xs_desk.proofs.Histories.{history-has-places}
 use Rattle.xs_desk.proofs.Turning.{turn-keeps-history}
 use Rattle.xs_desk.proofs.Keeps.{turn-keeps-rings}
@@ -6,7 +6,7 @@ use Rattle.xs_desk.proofs.keeper.Keeper.turn.Goals as goal
 
 pub serve_each-served-requires : goal.serve_each-served-requires
 serve_each-served-requires g c =
-    history-has-places c.self.invariant.0 (desk_of c.self.inside.seats.items c.self.inside.keyspace c.self.inside.place) c.self.invariant.1
+    history-has-places c.self.invariant.0 (desk_of c.self.inside.lane_ends.items c.self.inside.keyspace c.self.inside.place) c.self.invariant.1
 
 pub invariant_of-self : goal.invariant_of-self
 invariant_of-self g c = turn-keeps-history _ _ _ _ _ _ _ _ c.self.invariant c.serve_each-served.ensures

@@ -10,7 +10,7 @@
 //! Where the keeper's look came before the push, so did its store: the client finds the lane at rest, and gives notice
 //! before its call ends. Where the look came after the push, it has found what was pushed.
 use crate::opening::MAX_LANES;
-use crate::waiting::Bell;
+use crate::waiting::Waker;
 use std::alloc::{AllocError, Global};
 use std::sync::Arc;
 use std::sync::atomic::{AtomicU64, Ordering};
@@ -33,7 +33,7 @@ struct Rests {
 
 /// The lanes that the keeper looks at, by their bits.
 #[derive(Drop)]
-pub(crate) struct Awake {
+pub(crate) struct PollSet {
     lanes: u64,
     // Those that had a call in this round.
     used: u64,
@@ -46,11 +46,11 @@ pub(crate) struct Awake {
 
 /// What the client of a lane tells the keeper by.
 #[derive(Drop)]
-pub(crate) struct Notice {
+pub(crate) struct Registration {
     lane: u64,
     rests: Arc<Rests>,
     // Wakes the keeper.
-    bell: Bell,
+    waker: Waker,
 }
 
 /// The bit of a lane.
@@ -58,14 +58,14 @@ fn bit_of(lane: usize) -> u64 {
     1u64.wrapping_shl((lane % MAX_LANES) as u32)
 }
 
-impl Awake {
+impl PollSet {
     /// No lane is looked at.
-    pub fn new(alloc: Global) -> Result<Awake, AllocError> {
+    pub fn new(alloc: Global) -> Result<PollSet, AllocError> {
         let rests = Rests {
             resting: AtomicU64::new(0),
             notices: AtomicU64::new(0),
         };
-        Ok(Awake {
+        Ok(PollSet {
             lanes: 0,
             used: 0,
             calls: 0,
@@ -74,12 +74,12 @@ impl Awake {
         })
     }
 
-    /// What tells the keeper, who has this bell, of a lane that is looked at from now on.
-    pub fn watch(&mut self, lane: usize, bell: Bell) -> Result<Notice, AllocError> {
+    /// What tells the keeper, whom this wakes, of a lane that is looked at from now on.
+    pub fn register(&mut self, lane: usize, waker: Waker) -> Result<Registration, AllocError> {
         let rests = Arc::try_clone(&self.rests)?;
         let lane = bit_of(lane);
         self.lanes |= lane;
-        Ok(Notice { lane, rests, bell })
+        Ok(Registration { lane, rests, waker })
     }
 
     /// Begins a turn, and answers the lanes to look at in it.
@@ -123,14 +123,14 @@ impl Awake {
     }
 }
 
-impl Notice {
-    /// Tells the keeper of a call, or of room for an answer, if it doesn't look. The bit comes before the bell: where
-    /// the keeper sleeps, the turn to which the bell wakes it finds the bit; where it doesn't yet, the look after which
-    /// it may sleep comes later than the bit.
-    pub fn give(&self) {
+impl Registration {
+    /// Tells the keeper of a call, or of room for an answer, if it doesn't look. The bit comes before the waker: if
+    /// the keeper sleeps, the turn to which it wakes finds the bit; if it doesn't yet, the look after which it may sleep
+    /// comes later than the bit.
+    pub fn notify(&self) {
         if self.rests.resting.load(Ordering::SeqCst) & self.lane != 0 {
             self.rests.notices.fetch_or(self.lane, Ordering::SeqCst);
         }
-        self.bell.ring();
+        self.waker.wake_if_asleep();
     }
 }

@@ -7,21 +7,21 @@ const NEAR: u64 = 2;
 /// So many calls in a row have to follow fast, once one has not.
 const CALLS: u32 = 1000;
 
-/// How fast the calls of one side follow one another, told by their moments.
+/// How fast the calls of one side follow one another, by their moments.
 #[derive(Clone, Copy)]
-pub(crate) struct Pace {
+pub(crate) struct CallRate {
     // The moment of the last call.
     last: Option<Moment>,
     // Calls in a row that followed fast, at most CALLS.
-    swift: u32,
+    fast: u32,
 }
 
-impl Pace {
+impl CallRate {
     /// Calls are taken to follow fast until one has not.
-    pub fn new() -> Pace {
-        Pace {
+    pub fn new() -> CallRate {
+        CallRate {
             last: None,
-            swift: CALLS,
+            fast: CALLS,
         }
     }
 
@@ -32,15 +32,15 @@ impl Pace {
             None => true,
         };
         self.last = Some(moment);
-        self.swift = if is_near {
-            self.swift.saturating_add(1).min(CALLS)
+        self.fast = if is_near {
+            self.fast.saturating_add(1).min(CALLS)
         } else {
             0
         };
     }
 
     /// Whether the last calls all followed fast, or none has been slow yet.
-    pub fn is_swift(&self) -> bool {
-        self.swift >= CALLS
+    pub fn is_high(&self) -> bool {
+        self.fast >= CALLS
     }
 }

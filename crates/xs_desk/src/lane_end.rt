@@ -3,7 +3,7 @@ ghost use Rattle.std.specs.Prelude.{◌≡◌, ◌≤◌, ◌<◌, length};
 ghost use Rattle.rtrb.specs.Ring.{sent, known_items, known_free};
 
 use crate::answer::{Answer, Formed, next_place};
-use crate::waiting::Bell;
+use crate::waiting::Waker;
 use rtrb::{Consumer, Producer};
 use std::alloc::Global;
 use xs_command::Command;
@@ -12,12 +12,12 @@ use xs_stream::Moment;
 
 /// The keeper's ends of the rings of a lane.
 #[derive(Drop)]
-pub(crate) struct Seat {
+pub(crate) struct LaneEnd {
     pub calls: Consumer<Command, Global, Formed>,
     pub answers: Producer<Answer>,
     pub ticket: u64,
     // Wakes the client of the lane.
-    pub bell: Bell,
+    pub waker: Waker,
     ghost counted: { ticket ≡ length (sent answers) },
 }
 
@@ -30,9 +30,9 @@ pub(crate) enum Look {
     Exhausted,
 }
 
-impl Seat {
-    ghost use Rattle.xs_desk.specs.Seats.{scene, Looks, FindsNothing};
-    ghost use Rattle.xs_desk.specs.declared.seat.Look.TheVariants.{Idle};
+impl LaneEnd {
+    ghost use Rattle.xs_desk.specs.LaneEnds.{scene, Looks, FindsNothing};
+    ghost use Rattle.xs_desk.specs.declared.lane_end.Look.TheVariants.{Idle};
 
     /// Serves the next call of the lane, if there is one and there is room for its answer.
     pub fn serve<C: Clock>(
@@ -81,7 +81,7 @@ impl Seat {
         });
         self.ticket += 1;
         *place = next;
-        self.bell.ring();
+        self.waker.wake_if_asleep();
         Look::Served(moment)
     }
 }

@@ -6,23 +6,23 @@ use Rattle.xs_command.specs.WellFormed.{IsWellFormed}
 use Rattle.xs_keys.specs.Content.{Content}
 use Rattle.xs_keys.specs.Step.{Step}
 use Rattle.xs_desk.specs.declared.answer.Answer.{Answer}
-use Rattle.xs_desk.specs.declared.seat.Look.{Look}
-use Rattle.xs_desk.specs.declared.seat.Look.TheVariants.{Idle, Served, Exhausted}
-use Rattle.xs_desk.specs.declared.seat.Seat.{Seat}
+use Rattle.xs_desk.specs.declared.lane_end.Look.{Look}
+use Rattle.xs_desk.specs.declared.lane_end.Look.TheVariants.{Idle, Served, Exhausted}
+use Rattle.xs_desk.specs.declared.lane_end.LaneEnd.{LaneEnd}
 use Rattle.xs_desk.specs.History.{LaneOf, Desk}
 use Rattle.xs_desk.specs.Rings.{producer_ring, consumer_ring}
 
-abbrev pub lane_of : Seat → LaneOf
-lane_of seat =
+abbrev pub lane_of : LaneEnd → LaneOf
+lane_of lane_end =
     record {
-      popped = received seat.calls;
-      sent = sent seat.answers;
-      calls = consumer_ring seat.calls;
-      answers = producer_ring seat.answers;
+      popped = received lane_end.calls;
+      sent = sent lane_end.answers;
+      calls = consumer_ring lane_end.calls;
+      answers = producer_ring lane_end.answers;
     }
 
-abbrev pub desk_of : List Seat → Content → ℕ → Desk
-desk_of seats keyspace place = record { lanes = map lane_of seats; keyspace = keyspace; place = place }
+abbrev pub desk_of : List LaneEnd → Content → ℕ → Desk
+desk_of lane_ends keyspace place = record { lanes = map lane_of lane_ends; keyspace = keyspace; place = place }
 
 -- what a look at a lane starts from, or leaves
 pub record Scene (C : Type 0) : Type 0 where
@@ -31,8 +31,8 @@ pub record Scene (C : Type 0) : Type 0 where
   pub place : ℕ
   pub clock : C
 
-abbrev pub scene : {C : Type 0} → Seat → Content → ℕ → C → Scene C
-scene seat keyspace place clock = record { lane = lane_of seat; keyspace = keyspace; place = place; clock = clock }
+abbrev pub scene : {C : Type 0} → LaneEnd → Content → ℕ → C → Scene C
+scene lane_end keyspace place clock = record { lane = lane_of lane_end; keyspace = keyspace; place = place; clock = clock }
 
 -- one call of the lane was taken, which is well formed, applied at the moment that the clock gave, and answered
 pub record Answers {C : Type 0} (gives : C → ℕ → C → Type 0) (old new : Scene C) : Type 0 where
@@ -54,6 +54,6 @@ Looks gives (Served _) old new = Answers gives old new
 Looks gives Exhausted old new = (new ≡ old) × (old.place + 1 ≡ 2 ^ 64)
 
 -- a look that finds nothing saw no call, or no room for its answer
-abbrev pub FindsNothing : Look → Seat → Type 0
-FindsNothing Idle seat = (length (known_items seat.calls) ≡ 0) ⊎ (known_free seat.answers ≡ 0)
-FindsNothing _ seat = Unit {0}
+abbrev pub FindsNothing : Look → LaneEnd → Type 0
+FindsNothing Idle lane_end = (length (known_items lane_end.calls) ≡ 0) ⊎ (known_free lane_end.answers ≡ 0)
+FindsNothing _ lane_end = Unit {0}

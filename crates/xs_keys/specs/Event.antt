@@ -1,0 +1,26 @@
+-- The types that the model is written in: events and their histories, and what keys and groups hold.
+use Rattle.std.specs.Prelude.{ℕ, List}
+use Rattle.xs_stream.specs.declared.id.Id.{Id}
+use Rattle.xs_stream.specs.declared.field.Field.{Field}
+use Rattle.xs_group.specs.State.{Row}
+use Rattle.xs_command.specs.declared.command.Command.{Command}
+
+-- a byte string: the name of a key, a group or a consumer
+abbrev pub Bytes : Type 0
+Bytes = List ℕ
+
+-- a command at a moment, in milliseconds
+abbrev pub Event : Type 0
+Event = ℕ × Command
+
+-- what has happened so far: the events, the newest first
+abbrev pub History : Type 0
+History = List Event
+
+-- entries of a stream, in the order of their ids
+abbrev pub Entries : Type 0
+Entries = List (Id × List Field)
+
+-- the pending entries list of a group: rows by id, in the order of the ids
+abbrev pub PendingEntries : Type 0
+PendingEntries = List (Id × Row)
