@@ -9,6 +9,7 @@ which CI runs. The last line is 'N passed, M failed'; the status is 1 if M > 0.
 """
 import contextlib
 import random
+import re
 import resource
 import signal
 import socket
@@ -19,7 +20,7 @@ import time
 
 import sessions
 from great import bulk, number
-from real_redis import request
+from real_redis import read_reply, request
 from served import (PING, PONG, all_answer, asking, fill, raw, read_exactly, read_to_end, reset, say, say_at, serving,
                     together, try_all)
 
@@ -266,6 +267,72 @@ def no_memory_for_connections(program):
         all_answer(server)
 
 
+def add_until_full(server):
+    """Adds entries of 1 KB until 200 additions are refused, and says how many were not."""
+    added = refused = 0
+    with raw(server.port) as stream, stream.makefile("rb") as replies:
+        while refused < 200:
+            stream.sendall(asking(f"XADD q * f {'v' * 1000}") * 50)
+            for _ in range(50):
+                got = read_reply(replies)
+                assert got == NO_MEMORY or got.startswith(b"$"), got
+                added, refused = added + (got != NO_MEMORY), refused + (got == NO_MEMORY)
+    return added
+
+
+def consume(server, count, takes):
+    """Takes so many entries on a connection of its own, and gives their ids. No reply is OOM."""
+    with raw(server.port) as stream, stream.makefile("rb") as replies:
+        def ask(text):
+            stream.sendall(asking(text))
+            return read_reply(replies)
+
+        option = " NOACK" if takes == "NOACK" else ""
+        got = ask(f"XREADGROUP GROUP g c{option} COUNT {count} STREAMS q >")
+        ids = [one.decode() for one in re.findall(rb"\*2\r\n\$\d+\r\n(\d+-\d+)\r\n", got)]
+        if not ids:
+            assert got == b"*-1\r\n", got[:100]
+            return ids
+        least = number(len(ids)).encode()
+        if takes != "NOACK":
+            assert (got := ask(f"XACK q g {' '.join(ids)}")) == least, got
+        moment, place = ids[-1].split("-")
+        removal = f"XTRIM q MINID {moment}-{int(place) + 1}" if takes == "XTRIM" else f"XDEL q {' '.join(ids)}"
+        assert (got := ask(removal)) == least, got
+        return ids
+
+
+def empty_full_queue(server, takes):
+    """Producers fill the memory. Consumers, on new connections, empty the queue: nothing but an addition is refused, no
+    connection ends, each entry is read once, and on the way additions are accepted again."""
+    say_at(server, "XGROUP CREATE q g 0 MKSTREAM", "+OK\r\n")
+    added, taken, again = add_until_full(server), [], 0
+    while ids := [one for count in (1, 10, 100) for one in consume(server, count, takes)]:
+        taken += ids
+        if len(taken) >= added:
+            continue
+        with raw(server.port) as stream, stream.makefile("rb") as replies:
+            stream.sendall(asking("XADD q * f v"))
+            got = read_reply(replies)
+            assert got == NO_MEMORY or got.startswith(b"$"), got
+            again += got != NO_MEMORY
+    print(f"{takes}, {server.workers} workers: {added} entries until memory ran out, {again} behind them", flush=True)
+    assert len(taken) == len(set(taken)) == added + again, (len(taken), len(set(taken)), added, again)
+    assert added > 1000 and again > 10
+    say_at(server, "DEL q", number(1))
+
+
+def full_queues(program):
+    """A bound of memory from the start, as by ulimit -v 200000, with 4 workers; and 64 MB above what 64 workers have."""
+    for takes in ("XDEL", "XTRIM", "NOACK"):
+        with serving(program, workers=4, limits={resource.RLIMIT_AS: 200_000 * 1024}) as server:
+            empty_full_queue(server, takes)
+        with serving(program, workers=64) as server:
+            all_answer(server)
+            limit_memory(server, 64 * MEGABYTE)
+            empty_full_queue(server, takes)
+
+
 def no_memory_kept(program):
     """After 10,000 connections the server has the memory that it had after 100, up to 1 MB."""
     with serving(program, workers=WORKERS) as server:
@@ -291,7 +358,7 @@ def main(arguments):
     return try_all(arguments[0], (never_reads, random_bytes, random_value, almost_requests, great_promises, great_requests,
                                   most_words,
                                   killed_in_reply, with_pauses, greedy),
-                   (little_memory, no_memory_for_connections, no_memory_kept), WORKERS)
+                   (little_memory, no_memory_for_connections, full_queues, no_memory_kept), WORKERS)
 
 
 if __name__ == "__main__":

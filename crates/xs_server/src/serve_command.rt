@@ -21,7 +21,7 @@ use std::time::Clock;
 /// How many places the rings of a lane have.
 const DEPTH: usize = 16;
 
-/// A gate for each worker. They share the listener and the announcement of its port.
+/// A gate for each worker, with its memory. They share the listener and the announcement of its port.
 fn gates_of<S: Clock + Copy + Drop, W: Sink + Drop>(
     system: S,
     alloc: Global,
@@ -36,7 +36,8 @@ fn gates_of<S: Clock + Copy + Drop, W: Sink + Drop>(
     let mut gates = Vec::new(alloc);
     for _worker in 0..options.workers {
         let (listener, announcement) = (Arc::try_clone(&listener)?, Arc::try_clone(&announcement)?);
-        gates.push(TcpGate::new(alloc, system, listener, announcement, options.each))?;
+        let gate = TcpGate::new(alloc, system, listener, announcement, options.each)?;
+        gates.push(gate)?;
     }
     Ok(gates)
 }

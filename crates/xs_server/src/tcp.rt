@@ -1,9 +1,9 @@
 //! Connections over TCP.
 use crate::announcement::Announcement;
 use crate::devices::device::{FromRead, Sink, ToWrite};
-use crate::halves::{Incoming, Outgoing, halves_of};
+use crate::halves::{HalvesMemory, Incoming, Outgoing};
 use crate::work::gate::{Gate, GateFault};
-use std::alloc::Global;
+use std::alloc::{AllocError, Global};
 use std::io::{Error, ErrorKind};
 use std::net::{TcpListener, TcpStream};
 use std::sync::{Arc, Wait};
@@ -24,7 +24,7 @@ const PAUSE_MILLIS: u64 = 100;
 /// So many connections of a listener, which other gates may share.
 #[derive(Drop)]
 pub struct TcpGate<S: Clock + Drop, W: Sink + Drop> {
-    alloc: Global,
+    memory: HalvesMemory,
     system: S,
     listener: Arc<TcpListener>,
     announcement: Arc<Announcement<W>>,
@@ -32,22 +32,22 @@ pub struct TcpGate<S: Clock + Drop, W: Sink + Drop> {
 }
 
 impl<S: Clock + Drop, W: Sink + Drop> TcpGate<S, W> {
-    /// A gate that takes so many connections from the listener. At its first call it makes the announcement, which
-    /// other gates may share.
+    /// A gate that takes so many connections from the listener, with all the memory that it needs for them. At its first
+    /// call it makes the announcement, which other gates may share.
     pub fn new(
         alloc: Global,
         system: S,
         listener: Arc<TcpListener>,
         announcement: Arc<Announcement<W>>,
         count: u64,
-    ) -> Self {
-        Self {
-            alloc,
+    ) -> Result<Self, AllocError> {
+        Ok(Self {
+            memory: HalvesMemory::new(alloc)?,
             system,
             listener,
             announcement,
             left: count,
-        }
+        })
     }
 }
 
@@ -103,8 +103,7 @@ impl<S: Clock + Drop, W: Sink + Send + Drop> Gate for TcpGate<S, W> {
             let stream = accept(&self.system, &self.listener)?;
             // Without it replies may be late. So a fault here is no reason to refuse the connection.
             let _ = stream.set_nodelay(true);
-            // A connection that there is no memory for ends here, and the next one is taken.
-            if let Ok(halves) = halves_of(self.alloc, stream) {
+            if let Some(halves) = self.memory.halves_of(stream) {
                 return Ok(Some(halves));
             }
         }

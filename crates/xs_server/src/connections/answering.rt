@@ -5,10 +5,12 @@ ghost use Rattle.xs_command.specs.Read.{reads};
 ghost use Rattle.xs_server.specs.Answering.{Answered};
 ghost use Rattle.xs_server.specs.Exchange.{is_quit};
 
+use crate::connections::reserve::Reserve;
+use crate::connections::second_tries::command_of;
 use std::alloc::Global;
 use std::sync::Wait;
 use xs_bytes::Bytes;
-use xs_command::{Command, Refusal, read_command};
+use xs_command::{Command, Refusal};
 use xs_desk::{Port, PortFault};
 use xs_resp::{Fault, Reply};
 
@@ -23,6 +25,7 @@ pub struct Said {
 pub fn answer<P: Port, T: Wait>(
     rt: &T,
     alloc: Global,
+    reserve: &mut Reserve,
     port: &mut P,
     words: &[Bytes],
 ) -> Result<Said, PortFault>
@@ -33,7 +36,7 @@ pub fn answer<P: Port, T: Wait>(
     ensures err { OnErr result ((command : Command) × (reads words.now ≡ Ok command)
         × P.fails port.old command port.new × (P.gone port.new ≡ true)) }
 {
-    match read_command(alloc, words) {
+    match command_of(alloc, reserve, words) {
         Ok(command) => {
             let quits = matches!(command, Command::Quit);
             let reply = port.ask(rt, command)?;

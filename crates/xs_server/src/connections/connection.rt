@@ -7,6 +7,8 @@ ghost use Rattle.xs_server.specs.Connection.{IsNew, ServesBy, Stands};
 
 use crate::connections::answering::{Said, answer};
 use crate::connections::ending::{Ending, ServeFault};
+use crate::connections::reserve::Reserve;
+use crate::connections::second_tries::next_request;
 use crate::machines::machine::{Machine, Turn};
 use std::alloc::{AllocError, Global};
 use std::sync::Wait;
@@ -17,6 +19,7 @@ use xs_resp::{Encoder, Fault, ReadFault, Reply, Requests};
 #[derive(Drop)]
 pub struct Connection {
     alloc: Global,
+    reserve: Reserve,
     pub requests: Requests,
     /// The reply that is being written.
     pub owed: Encoder,
@@ -24,17 +27,31 @@ pub struct Connection {
     pub replies: u64,
 }
 
+/// How many bytes of requests are held without more memory: those of one read, and twice a request of 16 KiB.
+const ROOM: usize = 131_072;
+
 impl Connection {
-    /// A connection before its first byte. All memory that its replies need on their way out is taken here.
+    /// A connection before its first byte, with all the memory that small requests need, and all replies on their way
+    /// out.
     pub fn new(alloc: Global) -> Result<Self, AllocError>
-        ensures { IfOk result (λ connection. IsNew connection) }
+        ensures { IfOk result IsNew }
     {
         Ok(Self {
             alloc,
-            requests: Requests::new(alloc),
+            reserve: Reserve::new(alloc)?,
+            requests: Requests::with_capacity(alloc, ROOM)?,
             owed: Encoder::new(alloc)?,
             replies: 0,
         })
+    }
+
+    /// Begins the next connection, with the memory of this one.
+    pub fn clear(&mut self)
+        ensures { IsNew self.new }
+    {
+        self.requests.clear();
+        self.owed.clear();
+        self.replies = 0;
     }
 }
 
@@ -66,12 +83,15 @@ impl<P: Port, T: Wait> Machine<P, T> for Connection {
 
     fn advance(&mut self, rt: &T, port: &mut P) -> Turn<Result<Ending, ServeFault>> {
         let replies = self.replies;
-        match self.requests.next() {
+        // A part of it is better than none.
+        let _ = self.reserve.fill(self.alloc);
+        match next_request(&mut self.requests, &mut self.reserve) {
             Ok(Some(words)) => {
                 if words.is_empty() {
                     return Turn::Goes;
                 }
-                let Ok(said) = answer(rt, self.alloc, port, words.as_slice()) else {
+                let Ok(said) = answer(rt, self.alloc, &mut self.reserve, port, words.as_slice())
+                else {
                     return Turn::Ends(Err(ServeFault::Port { replies }));
                 };
                 let Said { reply, quits } = said;
@@ -83,7 +103,13 @@ impl<P: Port, T: Wait> Machine<P, T> for Connection {
             }
             Ok(None) => Turn::Waits,
             Err(fault) => match fault {
-                ReadFault::Memory => Turn::Ends(Err(ServeFault::Memory { replies })),
+                ReadFault::Memory => match self.requests.skip() {
+                    0 => Turn::Goes,
+                    _ => {
+                        self.owed.begin(Reply::Error(Fault::Memory));
+                        Turn::Goes
+                    }
+                },
                 _ => {
                     self.owed.begin(Reply::Error(Fault::Protocol));
                     Turn::Ends(Ok(Ending::Protocol))

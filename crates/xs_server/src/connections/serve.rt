@@ -5,9 +5,8 @@ ghost use Rattle.xs_server.specs.Device.{capped};
 ghost use Rattle.xs_server.specs.Machine.{HasCause, reads_limit};
 ghost use Rattle.xs_server.specs.Serve.{Serves, cause_of};
 
-use crate::connections::connection::Connection;
+use crate::connections::buffers::Buffers;
 use crate::connections::ending::{Ending, ServeFault};
-use crate::devices::chunk::Chunk;
 use crate::devices::device::{Sink, Source};
 use crate::machines::drive::drive;
 use std::alloc::Global;
@@ -35,11 +34,35 @@ pub fn serve<R: Source, W: Sink, P: Port, T: Wait>(
         (R.calls reader.old) (R.calls reader.new) (W.broken writer.new) }
     ensures gone { (replies : ℕ) → result ≡ Err (ServeFault.Port replies) → P.gone port.new ≡ true }
 {
-    let Ok(mut chunk) = Chunk::new(alloc) else {
+    let Ok(mut buffers) = Buffers::new(alloc) else {
         return Err(ServeFault::Memory { replies: 0 });
     };
-    let Ok(mut connection) = Connection::new(alloc) else {
-        return Err(ServeFault::Memory { replies: 0 });
-    };
-    drive(rt, reader, writer, &mut chunk, &mut connection, port)
+    serve_with(rt, &mut buffers, reader, writer, port)
+}
+
+/// Serves a connection as `serve` does, with the memory of those before.
+pub fn serve_with<R: Source, W: Sink, P: Port, T: Wait>(
+    rt: &T,
+    buffers: &mut Buffers,
+    reader: &mut R,
+    writer: &mut W,
+    port: &mut P,
+) -> Result<Ending, ServeFault>
+    ensures serves { (read sent : List ℕ)
+        × Consumes (R.rest reader.old) (R.rest reader.new) read × Appends (W.held writer.old) (W.held writer.new) sent
+        × Serves P.replies P.fails result port.old port.new read sent }
+    ensures reads { capped (R.calls reader.new) ≤ R.calls reader.old + reads_limit }
+    ensures cause { HasCause (cause_of result) (R.rest reader.new) (R.ended reader.new) (R.broken reader.new)
+        (R.calls reader.old) (R.calls reader.new) (W.broken writer.new) }
+    ensures gone { (replies : ℕ) → result ≡ Err (ServeFault.Port replies) → P.gone port.new ≡ true }
+{
+    buffers.connection.clear();
+    drive(
+        rt,
+        reader,
+        writer,
+        &mut buffers.chunk,
+        &mut buffers.connection,
+        port,
+    )
 }

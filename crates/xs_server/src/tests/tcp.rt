@@ -3,7 +3,7 @@ use super::sessions::{new_alone, whole_connections};
 use super::*;
 use crate::connections::serve_alone::serve_alone;
 use crate::devices::device::{Failed, Source};
-use crate::halves::{Incoming, halves_of};
+use crate::halves::{HalvesMemory, Incoming};
 use crate::tcp::{AfterFailure, after_failure};
 use std::io::{self, ErrorKind, Read, Write};
 use std::net::{Ipv4Addr, Shutdown, TcpListener, TcpStream};
@@ -44,13 +44,14 @@ fn serves_whole_connections_over_tcp(rt: HostRuntime) -> Result<(), Fail> {
     let alloc = rt.alloc();
     let listener = TcpListener::bind(&rt, (Ipv4Addr::LOCALHOST, 0))?;
     let address = listener.local_addr()?;
+    let memory = HalvesMemory::new(alloc)?;
     for (input, output, ending) in whole_connections() {
         for cut in 1..input.len() {
             let (first, others) = input.as_bytes().split_at(cut);
             let parts = [first, others];
             let client = TcpStream::connect(&rt, address)?;
             let (stream, _) = listener.accept()?;
-            let (incoming, mut writer) = halves_of(alloc, stream)?;
+            let (incoming, mut writer) = memory.halves_of(stream).ok_or("halves in use")?;
             let mut reader = FromRead::new(Prompted {
                 client: &client,
                 parts: &parts,

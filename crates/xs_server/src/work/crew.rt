@@ -2,6 +2,7 @@
 ghost use Rattle.std.specs.Prelude.{◌≡◌, ◌≤◌, true, [], length, map, vec_capacity, IfOk, IfSome};
 ghost use Rattle.xs_desk.specs.Keeping.{KeepsSide, KeepSides};
 
+use crate::connections::buffers::Buffers;
 use crate::work::gate::Gate;
 use crate::work::signals::Signals;
 use crate::work::worker::{Worked, run_worker};
@@ -17,6 +18,7 @@ use xs_desk::{Client, Ended};
 pub struct Worker<G> {
     pub client: Client,
     pub gate: G,
+    pub buffers: Buffers,
 }
 
 /// The lane's end that comes back is that of this client.
@@ -32,7 +34,7 @@ impl Promise<Worked> for SameSide {
 /// A worker in its thread.
 pub type Started = PromisedHandle<Worked, SameSide>;
 
-/// A worker for each gate, as far as there are gates.
+/// A worker for each gate, with its buffers, as far as there are gates.
 pub fn seat_all<G: Drop>(
     alloc: Global,
     clients: Vec<Client>,
@@ -46,24 +48,32 @@ pub fn seat_all<G: Drop>(
         let Some(gate) = gates.next() else {
             return Err(AllocError);
         };
-        workers.push(Worker { client, gate })?;
+        let buffers = Buffers::new(alloc)?;
+        workers.push(Worker {
+            client,
+            gate,
+            buffers,
+        })?;
     }
     Ok(workers)
 }
 
 fn start<G: Gate + Send + Drop + 'static, R: Threads + Wait + Copy + Send + 'static>(
     rt: &R,
-    alloc: Global,
     worker: Worker<G>,
     signals: Arc<Signals>,
 ) -> Option<Started>
     ensures { IfSome result (λ started. started.promise.0.value ≡ worker.client) }
 {
     let handle = *rt;
-    let Worker { client, gate } = worker;
+    let Worker {
+        client,
+        gate,
+        buffers,
+    } = worker;
     let promise = SameSide(Snapshot::of(&client));
     match thread::spawn_with(rt, promise, move || {
-        run_worker(&handle, alloc, client, gate, &signals)
+        run_worker(&handle, client, gate, buffers, &signals)
     }) {
         Ok(started) => Some(started),
         Err(_) => None,
@@ -74,7 +84,6 @@ fn start<G: Gate + Send + Drop + 'static, R: Threads + Wait + Copy + Send + 'sta
 /// was made before.
 pub fn start_all<G: Gate + Send + Drop + 'static, R: Threads + Wait + Copy + Send + 'static>(
     rt: &R,
-    alloc: Global,
     workers: Vec<Worker<G>>,
     signals: &Arc<Signals>,
     started: &mut Vec<Started>,
@@ -87,7 +96,7 @@ pub fn start_all<G: Gate + Send + Drop + 'static, R: Threads + Wait + Copy + Sen
         let Ok(told) = Arc::try_clone(signals) else {
             return false;
         };
-        let Some(one) = start(rt, alloc, worker, told) else {
+        let Some(one) = start(rt, worker, told) else {
             return false;
         };
         if started.push(one).is_err() {

@@ -2,11 +2,11 @@
 ghost use Rattle.std.specs.Prelude.{◌≡◌};
 ghost use Rattle.xs_desk.specs.Keeping.{KeepsSide};
 
+use crate::connections::buffers::Buffers;
 use crate::connections::ending::ServeFault;
-use crate::connections::serve::serve;
+use crate::connections::serve::serve_with;
 use crate::work::gate::{Gate, GateFault};
 use crate::work::signals::Signals;
-use std::alloc::Global;
 use std::sync::Wait;
 use xs_desk::{Client, Ended, Lane};
 
@@ -23,7 +23,7 @@ pub struct Worked {
 /// connection alone; but where nobody answers any more there is no further one.
 fn serve_gate<G: Gate, R: Wait>(
     rt: &R,
-    alloc: Global,
+    buffers: &mut Buffers,
     gate: &mut G,
     lane: &mut Lane,
 ) -> Result<(), GateFault>
@@ -33,7 +33,7 @@ fn serve_gate<G: Gate, R: Wait>(
         let Some((mut reader, mut writer)) = gate.open_next(rt)? else {
             return Ok(());
         };
-        let served = serve(rt, alloc, &mut reader, &mut writer, lane);
+        let served = serve_with(rt, buffers, &mut reader, &mut writer, lane);
         if matches!(served, Err(ServeFault::Port { .. })) {
             return Ok(());
         }
@@ -44,9 +44,9 @@ fn serve_gate<G: Gate, R: Wait>(
 /// Waits for the word to begin, serves the gate, and ends the client.
 pub fn run_worker<G: Gate + Drop, R: Wait>(
     rt: &R,
-    alloc: Global,
     client: Client,
     gate: G,
+    buffers: Buffers,
     signals: &Signals,
 ) -> Worked
     ensures { KeepsSide client result.ended }
@@ -57,9 +57,10 @@ pub fn run_worker<G: Gate + Drop, R: Wait>(
             refused: false,
         };
     }
+    let mut buffers = buffers;
     let mut gate = gate;
     let mut lane = Lane::new(client);
-    let served = serve_gate(rt, alloc, &mut gate, &mut lane);
+    let served = serve_gate(rt, &mut buffers, &mut gate, &mut lane);
     Worked {
         ended: lane.end().finish(),
         refused: served.is_err(),

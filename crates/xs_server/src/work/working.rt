@@ -68,7 +68,7 @@ fn run_all<
     G: Gate + Send + Drop + 'static,
     C: Clock + Send + Drop + 'static,
     R: Threads + Wait + Copy + Send + 'static,
->(rt: &R, alloc: Global, keeper: Keeper, clock: C, crew: Crew<G>) -> Option<Done>
+>(rt: &R, keeper: Keeper, clock: C, crew: Crew<G>) -> Option<Done>
     requires started { (crew.started.items ≡ []) × (length crew.workers.items ≤ vec_capacity crew.started) }
     requires ended { (crew.ended.items ≡ []) × (length crew.workers.items ≤ vec_capacity crew.ended) }
     ensures keeper { IfSome result (λ done. KeepsRings keeper done.keeper) }
@@ -84,7 +84,7 @@ fn run_all<
     } = crew;
     let told = Arc::try_clone(&signals).ok()?;
     let kept = start_keeper(rt, keeper, clock, told)?;
-    let all = start_all(rt, alloc, workers, &signals, &mut started);
+    let all = start_all(rt, workers, &signals, &mut started);
     if all {
         signals.begin();
     } else {
@@ -158,7 +158,7 @@ pub fn work<
     let Ok(crew) = gather(alloc, &keeper, clients, gates) else {
         return Err(WorkFault::Memory);
     };
-    let Some(done) = run_all(rt, alloc, keeper, clock, crew) else {
+    let Some(done) = run_all(rt, keeper, clock, crew) else {
         return Err(WorkFault::Start);
     };
     conclude(alloc, done)

@@ -20,17 +20,3 @@ returns-in_default-new-clause-serves g c = (
   Appends-nil _,
   record { exchanges = []; rest = []; last = c.args.port.now; answered = answered-none g.P.Port.replies c.args.port.now []; ends = (refl, (refl, refl, refl)) },
 )
-
-pub drive-requires-clause-new : goal.drive-requires-clause-new
-drive-requires-clause-new g c =
-    let new = c.in-Ok-new.ensures in
-    record {
-      exchanges = [];
-      last = [];
-      rest = [];
-      part = [];
-      answered = answered-none g.P.Port.replies c.args.port.now [];
-      holds = new.requests;
-      written = (refl, refl, new.replies);
-      owes = (refl, new.owed);
-    }
