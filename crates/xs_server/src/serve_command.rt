@@ -32,7 +32,7 @@ fn gates_of<S: Clock + Copy + Drop, W: Sink + Drop>(
     ensures { IfOk result (λ gates. length gates.items ≡ options.workers) }
 {
     let listener = Arc::new(alloc, listener)?;
-    let announcement = Arc::new(alloc, Announcement::new(out, options.port, options.workers))?;
+    let announcement = Arc::new(alloc, Announcement::new(out, options.port))?;
     let mut gates = Vec::new(alloc);
     for _worker in 0..options.workers {
         let (listener, announcement) = (Arc::try_clone(&listener)?, Arc::try_clone(&announcement)?);
@@ -43,8 +43,8 @@ fn gates_of<S: Clock + Copy + Drop, W: Sink + Drop>(
 }
 
 /// Listens on a port of 127.0.0.1, and serves the connections that come, as many as the options say. The port is
-/// announced on `out` once every thread has started and made what it keeps. It gives the status of the program: 0 if
-/// the work came to its end, else 1, and the cause is said on `errors`.
+/// announced on `out` once every thread has started. It gives the status of the program: 0 if the work came to its end,
+/// else 1, and the cause is said on `errors`.
 pub fn serve_and_report<
     W: Sink + Send + Drop + 'static,
     E: Sink,

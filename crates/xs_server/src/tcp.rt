@@ -28,13 +28,12 @@ pub struct TcpGate<S: Clock + Drop, W: Sink + Drop> {
     system: S,
     listener: Arc<TcpListener>,
     announcement: Arc<Announcement<W>>,
-    announced: bool,
     left: u64,
 }
 
 impl<S: Clock + Drop, W: Sink + Drop> TcpGate<S, W> {
-    /// A gate that takes so many connections from the listener, with all the memory that it needs for them. It is ready
-    /// at its first call, and tells so to the announcement, which other gates may share.
+    /// A gate that takes so many connections from the listener, with all the memory that it needs for them. At its first
+    /// call it makes the announcement, which other gates may share.
     pub fn new(
         alloc: Global,
         system: S,
@@ -47,7 +46,6 @@ impl<S: Clock + Drop, W: Sink + Drop> TcpGate<S, W> {
             system,
             listener,
             announcement,
-            announced: false,
             left: count,
         })
     }
@@ -99,10 +97,7 @@ impl<S: Clock + Drop, W: Sink + Send + Drop> Gate for TcpGate<S, W> {
         &mut self,
         rt: &R,
     ) -> Result<Option<(FromRead<Incoming>, ToWrite<Outgoing>)>, GateFault> {
-        if !self.announced {
-            self.announced = true;
-            self.announcement.add_ready(rt);
-        }
+        self.announcement.make(rt);
         for _ in 0..self.left {
             self.left = self.left.saturating_sub(1);
             let stream = accept(&self.system, &self.listener)?;

@@ -5,7 +5,8 @@ ghost use Rattle.xs_command.specs.Read.{reads};
 ghost use Rattle.xs_server.specs.Answering.{Answered};
 ghost use Rattle.xs_server.specs.Exchange.{is_quit};
 
-use crate::connections::second_tries::{WorkerReserve, command_of};
+use crate::connections::reserve::Reserve;
+use crate::connections::second_tries::command_of;
 use std::alloc::Global;
 use std::sync::Wait;
 use xs_bytes::Bytes;
@@ -24,7 +25,7 @@ pub struct Said {
 pub fn answer<P: Port, T: Wait>(
     rt: &T,
     alloc: Global,
-    reserve: &mut WorkerReserve,
+    reserve: &mut Reserve,
     port: &mut P,
     words: &[Bytes],
 ) -> Result<Said, PortFault>

@@ -4,6 +4,7 @@ use crate::devices::chunk::Chunk;
 use std::alloc::{AllocError, Global};
 
 /// What a worker keeps from connection to connection: the memory for what it reads, holds and writes, and its reserve.
+/// With it a new connection takes no memory.
 #[derive(Drop)]
 pub struct Buffers {
     pub chunk: Chunk,
@@ -11,7 +12,7 @@ pub struct Buffers {
 }
 
 impl Buffers {
-    /// All but the reserve.
+    /// All of it.
     pub fn new(alloc: Global) -> Result<Self, AllocError> {
         Ok(Self {
             chunk: Chunk::new(alloc)?,

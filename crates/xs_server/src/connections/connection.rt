@@ -6,20 +6,19 @@ ghost use Rattle.xs_server.specs.Connection.{IsNew, ServesBy, Stands};
 
 use crate::connections::answering::answer;
 use crate::connections::ending::{Ending, ServeFault};
-use crate::connections::second_tries::{WorkerReserve, next_request};
+use crate::connections::reserve::Reserve;
+use crate::connections::second_tries::next_request;
 use crate::machines::machine::{Machine, Turn};
 use std::alloc::{AllocError, Global};
 use std::sync::Wait;
 use xs_desk::Port;
-use xs_keys::Reserve;
 use xs_resp::{Fault, ReadFault, Reply, Requests, encode};
 
 /// A connection: the bytes that came in and aren't taken yet, and the text that it owes.
 #[derive(Drop)]
 pub struct Connection {
     alloc: Global,
-    /// It is made whole before each request, and given back for the words and the command of a small one.
-    pub reserve: WorkerReserve,
+    reserve: Reserve,
     pub requests: Requests,
     /// The text of a reply.
     pub owed: Vec<u8>,
@@ -34,26 +33,17 @@ const KEPT: usize = 65_536;
 const ROOM: usize = 131_072;
 
 impl Connection {
-    /// A connection before its first byte, with all the memory that small requests need, but the reserve.
+    /// A connection before its first byte, with all the memory that small requests need.
     pub fn new(alloc: Global) -> Result<Self, AllocError>
         ensures { IfOk result IsNew }
     {
         Ok(Self {
             alloc,
-            reserve: Reserve::new(alloc),
+            reserve: Reserve::new(alloc)?,
             requests: Requests::with_capacity(alloc, ROOM)?,
             owed: Vec::with_capacity(alloc, KEPT)?,
             replies: 0,
         })
-    }
-
-    /// Makes the reserve whole, as far as there is memory.
-    pub fn fill_reserve(&mut self)
-        ensures requests { self.new.requests ≡ self.old.requests }
-        ensures owed { self.new.owed ≡ self.old.owed }
-        ensures replies { self.new.replies ≡ self.old.replies }
-    {
-        let _ = self.reserve.fill(self.alloc);
     }
 
     /// Begins the next connection, with the memory of this one.
@@ -93,6 +83,7 @@ impl<P: Port, T: Wait> Machine<P, T> for Connection {
 
     fn advance(&mut self, rt: &T, port: &mut P) -> Turn<Result<Ending, ServeFault>> {
         let replies = self.replies;
+        // A part of it is better than none.
         let _ = self.reserve.fill(self.alloc);
         match next_request(&mut self.requests, &mut self.reserve) {
             Ok(Some(words)) => {
@@ -114,7 +105,8 @@ impl<P: Port, T: Wait> Machine<P, T> for Connection {
             Ok(None) => Turn::Waits,
             Err(fault) => match fault {
                 ReadFault::Memory => {
-                    if self.requests.skip() == 0 {
+                    let count = self.requests.skip();
+                    if count == 0 {
                         return Turn::Goes;
                     }
                     let Ok(()) = encode(&Reply::Error(Fault::Memory), &mut self.owed) else {

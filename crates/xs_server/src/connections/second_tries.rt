@@ -1,22 +1,20 @@
 //! Second tries, with the memory of a reserve.
 ghost use Rattle.std.specs.Prelude.{◌<◌, length, IfOk};
 ghost use Rattle.xs_resp.specs.Held.{Next};
-ghost use Rattle.xs_command.specs.Read.{reads, Gives};
+ghost use Rattle.xs_command.specs.Read.{reads};
 ghost use Rattle.xs_command.specs.WellFormed.{IsWellFormed};
+ghost use Rattle.xs_command.specs.Words.{Gives};
 
+use crate::connections::reserve::Reserve;
 use std::alloc::Global;
 use xs_bytes::{Bytes, List};
 use xs_command::{Command, Refusal, read_command};
-use xs_keys::Reserve;
 use xs_resp::{ReadFault, Requests};
-
-/// The reserve of a worker: 260,000 bytes, for the words and the command of a request of up to 16 KiB.
-pub type WorkerReserve = Reserve<4>;
 
 /// The next request, as `Requests::next` gives it. Where no memory is found, the reserve is given back.
 pub fn next_request(
     requests: &mut Requests,
-    reserve: &mut WorkerReserve,
+    reserve: &mut Reserve,
 ) -> Result<Option<List<Bytes>>, ReadFault>
     ensures { Next requests.old result requests.new }
 {
@@ -34,7 +32,7 @@ pub fn next_request(
 /// The command of some words, as `read_command` gives it. Where no memory is found, the reserve is given back.
 pub fn command_of(
     alloc: Global,
-    reserve: &mut WorkerReserve,
+    reserve: &mut Reserve,
     words: &[Bytes],
 ) -> Result<Command, Refusal>
     requires { 0 < length words.now }

@@ -41,8 +41,7 @@ fn serve_gate<G: Gate, R: Wait>(
     unreachable!()
 }
 
-/// Waits for the word to begin, makes its reserve, serves the gate, and ends the client. The reserve is made in the
-/// worker's own thread, since the C library gives back to each thread what it has taken.
+/// Waits for the word to begin, serves the gate, and ends the client.
 pub fn run_worker<G: Gate + Drop, R: Wait>(
     rt: &R,
     client: Client,
@@ -59,7 +58,6 @@ pub fn run_worker<G: Gate + Drop, R: Wait>(
         };
     }
     let mut buffers = buffers;
-    buffers.connection.fill_reserve();
     let mut gate = gate;
     let mut lane = Lane::new(client);
     let served = serve_gate(rt, &mut buffers, &mut gate, &mut lane);

@@ -11,16 +11,3 @@ returns-in_default-clause-serves g c = (
   Appends-nil _,
   record { exchanges = []; rest = []; last = c.args.port.now; answered = answered-none g.P.Port.replies c.args.port.now []; ends = (refl, inl (refl, refl, refl)) },
 )
-
-pub drive-requires-clause-new : goal.drive-requires-clause-new
-drive-requires-clause-new g c =
-    let new = c.new-connection.ensures in
-    record {
-      exchanges = [];
-      last = [];
-      rest = [];
-      answered = answered-none g.P.Port.replies c.args.port.now [];
-      holds = new.requests;
-      written = (refl, refl, new.replies);
-      owes = new.owed;
-    }

@@ -1,4 +1,5 @@
-use Rattle.std.proofs.Common.{ℕ, ◌≤◌, List, ◌∷◌, [], ◌++◌, length, drop, Option, Some, None, Result, Ok, Err, inl, inr, sym, ap, ◌∙◌, arith, length-drop}
+use Rattle.std.proofs.Common.{ℕ, ◌<◌, ◌≤◌, List, ◌∷◌, [], ◌++◌, length, drop, Option, Some, None, Result, Ok, Err, inl, inr, refl, sym, subst, ap, ◌∙◌, arith, length-drop}
+use Rattle.xs_resp.specs.declared.fault.Fault.TheVariants as said
 use Rattle.xs_resp.specs.declared.fault.Fault.TheVariants.{Protocol}
 use Rattle.xs_resp.specs.declared.reply.Reply.TheVariants.{Error}
 use Rattle.xs_resp.specs.ReplyText.{text}
@@ -9,11 +10,13 @@ use Rattle.xs_resp.specs.Reading.{Found, request}
 use Rattle.xs_resp.specs.Held.{Held, Next, NextOf, held_length}
 use Rattle.xs_resp.proofs.Nexts.{next-words, next-none, next-same, next-fault, next-shorter}
 use Rattle.xs_server.specs.declared.connections.ending.ServeFault.TheVariants as fault
+use Rattle.xs_server.specs.Exchange.{Exchange}
 use Rattle.xs_server.specs.Machine.{itself}
 use Rattle.xs_server.specs.Connection.{ServesBy}
 use Rattle.xs_server.proofs.Driving.{empty-none, ends-now, none-came}
 use Rattle.xs_server.proofs.Endings.{settled, passed, port-ends, answer-lost, ends-quit, ends-refused}
-use Rattle.xs_server.proofs.Exchanges.{answered-again, answered-empty, one-answered, port-fails}
+use Rattle.xs_server.proofs.Exchanges.{answered-again, answered-empty, none-skipped, one-answered, one-skipped, port-fails}
+use Rattle.xs_server.proofs.SecondTries.{refused-same, skipped-shorter}
 use Rattle.xs_server.proofs.connections.connection.ConnectionMachine.advance.Goals as goal
 
 -- no bytes come by taking a request
@@ -103,13 +106,64 @@ returns-in-Ok-None-clause-waits g c = λ waiting.
       λ bytes is. request-open bytes (next-none c.args.self.now.requests bytes c.next_request.new.requests (sym same ∙ is) next).0,
     )
 
+-- ---- a request that no memory was found for
+
+pub returns-then-count-eq0-clause-turns : goal.returns-then-count-eq0-clause-turns
+returns-then-count-eq0-clause-turns g c = λ first read sent s.
+    let port = c.args.port.now in
+    let next = subst (λ f. Next c.args.self.now.requests (Err f) c.next_request.new.requests) c.in-Memory.is c.in-Err.ensures in
+    let held = refused-same c.args.self.now.requests c.next_request.new.requests next ∙ s.holds in
+    let none = none-skipped g.P.Port.replies port s.rest c.next_request.new.requests c.skip-count.new.self c.skip-count.result held c.skip-count.ensures (omega arith) in
+    record {
+      exchanges = s.exchanges;
+      last = s.last;
+      rest = none.0;
+      answered = passed g.P.Port.replies first port port read s.rest none.0 (s.exchanges ++ s.last) s.answered none.1;
+      holds = none.2;
+      written = s.written;
+      owes = s.owes;
+    }
+
+pub returns-then-count-eq0-clause-less : goal.returns-then-count-eq0-clause-less
+returns-then-count-eq0-clause-less g c = λ going.
+    let next = subst (λ f. Next c.args.self.now.requests (Err f) c.next_request.new.requests) c.in-Memory.is c.in-Err.ensures in
+    skipped-shorter c.args.self.now.requests c.next_request.new.requests c.skip-count.new.self c.skip-count.result next c.skip-count.ensures
+
 pub returns-in-Ok-encode-2 : goal.returns-in-Ok-encode-2
-returns-in-Ok-encode-2 g c = record {
+returns-in-Ok-encode-2 g c =
+    let next = subst (λ f. Next c.args.self.now.requests (Err f) c.next_request.new.requests) c.in-Memory.is c.in-Err.ensures in
+    let fewer = skipped-shorter c.args.self.now.requests c.next_request.new.requests c.skip-count.new.self c.skip-count.result next c.skip-count.ensures in
+    record {
+      turns = λ first read sent stands.
+          let connection = c.args.self.now in
+          let port = c.args.port.now in
+          let s = settled g.P.Port.replies first port read sent connection stands c.requires in
+          let held = refused-same connection.requests c.next_request.new.requests next ∙ s.holds in
+          let some : 0 < c.skip-count.result = omega arith in
+          let told : Exchange = record { asked = None; answer = Error said.Memory } in
+          let one = one-skipped g.P.Port.replies port s.rest c.next_request.new.requests c.skip-count.new.self c.skip-count.result held c.skip-count.ensures some in
+          let owes = c.in-Ok-encode-2.ensures.ok ∙ ap (λ o. o ++ text (Error said.Memory)) (none-came connection.owed.items (omega (arith, c.requires))) in
+          record {
+            exchanges = s.exchanges;
+            last = told ∷ [];
+            rest = one.0;
+            answered = answered-again g.P.Port.replies first port port read s.rest one.0 s.exchanges (told ∷ []) s.answered one.1;
+            holds = one.2;
+            written = s.written;
+            owes = (owes, refl);
+          };
+      waits = λ e. cc;
+      less = λ going. fewer;
+      same = omega (arith, fewer);
+    }
+
+pub returns-in-Ok-encode-3 : goal.returns-in-Ok-encode-3
+returns-in-Ok-encode-3 g c = record {
   turns = λ first read sent stands.
       let connection = c.args.self.now in
       let s = settled g.P.Port.replies first c.args.port.now read sent connection stands c.requires in
       let wrong = next-fault connection.requests s.rest c.in-Err.fault c.next_request.new.requests s.holds c.in_default-fault.not-Memory c.in-Err.ensures in
-      let owes = c.in-Ok-encode-2.ensures.ok ∙ ap (λ o. o ++ text (Error Protocol)) (none-came connection.owed.items (omega (arith, c.requires))) in
+      let owes = c.in-Ok-encode-3.ensures.ok ∙ ap (λ o. o ++ text (Error Protocol)) (none-came connection.owed.items (omega (arith, c.requires))) in
       ends-refused g.P.Port.replies g.P.Port.fails g.P.Port.gone first c.args.port.now read sent c.encode-in_default-fault.new.out.items s.rest s.exchanges connection.replies wrong.0 s.answered s.written owes (request-fault s.rest wrong.0 wrong.1);
   waits = λ e. cc;
   less = λ e. cc;

@@ -1,0 +1,16 @@
+use Rattle.std.proofs.Common.{[], refl}
+use Rattle.xs_server.proofs.Exchanges.{answered-none}
+use Rattle.xs_server.proofs.connections.serve.serve_with.Goals as goal
+
+pub drive-requires-clause-new : goal.drive-requires-clause-new
+drive-requires-clause-new g c =
+    let new = c.clear.ensures in
+    record {
+      exchanges = [];
+      last = [];
+      rest = [];
+      answered = answered-none g.P.Port.replies c.args.port.now [];
+      holds = new.requests;
+      written = (refl, refl, new.replies);
+      owes = new.owed;
+    }
