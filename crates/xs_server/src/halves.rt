@@ -32,10 +32,16 @@ fn send_held(stream: &TcpStream, held: &mut Vec<u8>) -> io::Result<()> {
     sent
 }
 
-/// Takes as many bytes from the front of a slice as there is room for, and says how many. A full buffer is sent.
+/// Takes as many bytes from the front of a slice as there is room for, and says how many. A full buffer is sent. A slice
+/// that would fill the empty buffer is sent itself.
 fn hold(stream: &TcpStream, held: &mut Vec<u8>, from: &[u8]) -> io::Result<usize>
     ensures { IfOk result (λ n. n ≤ length from.now) }
 {
+    if held.is_empty() && from.len() >= ROOM {
+        let mut stream = stream;
+        stream.write_all(from)?;
+        return Ok(from.len());
+    }
     let count = from.len().min(ROOM.saturating_sub(held.len()));
     held.extend_from_slice(&from[..count])?;
     if held.len() >= ROOM {

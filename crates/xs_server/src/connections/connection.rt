@@ -1,42 +1,40 @@
 //! A connection, with no IO of its own: each of its turns answers a request.
-ghost use Rattle.std.specs.Prelude.{◌≡◌, ℕ, List, [], Ok, Err};
+ghost use Rattle.std.specs.Prelude.{◌≡◌, ℕ, List, [], Ok, Err, IfOk};
 ghost use Rattle.xs_resp.specs.Grammar.{IsOpen};
 ghost use Rattle.xs_resp.specs.Held.{held_length};
+ghost use Rattle.xs_resp.specs.Left.{left};
 ghost use Rattle.xs_server.specs.Connection.{IsNew, ServesBy, Stands};
 
-use crate::connections::answering::answer;
+use crate::connections::answering::{Said, answer};
 use crate::connections::ending::{Ending, ServeFault};
 use crate::machines::machine::{Machine, Turn};
-use std::alloc::Global;
+use std::alloc::{AllocError, Global};
 use std::sync::Wait;
 use xs_desk::Port;
-use xs_resp::{Fault, ReadFault, Reply, Requests, encode};
+use xs_resp::{Encoder, Fault, ReadFault, Reply, Requests};
 
-/// A connection: the bytes that came in and aren't taken yet, and the text that it owes.
+/// A connection: the bytes that came in and aren't taken yet, and the reply that it owes.
 #[derive(Drop)]
 pub struct Connection {
     alloc: Global,
     pub requests: Requests,
-    /// The text of a reply.
-    pub owed: Vec<u8>,
+    /// The reply that is being written.
+    pub owed: Encoder,
     /// How many replies were written.
     pub replies: u64,
 }
 
-/// How many bytes of memory the buffer keeps that a great reply made large.
-const KEPT: usize = 65_536;
-
 impl Connection {
-    /// A connection before its first byte. It takes no memory.
-    pub fn new(alloc: Global) -> Self
-        ensures { IsNew result }
+    /// A connection before its first byte. All memory that its replies need on their way out is taken here.
+    pub fn new(alloc: Global) -> Result<Self, AllocError>
+        ensures { IfOk result (λ connection. IsNew connection) }
     {
-        Self {
+        Ok(Self {
             alloc,
             requests: Requests::new(alloc),
-            owed: Vec::new(alloc),
+            owed: Encoder::new(alloc)?,
             replies: 0,
-        }
+        })
     }
 }
 
@@ -50,11 +48,13 @@ impl<P: Port, T: Wait> Machine<P, T> for Connection {
 
     ghost ENOUGH = { 1 };
 
-    ghost owes = { λ connection. connection.owed.items };
+    ghost owes = { λ connection. left connection.owed };
+
+    ghost front = { λ connection. connection.owed.piece };
 
     ghost held = { λ connection. held_length connection.requests };
 
-    ghost is_waiting = { λ connection. (connection.owed.items ≡ [])
+    ghost is_waiting = { λ connection. (left connection.owed ≡ [])
         × ((bytes : List ℕ) → connection.requests ≡ Ok bytes → IsOpen bytes) };
 
     ghost stands = { λ first read sent connection port. Stands P.replies first port read sent connection };
@@ -74,10 +74,9 @@ impl<P: Port, T: Wait> Machine<P, T> for Connection {
                 let Ok(said) = answer(rt, self.alloc, port, words.as_slice()) else {
                     return Turn::Ends(Err(ServeFault::Port { replies }));
                 };
-                let Ok(()) = encode(&said.reply, &mut self.owed) else {
-                    return Turn::Ends(Err(ServeFault::Memory { replies }));
-                };
-                if said.quits {
+                let Said { reply, quits } = said;
+                self.owed.begin(reply);
+                if quits {
                     return Turn::Ends(Ok(Ending::Quit));
                 }
                 Turn::Goes
@@ -86,9 +85,7 @@ impl<P: Port, T: Wait> Machine<P, T> for Connection {
             Err(fault) => match fault {
                 ReadFault::Memory => Turn::Ends(Err(ServeFault::Memory { replies })),
                 _ => {
-                    let Ok(()) = encode(&Reply::Error(Fault::Protocol), &mut self.owed) else {
-                        return Turn::Ends(Err(ServeFault::Memory { replies }));
-                    };
+                    self.owed.begin(Reply::Error(Fault::Protocol));
                     Turn::Ends(Ok(Ending::Protocol))
                 }
             },
@@ -125,15 +122,16 @@ impl<P: Port, T: Wait> Machine<P, T> for Connection {
     }
 
     fn owed(&self) -> &[u8] {
-        self.owed.as_slice()
+        self.owed.piece()
     }
 
     fn paid(&mut self) {
-        if self.owed.as_slice().is_empty() {
+        if self.owed.piece().is_empty() {
             return;
         }
-        self.owed.clear();
-        self.owed.shrink_to(KEPT);
-        self.replies = self.replies.saturating_add(1);
+        self.owed.advance();
+        if self.owed.piece().is_empty() {
+            self.replies = self.replies.saturating_add(1);
+        }
     }
 }

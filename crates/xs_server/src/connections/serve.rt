@@ -18,7 +18,8 @@ use xs_desk::Port;
 /// next request is taken. It reads on only where no request is whole.
 ///
 /// # Errors
-/// A `ServeFault`, with the number of replies that were written whole. What was executed stays.
+/// A `ServeFault`, with the number of replies that were written whole. What was executed stays, and has its whole reply
+/// unless a write failed.
 pub fn serve<R: Source, W: Sink, P: Port, T: Wait>(
     rt: &T,
     alloc: Global,
@@ -37,6 +38,8 @@ pub fn serve<R: Source, W: Sink, P: Port, T: Wait>(
     let Ok(mut chunk) = Chunk::new(alloc) else {
         return Err(ServeFault::Memory { replies: 0 });
     };
-    let mut connection = Connection::new(alloc);
+    let Ok(mut connection) = Connection::new(alloc) else {
+        return Err(ServeFault::Memory { replies: 0 });
+    };
     drive(rt, reader, writer, &mut chunk, &mut connection, port)
 }

@@ -9,18 +9,28 @@ returns-in_default-clause-serves g c = (
   [],
   Consumes-nil _,
   Appends-nil _,
-  record { exchanges = []; rest = []; last = c.args.port.now; answered = answered-none g.P.Port.replies c.args.port.now []; ends = (refl, inl (refl, refl, refl)) },
+  record { exchanges = []; rest = []; last = c.args.port.now; answered = answered-none g.P.Port.replies c.args.port.now []; ends = (refl, (refl, refl, refl)) },
+)
+
+pub returns-in_default-new-clause-serves : goal.returns-in_default-new-clause-serves
+returns-in_default-new-clause-serves g c = (
+  [],
+  [],
+  Consumes-nil _,
+  Appends-nil _,
+  record { exchanges = []; rest = []; last = c.args.port.now; answered = answered-none g.P.Port.replies c.args.port.now []; ends = (refl, (refl, refl, refl)) },
 )
 
 pub drive-requires-clause-new : goal.drive-requires-clause-new
 drive-requires-clause-new g c =
-    let new = c.new-connection.ensures in
+    let new = c.in-Ok-new.ensures in
     record {
       exchanges = [];
       last = [];
       rest = [];
+      part = [];
       answered = answered-none g.P.Port.replies c.args.port.now [];
       holds = new.requests;
       written = (refl, refl, new.replies);
-      owes = new.owed;
+      owes = (refl, new.owed);
     }

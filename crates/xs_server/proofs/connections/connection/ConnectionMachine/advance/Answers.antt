@@ -2,6 +2,7 @@ use Rattle.std.proofs.Common.{ℕ, ◌≤◌, List, ◌∷◌, [], ◌++◌, len
 use Rattle.xs_resp.specs.declared.fault.Fault.TheVariants.{Protocol}
 use Rattle.xs_resp.specs.declared.reply.Reply.TheVariants.{Error}
 use Rattle.xs_resp.specs.ReplyText.{text}
+use Rattle.xs_resp.specs.Left.{left}
 use Rattle.xs_resp.proofs.Decisions.{request-open, request-fault}
 use Rattle.xs_resp.specs.declared.read_fault.ReadFault.{ReadFault}
 use Rattle.xs_resp.specs.Outcome.{Outcome}
@@ -12,7 +13,7 @@ use Rattle.xs_server.specs.declared.connections.ending.ServeFault.TheVariants as
 use Rattle.xs_server.specs.Machine.{itself}
 use Rattle.xs_server.specs.Connection.{ServesBy}
 use Rattle.xs_server.proofs.Driving.{empty-none, ends-now, none-came}
-use Rattle.xs_server.proofs.Endings.{settled, passed, port-ends, answer-lost, ends-quit, ends-refused}
+use Rattle.xs_server.proofs.Endings.{settled, passed, port-ends, some-text, ends-quit, ends-refused}
 use Rattle.xs_server.proofs.Exchanges.{answered-again, answered-empty, one-answered, port-fails}
 use Rattle.xs_server.proofs.connections.connection.ConnectionMachine.advance.Goals as goal
 
@@ -34,6 +35,7 @@ returns-then-is_empty-clause-turns g c = λ first read sent s.
     record {
       exchanges = s.exchanges;
       last = s.last;
+      part = s.part;
       rest = drop n.found.end s.rest;
       answered = passed g.P.Port.replies first port port read s.rest (drop n.found.end s.rest) (s.exchanges ++ s.last) s.answered (answered-empty g.P.Port.replies port s.rest n.found n.read (n.words_are ∙ none));
       holds = n.left;
@@ -51,66 +53,57 @@ returns-in_default-clause-turns g c = λ first read sent stands.
     let n = next-words connection.requests s.rest c.in-Ok-Some.words c.next.new.self s.holds (rw c.in-Ok-Some.field-0-is at c.in-Ok-Some.ensures.next) in
     let err = c.in_default.ensures.err in
     let fails = port-fails g.P.Port.fails c.args.port.now c.answer.new.port s.rest n.found c.as_slice.result.now err.0 n.read (n.words_are ∙ sym c.as_slice.ensures) err.1 err.2 in
-    ends-now (ServesBy g.P.Port.replies g.P.Port.fails g.P.Port.gone) (λ count. Err (fault.Write connection.replies)) itself (Err (fault.Port connection.replies)) first read sent connection.owed.items c.answer.new.port
-    (none-came connection.owed.items (omega (arith, c.requires)))
+    ends-now (ServesBy g.P.Port.replies g.P.Port.fails g.P.Port.gone) (λ count. Err (fault.Write connection.replies)) itself (Err (fault.Port connection.replies)) first read sent (left connection.owed) c.answer.new.port
+    (none-came (left connection.owed) (omega (arith, c.requires)))
     (port-ends g.P.Port.replies g.P.Port.fails g.P.Port.gone first c.args.port.now c.answer.new.port read sent connection s fails err.3)
 
-pub returns-in_default-encode-clause-turns : goal.returns-in_default-encode-clause-turns
-returns-in_default-encode-clause-turns g c = λ first read sent stands.
+pub returns-then-quits-clause-turns : goal.returns-then-quits-clause-turns
+returns-then-quits-clause-turns g c = λ first read sent stands.
     let connection = c.args.self.now in
     let s = settled g.P.Port.replies first c.args.port.now read sent connection stands c.requires in
     let one = one-answered g.P.Port.replies c.args.port.now c.answer.new.port s.rest connection.requests c.next.new.self c.in-Ok-Some.words c.as_slice.result.now c.in-Ok.said.reply c.in-Ok.said.quits c.is_empty.result
     s.holds (rw c.in-Ok-Some.field-0-is at c.in-Ok-Some.ensures.next) (sym c.as_slice.ensures) c.is_empty.ensures c.if-is_empty.false c.in-Ok.ensures.ok in
-    ends-now (ServesBy g.P.Port.replies g.P.Port.fails g.P.Port.gone) (λ count. Err (fault.Write connection.replies)) itself (Err (fault.Memory connection.replies)) first read sent c.encode.new.out.items c.answer.new.port
-    (c.in_default-encode.ensures.err ∙ none-came connection.owed.items (omega (arith, c.requires)))
-    (answer-lost g.P.Port.replies g.P.Port.fails g.P.Port.gone first c.args.port.now c.answer.new.port read sent s.rest one.0 s.exchanges one.1 connection.replies s.answered s.written one.2)
+    let owes = c.begin.ensures ∙ ap text (sym one.4) in
+    ends-quit g.P.Port.replies g.P.Port.fails g.P.Port.gone first c.answer.new.port read sent (left c.begin.new.self) one.0 s.exchanges one.1 connection.replies
+    (answered-again g.P.Port.replies first c.args.port.now c.answer.new.port read s.rest one.0 s.exchanges (one.1 ∷ []) s.answered one.2) s.written owes (one.5 ∙ c.if-quits.true)
 
-pub returns-then-said-clause-turns : goal.returns-then-said-clause-turns
-returns-then-said-clause-turns g c = λ first read sent stands.
+pub returns-else-quits-clause-turns : goal.returns-else-quits-clause-turns
+returns-else-quits-clause-turns g c = λ first read sent stands.
     let connection = c.args.self.now in
     let s = settled g.P.Port.replies first c.args.port.now read sent connection stands c.requires in
     let one = one-answered g.P.Port.replies c.args.port.now c.answer.new.port s.rest connection.requests c.next.new.self c.in-Ok-Some.words c.as_slice.result.now c.in-Ok.said.reply c.in-Ok.said.quits c.is_empty.result
     s.holds (rw c.in-Ok-Some.field-0-is at c.in-Ok-Some.ensures.next) (sym c.as_slice.ensures) c.is_empty.ensures c.if-is_empty.false c.in-Ok.ensures.ok in
-    let owes = c.in-Ok-encode.ensures.ok ∙ ap (λ o. o ++ text c.in-Ok.said.reply) (none-came connection.owed.items (omega (arith, c.requires))) ∙ ap text (sym one.4) in
-    ends-quit g.P.Port.replies g.P.Port.fails g.P.Port.gone first c.answer.new.port read sent c.encode.new.out.items one.0 s.exchanges one.1 connection.replies
-    (answered-again g.P.Port.replies first c.args.port.now c.answer.new.port read s.rest one.0 s.exchanges (one.1 ∷ []) s.answered one.2) s.written owes (one.5 ∙ c.if-said.true)
-
-pub returns-else-said-clause-turns : goal.returns-else-said-clause-turns
-returns-else-said-clause-turns g c = λ first read sent stands.
-    let connection = c.args.self.now in
-    let s = settled g.P.Port.replies first c.args.port.now read sent connection stands c.requires in
-    let one = one-answered g.P.Port.replies c.args.port.now c.answer.new.port s.rest connection.requests c.next.new.self c.in-Ok-Some.words c.as_slice.result.now c.in-Ok.said.reply c.in-Ok.said.quits c.is_empty.result
-    s.holds (rw c.in-Ok-Some.field-0-is at c.in-Ok-Some.ensures.next) (sym c.as_slice.ensures) c.is_empty.ensures c.if-is_empty.false c.in-Ok.ensures.ok in
-    let owes = c.in-Ok-encode.ensures.ok ∙ ap (λ o. o ++ text c.in-Ok.said.reply) (none-came connection.owed.items (omega (arith, c.requires))) ∙ ap text (sym one.4) in
+    let owes = c.begin.ensures ∙ ap text (sym one.4) in
     record {
       exchanges = s.exchanges;
       last = one.1 ∷ [];
+      part = [];
       rest = one.0;
       answered = answered-again g.P.Port.replies first c.args.port.now c.answer.new.port read s.rest one.0 s.exchanges (one.1 ∷ []) s.answered one.2;
       holds = one.3;
       written = s.written;
-      owes = (owes, one.5 ∙ c.if-said.false);
+      owes = (sym owes, omega (arith, ap length owes, some-text one.1.answer), one.5 ∙ c.if-quits.false);
     }
 
-pub returns-else-said-clause-less : goal.returns-else-said-clause-less
-returns-else-said-clause-less g c = λ going. next-shorter c.args.self.now.requests c.in-Ok-Some.words c.next.new.self (rw c.in-Ok-Some.field-0-is at c.in-Ok-Some.ensures.next)
+pub returns-else-quits-clause-less : goal.returns-else-quits-clause-less
+returns-else-quits-clause-less g c = λ going. next-shorter c.args.self.now.requests c.in-Ok-Some.words c.next.new.self (rw c.in-Ok-Some.field-0-is at c.in-Ok-Some.ensures.next)
 
 pub returns-in-Ok-None-clause-waits : goal.returns-in-Ok-None-clause-waits
 returns-in-Ok-None-clause-waits g c = λ waiting.
     let next = rw (c.in-Ok-None.field-0-is) at c.in-Ok-None.ensures.next in
     let same = next-same c.args.self.now.requests c.next.new.self next in (
-      none-came c.args.self.now.owed.items (omega (arith, c.requires)),
+      none-came (left c.args.self.now.owed) (omega (arith, c.requires)),
       λ bytes is. request-open bytes (next-none c.args.self.now.requests bytes c.next.new.self (sym same ∙ is) next).0,
     )
 
-pub returns-in-Ok-encode-2 : goal.returns-in-Ok-encode-2
-returns-in-Ok-encode-2 g c = record {
+pub returns-in_default-fault : goal.returns-in_default-fault
+returns-in_default-fault g c = record {
   turns = λ first read sent stands.
       let connection = c.args.self.now in
       let s = settled g.P.Port.replies first c.args.port.now read sent connection stands c.requires in
       let wrong = next-fault connection.requests s.rest c.in-Err.fault c.next.new.self s.holds c.in_default-fault.not-Memory c.in-Err.ensures.next in
-      let owes = c.in-Ok-encode-2.ensures.ok ∙ ap (λ o. o ++ text (Error Protocol)) (none-came connection.owed.items (omega (arith, c.requires))) in
-      ends-refused g.P.Port.replies g.P.Port.fails g.P.Port.gone first c.args.port.now read sent c.encode-in_default-fault.new.out.items s.rest s.exchanges connection.replies wrong.0 s.answered s.written owes (request-fault s.rest wrong.0 wrong.1);
+      let owes = c.begin-in_default-fault.ensures in
+      ends-refused g.P.Port.replies g.P.Port.fails g.P.Port.gone first c.args.port.now read sent (left c.begin-in_default-fault.new.self) s.rest s.exchanges connection.replies wrong.0 s.answered s.written owes (request-fault s.rest wrong.0 wrong.1);
   waits = λ e. cc;
   less = λ e. cc;
   same = next-fewer c.args.self.now.requests (Err c.in-Err.fault) c.next.new.self c.in-Err.ensures.next;
