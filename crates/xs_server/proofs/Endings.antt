@@ -1,5 +1,5 @@
 -- How a connection goes on, and how it ends.
-use Rattle.std.proofs.Common.{◌≡◌, ℕ, ◌+◌, ◌<◌, Bool, true, false, ◌||◌, List, [], ◌∷◌, ◌++◌, length, take, drop, Result, Ok, Err, inl, inr, sym, ap, ◌∙◌, subst, refl, arith, length-append, length-drop}
+use Rattle.std.proofs.Common.{◌≡◌, ℕ, ◌+◌, ◌<◌, Bool, true, false, ◌||◌, List, [], ◌∷◌, ◌++◌, length, take, drop, Result, Ok, Err, inl, inr, sym, ap, ◌∙◌, subst, refl, append_assoc, arith, length-append, length-drop}
 use Rattle.std.proofs.lemmas.List.{append-nil, take-append-drop}
 use Rattle.std.proofs.lemmas.Grind.{flat_map-append}
 use Rattle.std.proofs.lemmas.List.Folds.{list_any-append}
@@ -8,6 +8,7 @@ use Rattle.xs_resp.specs.declared.reply.Reply.TheVariants.{Simple, Error, Int, B
 use Rattle.xs_resp.specs.declared.fault.Fault.TheVariants.{Protocol}
 use Rattle.xs_resp.specs.declared.read_fault.Wrong.{Wrong}
 use Rattle.xs_resp.specs.ReplyText.{text}
+use Rattle.xs_resp.specs.Left.{left}
 use Rattle.xs_resp.specs.Grammar.{FaultIn, IsOpen}
 use Rattle.xs_command.specs.declared.command.Command.{Command}
 use Rattle.xs_server.specs.declared.connections.connection.Connection.{Connection}
@@ -35,20 +36,30 @@ written-part exchanges sent part replies w = (w.0, ap (λ o. o ++ part) (w.1 ∙
 sent-more : (exchanges : List Exchange) (exchange : Exchange) (sent owed : List ℕ) (replies : ℕ) → WrittenTo exchanges [] sent replies → owed ≡ text exchange.answer → sent ++ owed ≡ texts (exchanges ++ exchange ∷ [])
 sent-more exchanges exchange sent owed replies w is = ap (λ o. sent ++ o) is ∙ ap (λ o. o ++ text exchange.answer) (w.1 ∙ append-nil (texts exchanges)) ∙ sym (texts-more exchanges exchange)
 
-written-more : (exchanges : List Exchange) (exchange : Exchange) (sent owed : List ℕ) (replies more : ℕ) → WrittenTo exchanges [] sent replies → (owed ≡ text exchange.answer) × (is_quit exchange.asked ≡ false) → more ≡ capped (replies + 1)
-    → WrittenTo (exchanges ++ exchange ∷ []) [] (sent ++ owed) more
-written-more exchanges exchange sent owed replies more w (is, other) counted =
+-- the last answer is written, of which a part was
+written-more : (exchanges : List Exchange) (exchange : Exchange) (sent part owed : List ℕ) (replies more : ℕ) → WrittenTo exchanges part sent replies → text exchange.answer ≡ part ++ owed → is_quit exchange.asked ≡ false
+    → more ≡ capped (replies + 1) → WrittenTo (exchanges ++ exchange ∷ []) [] (sent ++ owed) more
+written-more exchanges exchange sent part owed replies more w is other counted =
     let len = length-append exchanges (exchange ∷ []) in (
       list_any-append (λ (e : Exchange). is_quit e.asked) exchanges (exchange ∷ []) ∙ ap (λ b. b || (is_quit exchange.asked || false)) w.0 ∙ ap (λ b. b || false) other,
-      sent-more exchanges exchange sent owed replies w is ∙ sym (append-nil (texts (exchanges ++ exchange ∷ []))),
+      ap (λ o. o ++ owed) w.1 ∙ append_assoc (texts exchanges) part owed ∙ ap (λ o. texts exchanges ++ o) (sym is) ∙ sym (texts-more exchanges exchange) ∙ sym (append-nil (texts (exchanges ++ exchange ∷ []))),
       omega (arith, counted, w.2, len),
     )
+
+-- a longer part of the last answer is written
+written-longer : (exchanges : List Exchange) (sent part more : List ℕ) (replies : ℕ) → WrittenTo exchanges part sent replies → WrittenTo exchanges (part ++ more) (sent ++ more) replies
+written-longer exchanges sent part more replies w = (w.0, ap (λ o. o ++ more) w.1 ∙ append_assoc (texts exchanges) part more, w.2)
+
+part-none : (last : List Exchange) (part owed : List ℕ) → Owes last part owed → length owed < 1 → part ≡ []
+part-none [] part owed owes few = owes.0
+part-none (one ∷ []) part owed owes few = absurd (omega (arith, owes.1, few))
+part-none (one ∷ two ∷ more) part owed owes few = absurd owes
 
 is-part : (count : ℕ) (owed whole : List ℕ) → count < length owed → owed ≡ whole → IsPart (take count owed) whole
 is-part count owed whole few is = (drop count owed, sym is ∙ sym (take-append-drop count owed), omega (arith, few, length-drop count owed))
 
 -- a reply has a text
-some-text : (reply : Reply) → 0 < length (text reply)
+pub some-text : (reply : Reply) → 0 < length (text reply)
 unfolding text
 some-text (Simple s) = omega arith
 some-text (Error f) = omega arith
@@ -69,37 +80,56 @@ module _ {P : Type 0} (Replies : P → Command → Reply → P → Type 0) where
     pub holds : connection.requests ≡ Ok rest
     pub written : WrittenTo exchanges [] sent connection.replies
 
-  all-answered : (old new : P) (read : List ℕ) (exchanges last : List Exchange) (rest owed : List ℕ) → AreAnswered Replies old new read (exchanges ++ last) rest → Owes last owed → length owed < 1
+  all-answered : (old new : P) (read : List ℕ) (exchanges last : List Exchange) (rest part owed : List ℕ) → AreAnswered Replies old new read (exchanges ++ last) rest → Owes last part owed → length owed < 1
       → AreAnswered Replies old new read exchanges rest
-  all-answered old new read exchanges [] rest owed a owes few = subst (λ (e : List Exchange). AreAnswered Replies old new read e rest) (append-nil exchanges) a
-  all-answered old new read exchanges (one ∷ []) rest owed a owes few = absurd (omega (arith, ap length owes.0, some-text one.answer, few))
-  all-answered old new read exchanges (one ∷ two ∷ more) rest owed a owes few = absurd owes
+  all-answered old new read exchanges [] rest part owed a owes few = subst (λ (e : List Exchange). AreAnswered Replies old new read e rest) (append-nil exchanges) a
+  all-answered old new read exchanges (one ∷ []) rest part owed a owes few = absurd (omega (arith, owes.1, few))
+  all-answered old new read exchanges (one ∷ two ∷ more) rest part owed a owes few = absurd owes
 
-  pub settled : (old new : P) (read sent : List ℕ) (connection : Connection) → Stands Replies old new read sent connection → length connection.owed.items < 1 → Settled old new read sent connection
+  pub settled : (old new : P) (read sent : List ℕ) (connection : Connection) → Stands Replies old new read sent connection → length (left connection.owed) < 1 → Settled old new read sent connection
   settled old new read sent connection s few = record {
     exchanges = s.exchanges;
     rest = s.rest;
-    answered = all-answered old new read s.exchanges s.last s.rest connection.owed.items s.answered s.owes few;
+    answered = all-answered old new read s.exchanges s.last s.rest s.part (left connection.owed) s.answered s.owes few;
     holds = s.holds;
-    written = s.written;
+    written = subst (λ (p : List ℕ). WrittenTo s.exchanges p sent connection.replies) (part-none s.last s.part (left connection.owed) s.owes few) s.written;
   }
 
-  -- what is owed is written
-  pub stands-paid : (old new : P) (read sent : List ℕ) (connection later : Connection) → Stands Replies old new read sent connection → 0 < length connection.owed.items → later.requests ≡ connection.requests
-      → later.owed.items ≡ [] → later.replies ≡ capped (connection.replies + 1) → Stands Replies old new read (sent ++ connection.owed.items) later
-  stands-paid old new read sent connection later s some same none counted = record {
+  -- a part of what is owed is written
+  pub stands-on : (old new : P) (read sent front : List ℕ) (connection later : Connection) → Stands Replies old new read sent connection → left connection.owed ≡ front ++ left later.owed → 0 < length (left later.owed)
+      → later.requests ≡ connection.requests → later.replies ≡ connection.replies → Stands Replies old new read (sent ++ front) later
+  stands-on old new read sent front connection later s is some same counted = record {
+    exchanges = s.exchanges;
+    last = s.last;
+    rest = s.rest;
+    part = s.part ++ front;
+    answered = s.answered;
+    holds = same ∙ s.holds;
+    written = subst (λ (n : ℕ). WrittenTo s.exchanges (s.part ++ front) (sent ++ front) n) (sym counted) (written-longer s.exchanges sent s.part front connection.replies s.written);
+    owes = by s.last s.owes;
+  } where
+    by : (last : List Exchange) → Owes last s.part (left connection.owed) → Owes last (s.part ++ front) (left later.owed)
+    by [] owes = absurd (omega (arith, some, ap length owes.1, ap length is, length-append front (left later.owed)))
+    by (one ∷ []) owes = (owes.0 ∙ ap (λ o. s.part ++ o) is ∙ sym (append_assoc s.part front (left later.owed)), some, owes.2)
+    by (one ∷ two ∷ more) owes = absurd owes
+
+  -- all that is owed is written
+  pub stands-paid : (old new : P) (read sent front : List ℕ) (connection later : Connection) → Stands Replies old new read sent connection → left connection.owed ≡ front → 0 < length front
+      → later.requests ≡ connection.requests → left later.owed ≡ [] → later.replies ≡ capped (connection.replies + 1) → Stands Replies old new read (sent ++ front) later
+  stands-paid old new read sent front connection later s is some same none counted = record {
     exchanges = s.exchanges ++ s.last;
     last = [];
     rest = s.rest;
+    part = [];
     answered = subst (λ (e : List Exchange). AreAnswered Replies old new read e s.rest) (sym (append-nil (s.exchanges ++ s.last))) s.answered;
     holds = same ∙ s.holds;
-    written = written-last s.last s.written s.owes;
-    owes = none;
+    written = by s.last s.owes;
+    owes = (refl, none);
   } where
-    written-last : (last : List Exchange) → WrittenTo s.exchanges [] sent connection.replies → Owes last connection.owed.items → WrittenTo (s.exchanges ++ last) [] (sent ++ connection.owed.items) later.replies
-    written-last [] w owes = absurd (omega (arith, some, ap length owes))
-    written-last (one ∷ []) w owes = written-more s.exchanges one sent connection.owed.items connection.replies later.replies w owes counted
-    written-last (one ∷ two ∷ more) w owes = absurd owes
+    by : (last : List Exchange) → Owes last s.part (left connection.owed) → WrittenTo (s.exchanges ++ last) [] (sent ++ front) later.replies
+    by [] owes = absurd (omega (arith, some, ap length owes.1, ap length is))
+    by (one ∷ []) owes = written-more s.exchanges one sent s.part front connection.replies later.replies s.written (owes.0 ∙ ap (λ o. s.part ++ o) is) owes.2 counted
+    by (one ∷ two ∷ more) owes = absurd owes
 
   -- a request of no words is taken
   pub passed : (old mid new : P) (read bytes rest : List ℕ) (exchanges : List Exchange)
@@ -118,19 +148,22 @@ module _ {P : Type 0} (Replies : P → Command → Reply → P → Type 0) (Fail
   Broken old new read sent owed replies = (count : ℕ) → count < length owed → ServesBy Replies Fails gone writer (Err (serve_fault.Write replies)) old read (sent ++ take count owed) new
 
   -- the writer fails within the last answer
-  answer-broken : (old new : P) (read sent owed rest : List ℕ) (exchanges : List Exchange) (one : Exchange) (replies : ℕ)
-      → AreAnswered Replies old new read (exchanges ++ one ∷ []) rest → WrittenTo exchanges [] sent replies → owed ≡ text one.answer → Broken old new read sent owed replies
-  answer-broken old new read sent owed rest exchanges one replies a w is = λ count few.
-      let part = take count owed in
-      let lacks = is-part count owed (text one.answer) few is in
-      let written = written-part exchanges sent part replies w in
-      (serves-so (Err (serve_fault.Write replies)) old new new read (sent ++ part) rest (exchanges ++ one ∷ []) a (refl, inl (exchanges, one, part, refl, written, lacks)), refl, λ told e. cc)
+  answer-broken : (old new : P) (read sent part owed rest : List ℕ) (exchanges : List Exchange) (one : Exchange) (replies : ℕ)
+      → AreAnswered Replies old new read (exchanges ++ one ∷ []) rest → WrittenTo exchanges part sent replies → text one.answer ≡ part ++ owed → Broken old new read sent owed replies
+  answer-broken old new read sent part owed rest exchanges one replies a w is = λ count few.
+      let more = take count owed in
+      let behind = drop count owed in
+      let split : text one.answer ≡ (part ++ more) ++ behind =
+      is ∙ ap (λ o. part ++ o) (sym (take-append-drop count owed)) ∙ sym (append_assoc part more behind) in
+      let lacks : IsPart (part ++ more) (text one.answer) = (behind, split, omega (arith, few, length-drop count owed)) in
+      let written = written-longer exchanges sent part more replies w in
+      (serves-so (Err (serve_fault.Write replies)) old new new read (sent ++ more) rest (exchanges ++ one ∷ []) a (refl, inl (exchanges, one, part ++ more, refl, written, lacks)), refl, λ told e. cc)
 
-  pub stands-broken : (old new : P) (read sent : List ℕ) (connection : Connection) → Stands Replies old new read sent connection → Broken old new read sent connection.owed.items connection.replies
+  pub stands-broken : (old new : P) (read sent : List ℕ) (connection : Connection) → Stands Replies old new read sent connection → Broken old new read sent (left connection.owed) connection.replies
   stands-broken old new read sent connection s = by s.last s.answered s.owes where
-    by : (last : List Exchange) → AreAnswered Replies old new read (s.exchanges ++ last) s.rest → Owes last connection.owed.items → Broken old new read sent connection.owed.items connection.replies
-    by [] a owes = λ count few. absurd (omega (arith, few, ap length owes))
-    by (one ∷ []) a owes = answer-broken old new read sent connection.owed.items s.rest s.exchanges one connection.replies a s.written owes.0
+    by : (last : List Exchange) → AreAnswered Replies old new read (s.exchanges ++ last) s.rest → Owes last s.part (left connection.owed) → Broken old new read sent (left connection.owed) connection.replies
+    by [] a owes = λ count few. absurd (omega (arith, few, ap length owes.1))
+    by (one ∷ []) a owes = answer-broken old new read sent s.part (left connection.owed) s.rest s.exchanges one connection.replies a s.written owes.0
     by (one ∷ two ∷ more) a owes = absurd owes
 
   -- a QUIT is answered
@@ -140,7 +173,7 @@ module _ {P : Type 0} (Replies : P → Command → Reply → P → Type 0) (Fail
   ends-quit old new read sent owed rest exchanges one replies a w is quit =
       let all = sent-more exchanges one sent owed replies w is in (
         (serves-so (Ok ending.Quit) old new new read (sent ++ owed) rest (exchanges ++ one ∷ []) a (refl, (exchanges, one, refl, w.0, quit, all)), refl, λ told e. cc),
-        answer-broken old new read sent owed rest exchanges one replies a w is,
+        answer-broken old new read sent [] owed rest exchanges one replies a w (sym is),
       )
 
   -- the bytes aren't a request
@@ -157,13 +190,19 @@ module _ {P : Type 0} (Replies : P → Command → Reply → P → Type 0) (Fail
             (serves-so (Err (serve_fault.Write replies)) old new new read (sent ++ part) rest exchanges a (refl, inr (wrong, part, stands, written, lacks)), refl, λ told e. cc),
       )
 
-  -- memory ran out for the last answer
-  pub answer-lost : (old mid new : P) (read sent bytes rest : List ℕ) (exchanges : List Exchange) (one : Exchange) (replies : ℕ)
-      → AreAnswered Replies old mid read exchanges bytes → WrittenTo exchanges [] sent replies → AreAnswered Replies mid new bytes (one ∷ []) rest
-      → ServesBy Replies Fails gone itself (Err (serve_fault.Memory replies)) old read sent new
-  answer-lost old mid new read sent bytes rest exchanges one replies a w more =
-      let all = answered-again Replies old mid new read bytes rest exchanges (one ∷ []) a more in
-      (serves-so (Err (serve_fault.Memory replies)) old new new read sent rest (exchanges ++ one ∷ []) all (refl, inr (exchanges, one, refl, w)), refl, λ told e. cc)
+  -- memory ran out for what was read
+  pub memory-ends : (old new : P) (read sent piece : List ℕ) (connection : Connection) (s : Settled Replies old new read sent connection)
+      → ServesBy Replies Fails gone itself (Err (serve_fault.Memory connection.replies)) old (read ++ piece) sent new
+  memory-ends old new read sent piece connection s =
+      let a = s.answered in
+      let more : AreAnswered Replies old new (read ++ piece) s.exchanges (s.rest ++ piece) = record {
+        requests = a.requests;
+        front = a.front;
+        bytes_are = ap (λ b. b ++ piece) a.bytes_are ∙ append_assoc a.front s.rest piece;
+        spelled = a.spelled;
+        run = a.run;
+      } in
+      (serves-so (Err (serve_fault.Memory connection.replies)) old new new (read ++ piece) sent (s.rest ++ piece) s.exchanges more (refl, s.written), refl, λ told e. cc)
 
   -- the port answers no more
   pub port-ends : (old mid new : P) (read sent : List ℕ) (connection : Connection) (s : Settled Replies old mid read sent connection) → PortFails Fails mid new s.rest → gone new ≡ true

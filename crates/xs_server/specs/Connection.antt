@@ -1,7 +1,8 @@
 -- A connection with no IO of its own.
-use Rattle.std.specs.Prelude.{◌≡◌, ℕ, Bool, true, false, List, [], ◌∷◌, ◌++◌, Result, Ok, Err}
+use Rattle.std.specs.Prelude.{◌≡◌, ℕ, ◌<◌, Bool, true, false, List, [], ◌∷◌, ◌++◌, length, Result, Ok, Err}
 use Rattle.xs_resp.specs.declared.reply.Reply.{Reply}
 use Rattle.xs_resp.specs.ReplyText.{text}
+use Rattle.xs_resp.specs.Left.{left}
 use Rattle.xs_command.specs.declared.command.Command.{Command}
 use Rattle.xs_server.specs.declared.connections.connection.Connection.{Connection}
 use Rattle.xs_server.specs.declared.connections.ending.Ending.{Ending}
@@ -14,26 +15,29 @@ use Rattle.xs_server.specs.Serve.{WrittenTo, Serves, cause_of}
 -- nothing is held, owed or written
 pub record IsNew (connection : Connection) : Type 0 where
   pub requests : connection.requests ≡ Ok []
-  pub owed : connection.owed.items ≡ []
+  pub owed : left connection.owed ≡ []
   pub replies : connection.replies ≡ 0
 
--- what is owed is the text of the answer to the last request, which is no QUIT; or nothing
-abbrev pub Owes : List Exchange → List ℕ → Type 0
-Owes [] owed = owed ≡ []
-Owes (exchange ∷ []) owed = (owed ≡ text exchange.answer) × (is_quit exchange.asked ≡ false)
-Owes _ owed = ⊥
+-- what is owed is what this part of a text lacks: of the text of the answer to the last request, which is no QUIT; or
+-- nothing
+abbrev pub Owes : List Exchange → List ℕ → List ℕ → Type 0
+Owes [] part owed = (part ≡ []) × (owed ≡ [])
+Owes (exchange ∷ []) part owed =
+    (text exchange.answer ≡ part ++ owed) × (0 < length owed) × (is_quit exchange.asked ≡ false)
+Owes _ part owed = ⊥
 
--- all requests that were taken are answered; the answers are written, but for the last, which may be owed
+-- all requests that were taken are answered; the answers are written, but for the last, of which a part may be owed
 pub record Stands
     {P : Type 0} (Replies : P → Command → Reply → P → Type 0) (old new : P) (read sent : List ℕ)
     (connection : Connection) : Type 0 where
   pub exchanges : List Exchange
   pub last : List Exchange
   pub rest : List ℕ
+  pub part : List ℕ
   pub answered : AreAnswered Replies old new read (exchanges ++ last) rest
   pub holds : connection.requests ≡ Ok rest
-  pub written : WrittenTo exchanges [] sent connection.replies
-  pub owes : Owes last connection.owed.items
+  pub written : WrittenTo exchanges part sent connection.replies
+  pub owes : Owes last part (left connection.owed)
 
 -- the connection was served so, by this cause; a port that gave no answer is gone
 abbrev pub ServesBy :

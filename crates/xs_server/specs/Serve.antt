@@ -48,12 +48,9 @@ WriteFails rest exchanges sent replies =
     ⊎ ((wrong : Wrong) × (part : List ℕ) × FaultIn rest wrong
     × WrittenTo exchanges part sent replies × IsPart part (text (Error Protocol)))
 
--- memory ran out between two requests, or for the text of the last answer
+-- memory ran out between two requests: all answers are written
 abbrev pub MemoryFails : List Exchange → List ℕ → ℕ → Type 0
-MemoryFails exchanges sent replies =
-    WrittenTo exchanges [] sent replies
-    ⊎ ((before : List Exchange) × (last : Exchange) × (exchanges ≡ before ++ last ∷ [])
-    × WrittenTo before [] sent replies)
+MemoryFails exchanges sent replies = WrittenTo exchanges [] sent replies
 
 -- a request behind the others was asked and not answered
 pub record PortFails {P : Type 0} (Fails : P → Command → P → Type 0) (last new : P) (rest : List ℕ) : Type 0 where

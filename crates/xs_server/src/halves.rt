@@ -39,10 +39,18 @@ fn send(shared: &mut Shared) -> io::Result<()> {
     sent
 }
 
-/// Takes as many bytes from the front of a slice as there is room for, and says how many. A full buffer is sent.
+/// Takes as many bytes from the front of a slice as there is room for, and says how many. A full buffer is sent. A slice
+/// that would fill the empty buffer is sent itself.
 fn hold(shared: &mut Shared, from: &[u8]) -> io::Result<usize>
     ensures { IfOk result (λ n. n ≤ length from.now) }
 {
+    if shared.held.is_empty() && from.len() >= ROOM {
+        let Some(mut stream) = shared.stream.as_ref() else {
+            return Err(busy());
+        };
+        stream.write_all(from)?;
+        return Ok(from.len());
+    }
     let count = from.len().min(ROOM.saturating_sub(shared.held.len()));
     shared.held.extend_from_slice(&from[..count])?;
     if shared.held.len() >= ROOM {

@@ -2,9 +2,10 @@
 ghost use Rattle.std.specs.Prelude.{◌≡◌, ℕ, List, [], Ok, Err, IfOk};
 ghost use Rattle.xs_resp.specs.Grammar.{IsOpen};
 ghost use Rattle.xs_resp.specs.Held.{held_length};
+ghost use Rattle.xs_resp.specs.Left.{left};
 ghost use Rattle.xs_server.specs.Connection.{IsNew, ServesBy, Stands};
 
-use crate::connections::answering::answer;
+use crate::connections::answering::{Said, answer};
 use crate::connections::ending::{Ending, ServeFault};
 use crate::connections::reserve::Reserve;
 use crate::connections::second_tries::next_request;
@@ -12,22 +13,19 @@ use crate::machines::machine::{Machine, Turn};
 use std::alloc::{AllocError, Global};
 use std::sync::Wait;
 use xs_desk::Port;
-use xs_resp::{Fault, ReadFault, Reply, Requests, encode};
+use xs_resp::{Encoder, Fault, ReadFault, Reply, Requests};
 
-/// A connection: the bytes that came in and aren't taken yet, and the text that it owes.
+/// A connection: the bytes that came in and aren't taken yet, and the reply that it owes.
 #[derive(Drop)]
 pub struct Connection {
     alloc: Global,
     reserve: Reserve,
     pub requests: Requests,
-    /// The text of a reply.
-    pub owed: Vec<u8>,
+    /// The reply that is being written.
+    pub owed: Encoder,
     /// How many replies were written.
     pub replies: u64,
 }
-
-/// How many bytes of memory the buffer keeps that a great reply made large.
-const KEPT: usize = 65_536;
 
 /// How many bytes of requests are held without more memory: those of one read, and twice a request of 16 KiB.
 const ROOM: usize = 131_072;
@@ -41,7 +39,7 @@ impl Connection {
             alloc,
             reserve: Reserve::new(alloc)?,
             requests: Requests::with_capacity(alloc, ROOM)?,
-            owed: Vec::with_capacity(alloc, KEPT)?,
+            owed: Encoder::new(alloc)?,
             replies: 0,
         })
     }
@@ -52,7 +50,6 @@ impl Connection {
     {
         self.requests.clear();
         self.owed.clear();
-        self.owed.shrink_to(KEPT);
         self.replies = 0;
     }
 }
@@ -67,11 +64,13 @@ impl<P: Port, T: Wait> Machine<P, T> for Connection {
 
     ghost ENOUGH = { 1 };
 
-    ghost owes = { λ connection. connection.owed.items };
+    ghost owes = { λ connection. left connection.owed };
+
+    ghost front = { λ connection. connection.owed.piece };
 
     ghost held = { λ connection. held_length connection.requests };
 
-    ghost is_waiting = { λ connection. (connection.owed.items ≡ [])
+    ghost is_waiting = { λ connection. (left connection.owed ≡ [])
         × ((bytes : List ℕ) → connection.requests ≡ Ok bytes → IsOpen bytes) };
 
     ghost stands = { λ first read sent connection port. Stands P.replies first port read sent connection };
@@ -94,10 +93,9 @@ impl<P: Port, T: Wait> Machine<P, T> for Connection {
                 else {
                     return Turn::Ends(Err(ServeFault::Port { replies }));
                 };
-                let Ok(()) = encode(&said.reply, &mut self.owed) else {
-                    return Turn::Ends(Err(ServeFault::Memory { replies }));
-                };
-                if said.quits {
+                let Said { reply, quits } = said;
+                self.owed.begin(reply);
+                if quits {
                     return Turn::Ends(Ok(Ending::Quit));
                 }
                 Turn::Goes
@@ -109,15 +107,11 @@ impl<P: Port, T: Wait> Machine<P, T> for Connection {
                     if count == 0 {
                         return Turn::Goes;
                     }
-                    let Ok(()) = encode(&Reply::Error(Fault::Memory), &mut self.owed) else {
-                        return Turn::Ends(Err(ServeFault::Memory { replies }));
-                    };
+                    self.owed.begin(Reply::Error(Fault::Memory));
                     Turn::Goes
                 }
                 _ => {
-                    let Ok(()) = encode(&Reply::Error(Fault::Protocol), &mut self.owed) else {
-                        return Turn::Ends(Err(ServeFault::Memory { replies }));
-                    };
+                    self.owed.begin(Reply::Error(Fault::Protocol));
                     Turn::Ends(Ok(Ending::Protocol))
                 }
             },
@@ -154,15 +148,16 @@ impl<P: Port, T: Wait> Machine<P, T> for Connection {
     }
 
     fn owed(&self) -> &[u8] {
-        self.owed.as_slice()
+        self.owed.piece()
     }
 
     fn paid(&mut self) {
-        if self.owed.as_slice().is_empty() {
+        if self.owed.piece().is_empty() {
             return;
         }
-        self.owed.clear();
-        self.owed.shrink_to(KEPT);
-        self.replies = self.replies.saturating_add(1);
+        self.owed.advance();
+        if self.owed.piece().is_empty() {
+            self.replies = self.replies.saturating_add(1);
+        }
     }
 }

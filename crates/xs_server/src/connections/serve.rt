@@ -17,7 +17,8 @@ use xs_desk::Port;
 /// next request is taken. It reads on only where no request is whole.
 ///
 /// # Errors
-/// A `ServeFault`, with the number of replies that were written whole. What was executed stays.
+/// A `ServeFault`, with the number of replies that were written whole. What was executed stays, and has its whole reply
+/// unless a write failed.
 pub fn serve<R: Source, W: Sink, P: Port, T: Wait>(
     rt: &T,
     alloc: Global,

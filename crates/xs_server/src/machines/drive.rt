@@ -55,21 +55,25 @@ fn come<S, T, M: Machine<S, T>, R: Source>(
     }
 }
 
-/// Writes what the machine owes once there is enough of it. Its end is the error.
-fn send_on<S, T, M: Machine<S, T>, W: Sink>(writer: &mut W, machine: &mut M) -> Result<(), M::End>
-    ensures sends { (first service : S) (read sent : List ℕ) → M.stands first read sent machine.old service →
-        (more : List ℕ) × Appends (W.held writer.old) (W.held writer.new) more
-        × MatchResult result (λ _. M.stands first read (sent ++ more) machine.new service)
-        (λ end. M.has_ended Cause.writer end first read (sent ++ more) service) }
-    ensures few { OnOk result (((length (M.owes machine.new) < M.ENOUGH) × (writer.new ≡ writer.old))
-        ⊎ ((more : List ℕ) × Appends (W.held writer.old) (W.held writer.new) more × (M.ENOUGH ≤ length more)
-        × (M.owes machine.new ≡ []))) }
+/// Writes the front of what the machine owes. Its end is the error.
+fn send_front<S, T, M: Machine<S, T>, W: Sink>(
+    writer: &mut W,
+    machine: &mut M,
+) -> Result<(), M::End>
+    ensures sent { OnOk result (Appends (W.held writer.old) (W.held writer.new) (M.front machine.old)) }
+    ensures stands { OnOk result ((first service : S) (read sent : List ℕ) →
+        M.stands first read sent machine.old service →
+        M.stands first read (sent ++ M.front machine.old) machine.new service) }
+    ensures owed { OnOk result (M.owes machine.old ≡ M.front machine.old ++ M.owes machine.new) }
+    ensures breaks { OnOk result ((count : ℕ) → count < length (M.owes machine.new) →
+        M.breaks machine.new count ≡ M.breaks machine.old (length (M.front machine.old) + count)) }
     ensures held { OnOk result (M.held machine.new ≡ M.held machine.old) }
-    ensures cause { OnErr result (W.broken writer.new ≡ true) }
+    ensures err { IfErr result (λ end. (count : ℕ) × (count < length (M.owes machine.old))
+        × Appends (W.held writer.old) (W.held writer.new) (take count (M.owes machine.old))
+        × (end ≡ M.breaks machine.old count) × (W.broken writer.new ≡ true)
+        × ((first service : S) (read sent : List ℕ) → M.stands first read sent machine.old service →
+        M.has_ended Cause.writer end first read (sent ++ take count (M.owes machine.old)) service)) }
 {
-    if machine.owed().len() < M::ENOUGH {
-        return Ok(());
-    }
     match write_all(writer, machine.owed()) {
         Ok(_) => {
             machine.paid();
@@ -77,6 +81,48 @@ fn send_on<S, T, M: Machine<S, T>, W: Sink>(writer: &mut W, machine: &mut M) -> 
         }
         Err(count) => Err(machine.write_error(count)),
     }
+}
+
+/// Writes what the machine owes, piece by piece, while there is enough of it. Its end is the error.
+fn send_on<S, T, M: Machine<S, T>, W: Sink>(writer: &mut W, machine: &mut M) -> Result<(), M::End>
+    requires { 0 < M.ENOUGH }
+    ensures sends { (first service : S) (read sent : List ℕ) → M.stands first read sent machine.old service →
+        (more : List ℕ) × Appends (W.held writer.old) (W.held writer.new) more
+        × MatchResult result (λ _. M.stands first read (sent ++ more) machine.new service)
+        (λ end. M.has_ended Cause.writer end first read (sent ++ more) service) }
+    ensures few { OnOk result ((length (M.owes machine.new) < M.ENOUGH) × ((writer.new ≡ writer.old)
+        ⊎ ((more : List ℕ) × Appends (W.held writer.old) (W.held writer.new) more × (M.ENOUGH ≤ length more)))) }
+    ensures held { OnOk result (M.held machine.new ≡ M.held machine.old) }
+    ensures cause { OnErr result (W.broken writer.new ≡ true) }
+{
+    'pieces: while machine.owed().len() >= M::ENOUGH {
+        match send_front(writer, machine) {
+            Ok(()) => {}
+            Err(end) => return Err(end),
+        }
+    }
+    Ok(())
+}
+
+/// Writes all that a machine owes that has ended so, piece by piece.
+fn send_last<S, T, M: Machine<S, T>, W: Sink>(
+    writer: &mut W,
+    machine: &mut M,
+    end: M::End,
+) -> M::End
+    ensures { (cause : Cause) (first service : S) (read sent : List ℕ) →
+        EndsOncePaid M.has_ended (M.breaks machine.old) cause end first read sent (M.owes machine.old) service →
+        (more : List ℕ) × Appends (W.held writer.old) (W.held writer.new) more
+        × ((M.has_ended cause result first read (sent ++ more) service)
+        ⊎ (M.has_ended Cause.writer result first read (sent ++ more) service × (W.broken writer.new ≡ true))) }
+{
+    'pieces: while !machine.owed().is_empty() {
+        match send_front(writer, machine) {
+            Ok(()) => {}
+            Err(broken) => return broken,
+        }
+    }
+    end
 }
 
 /// Drives a machine to its end: its turns are taken one after the other, it is fed what was read where it waits, and
@@ -102,12 +148,7 @@ pub fn drive<S, T, M: Machine<S, T>, R: Source, W: Sink>(
     'turns: loop {
         match come(rt, reader, &mut left, chunk, machine, service) {
             Ok(()) => {}
-            Err(end) => {
-                return match write_all(writer, machine.owed()) {
-                    Ok(_) => end,
-                    Err(count) => machine.write_error(count),
-                };
-            }
+            Err(end) => return send_last(writer, machine, end),
         }
         match send_on(writer, machine) {
             Ok(()) => {}

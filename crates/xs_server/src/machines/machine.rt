@@ -11,8 +11,8 @@ pub enum Turn<E> {
     Ends(E),
 }
 
-/// A machine: bytes are fed to it, each of its turns may ask a service of type `S`, and it owes bytes. What its turns
-/// need to wait, if they may, is of type `T`. A machine that has ended owes its last bytes, and has no further turn.
+/// A machine: bytes are fed to it, each of its turns may ask a service of type `S`, and it owes bytes, which are paid
+/// piece by piece. What its turns need to wait, if they may, is of type `T`. A machine that has ended owes its last bytes, and has no further turn.
 pub trait Machine<S, T> {
     ghost use Rattle.std.specs.Prelude.{◌≡◌, ◌+◌, ◌<◌, ◌≤◌, ◌++◌, [], ℕ, List, length, take, OnOk, IfErr};
     ghost use Rattle.xs_server.specs.Machine.{Cause, EndsOncePaid, Turns};
@@ -28,6 +28,9 @@ pub trait Machine<S, T> {
 
     /// The bytes that it owes.
     ghost owes: { Self → List ℕ };
+
+    /// The front of them, which lies in one piece.
+    ghost front: { Self → List ℕ };
 
     /// How many bytes it holds that it hasn't used.
     ghost held: { Self → ℕ };
@@ -86,14 +89,19 @@ pub trait Machine<S, T> {
         ensures stands { (first service : S) (read sent : List ℕ) → stands first read sent self.now service →
             has_ended Cause.writer result first read (sent ++ take count (owes self.now)) service };
 
-    /// The bytes that it owes.
+    /// The front of what it owes. All that it owes lies there if that is less than enough.
     fn owed(&self) -> &[u8]
-        ensures { result.now ≡ owes self.now };
+        ensures value { result.now ≡ front self.now }
+        ensures front { (behind : List ℕ) × (owes self.now ≡ result.now ++ behind) }
+        ensures few { length result.now < ENOUGH → length (owes self.now) < ENOUGH }
+        ensures all { result.now ≡ [] → owes self.now ≡ [] };
 
-    /// Says that all that it owed was written.
+    /// Says that the front of what it owed was written.
     fn paid(&mut self)
         ensures stands { (first service : S) (read sent : List ℕ) → stands first read sent self.old service →
-            stands first read (sent ++ owes self.old) self.new service }
-        ensures owed { owes self.new ≡ [] }
+            stands first read (sent ++ front self.old) self.new service }
+        ensures owed { owes self.old ≡ front self.old ++ owes self.new }
+        ensures breaks { (count : ℕ) → count < length (owes self.new) →
+            breaks self.new count ≡ breaks self.old (length (front self.old) + count) }
         ensures held { held self.new ≡ held self.old };
 }

@@ -81,6 +81,8 @@ impl Machine<Keyspace, ()> for Script {
 
     ghost owes = { λ script. script.owed.items };
 
+    ghost front = { λ script. script.owed.items };
+
     ghost held = { λ script. length script.held };
 
     ghost is_waiting = { λ script. (list_any is_line_end script.held ≡ false) × (length script.held ≤ line_limit) };

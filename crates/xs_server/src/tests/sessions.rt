@@ -11,7 +11,7 @@ use xs_bytes::Bytes;
 use xs_desk::{Alone, Lane, desk};
 use xs_fakes::{InTwo, Still};
 use xs_keys::Keyspace;
-use xs_resp::{Reply, encode};
+use xs_resp::Reply;
 use xs_stream::Moment;
 
 /// An empty keyspace at moment 1000.
@@ -201,16 +201,20 @@ fn a_refused_connection_is_served_again(rt: HostRuntime) -> Result<(), Fail> {
     Ok(())
 }
 
+// A great string is lent to the writer, and the reply counts once all of it is written.
 #[test]
-fn gives_a_great_buffer_back(rt: HostRuntime) -> Result<(), Fail> {
+fn pays_a_great_reply_in_pieces(rt: HostRuntime) -> Result<(), Fail> {
     let alloc = rt.alloc();
     let reply = Reply::Bulk(Bytes::new(vec![in alloc; b'x'; 1_000_000]?));
     let mut connection = Connection::new(alloc)?;
-    assert_eq!(rt; encode(&reply, &mut connection.owed), Ok(()));
-    assert_eq!(rt; connection.owed.len(), 1_000_012);
-    Machine::<Alone<Still>, HostRuntime>::paid(&mut connection);
-    assert!(rt; connection.owed.is_empty());
-    assert!(rt; connection.owed.capacity() <= 65_536);
+    connection.owed.begin(reply);
+    for length in [10, 1_000_000, 2] {
+        assert_eq!(rt; connection.owed.piece().len(), length);
+        assert_eq!(rt; connection.replies, 0);
+        Machine::<Alone<Still>, HostRuntime>::paid(&mut connection);
+    }
+    assert!(rt; connection.owed.piece().is_empty());
+    assert_eq!(rt; connection.replies, 1);
     Ok(())
 }
 

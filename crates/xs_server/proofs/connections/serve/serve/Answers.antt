@@ -9,5 +9,5 @@ returns-in_default-clause-serves g c = (
   [],
   Consumes-nil _,
   Appends-nil _,
-  record { exchanges = []; rest = []; last = c.args.port.now; answered = answered-none g.P.Port.replies c.args.port.now []; ends = (refl, inl (refl, refl, refl)) },
+  record { exchanges = []; rest = []; last = c.args.port.now; answered = answered-none g.P.Port.replies c.args.port.now []; ends = (refl, (refl, refl, refl)) },
 )

@@ -9,8 +9,9 @@ drive-requires-clause-new g c =
       exchanges = [];
       last = [];
       rest = [];
+      part = [];
       answered = answered-none g.P.Port.replies c.args.port.now [];
       holds = new.requests;
       written = (refl, refl, new.replies);
-      owes = new.owed;
+      owes = (refl, new.owed);
     }
