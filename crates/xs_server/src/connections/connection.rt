@@ -31,8 +31,7 @@ pub struct Connection {
 const ROOM: usize = 131_072;
 
 impl Connection {
-    /// A connection before its first byte, with all the memory that small requests need, and all replies on their way
-    /// out.
+    /// A connection before its first byte, with all the memory that small requests need.
     pub fn new(alloc: Global) -> Result<Self, AllocError>
         ensures { IfOk result IsNew }
     {
@@ -103,13 +102,14 @@ impl<P: Port, T: Wait> Machine<P, T> for Connection {
             }
             Ok(None) => Turn::Waits,
             Err(fault) => match fault {
-                ReadFault::Memory => match self.requests.skip() {
-                    0 => Turn::Goes,
-                    _ => {
-                        self.owed.begin(Reply::Error(Fault::Memory));
-                        Turn::Goes
+                ReadFault::Memory => {
+                    let count = self.requests.skip();
+                    if count == 0 {
+                        return Turn::Goes;
                     }
-                },
+                    self.owed.begin(Reply::Error(Fault::Memory));
+                    Turn::Goes
+                }
                 _ => {
                     self.owed.begin(Reply::Error(Fault::Protocol));
                     Turn::Ends(Ok(Ending::Protocol))

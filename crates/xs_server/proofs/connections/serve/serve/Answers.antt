@@ -11,12 +11,3 @@ returns-in_default-clause-serves g c = (
   Appends-nil _,
   record { exchanges = []; rest = []; last = c.args.port.now; answered = answered-none g.P.Port.replies c.args.port.now []; ends = (refl, (refl, refl, refl)) },
 )
-
-pub returns-in_default-new-clause-serves : goal.returns-in_default-new-clause-serves
-returns-in_default-new-clause-serves g c = (
-  [],
-  [],
-  Consumes-nil _,
-  Appends-nil _,
-  record { exchanges = []; rest = []; last = c.args.port.now; answered = answered-none g.P.Port.replies c.args.port.now []; ends = (refl, (refl, refl, refl)) },
-)

@@ -1,4 +1,4 @@
-use Rattle.std.proofs.Common.{ℕ, ◌≤◌, List, ◌∷◌, [], ◌++◌, length, drop, Option, Some, None, Result, Ok, Err, inl, inr, refl, sym, subst, ap, ◌∙◌, arith, length-drop}
+use Rattle.std.proofs.Common.{ℕ, ◌<◌, ◌≤◌, List, ◌∷◌, [], ◌++◌, length, drop, Option, Some, None, Result, Ok, Err, inl, inr, refl, sym, subst, ap, ◌∙◌, arith, length-drop}
 use Rattle.xs_resp.specs.declared.fault.Fault.TheVariants as said
 use Rattle.xs_resp.specs.declared.fault.Fault.TheVariants.{Protocol}
 use Rattle.xs_resp.specs.declared.reply.Reply.TheVariants.{Error}
@@ -17,7 +17,7 @@ use Rattle.xs_server.specs.Connection.{ServesBy}
 use Rattle.xs_server.proofs.Driving.{empty-none, ends-now, none-came}
 use Rattle.xs_server.proofs.Endings.{settled, passed, port-ends, some-text, ends-quit, ends-refused}
 use Rattle.xs_server.proofs.Exchanges.{answered-again, answered-empty, none-skipped, one-answered, one-skipped, port-fails}
-use Rattle.xs_server.proofs.SecondTries.{refused-same, skipped-shorter, some-words}
+use Rattle.xs_server.proofs.SecondTries.{refused-same, skipped-shorter}
 use Rattle.xs_server.proofs.connections.connection.ConnectionMachine.advance.Goals as goal
 
 -- no bytes come by taking a request
@@ -101,12 +101,12 @@ returns-in-Ok-None-clause-waits g c = λ waiting.
 
 -- ---- a request that no memory was found for
 
-pub returns-in-0-clause-turns : goal.returns-in-0-clause-turns
-returns-in-0-clause-turns g c = λ first read sent s.
+pub returns-then-count-eq0-clause-turns : goal.returns-then-count-eq0-clause-turns
+returns-then-count-eq0-clause-turns g c = λ first read sent s.
     let port = c.args.port.now in
     let next = subst (λ f. Next c.args.self.now.requests (Err f) c.next_request.new.requests) c.in-Memory.is c.in-Err.ensures in
     let held = refused-same c.args.self.now.requests c.next_request.new.requests next ∙ s.holds in
-    let none = none-skipped g.P.Port.replies port s.rest c.next_request.new.requests c.skip.new.self c.skip.result held c.skip.ensures c.in-0.is in
+    let none = none-skipped g.P.Port.replies port s.rest c.next_request.new.requests c.skip-count.new.self c.skip-count.result held c.skip-count.ensures (omega arith) in
     record {
       exchanges = s.exchanges;
       last = s.last;
@@ -118,39 +118,37 @@ returns-in-0-clause-turns g c = λ first read sent s.
       owes = s.owes;
     }
 
-pub returns-in-0-clause-less : goal.returns-in-0-clause-less
-returns-in-0-clause-less g c = λ going.
+pub returns-then-count-eq0-clause-less : goal.returns-then-count-eq0-clause-less
+returns-then-count-eq0-clause-less g c = λ going.
     let next = subst (λ f. Next c.args.self.now.requests (Err f) c.next_request.new.requests) c.in-Memory.is c.in-Err.ensures in
-    skipped-shorter c.args.self.now.requests c.next_request.new.requests c.skip.new.self c.skip.result next c.skip.ensures
+    skipped-shorter c.args.self.now.requests c.next_request.new.requests c.skip-count.new.self c.skip-count.result next c.skip-count.ensures
 
-pub returns-in_default-skip : goal.returns-in_default-skip
-returns-in_default-skip g c =
-    let next = subst (λ f. Next c.args.self.now.requests (Err f) c.next_request.new.requests) c.in-Memory.is c.in-Err.ensures in
-    let fewer = skipped-shorter c.args.self.now.requests c.next_request.new.requests c.skip.new.self c.skip.result next c.skip.ensures in
+pub returns-else-count-eq0-clause-turns : goal.returns-else-count-eq0-clause-turns
+returns-else-count-eq0-clause-turns g c = λ first read sent stands.
+    let connection = c.args.self.now in
+    let port = c.args.port.now in
+    let s = settled g.P.Port.replies first port read sent connection stands c.requires in
+    let next = subst (λ f. Next connection.requests (Err f) c.next_request.new.requests) c.in-Memory.is c.in-Err.ensures in
+    let held = refused-same connection.requests c.next_request.new.requests next ∙ s.holds in
+    let some : 0 < c.skip-count.result = omega arith in
+    let told : Exchange = record { asked = None; answer = Error said.Memory } in
+    let one = one-skipped g.P.Port.replies port s.rest c.next_request.new.requests c.skip-count.new.self c.skip-count.result held c.skip-count.ensures some in
+    let owes = c.begin-in-Memory.ensures in
     record {
-      turns = λ first read sent stands.
-          let connection = c.args.self.now in
-          let port = c.args.port.now in
-          let s = settled g.P.Port.replies first port read sent connection stands c.requires in
-          let held = refused-same connection.requests c.next_request.new.requests next ∙ s.holds in
-          let some = some-words c.skip.result c.in_default-skip.not-0 in
-          let told : Exchange = record { asked = None; answer = Error said.Memory } in
-          let one = one-skipped g.P.Port.replies port s.rest c.next_request.new.requests c.skip.new.self c.skip.result held c.skip.ensures some in
-          let owes = c.begin-in_default-skip.ensures in
-          record {
-            exchanges = s.exchanges;
-            last = told ∷ [];
-            part = [];
-            rest = one.0;
-            answered = answered-again g.P.Port.replies first port port read s.rest one.0 s.exchanges (told ∷ []) s.answered one.1;
-            holds = one.2;
-            written = s.written;
-            owes = (sym owes, omega (arith, ap length owes, some-text told.answer), refl);
-          };
-      waits = λ e. cc;
-      less = λ going. fewer;
-      same = omega (arith, fewer);
+      exchanges = s.exchanges;
+      last = told ∷ [];
+      part = [];
+      rest = one.0;
+      answered = answered-again g.P.Port.replies first port port read s.rest one.0 s.exchanges (told ∷ []) s.answered one.1;
+      holds = one.2;
+      written = s.written;
+      owes = (sym owes, omega (arith, ap length owes, some-text told.answer), refl);
     }
+
+pub returns-else-count-eq0-clause-less : goal.returns-else-count-eq0-clause-less
+returns-else-count-eq0-clause-less g c = λ going.
+    let next = subst (λ f. Next c.args.self.now.requests (Err f) c.next_request.new.requests) c.in-Memory.is c.in-Err.ensures in
+    skipped-shorter c.args.self.now.requests c.next_request.new.requests c.skip-count.new.self c.skip-count.result next c.skip-count.ensures
 
 pub returns-in_default-fault : goal.returns-in_default-fault
 returns-in_default-fault g c = record {
