@@ -1,5 +1,5 @@
 -- Requests for which memory ran out.
-use Rattle.std.proofs.Common.{◌≡◌, ℕ, ◌≤◌, ◌<◌, zero, suc, List, length, Some, None, Ok, Err, inl, inr, refl, ap, subst, arith}
+use Rattle.std.proofs.Common.{◌≡◌, ℕ, ◌≤◌, ◌<◌, List, length, Some, None, Ok, Err, inl, inr, refl, ap, subst, arith}
 use Rattle.xs_resp.specs.declared.read_fault.Wrong.TheVariants.{Length, Shape, Limit}
 use Rattle.xs_resp.specs.declared.read_fault.ReadFault.TheVariants.{Memory}
 use Rattle.xs_resp.specs.Outcome.{Outcome}
@@ -31,7 +31,3 @@ refused-whole (Err Limit) new (is, left) = cc
 pub skipped-shorter : (old mid new : Held) (count : ℕ) → Next old (Err Memory) mid → Skips mid count new → held_length new < held_length old
 skipped-shorter old mid new count next skips =
     subst (λ (h : Held). held_length new < held_length h) (refused-same old mid next) (skip-shorter mid count new skips)
-
-pub some-words : (count : ℕ) → (count ≡ 0 → ⊥) → 0 < count
-some-words zero other = absurd (other refl)
-some-words (suc count) other = omega arith

@@ -30,11 +30,7 @@ pub fn next_request(
 }
 
 /// The command of some words, as `read_command` gives it. Where no memory is found, the reserve is given back.
-pub fn command_of(
-    alloc: Global,
-    reserve: &mut Reserve,
-    words: &[Bytes],
-) -> Result<Command, Refusal>
+pub fn command_of(alloc: Global, reserve: &mut Reserve, words: &[Bytes]) -> Result<Command, Refusal>
     requires { 0 < length words.now }
     ensures exact { Gives result (reads words.now) }
     ensures formed { IfOk result IsWellFormed }
