@@ -1,6 +1,4 @@
 use Rattle.std.proofs.Common.{ℕ, ◌≤◌, List, ◌∷◌, [], ◌++◌, length, drop, Option, Some, None, Result, Ok, Err, inl, inr, sym, ap, ◌∙◌, arith, length-drop}
-use Rattle.xs_resp.specs.declared.fault.Fault.TheVariants.{Protocol}
-use Rattle.xs_resp.specs.declared.reply.Reply.TheVariants.{Error}
 use Rattle.xs_resp.specs.ReplyText.{text}
 use Rattle.xs_resp.specs.Left.{left}
 use Rattle.xs_resp.proofs.Decisions.{request-open, request-fault}
