@@ -1,4 +1,4 @@
-use Rattle.std.proofs.Common.{[], inl, refl}
+use Rattle.std.proofs.Common.{[], refl}
 use Rattle.std.proofs.KnownBytes.{Consumes-nil, Appends-nil}
 use Rattle.xs_server.proofs.Exchanges.{answered-none}
 use Rattle.xs_server.proofs.connections.serve.serve.Goals as goal

@@ -1,4 +1,4 @@
-use Rattle.std.proofs.Common.{◌<◌, ◌++◌, length, inl, inr, ap, ◌∙◌, arith}
+use Rattle.std.proofs.Common.{◌<◌, ◌++◌, length, inl, inr, ◌∙◌}
 use Rattle.std.proofs.KnownBytes.{Consumes-trans, Appends-trans}
 use Rattle.xs_server.specs.Machine.{writer}
 use Rattle.xs_server.proofs.machines.drive.drive.Goals as goal

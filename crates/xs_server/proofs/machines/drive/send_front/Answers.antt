@@ -1,4 +1,4 @@
-use Rattle.std.proofs.Common.{◌≡◌, ◌<◌, ◌++◌, length, take, ap, arith, length-append}
+use Rattle.std.proofs.Common.{◌≡◌, ◌<◌, length, take, ap, arith, length-append}
 use Rattle.xs_server.proofs.Driving.{front-part}
 use Rattle.xs_server.proofs.machines.drive.send_front.Goals as goal
 

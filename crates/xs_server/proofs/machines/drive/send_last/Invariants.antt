@@ -1,4 +1,4 @@
-use Rattle.std.proofs.Common.{◌≡◌, ℕ, List, ◌++◌, length}
+use Rattle.std.proofs.Common.{ℕ, List, ◌++◌, length}
 use Rattle.std.specs.Io.KnownBytes.{Appends}
 use Rattle.xs_server.specs.Machine.{Cause, EndsOncePaid}
 use Rattle.xs_server.proofs.machines.drive.send_last.Given as goal
