@@ -9,7 +9,6 @@ which CI runs. The last line is 'N passed, M failed'; the status is 1 if M > 0.
 """
 import contextlib
 import random
-import re
 import resource
 import signal
 import socket
@@ -18,16 +17,16 @@ import sys
 import threading
 import time
 
+import full_queue
 import sessions
+from full_queue import MEGABYTE, NO_MEMORY, limit_memory
 from great import bulk, number
-from real_redis import read_reply, request
+from real_redis import request
 from served import (PING, PONG, all_answer, asking, fill, raw, read_exactly, read_to_end, reset, say, say_at, serving,
                     together, try_all)
 
 WORKERS = 8
 PROTOCOL = b"-ERR Protocol error\r\n"
-NO_MEMORY = b"-OOM out of memory\r\n"
-MEGABYTE = 1 << 20
 PAUSE = 0.05
 
 
@@ -221,13 +220,6 @@ def served_or_ended(server, sent, reply):
         return got == reply
 
 
-def limit_memory(server, more):
-    """The server may have so many bytes of address space more than it has."""
-    with open(f"/proc/{server.child.pid}/statm", encoding="ascii") as statm:
-        limit = int(statm.read().split()[0]) * 4096 + more
-    resource.prlimit(server.child.pid, resource.RLIMIT_AS, (limit, limit))
-
-
 def little_memory(program):
     """An address space that is 64 MB larger than what the server has once each worker has served. Requests that don't
     fit are refused, or their connection ends; then the server goes on, with what it has and after a DEL."""
@@ -267,70 +259,11 @@ def no_memory_for_connections(program):
         all_answer(server)
 
 
-def add_until_full(server):
-    """Adds entries of 1 KB until 200 additions are refused, and says how many were not."""
-    added = refused = 0
-    with raw(server.port) as stream, stream.makefile("rb") as replies:
-        while refused < 200:
-            stream.sendall(asking(f"XADD q * f {'v' * 1000}") * 50)
-            for _ in range(50):
-                got = read_reply(replies)
-                assert got == NO_MEMORY or got.startswith(b"$"), got
-                added, refused = added + (got != NO_MEMORY), refused + (got == NO_MEMORY)
-    return added
-
-
-def consume(server, count, takes):
-    """Takes so many entries on a connection of its own, and gives their ids. No reply is OOM."""
-    with raw(server.port) as stream, stream.makefile("rb") as replies:
-        def ask(text):
-            stream.sendall(asking(text))
-            return read_reply(replies)
-
-        option = " NOACK" if takes == "NOACK" else ""
-        got = ask(f"XREADGROUP GROUP g c{option} COUNT {count} STREAMS q >")
-        ids = [one.decode() for one in re.findall(rb"\*2\r\n\$\d+\r\n(\d+-\d+)\r\n", got)]
-        if not ids:
-            assert got == b"*-1\r\n", got[:100]
-            return ids
-        least = number(len(ids)).encode()
-        if takes != "NOACK":
-            assert (got := ask(f"XACK q g {' '.join(ids)}")) == least, got
-        moment, place = ids[-1].split("-")
-        removal = f"XTRIM q MINID {moment}-{int(place) + 1}" if takes == "XTRIM" else f"XDEL q {' '.join(ids)}"
-        assert (got := ask(removal)) == least, got
-        return ids
-
-
-def empty_full_queue(server, takes):
-    """Producers fill the memory. Consumers, on new connections, empty the queue: nothing but an addition is refused, no
-    connection ends, each entry is read once, and on the way additions are accepted again."""
-    say_at(server, "XGROUP CREATE q g 0 MKSTREAM", "+OK\r\n")
-    added, taken, again = add_until_full(server), [], 0
-    while ids := [one for count in (1, 10, 100) for one in consume(server, count, takes)]:
-        taken += ids
-        if len(taken) >= added:
-            continue
-        with raw(server.port) as stream, stream.makefile("rb") as replies:
-            stream.sendall(asking("XADD q * f v"))
-            got = read_reply(replies)
-            assert got == NO_MEMORY or got.startswith(b"$"), got
-            again += got != NO_MEMORY
-    print(f"{takes}, {server.workers} workers: {added} entries until memory ran out, {again} behind them", flush=True)
-    assert len(taken) == len(set(taken)) == added + again, (len(taken), len(set(taken)), added, again)
-    assert added > 1000 and again > 10
-    say_at(server, "DEL q", number(1))
-
-
 def full_queues(program):
-    """A bound of memory from the start, as by ulimit -v 200000, with 4 workers; and 64 MB above what 64 workers have."""
-    for takes in ("XDEL", "XTRIM", "NOACK"):
-        with serving(program, workers=4, limits={resource.RLIMIT_AS: 200_000 * 1024}) as server:
-            empty_full_queue(server, takes)
-        with serving(program, workers=64) as server:
-            all_answer(server)
-            limit_memory(server, 64 * MEGABYTE)
-            empty_full_queue(server, takes)
+    """Consumers empty a queue that has filled the memory, in the ways that serves.py leaves out."""
+    full_queue.with_many_workers(program, "XDEL")
+    full_queue.under_a_bound(program, "XTRIM")
+    full_queue.with_many_workers(program, "NOACK")
 
 
 def no_memory_kept(program):

@@ -19,6 +19,7 @@ import sys
 import threading
 import time
 
+import full_queue
 import served
 from great import array, bulk, entry, number
 from real_redis import read_reply
@@ -436,6 +437,21 @@ def few_descriptors(program):
         all_answer(server)
 
 
+def full_queue_deleted(program):
+    """When memory runs out additions alone are refused, and consumers empty the queue."""
+    full_queue.under_a_bound(program, "XDEL")
+
+
+def full_queue_trimmed(program):
+    """The same with 64 workers, and trims instead of deletions."""
+    full_queue.with_many_workers(program, "XTRIM")
+
+
+def full_queue_handed_out(program):
+    """The same with NOACK: each entry is in one reply."""
+    full_queue.under_a_bound(program, "NOACK")
+
+
 def main(arguments):
     if len(arguments) != 1:
         print(__doc__)
@@ -444,7 +460,7 @@ def main(arguments):
                    at_this_time, empty_words, a_queue, cut_everywhere, in_two_parts, endings, vanished,
                    listens_here_alone, idle, stopped_and_continued)
     over_program = (as_many_as_workers, more_than_workers, ends, taken, options, stopped, too_little_to_start,
-                    few_descriptors)
+                    few_descriptors, full_queue_deleted, full_queue_trimmed, full_queue_handed_out)
     return try_all(arguments[0], over_server, over_program, WORKERS)
 
 

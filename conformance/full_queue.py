@@ -1,0 +1,89 @@
+"""A queue that has filled the memory of a server, and consumers that empty it.
+
+Replies are those of the Redis pages of the commands; docs/COMMANDS.md has the texts of errors.
+"""
+import re
+import resource
+
+from great import number
+from real_redis import read_reply
+from served import all_answer, asking, raw, say_at, serving
+
+NO_MEMORY = b"-OOM out of memory\r\n"
+MEGABYTE = 1 << 20
+
+
+def limit_memory(server, more):
+    """The server may have so many bytes of address space more than it has."""
+    with open(f"/proc/{server.child.pid}/statm", encoding="ascii") as statm:
+        limit = int(statm.read().split()[0]) * 4096 + more
+    resource.prlimit(server.child.pid, resource.RLIMIT_AS, (limit, limit))
+
+
+def add_until_full(server):
+    """Adds entries of 1 KB until 200 additions are refused, and says how many were not."""
+    added = refused = 0
+    with raw(server.port) as stream, stream.makefile("rb") as replies:
+        while refused < 200:
+            stream.sendall(asking(f"XADD q * f {'v' * 1000}") * 50)
+            for _ in range(50):
+                got = read_reply(replies)
+                assert got == NO_MEMORY or got.startswith(b"$"), got
+                added, refused = added + (got != NO_MEMORY), refused + (got == NO_MEMORY)
+    return added
+
+
+def consume(server, count, takes):
+    """Takes so many entries on a connection of its own, and gives their ids. No reply is OOM."""
+    with raw(server.port) as stream, stream.makefile("rb") as replies:
+        def ask(text):
+            stream.sendall(asking(text))
+            return read_reply(replies)
+
+        option = " NOACK" if takes == "NOACK" else ""
+        got = ask(f"XREADGROUP GROUP g c{option} COUNT {count} STREAMS q >")
+        ids = [one.decode() for one in re.findall(rb"\*2\r\n\$\d+\r\n(\d+-\d+)\r\n", got)]
+        if not ids:
+            assert got == b"*-1\r\n", got[:100]
+            return ids
+        least = number(len(ids)).encode()
+        if takes != "NOACK":
+            assert (got := ask(f"XACK q g {' '.join(ids)}")) == least, got
+        moment, place = ids[-1].split("-")
+        removal = f"XTRIM q MINID {moment}-{int(place) + 1}" if takes == "XTRIM" else f"XDEL q {' '.join(ids)}"
+        assert (got := ask(removal)) == least, got
+        return ids
+
+
+def empty_full_queue(server, takes):
+    """Producers fill the memory. Consumers, on new connections, empty the queue: nothing but an addition is refused, no
+    connection ends, each entry is read once, and on the way additions are accepted again."""
+    say_at(server, "XGROUP CREATE q g 0 MKSTREAM", "+OK\r\n")
+    added, taken, again = add_until_full(server), [], 0
+    while ids := [one for count in (1, 10, 100) for one in consume(server, count, takes)]:
+        taken += ids
+        if len(taken) >= added:
+            continue
+        with raw(server.port) as stream, stream.makefile("rb") as replies:
+            stream.sendall(asking("XADD q * f v"))
+            got = read_reply(replies)
+            assert got == NO_MEMORY or got.startswith(b"$"), got
+            again += got != NO_MEMORY
+    print(f"{takes}, {server.workers} workers: {added} entries until memory ran out, {again} behind them", flush=True)
+    assert len(taken) == len(set(taken)) == added + again, (len(taken), len(set(taken)), added, again)
+    assert added > 1000 and again > 10
+    say_at(server, "DEL q", number(1))
+
+
+def under_a_bound(program, takes):
+    """A bound of memory from the start, as by ulimit -v 200000, with 4 workers."""
+    with serving(program, workers=4, limits={resource.RLIMIT_AS: 200_000 * 1024}) as server:
+        empty_full_queue(server, takes)
+
+
+def with_many_workers(program, takes):
+    """64 workers, whose bound is set once the server runs, 64 MB above what it has then."""
+    with serving(program, workers=64) as server:
+        all_answer(server)
+        limit_memory(server, 64 * MEGABYTE)
+        empty_full_queue(server, takes)
