@@ -7,7 +7,7 @@ It needs redis-server and redis-cli.
 
 So many additions a second, of one field of 60 bytes, are sent over the connections in turn, each at its moment. A line
 of the table tells the processor time of the server for a request, and its voluntary context switches for one: of all
-its threads, and of the one that has most, which is the keeper here. Each figure is the middle one of the runs.
+its threads, and of the one that has most, which is the keeper here. Each figure is the median of the runs.
 """
 import argparse
 import os
@@ -79,8 +79,8 @@ def cost_at(server, rate, asked):
     return cost
 
 
-def middle(costs):
-    """The middle one of each figure."""
+def medians(costs):
+    """The median of each figure."""
     return Cost(*(statistics.median(getattr(one, name) for one in costs) for name in ("used", "switched", "busiest")))
 
 
@@ -101,7 +101,7 @@ def main():
     try:
         for rate in map(int, asked.rates.split(",")):
             costs = [(cost_at(here, rate, asked), cost_at(there, rate, asked)) for _ in range(asked.runs)]
-            ours, theirs = middle([one for one, _ in costs]), middle([one for _, one in costs])
+            ours, theirs = medians([one for one, _ in costs]), medians([one for _, one in costs])
             by = statistics.median(one.used / other.used for one, other in costs)
             print(f"| {rate:,} | {ours.used:.1f} | {theirs.used:.1f} | {by:.2f} "
                   f"| {ours.switched:.2f} | {ours.busiest:.2f} | {theirs.switched:.2f} |", flush=True)
