@@ -1,25 +1,31 @@
 //! How fast calls follow one another. No promise rests on it.
 use xs_stream::Moment;
 
-/// Calls follow fast where no more milliseconds lie between them.
+/// A batch of calls is fast if it takes at most so many milliseconds.
 const NEAR: u64 = 2;
 
-/// So many calls in a row have to follow fast, once one has not.
+/// So many calls in a row have to come in fast batches, once a batch has been slow.
 const CALLS: u32 = 1000;
 
 /// How fast the calls of one side follow one another, by their moments.
 #[derive(Clone, Copy)]
 pub(crate) struct CallRate {
-    // The moment of the last call.
+    // How many calls make a batch.
+    batch: u32,
+    // Calls since the last whole batch.
+    calls: u32,
+    // The moment of the last call of the last whole batch.
     last: Option<Moment>,
-    // Calls in a row that followed fast, at most CALLS.
+    // Calls in a row that came in fast batches, at most CALLS.
     fast: u32,
 }
 
 impl CallRate {
-    /// Calls are taken to follow fast until one has not.
-    pub fn new() -> CallRate {
+    /// Calls are taken to follow fast until a batch of so many has been slow.
+    pub fn new(batch: u32) -> CallRate {
         CallRate {
+            batch,
+            calls: 0,
             last: None,
             fast: CALLS,
         }
@@ -27,19 +33,24 @@ impl CallRate {
 
     /// A call was applied at a moment.
     pub fn call_at(&mut self, moment: Moment) {
+        self.calls = self.calls.saturating_add(1);
+        if self.calls < self.batch {
+            return;
+        }
         let is_near = match self.last {
             Some(last) => moment.get().abs_diff(last.get()) <= NEAR,
             None => true,
         };
-        self.last = Some(moment);
         self.fast = if is_near {
-            self.fast.saturating_add(1).min(CALLS)
+            self.fast.saturating_add(self.calls).min(CALLS)
         } else {
             0
         };
+        self.last = Some(moment);
+        self.calls = 0;
     }
 
-    /// Whether the last calls all followed fast, or none has been slow yet.
+    /// Whether the last calls all came in fast batches, or no batch has been slow yet.
     pub fn is_high(&self) -> bool {
         self.fast >= CALLS
     }

@@ -9,7 +9,7 @@ use crate::client::Client;
 use crate::keeper::Keeper;
 use crate::lane_end::LaneEnd;
 use crate::poll_set::PollSet;
-use crate::waiting::{Backoff, LAST_LOOK_OF_KEEPER, LAST_LOOK_OF_LANE};
+use crate::waiting::Backoff;
 use rtrb::RingBuffer;
 use std::alloc::{AllocError, Global};
 use std::sync::Arc;
@@ -51,7 +51,7 @@ fn open_lane(
 {
     let (to_keeper, calls) = RingBuffer::<Command>::with_protocol::<Global, Formed>(alloc, depth)?;
     let (answers, from_keeper) = RingBuffer::<Answer>::new(alloc, depth)?;
-    let backoff = Backoff::new(alloc, LAST_LOOK_OF_LANE)?;
+    let backoff = Backoff::of_lane(alloc)?;
     let waker = backoff.waker()?;
     let lane_end = LaneEnd {
         calls,
@@ -97,7 +97,7 @@ fn open_desk(alloc: Global, count: usize, depth: usize) -> Result<(Keeper, Vec<C
     ensures { IfOk result (λ r. AreNew 0 depth r.0.lanes r.1.items × (length r.0.lanes ≡ count) × (r.0.keyspace ≡ empty)
         × (r.0.place ≡ 0)) }
 {
-    let backoff = Backoff::new(alloc, LAST_LOOK_OF_KEEPER)?;
+    let backoff = Backoff::of_keeper(alloc)?;
     let gone = Arc::new(alloc, AtomicBool::new(false))?;
     let mut poll_set = PollSet::new(alloc)?;
     let (lane_ends, clients) = open_lanes(alloc, count, depth, &mut poll_set, &backoff, &gone)?;

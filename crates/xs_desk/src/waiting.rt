@@ -1,7 +1,7 @@
 //! How a lane and its keeper wait for each other. No promise rests on it.
 //!
-//! A side that finds nothing looks again at once, then, where calls follow fast, after yielding the processor, and then
-//! it parks. A yield lets the other side run that waits for the same processor. But where other work fills all
+//! A side that finds nothing looks again at once, then, while calls follow fast, after yielding the processor, and then
+//! it parks. If calls don't follow fast, it parks after a few looks. A yield lets the other side run that waits for the same processor. But where other work fills all
 //! processors, a side that has yielded gets its own back only when that work's turn is over, milliseconds later: then
 //! calls don't follow fast any more, and the side parks without a yield until they have done so for a while.
 //!
@@ -20,20 +20,23 @@ use std::sync::{Arc, Wait};
 use std::{hint, thread};
 use xs_stream::Moment;
 
-/// How many looks that find nothing are made one right after the other.
+/// How many looks that find nothing are made one right after the other while calls follow fast.
 const SPINS: u32 = 96;
 
-/// How many more a lane makes where calls follow fast, each after the processor was yielded: its answer is on its way.
+/// The same while they don't: a call that comes later than these looks costs a wake-up in any case.
+const FEW_SPINS: u32 = 8;
+
+/// How many more a lane makes while calls follow fast, each after the processor was yielded: its answer is on its way.
 const YIELDS_OF_LANE: u32 = 10;
 
 /// The same of the keeper: its next call comes from a client, who may be behind a socket.
 const YIELDS_OF_KEEPER: u32 = 100;
 
-/// The look after which a lane parks, where it finds nothing.
-pub(crate) const LAST_LOOK_OF_LANE: u32 = SPINS + YIELDS_OF_LANE + 1;
+/// The calls of a lane follow fast if each comes within milliseconds of the one before.
+const BATCH_OF_LANE: u32 = 1;
 
-/// The look after which the keeper parks, where it finds nothing.
-pub(crate) const LAST_LOOK_OF_KEEPER: u32 = SPINS + YIELDS_OF_KEEPER + 1;
+/// Those of the keeper if the next one comes before its yields are over, which take some tens of microseconds.
+const BATCH_OF_KEEPER: u32 = 16;
 
 /// How one side waits: it looks again, then yields the processor, then parks.
 #[derive(Drop)]
@@ -56,15 +59,25 @@ pub struct Waker {
 }
 
 impl Backoff {
-    pub fn new(alloc: Global, last_look: u32) -> Result<Backoff, AllocError> {
+    /// How a lane waits for an answer.
+    pub fn of_lane(alloc: Global) -> Result<Backoff, AllocError> {
+        Backoff::new(alloc, YIELDS_OF_LANE, BATCH_OF_LANE)
+    }
+
+    /// How the keeper waits for a call.
+    pub fn of_keeper(alloc: Global) -> Result<Backoff, AllocError> {
+        Backoff::new(alloc, YIELDS_OF_KEEPER, BATCH_OF_KEEPER)
+    }
+
+    fn new(alloc: Global, yields: u32, batch: u32) -> Result<Backoff, AllocError> {
         let sleeps = Arc::new(alloc, AtomicBool::new(false))?;
         let parker = Parker::new(alloc)?;
         Ok(Backoff {
             looks: 0,
-            last_look,
+            last_look: SPINS.saturating_add(yields).saturating_add(1),
             sleeps,
             parker,
-            call_rate: CallRate::new(),
+            call_rate: CallRate::new(batch),
         })
     }
 
@@ -79,7 +92,7 @@ impl Backoff {
         if self.looks < self.last_look {
             self.looks += 1;
         }
-        if self.looks > SPINS && !self.call_rate.is_high() {
+        if self.looks > FEW_SPINS && !self.call_rate.is_high() {
             self.looks = self.last_look;
         }
         if self.may_sleep() {
