@@ -7,5 +7,6 @@ pub mod FormedGroups
 pub mod FormedReadGroup
 pub mod FormedReads
 pub mod DistinctKeys
+pub mod NameSteps
 pub mod StreamSteps
 pub mod SmallIntegers

@@ -16,6 +16,6 @@ pub(crate) fn read(alloc: Global, words: &Words<'_>) -> Result<Command, Refusal>
     if words.len() == 0 {
         return Err(Refusal::Said(Fault::Syntax));
     }
-    let keys = words.names(alloc)?;
+    let (keys, _) = words.names(alloc, words.len())?;
     Ok(Command::DropKeys { keys })
 }

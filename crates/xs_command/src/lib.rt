@@ -30,5 +30,5 @@ pub use command::{
     AddCommand, AutoClaimCommand, ClaimCommand, Command, GroupCreateCommand, GroupStart,
     PendingRowsCommand, ReadFrom, ReadGroupCommand, ReadOne, ScanCommand,
 };
-pub use read::read_command;
+pub use read::{read_command, read_request};
 pub use refusal::Refusal;

@@ -14,7 +14,7 @@ use crate::{
 };
 use std::alloc::Global;
 use xs_bytes::Bytes;
-use xs_resp::Fault;
+use xs_resp::{Fault, Request};
 
 /// The command that the words of a request spell, or their first fault from left to right. Each
 /// word that the command keeps is copied. A refusal for memory says nothing of the words.
@@ -23,7 +23,16 @@ pub fn read_command(alloc: Global, words: &[Bytes]) -> Result<Command, Refusal>
     ensures exact { Gives result (reads words.now) }
     ensures formed { IfOk result IsWellFormed }
 {
-    read_words(alloc, &Words::new(words))
+    read_words(alloc, &Words::of_list(words))
+}
+
+/// As `read_command`, of the words of a request, which are lent from its bytes.
+pub fn read_request(alloc: Global, request: Request<'_>) -> Result<Command, Refusal>
+    requires { 0 < length request }
+    ensures exact { Gives result (reads request.entry) }
+    ensures formed { IfOk result IsWellFormed }
+{
+    read_words(alloc, &Words::of_request(request))
 }
 
 /// As `read_command`, where no word gives a fault too.

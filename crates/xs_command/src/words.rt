@@ -1,5 +1,5 @@
 //! The words of a request, read one after the other.
-ghost use Rattle.std.specs.Prelude.{◌≡◌, ◌∷◌, ◌<◌, ◌≤◌, ◌^◌, IfOk, length, take, drop};
+ghost use Rattle.std.specs.Prelude.{◌≡◌, ◌∷◌, [], ◌<◌, ◌≤◌, ◌^◌, IfOk, MatchOption, length, take, drop};
 ghost use Rattle.xs_command.specs.Words.{Gives, word, behind_sign, integer, natural, id, low, high};
 ghost use Rattle.xs_command.specs.Syntax.{only, leading_ids, ids};
 
@@ -10,36 +10,42 @@ use crate::word::Word;
 use std::alloc::{AllocError, Global};
 use std::marker::Model;
 use xs_bytes::{Bytes, List};
-use xs_resp::Fault;
+use xs_resp::{Fault, Request};
 use xs_stream::Id;
 use xs_stream::range::{parse_high, parse_low};
 
-/// The words that are still to be read. A contract sees the list of them.
+/// The words that are still to be read: those of a list, and then those of a request. One of both is empty. A contract
+/// sees the list of all of them.
 #[derive(Drop)]
 pub(crate) struct Words<'a> {
-    rest: &'a [Bytes],
+    listed: &'a [Bytes],
+    sent: Request<'a>,
 }
 
 impl<'a> Model for Words<'a> {
-    ghost use Rattle.std.specs.Prelude.{List, ℕ};
+    ghost use Rattle.std.specs.Prelude.{List, ℕ, ◌++◌};
 
     ghost Value = { List (List ℕ) };
 
-    ghost view = { λ w. w.rest.now };
+    ghost view = { λ w. w.listed.now ++ w.sent };
 }
 
 impl<'a> Words<'a> {
-    pub(crate) fn new(rest: &'a [Bytes]) -> Self
-        ensures { result ≡ rest.now }
+    /// The words of a list.
+    pub(crate) fn of_list(listed: &'a [Bytes]) -> Self
+        ensures { result ≡ listed.now }
     {
-        Self { rest }
+        Self {
+            listed,
+            sent: Request::none(),
+        }
     }
 
-    /// The words, in order.
-    pub(crate) fn as_slice(&self) -> &'a [Bytes]
-        ensures { result.now ≡ self.now }
+    /// The words of a request.
+    pub(crate) fn of_request(sent: Request<'a>) -> Self
+        ensures { result ≡ sent.entry }
     {
-        self.rest
+        Self { listed: &[], sent }
     }
 
     /// How many words are left.
@@ -47,7 +53,20 @@ impl<'a> Words<'a> {
         ensures count { result ≡ length self.now }
         ensures small { result < 2 ^ 63 }
     {
-        self.rest.len()
+        self.listed.len() + self.sent.len()
+    }
+
+    /// The first word, and those behind it.
+    fn split_first(&self) -> Option<(&'a [u8], Words<'a>)>
+        ensures { MatchOption result (self.now ≡ []) (λ first. self.now ≡ first.0.now ∷ first.1) }
+    {
+        if let Some((first, listed)) = self.listed.split_first() {
+            let sent = self.sent.again();
+            return Some((first.as_slice(), Words { listed, sent }));
+        }
+        let (first, sent) = self.sent.split_first()?;
+        let listed = self.listed;
+        Some((first, Words { listed, sent }))
     }
 
     /// The next word, and those behind it.
@@ -55,8 +74,8 @@ impl<'a> Words<'a> {
     pub(crate) fn word(&self) -> Result<(Word<'a>, Words<'a>), Fault>
         ensures { result ≡ word self.now }
     {
-        match self.rest.split_first() {
-            Some((first, rest)) => Ok((Word::new(first.as_slice()), Words { rest })),
+        match self.split_first() {
+            Some((first, rest)) => Ok((Word::new(first), rest)),
             None => Err(Fault::Syntax),
         }
     }
@@ -66,43 +85,43 @@ impl<'a> Words<'a> {
     pub(crate) fn behind_sign(self) -> Words<'a>
         ensures { result ≡ behind_sign self.entry }
     {
-        let Some((first, rest)) = self.rest.split_first() else {
+        let Some((first, rest)) = self.split_first() else {
             return self;
         };
-        let word = Word::new(first.as_slice());
+        let word = Word::new(first);
         if word.is(b"=") || word.is(b"~") {
-            return Words { rest };
+            return rest;
         }
         self
     }
 
-    /// All the words, copied.
-    pub(crate) fn names(&self, alloc: Global) -> Result<List<Bytes>, AllocError>
-        ensures { IfOk result (λ names. names ≡ self.now) }
+    /// The first words, so many, copied; and those behind them.
+    pub(crate) fn names(
+        &self,
+        alloc: Global,
+        count: usize,
+    ) -> Result<(List<Bytes>, Words<'a>), AllocError>
+        requires { count ≤ length self.now }
+        ensures { IfOk result (λ read. (read.0 ≡ take count self.now) × (read.1 ≡ drop count self.now)) }
     {
-        let rest = self.rest;
-        let mut items = Vec::with_capacity(alloc, rest.len())?;
-        for word in rest {
-            items.push(Bytes::from_slice(alloc, word.as_slice())?)?;
+        let mut names = Vec::with_capacity(alloc, count)?;
+        let mut left = self.again();
+        for _name in 0..count {
+            let (word, behind) = left.split_first().unwrap();
+            names.push(Bytes::from_slice(alloc, word)?)?;
+            left = behind;
         }
-        Ok(List::new(items))
+        Ok((List::new(names), left))
     }
 
     /// These words once more.
     pub(crate) fn again(&self) -> Words<'a>
         ensures { result ≡ self.now }
     {
-        Words { rest: self.rest }
-    }
-
-    /// The first words, so many, and those behind them.
-    pub(crate) fn split_at(&self, at: usize) -> (Words<'a>, Words<'a>)
-        requires { at ≤ length self.now }
-        ensures front { result.0 ≡ take at self.now }
-        ensures back { result.1 ≡ drop at self.now }
-    {
-        let (front, back) = self.rest.split_at(at);
-        (Words { rest: front }, Words { rest: back })
+        Words {
+            listed: self.listed,
+            sent: self.sent.again(),
+        }
     }
 
     /// The next word as a name, copied.

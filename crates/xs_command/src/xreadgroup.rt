@@ -139,7 +139,7 @@ fn read_reads(alloc: Global, words: &Words<'_>) -> Result<List<ReadOne>, Refusal
     if count % 2 != 0 {
         return Err(Refusal::Said(Fault::Syntax));
     }
-    let (keys, starts) = words.split_at(count / 2);
+    let (keys, starts) = words.names(alloc, count / 2)?;
     if !is_distinct(alloc, keys.as_slice())? {
         return Err(Refusal::Said(Fault::Unsupported));
     }
@@ -163,20 +163,17 @@ fn is_distinct(alloc: Global, keys: &[Bytes]) -> Result<bool, AllocError>
 }
 
 /// Each of these keys with its start.
-fn each_from(alloc: Global, keys: Words<'_>, starts: Words<'_>) -> Result<List<ReadOne>, Refusal>
-    ensures { Gives result (each_from keys.entry starts.entry) }
+fn each_from(alloc: Global, keys: List<Bytes>, starts: Words<'_>) -> Result<List<ReadOne>, Refusal>
+    ensures { Gives result (each_from keys starts.entry) }
 {
-    let mut items = Vec::with_capacity(alloc, keys.len())?;
-    let mut keys = keys;
+    let mut reads = Vec::with_capacity(alloc, keys.len())?;
     let mut starts = starts;
-    for _key in 0..keys.len() {
-        let (key, more_keys) = keys.name(alloc)?;
+    for key in keys.into_vec() {
         let (from, more_starts) = read_from(&starts)?;
-        items.push(ReadOne { key, from })?;
-        keys = more_keys;
+        reads.push(ReadOne { key, from })?;
         starts = more_starts;
     }
-    Ok(List::new(items))
+    Ok(List::new(reads))
 }
 
 /// The next word, from where a stream is read.

@@ -1,17 +1,19 @@
 -- What a reader holds.
-use Rattle.std.proofs.Common.{◌≡◌, ℕ, ◌≤◌, Bool, true, false, cond, List, ◌++◌, length, drop, inl, inr, Some, Result, Ok, Err, refl, sym, ap, ◌∙◌, subst, arith, length-append}
+use Rattle.std.proofs.Common.{◌≡◌, ℕ, ◌==◌, ◌<◌, ◌≤◌, Bool, true, false, cond, List, ◌++◌, length, drop, inl, inr, Some, None, Result, Ok, Err, refl, sym, ap, ◌∙◌, subst, arith, length-append}
 use Rattle.std.specs.Result.{IsErr, OnOk, OnErr, is_ok}
+use Rattle.std.proofs.lemmas.Bool.{eqb-true, eqb-false}
 use Rattle.std.proofs.lemmas.List.{drop-append-le}
 use Rattle.xs_resp.specs.declared.read_fault.Wrong.{Wrong}
-use Rattle.xs_resp.specs.declared.read_fault.ReadFault.TheVariants.{Memory}
 use Rattle.xs_resp.specs.declared.requests.State.{State}
 use Rattle.xs_resp.specs.declared.requests.State.TheVariants.{Between, Within, Failed}
-use Rattle.xs_resp.specs.Reading.{Found, request, HasWords}
+use Rattle.xs_resp.specs.Outcome.{Outcome}
+use Rattle.xs_resp.specs.Reading.{Found, request}
 use Rattle.xs_resp.specs.declared.read_fault.ReadFault.{ReadFault}
-use Rattle.xs_resp.specs.Faulting.{fault_of}
-use Rattle.xs_resp.specs.Held.{Held, fed, Next, NextOf}
+use Rattle.xs_resp.specs.Held.{Held, fed, Ready, ReadyOf}
+use Rattle.xs_resp.specs.Progress.{Follows}
 use Rattle.xs_resp.specs.State.{held_in, IsState}
-use Rattle.xs_resp.proofs.Progressing.{follows-fed}
+use Rattle.xs_resp.specs.declared.progress.Progress.{Progress}
+use Rattle.xs_resp.proofs.Progressing.{follows-all, follows-fed}
 
 -- a reader that has failed isn't in another state
 pub not-failed : (state : State) (bytes : List ℕ) → ((wrong : Wrong) → state ≡ Failed wrong → ⊥) → IsErr (held_in state bytes) → ⊥
@@ -48,22 +50,17 @@ pub fed-err : {T E : Type 0} (state : State) (result : Result T E) (at : ℕ) (b
 fed-err state (Ok x) at bytes moved piece items e rest = tt
 fed-err state (Err d) at bytes moved piece items e rest = ap (held_in state) (ap (drop at) e ∙ rest)
 
--- a fault of held bytes is answered, and held from then on
-pub Next-fault : (held : Held) (bytes : List ℕ) (wrong : Wrong) (fault : ReadFault) → held ≡ Ok bytes → request bytes ≡ Err wrong → fault ≡ fault_of wrong → Next held (Err fault) (Err wrong)
-Next-fault held bytes wrong fault is e told =
-    let out : NextOf bytes (Err wrong) (Err fault) (Err wrong) = (ap Err told, refl) in
-    subst (λ h. Next h (Err fault) (Err wrong)) (sym is) (subst (λ o. NextOf bytes o (Err fault) (Err wrong)) (sym e) out)
+-- whether a request is whole, by the outcome of the held bytes
+pub Ready-by : (held : Held) (bytes : List ℕ) (outcome : Outcome Found) (result : Result Bool ReadFault) (new : Held) → held ≡ Ok bytes → request bytes ≡ outcome → ReadyOf bytes outcome result new
+    → Ready held result new
+Ready-by held bytes outcome result new is e ready =
+    subst (λ h. Ready h result new) (sym is) (subst (λ o. ReadyOf bytes o result new) (sym e) ready)
 
--- the next request, where memory ran out
-pub Next-memory : (held : Held) (bytes : List ℕ) (found : Found) → held ≡ Ok bytes → request bytes ≡ Ok (Some found) → Next held (Err Memory) (Ok bytes)
-Next-memory held bytes found is e =
-    let out : NextOf bytes (Ok (Some found)) (Err Memory) (Ok bytes) = inr (refl, refl) in
-    subst (λ h. Next h (Err Memory) (Ok bytes)) (sym is) (subst (λ o. NextOf bytes o (Err Memory) (Ok bytes)) (sym e) out)
-
--- the next request, which is whole
-pub Next-words : (held : Held) (bytes left : List ℕ) (found : Found) (texts : List (List ℕ)) → held ≡ Ok bytes → request bytes ≡ Ok (Some found) → HasWords (request bytes) texts → left ≡ drop found.end bytes → Next held (Ok (Some texts)) (Ok left)
-Next-words held bytes left found texts is e has rest =
-    let same : texts ≡ found.words = subst (λ o. HasWords o texts) e has in
-    let words : Ok (Some texts) ≡ Ok (Some found.words) = ap (λ ws. Ok (Some ws)) same in
-    let out : NextOf bytes (Ok (Some found)) (Ok (Some texts)) (Ok left) = inl (words, ap Ok rest) in
-    subst (λ h. Next h (Ok (Some texts)) (Ok left)) (sym is) (subst (λ o. NextOf bytes o (Ok (Some texts)) (Ok left)) (sym e) out)
+-- a request is whole once no word is left
+pub ready-reached : (held : Held) (bytes : List ℕ) (progress : Progress) → held ≡ Ok bytes → Follows bytes progress → (0 < progress.left → request bytes ≡ Ok None)
+    → Ready held (Ok (progress.left == 0)) (Ok bytes)
+ready-reached held bytes progress is f none = by-left (progress.left == 0) refl
+  where
+    by-left : (b : Bool) → (progress.left == 0) ≡ b → Ready held (Ok b) (Ok bytes)
+    by-left true e = Ready-by held bytes (Ok (Some (record { words = f.passed; end = progress.at }))) (Ok true) (Ok bytes) is (follows-all bytes progress f (eqb-true progress.left 0 e)) (refl, refl)
+    by-left false e = Ready-by held bytes (Ok None) (Ok false) (Ok bytes) is (none (omega (arith, eqb-false progress.left 0 e))) (refl, refl)

@@ -9,7 +9,7 @@ pub mod Reading
 pub mod Outcomes
 pub mod Keeping
 pub mod Progressing
-pub mod Copies
+pub mod Fronts
 pub mod Holding
 pub mod Numbers
 pub mod Headers

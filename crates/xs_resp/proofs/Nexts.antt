@@ -1,5 +1,5 @@
 -- What the next request of held bytes tells of them.
-use Rattle.std.proofs.Common.{◌≡◌, ℕ, ◌+◌, ◌<◌, ◌≤◌, List, [], ◌∷◌, ◌++◌, length, take, drop, Option, Some, None, Result, Ok, Err, inl, inr, sym, ap, ◌∙◌, subst, refl, arith, append_assoc, length-append, length-drop}
+use Rattle.std.proofs.Common.{◌≡◌, ℕ, ◌+◌, ◌<◌, ◌≤◌, true, false, List, [], ◌∷◌, ◌++◌, length, take, drop, Option, Some, None, Result, Ok, Err, inl, inr, sym, ap, ◌∙◌, subst, refl, arith, append_assoc, length-append, length-drop}
 use Rattle.std.proofs.lemmas.List.{append-nil, length-take-le, take-append-drop, drop-append-le}
 use Rattle.xs_resp.specs.declared.read_fault.Wrong.{Wrong}
 use Rattle.xs_resp.specs.declared.read_fault.Wrong.TheVariants.{Length, Shape, Limit}
@@ -7,9 +7,11 @@ use Rattle.xs_resp.specs.declared.read_fault.ReadFault.{ReadFault}
 use Rattle.xs_resp.specs.declared.read_fault.ReadFault.TheVariants.{Memory}
 use Rattle.xs_resp.specs.Grammar.{Spells, SpellsAll}
 use Rattle.xs_resp.specs.Outcome.{Outcome, Keeps}
-use Rattle.xs_resp.specs.Reading.{Found, request}
-use Rattle.xs_resp.specs.Held.{Held, HasNext, Next, NextOf, Skips, fed, held_length}
+use Rattle.xs_resp.specs.Faulting.{fault_of}
+use Rattle.xs_resp.specs.Reading.{Found, request, words_in}
+use Rattle.xs_resp.specs.Held.{Held, HasNext, Next, NextOf, Ready, ReadyOf, Skips, fed, front_of, held_length}
 use Rattle.xs_resp.proofs.Decisions.{request-read, request-keeps}
+use Rattle.xs_resp.proofs.Skipping.{skip-left}
 
 -- a request was taken
 pub record IsNext (bytes : List ℕ) (words : List (List ℕ)) (new : Held) : Type 0 where
@@ -75,13 +77,69 @@ next-shorter (Ok bytes) words new next =
     omega (arith, ap held_length is.left, length-drop is.found.end bytes, some, len, read.within)
 next-shorter (Err wrong) words new (is, left) = cc
 
--- so does one that was passed over
-pub skip-shorter : (old : Held) (count : ℕ) (new : Held) → Skips old count new → held_length new < held_length old
-skip-shorter old count new skips =
-    let read = request-read skips.bytes skips.found skips.read in
-    let some = spelled-some (take skips.found.end skips.bytes) skips.found.words read.spells in
-    let len = length-take-le skips.found.end skips.bytes read.within in
-    omega (arith, ap held_length skips.holds, ap held_length skips.left, length-drop skips.found.end skips.bytes, some, len, read.within)
+-- a whole request stands at the front of what is held
+ready-of : (bytes : List ℕ) (outcome : Outcome Found) (new : Held) → request bytes ≡ outcome → ReadyOf bytes outcome (Ok true) new → HasNext new × (new ≡ Ok bytes)
+ready-of bytes (Ok (Some found)) new e (is, same) = (record { bytes = bytes; holds = same; whole = (found, e) }, same)
+ready-of bytes (Ok None) new e (is, same) = cc
+ready-of bytes (Err wrong) new e (is, same) = cc
+
+pub ready-front : (old new : Held) → Ready old (Ok true) new → HasNext new × (new ≡ old)
+ready-front (Ok bytes) new ready = ready-of bytes (request bytes) new refl ready
+ready-front (Err wrong) new (is, same) = cc
+
+-- it is the next one, once it is dropped
+next-dropped : (bytes : List ℕ) (outcome : Outcome Found) (words : List (List ℕ)) (new : Held) → request bytes ≡ outcome → words ≡ words_in outcome → Skips (Ok bytes) new
+    → NextOf bytes outcome (Ok (Some words)) new
+next-dropped bytes (Ok (Some found)) words new e are skips = inl (ap (λ ws. Ok (Some ws)) are, skip-left (Ok bytes) bytes found new skips refl e)
+next-dropped bytes (Ok None) words new e are skips = absurd (let same : skips.bytes ≡ bytes = let holds = skips.holds in cc in let read = sym skips.read ∙ ap request same ∙ e in cc)
+next-dropped bytes (Err wrong) words new e are skips = absurd (let same : skips.bytes ≡ bytes = let holds = skips.holds in cc in let read = sym skips.read ∙ ap request same ∙ e in cc)
+
+next-skipped : (held : Held) (words : List (List ℕ)) (new : Held) → words ≡ front_of held → Skips held new → Next held (Ok (Some words)) new
+next-skipped (Ok bytes) words new are skips = next-dropped bytes (request bytes) words new refl are skips
+next-skipped (Err wrong) words new are skips = absurd (let holds = skips.holds in cc)
+
+pub ready-next : (old held : Held) (words : List (List ℕ)) (new : Held) → Ready old (Ok true) held → words ≡ front_of held → Skips held new → Next old (Ok (Some words)) new
+ready-next old held words new ready are skips =
+    subst (λ h. Next h (Ok (Some words)) new) (ready-front old held ready).1 (next-skipped held words new are skips)
+
+-- out of memory it stays
+whole-memory : (bytes : List ℕ) (outcome : Outcome Found) (new : Held) → ReadyOf bytes outcome (Ok true) new → NextOf bytes outcome (Err Memory) new
+whole-memory bytes (Ok (Some found)) new (is, same) = inr (refl, same)
+whole-memory bytes (Ok None) new (is, same) = cc
+whole-memory bytes (Err wrong) new (is, same) = cc
+
+pub ready-memory : (old new : Held) → Ready old (Ok true) new → Next old (Err Memory) new
+ready-memory (Ok bytes) new ready = whole-memory bytes (request bytes) new ready
+ready-memory (Err wrong) new (is, same) = cc
+
+-- what isn't whole is none yet
+whole-none : (bytes : List ℕ) (outcome : Outcome Found) (new : Held) → ReadyOf bytes outcome (Ok false) new → NextOf bytes outcome (Ok None) new
+whole-none bytes (Ok (Some found)) new (is, same) = cc
+whole-none bytes (Ok None) new (is, same) = (refl, same)
+whole-none bytes (Err wrong) new (is, same) = cc
+
+pub ready-none : (old new : Held) → Ready old (Ok false) new → Next old (Ok None) new
+ready-none (Ok bytes) new ready = whole-none bytes (request bytes) new ready
+ready-none (Err wrong) new (is, same) = cc
+
+-- a fault is that of the bytes
+wrong-of : (bytes : List ℕ) (outcome : Outcome Found) (fault : ReadFault) (new : Held) → request bytes ≡ outcome → ReadyOf bytes outcome (Err fault) new → (wrong : Wrong) × (request bytes ≡ Err wrong)
+wrong-of bytes (Ok (Some found)) fault new e (is, same) = cc
+wrong-of bytes (Ok None) fault new e (is, same) = cc
+wrong-of bytes (Err wrong) fault new e (is, same) = (wrong, e)
+
+pub ready-wrong : (old : Held) (bytes : List ℕ) (fault : ReadFault) (new : Held) → old ≡ Ok bytes → Ready old (Err fault) new → (wrong : Wrong) × (request bytes ≡ Err wrong)
+ready-wrong old bytes fault new is ready = wrong-of bytes (request bytes) fault new refl (subst (λ h. Ready h (Err fault) new) is ready)
+
+-- and that of the next one
+whole-fault : (bytes : List ℕ) (outcome : Outcome Found) (fault : ReadFault) (new : Held) → ReadyOf bytes outcome (Err fault) new → NextOf bytes outcome (Err fault) new
+whole-fault bytes (Ok (Some found)) fault new (is, same) = cc
+whole-fault bytes (Ok None) fault new (is, same) = cc
+whole-fault bytes (Err wrong) fault new (is, same) = (ap Err (let same' : fault ≡ fault_of wrong = cc in same'), same)
+
+pub ready-fault : (old : Held) (fault : ReadFault) (new : Held) → Ready old (Err fault) new → Next old (Err fault) new
+ready-fault (Ok bytes) fault new ready = whole-fault bytes (request bytes) fault new ready
+ready-fault (Err wrong) fault new (is, same) = (ap Err (let told : fault ≡ fault_of wrong = cc in told), same)
 
 -- a piece more
 pub fed-length : (old : Held) (got : List ℕ) → held_length (fed old got) ≤ held_length old + length got

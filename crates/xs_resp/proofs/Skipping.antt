@@ -1,37 +1,20 @@
 -- How a whole request is passed over.
-use Rattle.std.proofs.Common.{◌≡◌, ℕ, ◌+◌, ◌<◌, List, [], ◌++◌, length, drop, Some, None, Ok, Err, inl, inr, refl, sym, ap, ◌∙◌, subst, arith}
+use Rattle.std.proofs.Common.{◌≡◌, ℕ, ◌<◌, List, drop, Some, None, Ok, inl, inr, sym, ap, ◌∙◌, arith}
 use Rattle.std.proofs.lemmas.Bool.{cases_lt}
-use Rattle.xs_resp.specs.declared.header.Part.TheVariants.{Count}
-use Rattle.xs_resp.specs.declared.header.Header.{Header}
 use Rattle.xs_resp.specs.declared.progress.Progress.{Progress}
 use Rattle.xs_resp.specs.declared.requests.State.{State}
 use Rattle.xs_resp.specs.declared.requests.State.TheVariants.{Between, Within, Failed}
-use Rattle.xs_resp.specs.Header.{header}
 use Rattle.xs_resp.specs.Held.{Held, HasNext, Skips}
 use Rattle.xs_resp.specs.Progress.{Follows}
-use Rattle.xs_resp.specs.Reading.{Found, after, words, request, IsWhole}
+use Rattle.xs_resp.specs.Reading.{Found, request, IsWhole}
 use Rattle.xs_resp.specs.State.{held_in}
-use Rattle.xs_resp.proofs.Outcomes.{bind-ok}
 use Rattle.xs_resp.proofs.Progressing.{follows-all}
-use Rattle.xs_resp.proofs.Sequences.{words-read}
 
 -- bytes that are held, in whichever state
 pub held-bytes : (state : State) (bytes other : List ℕ) → held_in state bytes ≡ Ok other → bytes ≡ other
 held-bytes Between bytes other e = cc
 held-bytes (Within progress) bytes other e = cc
 held-bytes (Failed wrong) bytes other e = absurd (cc)
-
--- a whole request has as many words as its header says
-pub words-counted : (bytes : List ℕ) (h : Header) (found : Found) → header Count bytes ≡ Ok (Some h) → request bytes ≡ Ok (Some found) → length found.words ≡ h.number
-unfolding request
-words-counted bytes h found head e =
-    let first = bind-ok (header Count bytes) _ found e in
-    let further = bind-ok (words (first.0).number (drop (first.0).end bytes)) _ found first.2 in
-    let count = (words-read (first.0).number (drop (first.0).end bytes) further.0 further.1).count in
-    let all : Found = record { words = (further.0).words; end = (first.0).end + (further.0).end } in
-    let is : all ≡ found = cc in
-    let same : first.0 ≡ h = cc in
-    ap (λ (f : Found). length f.words) (sym is) ∙ count ∙ ap (λ (k : Header). k.number) same
 
 -- a whole request is read to its end
 pub reached-end : (bytes : List ℕ) (progress : Progress) → (f : Follows bytes progress) → (0 < progress.left → request bytes ≡ Ok None) → IsWhole (request bytes)
@@ -50,16 +33,9 @@ not-whole held bytes next is none =
     let open' = ap request same ∙ none in
     cc
 
--- the request that was passed over is the one that is read
-pub skip-count : (held : Held) (bytes : List ℕ) (found : Found) (count : ℕ) (new : Held) → Skips held count new → held ≡ Ok bytes → request bytes ≡ Ok (Some found) → count ≡ length found.words
-skip-count held bytes found count new skips is read =
-    let same : skips.bytes ≡ bytes = let holds = skips.holds in cc in
-    let one = sym skips.read ∙ ap request same ∙ read in
-    let all : skips.found ≡ found = cc in
-    skips.count_is ∙ ap (λ (f : Found). length f.words) all
-
-pub skip-left : (held : Held) (bytes : List ℕ) (found : Found) (count : ℕ) (new : Held) → Skips held count new → held ≡ Ok bytes → request bytes ≡ Ok (Some found) → new ≡ Ok (drop found.end bytes)
-skip-left held bytes found count new skips is read =
+-- the request that was dropped is the one that is read
+pub skip-left : (held : Held) (bytes : List ℕ) (found : Found) (new : Held) → Skips held new → held ≡ Ok bytes → request bytes ≡ Ok (Some found) → new ≡ Ok (drop found.end bytes)
+skip-left held bytes found new skips is read =
     let same : skips.bytes ≡ bytes = let holds = skips.holds in cc in
     let one = sym skips.read ∙ ap request same ∙ read in
     let all : skips.found ≡ found = cc in

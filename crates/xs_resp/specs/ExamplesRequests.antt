@@ -5,7 +5,7 @@ use Rattle.xs_resp.specs.declared.read_fault.Wrong.TheVariants.{Length, Shape, L
 use Rattle.xs_resp.specs.declared.read_fault.ReadFault.TheVariants as fault
 use Rattle.xs_resp.specs.Outcome.{Outcome}
 use Rattle.xs_resp.specs.Reading.{Found, request}
-use Rattle.xs_resp.specs.Held.{fed, held_length, is_partial, HasNext, Next, Skips}
+use Rattle.xs_resp.specs.Held.{fed, front_of, held_length, is_partial, HasNext, Next, Ready, Skips}
 use Rattle.xs_resp.specs.Examples.{wire}
 
 -- these words, in so many bytes
@@ -94,7 +94,13 @@ pub record Reader : Type 0 where
   pub has_a_request_of_no_words : HasNext (Ok (wire (codes "*0^")))
   pub has_no_part_of_one : HasNext (Ok (wire (codes "*1^"))) → ⊥
   pub has_none_once_failed : HasNext (Err Shape) → ⊥
-  pub skips_two_words : Skips (Ok (wire (codes "*2^$1^a^$0^^*0"))) 2 (Ok (codes "*0"))
-  pub skips_no_words : Skips (Ok (wire (codes "*0^*0^"))) 0 (Ok (wire (codes "*0^")))
-  pub skips_no_word_less : Skips (Ok (wire (codes "*2^$1^a^$0^^"))) 2 (Ok (wire (codes "$0^^"))) → ⊥
-  pub counts_no_word_less : Skips (Ok (wire (codes "*2^$1^a^$0^^"))) 1 (Ok []) → ⊥
+  pub skips_two_words : Skips (Ok (wire (codes "*2^$1^a^$0^^*0"))) (Ok (codes "*0"))
+  pub skips_no_words : Skips (Ok (wire (codes "*0^*0^"))) (Ok (wire (codes "*0^")))
+  pub skips_no_word_less : Skips (Ok (wire (codes "*2^$1^a^$0^^"))) (Ok (wire (codes "$0^^"))) → ⊥
+  pub two_words_at_the_front : front_of (Ok (wire (codes "*2^$1^a^$0^^*0"))) ≡ codes "a" ∷ [] ∷ []
+  pub no_words_at_the_front : front_of (Ok (wire (codes "*0^*1^$1^a^"))) ≡ []
+  pub is_ready : Ready (Ok (wire (codes "*1^$1^a^*"))) (Ok true) (Ok (wire (codes "*1^$1^a^*")))
+  pub is_not_ready : Ready (Ok (wire (codes "*1^$1^a"))) (Ok false) (Ok (wire (codes "*1^$1^a")))
+  pub is_wrong : Ready (Ok (wire (codes "*1^$1^ab"))) (Err fault.Shape) (Err Shape)
+  pub stays_wrong : Ready (Err Limit) (Err fault.Limit) (Err Limit)
+  pub waits_for_no_whole_request : Ready (Ok (wire (codes "*1^$1^a^"))) (Ok false) (Ok (wire (codes "*1^$1^a^"))) → ⊥

@@ -1,12 +1,12 @@
 -- What a reader of requests holds, and what its calls do.
-use Rattle.std.specs.Prelude.{◌≡◌, ℕ, ◌==◌, Bool, false, not, List, ◌++◌, length, drop, Option, Some, None, Result, Ok}
+use Rattle.std.specs.Prelude.{◌≡◌, ℕ, ◌==◌, Bool, true, false, not, List, [], ◌++◌, length, drop, Option, Some, None, Result, Ok}
 use Rattle.std.specs.Prelude.{Err, ◌⊎◌}
 use Rattle.xs_resp.specs.declared.read_fault.Wrong.{Wrong}
 use Rattle.xs_resp.specs.declared.read_fault.ReadFault.{ReadFault}
 use Rattle.xs_resp.specs.declared.read_fault.ReadFault.TheVariants.{Memory}
 use Rattle.xs_resp.specs.Outcome.{Outcome}
 use Rattle.xs_resp.specs.Faulting.{fault_of}
-use Rattle.xs_resp.specs.Reading.{Found, request, IsWhole}
+use Rattle.xs_resp.specs.Reading.{Found, request, words_in, IsWhole}
 
 -- the bytes that a reader holds, or the fault with which it has failed
 abbrev pub Held : Type 0
@@ -27,7 +27,7 @@ abbrev pub is_partial : Held → Bool
 is_partial (Ok bytes) = not (length bytes == 0)
 is_partial (Err wrong) = false
 
--- the next request of bytes: its words, and the bytes behind it; or want of memory, unchanged;
+-- the next request of bytes: its words, and the bytes behind it; or out of memory, unchanged;
 -- nothing yet, unchanged; or a fault, which is held from then on
 abbrev pub NextOf : List ℕ → Outcome Found → Result (Option (List (List ℕ))) ReadFault → Held → Type 0
 NextOf bytes (Ok (Some found)) result new =
@@ -46,11 +46,26 @@ pub record HasNext (held : Held) : Type 0 where
   pub holds : held ≡ Ok bytes
   pub whole : IsWhole (request bytes)
 
--- the next request, which has so many words, is passed over
-pub record Skips (old : Held) (count : ℕ) (new : Held) : Type 0 where
+-- its words
+abbrev pub front_of : Held → List (List ℕ)
+front_of (Ok bytes) = words_in (request bytes)
+front_of (Err wrong) = []
+
+-- it is dropped
+pub record Skips (old new : Held) : Type 0 where
   pub bytes : List ℕ
   pub found : Found
   pub holds : old ≡ Ok bytes
   pub read : request bytes ≡ Ok (Some found)
-  pub count_is : count ≡ length found.words
   pub left : new ≡ Ok (drop found.end bytes)
+
+-- whether a whole request stands at the front of bytes, which stay; or a fault, which is held from then on
+abbrev pub ReadyOf : List ℕ → Outcome Found → Result Bool ReadFault → Held → Type 0
+ReadyOf bytes (Ok (Some found)) result new = (result ≡ Ok true) × (new ≡ Ok bytes)
+ReadyOf bytes (Ok None) result new = (result ≡ Ok false) × (new ≡ Ok bytes)
+ReadyOf bytes (Err wrong) result new = (result ≡ Err (fault_of wrong)) × (new ≡ Err wrong)
+
+-- whether a whole request stands at the front of what is held
+abbrev pub Ready : Held → Result Bool ReadFault → Held → Type 0
+Ready (Ok bytes) result new = ReadyOf bytes (request bytes) result new
+Ready (Err wrong) result new = (result ≡ Err (fault_of wrong)) × (new ≡ Err wrong)

@@ -45,8 +45,8 @@ request bytes = header Count bytes >>= λ h. after [] h.end (words h.number (dro
 abbrev pub IsWhole : Outcome Found → Type 0
 IsWhole outcome = (found : Found) × (outcome ≡ Ok (Some found))
 
--- these words were read
-abbrev pub HasWords : Outcome Found → List (List ℕ) → Type 0
-HasWords (Ok (Some found)) texts = texts ≡ found.words
-HasWords (Ok None) texts = ⊥
-HasWords (Err wrong) texts = ⊥
+-- the words that were read, if any were
+abbrev pub words_in : Outcome Found → List (List ℕ)
+words_in (Ok (Some found)) = found.words
+words_in (Ok None) = []
+words_in (Err wrong) = []

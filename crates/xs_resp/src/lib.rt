@@ -1,7 +1,6 @@
 //! RESP2, the protocol of Redis: replies as bytes, and requests out of bytes.
 #![tactic(auto)]
 
-mod copying;
 pub mod encoder;
 pub mod examples;
 pub mod fault;
@@ -11,6 +10,7 @@ mod mark;
 mod progress;
 pub mod read_fault;
 pub mod reply;
+pub mod request;
 pub mod requests;
 mod sequence;
 #[cfg(test)]
@@ -23,6 +23,7 @@ pub use encoder::Encoder;
 pub use fault::Fault;
 pub use read_fault::{ReadFault, Wrong};
 pub use reply::{Replies, Reply, Simple};
+pub use request::Request;
 pub use requests::Requests;
 pub use tokens::Tokens;
 pub use writing::encode;

@@ -1,11 +1,11 @@
 //! The reader of requests, from bytes that come in pieces.
 ghost use Rattle.std.specs.Prelude.{◌≡◌, ◌≤◌, ◌-◌, length, drop, IsOk, IsErr, IfOk, OnOk, OnErr, Ok, Err};
-ghost use Rattle.xs_resp.specs.Held.{fed, is_partial, HasNext, Next, Skips};
+ghost use Rattle.xs_resp.specs.Held.{fed, front_of, is_partial, HasNext, Next, Ready, Skips};
 
-use crate::copying::words_of;
 use crate::header::{Part, read_header};
 use crate::progress::{Progress, read_on};
 use crate::read_fault::{ReadFault, Wrong};
+use crate::request::Request;
 use crate::word::rest_of;
 use std::alloc::{AllocError, Global};
 use std::marker::Model;
@@ -47,7 +47,7 @@ impl Model for Requests {
 
 impl Requests {
     ghost use Rattle.std.specs.Prelude.{◌≡◌, ◌≢◌, ℕ, List, [], None, IfOk, OnOk, OnErr, IsOk, IsErr, Ok};
-    ghost use Rattle.xs_resp.specs.Held.{fed, is_partial, HasNext, Next, Skips};
+    ghost use Rattle.xs_resp.specs.Held.{fed, front_of, is_partial, HasNext, Next, Ready, Skips};
 
     /// A reader that holds nothing.
     pub fn new(alloc: Global) -> Self
@@ -95,8 +95,59 @@ impl Requests {
         self.bytes.extend_from_slice(piece)
     }
 
-    /// The words of the next request, which is taken out. None while it isn't whole. What it answers but None, it would
-    /// answer whatever bytes come behind.
+    /// Whether a whole request stands at the front. It takes no memory.
+    ///
+    /// # Errors
+    /// What is wrong with the bytes, for good; never `Memory`.
+    pub fn has_next(&mut self) -> Result<bool, ReadFault>
+        ensures { Ready self.old result self.new }
+    {
+        let progress = match self.state {
+            State::Between => None,
+            State::Within(progress) => Some(progress),
+            State::Failed(wrong) => return Err(ReadFault::from(wrong)),
+        };
+        match read_on(rest_of(self.bytes.as_slice(), self.start), progress) {
+            Ok(Some(reached)) => {
+                self.state = State::Within(reached);
+                Ok(reached.left == 0)
+            }
+            Ok(None) => Ok(false),
+            Err(wrong) => {
+                self.state = State::Failed(wrong);
+                Err(ReadFault::from(wrong))
+            }
+        }
+    }
+
+    /// The words of the request at the front, which is whole, lent from the bytes that are held. It takes no memory.
+    pub fn front(&self) -> Request<'_>
+        requires { HasNext self.now }
+        ensures { result ≡ front_of self.now }
+    {
+        let bytes = rest_of(self.bytes.as_slice(), self.start);
+        let header = read_header(Part::Count, bytes).unwrap().unwrap();
+        Request::new(header.number, rest_of(bytes, header.end))
+    }
+
+    /// Drops the request at the front, which is whole. It takes no memory.
+    pub fn skip(&mut self)
+        requires { HasNext self.old }
+        ensures { Skips self.old self.new }
+    {
+        let progress = match self.state {
+            State::Within(progress) => Some(progress),
+            State::Between | State::Failed(_) => None,
+        };
+        let bytes = rest_of(self.bytes.as_slice(), self.start);
+        let reached = read_on(bytes, progress).unwrap().unwrap();
+        let end = self.start + reached.at;
+        self.start = end - make_room(&mut self.bytes, end);
+        self.state = State::Between;
+    }
+
+    /// The words of the next request, copied, which is dropped. None while it isn't whole. What it answers but None, it
+    /// would answer whatever bytes come behind.
     /// It takes memory only where a request is whole.
     ///
     /// # Errors
@@ -106,45 +157,14 @@ impl Requests {
         ensures next { Next self.old result self.new }
         ensures stays { (more : List ℕ) → result ≢ Ok None → Next (fed self.old more) result (fed self.new more) }
     {
-        let progress = match self.state {
-            State::Between => None,
-            State::Within(progress) => Some(progress),
-            State::Failed(wrong) => return Err(ReadFault::from(wrong)),
-        };
-        let bytes = rest_of(self.bytes.as_slice(), self.start);
-        let reached = match read_on(bytes, progress) {
-            Ok(Some(progress)) => progress,
-            Ok(None) => return Ok(None),
-            Err(wrong) => {
-                self.state = State::Failed(wrong);
-                return Err(ReadFault::from(wrong));
-            }
-        };
-        self.state = State::Within(reached);
-        if reached.left > 0 {
+        if !self.has_next()? {
             return Ok(None);
         }
-        let Ok(words) = words_of(self.alloc, rest_of(self.bytes.as_slice(), self.start)) else {
+        let Ok(words) = self.front().copy(self.alloc) else {
             return Err(ReadFault::Memory);
         };
-        let used = self.start + reached.at;
-        self.start = used - make_room(&mut self.bytes, used);
-        self.state = State::Between;
+        self.skip();
         Ok(Some(words))
-    }
-
-    /// Passes over the next request, which is whole, and says how many words it has. It takes no memory.
-    pub fn skip(&mut self) -> usize
-        requires { HasNext self.old }
-        ensures { Skips self.old result self.new }
-    {
-        let bytes = rest_of(self.bytes.as_slice(), self.start);
-        let header = read_header(Part::Count, bytes).unwrap().unwrap();
-        let reached = read_on(bytes, None).unwrap().unwrap();
-        let end = self.start + reached.at;
-        self.start = end - make_room(&mut self.bytes, end);
-        self.state = State::Between;
-        header.number
     }
 
     /// Whether bytes are held. A failed reader holds none.

@@ -4,6 +4,7 @@ use Rattle.std.proofs.lemmas.List.{append-nil}
 use Rattle.xs_resp.specs.declared.reply.Reply.{Reply}
 use Rattle.xs_command.specs.declared.command.Command.{Command}
 use Rattle.xs_command.proofs.FormedReads.{given_formed}
+use Rattle.xs_keys.specs.Event.{History}
 use Rattle.xs_keys.specs.Content.{Content}
 use Rattle.xs_keys.specs.Headline.{RunsOn}
 use Rattle.xs_keys.specs.Step.{Step}
@@ -24,9 +25,9 @@ IsOfKeyspace {P} Replies gives content clock = (old : P) (command : Command) (an
 -- events with these commands, at moments that the clock gives, and any run that has come to the old content goes on by them to the new one
 abbrev Goes : {C : Type 0} → (C → ℕ → C → Type 0) → List (Command × Reply) → Content → C → Content → C → Type 0
 Goes gives asked old clock new later =
-    (events : List (ℕ × Command)) × (map (λ event. event.1) events ≡ map (λ a. a.0) asked)
+    (events : History) × (map (λ event. event.1) events ≡ map (λ a. a.0) asked)
     × GivesMoments gives clock (map (λ event. event.0) events) later
-    × ((start : Content) (all : List (ℕ × Command)) (done : List Reply) → RunsSoFar start all done old events → RunsSoFar start all (done ++ map (λ a. a.1) asked) new [])
+    × ((start : Content) (all : History) (done : List Reply) → RunsSoFar start all done old events → RunsSoFar start all (done ++ map (λ a. a.1) asked) new [])
 
 goes-none : {C : Type 0} (gives : C → ℕ → C → Type 0) (old : Content) (clock : C) → Goes gives [] old clock old clock
 goes-none gives old clock = ([], refl, refl, λ start all done so_far. rw append-nil so_far)

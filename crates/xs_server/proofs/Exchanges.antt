@@ -6,7 +6,7 @@ use Rattle.xs_resp.specs.declared.reply.Reply.{Reply}
 use Rattle.xs_resp.specs.declared.reply.Reply.TheVariants.{Error}
 use Rattle.xs_resp.specs.Grammar.{Spells, SpellsAll}
 use Rattle.xs_resp.specs.Reading.{Found, request}
-use Rattle.xs_resp.specs.Held.{Held, Next, Skips}
+use Rattle.xs_resp.specs.Held.{Held, Next}
 use Rattle.xs_resp.proofs.Nexts.{took, next-words}
 use Rattle.xs_command.specs.declared.command.Command.{Command}
 use Rattle.xs_command.specs.Read.{reads}
@@ -79,34 +79,14 @@ answered-one Replies old new bytes found (word ∷ words) exchange next is some 
     }
 
 -- the next request has words, which are answered
-pub one-answered : {P : Type 0} (Replies : P → Command → Reply → P → Type 0) (old new : P) (bytes : List ℕ) (before held : Held) (words given : List (List ℕ)) (reply : Reply) (is_last empty : Bool)
-    → before ≡ Ok bytes → Next before (Ok (Some words)) held → words ≡ given → empty ≡ (length words == 0) → empty ≡ false
-    → (asked : Option Command) × Answered Replies old given asked reply new × (is_last ≡ is_quit asked)
+pub one-answered : {P : Type 0} (Replies : P → Command → Reply → P → Type 0) (old new : P) (bytes : List ℕ) (before held : Held) (words : List (List ℕ)) (reply : Reply) (is_last empty : Bool)
+    → before ≡ Ok bytes → Next before (Ok (Some words)) held → empty ≡ (length words == 0) → empty ≡ false
+    → (asked : Option Command) × Answered Replies old words asked reply new × (is_last ≡ is_quit asked)
     → (rest : List ℕ) × (exchange : Exchange) × AreAnswered Replies old new bytes (exchange ∷ []) rest × (held ≡ Ok rest) × (exchange.answer ≡ reply) × (is_quit exchange.asked ≡ is_last)
-one-answered Replies old new bytes before held words given reply is_last empty is next same are some (asked, answered, quits) =
+one-answered Replies old new bytes before held words reply is_last empty is next are some (asked, answered, quits) =
     let n = next-words before bytes words held is next in
     let exchange : Exchange = record { asked = asked; answer = reply } in
-    let more = subst (λ (w : List (List ℕ)). 0 < length w) same (empty-some words empty are some) in
-    (drop n.found.end bytes, exchange, answered-one Replies old new bytes n.found given exchange n.read (n.words_are ∙ same) more answered, n.left, refl, sym quits)
-
--- a request that was passed over has words, and is answered that memory ran out
-pub one-skipped : {P : Type 0} (Replies : P → Command → Reply → P → Type 0) (port : P) (bytes : List ℕ) (held left : Held) (count : ℕ) → held ≡ Ok bytes → Skips held count left → 0 < count
-    → (rest : List ℕ) × AreAnswered Replies port port bytes (record { asked = None; answer = Error Memory } ∷ []) rest × (left ≡ Ok rest)
-one-skipped Replies port bytes held left count is skips some =
-    let same : skips.bytes ≡ bytes = let holds = skips.holds in cc in
-    let found = skips.found in
-    let read : request bytes ≡ Ok (Some found) = ap request (sym same) ∙ skips.read in
-    let told : Exchange = record { asked = None; answer = Error Memory } in
-    (drop found.end bytes, answered-one Replies port port bytes found found.words told read refl (omega (arith, some, skips.count_is)) (refl, inr refl), skips.left ∙ ap (λ b. Ok (drop found.end b)) same)
-
--- a request that was passed over has no words
-pub none-skipped : {P : Type 0} (Replies : P → Command → Reply → P → Type 0) (port : P) (bytes : List ℕ) (held left : Held) (count : ℕ) → held ≡ Ok bytes → Skips held count left → count ≡ 0
-    → (rest : List ℕ) × AreAnswered Replies port port bytes [] rest × (left ≡ Ok rest)
-none-skipped Replies port bytes held left count is skips none =
-    let same : skips.bytes ≡ bytes = let holds = skips.holds in cc in
-    let found = skips.found in
-    let read : request bytes ≡ Ok (Some found) = ap request (sym same) ∙ skips.read in
-    (drop found.end bytes, answered-empty Replies port bytes found read (nil_from_length found.words (sym skips.count_is ∙ none)), skips.left ∙ ap (λ b. Ok (drop found.end b)) same)
+    (drop n.found.end bytes, exchange, answered-one Replies old new bytes n.found words exchange n.read n.words_are (empty-some words empty are some) answered, n.left, refl, sym quits)
 
 -- the port answers none
 pub port-fails : {P : Type 0} (Fails : P → Command → P → Type 0) (old new : P) (bytes : List ℕ) (found : Found) (words : List (List ℕ)) (command : Command)

@@ -5,7 +5,6 @@ pub mod HeldLines
 pub mod ScriptLines
 pub mod Sessions
 pub mod CommandLines
-pub mod SecondTries
 pub mod Exchanges
 pub mod Endings
 pub mod AloneRuns

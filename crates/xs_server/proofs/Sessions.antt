@@ -5,6 +5,7 @@ use Rattle.xs_resp.specs.declared.reply.Reply.{Reply}
 use Rattle.xs_resp.specs.ReplyText.{text}
 use Rattle.xs_command.specs.declared.command.Command.{Command}
 use Rattle.xs_command.proofs.FormedReads.{given_formed}
+use Rattle.xs_keys.specs.Event.{History}
 use Rattle.xs_keys.specs.Content.{Content, IsContent}
 use Rattle.xs_server.specs.Device.{capped}
 use Rattle.xs_server.specs.Line.{line_of}
@@ -16,15 +17,15 @@ use Rattle.xs_server.specs.Serving.{StepAt}
 use Rattle.std.specs.List.{flat_map}
 
 -- how an answer of the keyspace goes on with a history
-pub answer-follows : (past : List (ℕ × Command)) (old new : Content) (now : ℕ) (words : List (List ℕ)) (asked : Option Command) (answer : Reply) → IsContent old past
-    → Answered (StepAt now) old words asked answer new → (next : List (ℕ × Command)) × IsContent new next × Answered (Follows now) past words asked answer next
+pub answer-follows : (past : History) (old new : Content) (now : ℕ) (words : List (List ℕ)) (asked : Option Command) (answer : Reply) → IsContent old past
+    → Answered (StepAt now) old words asked answer new → (next : History) × IsContent new next × Answered (Follows now) past words asked answer next
 answer-follows past old new now words (Some command) answer is said =
     let next = step-follows past old new now command answer (given_formed words (Ok command) said.0) is said.1 in
     (next.0, next.1, (said.0, next.2))
 answer-follows past old new now words None answer is said = (past, subst (λ c. IsContent c past) (sym said.0) is, (refl, said.1))
 
 -- one line more
-pub script-more : (past : List (ℕ × Command)) (lines : List (List ℕ)) (line : List ℕ) (out : List ℕ) (mid next : List (ℕ × Command)) (answer : Reply)
+pub script-more : (past : History) (lines : List (List ℕ)) (line : List ℕ) (out : List ℕ) (mid next : History) (answer : Reply)
     → Script past lines out mid → IsSomeAnd (line_of line) (λ request. IsAnswer (Follows request.0) mid request.1 answer next) → Script past (lines ++ line ∷ []) (out ++ text answer) next
 script-more past [] line out mid next answer so_far answered = (
   answer,
@@ -37,18 +38,18 @@ script-more past [] line out mid next answer so_far answered = (
 script-more past (first ∷ lines) line out mid next answer (reply, then, more, said, is, rest) answered =
     (reply, then, more ++ text answer, said, ap (λ o. o ++ text answer) is ∙ append_assoc (text reply) more (text answer), script-more then lines line more mid next answer rest answered)
 
-line-answered : (past : List (ℕ × Command)) (old new : Content) (read : Option (ℕ × List (List ℕ))) (answer : Reply) → IsContent old past
+line-answered : (past : History) (old new : Content) (read : Option (ℕ × List (List ℕ))) (answer : Reply) → IsContent old past
     → IsSomeAnd read (λ request. IsAnswer (StepAt request.0) old request.1 answer new)
-    → (next : List (ℕ × Command)) × IsContent new next × IsSomeAnd read (λ request. IsAnswer (Follows request.0) past request.1 answer next)
+    → (next : History) × IsContent new next × IsSomeAnd read (λ request. IsAnswer (Follows request.0) past request.1 answer next)
 line-answered past old new (Some request) answer is serves =
     let next = answer-follows past old new request.0 request.1 serves.0 answer is serves.1 in
     (next.0, next.1, (serves.0, next.2))
 line-answered past old new None answer is serves = absurd serves
 
 -- a served line
-pub served-line : (lines : List (List ℕ)) (line out : List ℕ) (past : List (ℕ × Command)) (old new : Content) (answer : Reply) → IsContent old past
+pub served-line : (lines : List (List ℕ)) (line out : List ℕ) (past : History) (old new : Content) (answer : Reply) → IsContent old past
     → Script [] lines out past → IsSomeAnd (line_of line) (λ request. IsAnswer (StepAt request.0) old request.1 answer new)
-    → (next : List (ℕ × Command)) × Script [] (lines ++ line ∷ []) (out ++ text answer) next × IsContent new next
+    → (next : History) × Script [] (lines ++ line ∷ []) (out ++ text answer) next × IsContent new next
 served-line lines line out past old new answer is so_far serves =
     let next = line-answered past old new (line_of line) answer is serves in
     (next.0, script-more [] lines line out past next.0 answer so_far next.2, next.1)
@@ -56,13 +57,13 @@ served-line lines line out past old new answer is so_far serves =
 -- ---- the headline of a script
 
 -- lines that are answered over a history: the commands that were asked follow one another
-pub record ServesFrom (past : List (ℕ × Command)) (lines : List (List ℕ)) (out : List ℕ) (last : List (ℕ × Command)) : Type 0 where
+pub record ServesFrom (past : History) (lines : List (List ℕ)) (out : List ℕ) (last : History) : Type 0 where
   pub served : List Served
   pub are_served : AreServed lines served
   pub answers : Answers past (events_of served) (answers_of served) last
   pub out_is : out ≡ flat_map (λ one. text one.answer) served
 
-serves-more : (past : List (ℕ × Command)) (line : List ℕ) (lines : List (List ℕ)) (out more : List ℕ) (next last : List (ℕ × Command)) (answer : Reply)
+serves-more : (past : History) (line : List ℕ) (lines : List (List ℕ)) (out more : List ℕ) (next last : History) (answer : Reply)
     → (read : Option (ℕ × List (List ℕ))) → line_of line ≡ read → IsSomeAnd read (λ request. IsAnswer (Follows request.0) past request.1 answer next)
     → out ≡ text answer ++ more → ServesFrom next lines more last → ServesFrom past (line ∷ lines) out last
 serves-more past line lines out more next last answer None e said is rest = absurd said
@@ -79,12 +80,12 @@ serves-more past line lines out more next last answer (Some request) e (None, sa
   out_is = is ∙ ap (λ o. text answer ++ o) rest.out_is;
 }
 
-serves-from : (past : List (ℕ × Command)) (lines : List (List ℕ)) (out : List ℕ) (last : List (ℕ × Command)) → Script past lines out last → ServesFrom past lines out last
+serves-from : (past : History) (lines : List (List ℕ)) (out : List ℕ) (last : History) → Script past lines out last → ServesFrom past lines out last
 serves-from past [] out last script = record { served = []; are_served = tt; answers = script.1; out_is = script.0 }
 serves-from past (line ∷ lines) out last (answer, next, more, said, is, rest) =
     serves-more past line lines out more next last answer (line_of line) refl said is (serves-from next lines more last rest)
 
-pub is-script : (lines : List (List ℕ)) (out : List ℕ) (past : List (ℕ × Command)) → Script [] lines out past → IsScript lines out
+pub is-script : (lines : List (List ℕ)) (out : List ℕ) (past : History) → Script [] lines out past → IsScript lines out
 is-script lines out past script =
     let all = serves-from [] lines out past script in
     record {

@@ -4,16 +4,17 @@ use Rattle.std.specs.List.{flat_map, list_any}
 use Rattle.xs_resp.specs.declared.reply.Reply.{Reply}
 use Rattle.xs_resp.specs.ReplyText.{text}
 use Rattle.xs_command.specs.declared.command.Command.{Command}
+use Rattle.xs_keys.specs.Event.{History}
 use Rattle.xs_keys.specs.EachReply.{Follows}
 use Rattle.xs_keys.specs.Headline.{Headline}
 use Rattle.xs_server.specs.Answering.{Answered, IsAnswer}
 use Rattle.xs_server.specs.Line.{is_line_end, line_of}
 
 -- over a history, these script lines may be answered by this text, and leave that history
-abbrev pub Script : List (ℕ × Command) → List (List ℕ) → List ℕ → List (ℕ × Command) → Type 0
+abbrev pub Script : History → List (List ℕ) → List ℕ → History → Type 0
 Script past [] out last = (out ≡ []) × (last ≡ past)
 Script past (line ∷ lines) out last =
-    (answer : Reply) × (next : List (ℕ × Command)) × (more : List ℕ)
+    (answer : Reply) × (next : History) × (more : List ℕ)
     × IsSomeAnd (line_of line) (λ request. IsAnswer (Follows request.0) past request.1 answer next)
     × (out ≡ text answer ++ more) × Script next lines more last
 
@@ -36,11 +37,11 @@ AreServed (line ∷ lines) (one ∷ more) = IsServed line one × AreServed lines
 AreServed _ _ = ⊥
 
 -- the commands that were asked, at their moments, and the answers to them
-abbrev pub onto_event : ℕ → Option Command → List (ℕ × Command) → List (ℕ × Command)
+abbrev pub onto_event : ℕ → Option Command → History → History
 onto_event now None events = events
 onto_event now (Some command) events = (now, command) ∷ events
 
-abbrev pub events_of : List Served → List (ℕ × Command)
+abbrev pub events_of : List Served → History
 events_of [] = []
 events_of (one ∷ more) = onto_event one.now one.asked (events_of more)
 
@@ -57,7 +58,7 @@ answers_of (one ∷ more) = onto_answer one.asked one.answer (answers_of more)
 pub record IsScript (lines : List (List ℕ)) (out : List ℕ) : Type 0 where
   pub served : List Served
   pub are_served : AreServed lines served
-  pub history : List (ℕ × Command)
+  pub history : History
   pub headline : Headline [] (events_of served) (answers_of served) history
   pub out_is : out ≡ flat_map (λ one. text one.answer) served
 

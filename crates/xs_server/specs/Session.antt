@@ -4,6 +4,7 @@ use Rattle.std.specs.Prelude.{Result, Ok, Err}
 use Rattle.std.specs.Io.KnownBytes.{IsAtEnd}
 use Rattle.std.specs.List.{flat_map, list_any}
 use Rattle.xs_command.specs.declared.command.Command.{Command}
+use Rattle.xs_keys.specs.Event.{History}
 use Rattle.xs_keys.specs.Content.{Content, IsContent}
 use Rattle.xs_server.specs.declared.script.machine.Script.{Script as Machine}
 use Rattle.xs_server.specs.declared.script.fault.ScriptFault.{ScriptFault}
@@ -67,7 +68,7 @@ IsFew held = (line rest : List ℕ) → held ≡ line ++ 10 ∷ rest → list_an
 -- these lines are read and answered; some of the replies are written, and the others are owed
 pub record Stands (read sent : List ℕ) (script : Machine) (keyspace : Content) : Type 0 where
   pub lines : List (List ℕ)
-  pub past : List (ℕ × Command)
+  pub past : History
   pub said : Script [] lines (sent ++ script.owed.items) past
   pub content : IsContent keyspace past
   pub is_read : IsRead read lines script.held

@@ -4,6 +4,5 @@ pub mod buffers;
 pub mod connection;
 pub mod ending;
 pub mod reserve;
-pub mod second_tries;
 pub mod serve;
 pub mod serve_alone;

@@ -2,17 +2,17 @@
 ghost use Rattle.std.specs.Prelude.{◌≡◌, ◌<◌, true, Option, IfOk, OnErr, Ok, length};
 ghost use Rattle.xs_command.specs.declared.command.Command.{Command};
 ghost use Rattle.xs_command.specs.Read.{reads};
+ghost use Rattle.xs_command.specs.WellFormed.{IsWellFormed};
+ghost use Rattle.xs_command.specs.Words.{Gives};
 ghost use Rattle.xs_server.specs.Answering.{Answered};
 ghost use Rattle.xs_server.specs.Exchange.{is_quit};
 
 use crate::connections::reserve::Reserve;
-use crate::connections::second_tries::command_of;
 use std::alloc::Global;
 use std::sync::Wait;
-use xs_bytes::Bytes;
-use xs_command::{Command, Refusal};
+use xs_command::{Command, Refusal, read_request};
 use xs_desk::{Port, PortFault};
-use xs_resp::{Fault, Reply};
+use xs_resp::{Fault, Reply, Request};
 
 /// What the words of a request are answered, and whether they were a QUIT.
 #[derive(Drop)]
@@ -21,19 +21,41 @@ pub struct Said {
     pub quits: bool,
 }
 
+/// The command of a request, as `read_request` gives it. If no memory is found, the reserve is given back for a second
+/// try.
+fn command_of(
+    alloc: Global,
+    reserve: &mut Reserve,
+    words: Request<'_>,
+) -> Result<Command, Refusal>
+    requires { 0 < length words }
+    ensures exact { Gives result (reads words.entry) }
+    ensures formed { IfOk result IsWellFormed }
+{
+    match read_request(alloc, words.again()) {
+        Err(Refusal::Memory) => {
+            if reserve.give_back() {
+                return read_request(alloc, words);
+            }
+            Err(Refusal::Memory)
+        }
+        first => first,
+    }
+}
+
 /// Answers the words of a request: its command is asked of the port.
 pub fn answer<P: Port, T: Wait>(
     rt: &T,
     alloc: Global,
     reserve: &mut Reserve,
     port: &mut P,
-    words: &[Bytes],
+    words: Request<'_>,
 ) -> Result<Said, PortFault>
-    requires { 0 < length words.now }
+    requires { 0 < length words }
     ensures ok { IfOk result (λ said. (asked : Option Command)
-        × Answered P.replies port.old words.now asked said.reply port.new
+        × Answered P.replies port.old words.entry asked said.reply port.new
         × (said.quits ≡ is_quit asked)) }
-    ensures err { OnErr result ((command : Command) × (reads words.now ≡ Ok command)
+    ensures err { OnErr result ((command : Command) × (reads words.entry ≡ Ok command)
         × P.fails port.old command port.new × (P.gone port.new ≡ true)) }
 {
     match command_of(alloc, reserve, words) {

@@ -8,12 +8,11 @@ ghost use Rattle.xs_server.specs.Connection.{IsNew, ServesBy, Stands};
 use crate::connections::answering::{Said, answer};
 use crate::connections::ending::{Ending, ServeFault};
 use crate::connections::reserve::Reserve;
-use crate::connections::second_tries::next_request;
 use crate::machines::machine::{Machine, Turn};
 use std::alloc::{AllocError, Global};
 use std::sync::Wait;
 use xs_desk::Port;
-use xs_resp::{Encoder, Fault, ReadFault, Reply, Requests};
+use xs_resp::{Encoder, Fault, Reply, Requests};
 
 /// A connection: the bytes that came in and aren't taken yet, and the reply that it owes.
 #[derive(Drop)]
@@ -84,38 +83,30 @@ impl<P: Port, T: Wait> Machine<P, T> for Connection {
         let replies = self.replies;
         // A part of it is better than none.
         let _ = self.reserve.fill(self.alloc);
-        match next_request(&mut self.requests, &mut self.reserve) {
-            Ok(Some(words)) => {
-                if words.is_empty() {
-                    return Turn::Goes;
-                }
-                let Ok(said) = answer(rt, self.alloc, &mut self.reserve, port, words.as_slice())
-                else {
-                    return Turn::Ends(Err(ServeFault::Port { replies }));
-                };
-                let Said { reply, quits } = said;
-                self.owed.begin(reply);
-                if quits {
-                    return Turn::Ends(Ok(Ending::Quit));
-                }
-                Turn::Goes
+        match self.requests.has_next() {
+            Ok(true) => {}
+            Ok(false) => return Turn::Waits,
+            Err(_) => {
+                self.owed.begin(Reply::Error(Fault::Protocol));
+                return Turn::Ends(Ok(Ending::Protocol));
             }
-            Ok(None) => Turn::Waits,
-            Err(fault) => match fault {
-                ReadFault::Memory => {
-                    let count = self.requests.skip();
-                    if count == 0 {
-                        return Turn::Goes;
-                    }
-                    self.owed.begin(Reply::Error(Fault::Memory));
-                    Turn::Goes
-                }
-                _ => {
-                    self.owed.begin(Reply::Error(Fault::Protocol));
-                    Turn::Ends(Ok(Ending::Protocol))
-                }
-            },
         }
+        let words = self.requests.front();
+        if words.is_empty() {
+            self.requests.skip();
+            return Turn::Goes;
+        }
+        let answered = answer(rt, self.alloc, &mut self.reserve, port, words);
+        self.requests.skip();
+        let Ok(said) = answered else {
+            return Turn::Ends(Err(ServeFault::Port { replies }));
+        };
+        let Said { reply, quits } = said;
+        self.owed.begin(reply);
+        if quits {
+            return Turn::Ends(Ok(Ending::Quit));
+        }
+        Turn::Goes
     }
 
     fn feed(&mut self, piece: &[u8]) -> Result<(), Result<Ending, ServeFault>> {

@@ -4,15 +4,15 @@ ghost use Rattle.std.specs.Prelude.{◌≡◌, ◌==◌, OnOk, IfOk, not};
 use std::alloc::{AllocError, Global};
 use std::marker::Model;
 
-/// How many pieces a whole reserve has: 256 KiB, for the words and the command of a request of up to 16 KiB.
+/// How many pieces a whole reserve has: 256 KiB, for the command of a request of up to 16 KiB.
 const PIECES: usize = 2;
 
 /// How many bytes a piece has. The C library maps pieces of so many bytes by themselves, and gives them back to the
 /// system: so a thread finds their memory that has taken none before.
 const PIECE: usize = 131_072;
 
-/// Memory that nobody uses. It is made whole before each request, and given back if the words or the command of that
-/// request find no memory. A contract sees how many pieces it has.
+/// Memory that nobody uses. It is made whole before each request, and given back if the command of that request
+/// finds no memory. A contract sees how many pieces it has.
 #[derive(Drop)]
 pub struct Reserve {
     pieces: Vec<Vec<u8>>,

@@ -6,7 +6,7 @@ use crate::connections::buffers::Buffers;
 use crate::connections::ending::ServeFault;
 use crate::connections::serve::serve_with;
 use crate::work::gate::{Gate, GateFault};
-use crate::work::signals::Signals;
+use crate::work::lifecycle::Lifecycle;
 use std::sync::Wait;
 use xs_desk::{Client, Ended, Lane};
 
@@ -47,11 +47,11 @@ pub fn run_worker<G: Gate + Drop, R: Wait>(
     client: Client,
     gate: G,
     buffers: Buffers,
-    signals: &Signals,
+    lifecycle: &Lifecycle,
 ) -> Worked
     ensures { KeepsSide client result.ended }
 {
-    if !signals.begins(rt) {
+    if !lifecycle.wait_to_begin(rt) {
         return Worked {
             ended: client.finish(),
             refused: false,

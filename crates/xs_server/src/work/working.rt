@@ -6,11 +6,11 @@ ghost use Rattle.xs_desk.specs.Keeping.{KeepsRings, KeepSides};
 ghost use Rattle.xs_desk.specs.Opening.{AreNew, IsLaneCount, IsDepth};
 ghost use Rattle.xs_server.specs.Working.{IsClosed, IsWorkFault};
 
-use crate::work::crew::{Started, Worker, join_all, seat_all, start_all};
+use crate::work::worker_pool::{WorkerThread, Worker, join_all, make_workers, start_all};
 use crate::work::fault::WorkFault;
 use crate::work::gate::Gate;
-use crate::work::keeping::start_keeper;
-use crate::work::signals::Signals;
+use crate::work::keeper_thread::start_keeper;
+use crate::work::lifecycle::Lifecycle;
 use std::alloc::{AllocError, Global};
 use std::sync::{Arc, Wait};
 use std::thread::Threads;
@@ -19,37 +19,37 @@ use xs_keys::Clock;
 
 /// All that work needs, made before the first thread is started.
 #[derive(Drop)]
-struct Crew<G> {
+struct WorkerPool<G> {
     workers: Vec<Worker<G>>,
-    started: Vec<Started>,
+    started: Vec<WorkerThread>,
     ended: Vec<Ended>,
-    signals: Arc<Signals>,
+    lifecycle: Arc<Lifecycle>,
     waker: Waker,
 }
 
-fn gather<G: Drop>(
+fn make_pool<G: Drop>(
     alloc: Global,
     keeper: &Keeper,
     clients: Vec<Client>,
     gates: Vec<G>,
-) -> Result<Crew<G>, AllocError>
-    ensures workers { IfOk result (λ crew. map (λ w. w.client) crew.workers.items ≡ clients.items) }
-    ensures started { IfOk result (λ crew. (crew.started.items ≡ [])
-        × (length crew.workers.items ≤ vec_capacity crew.started)) }
-    ensures ended { IfOk result (λ crew. (crew.ended.items ≡ [])
-        × (length crew.workers.items ≤ vec_capacity crew.ended)) }
+) -> Result<WorkerPool<G>, AllocError>
+    ensures workers { IfOk result (λ pool. map (λ w. w.client) pool.workers.items ≡ clients.items) }
+    ensures started { IfOk result (λ pool. (pool.started.items ≡ [])
+        × (length pool.workers.items ≤ vec_capacity pool.started)) }
+    ensures ended { IfOk result (λ pool. (pool.ended.items ≡ [])
+        × (length pool.workers.items ≤ vec_capacity pool.ended)) }
 {
     let count = clients.len();
     let started = Vec::with_capacity(alloc, count)?;
     let ended = Vec::with_capacity(alloc, count)?;
-    let signals = Arc::new(alloc, Signals::new())?;
+    let lifecycle = Arc::new(alloc, Lifecycle::new())?;
     let waker = keeper.waker()?;
-    let workers = seat_all(alloc, clients, gates)?;
-    Ok(Crew {
+    let workers = make_workers(alloc, clients, gates)?;
+    Ok(WorkerPool {
         workers,
         started,
         ended,
-        signals,
+        lifecycle,
         waker,
     })
 }
@@ -68,30 +68,30 @@ fn run_all<
     G: Gate + Send + Drop + 'static,
     C: Clock + Send + Drop + 'static,
     R: Threads + Wait + Copy + Send + 'static,
->(rt: &R, keeper: Keeper, clock: C, crew: Crew<G>) -> Option<Done>
-    requires started { (crew.started.items ≡ []) × (length crew.workers.items ≤ vec_capacity crew.started) }
-    requires ended { (crew.ended.items ≡ []) × (length crew.workers.items ≤ vec_capacity crew.ended) }
+>(rt: &R, keeper: Keeper, clock: C, pool: WorkerPool<G>) -> Option<Done>
+    requires started { (pool.started.items ≡ []) × (length pool.workers.items ≤ vec_capacity pool.started) }
+    requires ended { (pool.ended.items ≡ []) × (length pool.workers.items ≤ vec_capacity pool.ended) }
     ensures keeper { IfSome result (λ done. KeepsRings keeper done.keeper) }
-    ensures sides { IfSome result (λ done. KeepSides (map (λ w. w.client) crew.workers.items) done.ended.items) }
-    ensures count { IfSome result (λ done. length done.ended.items ≡ length crew.workers.items) }
+    ensures sides { IfSome result (λ done. KeepSides (map (λ w. w.client) pool.workers.items) done.ended.items) }
+    ensures count { IfSome result (λ done. length done.ended.items ≡ length pool.workers.items) }
 {
-    let Crew {
+    let WorkerPool {
         workers,
         mut started,
         mut ended,
-        signals,
+        lifecycle,
         waker,
-    } = crew;
-    let told = Arc::try_clone(&signals).ok()?;
+    } = pool;
+    let told = Arc::try_clone(&lifecycle).ok()?;
     let kept = start_keeper(rt, keeper, clock, told)?;
-    let all = start_all(rt, workers, &signals, &mut started);
+    let all = start_all(rt, workers, &lifecycle, &mut started);
     if all {
-        signals.begin();
+        lifecycle.begin();
     } else {
-        signals.give_up();
+        lifecycle.give_up();
     }
     let refused = join_all(rt, started, &mut ended);
-    signals.end();
+    lifecycle.end();
     waker.wake();
     let keeper = kept.join(rt);
     if !all {
@@ -155,10 +155,10 @@ pub fn work<
     ensures fault { IfErr result (IsWorkFault (length gates.items) depth) }
 {
     let (keeper, clients) = open(alloc, gates.len(), depth)?;
-    let Ok(crew) = gather(alloc, &keeper, clients, gates) else {
+    let Ok(pool) = make_pool(alloc, &keeper, clients, gates) else {
         return Err(WorkFault::Memory);
     };
-    let Some(done) = run_all(rt, keeper, clock, crew) else {
+    let Some(done) = run_all(rt, keeper, clock, pool) else {
         return Err(WorkFault::Start);
     };
     conclude(alloc, done)

@@ -2,7 +2,7 @@ use Rattle.std.proofs.Common.{refl, inl, inr, rules}
 use Rattle.xs_resp.specs.Part.{number_in, is_natural}
 use Rattle.xs_resp.specs.Header.{header, line_at}
 use Rattle.xs_resp.specs.Reading.{word, words, request}
-use Rattle.xs_resp.proofs.Skipping.{not-whole, skip-left, skip-count}
+use Rattle.xs_resp.proofs.Skipping.{not-whole, skip-left}
 use Rattle.xs_resp.proofs.examples.reader.Goals as goal
 
 pub returns : goal.returns
@@ -30,8 +30,14 @@ returns c = record {
   has_a_request_of_no_words = record { bytes = _; holds = refl; whole = (_, refl) };
   has_no_part_of_one = λ next. not-whole _ _ next refl refl;
   has_none_once_failed = λ next. let holds = next.holds in cc;
-  skips_two_words = record { bytes = _; found = _; holds = refl; read = refl; count_is = refl; left = refl };
-  skips_no_words = record { bytes = _; found = _; holds = refl; read = refl; count_is = refl; left = refl };
-  skips_no_word_less = λ skips. let left = skip-left _ _ _ _ _ skips refl refl in cc;
-  counts_no_word_less = λ skips. let count = skip-count _ _ _ _ _ skips refl refl in cc;
+  skips_two_words = record { bytes = _; found = _; holds = refl; read = refl; left = refl };
+  skips_no_words = record { bytes = _; found = _; holds = refl; read = refl; left = refl };
+  skips_no_word_less = λ skips. let left = skip-left _ _ _ _ skips refl refl in cc;
+  two_words_at_the_front = refl;
+  no_words_at_the_front = refl;
+  is_ready = (refl, refl);
+  is_not_ready = (refl, refl);
+  is_wrong = (refl, refl);
+  stays_wrong = (refl, refl);
+  waits_for_no_whole_request = λ ready. let is = ready.0 in cc;
 }

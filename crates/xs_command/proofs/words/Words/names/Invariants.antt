@@ -1,6 +1,6 @@
-use Rattle.std.proofs.Common.{◌≡◌, take}
+use Rattle.std.proofs.Common.{◌≡◌, take, drop}
 use Rattle.xs_command.proofs.words.Words.names.Given as goal
 
--- the words so far, copied
-abbrev pub invariant-loop-word : goal.invariant-loop-word
-invariant-loop-word l = l.items.items ≡ take l.word-index l.rest
+-- the words so far, copied, and those behind them
+abbrev pub invariant-loop-name : goal.invariant-loop-name
+invariant-loop-name l = (l.names.items ≡ take l._name l.self) × (l.left ≡ drop l._name l.self)

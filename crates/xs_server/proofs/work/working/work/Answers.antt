@@ -23,7 +23,7 @@ conclude-requires-clause-all g c = λ k below.
     let clients = c.in_ok-keeper.clients.items in
     let done = c.in-Some.done in
     let sides = subst (λ (cs : List Caller). KeepSides cs done.ended.items) c.in-Ok.ensures.workers c.in-Some.ensures.sides in
-    let count : length done.ended.items ≡ length clients = c.in-Some.ensures.count ∙ (sym (length-map c.in-Ok.crew.workers.items (λ w. w.client)) ∙ ap length c.in-Ok.ensures.workers) in
+    let count : length done.ended.items ≡ length clients = c.in-Some.ensures.count ∙ (sym (length-map c.in-Ok.pool.workers.items (λ w. w.client)) ∙ ap length c.in-Ok.ensures.workers) in
     all-there c.args.depth keeper.lanes clients done.ended.items new sides count k (omega (arith, below, keeps-count keeper done.keeper c.in-Some.ensures.keeper))
 
 pub returns-clause-closed : goal.returns-clause-closed

@@ -5,35 +5,23 @@ use Rattle.xs_resp.specs.declared.reply.Reply.TheVariants.{Error}
 use Rattle.xs_resp.specs.ReplyText.{text}
 use Rattle.xs_resp.specs.Left.{left}
 use Rattle.xs_resp.proofs.Decisions.{request-open, request-fault}
-use Rattle.xs_resp.specs.declared.read_fault.ReadFault.{ReadFault}
-use Rattle.xs_resp.specs.Outcome.{Outcome}
-use Rattle.xs_resp.specs.Reading.{Found, request}
-use Rattle.xs_resp.specs.Held.{Held, Next, NextOf, held_length}
-use Rattle.xs_resp.proofs.Nexts.{next-words, next-none, next-same, next-fault, next-shorter}
+use Rattle.xs_resp.specs.Held.{Next, Ready}
+use Rattle.xs_resp.proofs.Nexts.{next-words, next-none, next-same, next-fault, next-shorter, ready-next, ready-none, ready-wrong}
 use Rattle.xs_server.specs.declared.connections.ending.ServeFault.TheVariants as fault
 use Rattle.xs_server.specs.Exchange.{Exchange}
 use Rattle.xs_server.specs.Machine.{itself}
 use Rattle.xs_server.specs.Connection.{ServesBy}
 use Rattle.xs_server.proofs.Driving.{empty-none, ends-now, none-came}
 use Rattle.xs_server.proofs.Endings.{settled, passed, port-ends, some-text, ends-quit, ends-refused}
-use Rattle.xs_server.proofs.Exchanges.{answered-again, answered-empty, none-skipped, one-answered, one-skipped, port-fails}
-use Rattle.xs_server.proofs.SecondTries.{refused-same, skipped-shorter}
+use Rattle.xs_server.proofs.Exchanges.{answered-again, answered-empty, one-answered, port-fails}
 use Rattle.xs_server.proofs.connections.connection.ConnectionMachine.advance.Goals as goal
-
--- no bytes come by taking a request
-next-fewer : (old : Held) (result : Result (Option (List (List ℕ))) ReadFault) (new : Held) → Next old result new → held_length new ≤ held_length old
-next-fewer (Ok bytes) result new next = by (request bytes) next where
-  by : (outcome : Outcome Found) → NextOf bytes outcome result new → held_length new ≤ length bytes
-  by (Ok (Some found)) (inl (is, left)) = omega (arith, ap held_length left, length-drop found.end bytes)
-  by (Ok (Some found)) (inr (is, left)) = omega (arith, ap held_length left)
-  by (Ok None) (is, left) = omega (arith, ap held_length left)
-  by (Err wrong) (is, left) = omega (arith, ap held_length left)
-next-fewer (Err wrong) result new (is, left) = omega (arith, ap held_length left)
 
 pub returns-then-is_empty-clause-turns : goal.returns-then-is_empty-clause-turns
 returns-then-is_empty-clause-turns g c = λ first read sent s.
-    let n = next-words c.args.self.now.requests s.rest c.in-Ok-Some.words c.next_request.new.requests s.holds (rw c.in-Ok-Some.field-0-is at c.in-Ok-Some.ensures) in
-    let none = empty-none c.in-Ok-Some.words c.is_empty.result c.is_empty.ensures c.if-is_empty.true in
+    let words = c.front-words.result in
+    let next = ready-next c.args.self.now.requests c.has_next.new.self words c.skip.new.self (rw c.in-Ok-true.field-0-test at c.in-Ok-true.ensures) c.front-words.ensures c.skip.ensures in
+    let n = next-words c.args.self.now.requests s.rest words c.skip.new.self s.holds next in
+    let none = empty-none words c.is_empty.result c.is_empty.ensures c.if-is_empty.true in
     let port = c.args.port.now in
     record {
       exchanges = s.exchanges;
@@ -47,118 +35,72 @@ returns-then-is_empty-clause-turns g c = λ first read sent s.
     }
 
 pub returns-then-is_empty-clause-less : goal.returns-then-is_empty-clause-less
-returns-then-is_empty-clause-less g c = λ going. next-shorter c.args.self.now.requests c.in-Ok-Some.words c.next_request.new.requests (rw c.in-Ok-Some.field-0-is at c.in-Ok-Some.ensures)
+returns-then-is_empty-clause-less g c = λ going.
+    next-shorter c.args.self.now.requests c.front-words.result c.skip.new.self
+    (ready-next c.args.self.now.requests c.has_next.new.self c.front-words.result c.skip.new.self (rw c.in-Ok-true.field-0-test at c.in-Ok-true.ensures) c.front-words.ensures c.skip.ensures)
 
 pub returns-in_default-clause-turns : goal.returns-in_default-clause-turns
 returns-in_default-clause-turns g c = λ first read sent stands.
     let connection = c.args.self.now in
+    let words = c.front-words.result in
     let s = settled g.P.Port.replies first c.args.port.now read sent connection stands c.requires in
-    let n = next-words connection.requests s.rest c.in-Ok-Some.words c.next_request.new.requests s.holds (rw c.in-Ok-Some.field-0-is at c.in-Ok-Some.ensures) in
+    let next = ready-next connection.requests c.has_next.new.self words c.skip-2.new.self (rw c.in-Ok-true.field-0-test at c.in-Ok-true.ensures) c.front-words.ensures c.skip-2.ensures in
+    let n = next-words connection.requests s.rest words c.skip-2.new.self s.holds next in
     let err = c.in_default.ensures.err in
-    let fails = port-fails g.P.Port.fails c.args.port.now c.answer.new.port s.rest n.found c.as_slice.result.now err.0 n.read (n.words_are ∙ sym c.as_slice.ensures) err.1 err.2 in
-    ends-now (ServesBy g.P.Port.replies g.P.Port.fails g.P.Port.gone) (λ count. Err (fault.Write connection.replies)) itself (Err (fault.Port connection.replies)) first read sent (left connection.owed) c.answer.new.port
+    let fails = port-fails g.P.Port.fails c.args.port.now c.answer-answered.new.port s.rest n.found words err.0 n.read n.words_are err.1 err.2 in
+    ends-now (ServesBy g.P.Port.replies g.P.Port.fails g.P.Port.gone) (λ count. Err (fault.Write connection.replies)) itself (Err (fault.Port connection.replies)) first read sent (left connection.owed) c.answer-answered.new.port
     (none-came (left connection.owed) (omega (arith, c.requires)))
-    (port-ends g.P.Port.replies g.P.Port.fails g.P.Port.gone first c.args.port.now c.answer.new.port read sent connection s fails err.3)
+    (port-ends g.P.Port.replies g.P.Port.fails g.P.Port.gone first c.args.port.now c.answer-answered.new.port read sent connection s fails err.3)
 
 pub returns-then-quits-clause-turns : goal.returns-then-quits-clause-turns
 returns-then-quits-clause-turns g c = λ first read sent stands.
     let connection = c.args.self.now in
+    let words = c.front-words.result in
     let s = settled g.P.Port.replies first c.args.port.now read sent connection stands c.requires in
-    let one = one-answered g.P.Port.replies c.args.port.now c.answer.new.port s.rest connection.requests c.next_request.new.requests c.in-Ok-Some.words c.as_slice.result.now c.in-Ok.said.reply c.in-Ok.said.quits c.is_empty.result
-    s.holds (rw c.in-Ok-Some.field-0-is at c.in-Ok-Some.ensures) (sym c.as_slice.ensures) c.is_empty.ensures c.if-is_empty.false c.in-Ok.ensures.ok in
-    let owes = c.begin.ensures ∙ ap text (sym one.4) in
-    ends-quit g.P.Port.replies g.P.Port.fails g.P.Port.gone first c.answer.new.port read sent (left c.begin.new.self) one.0 s.exchanges one.1 connection.replies
-    (answered-again g.P.Port.replies first c.args.port.now c.answer.new.port read s.rest one.0 s.exchanges (one.1 ∷ []) s.answered one.2) s.written owes (one.5 ∙ c.if-quits.true)
+    let next = ready-next connection.requests c.has_next.new.self words c.skip-2.new.self (rw c.in-Ok-true.field-0-test at c.in-Ok-true.ensures) c.front-words.ensures c.skip-2.ensures in
+    let one = one-answered g.P.Port.replies c.args.port.now c.answer-answered.new.port s.rest connection.requests c.skip-2.new.self words c.in-Ok.said.reply c.in-Ok.said.quits c.is_empty.result
+    s.holds next c.is_empty.ensures c.if-is_empty.false c.in-Ok.ensures.ok in
+    let owes = c.begin-2.ensures ∙ ap text (sym one.4) in
+    ends-quit g.P.Port.replies g.P.Port.fails g.P.Port.gone first c.answer-answered.new.port read sent (left c.begin-2.new.self) one.0 s.exchanges one.1 connection.replies
+    (answered-again g.P.Port.replies first c.args.port.now c.answer-answered.new.port read s.rest one.0 s.exchanges (one.1 ∷ []) s.answered one.2) s.written owes (one.5 ∙ c.if-quits.true)
 
-pub returns-else-quits-clause-turns : goal.returns-else-quits-clause-turns
-returns-else-quits-clause-turns g c = λ first read sent stands.
+pub returns-clause-turns : goal.returns-clause-turns
+returns-clause-turns g c = λ first read sent stands.
     let connection = c.args.self.now in
+    let words = c.front-words.result in
     let s = settled g.P.Port.replies first c.args.port.now read sent connection stands c.requires in
-    let one = one-answered g.P.Port.replies c.args.port.now c.answer.new.port s.rest connection.requests c.next_request.new.requests c.in-Ok-Some.words c.as_slice.result.now c.in-Ok.said.reply c.in-Ok.said.quits c.is_empty.result
-    s.holds (rw c.in-Ok-Some.field-0-is at c.in-Ok-Some.ensures) (sym c.as_slice.ensures) c.is_empty.ensures c.if-is_empty.false c.in-Ok.ensures.ok in
-    let owes = c.begin.ensures ∙ ap text (sym one.4) in
+    let next = ready-next connection.requests c.has_next.new.self words c.skip-2.new.self (rw c.in-Ok-true.field-0-test at c.in-Ok-true.ensures) c.front-words.ensures c.skip-2.ensures in
+    let one = one-answered g.P.Port.replies c.args.port.now c.answer-answered.new.port s.rest connection.requests c.skip-2.new.self words c.in-Ok.said.reply c.in-Ok.said.quits c.is_empty.result
+    s.holds next c.is_empty.ensures c.if-is_empty.false c.in-Ok.ensures.ok in
+    let owes = c.begin-2.ensures ∙ ap text (sym one.4) in
     record {
       exchanges = s.exchanges;
       last = one.1 ∷ [];
       part = [];
       rest = one.0;
-      answered = answered-again g.P.Port.replies first c.args.port.now c.answer.new.port read s.rest one.0 s.exchanges (one.1 ∷ []) s.answered one.2;
+      answered = answered-again g.P.Port.replies first c.args.port.now c.answer-answered.new.port read s.rest one.0 s.exchanges (one.1 ∷ []) s.answered one.2;
       holds = one.3;
       written = s.written;
       owes = (sym owes, omega (arith, ap length owes, some-text one.1.answer), one.5 ∙ c.if-quits.false);
     }
 
-pub returns-else-quits-clause-less : goal.returns-else-quits-clause-less
-returns-else-quits-clause-less g c = λ going. next-shorter c.args.self.now.requests c.in-Ok-Some.words c.next_request.new.requests (rw c.in-Ok-Some.field-0-is at c.in-Ok-Some.ensures)
+pub returns-clause-less : goal.returns-clause-less
+returns-clause-less g c = λ going.
+    next-shorter c.args.self.now.requests c.front-words.result c.skip-2.new.self
+    (ready-next c.args.self.now.requests c.has_next.new.self c.front-words.result c.skip-2.new.self (rw c.in-Ok-true.field-0-test at c.in-Ok-true.ensures) c.front-words.ensures c.skip-2.ensures)
 
-pub returns-in-Ok-None-clause-waits : goal.returns-in-Ok-None-clause-waits
-returns-in-Ok-None-clause-waits g c = λ waiting.
-    let next = rw (c.in-Ok-None.field-0-is) at c.in-Ok-None.ensures in
-    let same = next-same c.args.self.now.requests c.next_request.new.requests next in (
+pub returns-in-Ok-false-clause-waits : goal.returns-in-Ok-false-clause-waits
+returns-in-Ok-false-clause-waits g c = λ waiting.
+    let next = ready-none c.args.self.now.requests c.has_next.new.self (rw c.in-Ok-false.field-0-test at c.in-Ok-false.ensures) in
+    let same = next-same c.args.self.now.requests c.has_next.new.self next in (
       none-came (left c.args.self.now.owed) (omega (arith, c.requires)),
-      λ bytes is. request-open bytes (next-none c.args.self.now.requests bytes c.next_request.new.requests (sym same ∙ is) next).0,
+      λ bytes is. request-open bytes (next-none c.args.self.now.requests bytes c.has_next.new.self (sym same ∙ is) next).0,
     )
 
--- ---- a request that no memory was found for
-
-pub returns-then-count-eq0-clause-turns : goal.returns-then-count-eq0-clause-turns
-returns-then-count-eq0-clause-turns g c = λ first read sent s.
-    let port = c.args.port.now in
-    let next = subst (λ f. Next c.args.self.now.requests (Err f) c.next_request.new.requests) c.in-Memory.is c.in-Err.ensures in
-    let held = refused-same c.args.self.now.requests c.next_request.new.requests next ∙ s.holds in
-    let none = none-skipped g.P.Port.replies port s.rest c.next_request.new.requests c.skip-count.new.self c.skip-count.result held c.skip-count.ensures (omega arith) in
-    record {
-      exchanges = s.exchanges;
-      last = s.last;
-      part = s.part;
-      rest = none.0;
-      answered = passed g.P.Port.replies first port port read s.rest none.0 (s.exchanges ++ s.last) s.answered none.1;
-      holds = none.2;
-      written = s.written;
-      owes = s.owes;
-    }
-
-pub returns-then-count-eq0-clause-less : goal.returns-then-count-eq0-clause-less
-returns-then-count-eq0-clause-less g c = λ going.
-    let next = subst (λ f. Next c.args.self.now.requests (Err f) c.next_request.new.requests) c.in-Memory.is c.in-Err.ensures in
-    skipped-shorter c.args.self.now.requests c.next_request.new.requests c.skip-count.new.self c.skip-count.result next c.skip-count.ensures
-
-pub returns-else-count-eq0-clause-turns : goal.returns-else-count-eq0-clause-turns
-returns-else-count-eq0-clause-turns g c = λ first read sent stands.
+pub returns-in-Err-clause-turns : goal.returns-in-Err-clause-turns
+returns-in-Err-clause-turns g c = λ first read sent stands.
     let connection = c.args.self.now in
-    let port = c.args.port.now in
-    let s = settled g.P.Port.replies first port read sent connection stands c.requires in
-    let next = subst (λ f. Next connection.requests (Err f) c.next_request.new.requests) c.in-Memory.is c.in-Err.ensures in
-    let held = refused-same connection.requests c.next_request.new.requests next ∙ s.holds in
-    let some : 0 < c.skip-count.result = omega arith in
-    let told : Exchange = record { asked = None; answer = Error said.Memory } in
-    let one = one-skipped g.P.Port.replies port s.rest c.next_request.new.requests c.skip-count.new.self c.skip-count.result held c.skip-count.ensures some in
-    let owes = c.begin-in-Memory.ensures in
-    record {
-      exchanges = s.exchanges;
-      last = told ∷ [];
-      part = [];
-      rest = one.0;
-      answered = answered-again g.P.Port.replies first port port read s.rest one.0 s.exchanges (told ∷ []) s.answered one.1;
-      holds = one.2;
-      written = s.written;
-      owes = (sym owes, omega (arith, ap length owes, some-text told.answer), refl);
-    }
-
-pub returns-else-count-eq0-clause-less : goal.returns-else-count-eq0-clause-less
-returns-else-count-eq0-clause-less g c = λ going.
-    let next = subst (λ f. Next c.args.self.now.requests (Err f) c.next_request.new.requests) c.in-Memory.is c.in-Err.ensures in
-    skipped-shorter c.args.self.now.requests c.next_request.new.requests c.skip-count.new.self c.skip-count.result next c.skip-count.ensures
-
-pub returns-in_default-fault : goal.returns-in_default-fault
-returns-in_default-fault g c = record {
-  turns = λ first read sent stands.
-      let connection = c.args.self.now in
-      let s = settled g.P.Port.replies first c.args.port.now read sent connection stands c.requires in
-      let wrong = next-fault connection.requests s.rest c.in-Err.fault c.next_request.new.requests s.holds c.in_default-fault.not-Memory c.in-Err.ensures in
-      let owes = c.begin-in_default-fault.ensures in
-      ends-refused g.P.Port.replies g.P.Port.fails g.P.Port.gone first c.args.port.now read sent (left c.begin-in_default-fault.new.self) s.rest s.exchanges connection.replies wrong.0 s.answered s.written owes (request-fault s.rest wrong.0 wrong.1);
-  waits = λ e. cc;
-  less = λ e. cc;
-  same = next-fewer c.args.self.now.requests (Err c.in-Err.fault) c.next_request.new.requests c.in-Err.ensures;
-}
+    let s = settled g.P.Port.replies first c.args.port.now read sent connection stands c.requires in
+    let wrong = ready-wrong connection.requests s.rest _ c.has_next.new.self s.holds c.in-Err.ensures in
+    let owes = c.begin.ensures in
+    ends-refused g.P.Port.replies g.P.Port.fails g.P.Port.gone first c.args.port.now read sent (left c.begin.new.self) s.rest s.exchanges connection.replies wrong.0 s.answered s.written owes (request-fault s.rest wrong.0 wrong.1)

@@ -1,21 +1,21 @@
-//! What the thread that starts workers and keeper tells them.
+//! When workers begin and the keeper ends: what the thread that starts them tells them.
 use std::sync::Wait;
 use std::sync::atomic::{AtomicBool, Ordering};
 use std::thread;
 
-/// What the thread that starts the others tells them. No promise rests on it.
+/// The lifecycle of a pool of workers and their keeper. No promise rests on it.
 #[derive(Drop)]
-pub struct Signals {
-    // Set where a thread wasn't started; before `begun`.
+pub struct Lifecycle {
+    // Set if a thread was not started; before `begun`.
     given_up: AtomicBool,
     begun: AtomicBool,
     ended: AtomicBool,
 }
 
-impl Signals {
+impl Lifecycle {
     /// Nothing is told yet.
-    pub fn new() -> Signals {
-        Signals {
+    pub fn new() -> Lifecycle {
+        Lifecycle {
             given_up: AtomicBool::new(false),
             begun: AtomicBool::new(false),
             ended: AtomicBool::new(false),
@@ -43,8 +43,8 @@ impl Signals {
         self.ended.load(Ordering::SeqCst)
     }
 
-    /// Waits for the word to begin, and says whether the work begins.
-    pub fn begins<R: Wait>(&self, rt: &R) -> bool {
+    /// Waits until all threads are started, and says whether the work begins.
+    pub fn wait_to_begin<R: Wait>(&self, rt: &R) -> bool {
         for _ in rt.forever() {
             if self.begun.load(Ordering::SeqCst) {
                 return !self.given_up.load(Ordering::SeqCst);

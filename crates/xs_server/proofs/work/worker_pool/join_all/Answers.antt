@@ -4,9 +4,9 @@ use Rattle.std.specs.declared.thread.PromisedHandle.{PromisedHandle}
 use Rattle.xs_desk.specs.Callers.{Caller}
 use Rattle.xs_desk.specs.Keeping.{KeepSides}
 use Rattle.xs_server.specs.declared.work.worker.Worked.{Worked}
-use Rattle.xs_server.specs.declared.work.crew.SameSide.{SameSide}
+use Rattle.xs_server.specs.declared.work.worker_pool.SameSide.{SameSide}
 use Rattle.xs_server.proofs.Crews.{sides-more}
-use Rattle.xs_server.proofs.work.crew.join_all.Goals as goal
+use Rattle.xs_server.proofs.work.worker_pool.join_all.Goals as goal
 
 abbrev client_of : PromisedHandle Worked SameSide → Caller
 client_of s = s.promise.0.value

@@ -2,7 +2,7 @@
 ghost use Rattle.std.specs.Prelude.{◌≡◌, IfSome};
 ghost use Rattle.xs_desk.specs.Keeping.{KeepsRings};
 
-use crate::work::signals::Signals;
+use crate::work::lifecycle::Lifecycle;
 use std::snapshot::Snapshot;
 use std::sync::{Arc, Wait};
 use std::thread;
@@ -14,7 +14,7 @@ use xs_keys::Clock;
 pub type KeeperThread = PromisedHandle<Keeper, SameRings>;
 
 /// Serves turn after turn, until all workers have ended and nobody is left to serve, or there is no further place.
-fn keep<C: Clock + Drop, R: Wait>(rt: &R, keeper: Keeper, clock: C, signals: &Signals) -> Keeper
+fn keep<C: Clock + Drop, R: Wait>(rt: &R, keeper: Keeper, clock: C, lifecycle: &Lifecycle) -> Keeper
     ensures { KeepsRings keeper result }
 {
     let mut keeper = keeper;
@@ -22,7 +22,7 @@ fn keep<C: Clock + Drop, R: Wait>(rt: &R, keeper: Keeper, clock: C, signals: &Si
     for _ in rt.forever() {
         match keeper.turn(&mut clock) {
             Ok(0) => {
-                if signals.has_ended() {
+                if lifecycle.has_ended() {
                     break;
                 }
                 keeper.idle(rt);
@@ -39,13 +39,13 @@ pub fn start_keeper<C: Clock + Send + Drop + 'static, R: Threads + Wait + Copy +
     rt: &R,
     keeper: Keeper,
     clock: C,
-    signals: Arc<Signals>,
+    lifecycle: Arc<Lifecycle>,
 ) -> Option<KeeperThread>
     ensures { IfSome result (λ thread. thread.promise.0.value ≡ keeper) }
 {
     let handle = *rt;
     let promise = SameRings(Snapshot::of(&keeper));
-    match thread::spawn_with(rt, promise, move || keep(&handle, keeper, clock, &signals)) {
+    match thread::spawn_with(rt, promise, move || keep(&handle, keeper, clock, &lifecycle)) {
         Ok(thread) => Some(thread),
         Err(_) => None,
     }

@@ -1,5 +1,5 @@
 use Rattle.xs_desk.specs.Keeping.{KeepsRings}
-use Rattle.xs_server.proofs.work.keeping.keep.Given as goal
+use Rattle.xs_server.proofs.work.keeper_thread.keep.Given as goal
 
 abbrev pub invariant-loop : goal.invariant-loop
 invariant-loop g l = KeepsRings l.fn.keeper l.keeper

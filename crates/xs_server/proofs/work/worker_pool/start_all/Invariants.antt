@@ -1,6 +1,6 @@
 use Rattle.std.proofs.Common.{◌≡◌, ◌≤◌, ◌+◌, ◌++◌, length, map, vec_capacity}
 use Rattle.std.specs.Vec.Iter.{into_iter_items}
-use Rattle.xs_server.proofs.work.crew.start_all.Given as goal
+use Rattle.xs_server.proofs.work.worker_pool.start_all.Given as goal
 
 -- the threads that are started are of the first workers
 abbrev pub invariant-loop-worker : goal.invariant-loop-worker

@@ -4,7 +4,7 @@ ghost use Rattle.xs_desk.specs.Keeping.{KeepsSide, KeepSides};
 
 use crate::connections::buffers::Buffers;
 use crate::work::gate::Gate;
-use crate::work::signals::Signals;
+use crate::work::lifecycle::Lifecycle;
 use crate::work::worker::{Worked, run_worker};
 use std::alloc::{AllocError, Global};
 use std::snapshot::Snapshot;
@@ -32,10 +32,10 @@ impl Promise<Worked> for SameSide {
 }
 
 /// A worker in its thread.
-pub type Started = PromisedHandle<Worked, SameSide>;
+pub type WorkerThread = PromisedHandle<Worked, SameSide>;
 
 /// A worker for each gate, with its buffers, as far as there are gates.
-pub fn seat_all<G: Drop>(
+pub fn make_workers<G: Drop>(
     alloc: Global,
     clients: Vec<Client>,
     gates: Vec<G>,
@@ -61,8 +61,8 @@ pub fn seat_all<G: Drop>(
 fn start<G: Gate + Send + Drop + 'static, R: Threads + Wait + Copy + Send + 'static>(
     rt: &R,
     worker: Worker<G>,
-    signals: Arc<Signals>,
-) -> Option<Started>
+    lifecycle: Arc<Lifecycle>,
+) -> Option<WorkerThread>
     ensures { IfSome result (λ started. started.promise.0.value ≡ worker.client) }
 {
     let handle = *rt;
@@ -73,7 +73,7 @@ fn start<G: Gate + Send + Drop + 'static, R: Threads + Wait + Copy + Send + 'sta
     } = worker;
     let promise = SameSide(Snapshot::of(&client));
     match thread::spawn_with(rt, promise, move || {
-        run_worker(&handle, client, gate, buffers, &signals)
+        run_worker(&handle, client, gate, buffers, &lifecycle)
     }) {
         Ok(started) => Some(started),
         Err(_) => None,
@@ -85,15 +85,15 @@ fn start<G: Gate + Send + Drop + 'static, R: Threads + Wait + Copy + Send + 'sta
 pub fn start_all<G: Gate + Send + Drop + 'static, R: Threads + Wait + Copy + Send + 'static>(
     rt: &R,
     workers: Vec<Worker<G>>,
-    signals: &Arc<Signals>,
-    started: &mut Vec<Started>,
+    lifecycle: &Arc<Lifecycle>,
+    started: &mut Vec<WorkerThread>,
 ) -> bool
     requires room { (started.old.items ≡ []) × (length workers.items ≤ vec_capacity started.old) }
     ensures count { length started.new.items ≤ length workers.items }
     ensures all { result ≡ true → map (λ s. s.promise.0.value) started.new.items ≡ map (λ w. w.client) workers.items }
 {
     for worker in workers {
-        let Ok(told) = Arc::try_clone(signals) else {
+        let Ok(told) = Arc::try_clone(lifecycle) else {
             return false;
         };
         let Some(one) = start(rt, worker, told) else {
@@ -108,7 +108,7 @@ pub fn start_all<G: Gate + Send + Drop + 'static, R: Threads + Wait + Copy + Sen
 
 /// Waits for the end of each worker, and says whether a gate refused a connection. The room for the ends was made
 /// before.
-pub fn join_all<R: Threads>(rt: &R, started: Vec<Started>, ended: &mut Vec<Ended>) -> bool
+pub fn join_all<R: Threads>(rt: &R, started: Vec<WorkerThread>, ended: &mut Vec<Ended>) -> bool
     requires room { (ended.old.items ≡ []) × (length started.items ≤ vec_capacity ended.old) }
     ensures count { length ended.new.items ≡ length started.items }
     ensures sides { KeepSides (map (λ s. s.promise.0.value) started.items) ended.new.items }
