@@ -2,6 +2,7 @@ pub mod Additions
 pub mod AskSteps
 pub mod Assigning
 pub mod Comings
+pub mod Computing
 pub mod Contents
 pub mod Deliveries
 pub mod FirstIds

@@ -1,9 +1,8 @@
 use Rattle.std.proofs.Common.{false, refl, ap, sym, is_some}
 use Rattle.std.proofs.lemmas.Bool.{false≢true}
-use Rattle.std.specs.Option.{option_map_or}
 use Rattle.std.specs.Prelude.{codes}
 use Rattle.xs_bytes.specs.SortedMap.{empty, get, insert_by, remove, change}
-use Rattle.xs_group.specs.State.{is_name}
+use Rattle.xs_keys.specs.Ground.{option_map_or, is_name}
 use Rattle.xs_keys.proofs.examples.standings_of_a_job.Goals as goal
 
 pub returns : goal.returns
