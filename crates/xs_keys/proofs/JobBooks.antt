@@ -2,20 +2,16 @@
 use Rattle.std.proofs.Common.{◌≡◌, ℕ, ◌+◌, Bool, true, false, cond, ◌&&◌, ◌||◌, List, [], ◌∷◌, filter, map, length, Option, Some, None, is_some, option_and_then, sym, ap, subst, ◌∙◌, refl, arith}
 use Rattle.std.proofs.lemmas.Bool.{false≢true}
 use Rattle.std.proofs.lemmas.List.{length-map}
-use Rattle.std.specs.Option.{option_map_or}
-use Rattle.xs_bytes.specs.Each.{with_some}
-use Rattle.xs_stream.specs.declared.id.Id.{Id}
 use Rattle.xs_stream.specs.Id.{is_below, is_same, has_id}
-use Rattle.xs_stream.specs.Kept.{ids_of, Ascends, AllAbove}
 use Rattle.xs_stream.proofs.Order.{is_same-eq, is_same-refl, is_same-symm, below-not_back}
 use Rattle.xs_group.specs.State.{Row, is_name, delivers, owned}
+use Rattle.xs_keys.specs.Ground.{Command, State, Reply, Int, NullBulk, get, summary_of, option_map_or, with_some, Id, ids_of, Ascends, AllAbove}
 use Rattle.xs_keys.specs.Life.{Change, key_life, given_in, live}
 use Rattle.xs_keys.specs.GroupEvent.{GroupEvent, delivered, cursor, rows_among, pending_row_at, rows}
 use Rattle.xs_keys.specs.Owner.{last_assigned, owner}
 use Rattle.xs_keys.specs.GroupLife.{GroupLife, group_life}
 use Rattle.xs_keys.specs.Content.{Content, Key, IsGroup, GroupHolds, KeyHolds, IsContent}
 use Rattle.xs_keys.specs.ReplyParts.{array, array_or_null, id_reply, of_group, owner_reply, summary_reply}
-use Rattle.xs_keys.specs.Ground.{Command, State, Reply, Int, NullBulk, get, summary_of}
 use Rattle.xs_keys.specs.Place.{Place, before_start, waiting, dropped, handed_out, pending, settled, place_of, StandsAt, HasOnePlace}
 use Rattle.xs_keys.specs.Books.{is_at, is_pending, jobs_at, BooksBalance, TellsPending}
 use Rattle.xs_keys.proofs.IdLists.{ascends-where, has_id-where, not_above}

@@ -4,32 +4,17 @@ use Rattle.std.specs.Prelude.{nat_le}
 use Rattle.std.proofs.lemmas.List.{append-nil}
 use Rattle.std.proofs.lemmas.List.Elements.{filter-append}
 use Rattle.std.proofs.lemmas.Bool.Decides.{nat_tests}
-use Rattle.xs_stream.specs.declared.add.AddError.{AddError}
-use Rattle.xs_stream.specs.declared.add.AddId.{AddId}
-use Rattle.xs_stream.specs.declared.field.Field.{Field}
 use Rattle.xs_stream.specs.declared.trim.Trim.TheVariants.{MaxLen, MinId}
 use Rattle.xs_command.specs.declared.command.AddCommand.{AddCommand}
-use Rattle.xs_command.specs.declared.command.GroupStart.{GroupStart}
-use Rattle.xs_command.specs.declared.command.GroupStart.TheVariants.{Top, At}
 use Rattle.std.proofs.lemmas.Bool.{false≢true}
 use Rattle.std.specs.List.{list_all, list_any, IsDistinct}
-use Rattle.std.specs.Option.{option_map, option_map_or}
-use Rattle.xs_stream.specs.declared.id.Id.{Id}
-use Rattle.xs_stream.specs.declared.trim.Trim.{Trim}
 use Rattle.xs_stream.specs.Id.{is_below, is_same, has_id, assigned}
 use Rattle.xs_stream.specs.Kept.{AllUpTo, ids_of, is_trimmed, count_above}
-use Rattle.xs_group.specs.State.{Row, is_name}
 use Rattle.xs_group.specs.Claims.{Rule, row_at, is_idle, is_removed, is_taken, claim_among, firsts, from_start, is_hit, scanned}
 use Rattle.xs_command.specs.WellFormed.{IsWellFormed, keys_of}
-use Rattle.xs_command.specs.declared.command.Command.{Command}
-use Rattle.xs_command.specs.declared.command.Command.TheVariants.{Ping, Quit, Add, Delete, TrimTo, Len, Scan, GroupCreate, GroupDestroy, ConsumerCreate, ConsumerDelete, ReadGroup, Ack, Pending, PendingRows, Claim, AutoClaim, DropKeys}
-use Rattle.xs_command.specs.declared.command.GroupCreateCommand.{GroupCreateCommand}
-use Rattle.xs_command.specs.declared.command.ReadGroupCommand.{ReadGroupCommand}
-use Rattle.xs_command.specs.declared.command.ReadOne.{ReadOne}
-use Rattle.xs_command.specs.declared.command.ReadFrom.{ReadFrom}
-use Rattle.xs_command.specs.declared.command.ReadFrom.TheVariants.{New, After}
 use Rattle.xs_command.specs.declared.command.ClaimCommand.{ClaimCommand}
 use Rattle.xs_command.specs.declared.command.AutoClaimCommand.{AutoClaimCommand}
+use Rattle.xs_keys.specs.Ground.{AddError, AddId, Field, GroupStart, Top, At, option_map, option_map_or, Id, Trim, Row, is_name, Command, Ping, Quit, Add, Delete, TrimTo, Len, Scan, GroupCreate, GroupDestroy, ConsumerCreate, ConsumerDelete, ReadGroup, Ack, Pending, PendingRows, Claim, AutoClaim, DropKeys, GroupCreateCommand, ReadGroupCommand, ReadOne, ReadFrom, New, After}
 use Rattle.xs_keys.specs.Life.{Change, added, deleted, trimmed_to, is_listed, opened, key_life_after, key_life, entry_of, gives, given_in, top, drops, stands, live}
 use Rattle.xs_keys.specs.Ask.{Ask, join, leave, ack, claim, auto_claim, new_ids_of_ask, claim_of_ask, consumer_of, keeps_pending, is_acknowledgement_of, drops_consumer}
 use Rattle.xs_keys.specs.GroupEvent.{GroupEvent, delivered, cursor, pending_row_at, rows}

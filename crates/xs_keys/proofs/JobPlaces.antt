@@ -1,10 +1,8 @@
 -- The place of an entry: it is one, and an event of the group moves it along an arrow.
 use Rattle.std.proofs.Common.{◌≡◌, ℕ, Bool, true, false, cond, not, ◌&&◌, ◌||◌, List, [], ◌∷◌, Option, Some, None, is_some, sym, ap, ◌∙◌, refl}
 use Rattle.std.proofs.lemmas.Bool.{false≢true}
-use Rattle.xs_stream.specs.declared.id.Id.{Id}
-use Rattle.xs_stream.specs.Id.{is_below, has_id}
-use Rattle.xs_stream.specs.Kept.{ids_of}
 use Rattle.xs_stream.proofs.Order.{up_to-below}
+use Rattle.xs_keys.specs.Ground.{Id, is_below, has_id, ids_of}
 use Rattle.xs_keys.specs.Life.{Change, live}
 use Rattle.xs_keys.specs.GroupEvent.{GroupEvent, new_ids_of_event, delivered, cursor, rows}
 use Rattle.xs_keys.specs.Ask.{consumer_of, keeps_pending}

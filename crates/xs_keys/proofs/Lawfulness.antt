@@ -1,13 +1,9 @@
 -- Every content of a history is lawful.
 use Rattle.std.proofs.Common.{◌≡◌, ℕ, Bool, true, false, cond, List, [], ◌∷◌, Option, Some, None, is_some, option_and_then, ◌&&◌, sym, ap, subst, ◌∙◌, refl}
 use Rattle.std.proofs.lemmas.Bool.{false≢true}
-use Rattle.xs_bytes.specs.Each.{with_some}
 use Rattle.xs_bytes.specs.SortedMap.{get}
-use Rattle.xs_stream.specs.declared.id.Id.{Id}
-use Rattle.xs_stream.specs.Id.{has_id}
-use Rattle.xs_stream.specs.Kept.{Ascends, AllAbove, AllUpTo}
 use Rattle.xs_group.specs.State.{Row, State, is_name, delivers, first_row, shown, again, unless_owned}
-use Rattle.xs_command.specs.declared.command.Command.{Command}
+use Rattle.xs_keys.specs.Ground.{with_some, Id, has_id, Ascends, AllAbove, AllUpTo, Command}
 use Rattle.xs_keys.specs.Life.{Change, key_life, stream_of}
 use Rattle.xs_keys.specs.Ask.{Ask, read_new, read_own, ack, join, leave, claim, auto_claim, row_after_ask}
 use Rattle.xs_keys.specs.GroupEvent.{GroupEvent, delivered, cursor, is_consumer, rows_among, pending_row_at, rows}

@@ -1,13 +1,12 @@
 -- The owner, by the last assigning event and what settled since, is that of the row; and what one event makes of it.
 use Rattle.std.proofs.Common.{◌≡◌, ℕ, Bool, true, false, not, cond, ◌&&◌, ◌||◌, ◌⊎◌, inl, inr, List, [], ◌∷◌, ◌++◌, Option, Some, None, option_and_then, option_map, is_some, sym, ap, subst, ◌∙◌, refl}
 use Rattle.std.proofs.lemmas.Bool.{false≢true}
-use Rattle.xs_bytes.specs.Each.{with_some}
-use Rattle.xs_stream.specs.declared.id.Id.{Id}
 use Rattle.xs_stream.specs.Id.{is_below, is_same, has_id}
 use Rattle.xs_stream.proofs.Order.{is_same-eq}
 use Rattle.xs_group.specs.declared.claims.Claim.{Claim}
 use Rattle.xs_group.specs.Claims.{Rule, row_at, is_idle, is_removed, is_taken, claim_among, firsts, claim_of, from_start, is_hit, scanned, scan_of, claimed, claimed_row}
 use Rattle.xs_group.specs.State.{Row, is_name, delivers, first_row, shown, again, reread, unless_acked, unless_owned}
+use Rattle.xs_keys.specs.Ground.{with_some, Id}
 use Rattle.xs_keys.specs.Ask.{Ask, read_new, read_own, ack, join, leave, claim, auto_claim, new_ids_of_ask, claim_of_ask, consumer_of, keeps_pending, is_acknowledgement_of, drops_consumer, row_after_ask}
 use Rattle.xs_keys.specs.GroupEvent.{GroupEvent, delivered, cursor, new_ids_of_event, rows_among, pending_row_at, rows}
 use Rattle.xs_keys.specs.Owner.{is_made_pending_by, takes, is_assigned_by, last_assigned, removes, settles, is_settled, owner}

@@ -1,12 +1,11 @@
 -- The part that a scan comes to, and the cursor where it goes on.
-use Rattle.std.proofs.Common.{◌≡◌, ℕ, ◌++◌, Bool, true, false, cond, not, ◌&&◌, ◌||◌, List, [], ◌∷◌, map, filter, length, drop, sym, ap, subst, ◌∙◌, refl}
+use Rattle.std.proofs.Common.{◌≡◌, ℕ, ◌++◌, Bool, true, false, cond, ◌||◌, List, [], ◌∷◌, map, sym, ap, subst, ◌∙◌, refl}
 use Rattle.std.proofs.lemmas.List.{append-nil}
 use Rattle.std.proofs.lemmas.Bool.{false≢true}
-use Rattle.xs_stream.specs.declared.id.Id.{Id}
 use Rattle.xs_stream.specs.Id.{is_below, is_same, has_id, zero_id}
-use Rattle.xs_stream.specs.Kept.{Ascends, AllAbove}
 use Rattle.xs_stream.proofs.Order.{is_same-eq, is_same-refl, below-not_back, below-irrefl}
 use Rattle.xs_group.specs.Claims.{is_enough, prefixes, first_where, scanned, first_or_zero}
+use Rattle.xs_keys.specs.Ground.{Id, Ascends}
 use Rattle.xs_keys.specs.Taken.{is_before}
 use Rattle.xs_keys.proofs.IdLists.{has_id-append}
 use Rattle.xs_keys.proofs.Sights.{or_second, above-has}

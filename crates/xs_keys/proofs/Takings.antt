@@ -4,30 +4,27 @@ use Rattle.std.proofs.lemmas.List.{length-take-le}
 use Rattle.std.proofs.lemmas.Bool.{false≢true}
 use Rattle.std.proofs.Math.Seq.{drop-append_seam, drop-length}
 use Rattle.std.specs.Prelude.{nat_le}
-use Rattle.std.specs.Option.{option_map_or}
 use Rattle.std.proofs.lemmas.Bool.Decides.{nat_tests}
-use Rattle.xs_stream.specs.declared.id.Id.{Id}
 use Rattle.xs_stream.specs.Id.{is_below, is_same, has_id, zero_id}
-use Rattle.xs_stream.specs.Kept.{Ascends, AllAbove}
 use Rattle.xs_group.specs.declared.claims.Claim.{Claim}
 use Rattle.xs_group.specs.declared.claims.ClaimTime.TheVariants as claim_time
 use Rattle.xs_group.specs.State.{Row, idle, delivers}
 use Rattle.xs_group.specs.Claims.{Rule, row_at, is_idle, is_taken, is_removed, is_hit, is_enough, prefixes, first_where, firsts, scanned, from_start, first_or_zero, claim_among}
 use Rattle.xs_group.specs.Verdict.{AreApart}
 use Rattle.xs_group.proofs.Settling.{apart-filter, apart-firsts}
+use Rattle.xs_keys.specs.Ground.{option_map_or, Id, Ascends, AllAbove}
 use Rattle.xs_keys.specs.Life.{greatest}
 use Rattle.xs_keys.specs.Ask.{Ask, read_new, read_own, ack, join, leave, claim, auto_claim, claim_of_ask, scan_end_of_ask, rule_of, new_ids_of_ask}
 use Rattle.xs_keys.specs.GroupEvent.{GroupEvent, delivered, pending_row_at, rows, new_ids_of_event, cursor}
 use Rattle.xs_keys.specs.Owner.{takes, is_removed_by_claim, owner}
-use Rattle.xs_keys.specs.Taken.{least_idle, IsTakenWhenIdle, IsRemovedWhenGone, is_named_by, is_from_start, is_before, comes_to, is_asked_for, MayStop, ClaimsWhatIsAsked, ClaimsInTurn, ClaimsWhatIsIdle}
-use Rattle.xs_keys.specs.Touched.{time_of}
+use Rattle.xs_keys.specs.Taken.{least_idle, IsTakenWhenIdle, IsRemovedWhenGone, is_before, comes_to, is_asked_for, MayStop, ClaimsWhatIsAsked, ClaimsInTurn, ClaimsWhatIsIdle}
 use Rattle.xs_keys.specs.EachDelivery.{DeliversInFull}
 use Rattle.xs_keys.proofs.IdLists.{has_id-where, has_id-append, ascends-where, not_among}
 use Rattle.xs_stream.proofs.Order.{not_above-trans}
 use Rattle.xs_keys.proofs.Streams.{greatest-up, up_to-greatest}
 use Rattle.xs_keys.proofs.GroupSteps.{cursor-step}
 use Rattle.xs_keys.proofs.Deliveries.{PresentAscends, past-start}
-use Rattle.xs_keys.proofs.Sights.{or_first, or_second, both_of, above-has}
+use Rattle.xs_keys.proofs.Sights.{or_first, both_of, above-has}
 use Rattle.xs_keys.proofs.Owners.{owner-row, row-found, of_row}
 use Rattle.xs_keys.proofs.JobBooks.{ids-among, ascends-rows, ascends-same, same_truth, not_itself}
 use Rattle.xs_keys.proofs.ScanParts.{Begins, scanned-begins, AreNotZero, above-not_zero, before-part, part-before}

@@ -3,13 +3,7 @@ use Rattle.std.proofs.Common.{◌≡◌, ◌∙◌, inl, inr, ℕ, ◌+◌, ◌-
 use Rattle.std.proofs.lemmas.List.{append-nil, length-map}
 use Rattle.std.proofs.lemmas.Bool.{false≢true}
 use Rattle.std.specs.List.{flat_map, list_all, list_any, IsDistinct, AllByRecursion}
-use Rattle.std.specs.Option.{option_map, option_map_or}
-use Rattle.xs_bytes.specs.SortedMap.{get}
-use Rattle.xs_stream.specs.declared.id.Id.{Id}
-use Rattle.xs_stream.specs.declared.field.Field.{Field}
 use Rattle.xs_stream.specs.Id.{is_below, is_same, has_id, zero_id, assigned}
-use Rattle.xs_stream.specs.declared.add.AddError.{AddError}
-use Rattle.xs_stream.specs.Kept.{Kept, Ascends, ids_of, fields_at, is_trimmed, limited}
 use Rattle.xs_stream.proofs.InOrder.{ids_of-filter, length-filter-le}
 use Rattle.xs_stream.proofs.Order.{is_same-eq, is_same-refl}
 use Rattle.xs_group.specs.State.{State, Row, is_name, delivers, shown, owned, acked, unless_acked}
@@ -17,24 +11,16 @@ use Rattle.xs_group.specs.declared.claims.Scan as scans
 use Rattle.xs_group.specs.Claims.{Rule, claim_of, scan_of, claim_among, firsts, from_start, scanned, is_hit, is_taken, is_idle, row_at}
 use Rattle.xs_group.specs.Report.{is_asked, pending_row, summary_of}
 use Rattle.xs_group.proofs.RemovedRows.{length-change}
-use Rattle.xs_resp.specs.declared.reply.Reply.{Reply}
-use Rattle.xs_resp.specs.declared.reply.Reply.TheVariants.{Bulk, NullBulk, NullArray, Error, Int}
-use Rattle.xs_resp.specs.declared.fault.Fault.TheVariants.{NoGroup}
 use Rattle.xs_command.specs.WellFormed.{IsWellFormed, keys_of}
-use Rattle.xs_command.specs.declared.command.Command.{Command}
-use Rattle.xs_command.specs.declared.command.Command.TheVariants.{Ping, Quit, Add, Delete, TrimTo, Len, Scan, GroupCreate, GroupDestroy, ConsumerCreate, ConsumerDelete, ReadGroup, Ack, Pending, PendingRows, Claim, AutoClaim, DropKeys}
 use Rattle.xs_command.specs.declared.command.AddCommand.{AddCommand}
-use Rattle.xs_command.specs.declared.command.ReadGroupCommand.{ReadGroupCommand}
-use Rattle.xs_command.specs.declared.command.ReadOne.{ReadOne}
-use Rattle.xs_command.specs.declared.command.ReadFrom.{ReadFrom}
-use Rattle.xs_command.specs.declared.command.ReadFrom.TheVariants.{New, After}
+use Rattle.xs_keys.specs.Ground.{option_map, option_map_or, get, Id, Field, AddError, Kept, Ascends, ids_of, fields_at, is_trimmed, limited, Reply, NullBulk, NullArray, Error, Int, NoGroup, Command, Ping, Quit, Add, Delete, TrimTo, Len, Scan, GroupCreate, GroupDestroy, ConsumerCreate, ConsumerDelete, ReadGroup, Ack, Pending, PendingRows, Claim, AutoClaim, DropKeys, ReadGroupCommand, ReadOne, ReadFrom, New, After}
 use Rattle.xs_keys.specs.Life.{Change, added, deleted, trimmed_to, opened, key_life, entry_of, given_in, top_of, live, stands, stream_of}
 use Rattle.xs_keys.specs.GroupEvent.{delivered, cursor, pending_row_at, rows}
 use Rattle.xs_keys.specs.Owner.{owner}
 use Rattle.xs_keys.specs.Ask.{claim, auto_claim, ack}
 use Rattle.xs_keys.specs.GroupLife.{GroupLife, group_life, life_after_ask, present_in, is_new, reads_new_entries, has_all_groups, ids_delivered_by, ask_of_read}
 use Rattle.xs_keys.specs.Content.{Content, Key, IsContent, IsGroup, GroupHolds, KeyHolds}
-use Rattle.xs_keys.specs.After.{made, stream_after, group_in, entries_in, asked, serves}
+use Rattle.xs_keys.specs.After.{made, stream_after, group_in, entries_in, asked}
 use Rattle.xs_keys.specs.Reply.{reply, shown_by, parts, removed_by}
 use Rattle.xs_keys.specs.ReplyParts.{assigned_reply, array, array_or_null, id_reply, field_replies, entry_reply, part, new_part, of_group, owner_reply, summary_reply, row_reply, taken_reply, scan_shown}
 use Rattle.xs_keys.specs.Telling.{TellsEntry, TellsEntryOrNull, TellsEach, AreFirst}
