@@ -1,11 +1,10 @@
 -- Commands that ask one group of one key.
-use Rattle.std.proofs.Common.{◌≡◌, ℕ, Bool, true, false, List, Option, Some, None, ap, ◌∙◌, refl}
+use Rattle.std.proofs.Common.{◌≡◌, ℕ, List, Option, Some, None, ap, ◌∙◌, refl}
 use Rattle.xs_keys.specs.Ground.{option_map_or, NameMap, get, insert, Id, Field, ids_of, State, Reply}
 use Rattle.xs_keys.specs.Ask.{Ask}
 use Rattle.xs_keys.specs.Content.{Content, Key}
 use Rattle.xs_keys.specs.After.{asked, group_after, with_group, group_in, entries_in}
-use Rattle.xs_keys.specs.ReplyParts.{of_group, taken_reply}
-use Rattle.xs_keys.specs.Step.{is_error}
+use Rattle.xs_keys.specs.ReplyParts.{of_group}
 use Rattle.xs_keys.proofs.Names.{insert-same}
 
 -- an ask of a group that isn't there changes nothing
@@ -28,10 +27,6 @@ pub put_same : (content : Content) (name group_name : List ℕ) (key : Key) (was
 put_same content name group_name key was found has =
     ap (λ (groups : NameMap State). insert content name (record { stream = key.stream; groups = groups })) (insert-same key.groups group_name was has)
     ∙ insert-same content name key found
-
-pub no-error-taken : (just_id : Bool) (entries : List (Id × List Field)) (ids : List Id) → is_error (taken_reply just_id entries ids) ≡ false
-no-error-taken true entries ids = refl
-no-error-taken false entries ids = refl
 
 -- what is said of a group
 pub said-of : (content : Content) (name group_name : List ℕ) (key : Key) (was : State) → get content name ≡ Some key → get key.groups group_name ≡ Some was

@@ -342,9 +342,6 @@ step-read : (c : Content) (past : List (ℕ × Command)) (now : ℕ) (read : Rea
     → Holds (cond (serves c read) (read_each c now read read.reads) c) (key_life past)
     (λ q g. cond (is_name g read.group && list_all (λ one. is_some (group_life past one.key read.group)) read.reads) (life_after_reads now (present_in (key_life past q)) read q read.reads (group_life past q g)) (group_life past q g))
 step-read c past now read h = by (serves c read) (serves-known read.reads c past read.group h) where
-  kept_lives : (q : List ℕ) → List ℕ → Bool → Option GroupLife
-  kept_lives q g t = cond (is_name g read.group && t) (life_after_reads now (present_in (key_life past q)) read q read.reads (group_life past q g)) (group_life past q g)
-
   whole : (a : Bool) (x y : Option GroupLife) → cond a x y ≡ cond (a && true) x y
   whole true x y = refl
   whole false x y = refl

@@ -32,4 +32,5 @@ pub mod Streams
 pub mod Takings
 pub mod Tellings
 pub mod Touches
+pub mod Truths
 pub mod WholeReplies

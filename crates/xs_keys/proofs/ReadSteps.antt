@@ -5,7 +5,7 @@ use Rattle.std.proofs.lemmas.Bool.{false≢true}
 use Rattle.xs_group.specs.declared.delivery.Delivery.{Delivery}
 use Rattle.xs_group.specs.State.{State, Rows, is_name, delivers}
 use Rattle.xs_group.specs.Delivered.{row_ids, new_rows, shown_rows, IsMade}
-use Rattle.xs_keys.specs.Ground.{flat_map, list_all, option_map_or, NameMap, get, insert, Id, Field, ids_of, ReadGroupCommand, ReadOne, ReadFrom, New, After, Reply}
+use Rattle.xs_keys.specs.Ground.{flat_map, list_all, option_map_or, NameMap, get, insert, Id, Field, ids_of, ReadGroupCommand, ReadOne, ReadFrom, New, After}
 use Rattle.xs_keys.specs.declared.xreadgroup.Served.{Served}
 use Rattle.xs_keys.specs.Ask.{Ask}
 use Rattle.xs_keys.specs.GroupLife.{ask_of_read}
@@ -13,10 +13,9 @@ use Rattle.xs_keys.specs.Content.{Content, Key}
 use Rattle.xs_keys.specs.After.{asked, read_each, group_after, with_group, group_in, entries_in}
 use Rattle.xs_resp.specs.Token.{Token}
 use Rattle.xs_resp.specs.ReplyItems.{tokens_of}
-use Rattle.xs_keys.specs.Step.{is_error}
 use Rattle.xs_keys.specs.Reply.{shown_by, parts}
-use Rattle.xs_keys.specs.ReplyParts.{new_part, array_or_null}
-use Rattle.xs_keys.specs.Reading.{ids_shown, part_of, parts_of, IsServed, IsServedAt, IsMadeAt, AreMade}
+use Rattle.xs_keys.specs.ReplyParts.{new_part}
+use Rattle.xs_keys.specs.Reading.{parts_of, IsServed, IsServedAt, IsMadeAt, AreMade}
 use Rattle.xs_keys.proofs.Names.{get-insert, is_name-eq, is_name-refl, same_map}
 
 pub ids-new : (ids : List Id) → row_ids (new_rows ids) ≡ ids
@@ -26,12 +25,6 @@ ids-new (x ∷ xs) = ap (λ rest. x ∷ rest) (ids-new xs)
 pub ids-shown : (rows : Rows) (present ids : List Id) → row_ids (shown_rows rows present ids) ≡ ids
 ids-shown rows present [] = refl
 ids-shown rows present (x ∷ xs) = ap (λ rest. x ∷ rest) (ids-shown rows present xs)
-
--- the part of a read is that of the ids that it shows
-pub shows-part : (read : ReadGroupCommand) (key : List ℕ) (from : ReadFrom) (entries : List (Id × List Field)) (group : State)
-    → part_of from key entries (ids_shown read from (ids_of entries) group) ≡ shown_by read key from entries group
-shows-part read key New entries group = refl
-shows-part read key (After id) entries group = refl
 
 -- what was put in goes where the value before it is put in again
 pub insert-back : {X : Type 0} (m : NameMap X) (name : List ℕ) (a b : X) → get m name ≡ Some b → insert (insert m name a) name b ≡ m
@@ -147,42 +140,37 @@ module _ (group name : List ℕ) (before after : Content) (d : Delivery) (m : Is
 
 -- ---- several reads, one more of them
 
-module _ (now : ℕ) (read : ReadGroupCommand) (one : ReadOne) (more : List ReadOne) (before after : Content) (tokens longer : List Token) (served : Served) (s : IsServedAt now read one before after tokens longer served) where
-  pub content-more : (whole : Content) → read_each before now read (one ∷ more) ≡ whole → read_each after now read more ≡ whole
-  content-more whole e = ap (λ c. read_each c now read more) s.left ∙ e
-
-  abbrev this : List Reply
-  this = parts_of before read one
-
-  split : parts before now read (one ∷ more) ≡ this ++ parts after now read more
-  split = ap (λ c. this ++ parts c now read more) (sym s.left)
-
-  pub tokens-more : (whole : List Token) → tokens ++ flat_map tokens_of (parts before now read (one ∷ more)) ≡ whole
-      → longer ++ flat_map tokens_of (parts after now read more) ≡ whole
-  tokens-more whole e =
-      ap (λ all. all ++ flat_map tokens_of (parts after now read more)) s.shows.appended
-      ∙ append_assoc tokens (flat_map tokens_of this) (flat_map tokens_of (parts after now read more))
-      ∙ ap (λ rest. tokens ++ rest) (sym (flat_map-append tokens_of this (parts after now read more)) ∙ ap (flat_map tokens_of) (sym split))
-      ∙ e
-
-  pub count-more : (count whole : ℕ) → count + length (parts before now read (one ∷ more)) ≡ whole
-      → (count + served.parts) + length (parts after now read more) ≡ whole
-  count-more count whole e =
-      omega (arith, e, ap length split, length-append this (parts after now read more), s.shows.counted)
-
-  pub there-more : list_all (λ one. is_some (group_in (get before one.key) read.group)) (one ∷ more) ≡ true
-      → list_all (λ one. is_some (group_in (get after one.key) read.group)) more ≡ true
-  there-more h = all-stay read.group one.key before after served.delivery s.made more
-      (by (is_some (group_in (get before one.key) read.group)) h) where
-        by : (t : Bool) → (t && list_all (λ one. is_some (group_in (get before one.key) read.group)) more) ≡ true → list_all (λ one. is_some (group_in (get before one.key) read.group)) more ≡ true
-        by true h = h
-        by false h = absurd (false≢true h)
-
 pub first-there : (test : ReadOne → Bool) (one : ReadOne) (more : List ReadOne) → list_all test (one ∷ more) ≡ true → test one ≡ true
 first-there test one more h = by (test one) h where
   by : (t : Bool) → (t && list_all test more) ≡ true → t ≡ true
   by true h = refl
   by false h = absurd (false≢true h)
+
+-- of all these reads some are left, and lead to where all of them would
+pub record Underway (now : ℕ) (read : ReadGroupCommand) (all : List ReadOne) (first : Content) (left : List ReadOne) (here : Content) (tokens : List Token) (count : ℕ) : Type 0 where
+  pub content : read_each here now read left ≡ read_each first now read all
+  pub shown : tokens ++ flat_map tokens_of (parts here now read left) ≡ flat_map tokens_of (parts first now read all)
+  pub counted : count + length (parts here now read left) ≡ length (parts first now read all)
+  pub there : list_all (λ one. is_some (group_in (get here one.key) read.group)) left ≡ true
+
+pub one-more : (now : ℕ) (read : ReadGroupCommand) (all : List ReadOne) (first : Content) (one : ReadOne) (more : List ReadOne) (before after : Content) (tokens longer : List Token) (count : ℕ) (served : Served)
+    → Underway now read all first (one ∷ more) before tokens count → IsServedAt now read one before after tokens longer served → Underway now read all first more after longer (count + served.parts)
+one-more now read all first one more before after tokens longer count served u s =
+    let this = parts_of before read one in
+    let split : parts before now read (one ∷ more) ≡ this ++ parts after now read more = ap (λ c. this ++ parts c now read more) (sym s.left) in
+    record {
+      content = ap (λ c. read_each c now read more) s.left ∙ u.content;
+      shown =
+          ap (λ ts. ts ++ flat_map tokens_of (parts after now read more)) s.shows.appended
+          ∙ append_assoc tokens (flat_map tokens_of this) (flat_map tokens_of (parts after now read more))
+          ∙ ap (λ rest. tokens ++ rest) (sym (flat_map-append tokens_of this (parts after now read more)) ∙ ap (flat_map tokens_of) (sym split))
+          ∙ u.shown;
+      counted = omega (arith, u.counted, ap length split, length-append this (parts after now read more), s.shows.counted);
+      there = all-stay read.group one.key before after served.delivery s.made more (by (is_some (group_in (get before one.key) read.group)) u.there);
+    } where
+      by : (t : Bool) → (t && list_all (λ one. is_some (group_in (get before one.key) read.group)) more) ≡ true → list_all (λ one. is_some (group_in (get before one.key) read.group)) more ≡ true
+      by true h = h
+      by false h = absurd (false≢true h)
 
 -- a read has one part at most
 pub one-part : (read : ReadGroupCommand) (key : List ℕ) (from : ReadFrom) (entries : List (Id × List Field)) (group : Option State)
@@ -201,8 +189,3 @@ parts-le content now read (one ∷ more) =
     let this = parts_of content read one in
     let after = asked content now one.key read.group (ask_of_read read one.from) in
     omega (arith, one-part read one.key one.from (entries_in (get content one.key)) (group_in (get content one.key) read.group), parts-le after now read more, length-append this (parts after now read more))
-
--- what is served is never an error
-pub no-error : (replies : List Reply) → is_error (array_or_null replies) ≡ false
-no-error [] = refl
-no-error (r ∷ rs) = refl
