@@ -1,15 +1,11 @@
 -- What a claim takes is assigned to its consumer, and nothing else changes hands.
-use Rattle.std.proofs.Common.{◌≡◌, ℕ, Bool, true, false, cond, List, ◌∷◌, Option, Some, None, option_and_then, is_some, sym, ap, ◌∙◌, refl}
+use Rattle.std.proofs.Common.{◌≡◌, ℕ, true, false, List, ◌∷◌, Option, Some, None, option_and_then, is_some, sym, ap, ◌∙◌, refl}
 use Rattle.std.proofs.lemmas.Bool.{false≢true}
-use Rattle.xs_stream.specs.declared.id.Id.{Id}
-use Rattle.xs_stream.specs.Id.{has_id}
 use Rattle.xs_group.specs.declared.claims.Claim.{Claim}
-use Rattle.xs_group.specs.State.{Row}
-use Rattle.xs_group.specs.Claims.{Rule, claimed, claimed_row}
+use Rattle.xs_group.specs.Claims.{Rule, claimed}
+use Rattle.xs_keys.specs.Ground.{Id, has_id, Row}
 use Rattle.xs_keys.specs.Ask.{Ask, claim, auto_claim}
 use Rattle.xs_keys.specs.GroupEvent.{GroupEvent, claim_of_event, pending_row_at, rows}
-use Rattle.xs_keys.specs.Owner.{owner}
-use Rattle.xs_keys.specs.GroupLife.{GroupLife}
 use Rattle.xs_keys.specs.Told.{IsAssigned}
 use Rattle.xs_keys.proofs.Owners.{claimed-over, owner-row, row-found, of_row}
 

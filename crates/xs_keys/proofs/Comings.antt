@@ -2,23 +2,12 @@
 use Rattle.std.proofs.Common.{◌≡◌, ◌⊎◌, inl, inr, ℕ, Bool, true, false, cond, ◌&&◌, List, [], ◌∷◌, Option, Some, None, is_some, sym, ap, subst, ◌∙◌, refl}
 use Rattle.std.proofs.lemmas.Bool.{false≢true}
 use Rattle.std.proofs.lemmas.List.{append-nil}
-use Rattle.std.specs.List.{list_all}
-use Rattle.std.specs.Option.{option_map, option_map_or}
-use Rattle.xs_stream.specs.declared.id.Id.{Id}
-use Rattle.xs_stream.specs.declared.field.Field.{Field}
-use Rattle.xs_stream.specs.Id.{zero_id}
-use Rattle.xs_group.specs.State.{is_name}
-use Rattle.xs_command.specs.declared.command.Command.{Command}
-use Rattle.xs_command.specs.declared.command.Command.TheVariants.{Ping, Quit, Add, Delete, TrimTo, Len, Scan, GroupCreate, GroupDestroy, ConsumerCreate, ConsumerDelete, ReadGroup, Ack, Pending, PendingRows, Claim, AutoClaim, DropKeys}
-use Rattle.xs_command.specs.declared.command.GroupCreateCommand.{GroupCreateCommand}
-use Rattle.xs_command.specs.declared.command.GroupStart.{GroupStart}
-use Rattle.xs_command.specs.declared.command.GroupStart.TheVariants.{Top, At}
-use Rattle.xs_command.specs.declared.command.ReadGroupCommand.{ReadGroupCommand}
-use Rattle.xs_command.specs.declared.command.ReadOne.{ReadOne}
+use Rattle.xs_keys.specs.Ground.{list_all, option_map, option_map_or, Id, Field, zero_id, is_name, Command, Ping, Quit, Add, Delete, TrimTo, Len, Scan, GroupCreate, GroupDestroy, ConsumerCreate, ConsumerDelete, ReadGroup, Ack, Pending, PendingRows, Claim, AutoClaim, DropKeys, GroupCreateCommand, GroupStart, Top, At}
 use Rattle.xs_keys.specs.Life.{Change, added, deleted, trimmed_to, is_listed, opened, key_life_after, key_life, given_in, top, top_of}
 use Rattle.xs_keys.specs.Ask.{Ask, join, leave, ack, claim, auto_claim}
-use Rattle.xs_keys.specs.GroupLife.{GroupLife, present_in, starting_id, new_life, life_after_ask, ask_of_read, life_after_reads, group_life_after, reads_of, group_of, group_life}
+use Rattle.xs_keys.specs.GroupLife.{GroupLife, present_in, starting_id, new_life, life_after_ask, group_life_after, reads_of, group_of, group_life}
 use Rattle.xs_keys.specs.Presence.{adds_or_drops, EntriesAreAdded, StartsBehind, MakesGroup, GroupsAreCreated}
+use Rattle.xs_keys.proofs.Lives.{no-life-read}
 use Rattle.xs_keys.proofs.JobPlaces.{life_of}
 
 -- ---- entries
@@ -73,11 +62,6 @@ asked-none : (now : ℕ) (present : List Id) (ask : Ask) (t : Bool) → cond t (
 asked-none now present ask true = refl
 asked-none now present ask false = refl
 
-read-none : (now : ℕ) (present : List Id) (read : ReadGroupCommand) (key : List ℕ) (reads : List ReadOne) → life_after_reads now present read key reads None ≡ None
-read-none now present read key [] = refl
-read-none now present read key (one ∷ more) =
-    ap (life_after_reads now present read key more) (asked-none now present (ask_of_read read one.from) (is_name key one.key)) ∙ read-none now present read key more
-
 either-none : (t : Bool) (life : Option GroupLife) → life ≡ None → cond t life None ≡ None
 either-none true life e = e
 either-none false life e = refl
@@ -116,7 +100,7 @@ makes-group now (GroupDestroy name g) key group served stream life e = never _ (
 makes-group now (ConsumerCreate name g consumer) key group served stream life e = never _ (asked-none now (present_in stream) (join consumer) (is_name key name && is_name group g)) life e
 makes-group now (ConsumerDelete name g consumer) key group served stream life e = never _ (asked-none now (present_in stream) (leave consumer) (is_name key name && is_name group g)) life e
 makes-group now (ReadGroup read) key group served stream life e =
-    never _ (either-none (is_name group read.group && served) _ (read-none now (present_in stream) read key read.reads)) life e
+    never _ (either-none (is_name group read.group && served) _ (no-life-read now (present_in stream) read key read.reads)) life e
 makes-group now (Ack name g ids) key group served stream life e = never _ (asked-none now (present_in stream) (ack ids) (is_name key name && is_name group g)) life e
 makes-group now (Pending name g) key group served stream life e = false≢true (ap is_some e)
 makes-group now (PendingRows rows) key group served stream life e = false≢true (ap is_some e)

@@ -1,20 +1,10 @@
 -- The content that a history leaves: the empty one, one event more, and that there is one.
 use Rattle.std.proofs.Common.{◌≡◌, ℕ, Bool, true, false, cond, ◌||◌, ◌&&◌, List, [], ◌∷◌, Option, Some, None, is_some, sym, ap, ◌∙◌, refl, subst}
 use Rattle.std.proofs.lemmas.Bool.{false≢true}
-use Rattle.std.specs.Option.{option_map, option_map_or, option_or}
-use Rattle.std.specs.List.{list_all}
-use Rattle.xs_bytes.specs.SortedMap.{NameMap, empty, get, has_key, insert, remove}
 use Rattle.xs_bytes.proofs.SortedMaps.{get-empty, same_entries_map}
 use Rattle.std.specs.Ordering.{nat_cmp}
 use Rattle.std.specs.Cmp.Lexicographic.{slice_cmp}
-use Rattle.xs_stream.specs.declared.id.Id.{Id}
-use Rattle.xs_stream.specs.Kept.{Ascends, ids_of}
-use Rattle.xs_group.specs.State.{State, is_name, new_group}
-use Rattle.xs_command.specs.declared.command.Command.{Command}
-use Rattle.xs_command.specs.declared.command.Command.TheVariants.{Ping, Quit, Add, Delete, TrimTo, Len, Scan, GroupCreate, GroupDestroy, ConsumerCreate, ConsumerDelete, ReadGroup, Ack, Pending, PendingRows, Claim, AutoClaim, DropKeys}
-use Rattle.xs_command.specs.declared.command.GroupCreateCommand.{GroupCreateCommand}
-use Rattle.xs_command.specs.declared.command.ReadGroupCommand.{ReadGroupCommand}
-use Rattle.xs_command.specs.declared.command.ReadOne.{ReadOne}
+use Rattle.xs_keys.specs.Ground.{option_map, option_map_or, option_or, list_all, NameMap, empty, get, has_key, insert, remove, Id, Ascends, ids_of, State, is_name, new_group, Command, Ping, Quit, Add, Delete, TrimTo, Len, Scan, GroupCreate, GroupDestroy, ConsumerCreate, ConsumerDelete, ReadGroup, Ack, Pending, PendingRows, Claim, AutoClaim, DropKeys, GroupCreateCommand, ReadGroupCommand, ReadOne}
 use Rattle.xs_keys.specs.Life.{Change, added, deleted, trimmed_to, is_listed, opened, key_life}
 use Rattle.xs_keys.specs.Ask.{Ask, join, leave, ack, claim, auto_claim}
 use Rattle.xs_keys.specs.GroupLife.{GroupLife, present_in, starting_id, new_life, life_after_ask, ask_of_read, life_after_reads, group_life}
@@ -352,9 +342,6 @@ step-read : (c : Content) (past : List (ℕ × Command)) (now : ℕ) (read : Rea
     → Holds (cond (serves c read) (read_each c now read read.reads) c) (key_life past)
     (λ q g. cond (is_name g read.group && list_all (λ one. is_some (group_life past one.key read.group)) read.reads) (life_after_reads now (present_in (key_life past q)) read q read.reads (group_life past q g)) (group_life past q g))
 step-read c past now read h = by (serves c read) (serves-known read.reads c past read.group h) where
-  kept_lives : (q : List ℕ) → List ℕ → Bool → Option GroupLife
-  kept_lives q g t = cond (is_name g read.group && t) (life_after_reads now (present_in (key_life past q)) read q read.reads (group_life past q g)) (group_life past q g)
-
   whole : (a : Bool) (x y : Option GroupLife) → cond a x y ≡ cond (a && true) x y
   whole true x y = refl
   whole false x y = refl

@@ -1,13 +1,12 @@
 -- New deliveries of a life: they ascend, and are what was in the stream at its turn.
-use Rattle.std.proofs.Common.{◌≡◌, Bool, true, false, not, ◌&&◌, ◌||◌, List, [], ◌∷◌, sym, ap, ◌∙◌, refl}
+use Rattle.std.proofs.Common.{◌≡◌, Bool, true, false, not, ◌&&◌, List, [], ◌∷◌, sym, ap, ◌∙◌, refl}
 use Rattle.std.proofs.lemmas.Bool.{false≢true}
-use Rattle.xs_stream.specs.declared.id.Id.{Id}
-use Rattle.xs_stream.specs.Id.{is_below, has_id}
-use Rattle.xs_stream.specs.Kept.{Ascends, AllAbove}
+use Rattle.xs_keys.specs.Ground.{Id, is_below, has_id, Ascends, AllAbove}
 use Rattle.xs_keys.specs.Life.{greatest}
 use Rattle.xs_keys.specs.Ask.{Ask, read_new, read_own, ack, join, leave, claim, auto_claim, new_ids_of_ask}
 use Rattle.xs_keys.specs.GroupEvent.{GroupEvent, delivered, cursor, new_ids_of_event}
 use Rattle.xs_keys.specs.EachDelivery.{HadItsTurn}
+use Rattle.xs_keys.proofs.Truths.{none_or, or_none}
 use Rattle.xs_keys.proofs.IdLists.{above-delivers, ascends-delivers, ascends-append, above-lower, not_above, has_id-append, delivers-up_to, above-append, not_among}
 use Rattle.xs_keys.proofs.Streams.{greatest-up}
 use Rattle.xs_keys.proofs.GroupSteps.{up_to-delivered, cursor-step}
@@ -83,13 +82,6 @@ had-event start (event ∷ past) x h low high = by (is_below (cursor start past)
   not_new : is_below (cursor start past) x ≡ false → has_id new x ≡ false
   not_new up = not_above (cursor start past) x new up (above-after start past event)
 
-  or-none : (a b : Bool) → b ≡ false → (a || b) ≡ a
-  or-none true b e = refl
-  or-none false b e = e
-
-  none-or : (a b : Bool) → a ≡ false → (a || b) ≡ b
-  none-or a b e = rw e refl
-
   -- an id above the cursor before was not delivered before
   not_old : is_below (cursor start past) x ≡ true → has_id (delivered start past) x ≡ false
   not_old e = not_among (cursor start past) (delivered start past) x e (up_to-delivered start past)
@@ -101,7 +93,7 @@ had-event start (event ∷ past) x h low high = by (is_below (cursor start past)
     earlier = past;
     among = refl;
     theirs = both_turns (is_below (cursor start past) x) (is_below (cursor start (event ∷ past)) x) e high;
-    exactly = has_id-append (delivered start past) new x ∙ none-or _ (has_id new x) (not_old e)
+    exactly = has_id-append (delivered start past) new x ∙ none_or _ (has_id new x) (not_old e)
         ∙ exactly-at event.ask event.present (cursor start past) x h.0 e (ap (λ c. is_below c x) (sym (cursor-step start event past)) ∙ high);
   }
   by false e before =
@@ -112,5 +104,5 @@ had-event start (event ∷ past) x h low high = by (is_below (cursor start past)
         earlier = had.earlier;
         among = ap (λ ts. event ∷ ts) had.among;
         theirs = had.theirs;
-        exactly = has_id-append (delivered start past) new x ∙ or-none _ (has_id new x) (not_new e) ∙ had.exactly;
+        exactly = has_id-append (delivered start past) new x ∙ or_none _ (has_id new x) (not_new e) ∙ had.exactly;
       }

@@ -1,10 +1,9 @@
 -- The first of some ids, at most so many.
-use Rattle.std.proofs.Common.{◌≡◌, ◌⊎◌, inl, inr, ℕ, ◌≤◌, Bool, true, false, ◌||◌, List, [], ◌∷◌, length, take, Option, Some, None, zero, suc, sym, ap, subst, ◌∙◌, refl, arith}
+use Rattle.std.proofs.Common.{◌≡◌, ◌⊎◌, inl, inr, ℕ, ◌≤◌, Bool, true, false, ◌||◌, List, [], ◌∷◌, length, take, Option, Some, None, zero, suc, ap, subst, refl, arith}
 use Rattle.std.proofs.lemmas.Bool.{false≢true}
-use Rattle.xs_stream.specs.declared.id.Id.{Id}
 use Rattle.xs_stream.specs.Id.{is_below, is_same, has_id}
-use Rattle.xs_stream.specs.Kept.{Ascends, AllUpTo, limited}
 use Rattle.xs_stream.proofs.Order.{below-not_back}
+use Rattle.xs_keys.specs.Ground.{Id, Ascends, AllUpTo, limited}
 use Rattle.xs_keys.specs.Telling.{AreFirst}
 use Rattle.xs_keys.proofs.IdLists.{ascends-limited}
 use Rattle.xs_keys.proofs.Sights.{above-has, limited-has}

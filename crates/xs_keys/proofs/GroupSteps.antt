@@ -4,11 +4,8 @@ use Rattle.std.proofs.lemmas.List.{append-nil}
 use Rattle.xs_bytes.specs.Each.{each}
 use Rattle.xs_bytes.specs.SortedMap.{empty, get, change, remove}
 use Rattle.xs_bytes.proofs.SortedMaps.{get-empty}
-use Rattle.xs_stream.specs.declared.id.Id.{Id}
-use Rattle.xs_stream.specs.Id.{has_id}
-use Rattle.xs_stream.specs.Kept.{Ascends, AllAbove, AllUpTo}
 use Rattle.xs_group.specs.State.{Row, Rows, State, Names, is_name, has_name, with_name, delivers, last_of, first_row, with_rows, delivered_to, shown, reread, reread_by, new_group, acked, unless_acked, unless_owned, without_consumer}
-use Rattle.xs_group.specs.Claims.{Rule, claimed, claim_of, scan_of}
+use Rattle.xs_keys.specs.Ground.{Id, has_id, Ascends, AllAbove, AllUpTo, Rule, claimed, claim_of, scan_of}
 use Rattle.xs_keys.specs.Life.{greatest}
 use Rattle.xs_keys.specs.Ask.{Ask, read_new, read_own, ack, join, leave, claim, auto_claim}
 use Rattle.xs_keys.specs.GroupEvent.{GroupEvent, new_ids_of_event, delivered, cursor, is_consumer, rows_among, pending_row_at, rows}

@@ -1,11 +1,10 @@
 -- Lists of ids that ascend.
 use Rattle.std.proofs.Common.{◌≡◌, ℕ, zero, suc, Bool, true, false, cond, ◌&&◌, ◌||◌, List, [], ◌∷◌, ◌++◌, filter, take, Option, Some, None, sym, ap, ◌∙◌, refl}
-use Rattle.std.proofs.lemmas.Bool.{false≢true}
-use Rattle.xs_stream.specs.declared.id.Id.{Id}
+use Rattle.std.proofs.lemmas.Bool.{false≢true, and_right}
 use Rattle.xs_stream.specs.Id.{is_below, is_same, has_id}
-use Rattle.xs_stream.specs.Kept.{Ascends, AllAbove, AllUpTo, limited}
 use Rattle.xs_stream.proofs.Order.{is_same-eq, is_same-symm, below-not_same, up_to-below, not_above-trans}
 use Rattle.xs_group.specs.State.{delivers, last_of}
+use Rattle.xs_keys.specs.Ground.{Id, Ascends, AllAbove, AllUpTo, limited}
 use Rattle.xs_keys.specs.Life.{greatest}
 
 above-filter : (p : Id → Bool) (a : Id) (xs : List Id) → AllAbove a xs → AllAbove a (filter p xs)
@@ -104,13 +103,9 @@ not_among a [] x e up = refl
 not_among a (y ∷ ys) x e up =
     rw (is_same-symm x y, below-not_same y x (up_to-below a y x up.0 e)) (not_among a ys x e up.1)
 
-and-false : (b : Bool) → (b && false) ≡ false
-and-false true = refl
-and-false false = refl
-
 -- what a test passes
 pub has_id-where : (p : Id → Bool) (xs : List Id) (x : Id) → has_id (filter p xs) x ≡ (p x && has_id xs x)
-has_id-where p [] x = sym (and-false (p x))
+has_id-where p [] x = sym (and_right (p x) false refl)
 has_id-where p (y ∷ ys) x = by (p y) refl (is_same x y) refl (has_id-where p ys x) where
   by : (t : Bool) → p y ≡ t → (s : Bool) → is_same x y ≡ s → has_id (filter p ys) x ≡ (p x && has_id ys x)
       → has_id (cond t (y ∷ filter p ys) (filter p ys)) x ≡ (p x && (is_same x y || has_id ys x))

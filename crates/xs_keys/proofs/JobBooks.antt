@@ -1,35 +1,29 @@
 -- The given entries by their places: what waits, what is pending with whom, and that all of them add up.
-use Rattle.std.proofs.Common.{◌≡◌, ℕ, ◌+◌, Bool, true, false, cond, ◌&&◌, ◌||◌, List, [], ◌∷◌, filter, map, length, Option, Some, None, is_some, option_and_then, sym, ap, subst, ◌∙◌, refl, arith}
-use Rattle.std.proofs.lemmas.Bool.{false≢true}
+use Rattle.std.proofs.Common.{◌≡◌, ℕ, ◌+◌, Bool, true, false, cond, ◌&&◌, List, [], ◌∷◌, filter, map, length, Option, Some, None, is_some, option_and_then, sym, ap, subst, ◌∙◌, refl, arith}
+use Rattle.std.proofs.lemmas.Bool.{false≢true, or_left}
 use Rattle.std.proofs.lemmas.List.{length-map}
-use Rattle.std.specs.Option.{option_map_or}
-use Rattle.xs_bytes.specs.Each.{with_some}
-use Rattle.xs_stream.specs.declared.id.Id.{Id}
 use Rattle.xs_stream.specs.Id.{is_below, is_same, has_id}
-use Rattle.xs_stream.specs.Kept.{ids_of, Ascends, AllAbove}
 use Rattle.xs_stream.proofs.Order.{is_same-eq, is_same-refl, is_same-symm, below-not_back}
 use Rattle.xs_group.specs.State.{Row, is_name, delivers, owned}
+use Rattle.xs_keys.specs.Ground.{Command, State, Reply, Int, NullBulk, get, summary_of, option_map_or, with_some, Id, ids_of, Ascends, AllAbove}
 use Rattle.xs_keys.specs.Life.{Change, key_life, given_in, live}
 use Rattle.xs_keys.specs.GroupEvent.{GroupEvent, delivered, cursor, rows_among, pending_row_at, rows}
 use Rattle.xs_keys.specs.Owner.{last_assigned, owner}
 use Rattle.xs_keys.specs.GroupLife.{GroupLife, group_life}
 use Rattle.xs_keys.specs.Content.{Content, Key, IsGroup, GroupHolds, KeyHolds, IsContent}
 use Rattle.xs_keys.specs.ReplyParts.{array, array_or_null, id_reply, of_group, owner_reply, summary_reply}
-use Rattle.xs_keys.specs.Ground.{Command, State, Reply, Int, NullBulk, get, summary_of}
 use Rattle.xs_keys.specs.Place.{Place, before_start, waiting, dropped, handed_out, pending, settled, place_of, StandsAt, HasOnePlace}
 use Rattle.xs_keys.specs.Books.{is_at, is_pending, jobs_at, BooksBalance, TellsPending}
+use Rattle.xs_keys.proofs.Truths.{first_of, second_of, none_or}
 use Rattle.xs_keys.proofs.IdLists.{ascends-where, has_id-where, not_above}
 use Rattle.xs_keys.proofs.Streams.{ascends-given, ascends-live}
 use Rattle.xs_keys.proofs.Deliveries.{PresentAscends, ascends-delivered}
 use Rattle.xs_keys.proofs.Histories.{present-in-life}
 use Rattle.xs_keys.proofs.Owners.{owner-row, of_row, owned-delivered}
-use Rattle.xs_keys.proofs.Sights.{Sees, sees-of, or_first, above-has, delivered-given, live-given}
+use Rattle.xs_keys.proofs.Sights.{Sees, sees-of, above-has, delivered-given, live-given}
 use Rattle.xs_keys.proofs.JobPlaces.{place_by, has-one-place}
 
 -- ---- lists that ascend, and have the same ids, are one
-
-or_truth : (a b : Bool) → a ≡ false → (a || b) ≡ b
-or_truth a b e = rw e refl
 
 -- an id is not above itself
 pub not_itself : (x : Id) (xs : List Id) → AllAbove x xs → has_id xs x ≡ false
@@ -44,14 +38,14 @@ first-same x y xs ys h k e = by (is_same x y) refl where
   by : (t : Bool) → is_same x y ≡ t → x ≡ y
   by true f = is_same-eq x y f
   by false f =
-      let in_ys = sym (or_truth (is_same x y) (has_id ys x) f) ∙ sym (e x) ∙ or_first _ _ (is_same-refl x) in
-      let in_xs = sym (or_truth (is_same y x) (has_id xs y) (is_same-symm y x ∙ f)) ∙ e y ∙ or_first _ _ (is_same-refl y) in
+      let in_ys = sym (none_or (is_same x y) (has_id ys x) f) ∙ sym (e x) ∙ or_left _ _ (is_same-refl x) in
+      let in_xs = sym (none_or (is_same y x) (has_id xs y) (is_same-symm y x ∙ f)) ∙ e y ∙ or_left _ _ (is_same-refl y) in
       absurd (false≢true (sym (below-not_back x y (above-has x xs y h in_xs)) ∙ above-has y ys x k in_ys))
 
 pub ascends-same : (xs ys : List Id) → Ascends xs → Ascends ys → ((z : Id) → has_id xs z ≡ has_id ys z) → xs ≡ ys
 ascends-same [] [] h k e = refl
-ascends-same [] (y ∷ ys) h k e = absurd (false≢true (e y ∙ or_first _ _ (is_same-refl y)))
-ascends-same (x ∷ xs) [] h k e = absurd (false≢true (sym (e x) ∙ or_first _ _ (is_same-refl x)))
+ascends-same [] (y ∷ ys) h k e = absurd (false≢true (e y ∙ or_left _ _ (is_same-refl y)))
+ascends-same (x ∷ xs) [] h k e = absurd (false≢true (sym (e x) ∙ or_left _ _ (is_same-refl x)))
 ascends-same (x ∷ xs) (y ∷ ys) h k e =
     let first = first-same x y xs ys h.0 k.0 e in
     let rest = ascends-same xs ys h.1 k.1 (λ z. by first z (is_same z x) refl) in
@@ -61,7 +55,7 @@ ascends-same (x ∷ xs) (y ∷ ys) h k e =
     by f z true g =
         let is = is_same-eq z x g in
         ap (has_id xs) is ∙ not_itself x xs h.0 ∙ sym (not_itself y ys k.0) ∙ sym (ap (has_id ys) (is ∙ f))
-    by f z false g = sym (or_truth (is_same z x) (has_id xs z) g) ∙ e z ∙ or_truth (is_same z y) (has_id ys z) (ap (is_same z) (sym f) ∙ g)
+    by f z false g = sym (none_or (is_same z x) (has_id xs z) g) ∙ e z ∙ none_or (is_same z y) (has_id ys z) (ap (is_same z) (sym f) ∙ g)
 
 -- ---- rows by their ids
 
@@ -114,14 +108,6 @@ same_truth true false f g = sym (f refl)
 same_truth false true f g = g refl
 same_truth false false f g = refl
 
-first_true : (a b : Bool) → (a && b) ≡ true → a ≡ true
-first_true true b e = refl
-first_true false b e = absurd (false≢true e)
-
-second_true : (a b : Bool) → (a && b) ≡ true → b ≡ true
-second_true true b e = e
-second_true false b e = absurd (false≢true e)
-
 module _ (life : GroupLife) (changes : List Change) (asc : PresentAscends life.events) (sees : Sees changes life.events) where
   place : Id → Place
   place x = place_of life (ids_of (live changes)) x
@@ -141,14 +127,14 @@ module _ (life : GroupLife) (changes : List Change) (asc : PresentAscends life.e
     where
       to : (x : Id) → (is_at waiting (place_of life (ids_of (live changes)) x) && has_id (ids_of (given_in changes)) x) ≡ true → (is_below (cursor life.start life.events) x && has_id (ids_of (live changes)) x) ≡ true
       to x e =
-          let at = waits (place_of life (ids_of (live changes)) x) (first_true _ _ e) in
+          let at = waits (place_of life (ids_of (live changes)) x) (first_of _ _ e) in
           let stands = subst (StandsAt life (ids_of (live changes)) x) at (has-one-place life changes asc sees x).0 in
           λ i. stands.1 i && stands.0 i
 
       from : (x : Id) → (is_below (cursor life.start life.events) x && has_id (ids_of (live changes)) x) ≡ true → (is_at waiting (place_of life (ids_of (live changes)) x) && has_id (ids_of (given_in changes)) x) ≡ true
       from x e =
-          let there = second_true (is_below (cursor life.start life.events) x) _ e in
-          let at = (has-one-place life changes asc sees x).1 waiting (there, first_true _ _ e) in
+          let there = second_of (is_below (cursor life.start life.events) x) _ e in
+          let at = (has-one-place life changes asc sees x).1 waiting (there, first_of _ _ e) in
           let given = live-given changes x there in
           λ i. is_at waiting (sym at i) && given i
 

@@ -1,35 +1,21 @@
 -- What a change of the stream and what a command makes of the place of an entry.
 use Rattle.std.proofs.Common.{◌≡◌, ◌⊎◌, inl, inr, ℕ, ◌+◌, ◌≤◌, Bool, true, false, cond, not, ◌&&◌, ◌||◌, List, [], ◌∷◌, ◌++◌, filter, Option, Some, None, is_some, Result, Ok, Err, is_ok, length, bytes_eq, sym, ap, subst, ◌∙◌, refl, arith, length-append}
+use Rattle.std.proofs.lemmas.Option.{same_Some}
 use Rattle.std.specs.Prelude.{nat_le}
 use Rattle.std.proofs.lemmas.List.{append-nil}
 use Rattle.std.proofs.lemmas.List.Elements.{filter-append}
 use Rattle.std.proofs.lemmas.Bool.Decides.{nat_tests}
-use Rattle.xs_stream.specs.declared.add.AddError.{AddError}
-use Rattle.xs_stream.specs.declared.add.AddId.{AddId}
-use Rattle.xs_stream.specs.declared.field.Field.{Field}
 use Rattle.xs_stream.specs.declared.trim.Trim.TheVariants.{MaxLen, MinId}
 use Rattle.xs_command.specs.declared.command.AddCommand.{AddCommand}
-use Rattle.xs_command.specs.declared.command.GroupStart.{GroupStart}
-use Rattle.xs_command.specs.declared.command.GroupStart.TheVariants.{Top, At}
-use Rattle.std.proofs.lemmas.Bool.{false≢true}
+use Rattle.std.proofs.lemmas.Bool.{false≢true, and_from, or_left, or_right}
 use Rattle.std.specs.List.{list_all, list_any, IsDistinct}
-use Rattle.std.specs.Option.{option_map, option_map_or}
-use Rattle.xs_stream.specs.declared.id.Id.{Id}
-use Rattle.xs_stream.specs.declared.trim.Trim.{Trim}
 use Rattle.xs_stream.specs.Id.{is_below, is_same, has_id, assigned}
 use Rattle.xs_stream.specs.Kept.{AllUpTo, ids_of, is_trimmed, count_above}
-use Rattle.xs_group.specs.State.{Row, is_name}
 use Rattle.xs_group.specs.Claims.{Rule, row_at, is_idle, is_removed, is_taken, claim_among, firsts, from_start, is_hit, scanned}
 use Rattle.xs_command.specs.WellFormed.{IsWellFormed, keys_of}
-use Rattle.xs_command.specs.declared.command.Command.{Command}
-use Rattle.xs_command.specs.declared.command.Command.TheVariants.{Ping, Quit, Add, Delete, TrimTo, Len, Scan, GroupCreate, GroupDestroy, ConsumerCreate, ConsumerDelete, ReadGroup, Ack, Pending, PendingRows, Claim, AutoClaim, DropKeys}
-use Rattle.xs_command.specs.declared.command.GroupCreateCommand.{GroupCreateCommand}
-use Rattle.xs_command.specs.declared.command.ReadGroupCommand.{ReadGroupCommand}
-use Rattle.xs_command.specs.declared.command.ReadOne.{ReadOne}
-use Rattle.xs_command.specs.declared.command.ReadFrom.{ReadFrom}
-use Rattle.xs_command.specs.declared.command.ReadFrom.TheVariants.{New, After}
 use Rattle.xs_command.specs.declared.command.ClaimCommand.{ClaimCommand}
 use Rattle.xs_command.specs.declared.command.AutoClaimCommand.{AutoClaimCommand}
+use Rattle.xs_keys.specs.Ground.{AddError, AddId, Field, GroupStart, Top, At, option_map, option_map_or, Id, Trim, Row, is_name, Command, Ping, Quit, Add, Delete, TrimTo, Len, Scan, GroupCreate, GroupDestroy, ConsumerCreate, ConsumerDelete, ReadGroup, Ack, Pending, PendingRows, Claim, AutoClaim, DropKeys, GroupCreateCommand, ReadGroupCommand, ReadOne, ReadFrom, New, After}
 use Rattle.xs_keys.specs.Life.{Change, added, deleted, trimmed_to, is_listed, opened, key_life_after, key_life, entry_of, gives, given_in, top, drops, stands, live}
 use Rattle.xs_keys.specs.Ask.{Ask, join, leave, ack, claim, auto_claim, new_ids_of_ask, claim_of_ask, consumer_of, keeps_pending, is_acknowledgement_of, drops_consumer}
 use Rattle.xs_keys.specs.GroupEvent.{GroupEvent, delivered, cursor, pending_row_at, rows}
@@ -38,6 +24,7 @@ use Rattle.xs_keys.specs.GroupLife.{GroupLife, present_in, starting_id, new_life
 use Rattle.xs_keys.specs.Place.{Place, before_start, waiting, dropped, handed_out, pending, settled, place_of, place_in, place_after}
 use Rattle.xs_keys.specs.Effect.{deletes_entry, is_trimmed_below_one, trims_entry, reads_new_entries_in, with_noack, claims_by_id, claims_entry, consumer_of_command, acknowledges_entry, removes_consumer, begins_job, ends_group}
 use Rattle.xs_keys.specs.Move.{found_at, HasArrow, HasToMove, trims_new, IsFirstPlace, GoesAlong, is_final, GoesOnFor}
+use Rattle.xs_keys.proofs.Truths.{first_of, second_of, or_false}
 use Rattle.xs_keys.proofs.IdLists.{has_id-append, has_id-where}
 use Rattle.xs_keys.proofs.Streams.{gives-not_new, up_to-live}
 use Rattle.xs_stream.proofs.Order.{below-irrefl, is_same-eq, below-not_back, not_above-trans}
@@ -46,7 +33,7 @@ use Rattle.xs_stream.proofs.InOrder.{ids_of-append}
 use Rattle.xs_keys.proofs.Lives.{others-absent, not-read}
 use Rattle.xs_keys.proofs.Owners.{owner-row, row-found, of_row}
 use Rattle.xs_keys.proofs.Takings.{firsts-has}
-use Rattle.xs_keys.proofs.Sights.{SeesItsKey, sees-life, first_of, second_of, both_of, or_first, or_second, given-more, given-up_to, live-before, has_id-live, delivered-given}
+use Rattle.xs_keys.proofs.Sights.{SeesItsKey, sees-life, given-more, given-up_to, live-before, has_id-live, delivered-given}
 use Rattle.xs_keys.proofs.JobPlaces.{place_by, life_of, Went, stayed, was_handed_out, was_delivered, was_taken, was_settled, went, settled-now, pending-owner, waiting-asked, owner-last}
 
 -- ---- a change of the stream
@@ -262,18 +249,14 @@ or_nothing : (a : Bool) → (a || (false || false)) ≡ true → a ≡ true
 or_nothing true e = refl
 or_nothing false e = e
 
-or_less : (a : Bool) → (a || false) ≡ true → a ≡ true
-or_less true e = refl
-or_less false e = e
-
 ack-causes : (k g : List ℕ) (named : List Id) (key group : List ℕ) → (is_name key k && is_name group g) ≡ true → (ids : List Id) (x : Id) (now : ℕ) → Causes (Ack k g named) key group ids x now (ack named)
 ack-causes k g named key group here ids x now = record {
   hands_out = λ a e f. absurd (false≢true e);
   delivers = λ a e f. absurd (false≢true e);
   takes = λ es e. absurd (false≢true e);
-  settles = λ es name e. or_first _ _ (both_of (is_name key k && is_name group g) (has_id named x) here (or_nothing (has_id named x) e));
+  settles = λ es name e. or_left _ _ (and_from (is_name key k && is_name group g) (has_id named x) here (or_nothing (has_id named x) e));
   no_deletion = refl;
-  must = λ es found name e. or_first _ _ (second_of (is_name key k && is_name group g) (has_id named x) (or_nothing _ e));
+  must = λ es found name e. or_left _ _ (second_of (is_name key k && is_name group g) (has_id named x) (or_nothing _ e));
 }
 
 leave-causes : (k g consumer key group : List ℕ) → (is_name key k && is_name group g) ≡ true → (ids : List Id) (x : Id) (now : ℕ) → Causes (ConsumerDelete k g consumer) key group ids x now (leave consumer)
@@ -281,9 +264,9 @@ leave-causes k g consumer key group here ids x now = record {
   hands_out = λ a e f. absurd (false≢true e);
   delivers = λ a e f. absurd (false≢true e);
   takes = λ es e. absurd (false≢true e);
-  settles = λ es name e. or_first _ _ (both_of (is_name key k && is_name group g) (is_name name consumer) here (or_less (is_name name consumer) e));
+  settles = λ es name e. or_left _ _ (and_from (is_name key k && is_name group g) (is_name name consumer) here (or_false (is_name name consumer) e));
   no_deletion = refl;
-  must = λ es found name e. or_first _ _ (second_of (is_name key k && is_name group g) (is_name name consumer) (or_less _ e));
+  must = λ es found name e. or_left _ _ (second_of (is_name key k && is_name group g) (is_name name consumer) (or_false _ e));
 }
 
 among-taken : (es : List (Id × Row)) (present : List Id) (now : ℕ) (rule : Rule) (ids : List Id) (x : Id) → has_id (claim_among es present now rule ids).take x ≡ true → (has_id ids x ≡ true) × (has_id present x ≡ true)
@@ -302,16 +285,16 @@ claim-causes c key group here ids x now = record {
   delivers = λ a e f. absurd (false≢true e);
   takes = λ es e.
       let t = among-taken es ids now c.rule (firsts c.ids) x e in
-      (both_of _ (has_id ids x) (both_of (is_name key c.key && is_name group c.group) (has_id c.ids x) here (sym (firsts-has c.ids x) ∙ t.0)) t.1, refl);
+      (and_from _ (has_id ids x) (and_from (is_name key c.key && is_name group c.group) (has_id c.ids x) here (sym (firsts-has c.ids x) ∙ t.0)) t.1, refl);
   settles = λ es name e.
       let t = among-removed es ids now c.rule (firsts c.ids) x e in
-      both_of _ (not (has_id ids x)) (both_of (is_name key c.key && is_name group c.group) (has_id c.ids x) here (sym (firsts-has c.ids x) ∙ t.0)) t.1;
+      and_from _ (not (has_id ids x)) (and_from (is_name key c.key && is_name group c.group) (has_id c.ids x) here (sym (firsts-has c.ids x) ∙ t.0)) t.1;
   no_deletion = refl;
   must = λ es found name e.
       let named = second_of (is_name key c.key && is_name group c.group) (has_id c.ids x) (first_of ((is_name key c.key && is_name group c.group) && has_id c.ids x) (not (has_id ids x)) e) in
       has_id-where (is_removed es ids) (firsts c.ids) x
-      ∙ both_of (is_removed es ids x) (has_id (firsts c.ids) x)
-      (both_of (is_some (row_at es x)) (not (has_id ids x)) found (second_of ((is_name key c.key && is_name group c.group) && has_id c.ids x) (not (has_id ids x)) e))
+      ∙ and_from (is_removed es ids x) (has_id (firsts c.ids) x)
+      (and_from (is_some (row_at es x)) (not (has_id ids x)) found (second_of ((is_name key c.key && is_name group c.group) && has_id c.ids x) (not (has_id ids x)) e))
       (firsts-has c.ids x ∙ named);
 }
 
@@ -320,9 +303,9 @@ auto_claim-causes : (c : AutoClaimCommand) (key group : List ℕ) → (is_name k
 auto_claim-causes c key group here ids x now = record {
   hands_out = λ a e f. absurd (false≢true e);
   delivers = λ a e f. absurd (false≢true e);
-  takes = λ es e. (both_of ((is_name key c.key && is_name group c.group) || false) (has_id ids x) (or_first _ _ here) (among-taken es ids now c.rule (scanned (is_hit es ids now c.rule) c.limit (from_start c.start es)) x e).1, refl);
+  takes = λ es e. (and_from ((is_name key c.key && is_name group c.group) || false) (has_id ids x) (or_left _ _ here) (among-taken es ids now c.rule (scanned (is_hit es ids now c.rule) c.limit (from_start c.start es)) x e).1, refl);
   settles = λ es name e.
-      both_of ((is_name key c.key && is_name group c.group) || false) (not (has_id ids x)) (or_first _ _ here) (among-removed es ids now c.rule (scanned (is_hit es ids now c.rule) c.limit (from_start c.start es)) x e).1;
+      and_from ((is_name key c.key && is_name group c.group) || false) (not (has_id ids x)) (or_left _ _ here) (among-removed es ids now c.rule (scanned (is_hit es ids now c.rule) c.limit (from_start c.start es)) x e).1;
   no_deletion = refl;
   must = λ es found name e. absurd (false≢true e);
 }
@@ -330,8 +313,8 @@ auto_claim-causes c key group here ids x now = record {
 read-causes : (read : ReadGroupCommand) (from : ReadFrom) (key group : List ℕ) → is_name group read.group ≡ true → (is_new from ≡ true → reads_new_entries (ReadGroup read) key ≡ true) → (ids : List Id) (x : Id) (now : ℕ)
     → Causes (ReadGroup read) key group ids x now (ask_of_read read from)
 read-causes read New key group here asks ids x now = record {
-  hands_out = λ a e f. both_of (is_name group read.group && reads_new_entries (ReadGroup read) key) read.noack (both_of (is_name group read.group) (reads_new_entries (ReadGroup read) key) here (asks refl)) (by read.noack f);
-  delivers = λ a e f. (both_of (is_name group read.group && reads_new_entries (ReadGroup read) key) (not read.noack) (both_of (is_name group read.group) (reads_new_entries (ReadGroup read) key) here (asks refl)) f, refl);
+  hands_out = λ a e f. and_from (is_name group read.group && reads_new_entries (ReadGroup read) key) read.noack (and_from (is_name group read.group) (reads_new_entries (ReadGroup read) key) here (asks refl)) (by read.noack f);
+  delivers = λ a e f. (and_from (is_name group read.group && reads_new_entries (ReadGroup read) key) (not read.noack) (and_from (is_name group read.group) (reads_new_entries (ReadGroup read) key) here (asks refl)) f, refl);
   takes = λ es e. absurd (false≢true e);
   settles = λ es name e. absurd (false≢true e);
   no_deletion = refl;
@@ -357,7 +340,7 @@ goes-read : (now : ℕ) (read : ReadGroupCommand) (key group : List ℕ) → is_
 unfolding IsDistinct
 goes-read now read key group here stream life x [] distinct asks = same (ReadGroup read) key group x (record { no_deletion = refl; no_settling = λ ids name. refl }) (present_in stream) (place_in stream life x)
 goes-read now read key group here stream life x (one ∷ more) distinct asks =
-    by (is_name key one.key) refl (goes-read now read key group here stream life x more distinct.1 (λ e. asks (or_second (is_name key one.key && is_new one.from) _ e)))
+    by (is_name key one.key) refl (goes-read now read key group here stream life x more distinct.1 (λ e. asks (or_right (is_name key one.key && is_new one.from) _ e)))
   where
     by : (t : Bool) → is_name key one.key ≡ t
         → GoesAlong (ReadGroup read) key group (present_in stream) x (place_in stream life x) (place_in stream (life_after_reads now (present_in stream) read key more life) x)
@@ -367,7 +350,7 @@ goes-read now read key group here stream life x (one ∷ more) distinct asks =
         subst (λ l. GoesAlong (ReadGroup read) key group (present_in stream) x (place_in stream life x) (place_in stream l x))
         (sym (not-read now (present_in stream) read key more (life_after_ask now (present_in stream) (ask_of_read read one.from) life) (others-absent key one.key more e distinct.0)))
         (goes-asked (ReadGroup read) key group x now (ask_of_read read one.from) stream life
-        (read-causes read one.from key group here (λ f. asks (or_first _ _ (both_of (is_name key one.key) (is_new one.from) e f))) (present_in stream) x now))
+        (read-causes read one.from key group here (λ f. asks (or_left _ _ (and_from (is_name key one.key) (is_new one.from) e f))) (present_in stream) x now))
 
 -- ---- an event
 
@@ -411,10 +394,6 @@ trimmed-below (Ok id) fields (Some (MaxLen n)) es x e =
     fewer : (a b : ℕ) → b ≤ 1 → nat_le n (a + b) ≡ true → nat_le n (a + 1) ≡ true
     fewer a b few h = grind (arith, nat_tests, few, h)
 
-or_none : (a : Bool) → (a || false) ≡ true → a ≡ true
-or_none true e = refl
-or_none false e = e
-
 -- none of what is up to it is above it
 none-above : (x : Id) (ids : List Id) → AllUpTo x ids → count_above x ids ≡ 0
 none-above x [] up = refl
@@ -428,7 +407,7 @@ up_to-raised t x (y ∷ ys) above up = (not_above-trans x t y (below-not_back t 
 -- what is given is above the top
 given-above : (given : Result Id AddError) (fields : List Field) (t x : Id) → ((y : Id) → given ≡ Ok y → is_below t y ≡ true) → has_id (ids_of (entry_of given fields)) x ≡ true → is_below t x ≡ true
 given-above (Err refusal) fields t x above new = absurd (false≢true new)
-given-above (Ok id) fields t x above new = subst (λ y. is_below t y ≡ true) (sym (is_same-eq x id (or_none (is_same x id) new))) (above id refl)
+given-above (Ok id) fields t x above new = subst (λ y. is_below t y ≡ true) (sym (is_same-eq x id (or_false (is_same x id) new))) (above id refl)
 
 -- a trim drops what was added with it only by itself
 trims-own : (given : Result Id AddError) (fields : List Field) (trim : Trim) (es : List (Id × List Field)) (x : Id) → AllUpTo x (ids_of es) → has_id (ids_of (entry_of given fields)) x ≡ true
@@ -437,7 +416,7 @@ trims-own (Err refusal) fields trim es x up new e = absurd (false≢true new)
 trims-own (Ok id) fields (MinId low) es x up new e = e
 trims-own (Ok id) fields (MaxLen n) es x up new e = ap (nat_le n) (sym count) ∙ e where
   itself : is_below x id ≡ false
-  itself = ap (λ y. is_below y id) (is_same-eq x id (or_none (is_same x id) new)) ∙ below-irrefl id
+  itself = ap (λ y. is_below y id) (is_same-eq x id (or_false (is_same x id) new)) ∙ below-irrefl id
 
   count : count_above x (ids_of (es ++ (id, fields) ∷ [])) ≡ 0
   count =
@@ -455,7 +434,7 @@ trim-needed now id fields trim past x new gone =
   where
     given : has_id (ids_of (given_in (added now id fields trim ∷ past))) x ≡ true
     given = ap (λ ids. has_id ids x) (ids_of-append (given_in past) (gives (added now id fields trim) (top past)))
-        ∙ has_id-append (ids_of (given_in past)) (ids_of (gives (added now id fields trim) (top past))) x ∙ or_second _ _ new
+        ∙ has_id-append (ids_of (given_in past)) (ids_of (gives (added now id fields trim) (top past))) x ∙ or_right _ _ new
 
     by : (d : Bool) → drops (added now id fields trim) (top past) (ids_of (live past ++ entry_of (assigned now (top past) id) fields)) x ≡ d → false ≡ (cond d false true && true)
         → drops (added now id fields trim) (top past) (ids_of (live past ++ entry_of (assigned now (top past) id) fields)) x ≡ true
@@ -513,7 +492,7 @@ goes-lived now Quit key group served stream life x formed sees = same Quit key g
 goes-lived now (Add add) key group served stream life x formed sees =
     adds (Add add) key group x (added now add.id add.fields add.trim) add.make stream life (is_name key add.key) sees
     (λ here past. record {
-      may = λ e. both_of (is_name key add.key) _ here (trimmed-below (assigned now (top past) add.id) add.fields add.trim (live past) x e);
+      may = λ e. and_from (is_name key add.key) _ here (trimmed-below (assigned now (top past) add.id) add.fields add.trim (live past) x e);
       must = λ e. absurd (false≢true e);
       settles_none = λ ids name. refl;
       comes = λ e. (here, added-first now add past x e);
@@ -522,7 +501,7 @@ goes-lived now (Add add) key group served stream life x formed sees =
 goes-lived now (Delete k named) key group served stream life x formed sees =
     changes-stream (Delete k named) key group x (deleted named) stream life (is_name key k) sees
     (λ here past. record {
-      may = λ e. or_first _ _ (both_of (is_name key k) (has_id named x) here e);
+      may = λ e. or_left _ _ (and_from (is_name key k) (has_id named x) here e);
       must = λ e ids. second_of (is_name key k) (has_id named x) e;
       settles_none = λ ids name. refl;
       comes = λ e. absurd (false≢true e);
@@ -530,7 +509,7 @@ goes-lived now (Delete k named) key group served stream life x formed sees =
     (λ away. record { no_deletion = ap (λ b. b && has_id named x) away; no_settling = λ ids name. refl })
 goes-lived now (TrimTo k trim) key group served stream life x formed sees =
     changes-stream (TrimTo k trim) key group x (trimmed_to trim) stream life (is_name key k) sees
-    (λ here past. record { may = λ e. both_of (is_name key k) _ here (ap (λ es. is_trimmed trim (ids_of es) x) (sym (append-nil (live past))) ∙ e); must = λ e. absurd (false≢true e); settles_none = λ ids name. refl; comes = λ e. absurd (false≢true e) })
+    (λ here past. record { may = λ e. and_from (is_name key k) _ here (ap (λ es. is_trimmed trim (ids_of es) x) (sym (append-nil (live past))) ∙ e); must = λ e. absurd (false≢true e); settles_none = λ ids name. refl; comes = λ e. absurd (false≢true e) })
     (λ away. record { no_deletion = refl; no_settling = λ ids name. refl })
 goes-lived now (Len k) key group served stream life x formed sees = same (Len k) key group x (record { no_deletion = refl; no_settling = λ ids name. refl }) (present_in stream) (place_in stream life x)
 goes-lived now (Scan scan) key group served stream life x formed sees = same (Scan scan) key group x (record { no_deletion = refl; no_settling = λ ids name. refl }) (present_in stream) (place_in stream life x)
@@ -596,13 +575,8 @@ no_arrow command key group ids x handed_out there f h = h
 no_arrow command key group ids x (pending name) there f h = false≢true f
 no_arrow command key group ids x settled there f h = h
 
-or_this : {A : Type 0} → Option A → A → A
-or_this None a = a
-or_this (Some b) a = b
-
 pub for-good : (later earlier : List (ℕ × Command)) (key group : List ℕ) (x : Id) (here : Place) → GoesOnFor key group later → is_final here ≡ true → place_after earlier key group x ≡ Some here
     → place_after (later ++ earlier) key group x ≡ Some here
-unfolding or_this
 for-good [] earlier key group x here on final e = e
 for-good (event ∷ later) earlier key group x here on final e =
     by (place_after (later ++ earlier) key group x) (for-good later earlier key group x here on.2 final e) (place_after (event ∷ (later ++ earlier)) key group x)
@@ -616,5 +590,5 @@ for-good (event ∷ later) earlier key group x here on final e =
     by None f q h = absurd (false≢true (ap is_some f))
     by (Some one) f None h = absurd (false≢true (sym on.1 ∙ h))
     by (Some one) f (Some there) h =
-        let is : one ≡ here = ap (λ o. or_this o one) f in
+        let is : one ≡ here = same_Some one here f in
         ap Some (still one there (ap is_final is ∙ final) h.0 ∙ is)

@@ -1,10 +1,8 @@
 -- The place of an entry: it is one, and an event of the group moves it along an arrow.
 use Rattle.std.proofs.Common.{◌≡◌, ℕ, Bool, true, false, cond, not, ◌&&◌, ◌||◌, List, [], ◌∷◌, Option, Some, None, is_some, sym, ap, ◌∙◌, refl}
-use Rattle.std.proofs.lemmas.Bool.{false≢true}
-use Rattle.xs_stream.specs.declared.id.Id.{Id}
-use Rattle.xs_stream.specs.Id.{is_below, has_id}
-use Rattle.xs_stream.specs.Kept.{ids_of}
+use Rattle.std.proofs.lemmas.Bool.{false≢true, or_left, or_right}
 use Rattle.xs_stream.proofs.Order.{up_to-below}
+use Rattle.xs_keys.specs.Ground.{Id, is_below, has_id, ids_of}
 use Rattle.xs_keys.specs.Life.{Change, live}
 use Rattle.xs_keys.specs.GroupEvent.{GroupEvent, new_ids_of_event, delivered, cursor, rows}
 use Rattle.xs_keys.specs.Ask.{consumer_of, keeps_pending}
@@ -15,7 +13,7 @@ use Rattle.xs_keys.proofs.IdLists.{has_id-append, not_among}
 use Rattle.xs_keys.proofs.GroupSteps.{up_to-delivered}
 use Rattle.xs_keys.proofs.Deliveries.{PresentAscends, start-up, past-start}
 use Rattle.xs_keys.proofs.Owners.{owned-delivered, assigned-again, taken-owned, owner-step, taken-unsettled, pending-named, claim-named}
-use Rattle.xs_keys.proofs.Sights.{Sees, none-stranded, asked-present, or_first, or_second, above-has}
+use Rattle.xs_keys.proofs.Sights.{Sees, none-stranded, asked-present, above-has}
 
 -- ---- who has what was delivered
 
@@ -29,9 +27,9 @@ assigned-delivered start (event ∷ past) x e =
     by : (n : Bool) → has_id (new_ids_of_event event (cursor start past)) x ≡ n → (k : Bool) → keeps_pending event.ask ≡ k → (t : Bool) → takes start past event x ≡ t
         → (is_some (last_assigned start past x) ≡ true → has_id (delivered start past) x ≡ true)
         → (has_id (delivered start past) x || has_id (new_ids_of_event event (cursor start past)) x) ≡ true
-    by true n k f t g before = or_second _ _ n
-    by false n k f true g before = or_first _ _ (owned-delivered start past x (taken-owned start past event x g))
-    by false n k f false g before = or_first _ _ (before (ap is_some (sym (not_assigned k f)) ∙ e)) where
+    by true n k f t g before = or_right _ _ n
+    by false n k f true g before = or_left _ _ (owned-delivered start past x (taken-owned start past event x g))
+    by false n k f false g before = or_left _ _ (before (ap is_some (sym (not_assigned k f)) ∙ e)) where
       not_assigned : (k : Bool) → keeps_pending event.ask ≡ k → last_assigned start (event ∷ past) x ≡ last_assigned start past x
       not_assigned true f = λ i. cond ((f i && n i) || g i) (consumer_of event.ask) (last_assigned start past x)
       not_assigned false f = λ i. cond ((f i && n i) || g i) (consumer_of event.ask) (last_assigned start past x)
@@ -127,7 +125,7 @@ module _ (start : Id) (before : List GroupEvent) (event : GroupEvent) (x : Id) (
       ≡ place_of_delivered (cond (takes start before event x) (consumer_of event.ask) (last_assigned start before x))
       (cond (takes start before event x) (consumer_of event.ask) (cond (settles start before event x) None (owner start before x)))
   after-delivered d =
-      at-delivered start (event ∷ before) present x (delivered-after ∙ or_first _ _ d)
+      at-delivered start (event ∷ before) present x (delivered-after ∙ or_left _ _ d)
       ∙ ap (place_of_delivered (last_assigned start (event ∷ before) x)) (owner-step start before event x)
       ∙ ap (λ a. place_of_delivered (cond a (consumer_of event.ask) (last_assigned start before x)) (cond a (consumer_of event.ask) (cond (settles start before event x) None (owner start before x))))
       (assigned-again start before event x d)
@@ -198,7 +196,7 @@ module _ (start : Id) (before : List GroupEvent) (event : GroupEvent) (x : Id) (
         ∙ sym (λ i. place_by (is_below start x) (d i) (has_id present x) (last_assigned start before x) (owner start before x)))
     by true n k f = keeps k f where
       now : has_id (delivered start (event ∷ before)) x ≡ true
-      now = delivered-after ∙ or_second _ _ n
+      now = delivered-after ∙ or_right _ _ n
 
       in_stream : has_id present x ≡ true
       in_stream = ap (λ ids. has_id ids x) (sym saw) ∙ asked-present event.ask event.present (cursor start before) x n

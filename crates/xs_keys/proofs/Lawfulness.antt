@@ -1,13 +1,10 @@
 -- Every content of a history is lawful.
 use Rattle.std.proofs.Common.{◌≡◌, ℕ, Bool, true, false, cond, List, [], ◌∷◌, Option, Some, None, is_some, option_and_then, ◌&&◌, sym, ap, subst, ◌∙◌, refl}
+use Rattle.std.proofs.lemmas.Option.{same_Some}
 use Rattle.std.proofs.lemmas.Bool.{false≢true}
-use Rattle.xs_bytes.specs.Each.{with_some}
 use Rattle.xs_bytes.specs.SortedMap.{get}
-use Rattle.xs_stream.specs.declared.id.Id.{Id}
-use Rattle.xs_stream.specs.Id.{has_id}
-use Rattle.xs_stream.specs.Kept.{Ascends, AllAbove, AllUpTo}
 use Rattle.xs_group.specs.State.{Row, State, is_name, delivers, first_row, shown, again, unless_owned}
-use Rattle.xs_command.specs.declared.command.Command.{Command}
+use Rattle.xs_keys.specs.Ground.{with_some, Id, has_id, Ascends, AllAbove, AllUpTo, Command}
 use Rattle.xs_keys.specs.Life.{Change, key_life, stream_of}
 use Rattle.xs_keys.specs.Ask.{Ask, read_new, read_own, ack, join, leave, claim, auto_claim, row_after_ask}
 use Rattle.xs_keys.specs.GroupEvent.{GroupEvent, delivered, cursor, is_consumer, rows_among, pending_row_at, rows}
@@ -39,22 +36,10 @@ ascends-among row_of (x ∷ xs) h = by (row_of x) (ascends-among row_of xs h.1) 
 
 -- ---- each row's consumer is one of the group's
 
-or_else : {A : Type 0} → Option A → A → A
-or_else None a = a
-or_else (Some b) a = b
-
-same_some : {A : Type 0} (a b : A) → Some a ≡ Some b → a ≡ b
-unfolding or_else
-same_some a b e = ap (λ o. or_else o a) e
-
 -- what was a consumer is one still, unless it is taken out
 still : (drops adds_consumer before : Bool) → drops ≡ false → before ≡ true → cond drops false (cond adds_consumer true before) ≡ true
 still drops true before d b = rw d refl
 still drops false before d b = rw d b
-
--- what is brought in is one
-brought : (drops adds_consumer before : Bool) → drops ≡ false → adds_consumer ≡ true → cond drops false (cond adds_consumer true before) ≡ true
-brought drops adds_consumer before d b = rw (d, b) refl
 
 abbrev IsOfConsumers : List GroupEvent → Option Row → Type 0
 IsOfConsumers past r = (row : Row) → r ≡ Some row → is_consumer past row.consumer ≡ true
@@ -64,14 +49,14 @@ module _ (past : List GroupEvent) (now : ℕ) (present : List Id) (a : Id) (es :
       → (row : Row) → cond d (cond noack None (Some (first_row consumer now))) r ≡ Some row
       → cond (is_name row.consumer consumer) true (is_consumer past row.consumer) ≡ true
   of-new consumer limit true true r h row e = absurd (false≢true (ap is_some e))
-  of-new consumer limit false true r h row e = ap (λ n. cond (is_name n consumer) true (is_consumer past n)) (sym (ap (λ o. o.consumer) (same_some (first_row consumer now) row e))) ∙ ap (λ b. cond b true (is_consumer past consumer)) (is_name-refl consumer)
+  of-new consumer limit false true r h row e = ap (λ n. cond (is_name n consumer) true (is_consumer past n)) (sym (ap (λ o. o.consumer) (same_Some (first_row consumer now) row e))) ∙ ap (λ b. cond b true (is_consumer past consumer)) (is_name-refl consumer)
   of-new consumer limit noack false r h row e = still false (is_name row.consumer consumer) (is_consumer past row.consumer) refl (h row e)
 
   of-own : (consumer : List ℕ) (b : Bool) (r : Option Row) → IsOfConsumers past r → (row : Row)
       → option_and_then (λ o. cond b (Some (again now o)) (Some o)) r ≡ Some row → cond (is_name row.consumer consumer) true (is_consumer past row.consumer) ≡ true
   of-own consumer b None h row e = absurd (false≢true (ap is_some e))
   of-own consumer true (Some o) h row e =
-      still false (is_name row.consumer consumer) (is_consumer past row.consumer) refl (ap (is_consumer past) (sym (ap (λ p. p.consumer) (same_some (again now o) row e))) ∙ h o refl)
+      still false (is_name row.consumer consumer) (is_consumer past row.consumer) refl (ap (is_consumer past) (sym (ap (λ p. p.consumer) (same_Some (again now o) row e))) ∙ h o refl)
   of-own consumer false (Some o) h row e = still false (is_name row.consumer consumer) (is_consumer past row.consumer) refl (h row e)
 
   of-ack : (b : Bool) (r : Option Row) → IsOfConsumers past r → (row : Row) → option_and_then (λ o. cond b None (Some o)) r ≡ Some row → is_consumer past row.consumer ≡ true
@@ -86,7 +71,7 @@ module _ (past : List GroupEvent) (now : ℕ) (present : List Id) (a : Id) (es :
     by : (t : Bool) → is_name o.consumer consumer ≡ t → cond t None (Some o) ≡ Some row → cond (is_name row.consumer consumer) false (is_consumer past row.consumer) ≡ true
     by true i f = absurd (false≢true (ap is_some f))
     by false i f =
-        let same = ap (λ p. p.consumer) (same_some o row f) in
+        let same = ap (λ p. p.consumer) (same_Some o row f) in
         still (is_name row.consumer consumer) false (is_consumer past row.consumer) (ap (λ n. is_name n consumer) (sym same) ∙ i) (ap (is_consumer past) (sym same) ∙ h o refl)
 
   of-claim : (consumer : List ℕ) (rule : Rule) (gone taken : Bool) (r : Option Row) → IsOfConsumers past r → (row : Row)
@@ -94,7 +79,7 @@ module _ (past : List GroupEvent) (now : ℕ) (present : List Id) (a : Id) (es :
       → cond (is_name row.consumer consumer) true (is_consumer past row.consumer) ≡ true
   of-claim consumer rule gone taken None h row e = absurd (false≢true (ap is_some e))
   of-claim consumer rule true taken (Some o) h row e = absurd (false≢true (ap is_some e))
-  of-claim consumer rule false true (Some o) h row e = ap (λ n. cond (is_name n consumer) true (is_consumer past n)) (sym (ap (λ p. p.consumer) (same_some (claimed_row consumer now rule o) row e))) ∙ ap (λ b. cond b true (is_consumer past consumer)) (is_name-refl consumer)
+  of-claim consumer rule false true (Some o) h row e = ap (λ n. cond (is_name n consumer) true (is_consumer past n)) (sym (ap (λ p. p.consumer) (same_Some (claimed_row consumer now rule o) row e))) ∙ ap (λ b. cond b true (is_consumer past consumer)) (is_name-refl consumer)
   of-claim consumer rule false false (Some o) h row e = still false (is_name row.consumer consumer) (is_consumer past row.consumer) refl (h row e)
 
   of-asked : (ask : Ask) (r : Option Row) → IsOfConsumers past r → IsOfConsumers (record { now = now; present = present; ask = ask } ∷ past) (row_after_ask ask now present a es x r)
@@ -125,7 +110,7 @@ lawful-group g life h asc = record {
 }
 
 lawful-held : (s : Option State) (life : Option GroupLife) → GroupHolds s life → MeetsAscending life → (g : State) → s ≡ Some g → IsLawfulGroup g
-lawful-held (Some s) (Some life) h asc g e = subst IsLawfulGroup (same_some s g e) (lawful-group s life h asc)
+lawful-held (Some s) (Some life) h asc g e = subst IsLawfulGroup (same_Some s g e) (lawful-group s life h asc)
 lawful-held None life h asc g e = absurd (false≢true (ap is_some e))
 lawful-held (Some s) None h asc g e = absurd h
 
@@ -135,7 +120,7 @@ lawful-stream changes = record { ascends = ascends-live changes; up_to_top = up_
 lawful-key : (k : Option Key) (stream : Option (List Change)) (lives : List ℕ → Option GroupLife) → KeyHolds k stream lives → ((g : List ℕ) → MeetsAscending (lives g)) → (key : Key) → k ≡ Some key → IsLawfulKey key
 lawful-key None stream lives h asc key e = absurd (false≢true (ap is_some e))
 lawful-key (Some k) None lives h asc key e = absurd h
-lawful-key (Some k) (Some changes) lives h asc key e = subst IsLawfulKey (same_some k key e) (record {
+lawful-key (Some k) (Some changes) lives h asc key e = subst IsLawfulKey (same_Some k key e) (record {
   stream = subst IsLawfulStream (sym h.0) (lawful-stream changes);
   groups = λ name g f. lawful-held (get k.groups name) (lives name) (h.1 name) (asc name) g f;
 })

@@ -2,6 +2,7 @@ pub mod Additions
 pub mod AskSteps
 pub mod Assigning
 pub mod Comings
+pub mod Computing
 pub mod Contents
 pub mod Deliveries
 pub mod FirstIds
@@ -31,4 +32,5 @@ pub mod Streams
 pub mod Takings
 pub mod Tellings
 pub mod Touches
+pub mod Truths
 pub mod WholeReplies

@@ -1,20 +1,11 @@
 -- What each event delivers of a life, and that no other event does.
 use Rattle.std.proofs.Common.{◌≡◌, ◌⊎◌, inl, inr, ℕ, Bool, true, false, cond, ◌&&◌, ◌||◌, List, [], ◌∷◌, ◌++◌, Option, Some, None, is_some, bytes_eq, sym, ap, subst, ◌∙◌, refl}
-use Rattle.std.proofs.lemmas.Bool.{false≢true}
+use Rattle.std.proofs.lemmas.Bool.{false≢true, and_right}
 use Rattle.std.proofs.lemmas.List.{append-nil}
 use Rattle.std.proofs.lemmas.Slice.Eq.{bytes_eq-Decides}
 use Rattle.std.specs.List.{list_all, list_any, IsDistinct, AllByRecursion}
-use Rattle.std.specs.Option.{option_map_or, option_or}
-use Rattle.xs_stream.specs.declared.id.Id.{Id}
-use Rattle.xs_group.specs.State.{is_name, delivers}
 use Rattle.xs_command.specs.WellFormed.{IsWellFormed, keys_of}
-use Rattle.xs_command.specs.declared.command.Command.{Command}
-use Rattle.xs_command.specs.declared.command.Command.TheVariants.{Ping, Quit, Add, Delete, TrimTo, Len, Scan, GroupCreate, GroupDestroy, ConsumerCreate, ConsumerDelete, ReadGroup, Ack, Pending, PendingRows, Claim, AutoClaim, DropKeys}
-use Rattle.xs_command.specs.declared.command.GroupCreateCommand.{GroupCreateCommand}
-use Rattle.xs_command.specs.declared.command.ReadGroupCommand.{ReadGroupCommand}
-use Rattle.xs_command.specs.declared.command.ReadOne.{ReadOne}
-use Rattle.xs_command.specs.declared.command.ReadFrom.{ReadFrom}
-use Rattle.xs_command.specs.declared.command.ReadFrom.TheVariants.{New, After}
+use Rattle.xs_keys.specs.Ground.{option_map_or, option_or, Id, is_name, delivers, Command, Ping, Quit, Add, Delete, TrimTo, Len, Scan, GroupCreate, GroupDestroy, ConsumerCreate, ConsumerDelete, ReadGroup, Ack, Pending, PendingRows, Claim, AutoClaim, DropKeys, GroupCreateCommand, ReadGroupCommand, ReadOne, ReadFrom, New, After}
 use Rattle.xs_keys.specs.Life.{Change, is_listed, key_life}
 use Rattle.xs_keys.specs.Ask.{Ask, join, leave, ack, claim, auto_claim, new_ids_of_ask}
 use Rattle.xs_keys.specs.GroupEvent.{delivered, cursor}
@@ -51,7 +42,7 @@ creates create stream (Some life) = stays (Some life)
 
 -- ---- reads
 
-no-life-read : (now : ℕ) (present : List Id) (read : ReadGroupCommand) (key : List ℕ) (reads : List ReadOne) → life_after_reads now present read key reads None ≡ None
+pub no-life-read : (now : ℕ) (present : List Id) (read : ReadGroupCommand) (key : List ℕ) (reads : List ReadOne) → life_after_reads now present read key reads None ≡ None
 no-life-read now present read key [] = refl
 no-life-read now present read key (one ∷ more) = by (is_name key one.key) (no-life-read now present read key more) where
   by : (t : Bool) → life_after_reads now present read key more None ≡ None → life_after_reads now present read key more (cond t None None) ≡ None
@@ -130,11 +121,7 @@ reads-go-on now present read key life true distinct =
     and-true true = refl
     and-true false = refl
 reads-go-on now present read key life false distinct =
-    subst (λ b. GoesOn life (cond b (delivered_in (ReadGroup read) present life) []) life) (sym (and-false (list_any (λ one. is_name key one.key && is_new one.from) read.reads))) (stays life)
-  where
-    and-false : (b : Bool) → (b && false) ≡ false
-    and-false true = refl
-    and-false false = refl
+    subst (λ b. GoesOn life (cond b (delivered_in (ReadGroup read) present life) []) life) (sym (and_right (list_any (λ one. is_name key one.key && is_new one.from) read.reads) false refl)) (stays life)
 
 -- ---- an event
 

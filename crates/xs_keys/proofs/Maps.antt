@@ -1,7 +1,7 @@
--- The map of keys as the code keeps it, and the content that it is seen as.
-use Rattle.std.proofs.Common.{◌≡◌, ℕ, cond, List, [], ◌∷◌, Some, None, sym, ap, ◌∙◌, refl, BTreeMap}
+-- The map of entries as the code keeps it, and the map by names that it is seen as.
+use Rattle.std.proofs.Common.{◌≡◌, ℕ, true, cond, List, [], ◌∷◌, Option, Some, None, is_some, inl, inr, sym, ap, ◌∙◌, refl, BTreeMap, MutBor}
+use Rattle.std.specs.Option.{ghost_name_of, option_copied_mut}
 use Rattle.std.specs.FinMap.Entries.{find}
-use Rattle.xs_bytes.specs.SortedMap.{get, insert, remove}
 use Rattle.xs_bytes.proofs.SortedMaps.{get-of_entries}
 use Rattle.std.specs.Map.{lookup}
 use Rattle.std.specs.BTreeMap as tree
@@ -9,9 +9,10 @@ use Rattle.std.specs.BTreeMap.{UpdatesBy, is_at}
 use Rattle.std.specs.Ordering.{nat_cmp}
 use Rattle.std.specs.Cmp.{eq_by_cmp_equiv}
 use Rattle.std.specs.Cmp.Lexicographic.{slice_cmp, nat_list_cmp_total}
-use Rattle.xs_group.specs.State.{is_name}
 use Rattle.xs_bytes.specs.MapOf.{from_entries}
+use Rattle.xs_keys.specs.Ground.{get, insert, remove, is_name}
 use Rattle.xs_keys.proofs.Names.{same_map, get-insert, get-remove}
+use borrow.Follows.Closed.{read_of}
 
 module _ {X : Type 0} where
   find-lookup : (q : List ℕ) (es : List (List ℕ × X)) → find (slice_cmp nat_cmp) q es ≡ lookup (is_at (slice_cmp nat_cmp q)) es
@@ -19,23 +20,29 @@ module _ {X : Type 0} where
   find-lookup q (e ∷ es) = ap (cond (is_name q e.0) (Some e.1)) (find-lookup q es)
 
   -- a name is found in the value as it is found in the map
-  pub get-content_of : (m : BTreeMap (List ℕ) X) (q : List ℕ) → get (from_entries m.entries) q ≡ tree.get (slice_cmp nat_cmp) m q
-  get-content_of m q = get-of_entries nat_list_cmp_total m.entries q ∙ find-lookup q m.entries
+  pub get-entries : (m : BTreeMap (List ℕ) X) (q : List ℕ) → get (from_entries m.entries) q ≡ tree.get (slice_cmp nat_cmp) m q
+  get-entries m q = get-of_entries nat_list_cmp_total m.entries q ∙ find-lookup q m.entries
 
 turned : (a b : List ℕ) → is_name a b ≡ is_name b a
 turned a b = (eq_by_cmp_equiv nat_list_cmp_total).symm a b
 
 module _ {X : Type 0} where
   -- a map with a new value at a name
-  pub content-insert : (m n : BTreeMap (List ℕ) X) (name : List ℕ) (x : X) → UpdatesBy (slice_cmp nat_cmp) (slice_cmp nat_cmp name) m n (Some x)
+  pub insert-entries : (m n : BTreeMap (List ℕ) X) (name : List ℕ) (x : X) → UpdatesBy (slice_cmp nat_cmp) (slice_cmp nat_cmp name) m n (Some x)
       → from_entries n.entries ≡ insert (from_entries m.entries) name x
-  content-insert m n name x u = same_map _ _ (λ q.
-      get-content_of n q ∙ u.0 q ∙ ap (λ b. cond b (Some x) (tree.get (slice_cmp nat_cmp) m q)) (turned name q)
-      ∙ ap (cond (is_name q name) (Some x)) (sym (get-content_of m q)) ∙ sym (get-insert (from_entries m.entries) name x q))
+  insert-entries m n name x u = same_map _ _ (λ q.
+      get-entries n q ∙ u.0 q ∙ ap (λ b. cond b (Some x) (tree.get (slice_cmp nat_cmp) m q)) (turned name q)
+      ∙ ap (cond (is_name q name) (Some x)) (sym (get-entries m q)) ∙ sym (get-insert (from_entries m.entries) name x q))
 
   -- a map without a name
-  pub content-remove : (m n : BTreeMap (List ℕ) X) (name : List ℕ) → UpdatesBy (slice_cmp nat_cmp) (slice_cmp nat_cmp name) m n None
+  pub remove-entries : (m n : BTreeMap (List ℕ) X) (name : List ℕ) → UpdatesBy (slice_cmp nat_cmp) (slice_cmp nat_cmp name) m n None
       → from_entries n.entries ≡ remove (from_entries m.entries) name
-  content-remove m n name u = same_map _ _ (λ q.
-      get-content_of n q ∙ u.0 q ∙ ap (λ b. cond b None (tree.get (slice_cmp nat_cmp) m q)) (turned name q)
-      ∙ ap (cond (is_name q name) None) (sym (get-content_of m q)) ∙ sym (get-remove (from_entries m.entries) name q))
+  remove-entries m n name u = same_map _ _ (λ q.
+      get-entries n q ∙ u.0 q ∙ ap (λ b. cond b None (tree.get (slice_cmp nat_cmp) m q)) (turned name q)
+      ∙ ap (cond (is_name q name) None) (sym (get-entries m q)) ∙ sym (get-remove (from_entries m.entries) name q))
+
+-- two ways to say what a lender ends as, which agree where a value is lent and where none is
+pub same-loan : {D E : Type 0} (r : Option (MutBor E)) (lent : Option E) (F G : E → D) (v u : D) → option_copied_mut r ≡ lent
+    → (is_some lent ≡ true → (w : E) → F w ≡ G w) → v ≡ u → read_of (ghost_name_of r) F v ≡ read_of (ghost_name_of r) G u
+same-loan None lent F G v u e some none = ap inr none
+same-loan (Some r) lent F G v u e some none = λ i. inl (r.ghost_name, λ w. some (sym (ap is_some e)) w i)

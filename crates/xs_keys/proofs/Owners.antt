@@ -1,17 +1,18 @@
 -- The owner, by the last assigning event and what settled since, is that of the row; and what one event makes of it.
-use Rattle.std.proofs.Common.{◌≡◌, ℕ, Bool, true, false, not, cond, ◌&&◌, ◌||◌, ◌⊎◌, inl, inr, List, [], ◌∷◌, ◌++◌, Option, Some, None, option_and_then, option_map, is_some, sym, ap, subst, ◌∙◌, refl}
-use Rattle.std.proofs.lemmas.Bool.{false≢true}
-use Rattle.xs_bytes.specs.Each.{with_some}
-use Rattle.xs_stream.specs.declared.id.Id.{Id}
+use Rattle.std.proofs.Common.{◌≡◌, ℕ, Bool, true, false, not, cond, ◌&&◌, ◌||◌, ◌⊎◌, inl, inr, List, [], ◌∷◌, ◌++◌, Option, Some, None, option_and_then, option_map, is_some, sym, ap, ◌∙◌, refl}
+use Rattle.std.proofs.lemmas.Option.{same_Some}
+use Rattle.std.proofs.lemmas.Bool.{false≢true, or_left, or_right}
 use Rattle.xs_stream.specs.Id.{is_below, is_same, has_id}
 use Rattle.xs_stream.proofs.Order.{is_same-eq}
 use Rattle.xs_group.specs.declared.claims.Claim.{Claim}
 use Rattle.xs_group.specs.Claims.{Rule, row_at, is_idle, is_removed, is_taken, claim_among, firsts, claim_of, from_start, is_hit, scanned, scan_of, claimed, claimed_row}
 use Rattle.xs_group.specs.State.{Row, is_name, delivers, first_row, shown, again, reread, unless_acked, unless_owned}
+use Rattle.xs_keys.specs.Ground.{with_some, Id}
 use Rattle.xs_keys.specs.Ask.{Ask, read_new, read_own, ack, join, leave, claim, auto_claim, new_ids_of_ask, claim_of_ask, consumer_of, keeps_pending, is_acknowledgement_of, drops_consumer, row_after_ask}
 use Rattle.xs_keys.specs.GroupEvent.{GroupEvent, delivered, cursor, new_ids_of_event, rows_among, pending_row_at, rows}
 use Rattle.xs_keys.specs.Owner.{is_made_pending_by, takes, is_assigned_by, last_assigned, removes, settles, is_settled, owner}
 use Rattle.xs_keys.specs.EachOwner.{OwnerAfter, NoOwnerAfter, is_settled_in, OwnedUntilSettled, ChangesByClaims}
+use Rattle.xs_keys.proofs.Truths.{first_of, second_of, none_or, or_none}
 use Rattle.xs_keys.proofs.IdLists.{has_id-append, has_id-where, not_above, not_among}
 use Rattle.xs_keys.proofs.GroupSteps.{up_to-delivered}
 use Rattle.xs_keys.proofs.Deliveries.{above-after}
@@ -21,10 +22,6 @@ use Rattle.xs_keys.proofs.Deliveries.{above-after}
 find-kept : (q x : Id) (r : Option Row) (es : List (Id × Row)) → is_same q x ≡ false → row_at (with_some x r es) q ≡ row_at es q
 find-kept q x None es e = refl
 find-kept q x (Some row) es e = rw e refl
-
-find-here : (q x : Id) (r : Option Row) (es : List (Id × Row)) → is_same q x ≡ true → r ≡ None → row_at (with_some x r es) q ≡ row_at es q
-find-here q x None es e n = refl
-find-here q x (Some row) es e n = absurd (subst (λ o. cond (is_some o) (Unit {0}) ⊥) n tt)
 
 find-among : (row_of : Id → Option Row) (ids : List Id) (q : Id) → row_at (rows_among row_of ids) q ≡ cond (has_id ids q) (row_of q) None
 find-among row_of [] q = refl
@@ -43,19 +40,9 @@ find-among row_of (x ∷ xs) q = by (is_same q x) refl (row_of x) refl (find-amo
 
 -- ---- what has a row was delivered
 
-Delivered : Id → List GroupEvent → Id → Option Row → Type 0
-Delivered start events x r = is_some r ≡ true → has_id (delivered start events) x ≡ true
-
 nothing : (f : Row → Option Row) (r : Option Row) → is_some (option_and_then f r) ≡ true → is_some r ≡ true
 nothing f None e = e
 nothing f (Some row) e = refl
-
-or-left : (a b : Bool) → a ≡ true → (a || b) ≡ true
-or-left a b e = rw e refl
-
-or-right : (a b : Bool) → b ≡ true → (a || b) ≡ true
-or-right true b e = refl
-or-right false b e = e
 
 asked-held : (ask : Ask) (now : ℕ) (present : List Id) (a : Id) (es : List (Id × Row)) (x : Id) (r : Option Row)
     → is_some (row_after_ask ask now present a es x r) ≡ true → (has_id (new_ids_of_ask ask present a) x ≡ true) ⊎ (is_some r ≡ true)
@@ -78,8 +65,8 @@ held-delivered start (event ∷ past) x e =
   where
     by : (has_id (new_ids_of_event event (cursor start past)) x ≡ true) ⊎ (is_some (pending_row_at start past x) ≡ true) → (is_some (pending_row_at start past x) ≡ true → has_id (delivered start past) x ≡ true)
         → (has_id (delivered start past) x || has_id (new_ids_of_event event (cursor start past)) x) ≡ true
-    by (inl new) before = or-right _ _ new
-    by (inr held) before = or-left _ _ (before held)
+    by (inl new) before = or_right _ _ new
+    by (inr held) before = or_left _ _ (before held)
 
 -- what was delivered isn't delivered again
 pub not-again : (start : Id) (past : List GroupEvent) (event : GroupEvent) (x : Id) → has_id (delivered start past) x ≡ true → has_id (new_ids_of_event event (cursor start past)) x ≡ false
@@ -120,31 +107,12 @@ taken-has : (now : ℕ) (rule : Rule) (r : Option Row) → is_idle now rule r �
 taken-has now rule None e = absurd (false≢true e)
 taken-has now rule (Some row) e = refl
 
-or-none : (a b : Bool) → b ≡ false → (a || b) ≡ a
-or-none true b e = refl
-or-none false b e = e
-
-none-or : (a b : Bool) → a ≡ false → (a || b) ≡ b
-none-or a b e = rw e refl
-
-or_else : {A : Type 0} → Option A → A → A
-or_else None a = a
-or_else (Some b) a = b
-
-and-first : (a b : Bool) → (a && b) ≡ true → a ≡ true
-and-first true b e = refl
-and-first false b e = e
-
-and-second : (a b : Bool) → (a && b) ≡ true → b ≡ true
-and-second true b e = e
-and-second false b e = absurd (false≢true e)
-
 over : (es : List (Id × Row)) (present : List Id) (now : ℕ) (rule : Rule) (ids : List Id) (x : Id) → IsOver es x (claim_among es present now rule ids)
 unfolding IsOver
 over es present now rule ids x e =
-    let taken = and-first (is_taken es present now rule x) (has_id ids x) (sym (has_id-claim es present now rule ids x).0 ∙ e) in
-    let idle = and-first (is_idle now rule (row_at es x)) (has_id present x) taken in
-    let here = and-second (is_idle now rule (row_at es x)) (has_id present x) taken in
+    let taken = first_of (is_taken es present now rule x) (has_id ids x) (sym (has_id-claim es present now rule ids x).0 ∙ e) in
+    let idle = first_of (is_idle now rule (row_at es x)) (has_id present x) taken in
+    let here = second_of (is_idle now rule (row_at es x)) (has_id present x) taken in
     (taken-has now rule (row_at es x) idle, (has_id-claim es present now rule ids x).1 ∙ rw here (gone (is_some (row_at es x)) (has_id ids x)))
   where
     gone : (a b : Bool) → ((a && false) && b) ≡ false
@@ -245,7 +213,7 @@ module _ (start : Id) (past : List GroupEvent) (now : ℕ) (present : List Id) (
   unfolding Agrees t
   agree-ack ids =
       owner-step start past (t (ack ids)) x
-      ∙ ap (λ b. cond {A = Option (List ℕ)} b None (owner start past x)) (or-none (has_id ids x && is_some (last_assigned start past x)) (removes (t (ack ids)) (last_assigned start past x) || false) (settles-none false _ false refl (removes-none (t (ack ids)) (λ _. refl) (last_assigned start past x)) refl))
+      ∙ ap (λ b. cond {A = Option (List ℕ)} b None (owner start past x)) (or_none (has_id ids x && is_some (last_assigned start past x)) (removes (t (ack ids)) (last_assigned start past x) || false) (settles-none false _ false refl (removes-none (t (ack ids)) (λ _. refl) (last_assigned start past x)) refl))
       ∙ once-assigned (has_id ids x) (last_assigned start past x) (is_settled start past x)
       ∙ ap (cond (has_id ids x) None) ih ∙ by (pending_row_at start past x) (has_id ids x)
     where
@@ -262,7 +230,7 @@ module _ (start : Id) (past : List GroupEvent) (now : ℕ) (present : List Id) (
       by (Some row) false = refl
 
   agree-leave : (consumer : List ℕ) → Agrees (leave consumer)
-  unfolding Agrees t or_else
+  unfolding Agrees t
   agree-leave consumer =
       owner-step start past (t (leave consumer)) x ∙ by (is_settled start past x) (last_assigned start past x) (pending_row_at start past x) ih
     where
@@ -277,11 +245,8 @@ module _ (start : Id) (past : List GroupEvent) (now : ℕ) (present : List Id) (
       by false None (Some row) e = absurd (false≢true (ap is_some e))
       by false (Some name) None e = absurd (false≢true (sym (ap is_some e)))
       by false (Some name) (Some row) e =
-          ap (λ n. cond (is_name n consumer || false) None (Some n)) (name_of e) ∙ owned (is_name row.consumer consumer)
+          ap (λ n. cond (is_name n consumer || false) None (Some n)) (same_Some name row.consumer e) ∙ owned (is_name row.consumer consumer)
         where
-          name_of : Some name ≡ Some row.consumer → name ≡ row.consumer
-          name_of f = ap (λ o. or_else o name) f
-
           owned : (b : Bool) → cond (b || false) None (Some row.consumer) ≡ of_row (cond b None (Some row))
           owned true = refl
           owned false = refl
@@ -308,14 +273,14 @@ module _ (start : Id) (past : List GroupEvent) (now : ℕ) (present : List Id) (
   agree-claim consumer rule ids =
       owner-step start past (t (claim consumer rule ids)) x
       ∙ agree-claims consumer rule (claim_of (rows start past) present now rule ids) (asked-over (claim consumer rule ids) now present (rows start past) x)
-      (settles start past (t (claim consumer rule ids)) x) (none-or (removes (t (claim consumer rule ids)) (last_assigned start past x)) _ (removes-none (t (claim consumer rule ids)) (λ _. refl) (last_assigned start past x)))
+      (settles start past (t (claim consumer rule ids)) x) (none_or (removes (t (claim consumer rule ids)) (last_assigned start past x)) _ (removes-none (t (claim consumer rule ids)) (λ _. refl) (last_assigned start past x)))
 
   agree-auto_claim : (consumer : List ℕ) (rule : Rule) (from : Id) (limit : ℕ) → Agrees (auto_claim consumer rule from limit)
   unfolding Agrees t
   agree-auto_claim consumer rule from limit =
       owner-step start past (t (auto_claim consumer rule from limit)) x
       ∙ agree-claims consumer rule (scan_of (rows start past) present now rule from limit).claim (asked-over (auto_claim consumer rule from limit) now present (rows start past) x)
-      (settles start past (t (auto_claim consumer rule from limit)) x) (none-or (removes (t (auto_claim consumer rule from limit)) (last_assigned start past x)) _ (removes-none (t (auto_claim consumer rule from limit)) (λ _. refl) (last_assigned start past x)))
+      (settles start past (t (auto_claim consumer rule from limit)) x) (none_or (removes (t (auto_claim consumer rule from limit)) (last_assigned start past x)) _ (removes-none (t (auto_claim consumer rule from limit)) (λ _. refl) (last_assigned start past x)))
 
 agree-asked : (start : Id) (past : List GroupEvent) (now : ℕ) (present : List Id) (ask : Ask) (x : Id) → owner start past x ≡ of_row (pending_row_at start past x)
     → owner start (record { now = now; present = present; ask = ask } ∷ past) x ≡ of_row (pending_row_at start (record { now = now; present = present; ask = ask } ∷ past) x)
@@ -418,17 +383,17 @@ claim-named (auto_claim consumer rule from limit) now present es x e = refl
 still-delivered : (start : Id) (later : List GroupEvent) (before : List GroupEvent) (x : Id) → has_id (delivered start before) x ≡ true → has_id (delivered start (later ++ before)) x ≡ true
 still-delivered start [] before x d = d
 still-delivered start (u ∷ later) before x d =
-    has_id-append (delivered start (later ++ before)) (new_ids_of_event u (cursor start (later ++ before))) x ∙ or-left _ _ (still-delivered start later before x d)
+    has_id-append (delivered start (later ++ before)) (new_ids_of_event u (cursor start (later ++ before))) x ∙ or_left _ _ (still-delivered start later before x d)
 
 delivered-now : (start : Id) (past : List GroupEvent) (event : GroupEvent) (x : Id) → is_made_pending_by start past event x ≡ true → has_id (delivered start (event ∷ past)) x ≡ true
 delivered-now start past event x e =
-    has_id-append (delivered start past) (new_ids_of_event event (cursor start past)) x ∙ or-right _ _ (and-second (keeps_pending event.ask) _ e)
+    has_id-append (delivered start past) (new_ids_of_event event (cursor start past)) x ∙ or_right _ _ (second_of (keeps_pending event.ask) _ e)
 
 pub until-settled : (start : Id) (later : List GroupEvent) (event : GroupEvent) (earlier : List GroupEvent) (x : Id) → is_made_pending_by start earlier event x ≡ true
     → is_some (owner start (later ++ event ∷ earlier) x) ≡ not (is_settled_in start later (event ∷ earlier) x)
 until-settled start [] event earlier x e =
     ap is_some (owner-step start earlier event x ∙ ap (λ b. cond (b || takes start earlier event x) (consumer_of event.ask) (cond (settles start earlier event x) None (owner start earlier x))) e)
-    ∙ pending-named event.ask (and-first (keeps_pending event.ask) _ e)
+    ∙ pending-named event.ask (first_of (keeps_pending event.ask) _ e)
 until-settled start (u ∷ later) event earlier x e = by (takes start past u x) refl (until-settled start later event earlier x e) where
   past : List GroupEvent
   past = later ++ event ∷ earlier

@@ -2,12 +2,11 @@
 use Rattle.std.proofs.Common.{◌≡◌, ℕ, ◌&&◌, eqb, arith, Bool, true, false, List, [], ◌∷◌, ◌++◌, filter, take, map, reverse, Option, Some, None, sym, ap, ◌∙◌, refl}
 use Rattle.std.proofs.lemmas.List.{take-map, reverse-append, map-append}
 use Rattle.std.proofs.lemmas.Bool.Decides.{nat_tests}
-use Rattle.xs_stream.specs.declared.id.Id.{Id}
-use Rattle.xs_stream.specs.declared.field.Field.{Field}
 use Rattle.xs_stream.specs.declared.range.Range.{Range}
 use Rattle.xs_stream.specs.Kept.{ids_of, fields_at, Ascends, is_within, ids_within, entries_within, limited, IsEntryOf, AreEntriesOf}
 use Rattle.xs_stream.proofs.Lending.{within-found}
 use Rattle.xs_stream.proofs.InOrder.{ids_of-filter}
+use Rattle.xs_keys.specs.Ground.{Id, Field}
 use Rattle.xs_keys.specs.ReplyParts.{entry_reply, present_reply}
 
 abbrev Entries : Type 0

@@ -2,31 +2,20 @@
 use Rattle.std.proofs.Common.{append_assoc, length-append, subst, ◌≡◌, ◌&&◌, ℕ, ◌+◌, ◌<◌, ◌≤◌, Bool, true, false, cond, List, [], ◌∷◌, ◌++◌, Option, Some, None, is_some, length, get_or, sym, ap, ◌∙◌, refl, arith}
 use Rattle.std.proofs.lemmas.List.Concat.{flat_map-append}
 use Rattle.std.proofs.lemmas.Bool.{false≢true}
-use Rattle.std.specs.List.{flat_map, list_all}
-use Rattle.std.specs.Option.{option_map_or}
-use Rattle.xs_bytes.specs.SortedMap.{NameMap, get, insert}
-use Rattle.xs_stream.specs.declared.id.Id.{Id}
-use Rattle.xs_stream.specs.declared.field.Field.{Field}
-use Rattle.xs_stream.specs.Kept.{Kept, ids_of}
 use Rattle.xs_group.specs.declared.delivery.Delivery.{Delivery}
 use Rattle.xs_group.specs.State.{State, Rows, is_name, delivers}
 use Rattle.xs_group.specs.Delivered.{row_ids, new_rows, shown_rows, IsMade}
-use Rattle.xs_command.specs.declared.command.ReadGroupCommand.{ReadGroupCommand}
-use Rattle.xs_command.specs.declared.command.ReadOne.{ReadOne}
-use Rattle.xs_command.specs.declared.command.ReadFrom.{ReadFrom}
-use Rattle.xs_command.specs.declared.command.ReadFrom.TheVariants.{New, After}
+use Rattle.xs_keys.specs.Ground.{flat_map, list_all, option_map_or, NameMap, get, insert, Id, Field, ids_of, ReadGroupCommand, ReadOne, ReadFrom, New, After}
 use Rattle.xs_keys.specs.declared.xreadgroup.Served.{Served}
 use Rattle.xs_keys.specs.Ask.{Ask}
 use Rattle.xs_keys.specs.GroupLife.{ask_of_read}
 use Rattle.xs_keys.specs.Content.{Content, Key}
 use Rattle.xs_keys.specs.After.{asked, read_each, group_after, with_group, group_in, entries_in}
-use Rattle.xs_resp.specs.declared.reply.Reply.{Reply}
 use Rattle.xs_resp.specs.Token.{Token}
 use Rattle.xs_resp.specs.ReplyItems.{tokens_of}
-use Rattle.xs_keys.specs.Step.{is_error}
 use Rattle.xs_keys.specs.Reply.{shown_by, parts}
-use Rattle.xs_keys.specs.ReplyParts.{new_part, array_or_null}
-use Rattle.xs_keys.specs.Reading.{ids_shown, part_of, IsShown, IsServedAt, IsMadeIn, IsMadeAt, AreMade}
+use Rattle.xs_keys.specs.ReplyParts.{new_part}
+use Rattle.xs_keys.specs.Reading.{parts_of, IsServed, IsServedAt, IsMadeAt, AreMade}
 use Rattle.xs_keys.proofs.Names.{get-insert, is_name-eq, is_name-refl, same_map}
 
 pub ids-new : (ids : List Id) → row_ids (new_rows ids) ≡ ids
@@ -36,12 +25,6 @@ ids-new (x ∷ xs) = ap (λ rest. x ∷ rest) (ids-new xs)
 pub ids-shown : (rows : Rows) (present ids : List Id) → row_ids (shown_rows rows present ids) ≡ ids
 ids-shown rows present [] = refl
 ids-shown rows present (x ∷ xs) = ap (λ rest. x ∷ rest) (ids-shown rows present xs)
-
--- the part of a read is that of the ids that it shows
-pub shows-part : (read : ReadGroupCommand) (key : List ℕ) (from : ReadFrom) (entries : List (Id × List Field)) (group : State)
-    → part_of from key entries (ids_shown read from (ids_of entries) group) ≡ shown_by read key from entries group
-shows-part read key New entries group = refl
-shows-part read key (After id) entries group = refl
 
 -- what was put in goes where the value before it is put in again
 pub insert-back : {X : Type 0} (m : NameMap X) (name : List ℕ) (a b : X) → get m name ≡ Some b → insert (insert m name a) name b ≡ m
@@ -61,24 +44,15 @@ asked-at content now name group_name ask key was had has = rw (had, has) refl
 
 -- ---- one read
 
-module _ (now : ℕ) (read : ReadGroupCommand) (one : ReadOne) (before after : Content) (tokens longer : List Token) (served : Served) where
-  pub served-content : IsServedAt now read one before after tokens longer served → after ≡ asked before now one.key read.group (ask_of_read read one.from)
-  served-content s =
-      s.put ∙ ap (λ (groups : NameMap State). insert before one.key (record { stream = s.key.stream; groups = groups })) (s.serves.put ∙ ap (λ (g : State). insert s.key.groups read.group g) s.serves.serves.left)
-      ∙ sym (asked-at before now one.key read.group (ask_of_read read one.from) s.key s.serves.was s.had s.serves.had)
-
-  pub served-shown : IsServedAt now read one before after tokens longer served
-      → IsShown (option_map_or (shown_by read one.key one.from (entries_in (get before one.key))) (group_in (get before one.key) read.group) []) served.parts tokens longer
-  served-shown s = rw (s.had, s.serves.had) s.serves.serves.shows
-
-  pub served-made : IsServedAt now read one before after tokens longer served → IsMadeAt read.group one.key before after served.delivery
-  served-made s = record {
-    key = s.key;
-    groups = _;
-    had = s.had;
-    put = s.put;
-    made = record { was = s.serves.was; is = s.serves.is; had = s.serves.had; put = s.serves.put; made = s.serves.serves.made };
-  }
+-- a read of a group that is there is one among the keys
+pub served-at : (now : ℕ) (read : ReadGroupCommand) (one : ReadOne) (before : Content) (key : Key) (was is : State) (tokens longer : List Token) (served : Served)
+    → get before one.key ≡ Some key → get key.groups read.group ≡ Some was → IsServed key.stream.entries now read one was is tokens longer served
+    → IsServedAt now read one before (insert before one.key (with_group key read.group is)) tokens longer served
+served-at now read one before key was is tokens longer served had has s = record {
+  left = ap (λ (g : State). insert before one.key (with_group key read.group g)) s.left ∙ sym (asked-at before now one.key read.group (ask_of_read read one.from) key was had has);
+  shows = rw (had, has) s.shows;
+  made = record { key = key; was = was; is = is; had = had; has = has; put = refl; made = s.made };
+}
 
 -- ---- what is there stays there
 
@@ -86,9 +60,9 @@ module _ (group name : List ℕ) (before after : Content) (d : Delivery) (m : Is
   pub stays-there : (q : List ℕ) → is_some (group_in (get before q) group) ≡ true → is_some (group_in (get after q) group) ≡ true
   stays-there q h =
       ap (λ (c : Content). is_some (group_in (get c q) group)) m.put
-      ∙ ap (λ k. is_some (group_in k group)) (get-insert before name (record { stream = m.key.stream; groups = m.groups }) q) ∙ by (is_name q name) where
-        by : (t : Bool) → is_some (group_in (cond t (Some (record { stream = m.key.stream; groups = m.groups })) (get before q)) group) ≡ true
-        by true = ap (λ (g : NameMap State). is_some (get g group)) m.made.put ∙ ap is_some (get-inserted m.key.groups group m.made.is)
+      ∙ ap (λ k. is_some (group_in k group)) (get-insert before name (with_group m.key group m.is) q) ∙ by (is_name q name) where
+        by : (t : Bool) → is_some (group_in (cond t (Some (with_group m.key group m.is)) (get before q)) group) ≡ true
+        by true = ap is_some (get-inserted m.key.groups group m.is)
         by false = h
 
   pub all-stay : (reads : List ReadOne) → list_all (λ one. is_some (group_in (get before one.key) group)) reads ≡ true
@@ -138,85 +112,65 @@ made-shorter group (r ∷ reads) (e ∷ ds) first last d all = omega (arith, mad
 
 -- ---- one read taken back
 
-module _ (group : List ℕ) (before after : NameMap State) (d : Delivery) (m : IsMadeIn group before after d) where
-  get-made : get after group ≡ Some m.is
-  get-made = ap (λ (g : NameMap State). get g group) m.put ∙ get-inserted before group m.is
-
-  pub made-there : is_some (get after group) ≡ true
-  made-there = ap is_some get-made
-
-  -- the group that is there is the one that the read left
-  pub made-state : (now : State) → get after group ≡ Some now → IsMade m.was now d
-  made-state now found = let same : m.is ≡ now = cc (get-made, found) in subst (λ s. IsMade m.was s d) same m.made
-
-  pub back-in : insert after group m.was ≡ before
-  back-in = ap (λ (g : NameMap State). insert g group m.was) m.put ∙ insert-back before group m.is m.was m.had
-
 module _ (group name : List ℕ) (before after : Content) (d : Delivery) (m : IsMadeAt group name before after d) where
-  get-key : get after name ≡ Some (record { stream = m.key.stream; groups = m.groups })
-  get-key = ap (λ (c : Content). get c name) m.put ∙ get-inserted before name (record { stream = m.key.stream; groups = m.groups })
+  found : get after name ≡ Some (with_group m.key group m.is)
+  found = ap (λ (c : Content). get c name) m.put ∙ get-inserted before name (with_group m.key group m.is)
 
-  pub key-there : is_some (get after name) ≡ true
-  key-there = ap is_some get-key
+  pub made-there : is_some (group_in (get after name) group) ≡ true
+  made-there = ap (λ k. is_some (group_in k group)) found ∙ ap is_some (get-inserted m.key.groups group m.is)
 
-  -- the key that is there has the stream of before, and the groups that the read left
-  pub key-groups : (stream : Kept) (groups : NameMap State) → get after name ≡ Some (record { stream = stream; groups = groups })
-      → (stream ≡ m.key.stream) × IsMadeIn group m.key.groups groups d
-  key-groups stream groups found =
-      let old : Key = record { stream = m.key.stream; groups = m.groups } in
-      let now : Key = record { stream = stream; groups = groups } in
-      let key : Some old ≡ Some now = sym get-key ∙ found in
-      let one : old ≡ now = cc key in
-      let same : m.groups ≡ groups = ap (λ (k : Key). k.groups) one in
-      let same_stream : stream ≡ m.key.stream = sym (ap (λ (k : Key). k.stream) one) in
-      (same_stream, subst (λ g. IsMadeIn group m.key.groups g d) same m.made)
+  -- the key that is there is the one that the read left
+  key-left : (key : Key) → get after name ≡ Some key → with_group m.key group m.is ≡ key
+  key-left key there =
+      let e : Some (with_group m.key group m.is) ≡ Some key = sym found ∙ there in
+      cc e
 
-  pub back-at : (stream : Kept) → stream ≡ m.key.stream → insert after name (record { stream = stream; groups = m.key.groups }) ≡ before
-  back-at stream same =
-      ap (λ (s : Kept). insert after name (record { stream = s; groups = m.key.groups })) same
-      ∙ ap (λ (c : Content). insert c name m.key) m.put ∙ insert-back before name (record { stream = m.key.stream; groups = m.groups }) m.key m.had
+  -- so is the group
+  pub made-state : (key : Key) (now : State) → get after name ≡ Some key → get key.groups group ≡ Some now → IsMade m.was now d
+  made-state key now there has =
+      let left : get key.groups group ≡ Some m.is = ap (λ (k : Key). get k.groups group) (sym (key-left key there)) ∙ get-inserted m.key.groups group m.is in
+      let same : m.is ≡ now = cc (left, has) in
+      subst (λ s. IsMade m.was s d) same m.made
+
+  pub taken-back : (key : Key) → get after name ≡ Some key → insert after name (with_group key group m.was) ≡ before
+  taken-back key there =
+      ap (λ (k : Key). insert after name (with_group k group m.was)) (sym (key-left key there))
+      ∙ ap (λ (groups : NameMap State). insert after name (record { stream = m.key.stream; groups = groups })) (insert-back m.key.groups group m.is m.was m.has)
+      ∙ ap (λ (c : Content). insert c name m.key) m.put ∙ insert-back before name (with_group m.key group m.is) m.key m.had
 
 -- ---- several reads, one more of them
-
-module _ (now : ℕ) (read : ReadGroupCommand) (one : ReadOne) (more : List ReadOne) (before after : Content) (tokens longer : List Token) (served : Served) (s : IsServedAt now read one before after tokens longer served) where
-  pub content-more : (whole : Content) → read_each before now read (one ∷ more) ≡ whole → read_each after now read more ≡ whole
-  content-more whole e = ap (λ c. read_each c now read more) (served-content now read one before after tokens longer served s) ∙ e
-
-  abbrev this : List Reply
-  this = option_map_or (shown_by read one.key one.from (entries_in (get before one.key))) (group_in (get before one.key) read.group) []
-
-  shown : IsShown this served.parts tokens longer
-  shown = served-shown now read one before after tokens longer served s
-
-  split : parts before now read (one ∷ more) ≡ this ++ parts after now read more
-  split = ap (λ c. this ++ parts c now read more) (sym (served-content now read one before after tokens longer served s))
-
-  pub tokens-more : (whole : List Token) → tokens ++ flat_map tokens_of (parts before now read (one ∷ more)) ≡ whole
-      → longer ++ flat_map tokens_of (parts after now read more) ≡ whole
-  tokens-more whole e =
-      ap (λ all. all ++ flat_map tokens_of (parts after now read more)) shown.appended
-      ∙ append_assoc tokens (flat_map tokens_of this) (flat_map tokens_of (parts after now read more))
-      ∙ ap (λ rest. tokens ++ rest) (sym (flat_map-append tokens_of this (parts after now read more)) ∙ ap (flat_map tokens_of) (sym split))
-      ∙ e
-
-  pub count-more : (count whole : ℕ) → count + length (parts before now read (one ∷ more)) ≡ whole
-      → (count + served.parts) + length (parts after now read more) ≡ whole
-  count-more count whole e =
-      omega (arith, e, ap length split, length-append this (parts after now read more), shown.counted)
-
-  pub there-more : list_all (λ one. is_some (group_in (get before one.key) read.group)) (one ∷ more) ≡ true
-      → list_all (λ one. is_some (group_in (get after one.key) read.group)) more ≡ true
-  there-more h = all-stay read.group one.key before after served.delivery (served-made now read one before after tokens longer served s) more
-      (by (is_some (group_in (get before one.key) read.group)) h) where
-        by : (t : Bool) → (t && list_all (λ one. is_some (group_in (get before one.key) read.group)) more) ≡ true → list_all (λ one. is_some (group_in (get before one.key) read.group)) more ≡ true
-        by true h = h
-        by false h = absurd (false≢true h)
 
 pub first-there : (test : ReadOne → Bool) (one : ReadOne) (more : List ReadOne) → list_all test (one ∷ more) ≡ true → test one ≡ true
 first-there test one more h = by (test one) h where
   by : (t : Bool) → (t && list_all test more) ≡ true → t ≡ true
   by true h = refl
   by false h = absurd (false≢true h)
+
+-- of all these reads some are left, and lead to where all of them would
+pub record Underway (now : ℕ) (read : ReadGroupCommand) (all : List ReadOne) (first : Content) (left : List ReadOne) (here : Content) (tokens : List Token) (count : ℕ) : Type 0 where
+  pub content : read_each here now read left ≡ read_each first now read all
+  pub shown : tokens ++ flat_map tokens_of (parts here now read left) ≡ flat_map tokens_of (parts first now read all)
+  pub counted : count + length (parts here now read left) ≡ length (parts first now read all)
+  pub there : list_all (λ one. is_some (group_in (get here one.key) read.group)) left ≡ true
+
+pub one-more : (now : ℕ) (read : ReadGroupCommand) (all : List ReadOne) (first : Content) (one : ReadOne) (more : List ReadOne) (before after : Content) (tokens longer : List Token) (count : ℕ) (served : Served)
+    → Underway now read all first (one ∷ more) before tokens count → IsServedAt now read one before after tokens longer served → Underway now read all first more after longer (count + served.parts)
+one-more now read all first one more before after tokens longer count served u s =
+    let this = parts_of before read one in
+    let split : parts before now read (one ∷ more) ≡ this ++ parts after now read more = ap (λ c. this ++ parts c now read more) (sym s.left) in
+    record {
+      content = ap (λ c. read_each c now read more) s.left ∙ u.content;
+      shown =
+          ap (λ ts. ts ++ flat_map tokens_of (parts after now read more)) s.shows.appended
+          ∙ append_assoc tokens (flat_map tokens_of this) (flat_map tokens_of (parts after now read more))
+          ∙ ap (λ rest. tokens ++ rest) (sym (flat_map-append tokens_of this (parts after now read more)) ∙ ap (flat_map tokens_of) (sym split))
+          ∙ u.shown;
+      counted = omega (arith, u.counted, ap length split, length-append this (parts after now read more), s.shows.counted);
+      there = all-stay read.group one.key before after served.delivery s.made more (by (is_some (group_in (get before one.key) read.group)) u.there);
+    } where
+      by : (t : Bool) → (t && list_all (λ one. is_some (group_in (get before one.key) read.group)) more) ≡ true → list_all (λ one. is_some (group_in (get before one.key) read.group)) more ≡ true
+      by true h = h
+      by false h = absurd (false≢true h)
 
 -- a read has one part at most
 pub one-part : (read : ReadGroupCommand) (key : List ℕ) (from : ReadFrom) (entries : List (Id × List Field)) (group : Option State)
@@ -232,11 +186,6 @@ one-part read key New entries (Some group) = by (delivers read.limit group.curso
 pub parts-le : (content : Content) (now : ℕ) (read : ReadGroupCommand) (reads : List ReadOne) → length (parts content now read reads) ≤ length reads
 parts-le content now read [] = omega arith
 parts-le content now read (one ∷ more) =
-    let this = option_map_or (shown_by read one.key one.from (entries_in (get content one.key))) (group_in (get content one.key) read.group) [] in
+    let this = parts_of content read one in
     let after = asked content now one.key read.group (ask_of_read read one.from) in
     omega (arith, one-part read one.key one.from (entries_in (get content one.key)) (group_in (get content one.key) read.group), parts-le after now read more, length-append this (parts after now read more))
-
--- what is served is never an error
-pub no-error : (replies : List Reply) → is_error (array_or_null replies) ≡ false
-no-error [] = refl
-no-error (r ∷ rs) = refl

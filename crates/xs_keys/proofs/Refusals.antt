@@ -1,33 +1,15 @@
 -- What is refused changes nothing.
 use Rattle.std.proofs.Common.{◌≡◌, ◌≢◌, ◌<◌, ℕ, eqb, ltb, Bool, true, false, cond, List, [], ◌∷◌, Ordering, Option, Some, None, Result, Ok, Err, sym, ap, ◌∙◌, refl, arith}
-use Rattle.std.specs.Option.{option_map_or}
 use Rattle.std.specs.Ordering.{nat_cmp, is_lt, ordering_then}
 use Rattle.std.specs.declared.cmp.Ordering.TheVariants.{Less, Equal, Greater}
 use Rattle.std.proofs.lemmas.Bool.{false≢true}
 use Rattle.std.proofs.lemmas.Cmp.{ranked}
-use Rattle.xs_bytes.specs.SortedMap.{get, has_key, insert, remove}
-use Rattle.xs_stream.specs.declared.id.Id.{Id}
-use Rattle.xs_stream.specs.declared.add.AddId.{AddId}
 use Rattle.xs_stream.specs.declared.add.AddId.TheVariants.{Auto, AutoSeq, Exact}
-use Rattle.xs_stream.specs.declared.add.AddError.{AddError}
-use Rattle.xs_stream.specs.declared.field.Field.{Field}
-use Rattle.xs_stream.specs.declared.trim.Trim.{Trim}
 use Rattle.xs_stream.specs.Id.{id_cmp, is_below, zero_id, assigned}
-use Rattle.xs_stream.specs.Kept.{Kept, ids_of}
 use Rattle.xs_stream.proofs.Order.{same_id}
-use Rattle.xs_group.specs.State.{State, has_name, new_group}
-use Rattle.xs_group.specs.Claims.{claim_of, scan_of}
-use Rattle.xs_group.specs.Report.{owned_count}
-use Rattle.xs_resp.specs.declared.reply.Reply.{Reply}
-use Rattle.xs_resp.specs.declared.reply.Reply.TheVariants.{Simple, Error, Int, NullBulk}
-use Rattle.xs_resp.specs.declared.reply.Simple.TheVariants.{Okay}
-use Rattle.xs_resp.specs.declared.fault.Fault.TheVariants.{Busy, NoGroup}
 use Rattle.xs_command.specs.WellFormed.{IsAddId, IsWellFormed}
 use Rattle.xs_command.specs.declared.command.AddCommand.{AddCommand}
-use Rattle.xs_command.specs.declared.command.Command.{Command}
-use Rattle.xs_command.specs.declared.command.Command.TheVariants.{Ping, Quit, Add, Delete, TrimTo, Len, Scan, GroupCreate, GroupDestroy, ConsumerCreate, ConsumerDelete, ReadGroup, Ack, Pending, PendingRows, Claim, AutoClaim, DropKeys}
-use Rattle.xs_command.specs.declared.command.GroupCreateCommand.{GroupCreateCommand}
-use Rattle.xs_command.specs.declared.command.ReadGroupCommand.{ReadGroupCommand}
+use Rattle.xs_keys.specs.Ground.{option_map_or, get, has_key, insert, remove, Id, AddId, AddError, Field, Trim, Kept, ids_of, State, has_name, new_group, claim_of, scan_of, owned_count, Reply, Simple, Error, Int, NullBulk, Okay, Busy, NoGroup, Command, Ping, Quit, Add, Delete, TrimTo, Len, Scan, GroupCreate, GroupDestroy, ConsumerCreate, ConsumerDelete, ReadGroup, Ack, Pending, PendingRows, Claim, AutoClaim, DropKeys, GroupCreateCommand, ReadGroupCommand}
 use Rattle.xs_keys.specs.Life.{added}
 use Rattle.xs_keys.specs.Ask.{Ask, join, leave, claim, auto_claim}
 use Rattle.xs_keys.specs.GroupLife.{starting_id}

@@ -1,31 +1,27 @@
 -- The rows that XPENDING tells are those of what is pending.
-use Rattle.std.proofs.Common.{◌≡◌, zero, suc, ℕ, ◌≤◌, ◌-◌, Bool, true, false, cond, ◌&&◌, ◌||◌, List, [], ◌∷◌, filter, map, take, length, Option, Some, None, is_some, sym, ap, subst, ◌∙◌, refl, arith}
+use Rattle.std.proofs.Common.{◌≡◌, zero, suc, ℕ, ◌≤◌, ◌-◌, Bool, true, false, cond, ◌&&◌, ◌||◌, List, [], ◌∷◌, filter, map, take, Option, Some, None, is_some, sym, ap, subst, ◌∙◌, refl, arith}
 use Rattle.std.specs.Prelude.{nat_le}
-use Rattle.std.specs.Option.{option_map_or}
-use Rattle.std.proofs.lemmas.Bool.{false≢true}
+use Rattle.std.proofs.lemmas.Bool.{false≢true, and_from}
 use Rattle.std.proofs.lemmas.Bool.Decides.{nat_tests}
 use Rattle.std.proofs.lemmas.List.{take-map}
-use Rattle.xs_stream.specs.declared.id.Id.{Id}
 use Rattle.xs_stream.specs.Id.{is_below, is_same, has_id}
 use Rattle.xs_stream.specs.Kept.{Ascends, AllAbove, is_within}
 use Rattle.xs_stream.proofs.Order.{is_same-eq, is_same-refl, is_same-symm, below-not_same}
-use Rattle.xs_group.specs.declared.reports.PendingRow.{PendingRow}
 use Rattle.xs_group.specs.State.{Row, idle, is_name}
 use Rattle.xs_group.specs.Claims.{row_at}
 use Rattle.xs_group.specs.Report.{is_of, is_asked, pending_row}
 use Rattle.xs_command.specs.declared.command.PendingRowsCommand.{PendingRowsCommand}
+use Rattle.xs_keys.specs.Ground.{Reply, option_map_or, Id, PendingRow}
 use Rattle.xs_keys.specs.Owner.{owner}
 use Rattle.xs_keys.specs.GroupEvent.{rows}
 use Rattle.xs_keys.specs.GroupLife.{GroupLife}
 use Rattle.xs_keys.specs.ReplyParts.{array, row_reply}
-use Rattle.xs_keys.specs.Ground.{Reply}
 use Rattle.xs_keys.specs.Telling.{TellsEach}
 use Rattle.xs_keys.specs.Told.{IsAskedRow, TellsRow, TellsRows}
-use Rattle.xs_keys.specs.Touched.{time_of, count_of}
+use Rattle.xs_keys.proofs.Truths.{first_of, second_of}
 use Rattle.xs_keys.proofs.Names.{is_name-eq, is_name-refl}
 use Rattle.xs_keys.proofs.Owners.{owner-row, row-found, of_row}
 use Rattle.xs_keys.proofs.Touches.{is-last-touched}
-use Rattle.xs_keys.proofs.Sights.{first_of, second_of, both_of}
 use Rattle.xs_keys.proofs.JobBooks.{not_itself}
 use Rattle.xs_keys.proofs.FirstIds.{limited-first, first-as}
 
@@ -136,8 +132,8 @@ module _ (asked : PendingRowsCommand) (now : ℕ) (life : GroupLife) (asc : Asce
         let long : nat_le asked.min_idle (idle now row.time) ≡ true = grind (arith, nat_tests, old) in
         let same : row.consumer ≡ is.consumer = ap (λ (o : Option (List ℕ)). option_map_or (λ n. n) o []) (sym (owner-of x row e) ∙ is.owned) in
         ap (λ r. option_map_or (λ row. is_asked asked.range asked.min_idle now asked.consumer (x, row)) r false) e
-        ∙ both_of (is_within asked.range x) (nat_le asked.min_idle (idle now row.time) && is_of asked.consumer row) is.within
-        (both_of (nat_le asked.min_idle (idle now row.time)) (is_of asked.consumer row) long (named row asked.consumer refl same))
+        ∙ and_from (is_within asked.range x) (nat_le asked.min_idle (idle now row.time) && is_of asked.consumer row) is.within
+        (and_from (nat_le asked.min_idle (idle now row.time)) (is_of asked.consumer row) long (named row asked.consumer refl same))
 
   tells-rows : (es : List (Id × Row)) → AreRowsOf all es → TellsEach (TellsRow now life) (map (λ e. e.0) es) (map (λ e. row_reply (pending_row now e)) es)
   tells-rows [] are = tt

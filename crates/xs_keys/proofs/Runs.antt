@@ -1,9 +1,8 @@
 -- A run so far, and one event more.
 use Rattle.std.proofs.Common.{◌≡◌, ◌⊎◌, ℕ, List, [], ◌∷◌, ◌++◌, Some, inl, inr, sym, ap, ◌∙◌, subst, refl, append_assoc}
 use Rattle.std.proofs.lemmas.List.{append-nil}
-use Rattle.xs_resp.specs.declared.reply.Reply.{Reply}
-use Rattle.xs_command.specs.declared.command.Command.{Command}
 use Rattle.xs_command.specs.WellFormed.{IsWellFormed}
+use Rattle.xs_keys.specs.Ground.{Reply, Command}
 use Rattle.xs_keys.specs.Content.{Content, IsContent}
 use Rattle.xs_keys.specs.Told.{IsTold}
 use Rattle.xs_keys.specs.EachReply.{Follows, Answers}

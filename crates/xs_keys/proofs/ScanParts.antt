@@ -1,15 +1,14 @@
 -- The part that a scan comes to, and the cursor where it goes on.
-use Rattle.std.proofs.Common.{◌≡◌, ℕ, ◌++◌, Bool, true, false, cond, not, ◌&&◌, ◌||◌, List, [], ◌∷◌, map, filter, length, drop, sym, ap, subst, ◌∙◌, refl}
+use Rattle.std.proofs.Common.{◌≡◌, ℕ, ◌++◌, Bool, true, false, cond, ◌||◌, List, [], ◌∷◌, map, sym, ap, subst, ◌∙◌, refl}
 use Rattle.std.proofs.lemmas.List.{append-nil}
-use Rattle.std.proofs.lemmas.Bool.{false≢true}
-use Rattle.xs_stream.specs.declared.id.Id.{Id}
+use Rattle.std.proofs.lemmas.Bool.{false≢true, or_right}
 use Rattle.xs_stream.specs.Id.{is_below, is_same, has_id, zero_id}
-use Rattle.xs_stream.specs.Kept.{Ascends, AllAbove}
 use Rattle.xs_stream.proofs.Order.{is_same-eq, is_same-refl, below-not_back, below-irrefl}
 use Rattle.xs_group.specs.Claims.{is_enough, prefixes, first_where, scanned, first_or_zero}
+use Rattle.xs_keys.specs.Ground.{Id, Ascends}
 use Rattle.xs_keys.specs.Taken.{is_before}
 use Rattle.xs_keys.proofs.IdLists.{has_id-append}
-use Rattle.xs_keys.proofs.Sights.{or_second, above-has}
+use Rattle.xs_keys.proofs.Sights.{above-has}
 use Rattle.xs_keys.proofs.Refusals.{first-below}
 
 -- ---- what is scanned is a beginning
@@ -61,7 +60,7 @@ below-later : (part : List Id) (y : Id) (ys : List Id) → Ascends (part ++ y �
 below-later [] y ys asc x h = absurd (false≢true h)
 below-later (p ∷ ps) y ys asc x h = by (is_same x p) refl h (below-later ps y ys asc.1 x) where
   last : has_id (ps ++ y ∷ ys) y ≡ true
-  last = has_id-append ps (y ∷ ys) y ∙ or_second (has_id ps y) (is_same y y || has_id ys y) (ap (λ t. t || has_id ys y) (is_same-refl y))
+  last = has_id-append ps (y ∷ ys) y ∙ or_right (has_id ps y) (is_same y y || has_id ys y) (ap (λ t. t || has_id ys y) (is_same-refl y))
 
   by : (t : Bool) → is_same x p ≡ t → (t || has_id ps x) ≡ true → (has_id ps x ≡ true → is_below x y ≡ true) → is_below x y ≡ true
   by true e g rest = ap (λ z. is_below z y) (is_same-eq x p e) ∙ above-has p (ps ++ y ∷ ys) y asc.0 last
@@ -74,14 +73,14 @@ ascends-later (p ∷ ps) rest asc = ascends-later ps rest asc.1
 -- a scan has come to what is before its cursor, and to nothing else
 pub before-part : (part rest : List Id) → Ascends (part ++ rest) → (x : Id) → has_id part x ≡ true → is_before (first_or_zero rest) x ≡ true
 before-part part [] asc x h = ap (λ t. t || is_below x zero_id) (is_same-refl zero_id)
-before-part part (y ∷ ys) asc x h = or_second (is_same y zero_id) (is_below x y) (below-later part y ys asc x h)
+before-part part (y ∷ ys) asc x h = or_right (is_same y zero_id) (is_below x y) (below-later part y ys asc x h)
 
 pub part-before : (part rest : List Id) → Ascends (part ++ rest) → AreNotZero (part ++ rest) → (x : Id) → has_id (part ++ rest) x ≡ true
     → is_before (first_or_zero rest) x ≡ true → has_id part x ≡ true
 part-before part [] asc not_zero x h before = subst (λ ids. has_id ids x ≡ true) (append-nil part) h
 part-before part (y ∷ ys) asc not_zero x h before = by (has_id part x) refl (sym (has_id-append part (y ∷ ys) x) ∙ h) where
   y_there : has_id (part ++ y ∷ ys) y ≡ true
-  y_there = has_id-append part (y ∷ ys) y ∙ or_second (has_id part y) (is_same y y || has_id ys y) (ap (λ t. t || has_id ys y) (is_same-refl y))
+  y_there = has_id-append part (y ∷ ys) y ∙ or_right (has_id part y) (is_same y y || has_id ys y) (ap (λ t. t || has_id ys y) (is_same-refl y))
 
   low : is_below x y ≡ true
   low = ap (λ t. t || is_below x y) (sym (not_zero y y_there)) ∙ before

@@ -1,10 +1,8 @@
 -- A command that found no memory has changed nothing, so it may be applied again.
-use Rattle.std.proofs.Common.{◌≡◌, ℕ, true, inl, inr, sym, ap, subst, ◌∙◌}
-use Rattle.xs_command.specs.declared.command.Command.{Command}
+use Rattle.std.proofs.Common.{◌≡◌, ℕ, inl, inr, sym, ap, subst, ◌∙◌}
 use Rattle.xs_command.specs.WellFormed.{IsWellFormed}
-use Rattle.xs_resp.specs.declared.reply.Reply.{Reply}
+use Rattle.xs_keys.specs.Ground.{Error, Memory, Command, Reply}
 use Rattle.xs_keys.specs.Content.{Content}
-use Rattle.xs_keys.specs.Ground.{Error, Memory}
 use Rattle.xs_keys.specs.Step.{Step, is_error}
 use Rattle.xs_keys.proofs.Refusals.{refused-unchanged}
 

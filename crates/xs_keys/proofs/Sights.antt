@@ -1,47 +1,19 @@
 -- The ids in the stream at each event of a group are those that a beginning of the changes of the stream left. So what was
 -- delivered was given, and no entry stays behind the cursor.
 use Rattle.std.proofs.Common.{◌≡◌, ℕ, Bool, true, false, cond, not, ◌&&◌, ◌||◌, List, [], ◌∷◌, ◌++◌, Option, Some, None, is_some, filter, take, zero, suc, sym, ap, subst, ◌∙◌, refl}
-use Rattle.std.proofs.lemmas.Bool.{false≢true}
-use Rattle.std.specs.List.{list_all}
-use Rattle.std.specs.Option.{option_map, option_or}
-use Rattle.xs_stream.specs.declared.id.Id.{Id}
+use Rattle.std.proofs.lemmas.Bool.{false≢true, and_from, or_left, or_right}
 use Rattle.xs_stream.specs.Id.{is_below, is_same, has_id, zero_id}
-use Rattle.xs_stream.specs.Kept.{ids_of, AllAbove, AllUpTo, limited}
 use Rattle.xs_stream.proofs.Order.{is_same-refl, up_to-below, not_above-trans}
 use Rattle.xs_stream.proofs.InOrder.{ids_of-append, ids_of-filter}
-use Rattle.xs_group.specs.State.{is_name}
-use Rattle.xs_command.specs.declared.command.Command.{Command}
-use Rattle.xs_command.specs.declared.command.Command.TheVariants.{Ping, Quit, Add, Delete, TrimTo, Len, Scan, GroupCreate, GroupDestroy, ConsumerCreate, ConsumerDelete, ReadGroup, Ack, Pending, PendingRows, Claim, AutoClaim, DropKeys}
-use Rattle.xs_command.specs.declared.command.GroupCreateCommand.{GroupCreateCommand}
-use Rattle.xs_command.specs.declared.command.ReadGroupCommand.{ReadGroupCommand}
-use Rattle.xs_command.specs.declared.command.ReadOne.{ReadOne}
+use Rattle.xs_keys.specs.Ground.{list_all, option_map, option_or, Id, ids_of, AllAbove, AllUpTo, limited, is_name, Command, Ping, Quit, Add, Delete, TrimTo, Len, Scan, GroupCreate, GroupDestroy, ConsumerCreate, ConsumerDelete, ReadGroup, Ack, Pending, PendingRows, Claim, AutoClaim, DropKeys, GroupCreateCommand, ReadGroupCommand, ReadOne}
 use Rattle.xs_keys.specs.Life.{Change, added, deleted, trimmed_to, is_listed, opened, key_life_after, key_life, greatest, gives, given_in, top, stands, live}
 use Rattle.xs_keys.specs.Ask.{Ask, read_new, read_own, join, leave, ack, claim, auto_claim, new_ids_of_ask}
 use Rattle.xs_keys.specs.GroupEvent.{GroupEvent, new_ids_of_event, delivered, cursor}
 use Rattle.xs_keys.specs.GroupLife.{GroupLife, present_in, new_life, life_after_ask, ask_of_read, life_after_reads, group_life_after, reads_of, group_of, group_life}
+use Rattle.xs_keys.proofs.Truths.{first_of, second_of}
 use Rattle.xs_keys.proofs.IdLists.{has_id-append, has_id-where, not_above, not_among}
 use Rattle.xs_keys.proofs.Streams.{greatest-append, greatest-up, up_to-top, gives-not_new}
 use Rattle.xs_keys.proofs.Deliveries.{PresentAscends, had-event}
-
--- ---- truths
-
-pub first_of : (a b : Bool) → (a && b) ≡ true → a ≡ true
-first_of true b e = refl
-first_of false b e = absurd (false≢true e)
-
-pub second_of : (a b : Bool) → (a && b) ≡ true → b ≡ true
-second_of true b e = e
-second_of false b e = absurd (false≢true e)
-
-pub both_of : (a b : Bool) → a ≡ true → b ≡ true → (a && b) ≡ true
-both_of a b p q = rw (p, q) refl
-
-pub or_first : (a b : Bool) → a ≡ true → (a || b) ≡ true
-or_first a b e = rw e refl
-
-pub or_second : (a b : Bool) → b ≡ true → (a || b) ≡ true
-or_second true b e = refl
-or_second false b e = e
 
 -- ---- what a stream keeps of its past
 
@@ -55,7 +27,7 @@ new_or_old xs ys x none e = by (has_id xs x) (has_id ys x) none (sym (has_id-app
 pub given-more : (change : Change) (past : List Change) (x : Id) → has_id (ids_of (given_in past)) x ≡ true → has_id (ids_of (given_in (change ∷ past))) x ≡ true
 given-more change past x e =
     ap (λ ids. has_id ids x) (ids_of-append (given_in past) (gives change (top past)))
-    ∙ has_id-append (ids_of (given_in past)) (ids_of (gives change (top past))) x ∙ or_first _ _ e
+    ∙ has_id-append (ids_of (given_in past)) (ids_of (gives change (top past))) x ∙ or_left _ _ e
 
 -- an id up to the top isn't given anew
 pub given-before : (change : Change) (past : List Change) (x : Id) → is_below (top past) x ≡ false → has_id (ids_of (given_in (change ∷ past))) x ≡ true → has_id (ids_of (given_in past)) x ≡ true
@@ -85,7 +57,7 @@ pub live-before : (change : Change) (past : List Change) (x : Id) → is_below (
 live-before change past x up e =
     let both = sym (has_id-live (change ∷ past) x) ∙ e in
     has_id-live past x
-    ∙ both_of (stands past x) _ (by _ _ _ (gives-not_new change (top past) x up) (first_of (stands (change ∷ past) x) _ both)) (given-before change past x up (second_of (stands (change ∷ past) x) _ both))
+    ∙ and_from (stands past x) _ (by _ _ _ (gives-not_new change (top past) x up) (first_of (stands (change ∷ past) x) _ both)) (given-before change past x up (second_of (stands (change ∷ past) x) _ both))
   where
     by : (d n s : Bool) → n ≡ false → cond d false (cond n true s) ≡ true → s ≡ true
     by true n s e f = absurd (false≢true f)
@@ -125,7 +97,7 @@ above-has a xs x above e = by (is_below a x) refl where
 
 all-up_to : (a : Id) (xs : List Id) → ((x : Id) → has_id xs x ≡ true → is_below a x ≡ false) → AllUpTo a xs
 all-up_to a [] h = tt
-all-up_to a (x ∷ xs) h = (h x (or_first _ _ (is_same-refl x)), all-up_to a xs (λ y e. h y (or_second (is_same y x) _ e)))
+all-up_to a (x ∷ xs) h = (h x (or_left _ _ (is_same-refl x)), all-up_to a xs (λ y e. h y (or_right (is_same y x) _ e)))
 
 -- the greatest of ids below x is below x
 greatest-below : (a t x : Id) (xs : List Id) → is_below a x ≡ true → is_below t x ≡ true → AllUpTo t xs → is_below (greatest a xs) x ≡ true

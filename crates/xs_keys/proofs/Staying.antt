@@ -1,30 +1,18 @@
 -- Entries stay in a stream, and groups stay open, until a command removes them.
 use Rattle.std.proofs.Common.{◌≡◌, ℕ, Bool, true, false, cond, not, ◌&&◌, ◌||◌, List, [], ◌∷◌, ◌++◌, filter, Option, Some, None, is_some, sym, ap, ◌∙◌, refl}
-use Rattle.std.proofs.lemmas.Bool.{false≢true}
+use Rattle.std.proofs.lemmas.Bool.{false≢true, and_from, or_left}
 use Rattle.std.proofs.lemmas.List.{append-nil}
-use Rattle.std.specs.List.{list_all}
-use Rattle.std.specs.Option.{option_map, option_map_or, option_or}
-use Rattle.xs_stream.specs.declared.id.Id.{Id}
-use Rattle.xs_stream.specs.Id.{has_id, assigned, zero_id}
-use Rattle.xs_stream.specs.Kept.{ids_of, is_trimmed}
-use Rattle.xs_group.specs.State.{is_name}
-use Rattle.xs_command.specs.declared.command.Command.{Command}
-use Rattle.xs_command.specs.declared.command.Command.TheVariants.{Ping, Quit, Add, Delete, TrimTo, Len, Scan, GroupCreate, GroupDestroy, ConsumerCreate, ConsumerDelete, ReadGroup, Ack, Pending, PendingRows, Claim, AutoClaim, DropKeys}
-use Rattle.xs_command.specs.declared.command.ReadGroupCommand.{ReadGroupCommand}
-use Rattle.xs_command.specs.declared.command.ReadOne.{ReadOne}
+use Rattle.xs_keys.specs.Ground.{list_all, option_map, option_map_or, option_or, Id, has_id, assigned, zero_id, ids_of, is_trimmed, is_name, Command, Ping, Quit, Add, Delete, TrimTo, Len, Scan, GroupCreate, GroupDestroy, ConsumerCreate, ConsumerDelete, ReadGroup, Ack, Pending, PendingRows, Claim, AutoClaim, DropKeys, ReadGroupCommand, ReadOne}
 use Rattle.xs_keys.specs.Life.{Change, added, deleted, trimmed_to, is_listed, opened, key_life_after, key_life, gives, given_in, top, drops, stands, live}
 use Rattle.xs_keys.specs.Ask.{Ask, join, leave, ack, claim, auto_claim}
 use Rattle.xs_keys.specs.GroupLife.{GroupLife, present_in, starting_id, new_life, life_after_ask, ask_of_read, life_after_reads, group_life_after, reads_of, group_of, group_life}
 use Rattle.xs_keys.specs.Effect.{ends_group}
 use Rattle.xs_keys.specs.Presence.{removes_entry, has_to_remove, Stays, EntriesStay, has_to_create, GroupsStay}
-use Rattle.xs_keys.proofs.Sights.{first_of, second_of, both_of, or_first, live-given, live-before, given-up_to}
+use Rattle.xs_keys.proofs.Truths.{first_of, second_of, or_false}
+use Rattle.xs_keys.proofs.Sights.{live-given, live-before, given-up_to}
 use Rattle.xs_keys.proofs.JobMoves.{was-dropped, not-live, trimmed-below}
 
 -- ---- entries
-
-or_none : (a : Bool) → (a || false) ≡ true → a ≡ true
-or_none true e = refl
-or_none false e = e
 
 same : (command : Command) (key : List ℕ) (ids given : List Id) (x : Id) → has_to_remove command key ids x ≡ false → Stays command key ids ids given x
 same command key ids given x none = record {
@@ -85,22 +73,22 @@ stays now Quit key stream x = same Quit key (present_in stream) (ids_of (option_
 stays now (Add add) key stream x =
     adds (Add add) key x (added now add.id add.fields add.trim) add.make stream (is_name key add.key)
     (λ here past. record {
-      may = λ e. or_first _ _ (both_of (is_name key add.key) _ here (trimmed-below (assigned now (top past) add.id) add.fields add.trim (live past) x e));
+      may = λ e. or_left _ _ (and_from (is_name key add.key) _ here (trimmed-below (assigned now (top past) add.id) add.fields add.trim (live past) x e));
       must = λ r. absurd (false≢true r);
     })
     (λ ids. refl)
 stays now (Delete k named) key stream x =
     changes-stream (Delete k named) key x (deleted named) stream (is_name key k)
     (λ here past. record {
-      may = λ e. or_first _ _ (both_of (is_name key k) (has_id named x) here e);
-      must = λ r. second_of (is_name key k) (has_id named x) (or_none _ r);
+      may = λ e. or_left _ _ (and_from (is_name key k) (has_id named x) here e);
+      must = λ r. second_of (is_name key k) (has_id named x) (or_false _ r);
     })
     (λ away ids. ap (λ b. (b && has_id named x) || (false || false)) away)
 stays now (TrimTo k trim) key stream x =
     changes-stream (TrimTo k trim) key x (trimmed_to trim) stream (is_name key k)
     (λ here past. record {
-      may = λ e. or_first _ _ (both_of (is_name key k) _ here (ap (λ es. is_trimmed trim (ids_of es) x) (sym (append-nil (live past))) ∙ e));
-      must = λ r. ap (λ es. is_trimmed trim (ids_of es) x) (append-nil (live past)) ∙ second_of (is_name key k) _ (or_none _ r);
+      may = λ e. or_left _ _ (and_from (is_name key k) _ here (ap (λ es. is_trimmed trim (ids_of es) x) (sym (append-nil (live past))) ∙ e));
+      must = λ r. ap (λ es. is_trimmed trim (ids_of es) x) (append-nil (live past)) ∙ second_of (is_name key k) _ (or_false _ r);
     })
     (λ away ids. ap (λ b. (b && is_trimmed trim ids x) || false) away)
 stays now (Len name) key stream x = same (Len name) key (present_in stream) (ids_of (option_map_or given_in stream [])) x refl

@@ -1,16 +1,10 @@
 -- A stream by looking back, and a stream step by step: they are the same.
 use Rattle.std.proofs.Common.{◌≡◌, Bool, true, false, not, cond, ◌&&◌, List, [], ◌∷◌, ◌++◌, filter, Option, Some, None, Result, Ok, Err, is_ok, sym, ap, ◌∙◌, refl}
 use Rattle.std.proofs.lemmas.List.{append-nil}
-use Rattle.std.specs.Option.{option_map_or}
-use Rattle.xs_stream.specs.declared.id.Id.{Id}
-use Rattle.xs_stream.specs.declared.field.Field.{Field}
-use Rattle.xs_stream.specs.declared.trim.Trim.{Trim}
-use Rattle.xs_stream.specs.declared.add.AddError.{AddError}
-use Rattle.xs_stream.specs.Id.{is_below, has_id, zero_id, assigned}
-use Rattle.xs_stream.specs.Kept.{is_trimmed, Kept, ids_of, Ascends, AllUpTo}
 use Rattle.xs_stream.proofs.Order.{is_same-refl, below-irrefl, below-not_same, below-not_back, up_to-below, not_above-trans}
 use Rattle.xs_stream.proofs.Assigning.{assigned-above}
 use Rattle.xs_stream.proofs.InOrder.{ids_of-append, ascends-push, ascends-filter, up_to-filter, filter-filter}
+use Rattle.xs_keys.specs.Ground.{option_map_or, Id, Field, Trim, AddError, is_below, has_id, zero_id, assigned, is_trimmed, Kept, ids_of, Ascends, AllUpTo}
 use Rattle.xs_keys.specs.Life.{Change, added, deleted, trimmed_to, greatest, top_of, entry_of, gives, given_in, top, drops, stands, live, stream_of}
 use Rattle.xs_keys.specs.After.{stream_with, stream_after}
 

@@ -1,45 +1,35 @@
 -- What claims take and remove, and how many a read delivers.
 use Rattle.std.proofs.Common.{◌≡◌, ℕ, ◌≤◌, ◌-◌, ◌⊎◌, inl, inr, Bool, true, false, ◌&&◌, ◌||◌, not, List, [], ◌∷◌, ◌++◌, length, take, drop, filter, Option, Some, None, is_some, sym, ap, ◌∙◌, refl, subst, arith, take_all, ◌+◌, ◌*◌, map, cond}
 use Rattle.std.proofs.lemmas.List.{length-take-le}
-use Rattle.std.proofs.lemmas.Bool.{false≢true}
+use Rattle.std.proofs.lemmas.Bool.{false≢true, and_from, or_left}
 use Rattle.std.proofs.Math.Seq.{drop-append_seam, drop-length}
 use Rattle.std.specs.Prelude.{nat_le}
-use Rattle.std.specs.Option.{option_map_or}
 use Rattle.std.proofs.lemmas.Bool.Decides.{nat_tests}
-use Rattle.xs_stream.specs.declared.id.Id.{Id}
 use Rattle.xs_stream.specs.Id.{is_below, is_same, has_id, zero_id}
-use Rattle.xs_stream.specs.Kept.{Ascends, AllAbove}
 use Rattle.xs_group.specs.declared.claims.Claim.{Claim}
 use Rattle.xs_group.specs.declared.claims.ClaimTime.TheVariants as claim_time
 use Rattle.xs_group.specs.State.{Row, idle, delivers}
 use Rattle.xs_group.specs.Claims.{Rule, row_at, is_idle, is_taken, is_removed, is_hit, is_enough, prefixes, first_where, firsts, scanned, from_start, first_or_zero, claim_among}
 use Rattle.xs_group.specs.Verdict.{AreApart}
 use Rattle.xs_group.proofs.Settling.{apart-filter, apart-firsts}
+use Rattle.xs_keys.specs.Ground.{option_map_or, Id, Ascends, AllAbove}
 use Rattle.xs_keys.specs.Life.{greatest}
 use Rattle.xs_keys.specs.Ask.{Ask, read_new, read_own, ack, join, leave, claim, auto_claim, claim_of_ask, scan_end_of_ask, rule_of, new_ids_of_ask}
 use Rattle.xs_keys.specs.GroupEvent.{GroupEvent, delivered, pending_row_at, rows, new_ids_of_event, cursor}
 use Rattle.xs_keys.specs.Owner.{takes, is_removed_by_claim, owner}
-use Rattle.xs_keys.specs.Taken.{least_idle, IsTakenWhenIdle, IsRemovedWhenGone, is_named_by, is_from_start, is_before, comes_to, is_asked_for, MayStop, ClaimsWhatIsAsked, ClaimsInTurn, ClaimsWhatIsIdle}
-use Rattle.xs_keys.specs.Touched.{time_of}
+use Rattle.xs_keys.specs.Taken.{least_idle, IsTakenWhenIdle, IsRemovedWhenGone, is_before, comes_to, is_asked_for, MayStop, ClaimsWhatIsAsked, ClaimsInTurn, ClaimsWhatIsIdle}
 use Rattle.xs_keys.specs.EachDelivery.{DeliversInFull}
+use Rattle.xs_keys.proofs.Truths.{first_of, second_of, or_false}
 use Rattle.xs_keys.proofs.IdLists.{has_id-where, has_id-append, ascends-where, not_among}
 use Rattle.xs_stream.proofs.Order.{not_above-trans}
 use Rattle.xs_keys.proofs.Streams.{greatest-up, up_to-greatest}
 use Rattle.xs_keys.proofs.GroupSteps.{cursor-step}
 use Rattle.xs_keys.proofs.Deliveries.{PresentAscends, past-start}
-use Rattle.xs_keys.proofs.Sights.{or_first, or_second, both_of, above-has}
+use Rattle.xs_keys.proofs.Sights.{above-has}
 use Rattle.xs_keys.proofs.Owners.{owner-row, row-found, of_row}
 use Rattle.xs_keys.proofs.JobBooks.{ids-among, ascends-rows, ascends-same, same_truth, not_itself}
 use Rattle.xs_keys.proofs.ScanParts.{Begins, scanned-begins, AreNotZero, above-not_zero, before-part, part-before}
 use Rattle.xs_keys.proofs.Touches.{is-last-touched}
-
-left : (a b : Bool) → (a && b) ≡ true → a ≡ true
-left true b h = refl
-left false b h = absurd (false≢true h)
-
-right : (a b : Bool) → (a && b) ≡ true → b ≡ true
-right true b h = h
-right false b h = absurd (false≢true h)
 
 -- ---- the ids that a claim looks at
 
@@ -122,20 +112,20 @@ module _ (all : List (Id × Row)) (are : AreRows all) (now : ℕ) (present : Lis
   ascend = subst Ascends begins.1 (ascends-where (λ y. not (is_below y from)) (map (λ e. e.0) all) are.0)
 
   not_zero : AreNotZero (part ++ begins.0)
-  not_zero = subst AreNotZero begins.1 (λ x h. are.1 x (right (not (is_below x from)) (has_id (map (λ e. e.0) all) x) (sym (has_id-where (λ y. not (is_below y from)) (map (λ e. e.0) all) x) ∙ h)))
+  not_zero = subst AreNotZero begins.1 (λ x h. are.1 x (second_of (not (is_below x from)) (has_id (map (λ e. e.0) all) x) (sym (has_id-where (λ y. not (is_below y from)) (map (λ e. e.0) all) x) ∙ h)))
 
   cursor-is : scan_end_of_ask (auto_claim consumer rule from limit) now present all ≡ first_or_zero begins.0
   unfolding hit part
   cursor-is = ap first_or_zero (ap (drop (length part)) begins.1 ∙ drop-append_seam part begins.0)
 
   part-from : (x : Id) → has_id part x ≡ true → has_id (from_start from all) x ≡ true
-  part-from x h = ap (λ ids. has_id ids x) begins.1 ∙ has_id-append part begins.0 x ∙ or_first (has_id part x) (has_id begins.0 x) h
+  part-from x h = ap (λ ids. has_id ids x) begins.1 ∙ has_id-append part begins.0 x ∙ or_left (has_id part x) (has_id begins.0 x) h
 
   -- it comes to what it scans
   part-come : (x : Id) → has_id part x ≡ true → comes_to this all x ≡ true
   unfolding this
-  part-come x h = both_of (not (is_below x from)) (is_before (scan_end_of_ask (auto_claim consumer rule from limit) now present all) x)
-      (left (not (is_below x from)) (has_id (map (λ e. e.0) all) x) (sym (has_id-where (λ y. not (is_below y from)) (map (λ e. e.0) all) x) ∙ part-from x h))
+  part-come x h = and_from (not (is_below x from)) (is_before (scan_end_of_ask (auto_claim consumer rule from limit) now present all) x)
+      (first_of (not (is_below x from)) (has_id (map (λ e. e.0) all) x) (sym (has_id-where (λ y. not (is_below y from)) (map (λ e. e.0) all) x) ∙ part-from x h))
       (ap (λ c. is_before c x) cursor-is ∙ before-part part begins.0 ascend x h)
 
   -- and scans the rows that it comes to
@@ -143,16 +133,16 @@ module _ (all : List (Id × Row)) (are : AreRows all) (now : ℕ) (present : Lis
   unfolding this
   come-part x h comes = part-before part begins.0 ascend not_zero x
       (ap (λ ids. has_id ids x) (sym begins.1) ∙ has_id-where (λ y. not (is_below y from)) (map (λ e. e.0) all) x
-      ∙ both_of (not (is_below x from)) (has_id (map (λ e. e.0) all) x) (left (not (is_below x from)) (is_before (scan_end_of_ask (auto_claim consumer rule from limit) now present all) x) comes) h)
-      (ap (λ c. is_before c x) (sym cursor-is) ∙ right (not (is_below x from)) (is_before (scan_end_of_ask (auto_claim consumer rule from limit) now present all) x) comes)
+      ∙ and_from (not (is_below x from)) (has_id (map (λ e. e.0) all) x) (first_of (not (is_below x from)) (is_before (scan_end_of_ask (auto_claim consumer rule from limit) now present all) x) comes) h)
+      (ap (λ c. is_before c x) (sym cursor-is) ∙ second_of (not (is_below x from)) (is_before (scan_end_of_ask (auto_claim consumer rule from limit) now present all) x) comes)
 
   part-is : part ≡ filter (λ x. comes_to this all x) (map (λ e. e.0) all)
   part-is = ascends-same part (filter (λ x. comes_to this all x) (map (λ e. e.0) all)) (ascends-first part begins.0 ascend) (ascends-where (λ x. comes_to this all x) (map (λ e. e.0) all) are.0) (λ x.
       same_truth (has_id part x) (has_id (filter (λ y. comes_to this all y) (map (λ e. e.0) all)) x)
-      (λ h. has_id-where (λ y. comes_to this all y) (map (λ e. e.0) all) x ∙ both_of (comes_to this all x) (has_id (map (λ e. e.0) all) x) (part-come x h)
-      (right (not (is_below x from)) (has_id (map (λ e. e.0) all) x) (sym (has_id-where (λ y. not (is_below y from)) (map (λ e. e.0) all) x) ∙ part-from x h)))
+      (λ h. has_id-where (λ y. comes_to this all y) (map (λ e. e.0) all) x ∙ and_from (comes_to this all x) (has_id (map (λ e. e.0) all) x) (part-come x h)
+      (second_of (not (is_below x from)) (has_id (map (λ e. e.0) all) x) (sym (has_id-where (λ y. not (is_below y from)) (map (λ e. e.0) all) x) ∙ part-from x h)))
       (λ h. let is = sym (has_id-where (λ y. comes_to this all y) (map (λ e. e.0) all) x) ∙ h in
-      come-part x (right (comes_to this all x) (has_id (map (λ e. e.0) all) x) is) (left (comes_to this all x) (has_id (map (λ e. e.0) all) x) is)))
+      come-part x (second_of (comes_to this all x) (has_id (map (λ e. e.0) all) x) is) (first_of (comes_to this all x) (has_id (map (λ e. e.0) all) x) is)))
 
   stops : is_enough hit limit part ≡ true → MayStop this all
   unfolding this hit part
@@ -182,7 +172,7 @@ looked-asked (read_own consumer limit from) now present all are x h = absurd (fa
 looked-asked (ack ids) now present all are x h = absurd (false≢true h)
 looked-asked (join consumer) now present all are x h = absurd (false≢true h)
 looked-asked (leave consumer) now present all are x h = absurd (false≢true h)
-looked-asked (claim consumer rule ids) now present all are x h = or_first (has_id ids x) false (sym (firsts-has ids x) ∙ h)
+looked-asked (claim consumer rule ids) now present all are x h = or_left (has_id ids x) false (sym (firsts-has ids x) ∙ h)
 looked-asked (auto_claim consumer rule from limit) now present all are x h = part-come all are now present consumer rule from limit x h
 
 asked-looked : (ask : Ask) (now : ℕ) (present : List Id) (all : List (Id × Row)) → AreRows all → (x : Id) → has_id (map (λ e. e.0) all) x ≡ true
@@ -193,10 +183,7 @@ asked-looked (read_own consumer limit from) now present all are x row h = h
 asked-looked (ack ids) now present all are x row h = h
 asked-looked (join consumer) now present all are x row h = h
 asked-looked (leave consumer) now present all are x row h = h
-asked-looked (claim consumer rule ids) now present all are x row h = firsts-has ids x ∙ or_false (has_id ids x) h where
-  or_false : (b : Bool) → (b || false) ≡ true → b ≡ true
-  or_false true e = e
-  or_false false e = e
+asked-looked (claim consumer rule ids) now present all are x row h = firsts-has ids x ∙ or_false (has_id ids x) h
 asked-looked (auto_claim consumer rule from limit) now present all are x row h = come-part all are now present consumer rule from limit x row h
 
 ascends-apart : (ids : List Id) → Ascends ids → AreApart ids
@@ -252,7 +239,7 @@ module _ (start : Id) (past : List GroupEvent) (asc : PresentAscends past) (even
     ascends-rows start past asc,
     λ y h. above-not_zero start y
         (above-has start (delivered start past) y (past-start start past)
-        (right (is_some (pending_row_at start past y)) (has_id (delivered start past) y) (sym (has_id-where (λ z. is_some (pending_row_at start past z)) (delivered start past) y) ∙ ap (λ l. has_id l y) (sym ids) ∙ h))),
+        (second_of (is_some (pending_row_at start past y)) (has_id (delivered start past) y) (sym (has_id-where (λ z. is_some (pending_row_at start past z)) (delivered start past) y) ∙ ap (λ l. has_id l y) (sym ids) ∙ h))),
   )
     where
       ids : map (λ e. e.0) (rows start past) ≡ filter (λ y. is_some (pending_row_at start past y)) (delivered start past)
@@ -283,7 +270,7 @@ module _ (start : Id) (past : List GroupEvent) (asc : PresentAscends past) (even
         let old : (rule_for event.ask).min_idle ≤ event.now - row.time =
         subst (λ (least : ℕ). least ≤ event.now - row.time) (sym (looks event.ask event.now event.present (rows start past)).1)
         (subst (λ (time : ℕ). least_idle event.ask ≤ event.now - time) (sym (is-last-touched start past x row f).0) may.idle) in
-        both_of (is_idle event.now (rule_for event.ask) (row_at (rows start past) x)) (has_id event.present x) (ap (is_idle event.now (rule_for event.ask)) f ∙ grind (arith, nat_tests, old)) may.present
+        and_from (is_idle event.now (rule_for event.ask) (row_at (rows start past) x)) (has_id event.present x) (ap (is_idle event.now (rule_for event.ask)) f ∙ grind (arith, nat_tests, old)) may.present
 
   idle-by-time : is_taken met event.present event.now asked_rule x ≡ true → IsTakenWhenIdle start past event x
   unfolding met asked_rule
@@ -291,22 +278,22 @@ module _ (start : Id) (past : List GroupEvent) (asc : PresentAscends past) (even
     by : (row : Option Row) → row_at (rows start past) x ≡ row → (is_idle event.now (rule_for event.ask) row && has_id event.present x) ≡ true → IsTakenWhenIdle start past event x
     by None f t = absurd (false≢true t)
     by (Some row) f t =
-        let test : nat_le (rule_for event.ask).min_idle (idle event.now row.time) ≡ true = left (nat_le (rule_for event.ask).min_idle (idle event.now row.time)) (has_id event.present x) t in
+        let test : nat_le (rule_for event.ask).min_idle (idle event.now row.time) ≡ true = first_of (nat_le (rule_for event.ask).min_idle (idle event.now row.time)) (has_id event.present x) t in
         let old : (rule_for event.ask).min_idle ≤ event.now - row.time = grind (arith, nat_tests, test) in
         record {
           owned = has-owner (ap is_some f);
-          present = right (nat_le (rule_for event.ask).min_idle (idle event.now row.time)) (has_id event.present x) t;
+          present = second_of (nat_le (rule_for event.ask).min_idle (idle event.now row.time)) (has_id event.present x) t;
           idle = subst (λ (time : ℕ). least_idle event.ask ≤ event.now - time) (is-last-touched start past x row f).0
               (subst (λ (least : ℕ). least ≤ event.now - row.time) (looks event.ask event.now event.present (rows start past)).1 old);
         }
 
   gone-by-row : IsRemovedWhenGone start past event x → is_removed met event.present x ≡ true
-  gone-by-row may = both_of (is_some (row_at met x)) (not (has_id event.present x)) (has-row may.owned) (ap not may.gone)
+  gone-by-row may = and_from (is_some (row_at met x)) (not (has_id event.present x)) (has-row may.owned) (ap not may.gone)
 
   gone-by-owner : is_removed met event.present x ≡ true → IsRemovedWhenGone start past event x
   gone-by-owner h = record {
-    owned = has-owner (left (is_some (row_at met x)) (not (has_id event.present x)) h);
-    gone = by (has_id event.present x) (right (is_some (row_at met x)) (not (has_id event.present x)) h);
+    owned = has-owner (first_of (is_some (row_at met x)) (not (has_id event.present x)) h);
+    gone = by (has_id event.present x) (second_of (is_some (row_at met x)) (not (has_id event.present x)) h);
   }
     where
       by : (b : Bool) → not b ≡ true → b ≡ false
@@ -332,12 +319,12 @@ module _ (start : Id) (past : List GroupEvent) (asc : PresentAscends past) (even
   as-asked : ClaimsWhatIsAsked start past event x
   unfolding met
   as-asked = record {
-    takes_idle = λ h. idle-by-time (left _ (has_id looked x) (sym takes-is ∙ h));
-    removes_gone = λ h. gone-by-owner (left _ (has_id looked x) (sym removes-is ∙ h));
-    takes_asked = λ h. asked-for (right _ (has_id looked x) (sym takes-is ∙ h));
-    removes_asked = λ h. asked-for (right _ (has_id looked x) (sym removes-is ∙ h));
-    takes_all = λ asked may. takes-is ∙ both_of _ (has_id looked x) (idle-by-row may) (looked-for asked (has-row may.owned));
-    removes_all = λ asked may. removes-is ∙ both_of _ (has_id looked x) (gone-by-row may) (looked-for asked (has-row may.owned));
+    takes_idle = λ h. idle-by-time (first_of _ (has_id looked x) (sym takes-is ∙ h));
+    removes_gone = λ h. gone-by-owner (first_of _ (has_id looked x) (sym removes-is ∙ h));
+    takes_asked = λ h. asked-for (second_of _ (has_id looked x) (sym takes-is ∙ h));
+    removes_asked = λ h. asked-for (second_of _ (has_id looked x) (sym removes-is ∙ h));
+    takes_all = λ asked may. takes-is ∙ and_from _ (has_id looked x) (idle-by-row may) (looked-for asked (has-row may.owned));
+    removes_all = λ asked may. removes-is ∙ and_from _ (has_id looked x) (gone-by-row may) (looked-for asked (has-row may.owned));
   }
 
 in-turn : (start : Id) (past : List GroupEvent) → PresentAscends past → (event : GroupEvent) → ClaimsInTurn start past event

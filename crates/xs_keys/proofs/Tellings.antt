@@ -1,15 +1,10 @@
 -- The replies to reads and claims tell what is delivered and taken, each entry as it was given.
-use Rattle.std.proofs.Common.{◌≡◌, ◌∙◌, inl, inr, ℕ, ◌+◌, ◌-◌, ◌≤◌, Bool, true, false, not, cond, ◌&&◌, ◌||◌, List, [], ◌∷◌, ◌++◌, length, Option, Some, None, Result, Ok, Err, is_some, filter, map, take, bytes_eq, sym, ap, subst, refl, zero, suc, arith}
+use Rattle.std.proofs.Common.{◌≡◌, ◌∙◌, inl, inr, ℕ, ◌+◌, ◌-◌, ◌≤◌, Bool, true, false, not, cond, ◌&&◌, ◌||◌, List, [], ◌∷◌, ◌++◌, length, Option, Some, None, Result, Ok, Err, is_some, filter, map, take, bytes_eq, sym, ap, subst, refl, arith}
+use Rattle.std.proofs.lemmas.Option.{same_Some}
 use Rattle.std.proofs.lemmas.List.{append-nil, length-map}
-use Rattle.std.proofs.lemmas.Bool.{false≢true}
+use Rattle.std.proofs.lemmas.Bool.{false≢true, or_right, and_from}
 use Rattle.std.specs.List.{flat_map, list_all, list_any, IsDistinct, AllByRecursion}
-use Rattle.std.specs.Option.{option_map, option_map_or}
-use Rattle.xs_bytes.specs.SortedMap.{get}
-use Rattle.xs_stream.specs.declared.id.Id.{Id}
-use Rattle.xs_stream.specs.declared.field.Field.{Field}
 use Rattle.xs_stream.specs.Id.{is_below, is_same, has_id, zero_id, assigned}
-use Rattle.xs_stream.specs.declared.add.AddError.{AddError}
-use Rattle.xs_stream.specs.Kept.{Kept, Ascends, ids_of, fields_at, is_trimmed, limited}
 use Rattle.xs_stream.proofs.InOrder.{ids_of-filter, length-filter-le}
 use Rattle.xs_stream.proofs.Order.{is_same-eq, is_same-refl}
 use Rattle.xs_group.specs.State.{State, Row, is_name, delivers, shown, owned, acked, unless_acked}
@@ -17,30 +12,23 @@ use Rattle.xs_group.specs.declared.claims.Scan as scans
 use Rattle.xs_group.specs.Claims.{Rule, claim_of, scan_of, claim_among, firsts, from_start, scanned, is_hit, is_taken, is_idle, row_at}
 use Rattle.xs_group.specs.Report.{is_asked, pending_row, summary_of}
 use Rattle.xs_group.proofs.RemovedRows.{length-change}
-use Rattle.xs_resp.specs.declared.reply.Reply.{Reply}
-use Rattle.xs_resp.specs.declared.reply.Reply.TheVariants.{Bulk, NullBulk, NullArray, Error, Int}
-use Rattle.xs_resp.specs.declared.fault.Fault.TheVariants.{NoGroup}
 use Rattle.xs_command.specs.WellFormed.{IsWellFormed, keys_of}
-use Rattle.xs_command.specs.declared.command.Command.{Command}
-use Rattle.xs_command.specs.declared.command.Command.TheVariants.{Ping, Quit, Add, Delete, TrimTo, Len, Scan, GroupCreate, GroupDestroy, ConsumerCreate, ConsumerDelete, ReadGroup, Ack, Pending, PendingRows, Claim, AutoClaim, DropKeys}
 use Rattle.xs_command.specs.declared.command.AddCommand.{AddCommand}
-use Rattle.xs_command.specs.declared.command.ReadGroupCommand.{ReadGroupCommand}
-use Rattle.xs_command.specs.declared.command.ReadOne.{ReadOne}
-use Rattle.xs_command.specs.declared.command.ReadFrom.{ReadFrom}
-use Rattle.xs_command.specs.declared.command.ReadFrom.TheVariants.{New, After}
+use Rattle.xs_keys.specs.Ground.{option_map, option_map_or, get, Id, Field, AddError, Kept, Ascends, ids_of, fields_at, is_trimmed, limited, Reply, NullBulk, NullArray, Error, Int, NoGroup, Command, Ping, Quit, Add, Delete, TrimTo, Len, Scan, GroupCreate, GroupDestroy, ConsumerCreate, ConsumerDelete, ReadGroup, Ack, Pending, PendingRows, Claim, AutoClaim, DropKeys, ReadGroupCommand, ReadOne, ReadFrom, New, After}
 use Rattle.xs_keys.specs.Life.{Change, added, deleted, trimmed_to, opened, key_life, entry_of, given_in, top_of, live, stands, stream_of}
 use Rattle.xs_keys.specs.GroupEvent.{delivered, cursor, pending_row_at, rows}
 use Rattle.xs_keys.specs.Owner.{owner}
 use Rattle.xs_keys.specs.Ask.{claim, auto_claim, ack}
 use Rattle.xs_keys.specs.GroupLife.{GroupLife, group_life, life_after_ask, present_in, is_new, reads_new_entries, has_all_groups, ids_delivered_by, ask_of_read}
 use Rattle.xs_keys.specs.Content.{Content, Key, IsContent, IsGroup, GroupHolds, KeyHolds}
-use Rattle.xs_keys.specs.After.{made, stream_after, group_in, entries_in, asked, serves}
+use Rattle.xs_keys.specs.After.{made, stream_after, group_in, entries_in, asked}
 use Rattle.xs_keys.specs.Reply.{reply, shown_by, parts, removed_by}
 use Rattle.xs_keys.specs.ReplyParts.{assigned_reply, array, array_or_null, id_reply, field_replies, entry_reply, part, new_part, of_group, owner_reply, summary_reply, row_reply, taken_reply, scan_shown}
 use Rattle.xs_keys.specs.Telling.{TellsEntry, TellsEntryOrNull, TellsEach, AreFirst}
 use Rattle.xs_keys.specs.Life.{given_at}
 use Rattle.xs_keys.specs.Told.{TellsAddition, TellsFewer, present_count, pending_count, claimed_at, TellsTaken, TellsRows, IsTold}
 use Rattle.xs_keys.specs.TellsReads.{TellsNew, IsOwnPast, TellsRead, TellsReads}
+use Rattle.xs_keys.proofs.Truths.{first_of, second_of}
 use Rattle.xs_keys.proofs.IdLists.{has_id-where, ascends-where}
 use Rattle.xs_keys.proofs.Names.{is_name-eq, is_name-refl}
 use Rattle.xs_keys.proofs.Streams.{ascends-live, stream-step}
@@ -50,20 +38,12 @@ use Rattle.xs_keys.proofs.Histories.{present-in-life}
 use Rattle.xs_keys.proofs.Contents.{no_life, asked-elsewhere, serves-known}
 use Rattle.xs_keys.proofs.Lives.{others-absent}
 use Rattle.xs_keys.proofs.Owners.{owner-row, of_row, held-delivered}
-use Rattle.xs_keys.proofs.Sights.{or_second}
+use Rattle.xs_keys.proofs.Sights.{limited-has}
 use Rattle.xs_keys.proofs.JobBooks.{owned-among, ascends-rows}
 use Rattle.xs_keys.proofs.Assigning.{assigned-claim, assigned-scan}
 use Rattle.xs_keys.proofs.RowsTold.{rows-told}
 use Rattle.xs_keys.proofs.FirstIds.{limited-first, first-as}
 use Rattle.xs_keys.proofs.AskSteps.{said-of}
-
-and-first : (a b : Bool) → (a && b) ≡ true → a ≡ true
-and-first true b e = refl
-and-first false b e = e
-
-and-second : (a b : Bool) → (a && b) ≡ true → b ≡ true
-and-second true b e = e
-and-second false b e = absurd (false≢true e)
 
 -- ---- entries as they were given
 
@@ -93,7 +73,7 @@ fields-found (e ∷ es) x = by (is_same x e.0) (fields-found es x) where
 tells-entry : (changes : List Change) (x : Id) → has_id (ids_of (live changes)) x ≡ true → TellsEntry (given_in changes) x (entry_reply (live changes) x)
 tells-entry changes x h = by (fields_at (live changes) x) refl where
   stays : stands changes x ≡ true
-  stays = and-first (stands changes x) (has_id (ids_of (given_in changes)) x) (sym (ap (λ ids. has_id ids x) (ids_of-filter (stands changes) (given_in changes)) ∙ has_id-where (stands changes) (ids_of (given_in changes)) x) ∙ h)
+  stays = first_of (stands changes x) (has_id (ids_of (given_in changes)) x) (sym (ap (λ ids. has_id ids x) (ids_of-filter (stands changes) (given_in changes)) ∙ has_id-where (stands changes) (ids_of (given_in changes)) x) ∙ h)
 
   by : (fields : Option (List Field)) → fields_at (live changes) x ≡ fields → TellsEntry (given_in changes) x (entry_reply (live changes) x)
   by None e = absurd (false≢true (sym (fields-found (live changes) x ∙ ap is_some e) ∙ h))
@@ -112,7 +92,7 @@ tells-null changes x h = by (fields_at (live changes) x) refl where
 
 tells-each : (Tells : Id → Reply → Type 0) (f : Id → Reply) (xs : List Id) → ((x : Id) → has_id xs x ≡ true → Tells x (f x)) → TellsEach Tells xs (map f xs)
 tells-each Tells f [] tells = tt
-tells-each Tells f (x ∷ xs) tells = (tells x (rw is_same-refl refl), tells-each Tells f xs (λ y h. tells y (or_second (is_same y x) (has_id xs y) h)))
+tells-each Tells f (x ∷ xs) tells = (tells x (rw is_same-refl refl), tells-each Tells f xs (λ y h. tells y (or_right (is_same y x) (has_id xs y) h)))
 
 tells-entries : (changes : List Change) (xs : List Id) → AreAmong xs (ids_of (live changes)) → TellsEach (TellsEntry (given_in changes)) xs (map (entry_reply (live changes)) xs)
 tells-entries changes xs among = tells-each (TellsEntry (given_in changes)) (entry_reply (live changes)) xs (λ x h. tells-entry changes x (among x h))
@@ -134,27 +114,15 @@ tells-taken false changes xs among = (map (entry_reply (live changes)) xs, refl,
 
 -- ---- what is delivered and taken is in the stream
 
-take-among : (n : ℕ) (xs : List Id) → AreAmong (take n xs) xs
-take-among zero xs x h = absurd (false≢true h)
-take-among (suc n) [] x h = h
-take-among (suc n) (y ∷ ys) x h = by (is_same x y) h (take-among n ys x) where
-  by : (t : Bool) → (t || has_id (take n ys) x) ≡ true → (has_id (take n ys) x ≡ true → has_id ys x ≡ true) → (t || has_id ys x) ≡ true
-  by true e rest = refl
-  by false e rest = rest e
-
-limited-among : (limit : Option ℕ) (xs : List Id) → AreAmong (limited limit xs) xs
-limited-among None xs x h = h
-limited-among (Some n) xs x h = take-among n xs x h
-
 delivers-among : (limit : Option ℕ) (a : Id) (present : List Id) → AreAmong (delivers limit a present) present
 delivers-among limit a present x h =
-    let above = limited-among limit (filter (λ y. is_below a y) present) x h in
-    and-second (is_below a x) (has_id present x) (sym (has_id-where (λ y. is_below a y) present x) ∙ above)
+    let above = limited-has limit (filter (λ y. is_below a y) present) x h in
+    second_of (is_below a x) (has_id present x) (sym (has_id-where (λ y. is_below a y) present x) ∙ above)
 
 taken-among : (es : List (Id × Row)) (present : List Id) (now : ℕ) (rule : Rule) (ids : List Id) → AreAmong (claim_among es present now rule ids).take present
 taken-among es present now rule ids x h =
-    let taken = and-first (is_taken es present now rule x) (has_id ids x) (sym (has_id-where (is_taken es present now rule) ids x) ∙ h) in
-    and-second (is_idle now rule (row_at es x)) (has_id present x) taken
+    let taken = first_of (is_taken es present now rule x) (has_id ids x) (sym (has_id-where (is_taken es present now rule) ids x) ∙ h) in
+    second_of (is_idle now rule (row_at es x)) (has_id present x) taken
 
 -- ---- a group that is there
 
@@ -266,7 +234,7 @@ module _ (past : List (ℕ × Command)) (key group : List ℕ) (life : GroupLife
 
   own-owner : (x : Id) → has_id own x ≡ true → owner life.start life.events x ≡ Some consumer
   unfolding mine held
-  own-owner x h = owner-row life.start life.events x ∙ by (pending_row_at life.start life.events x) (and-first (mine x) (has_id (delivered life.start life.events) x) (sym (has-own x) ∙ h)) where
+  own-owner x h = owner-row life.start life.events x ∙ by (pending_row_at life.start life.events x) (first_of (mine x) (has_id (delivered life.start life.events) x) (sym (has-own x) ∙ h)) where
     by : (r : Option Row) → option_map_or (λ row. is_name row.consumer consumer) r false ≡ true → of_row r ≡ Some consumer
     by None e = absurd (false≢true e)
     by (Some row) e = ap Some (is_name-eq row.consumer consumer e)
@@ -276,18 +244,13 @@ module _ (past : List (ℕ × Command)) (key group : List ℕ) (life : GroupLife
   owner-own x h = has-own x ∙ by (pending_row_at life.start life.events x) refl (sym (owner-row life.start life.events x) ∙ h) where
     by : (r : Option Row) → pending_row_at life.start life.events x ≡ r → of_row r ≡ Some consumer → (option_map_or (λ row. is_name row.consumer consumer) (pending_row_at life.start life.events x) false && has_id (delivered life.start life.events) x) ≡ true
     by None e f = absurd (subst (λ o. cond (is_some o) (Unit {0}) ⊥) (sym f) tt)
-    by (Some row) e f = rw (e, held-delivered life.start life.events x (ap is_some e)) (both (is_name row.consumer consumer) (ap (λ name. is_name name consumer) (some-is f) ∙ is_name-refl consumer)) where
-      both : (b : Bool) → b ≡ true → (b && true) ≡ true
-      both b g = rw g refl
-
-      some-is : Some row.consumer ≡ Some consumer → row.consumer ≡ consumer
-      some-is g = ap (λ (o : Option (List ℕ)). option_map_or (λ n. n) o []) g
+    by (Some row) e f = rw (e, held-delivered life.start life.events x (ap is_some e)) (and_from (is_name row.consumer consumer) true (ap (λ name. is_name name consumer) (same_Some row.consumer consumer f) ∙ is_name-refl consumer) refl)
 
   -- those that a read shows are the first of them past an id
   pub shows-first : (from : Id) (limit : Option ℕ) → AreFirst (IsOwnPast (Some life) consumer from) limit (shown consumer limit from (rows life.start life.events))
   unfolding own
   shows-first from limit = first-as (λ x. has_id past_from x ≡ true) (IsOwnPast (Some life) consumer from) limit (limited limit past_from)
-      (λ x h. let both = sym (has_id-where (λ y. is_below from y) own x) ∙ h in (own-owner x (and-second (is_below from x) (has_id own x) both), and-first (is_below from x) (has_id own x) both))
+      (λ x h. let both = sym (has_id-where (λ y. is_below from y) own x) ∙ h in (own-owner x (second_of (is_below from x) (has_id own x) both), first_of (is_below from x) (has_id own x) both))
       (λ x h. has_id-where (λ y. is_below from y) own x ∙ (λ i. h.1 i && owner-own x h.0 i))
       (limited-first limit past_from (ascends-where (λ y. is_below from y) own (subst Ascends (sym own-are) (ascends-where (λ y. mine y) (delivered life.start life.events) (ascends-delivered life.start life.events (present-in-life past key group life is))))))
     where
@@ -330,13 +293,13 @@ told-reads c past now read is act (one ∷ more) next distinct open_all same ask
   _,
   _,
   refl,
-  told-read c next past read one (there c past one.key read.group is (and-first (is_some (group_life past one.key read.group)) (list_all (λ o. is_some (group_life past o.key read.group)) more) open_all))
+  told-read c next past read one (there c past one.key read.group is (first_of (is_some (group_life past one.key read.group)) (list_all (λ o. is_some (group_life past o.key read.group)) more) open_all))
       (same one.key (rw (is_name-refl one.key) refl)) act (λ new. asks one.key (rw (is_name-refl one.key, new) refl)),
   told-reads c past now read is act more (asked next now one.key read.group (ask_of_read read one.from)) distinct.1
-      (and-second (is_some (group_life past one.key read.group)) (list_all (λ o. is_some (group_life past o.key read.group)) more) open_all)
+      (second_of (is_some (group_life past one.key read.group)) (list_all (λ o. is_some (group_life past o.key read.group)) more) open_all)
       (λ key among. asked-elsewhere next now one.key read.group (ask_of_read read one.from) key (others key more distinct.0 among)
-      ∙ same key (or_second (is_name key one.key) (list_any (λ o. is_name key o.key) more) among))
-      (λ key among. asks key (or_second (is_name key one.key && is_new one.from) (list_any (λ o. is_name key o.key && is_new o.from) more) among)),
+      ∙ same key (or_right (is_name key one.key) (list_any (λ o. is_name key o.key) more) among))
+      (λ key among. asks key (or_right (is_name key one.key && is_new one.from) (list_any (λ o. is_name key o.key && is_new o.from) more) among)),
 )
   where
     others : (key : List ℕ) (rest : List ReadOne) → AllByRecursion (λ y. bytes_eq one.key y ≡ false) (keys_of rest) → list_any (λ o. is_name key o.key) rest ≡ true → is_name key one.key ≡ false

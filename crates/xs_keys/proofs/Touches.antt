@@ -1,10 +1,9 @@
 -- Time and count of a row are those of the last event that touched it.
 use Rattle.std.proofs.Common.{◌≡◌, ℕ, Bool, true, false, not, cond, ◌&&◌, ◌||◌, List, [], ◌∷◌, Option, Some, None, option_and_then, is_some, ◌⊎◌, inl, inr, sym, ap, subst, ◌∙◌, refl}
-use Rattle.xs_stream.specs.declared.id.Id.{Id}
-use Rattle.xs_stream.specs.Id.{has_id}
 use Rattle.xs_group.specs.declared.claims.Claim.{Claim}
 use Rattle.xs_group.specs.Claims.{Rule, claim_of, scan_of, claimed, claimed_row, claim_time, claim_count}
 use Rattle.xs_group.specs.State.{Row, is_name, delivers, first_row, shown, again, raised, unless_acked, unless_owned}
+use Rattle.xs_keys.specs.Ground.{Id, has_id}
 use Rattle.xs_keys.specs.Ask.{Ask, read_new, read_own, ack, join, leave, claim, auto_claim, row_after_ask, new_ids_of_ask, claim_of_ask, keeps_pending}
 use Rattle.xs_keys.specs.GroupEvent.{GroupEvent, cursor, pending_row_at, rows}
 use Rattle.xs_keys.specs.Touched.{own_ids_shown, time_of_touch, count_of_touch, time_of, count_of, IsLastTouched}

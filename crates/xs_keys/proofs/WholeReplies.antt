@@ -1,12 +1,8 @@
 -- The replies to commands are whole: no array says that it has more or fewer items than it has.
 use Rattle.std.proofs.Common.{ℕ, decimal, Bool, true, false, List, [], ◌∷◌, map, Option, Some, None}
-use Rattle.std.specs.List.{flat_map}
-use Rattle.xs_stream.specs.declared.id.Id.{Id}
-use Rattle.xs_stream.specs.declared.field.Field.{Field}
-use Rattle.xs_stream.specs.Kept.{fields_at, ids_of}
 use Rattle.xs_resp.specs.WholeReplies.{IsWhole, AreWhole}
 use Rattle.xs_resp.proofs.Wholeness.{items-whole, all-whole, whole-append}
-use Rattle.xs_keys.specs.Ground.{State, option_map_or, get, OwnerCount, GroupSummary, PendingRow, ReadGroupCommand, ReadOne, ReadFrom, New, After, delivers, Bulk, Int, NullBulk, NullArray}
+use Rattle.xs_keys.specs.Ground.{State, option_map_or, get, OwnerCount, GroupSummary, PendingRow, ReadGroupCommand, ReadOne, ReadFrom, New, After, delivers, Bulk, Int, NullBulk, NullArray, flat_map, Id, Field, fields_at, ids_of}
 use Rattle.xs_keys.specs.GroupLife.{ask_of_read}
 use Rattle.xs_keys.specs.Content.{Content}
 use Rattle.xs_keys.specs.After.{asked, group_in, entries_in}

@@ -1,7 +1,6 @@
 -- Codes of what a keyspace is seen as, by which a proof tells its values apart.
 use Rattle.std.specs.Prelude.{ℕ, List, refl}
 use Rattle.xs_bytes.specs.SortedMap.{NameMap}
-use Rattle.xs_bytes.specs.MapOf.{from_entries}
 use Rattle.xs_bytes.specs.MapCode.{coded_map}
 use Rattle.std.specs.Coded.{Coded, code_by, coded×, coded_list, coded_ℕ}
 use Rattle.xs_group.specs.State.{State}
@@ -28,11 +27,3 @@ coded_key =
 
 abbrev pub coded_content : Coded Content
 coded_content = coded_map (coded_list coded_ℕ) coded_key
-
--- the content of a list of keys
-abbrev pub content_of : List (List ℕ × Key) → Content
-content_of entries = from_entries entries
-
--- the groups of a list of groups
-abbrev pub groups_of : List (List ℕ × State) → NameMap State
-groups_of entries = from_entries entries

@@ -5,7 +5,6 @@ use Rattle.xs_command.specs.WellFormed.{IsWellFormed}
 use Rattle.xs_keys.specs.Content.{Content, IsContent}
 use Rattle.xs_keys.specs.Reply.{reply}
 use Rattle.xs_keys.specs.Step.{takes_memory, is_error, IsUnchangedIfRefused}
-use Rattle.xs_keys.specs.Owner.{takes}
 use Rattle.xs_keys.specs.Told.{IsTold}
 use Rattle.xs_keys.specs.Event.{Event, History}
 
@@ -19,7 +18,7 @@ pub record IsAnswered (past : History) (now : ℕ) (command : Command) (answer :
   pub told : IsTold past now command answer
   pub unchanged : IsUnchangedIfRefused content now command
 
--- it was refused for want of memory, where the command takes some and the model refuses nothing
+-- it was refused as out of memory, where the command takes some and the model refuses nothing
 pub record IsLeftOut (past : History) (now : ℕ) (command : Command) (answer : Reply) : Type 0 where
   pub takes : takes_memory command ≡ true
   pub content : Content

@@ -8,7 +8,7 @@ use Rattle.xs_command.specs.Read.{reads}
 use Rattle.xs_command.specs.Examples.{line}
 use Rattle.xs_keys.specs.Life.{Change}
 use Rattle.xs_keys.specs.ExamplesHistory.{event}
-use Rattle.xs_keys.specs.Presence.{removes_entry, has_to_remove, Stays, has_to_create}
+use Rattle.xs_keys.specs.Presence.{removes_entry, has_to_remove, has_to_create}
 
 -- what holds of the first command
 abbrev pub of_first : List (ℕ × Command) → (Command → Bool) → Bool

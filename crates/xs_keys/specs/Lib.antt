@@ -29,6 +29,7 @@ pub mod Adding
 pub mod Reading
 pub mod Grouping
 pub mod Codes
+pub mod Lends
 pub mod Played
 pub mod Examples
 pub mod ExamplesHistory

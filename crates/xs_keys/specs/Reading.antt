@@ -6,12 +6,12 @@ use Rattle.xs_resp.specs.ReplyItems.{tokens_of}
 use Rattle.xs_group.specs.declared.delivery.Delivery.{Delivery}
 use Rattle.xs_group.specs.Delivered.{IsMade}
 use Rattle.xs_keys.specs.declared.xreadgroup.Served.{Served}
-use Rattle.xs_keys.specs.Ground.{NameMap, get, insert, Id, Field, ids_of, delivers, shown, State, Reply}
+use Rattle.xs_keys.specs.Ground.{option_map_or, get, insert, Id, ids_of, delivers, shown, State, Reply}
 use Rattle.xs_keys.specs.Ground.{ReadGroupCommand}
 use Rattle.xs_keys.specs.Ground.{ReadOne, ReadFrom, New, After}
 use Rattle.xs_keys.specs.GroupLife.{ask_of_read}
 use Rattle.xs_keys.specs.Content.{Content, Key}
-use Rattle.xs_keys.specs.After.{group_after}
+use Rattle.xs_keys.specs.After.{asked, entries_in, group_after, group_in, with_group}
 use Rattle.xs_keys.specs.ReplyParts.{part, new_part}
 use Rattle.xs_keys.specs.Reply.{shown_by}
 use Rattle.xs_keys.specs.Event.{Bytes, Entries}
@@ -31,6 +31,12 @@ abbrev pub part_of : ReadFrom → Bytes → Entries → List Id → List Reply
 part_of New key entries ids = new_part key entries ids
 part_of (After id) key entries ids = part key entries ids ∷ []
 
+-- what one of these reads shows
+abbrev pub parts_of : Content → ReadGroupCommand → ReadOne → List Reply
+parts_of content read one =
+    let key = get content one.key in
+    option_map_or (shown_by read one.key one.from (entries_in key)) (group_in key read.group) []
+
 -- a read of a group was served: what it left, what it shows, and what takes it back
 pub record IsServed
     (entries : Entries) (now : ℕ) (read : ReadGroupCommand) (one : ReadOne) (before after : State)
@@ -39,41 +45,23 @@ pub record IsServed
   pub shows : IsShown (shown_by read one.key one.from entries before) served.parts tokens longer
   pub made : IsMade before after served.delivery
 
--- so was one of these groups
-pub record IsServedIn
-    (entries : Entries) (now : ℕ) (read : ReadGroupCommand) (one : ReadOne)
-    (before after : NameMap State) (tokens longer : List Token) (served : Served) : Type 0 where
+-- a read of a group of one of these keys made the ones of the others, and answered this delivery
+pub record IsMadeAt (group_name key_name : Bytes) (before after : Content) (delivery : Delivery) : Type 0 where
+  pub key : Key
   pub was : State
   pub is : State
-  pub had : get before read.group ≡ Some was
-  pub put : after ≡ insert before read.group is
-  pub serves : IsServed entries now read one was is tokens longer served
+  pub had : get before key_name ≡ Some key
+  pub has : get key.groups group_name ≡ Some was
+  pub put : after ≡ insert before key_name (with_group key group_name is)
+  pub made : IsMade was is delivery
 
--- so was one of these keys
+-- a read of a group of these keys was served
 pub record IsServedAt
     (now : ℕ) (read : ReadGroupCommand) (one : ReadOne) (before after : Content) (tokens longer : List Token)
     (served : Served) : Type 0 where
-  pub key : Key
-  pub groups : NameMap State
-  pub had : get before one.key ≡ Some key
-  pub put : after ≡ insert before one.key (record key { groups = groups })
-  pub serves : IsServedIn key.stream.entries now read one key.groups groups tokens longer served
-
--- a read of one of these groups made the ones of the others, and answered this delivery
-pub record IsMadeIn (group : Bytes) (before after : NameMap State) (delivery : Delivery) : Type 0 where
-  pub was : State
-  pub is : State
-  pub had : get before group ≡ Some was
-  pub put : after ≡ insert before group is
-  pub made : IsMade was is delivery
-
--- so did one of a group of these keys
-pub record IsMadeAt (group key_name : Bytes) (before after : Content) (delivery : Delivery) : Type 0 where
-  pub key : Key
-  pub groups : NameMap State
-  pub had : get before key_name ≡ Some key
-  pub put : after ≡ insert before key_name (record key { groups = groups })
-  pub made : IsMadeIn group key.groups groups delivery
+  pub left : after ≡ asked before now one.key read.group (ask_of_read read one.from)
+  pub shows : IsShown (parts_of before read one) served.parts tokens longer
+  pub made : IsMadeAt read.group one.key before after served.delivery
 
 -- the first of these reads made the one content of the other, and answered these deliveries, one after the other
 abbrev pub AreMade : Bytes → List ReadOne → List Delivery → Content → Content → Type 0

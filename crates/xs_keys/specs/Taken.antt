@@ -3,7 +3,7 @@ use Rattle.std.specs.Prelude.{◌≡◌, ◌⊎◌, ℕ, ◌≤◌, ◌+◌, ◌
 use Rattle.std.specs.Prelude.{map, filter, length, is_some}
 use Rattle.xs_stream.specs.Id.{is_same}
 use Rattle.xs_group.specs.Verdict.{AreApart}
-use Rattle.xs_keys.specs.Ground.{option_map_or, Id, Row, is_below, has_id, zero_id}
+use Rattle.xs_keys.specs.Ground.{option_map_or, Id, is_below, has_id, zero_id}
 use Rattle.xs_keys.specs.Ask.{Ask, claim, auto_claim, rule_of}
 use Rattle.xs_keys.specs.GroupEvent.{GroupEvent, claim_of_event, scan_end_of_event, rows}
 use Rattle.xs_keys.specs.Owner.{takes}

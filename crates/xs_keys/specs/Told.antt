@@ -1,7 +1,7 @@
--- What replies tell of entries: an addition tells the one that it gives, a read with `>` those that it delivers, one with
--- an id those that its consumer has, and a claim those that it takes, each as it was given; XPENDING tells what is
--- pending; and an acknowledgement, a deletion and a trim tell how many they take away. (Redis, XADD, XREADGROUP, XCLAIM,
--- XAUTOCLAIM, XPENDING, XACK, XDEL, XTRIM and XLEN, "RESP2 Reply".)
+-- What replies tell of entries: an addition tells the one that it gives, a read with `>` those that it delivers, one
+-- with an id those that its consumer has, and a claim those that it takes, each as it was given; XPENDING tells what is
+-- pending; and an acknowledgement, a deletion and a trim tell how many they take away. (Redis, XADD, XREADGROUP,
+-- XCLAIM, XAUTOCLAIM, XPENDING, XACK, XDEL, XTRIM and XLEN, "RESP2 Reply".)
 use Rattle.std.specs.Prelude.{◌≡◌, ◌⊎◌, ℕ, ◌+◌, ◌-◌, ◌≤◌, Bool, true, false, List, [], ◌∷◌, ◌++◌, map, length, Option}
 use Rattle.std.specs.Prelude.{Some, None, is_some}
 use Rattle.xs_stream.specs.Kept.{is_within}
@@ -64,8 +64,8 @@ abbrev pub TellsTaken : Bool → Entries → List Id → List Reply → Type 0
 TellsTaken true given ids told = TellsEach (λ x answer. answer ≡ id_reply x) ids told
 TellsTaken false given ids told = TellsEach (TellsEntry given) ids told
 
--- an XPENDING with a range asks for the entry: it is pending, within the range, has been for long enough, and belongs to
--- the consumer if one is named
+-- an XPENDING with a range asks for the entry: it is pending, within the range, has been for long enough, and belongs
+-- to the consumer if one is named
 pub record IsAskedRow (asked : PendingRowsCommand) (now : ℕ) (life : GroupLife) (x : Id) : Type 0 where
   pub consumer : Bytes
   pub owned : owner life.start life.events x ≡ Some consumer
@@ -90,8 +90,8 @@ TellsRows asked now life answer =
 abbrev pub IfThere : Bool → Reply → Type 0 → Type 0
 IfThere there answer Told = (there ≡ true → Told) × (there ≡ false → answer ≡ Error NoGroup)
 
--- an addition tells what it gives, a read what it delivers or what its consumer has, and a claim what it takes; XPENDING
--- tells what is pending; and an acknowledgement and a removal tell how many they take away
+-- an addition tells what it gives, a read what it delivers or what its consumer has, and a claim what it takes;
+-- XPENDING tells what is pending; and an acknowledgement and a removal tell how many they take away
 abbrev pub IsTold : History → ℕ → Command → Reply → Type 0
 IsTold past now (Add add) answer =
     TellsAddition (given_at past add.key) add.fields answer (given_at ((now, Add add) ∷ past) add.key)

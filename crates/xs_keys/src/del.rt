@@ -1,7 +1,6 @@
 //! DEL.
 ghost use Rattle.std.specs.Prelude.{◌≡◌};
 ghost use Rattle.xs_keys.specs.After.{without_keys};
-ghost use Rattle.xs_keys.specs.Codes.{content_of};
 ghost use Rattle.xs_keys.specs.Reply.{existing};
 ghost use Rattle.xs_keys.specs.Step.{StepAtAnyTime};
 
@@ -12,8 +11,8 @@ use xs_resp::Reply;
 
 /// Removes keys, and counts those that were there, each once.
 fn remove_all(keys: &mut Keys, names: &[Bytes]) -> u64
-    ensures content { content_of keys.new.entries ≡ without_keys names.now (content_of keys.old.entries) }
-    ensures count { result ≡ existing names.now (content_of keys.old.entries) }
+    ensures content { keys.new ≡ without_keys names.now keys.old }
+    ensures count { result ≡ existing names.now keys.old }
 {
     let mut count = 0;
     for name in names {
@@ -26,8 +25,7 @@ fn remove_all(keys: &mut Keys, names: &[Bytes]) -> u64
 
 /// Removes keys with their groups, and says how many of them there were, each counted once.
 pub fn delete(keys: &mut Keys, names: &List<Bytes>) -> Reply
-    ensures { let old = content_of keys.old.entries in
-        StepAtAnyTime old (Command.DropKeys names.now) result (content_of keys.new.entries) }
+    ensures { StepAtAnyTime keys.old (Command.DropKeys names.now) result keys.new }
 {
     Reply::Int(remove_all(keys, names.as_slice()))
 }

@@ -1,4 +1,6 @@
 //! Examples of what clients see, computed from the definitions of the model.
+#![tactic(auto, unfolding(crate::proofs::Computing::example_functions))]
+
 ghost use Rattle.xs_keys.specs.Examples.{Streams, Words, Deliveries, Claims, Lives, Reads, Reports, Edges};
 ghost use Rattle.xs_keys.specs.ExamplesHistory as history;
 ghost use Rattle.xs_keys.specs.ExamplesGroupEvents as group_events;

@@ -1,18 +1,17 @@
 //! The keys, and what a key holds.
 ghost use Rattle.std.specs.Prelude.{◌≡◌};
-ghost use Rattle.std.specs.Option.{option_map};
-ghost use Rattle.xs_bytes.specs.SortedMap as map;
+ghost use Rattle.std.specs.Option.{option_copied};
+ghost use Rattle.xs_bytes.specs.SortedMap.{get};
 ghost use Rattle.xs_keys.specs.After.{group_in};
-ghost use Rattle.xs_keys.specs.Codes.{content_of};
 
-use std::collections::BTreeMap;
+use crate::name_map::NameMap;
 use std::marker::Model;
 use xs_bytes::Bytes;
 use xs_group::Group;
 use xs_stream::Stream;
 
-/// The groups of a key, in the order of their names' bytes.
-pub type Groups = BTreeMap<Bytes, Group>;
+/// The groups of a key.
+pub type Groups = NameMap<Group>;
 
 /// What a key holds: a stream, and its groups.
 #[derive(Drop)]
@@ -25,21 +24,21 @@ pub struct Slot {
 
 impl Model for Slot {
     ghost use Rattle.xs_keys.specs.Content.{Key};
-    ghost use Rattle.xs_keys.specs.Codes.{coded_key, groups_of};
+    ghost use Rattle.xs_keys.specs.Codes.{coded_key};
 
     ghost Value = { Key };
 
     ghost coded = { coded_key };
 
-    ghost view = { λ s. record { stream = s.stream; groups = groups_of s.groups.entries } };
+    ghost view = { λ s. record { stream = s.stream; groups = s.groups } };
 }
 
-/// The keys, in the order of their bytes.
-pub type Keys = BTreeMap<Bytes, Slot>;
+/// The keys. A contract sees their content.
+pub type Keys = NameMap<Slot>;
 
 /// The group of a key, where both are there.
 pub fn group_at<'a>(keys: &'a Keys, key: &Bytes, group: &Bytes) -> Option<&'a Group>
-    ensures { option_map (λ g. g.now) result ≡ group_in (map.get (content_of keys.now.entries) key.now) group.now }
+    ensures { option_copied result ≡ group_in (get keys.now key.now) group.now }
 {
     match keys.get(key) {
         Some(slot) => slot.groups.get(group),

@@ -2,18 +2,17 @@
 ghost use Rattle.std.specs.Prelude.{◌≡◌, IfOk, OnErr, All, true};
 ghost use Rattle.xs_bytes.specs.SortedMap as map;
 ghost use Rattle.xs_command.specs.WellFormed.{IsWellFormed};
-ghost use Rattle.xs_keys.specs.Codes.{content_of};
 ghost use Rattle.xs_keys.specs.Headline.{RunsOn};
 ghost use Rattle.xs_keys.specs.Step.{Step};
 
 use crate::keys::Keys;
+use crate::name_map::NameMap;
 use crate::reserve::Reserve;
 use crate::{
     del, ping, xack, xadd, xautoclaim, xclaim, xdel, xgroup, xlen, xpending, xrange, xreadgroup,
     xtrim,
 };
 use std::alloc::{AllocError, Global};
-use std::collections::BTreeMap;
 use std::marker::Model;
 use xs_command::Command;
 use xs_resp::{Fault, Reply, Simple};
@@ -32,13 +31,13 @@ pub struct Keyspace {
 
 impl Model for Keyspace {
     ghost use Rattle.xs_keys.specs.Content.{Content};
-    ghost use Rattle.xs_keys.specs.Codes.{content_of, coded_content};
+    ghost use Rattle.xs_keys.specs.Codes.{coded_content};
 
     ghost Value = { Content };
 
     ghost coded = { coded_content };
 
-    ghost view = { λ k. content_of k.keys.entries };
+    ghost view = { λ k. k.keys };
 }
 
 impl Keyspace {
@@ -47,14 +46,14 @@ impl Keyspace {
         ensures { result ≡ map.empty }
     {
         Self {
-            keys: BTreeMap::new(alloc),
+            keys: NameMap::new(alloc),
             reserve: Reserve::new(alloc),
             alloc,
         }
     }
 
-    /// Applies one command at a moment, and gives its reply. What is refused changes nothing. Want of
-    /// memory is the reply `OOM`, and comes only where there is no other refusal.
+    /// Applies one command at a moment, and gives its reply. What is refused changes nothing. The reply
+    /// `OOM` says out of memory, and comes only if there is no other refusal.
     pub fn apply(&mut self, now: Moment, command: &Command) -> Reply
         requires { IsWellFormed command.now }
         ensures { Step self.old now command.now result self.new }
@@ -111,7 +110,7 @@ fn apply_to(
     command: &Command,
 ) -> Reply
     requires { IsWellFormed command.now }
-    ensures { Step (content_of keys.old.entries) now command.now result (content_of keys.new.entries) }
+    ensures { Step keys.old now command.now result keys.new }
 {
     match command {
         Command::Ping(message) => ping::ping(alloc, message),

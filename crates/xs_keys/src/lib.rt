@@ -7,6 +7,7 @@ pub mod examples;
 mod keys;
 pub mod keyspace;
 pub mod laws;
+mod name_map;
 mod ping;
 mod reserve;
 mod showing;

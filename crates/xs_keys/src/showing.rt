@@ -57,8 +57,8 @@ pub fn push_present(tokens: &mut Tokens, alloc: Global, entry: &Entry<'_>) -> Re
     push_fields(tokens, entry.fields())
 }
 
-/// Appends the entry with this id, or its id with the null array. If it stands at this place among entries that are lent,
-/// it isn't looked up.
+/// Appends the entry with this id, or its id with the null array. If it stands at this place among entries that are
+/// lent, it isn't looked up.
 pub fn push_along(
     tokens: &mut Tokens,
     alloc: Global,

@@ -1,5 +1,4 @@
 //! XACK.
-ghost use Rattle.xs_keys.specs.Codes.{content_of};
 ghost use Rattle.xs_keys.specs.Step.{StepAtAnyTime};
 
 use crate::keys::Keys;
@@ -9,9 +8,9 @@ use xs_resp::Reply;
 use xs_stream::Id;
 
 /// Takes these ids out of what is pending in a group, and says how many were.
+#[tactic(auto, using(crate::proofs::AskSteps::asked_nothing))]
 pub fn acknowledge(keys: &mut Keys, key: &Bytes, group: &Bytes, ids: &List<Id>) -> Reply
-    ensures { let old = content_of keys.old.entries in
-        StepAtAnyTime old (Command.Ack key.now group.now ids.now) result (content_of keys.new.entries) }
+    ensures { StepAtAnyTime keys.old (Command.Ack key.now group.now ids.now) result keys.new }
 {
     let Some(slot) = keys.get_mut(key) else {
         return Reply::Int(0);

@@ -6,14 +6,13 @@ ghost use Rattle.xs_command.specs.WellFormed.{IsAddId};
 ghost use Rattle.xs_keys.specs.Life.{added};
 ghost use Rattle.xs_keys.specs.After.{stream_after};
 ghost use Rattle.xs_keys.specs.Adding.{text_of, Adds};
-ghost use Rattle.xs_keys.specs.Codes.{content_of};
 ghost use Rattle.xs_keys.specs.ReplyParts.{fault_of};
 ghost use Rattle.xs_keys.specs.Step.{Step};
 
 use crate::keys::{Keys, Slot};
+use crate::name_map::NameMap;
 use crate::reserve::Reserve;
-use std::alloc::Global;
-use std::collections::BTreeMap;
+use std::alloc::{AllocError, Global};
 use xs_bytes::Bytes;
 use xs_command::{AddCommand, Command};
 use xs_resp::{Fault, Reply};
@@ -91,9 +90,9 @@ fn add_missing(
     now: Moment,
     add: &AddCommand,
 ) -> Reply
-    requires missing { map.get (content_of keys.old.entries) add.now.key ≡ None }
+    requires missing { map.get keys.old add.now.key ≡ None }
     requires well_formed { IsAddId add.now.id }
-    ensures { Step (content_of keys.old.entries) now (Command.Add add.now) result (content_of keys.new.entries) }
+    ensures { Step keys.old now (Command.Add add.now) result keys.new }
 {
     if !add.make {
         return Reply::NullBulk;
@@ -105,10 +104,10 @@ fn add_missing(
     let Ok(text) = try_add(reserve, alloc, &mut stream, now, add) else {
         return Reply::Error(Fault::Memory);
     };
-    let groups = BTreeMap::new(alloc);
+    let groups = NameMap::new(alloc);
     match keys.insert(key, Slot { stream, groups }) {
-        Ok(_) => Reply::Bulk(text),
-        Err(_) => Reply::Error(Fault::Memory),
+        Ok(()) => Reply::Bulk(text),
+        Err(AllocError) => Reply::Error(Fault::Memory),
     }
 }
 
@@ -121,7 +120,7 @@ pub fn add(
     add: &AddCommand,
 ) -> Reply
     requires { IsAddId add.now.id }
-    ensures { Step (content_of keys.old.entries) now (Command.Add add.now) result (content_of keys.new.entries) }
+    ensures { Step keys.old now (Command.Add add.now) result keys.new }
 {
     match keys.get_mut(&add.key) {
         Some(slot) => add_to(reserve, alloc, &mut slot.stream, now, add),

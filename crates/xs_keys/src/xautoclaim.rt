@@ -4,7 +4,6 @@ ghost use Rattle.xs_stream.specs.Kept.{ids_of};
 ghost use Rattle.xs_group.specs.Claims as claims;
 ghost use Rattle.xs_keys.specs.Ask.{auto_claim};
 ghost use Rattle.xs_keys.specs.After.{group_after};
-ghost use Rattle.xs_keys.specs.Codes.{content_of};
 ghost use Rattle.xs_resp.specs.ReplyItems.{tokens_of};
 ghost use Rattle.xs_keys.specs.ReplyParts.{array, id_reply, scan_shown, taken_reply};
 ghost use Rattle.xs_keys.specs.Step.{Step};
@@ -90,9 +89,9 @@ fn claim_in(
 }
 
 /// Claims entries of a group from a start upwards.
+#[tactic(auto, using(crate::proofs::AskSteps::asked_nothing, crate::proofs::AskSteps::put_same))]
 pub fn claim(keys: &mut Keys, alloc: Global, now: Moment, command: &AutoClaimCommand) -> Reply
-    ensures { let old = content_of keys.old.entries in
-        Step old now (Command.AutoClaim command.now) result (content_of keys.new.entries) }
+    ensures { Step keys.old now (Command.AutoClaim command.now) result keys.new }
 {
     let Some(slot) = keys.get_mut(&command.key) else {
         return Reply::Error(Fault::NoGroup);

@@ -4,7 +4,6 @@ ghost use Rattle.xs_stream.specs.Kept.{ids_of};
 ghost use Rattle.xs_group.specs.Claims as claims;
 ghost use Rattle.xs_keys.specs.Ask.{claim};
 ghost use Rattle.xs_keys.specs.After.{group_after};
-ghost use Rattle.xs_keys.specs.Codes.{content_of};
 ghost use Rattle.xs_keys.specs.ReplyParts.{array, id_reply, taken_reply};
 ghost use Rattle.xs_keys.specs.Step.{Step};
 
@@ -64,8 +63,9 @@ fn claim_in(
 }
 
 /// Claims entries of a group by their ids.
+#[tactic(auto, using(crate::proofs::AskSteps::asked_nothing, crate::proofs::AskSteps::put_same))]
 pub fn claim(keys: &mut Keys, alloc: Global, now: Moment, command: &ClaimCommand) -> Reply
-    ensures { Step (content_of keys.old.entries) now (Command.Claim command.now) result (content_of keys.new.entries) }
+    ensures { Step keys.old now (Command.Claim command.now) result keys.new }
 {
     let Some(slot) = keys.get_mut(&command.key) else {
         return Reply::Error(Fault::NoGroup);

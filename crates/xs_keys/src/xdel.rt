@@ -1,5 +1,4 @@
 //! XDEL.
-ghost use Rattle.xs_keys.specs.Codes.{content_of};
 ghost use Rattle.xs_keys.specs.Step.{StepAtAnyTime};
 
 use crate::keys::Keys;
@@ -10,8 +9,7 @@ use xs_stream::Id;
 
 /// Removes entries of a key, and says how many there were.
 pub fn delete(keys: &mut Keys, key: &Bytes, ids: &List<Id>) -> Reply
-    ensures { let old = content_of keys.old.entries in
-        StepAtAnyTime old (Command.Delete key.now ids.now) result (content_of keys.new.entries) }
+    ensures { StepAtAnyTime keys.old (Command.Delete key.now ids.now) result keys.new }
 {
     match keys.get_mut(key) {
         Some(slot) => Reply::Int(slot.stream.delete(ids.as_slice())),

@@ -1,15 +1,16 @@
 //! XGROUP: groups and their consumers.
-ghost use Rattle.std.specs.Prelude.{◌≡◌, None, if◌then◌else◌};
-ghost use Rattle.xs_bytes.specs.SortedMap as map;
+ghost use Rattle.std.specs.Prelude.{◌≡◌, None, OnOk, OnErr, if◌then◌else◌};
+ghost use Rattle.xs_bytes.specs.SortedMap.{get, insert};
+ghost use Rattle.xs_group.specs.State.{new_group};
+ghost use Rattle.xs_keys.specs.After.{new_key, with_group};
 ghost use Rattle.xs_keys.specs.GroupLife.{starting_id};
-ghost use Rattle.xs_keys.specs.Codes.{content_of, groups_of};
 ghost use Rattle.xs_keys.specs.Grouping.{Creates};
 ghost use Rattle.xs_keys.specs.Step.{StepAtAnyTime};
 
 use crate::keys::{Groups, Keys, Slot};
+use crate::name_map::NameMap;
 use crate::reserve::Reserve;
 use std::alloc::{AllocError, Global};
-use std::collections::BTreeMap;
 use xs_bytes::Bytes;
 use xs_command::{Command, GroupCreateCommand, GroupStart};
 use xs_group::Group;
@@ -26,6 +27,42 @@ fn start_id(start: GroupStart, top: Id) -> Id
     }
 }
 
+/// Puts a new group among those of a key with this top.
+fn insert_group(
+    groups: &mut Groups,
+    reserve: &mut Reserve,
+    alloc: Global,
+    top: Id,
+    command: &GroupCreateCommand,
+) -> Result<(), AllocError>
+    ensures ok { let group = new_group (starting_id command.now.start top) in
+        OnOk result (groups.new ≡ insert groups.old command.now.group group) }
+    ensures err { OnErr result (groups.new ≡ groups.old) }
+{
+    reserve.fill(alloc)?;
+    let name = Bytes::from_slice(alloc, command.group.as_slice())?;
+    groups.insert(name, Group::new(alloc, start_id(command.start, top)))
+}
+
+/// Puts a new key with its first group. Both come by one insertion, so that a refusal of memory leaves
+/// neither.
+fn insert_key(
+    keys: &mut Keys,
+    reserve: &mut Reserve,
+    alloc: Global,
+    command: &GroupCreateCommand,
+) -> Result<(), AllocError>
+    ensures ok { let group = new_group (starting_id command.now.start new_key.stream.top) in
+        OnOk result (keys.new ≡ insert keys.old command.now.key (with_group new_key command.now.group group)) }
+    ensures err { OnErr result (keys.new ≡ keys.old) }
+{
+    let key = Bytes::from_slice(alloc, command.key.as_slice())?;
+    let stream = Stream::new(alloc);
+    let mut groups = NameMap::new(alloc);
+    insert_group(&mut groups, reserve, alloc, stream.top(), command)?;
+    keys.insert(key, Slot { stream, groups })
+}
+
 /// Makes a group among those of a key with this top.
 fn create_in(
     groups: &mut Groups,
@@ -34,57 +71,33 @@ fn create_in(
     top: Id,
     command: &GroupCreateCommand,
 ) -> Reply
-    ensures { Creates command.now top (groups_of groups.old.entries) result (groups_of groups.new.entries) }
+    ensures { Creates command.now top groups.old result groups.new }
 {
     if groups.contains_key(&command.group) {
         return Reply::Error(Fault::Busy);
     }
-    if reserve.fill(alloc).is_err() {
-        return Reply::Error(Fault::Memory);
-    }
-    let Ok(name) = Bytes::from_slice(alloc, command.group.as_slice()) else {
-        return Reply::Error(Fault::Memory);
-    };
-    let group = Group::new(alloc, start_id(command.start, top));
-    match groups.insert(name, group) {
-        Ok(_) => Reply::Simple(Simple::Okay),
-        Err(_) => Reply::Error(Fault::Memory),
+    match insert_group(groups, reserve, alloc, top, command) {
+        Ok(()) => Reply::Simple(Simple::Okay),
+        Err(AllocError) => Reply::Error(Fault::Memory),
     }
 }
 
-/// Makes a group of a key that isn't there, and the key with it where the command may. Both come by one
-/// insertion, so that a refusal of memory leaves neither.
+/// Makes a group of a key that isn't there, and the key with it where the command may.
 fn create_missing(
     keys: &mut Keys,
     reserve: &mut Reserve,
     alloc: Global,
     command: &GroupCreateCommand,
 ) -> Reply
-    requires { map.get (content_of keys.old.entries) command.now.key ≡ None }
-    ensures { let old = content_of keys.old.entries in
-        StepAtAnyTime old (Command.GroupCreate command.now) result (content_of keys.new.entries) }
+    requires { get keys.old command.now.key ≡ None }
+    ensures { StepAtAnyTime keys.old (Command.GroupCreate command.now) result keys.new }
 {
     if !command.make {
         return Reply::Error(Fault::NoKey);
     }
-    if reserve.fill(alloc).is_err() {
-        return Reply::Error(Fault::Memory);
-    }
-    let Ok(key) = Bytes::from_slice(alloc, command.key.as_slice()) else {
-        return Reply::Error(Fault::Memory);
-    };
-    let Ok(name) = Bytes::from_slice(alloc, command.group.as_slice()) else {
-        return Reply::Error(Fault::Memory);
-    };
-    let stream = Stream::new(alloc);
-    let mut groups = BTreeMap::new(alloc);
-    let group = Group::new(alloc, start_id(command.start, stream.top()));
-    let Ok(_) = groups.insert(name, group) else {
-        return Reply::Error(Fault::Memory);
-    };
-    match keys.insert(key, Slot { stream, groups }) {
-        Ok(_) => Reply::Simple(Simple::Okay),
-        Err(_) => Reply::Error(Fault::Memory),
+    match insert_key(keys, reserve, alloc, command) {
+        Ok(()) => Reply::Simple(Simple::Okay),
+        Err(AllocError) => Reply::Error(Fault::Memory),
     }
 }
 
@@ -95,8 +108,7 @@ pub fn create(
     alloc: Global,
     command: &GroupCreateCommand,
 ) -> Reply
-    ensures { let old = content_of keys.old.entries in
-        StepAtAnyTime old (Command.GroupCreate command.now) result (content_of keys.new.entries) }
+    ensures { StepAtAnyTime keys.old (Command.GroupCreate command.now) result keys.new }
 {
     match keys.get_mut(&command.key) {
         Some(slot) => {
@@ -116,8 +128,7 @@ fn one_where(is: bool) -> Reply
 
 /// XGROUP DESTROY.
 pub fn destroy(keys: &mut Keys, key: &Bytes, group: &Bytes) -> Reply
-    ensures { let old = content_of keys.old.entries in
-        StepAtAnyTime old (Command.GroupDestroy key.now group.now) result (content_of keys.new.entries) }
+    ensures { StepAtAnyTime keys.old (Command.GroupDestroy key.now group.now) result keys.new }
 {
     match keys.get_mut(key) {
         Some(slot) => one_where(slot.groups.remove(group).is_some()),
@@ -126,6 +137,7 @@ pub fn destroy(keys: &mut Keys, key: &Bytes, group: &Bytes) -> Reply
 }
 
 /// XGROUP CREATECONSUMER.
+#[tactic(auto, using(crate::proofs::AskSteps::asked_nothing, crate::proofs::AskSteps::put_same))]
 pub fn create_consumer(
     keys: &mut Keys,
     alloc: Global,
@@ -133,8 +145,7 @@ pub fn create_consumer(
     group: &Bytes,
     consumer: &Bytes,
 ) -> Reply
-    ensures { let old = content_of keys.old.entries in
-        StepAtAnyTime old (Command.ConsumerCreate key.now group.now consumer.now) result (content_of keys.new.entries) }
+    ensures { StepAtAnyTime keys.old (Command.ConsumerCreate key.now group.now consumer.now) result keys.new }
 {
     let Some(slot) = keys.get_mut(key) else {
         return Reply::Error(Fault::NoKey);
@@ -149,9 +160,9 @@ pub fn create_consumer(
 }
 
 /// XGROUP DELCONSUMER.
+#[tactic(auto, using(crate::proofs::AskSteps::asked_nothing))]
 pub fn delete_consumer(keys: &mut Keys, key: &Bytes, group: &Bytes, consumer: &Bytes) -> Reply
-    ensures { let old = content_of keys.old.entries in
-        StepAtAnyTime old (Command.ConsumerDelete key.now group.now consumer.now) result (content_of keys.new.entries) }
+    ensures { StepAtAnyTime keys.old (Command.ConsumerDelete key.now group.now consumer.now) result keys.new }
 {
     let Some(slot) = keys.get_mut(key) else {
         return Reply::Error(Fault::NoKey);

@@ -1,5 +1,4 @@
 //! XLEN.
-ghost use Rattle.xs_keys.specs.Codes.{content_of};
 ghost use Rattle.xs_keys.specs.Step.{StepAtAnyTime};
 
 use crate::keys::Keys;
@@ -9,7 +8,7 @@ use xs_resp::Reply;
 
 /// How many entries a key has.
 pub fn len(keys: &Keys, key: &Bytes) -> Reply
-    ensures { StepAtAnyTime (content_of keys.now.entries) (Command.Len key.now) result (content_of keys.now.entries) }
+    ensures { StepAtAnyTime keys.now (Command.Len key.now) result keys.now }
 {
     match keys.get(key) {
         Some(slot) => Reply::Int(slot.stream.len() as u64),

@@ -4,7 +4,6 @@ ghost use Rattle.std.specs.List.{flat_map};
 ghost use Rattle.std.specs.Option.{option_map_or};
 ghost use Rattle.xs_group.specs.Report as report;
 ghost use Rattle.xs_resp.specs.ReplyItems.{tokens_of};
-ghost use Rattle.xs_keys.specs.Codes.{content_of};
 ghost use Rattle.xs_keys.specs.ReplyParts.{array, array_or_null, id_reply, owner_reply, row_reply, summary_reply};
 ghost use Rattle.xs_keys.specs.Step.{Step, StepAtAnyTime};
 
@@ -125,8 +124,7 @@ fn summary_of(alloc: Global, group: &Group) -> Result<Reply, AllocError>
 
 /// XPENDING, the short form.
 pub fn summary(keys: &Keys, alloc: Global, key: &Bytes, group: &Bytes) -> Reply
-    ensures { let old = content_of keys.now.entries in
-        StepAtAnyTime old (Command.Pending key.now group.now) result old }
+    ensures { StepAtAnyTime keys.now (Command.Pending key.now group.now) result keys.now }
 {
     let Some(group) = group_at(keys, key, group) else {
         return Reply::Error(Fault::NoGroup);
@@ -161,8 +159,7 @@ fn rows_of(
 
 /// XPENDING, the long form.
 pub fn rows(keys: &Keys, alloc: Global, now: Moment, command: &PendingRowsCommand) -> Reply
-    ensures { let old = content_of keys.now.entries in
-        Step old now (Command.PendingRows command.now) result old }
+    ensures { Step keys.now now (Command.PendingRows command.now) result keys.now }
 {
     let Some(group) = group_at(keys, &command.key, &command.group) else {
         return Reply::Error(Fault::NoGroup);

@@ -1,7 +1,6 @@
 //! XRANGE and XREVRANGE.
 ghost use Rattle.std.specs.Prelude.{◌≡◌, IfOk};
 ghost use Rattle.xs_stream.specs.Kept.{limited, ids_within};
-ghost use Rattle.xs_keys.specs.Codes.{content_of};
 ghost use Rattle.xs_keys.specs.ReplyParts.{entries_reply};
 ghost use Rattle.xs_keys.specs.Step.{StepAtAnyTime};
 
@@ -25,8 +24,7 @@ fn range_shown(alloc: Global, stream: &Stream, command: &ScanCommand) -> Result<
 
 /// The entries of a range of a key.
 pub fn range(keys: &Keys, alloc: Global, command: &ScanCommand) -> Reply
-    ensures { let old = content_of keys.now.entries in
-        StepAtAnyTime old (Command.Scan command.now) result old }
+    ensures { StepAtAnyTime keys.now (Command.Scan command.now) result keys.now }
 {
     let Some(slot) = keys.get(&command.key) else {
         return Reply::Array(Replies::new(0, Tokens::new(alloc)));

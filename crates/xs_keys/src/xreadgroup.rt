@@ -1,23 +1,19 @@
 //! XREADGROUP.
 ghost use Rattle.std.specs.Prelude.{◌≡◌, ◌++◌, true, is_some, map, IfOk, OnOk, OnErr};
 ghost use Rattle.std.specs.List.{flat_map};
-ghost use Rattle.xs_bytes.specs.SortedMap as finmap;
-ghost use Rattle.xs_bytes.specs.SortedMap.{NameMap};
+ghost use Rattle.xs_bytes.specs.SortedMap.{get};
 ghost use Rattle.xs_stream.specs.Kept.{ids_of};
-ghost use Rattle.xs_group.specs.State.{State};
 ghost use Rattle.xs_group.specs.Delivered.{IsMade, row_ids};
 ghost use Rattle.xs_keys.specs.GroupLife.{ask_of_read};
 ghost use Rattle.xs_keys.specs.Content.{Content};
 ghost use Rattle.xs_keys.specs.After.{group_after, group_in, serves, read_each};
-ghost use Rattle.xs_keys.specs.Codes.{content_of, groups_of};
 ghost use Rattle.xs_resp.specs.ReplyItems.{tokens_of};
 ghost use Rattle.xs_keys.specs.ReplyParts.{array_or_null, entry_reply, part};
 ghost use Rattle.xs_keys.specs.Reply.{parts};
-ghost use Rattle.xs_keys.specs.Reading.{ids_shown, part_of, IsShown, IsServed, IsServedIn, IsServedAt, IsMadeIn};
-ghost use Rattle.xs_keys.specs.Reading.{IsMadeAt, AreMade};
+ghost use Rattle.xs_keys.specs.Reading.{ids_shown, part_of, IsShown, IsServed, IsServedAt, IsMadeAt, AreMade};
 ghost use Rattle.xs_keys.specs.Step.{Step};
 
-use crate::keys::{Groups, Keys, group_at};
+use crate::keys::{Keys, group_at};
 use crate::showing::{ENTRY_TOKENS, push_along};
 use std::alloc::{AllocError, Global};
 use xs_bytes::Bytes;
@@ -148,29 +144,6 @@ fn serve(
     }
 }
 
-/// Serves one read among the groups of its key.
-fn serve_in(
-    groups: &mut Groups,
-    alloc: Global,
-    stream: &Stream,
-    now: Moment,
-    read: &ReadGroupCommand,
-    one: &ReadOne,
-    tokens: &mut Tokens,
-) -> Result<Served, AllocError>
-    requires { is_some (finmap.get (groups_of groups.old.entries) read.now.group) ≡ true }
-    ensures ok { let before = groups_of groups.old.entries in
-        let after = groups_of groups.new.entries in
-        IfOk result
-        (IsServedIn stream.now.entries now read.now one.now before after tokens.old tokens.new) }
-    ensures err { OnErr result (groups_of groups.new.entries ≡ groups_of groups.old.entries) }
-{
-    match groups.get_mut(&read.group) {
-        Some(group) => serve(group, alloc, stream, now, read, one, tokens),
-        None => unreachable!(),
-    }
-}
-
 /// Serves one read among the keys.
 fn serve_at(
     keys: &mut Keys,
@@ -180,55 +153,37 @@ fn serve_at(
     one: &ReadOne,
     tokens: &mut Tokens,
 ) -> Result<Served, AllocError>
-    requires { is_some (group_in (finmap.get (content_of keys.old.entries) one.now.key) read.now.group) ≡ true }
-    ensures ok { let before = content_of keys.old.entries in
-        let after = content_of keys.new.entries in
-        IfOk result (IsServedAt now read.now one.now before after tokens.old tokens.new) }
-    ensures err { OnErr result (content_of keys.new.entries ≡ content_of keys.old.entries) }
+    requires { is_some (group_in (get keys.old one.now.key) read.now.group) ≡ true }
+    ensures ok { IfOk result (IsServedAt now read.now one.now keys.old keys.new tokens.old tokens.new) }
+    ensures err { OnErr result (keys.new ≡ keys.old) }
 {
-    match keys.get_mut(&one.key) {
-        Some(slot) => serve_in(
-            &mut slot.groups,
-            alloc,
-            &slot.stream,
-            now,
-            read,
-            one,
-            tokens,
-        ),
-        None => unreachable!(),
-    }
-}
-
-/// Takes a read of one of these groups back, where it was the last one.
-fn undo_in(groups: &mut Groups, group: &Bytes, delivery: Delivery)
-    requires { (before : NameMap State) × IsMadeIn group.now before (groups_of groups.old.entries) delivery }
-    ensures { (before : NameMap State) → IsMadeIn group.now before (groups_of groups.old.entries) delivery
-        → groups_of groups.new.entries ≡ before }
-{
-    match groups.get_mut(group) {
-        Some(group) => group.undo(delivery),
-        None => unreachable!(),
-    }
+    let Some(slot) = keys.get_mut(&one.key) else {
+        unreachable!();
+    };
+    let Some(group) = slot.groups.get_mut(&read.group) else {
+        unreachable!();
+    };
+    serve(group, alloc, &slot.stream, now, read, one, tokens)
 }
 
 /// Takes a read of a group of one of these keys back, where it was the last one.
 fn undo_at(keys: &mut Keys, key: &Bytes, group: &Bytes, delivery: Delivery)
-    requires { (before : Content) × IsMadeAt group.now key.now before (content_of keys.old.entries) delivery }
-    ensures { (before : Content) → IsMadeAt group.now key.now before (content_of keys.old.entries) delivery
-        → content_of keys.new.entries ≡ before }
+    requires { (before : Content) × IsMadeAt group.now key.now before keys.old delivery }
+    ensures { (before : Content) → IsMadeAt group.now key.now before keys.old delivery → keys.new ≡ before }
 {
-    match keys.get_mut(key) {
-        Some(slot) => undo_in(&mut slot.groups, group, delivery),
-        None => unreachable!(),
-    }
+    let Some(slot) = keys.get_mut(key) else {
+        unreachable!();
+    };
+    let Some(group) = slot.groups.get_mut(group) else {
+        unreachable!();
+    };
+    group.undo(delivery);
 }
 
 /// Takes reads back, the last first.
 fn undo_all(keys: &mut Keys, reads: &[ReadOne], group: &Bytes, deliveries: Vec<Delivery>)
-    requires { (first : Content) × AreMade group.now reads.now deliveries.items first (content_of keys.old.entries) }
-    ensures { (first : Content) → AreMade group.now reads.now deliveries.items first (content_of keys.old.entries)
-        → content_of keys.new.entries ≡ first }
+    requires { (first : Content) × AreMade group.now reads.now deliveries.items first keys.old }
+    ensures { (first : Content) → AreMade group.now reads.now deliveries.items first keys.old → keys.new ≡ first }
 {
     let mut left = deliveries;
     while let Some(delivery) = left.pop() {
@@ -243,12 +198,10 @@ fn serve_all(
     now: Moment,
     read: &ReadGroupCommand,
 ) -> Result<Reply, AllocError>
-    requires { serves (content_of keys.old.entries) read.now ≡ true }
-    ensures content { OnOk result (content_of keys.new.entries
-        ≡ read_each (content_of keys.old.entries) now read.now read.now.reads) }
-    ensures answer { IfOk result (λ reply. reply
-        ≡ array_or_null (parts (content_of keys.old.entries) now read.now read.now.reads)) }
-    ensures err { OnErr result (content_of keys.new.entries ≡ content_of keys.old.entries) }
+    requires { serves keys.old read.now ≡ true }
+    ensures content { OnOk result (keys.new ≡ read_each keys.old now read.now read.now.reads) }
+    ensures answer { IfOk result (λ reply. reply ≡ array_or_null (parts keys.old now read.now read.now.reads)) }
+    ensures err { OnErr result (keys.new ≡ keys.old) }
 {
     let reads = read.reads.as_slice();
     let mut deliveries = Vec::with_capacity(alloc, reads.len())?;
@@ -274,7 +227,7 @@ fn serve_all(
 
 /// Each key and group of a read is there.
 fn all_there(keys: &Keys, read: &ReadGroupCommand) -> bool
-    ensures { result ≡ serves (content_of keys.now.entries) read.now }
+    ensures { result ≡ serves keys.now read.now }
 {
     for one in read.reads.as_slice() {
         if group_at(keys, &one.key, &read.group).is_none() {
@@ -286,7 +239,7 @@ fn all_there(keys: &Keys, read: &ReadGroupCommand) -> bool
 
 /// XREADGROUP.
 pub fn read(keys: &mut Keys, alloc: Global, now: Moment, read: &ReadGroupCommand) -> Reply
-    ensures { Step (content_of keys.old.entries) now (Command.ReadGroup read.now) result (content_of keys.new.entries) }
+    ensures { Step keys.old now (Command.ReadGroup read.now) result keys.new }
 {
     if !all_there(keys, read) {
         return Reply::Error(Fault::NoGroup);

@@ -1,5 +1,4 @@
 //! XTRIM.
-ghost use Rattle.xs_keys.specs.Codes.{content_of};
 ghost use Rattle.xs_keys.specs.Step.{StepAtAnyTime};
 
 use crate::keys::Keys;
@@ -10,8 +9,7 @@ use xs_stream::Trim;
 
 /// Trims the stream of a key, and says how many entries went.
 pub fn trim(keys: &mut Keys, key: &Bytes, trim: Trim) -> Reply
-    ensures { let old = content_of keys.old.entries in
-        StepAtAnyTime old (Command.TrimTo key.now trim) result (content_of keys.new.entries) }
+    ensures { StepAtAnyTime keys.old (Command.TrimTo key.now trim) result keys.new }
 {
     match keys.get_mut(key) {
         Some(slot) => Reply::Int(slot.stream.trim(trim)),

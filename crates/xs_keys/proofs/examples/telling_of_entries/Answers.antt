@@ -1,9 +1,6 @@
-use Rattle.std.proofs.Common.{◌≡◌, ℕ, List, [], ◌∷◌, length, Option, Some, None, is_some, refl, sym, ap, ◌∙◌, subst, T, arith}
-use Rattle.std.specs.List.{flat_map}
-use Rattle.std.specs.Option.{option_map_or}
+use Rattle.std.proofs.Common.{ℕ, List, [], ◌∷◌, length, Option, is_some, refl, sym, ap, ◌∙◌, subst, T, arith}
 use Rattle.std.proofs.lemmas.Bool.{false≢true}
-use Rattle.xs_stream.specs.declared.field.Field.{Field}
-use Rattle.xs_keys.specs.Ground.{Reply, Array}
+use Rattle.xs_keys.specs.Ground.{Reply, Array, flat_map, option_map_or, Field}
 use Rattle.xs_keys.specs.ReplyParts.{array, field_replies}
 use Rattle.xs_keys.specs.Played.{id as id_told}
 use Rattle.xs_keys.proofs.examples.telling_of_entries.Goals as goal

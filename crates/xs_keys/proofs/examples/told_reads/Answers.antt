@@ -1,33 +1,8 @@
-use Rattle.std.proofs.Common.{◌≡◌, ◌⊎◌, inl, inr, ℕ, Bool, true, length, is_some, List, [], ◌∷◌, ◌++◌, Option, Some, None, refl, sym, ap, ◌∙◌, subst, T, arith, codes}
-use Rattle.xs_bytes.specs.SortedMap.{empty, get, insert_by, remove, change}
-use Rattle.xs_command.specs.Words.{is_word, word, behind_sign, integer, natural, id, low, high}
-use Rattle.xs_command.specs.Options.{up_to}
-use Rattle.xs_command.specs.CommandName.{name_of}
-use Rattle.xs_command.specs.Syntax.{only, leading_ids, ids}
-use Rattle.xs_command.specs.Xgroup.{xgroup, subcommand_of, create, destroy, create_consumer, delete_consumer, create_option, group_start}
-use Rattle.xs_command.specs.Streams.{streams, each_from, is_distinct, read_from}
-use Rattle.xs_command.specs.Xreadgroup.{xreadgroup, read_option, reader}
-use Rattle.xs_command.specs.Xack.{xack}
-use Rattle.xs_command.specs.Xpending.{xpending, form, idle_rows, pending_rows, optional}
-use Rattle.xs_command.specs.Xclaim.{xclaim, claim_option}
-use Rattle.xs_command.specs.Xautoclaim.{xautoclaim, auto_claim_option}
-use Rattle.xs_command.specs.Trim.{max_len, min_id, trim_option}
-use Rattle.xs_command.specs.AddId.{add_id}
-use Rattle.xs_command.specs.Fields.{field, pairs, fields}
-use Rattle.xs_command.specs.Ping.{ping, quit}
-use Rattle.xs_command.specs.Xadd.{xadd, add_option}
-use Rattle.xs_command.specs.Xdel.{xdel}
-use Rattle.xs_command.specs.Xtrim.{xtrim}
-use Rattle.xs_command.specs.Xlen.{xlen}
-use Rattle.xs_command.specs.Xrange.{xrange, xrevrange, scan_option}
-use Rattle.xs_command.specs.Del.{del}
-use Rattle.xs_command.specs.Read.{reads}
+use Rattle.std.proofs.Common.{◌≡◌, ◌⊎◌, inl, inr, ℕ, Bool, true, length, is_some, List, [], ◌∷◌, ◌++◌, Some, None, refl, sym, ap, ◌∙◌, subst, T, arith, codes}
 use Rattle.std.proofs.lemmas.Bool.{false≢true}
-use Rattle.xs_stream.specs.declared.id.Id.{Id}
-use Rattle.xs_stream.specs.Id.{has_id}
 use Rattle.xs_resp.specs.Token.{Token}
 use Rattle.xs_resp.specs.Token as token
-use Rattle.xs_keys.specs.Ground.{Reply, Array, Bulk, NullArray}
+use Rattle.xs_keys.specs.Ground.{Reply, Array, Bulk, NullArray, Id, has_id}
 use Rattle.xs_keys.specs.Life.{key_life}
 use Rattle.xs_keys.specs.GroupLife.{present_in}
 use Rattle.xs_keys.specs.Telling.{TellsEntryOrNull, TellsEach}
@@ -37,6 +12,7 @@ use Rattle.xs_keys.specs.Played.{id as id_told, entry, stream}
 use Rattle.xs_keys.specs.ExamplesHistory.{events, group_and}
 use Rattle.xs_keys.specs.ExamplesTold.{second, two_groups, read_by_a, with_a_deleted_one}
 use Rattle.xs_stream.specs.Examples.{at}
+use Rattle.xs_keys.proofs.Computing.{example_functions}
 use Rattle.xs_keys.proofs.Tellings.{shows-first}
 use Rattle.xs_keys.proofs.examples.told_reads.Goals as goal
 
@@ -75,7 +51,7 @@ all_own b (inl e) other = e
 all_own b (inr a) other = absurd (other a)
 
 pub returns : goal.returns
-unfolding entries_in kind empty get insert_by remove change is_word word behind_sign integer natural id low high up_to name_of only leading_ids ids xgroup subcommand_of create destroy create_consumer delete_consumer create_option group_start streams each_from is_distinct read_from xreadgroup read_option reader xack xpending form idle_rows pending_rows optional xclaim claim_option xautoclaim auto_claim_option max_len min_id trim_option add_id field pairs fields ping quit xadd add_option xdel xtrim xlen xrange xrevrange scan_option del reads
+unfolding entries_in kind example_functions
 returns c = record {
   new = (λ h. (_, refl, (_, [], refl, (second ∷ entry 3 0 ∷ [], refl, ((_, refl, refl), ((_, refl, refl), tt))), refl)), λ h. absurd (subst T h tt));
   own = (λ h. (_, refl, (_, [], refl, (_, [], refl, shows-first (events 5 (group_and [])) (codes "s") (codes "g") _ refl (codes "a") (at 0 0) None, tt), refl)), λ h. absurd (subst T h tt));

@@ -1,9 +1,8 @@
 -- The commands that don't ask for the time are a step at any moment, and so at this one.
-use Rattle.xs_keys.specs.Codes.{content_of}
 use Rattle.xs_keys.proofs.keyspace.apply_to.Goals as goal
 
 pub returns-in-Ping : goal.returns-in-Ping
-returns-in-Ping c = rw c.in-Ping.is (c.ping.ensures (content_of c.args.keys.now.entries) c.args.now)
+returns-in-Ping c = rw c.in-Ping.is (c.ping.ensures c.args.keys.now c.args.now)
 
 pub returns-in-Delete : goal.returns-in-Delete
 returns-in-Delete c = rw c.in-Delete.is (c.delete.ensures c.args.now)

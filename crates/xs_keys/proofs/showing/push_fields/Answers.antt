@@ -1,10 +1,8 @@
 use Rattle.std.proofs.Common.{◌≡◌, ℕ, ◌*◌, ◌∷◌, List, [], length, ap, sym, ◌∙◌, ◌++◌, arith, append_assoc}
 use Rattle.std.proofs.lemmas.List.{append-nil}
-use Rattle.std.specs.List.{flat_map}
-use Rattle.xs_stream.specs.declared.field.Field.{Field}
 use Rattle.xs_resp.specs.Token.{Token, Array}
 use Rattle.xs_resp.specs.ReplyItems.{tokens_of}
-use Rattle.xs_keys.specs.Ground.{Bulk}
+use Rattle.xs_keys.specs.Ground.{Bulk, flat_map, Field}
 use Rattle.xs_keys.specs.ReplyParts.{field_replies}
 use Rattle.xs_keys.proofs.showing.push_fields.Goals as goal
 

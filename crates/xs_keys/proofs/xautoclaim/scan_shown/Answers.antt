@@ -1,4 +1,4 @@
-use Rattle.std.proofs.Common.{List, [], ◌∷◌, map, refl}
+use Rattle.std.proofs.Common.{[], ◌∷◌, map, refl}
 use Rattle.xs_resp.specs.WholeReplies.{AreWhole}
 use Rattle.xs_resp.proofs.Wholeness.{filled, grown}
 use Rattle.xs_keys.specs.Ground.{Reply}

@@ -1,14 +1,10 @@
 use Rattle.std.proofs.Common.{◌≡◌, ℕ, Bool, true, false, List, [], Option, Some, None, ap, ◌∙◌, refl, inl}
 use Rattle.std.proofs.Math.Seq.{take-nil}
 use Rattle.xs_stream.specs.declared.range.Range.{Range}
-use Rattle.xs_stream.specs.Kept.{limited, ids_within}
-use Rattle.xs_resp.specs.declared.reply.Reply.TheVariants.{Array}
 use Rattle.xs_resp.specs.Token.{Token}
 use Rattle.xs_resp.specs.Items.{Items}
 use Rattle.xs_resp.proofs.Wholeness.{filled}
-use Rattle.xs_keys.specs.Content.{Key}
-use Rattle.xs_keys.specs.Codes.{groups_of}
-use Rattle.xs_keys.proofs.AskSteps.{no-key, key-found}
+use Rattle.xs_keys.specs.Ground.{limited, ids_within, Array}
 use Rattle.xs_keys.proofs.xrange.range.Goals as goal
 
 -- a missing key has no entries to show
@@ -28,13 +24,10 @@ pub returns-in_default : goal.returns-in_default
 unfolding none_with
 returns-in_default c = λ now.
     let command = c.args.command.now in
-    let missing = no-key c.args.keys.now command.key c.in_default.ensures.value in
     inl (record {
-      answer_is = rw (missing, none command.limit command.range command.reversed) (ap Array (c.new-in_default.ensures ∙ ap none_with c.new.ensures));
+      answer_is = rw (← c.in_default.ensures, none command.limit command.range command.reversed) (ap Array (c.new-in_default.ensures ∙ ap none_with c.new.ensures));
       content_is = refl;
     })
 
 pub returns-in-Ok : goal.returns-in-Ok
-returns-in-Ok c = λ now.
-    let was : Key = record { stream = c.slot.inside.stream; groups = groups_of c.slot.inside.groups.entries } in
-    inl (record { answer_is = rw (key-found c.args.keys.now c.args.command.now.key _ was c.in-Some.ensures.value c.slot.view_is) c.in-Ok.ensures; content_is = refl })
+returns-in-Ok c = λ now. inl (record { answer_is = rw (← c.in-Some.ensures, ← c.slot.view_is) c.in-Ok.ensures; content_is = refl })

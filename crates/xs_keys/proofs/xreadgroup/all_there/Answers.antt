@@ -1,12 +1,7 @@
 use Rattle.std.proofs.Common.{◌≡◌, ◌∙◌, true, not, Option, Some, None, Bor, is_some, sym, ap, refl}
-use Rattle.std.specs.List.{list_all}
-use Rattle.std.specs.Option.{option_map}
 use Rattle.std.proofs.lemmas.List.Folds.{list_all_at, list_all_more}
-use Rattle.xs_bytes.specs.SortedMap.{get}
-use Rattle.xs_group.specs.State.{State}
-use Rattle.xs_command.specs.declared.command.ReadOne.{ReadOne}
+use Rattle.xs_keys.specs.Ground.{list_all, option_map, get, State, ReadOne}
 use Rattle.xs_keys.specs.After.{group_in}
-use Rattle.xs_keys.specs.Codes.{content_of}
 use Rattle.xs_keys.proofs.xreadgroup.all_there.Goals as goal
 
 is_there : (o : Option (Bor State)) → is_some (option_map (λ g. g.now) o) ≡ is_some o
@@ -15,7 +10,7 @@ is_there (Some g) = refl
 
 pub returns-then-is_none : goal.returns-then-is_none
 returns-then-is_none c =
-    let there = λ (one : ReadOne). is_some (group_in (get (content_of c.args.keys.now.entries) one.key) c.args.read.now.group) in
+    let there = λ (one : ReadOne). is_some (group_in (get c.args.keys.now one.key) c.args.read.now.group) in
     let one = c.one-item.result in
     let found = sym (is_there c.group_at.result) ∙ ap is_some c.group_at.ensures in
     let fails = ap there (sym c.one-item.is) ∙ sym found ∙ c.is_none.ensures ∙ ap not c.if-is_none.true in
@@ -23,7 +18,7 @@ returns-then-is_none c =
 
 pub loop-one-preserved : goal.loop-one-preserved
 loop-one-preserved c =
-    let there = λ (one : ReadOne). is_some (group_in (get (content_of c.args.keys.now.entries) one.key) c.args.read.now.group) in
+    let there = λ (one : ReadOne). is_some (group_in (get c.args.keys.now one.key) c.args.read.now.group) in
     let one = c.one-item.result in
     let found = sym (is_there c.group_at.result) ∙ ap is_some c.group_at.ensures in
     let holds : there one ≡ true = sym found ∙ c.is_none.ensures ∙ ap not c.if-is_none.false in

@@ -1,11 +1,9 @@
 use Rattle.std.proofs.Common.{◌≡◌, true, take, is_some}
-use Rattle.std.specs.List.{list_all}
-use Rattle.xs_bytes.specs.SortedMap.{get}
+use Rattle.xs_keys.specs.Ground.{list_all, get}
 use Rattle.xs_keys.specs.After.{group_in}
-use Rattle.xs_keys.specs.Codes.{content_of}
 use Rattle.xs_keys.proofs.xreadgroup.all_there.Given as goal
 
 -- so far each is there
 abbrev pub invariant-loop-one : goal.invariant-loop-one
 invariant-loop-one l =
-    list_all (λ one. is_some (group_in (get (content_of l.keys.entries) one.key) l.read.group)) (take l.one-index l.one-items) ≡ true
+    list_all (λ one. is_some (group_in (get l.keys one.key) l.read.group)) (take l.one-index l.one-items) ≡ true

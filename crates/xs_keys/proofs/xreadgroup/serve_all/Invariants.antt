@@ -1,21 +1,13 @@
-use Rattle.std.proofs.Common.{◌≡◌, ◌≤◌, ◌+◌, ◌++◌, true, drop, length, is_some, vec_len, vec_capacity}
-use Rattle.std.specs.List.{flat_map, list_all}
-use Rattle.xs_bytes.specs.SortedMap.{get}
-use Rattle.xs_resp.specs.ReplyItems.{tokens_of}
-use Rattle.xs_keys.specs.After.{group_in, read_each}
-use Rattle.xs_keys.specs.Codes.{content_of}
-use Rattle.xs_keys.specs.Reply.{parts}
+use Rattle.std.proofs.Common.{◌≡◌, ◌≤◌, drop, length, vec_len, vec_capacity}
 use Rattle.xs_keys.specs.Reading.{AreMade}
+use Rattle.xs_keys.proofs.ReadSteps.{Underway}
 use Rattle.xs_keys.proofs.xreadgroup.serve_all.Given as goal
 
 -- the rest of the reads leads to where all of them would, and what is done can be taken back
 abbrev pub invariant-loop-one : goal.invariant-loop-one
 invariant-loop-one l = record {
-  content : read_each (content_of l.keys.entries) l.now l.read (drop l.one-index l.reads) ≡ read_each (content_of l.initial.keys.entries) l.now l.read l.reads;
-  shown : l.tokens ++ flat_map tokens_of (parts (content_of l.keys.entries) l.now l.read (drop l.one-index l.reads)) ≡ flat_map tokens_of (parts (content_of l.initial.keys.entries) l.now l.read l.reads);
-  counted : l.parts + length (parts (content_of l.keys.entries) l.now l.read (drop l.one-index l.reads)) ≡ length (parts (content_of l.initial.keys.entries) l.now l.read l.reads);
-  there : list_all (λ one. is_some (group_in (get (content_of l.keys.entries) one.key) l.read.group)) (drop l.one-index l.reads) ≡ true;
-  made : AreMade l.read.group l.reads l.deliveries.items (content_of l.initial.keys.entries) (content_of l.keys.entries);
+  underway : Underway l.now l.read l.reads l.initial.keys (drop l.one-index l.reads) l.keys l.tokens l.parts;
+  made : AreMade l.read.group l.reads l.deliveries.items l.initial.keys l.keys;
   count : vec_len l.deliveries ≡ l.one-index;
   room : length l.reads ≤ vec_capacity l.deliveries;
 }

@@ -1,31 +1,41 @@
 use Rattle.std.proofs.Common.{◌≡◌, ◌∙◌, Some, is_some, sym, ap}
 use Rattle.std.proofs.lemmas.Bool.{false≢true}
-use Rattle.xs_bytes.specs.SortedMap.{NameMap, get, insert}
+use Rattle.xs_bytes.specs.SortedMap.{get, insert}
 use Rattle.xs_group.specs.State.{State}
 use Rattle.xs_keys.specs.Content.{Key}
-use Rattle.xs_keys.specs.Codes.{content_of, groups_of}
-use Rattle.xs_keys.proofs.Maps.{get-content_of, content-insert}
-use Rattle.xs_keys.proofs.ReadSteps.{key-there, key-groups, back-at}
+use Rattle.xs_keys.specs.After.{group_in, with_group}
+use Rattle.xs_keys.proofs.ReadSteps.{made-there, made-state, taken-back}
 use Rattle.xs_keys.proofs.xreadgroup.undo_at.Goals as goal
 use Rattle.xs_keys.proofs.xreadgroup.undo_at.Goals.{After-slot}
 
-found : (c : After-slot) → get (content_of c.args.keys.now.entries) c.args.key.now ≡ Some (record { stream = c.slot.inside.stream; groups = groups_of c.slot.inside.groups.entries })
-found c = get-content_of c.args.keys.now c.args.key.now ∙ sym c.in-Some.ensures.value ∙ ap Some (sym c.slot.view_is)
+abbrev key : After-slot → Key
+key c = record { stream = c.slot.inside.stream; groups = c.slot.inside.groups }
 
-pub undo_in-requires : goal.undo_in-requires
-undo_in-requires c =
-    let m = c.requires.1 in
-    (m.key.groups, (key-groups c.args.group.now c.args.key.now c.requires.0 (content_of c.args.keys.now.entries) c.args.delivery m c.slot.inside.stream (groups_of c.slot.inside.groups.entries) (found (goal.at.undo_in-requires c).After-slot)).1)
+found : (c : After-slot) → get c.args.keys.now c.args.key.now ≡ Some (key c)
+found c = sym c.in-Some.ensures.value ∙ ap Some (sym c.slot.view_is)
 
 pub unreachable-requires : goal.unreachable-requires
 unreachable-requires c =
-    false≢true (sym (ap is_some (get-content_of c.args.keys.now c.args.key.now ∙ sym c.in-None.ensures.value)) ∙ key-there c.args.group.now c.args.key.now c.requires.0 (content_of c.args.keys.now.entries) c.args.delivery c.requires.1)
+    false≢true (ap (λ k. is_some (group_in k c.args.group.now)) c.in_default.ensures.value
+    ∙ made-there c.args.group.now c.args.key.now c.requires.0 c.args.keys.now c.args.delivery c.requires.1)
+
+pub unreachable-requires-in_default-get_mut : goal.unreachable-requires-in_default-get_mut
+unreachable-requires-in_default-get_mut c =
+    false≢true (ap is_some c.in_default-get_mut.ensures.value
+    ∙ sym (ap (λ k. is_some (group_in k c.args.group.now)) (found (goal.at.unreachable-requires-in_default-get_mut c).After-slot))
+    ∙ made-there c.args.group.now c.args.key.now c.requires.0 c.args.keys.now c.args.delivery c.requires.1)
+
+pub undo-requires : goal.undo-requires
+undo-requires c =
+    let at = (goal.at.undo-requires c).After-slot in
+    let m = c.requires.1 in
+    (m.was, made-state c.args.group.now c.args.key.now c.requires.0 c.args.keys.now c.args.delivery m (key at) c.in-Some-get_mut.group.now (found at) (sym c.in-Some-get_mut.ensures.value))
 
 pub returns : goal.returns
 returns c = λ before m.
-    let old = content_of c.args.keys.now.entries in
-    let left : Key = record { stream = c.slot.inside.stream; groups = groups_of c.undo_in.new.groups.entries } in
-    let at = key-groups c.args.group.now c.args.key.now before old c.args.delivery m c.slot.inside.stream (groups_of c.slot.inside.groups.entries) (found (goal.at.returns c).After-slot) in
-    content-insert c.args.keys.now (c.get_mut.follows.lender left) c.args.key.now left ((c.get_mut.follows.holds left).3 (sym (ap is_some (c.in-Some.ensures.value))))
-    ∙ ap (λ (groups : NameMap State). insert old c.args.key.now (record { stream = c.slot.inside.stream; groups = groups })) (c.undo_in.ensures m.key.groups at.1)
-    ∙ back-at c.args.group.now c.args.key.now before old c.args.delivery m c.slot.inside.stream at.0
+    let at = (goal.at.returns c).After-slot in
+    let keys = c.args.keys.now in
+    let name = c.args.key.now in
+    let group = c.args.group.now in
+    let made = made-state group name before keys c.args.delivery m (key at) c.in-Some-get_mut.group.now (found at) (sym c.in-Some-get_mut.ensures.value) in
+    ap (λ (g : State). insert keys name (with_group (key at) group g)) (c.undo.ensures m.was made) ∙ taken-back group name before keys c.args.delivery m (key at) (found at)

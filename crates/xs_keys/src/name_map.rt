@@ -1,0 +1,85 @@
+//! Maps by names.
+ghost use Rattle.std.specs.Prelude.{◌≡◌, OnOk, OnErr};
+ghost use Rattle.std.specs.Borrow.{sem};
+ghost use Rattle.std.specs.Option.{option_copied, option_copied_mut};
+ghost use Rattle.xs_bytes.specs.SortedMap.{empty, get, has_key, insert, remove};
+
+use std::alloc::{AllocError, Global};
+use std::collections::BTreeMap;
+use std::marker::Model;
+use xs_bytes::Bytes;
+
+/// Values by names, in the order of the names' bytes. A contract sees a sorted map.
+#[derive(Drop)]
+pub struct NameMap<V> {
+    entries: BTreeMap<Bytes, V>,
+}
+
+impl<V> Model for NameMap<V> {
+    ghost use Rattle.std.specs.Coded.{coded_list, coded_ℕ};
+    ghost use Rattle.xs_bytes.specs.MapCode.{coded_map};
+    ghost use Rattle.xs_bytes.specs.MapOf.{from_entries};
+    ghost use Rattle.xs_bytes.specs.SortedMap.{NameMap as Seen};
+
+    ghost Value = { Seen V };
+
+    ghost coded = { coded_map (coded_list coded_ℕ) V.code };
+
+    ghost view = { λ m. from_entries m.entries.entries };
+}
+
+impl<V> NameMap<V> {
+    ghost use Rattle.xs_keys.specs.Lends.{lends_value};
+
+    /// The empty map. It takes no memory.
+    pub fn new(alloc: Global) -> Self
+        ensures { result ≡ empty }
+    {
+        Self {
+            entries: BTreeMap::new(alloc),
+        }
+    }
+
+    /// The value at a name.
+    pub fn get(&self, name: &Bytes) -> Option<&V>
+        ensures { option_copied result ≡ get self.now name.now }
+    {
+        self.entries.get(name)
+    }
+
+    /// The value at a name, to be changed.
+    pub fn get_mut(&mut self, name: &Bytes) -> Option<&mut V>
+        ensures* writes_back { sem 𝓛 (lends_value V.row self.entry name.now result) }
+        ensures value { option_copied_mut result ≡ get self.old name.now }
+    {
+        self.entries.get_mut(name)
+    }
+
+    /// Whether the name has a value.
+    pub fn contains_key(&self, name: &Bytes) -> bool
+        ensures { result ≡ has_key self.now name.now }
+    {
+        self.entries.contains_key(name)
+    }
+}
+
+impl<V: Drop> NameMap<V> {
+    /// Puts a value at a name.
+    pub fn insert(&mut self, name: Bytes, value: V) -> Result<(), AllocError>
+        ensures ok { OnOk result (self.new ≡ insert self.old name value) }
+        ensures err { OnErr result (self.new ≡ self.old) }
+    {
+        match self.entries.insert(name, value) {
+            Ok(_) => Ok(()),
+            Err(_) => Err(AllocError),
+        }
+    }
+
+    /// Takes the value at a name out.
+    pub fn remove(&mut self, name: &Bytes) -> Option<V>
+        ensures value { result ≡ get self.old name.now }
+        ensures map { self.new ≡ remove self.old name.now }
+    {
+        self.entries.remove(name)
+    }
+}
