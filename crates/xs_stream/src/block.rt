@@ -18,7 +18,7 @@ use crate::packed::number::after;
 use crate::packed::text::read_text;
 use crate::packed::walks::{
     after_entries, count_below, fields_of, place_of, push_all_entries, push_all_ids, push_entries,
-    push_ids,
+    push_ids, shares_names,
 };
 use crate::range::Range;
 use std::alloc::{AllocError, Global};
@@ -208,6 +208,7 @@ impl Block {
         }
         cut(&mut self.bytes, place.from, place.to);
         self.count -= 1;
+        self.tidy();
         true
     }
 
@@ -243,9 +244,27 @@ impl Block {
         self.tidy();
     }
 
-    /// Cuts out what lies between the names and the entries, once it is more than a quarter. So each byte moves few times
-    /// in all, whether entries go one by one or many at once.
+    /// Cuts out what lies before the entries and isn't needed, once it may be more than a quarter: the names, if no entry
+    /// has them, and what lies between them and the entries. So each byte moves few times in all, whether entries go one
+    /// by one or many at once.
     fn tidy(&mut self)
+        requires { 0 < length self.old }
+        ensures { self.new ≡ self.old }
+    {
+        let bytes = self.bytes.as_slice();
+        if self.start <= bytes.len() / 4 {
+            return;
+        }
+        if shares_names(self.base, self.count, self.start, bytes) {
+            self.cut_gap();
+        } else {
+            drop_front(&mut self.bytes, self.start);
+            self.start = 1;
+        }
+    }
+
+    /// Cuts out what lies between the names and the entries, if it is more than a quarter.
+    fn cut_gap(&mut self)
         requires { 0 < length self.old }
         ensures { self.new ≡ self.old }
     {
@@ -408,6 +427,16 @@ fn names_end(bytes: &[u8]) -> usize
 {
     let (_, behind) = read_text(bytes);
     bytes.len() - behind.len()
+}
+
+/// Leaves missing names in the place of what lies before the entries.
+fn drop_front(bytes: &mut Vec<u8>, start: usize)
+    requires some { 0 < start }
+    requires inside { start ≤ vec_len bytes.old }
+    ensures { bytes.new.items ≡ text_code [] ++ drop start bytes.old.items }
+{
+    cut(bytes, 1, start);
+    bytes[0] = 0;
 }
 
 /// Turns the order of the items from a place on.

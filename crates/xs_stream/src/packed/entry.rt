@@ -69,10 +69,13 @@ fn read_ms(base: u64, bytes: &[u8]) -> (u64, &[u8])
     (base.wrapping_add(above), rest)
 }
 
-/// Whether fields have these names.
+/// Whether fields have these names, which aren't missing.
 pub(crate) fn has_names(names: &[u8], fields: &[Field]) -> bool
     ensures { result ≡ has_names names.now fields.now }
 {
+    if names.is_empty() {
+        return false;
+    }
     let (count, mut rest) = read_number(names);
     if count != fields.len() as u64 {
         return false;

@@ -5,13 +5,13 @@ ghost use Rattle.std.specs.Map.{remove_entry};
 ghost use Rattle.std.specs.Option.{is_some};
 ghost use Rattle.xs_stream.specs.Id.{is_same, is_below};
 ghost use Rattle.xs_stream.specs.Kept.{is_within, ids_of, fields_at};
-ghost use Rattle.xs_stream.specs.Packed.{after_entries, block_entries};
+ghost use Rattle.xs_stream.specs.Packed.{after_entries, block_entries, shares_names};
 
 use crate::entry::Entry;
 use crate::id::Id;
 use crate::packed::entry::read_entry;
 use crate::packed::fields::PackedFields;
-use crate::packed::number::after;
+use crate::packed::number::{after, read_number};
 use crate::packed::text::read_text;
 use crate::range::Range;
 use std::alloc::AllocError;
@@ -188,6 +188,22 @@ pub(crate) fn push_all_entries<'a>(
         rest = entry.rest;
     }
     Ok(())
+}
+
+/// Whether one of the entries has the names that the block has once.
+pub(crate) fn shares_names(base: u64, count: usize, start: usize, bytes: &[u8]) -> bool
+    ensures { result ≡ shares_names count (drop start bytes.now) }
+{
+    let mut rest = after(bytes, start);
+    for _ in 0..count {
+        let entry = read_entry(base, rest);
+        let (mark, _) = read_number(entry.body);
+        if mark == 0 {
+            return true;
+        }
+        rest = entry.rest;
+    }
+    false
 }
 
 /// The bytes after these many entries.

@@ -49,12 +49,12 @@ left c =
 pub returns-clause-entries : goal.returns-clause-entries
 returns-clause-entries c =
     let removed = rw (c.as_slice-bytes.ensures.value) at c.in-Some.ensures.removed in
-    rw (← c.self.view_is) (left c ∙ sym removed)
+    rw (← c.self.view_is) (c.tidy.ensures ∙ left c.before.before ∙ sym removed)
 
 pub returns-clause-count : goal.returns-clause-count
 returns-clause-count c =
     let inside = c.self.inside in
-    rw (← c.self.view_is) (omega (arith, length-block_entries inside.base inside.count inside.start inside.bytes.items, length-block_entries inside.base (inside.count - 1) inside.start c.cut.new.bytes.items, c.in-Some.ensures.index))
+    rw (← c.self.view_is) (omega (arith, length-block_entries inside.base inside.count inside.start inside.bytes.items, length-block_entries inside.base (inside.count - 1) inside.start c.cut.new.bytes.items, ap length c.tidy.ensures, c.in-Some.ensures.index))
 
 pub drop_some-requires : goal.drop_some-requires
 drop_some-requires c =
