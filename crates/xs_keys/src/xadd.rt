@@ -45,9 +45,8 @@ fn try_add(
     let Ok(text) = id.text(alloc) else {
         return Err(AddError::Memory);
     };
-    match stream.add(now, add.id, add.fields.as_slice()) {
-        Ok(_) => {}
-        Err(error) => return Err(error),
+    if stream.push(id, add.fields.as_slice()).is_err() {
+        return Err(AddError::Memory);
     }
     if let Some(trim) = add.trim {
         let _ = stream.trim(trim);

@@ -1,6 +1,6 @@
 -- Entries of a block: what is left of them, and what is taken out.
-use Rattle.std.proofs.Common.{◌≡◌, ℕ, ◌+◌, ◌-◌, ◌<◌, ◌≤◌, ◌^◌, suc, zero, List, [], ◌∷◌, ◌++◌, ◌&&◌, eqb, ltb, subst, Bool, true, false, cond, Some, length, filter, take, drop, sym, ap, ◌∙◌, refl, arith, append_assoc, add-one}
-use Rattle.std.specs.List.{remove, remove_range}
+use Rattle.std.proofs.Common.{◌≡◌, ℕ, ◌+◌, ◌-◌, ◌<◌, ◌≤◌, ◌^◌, suc, zero, List, [], ◌∷◌, ◌++◌, ◌&&◌, ◌||◌, eqb, ltb, subst, Bool, true, false, cond, Some, length, filter, take, drop, sym, ap, ◌∙◌, refl, arith, append_assoc, add-one}
+use Rattle.std.specs.List.{remove, remove_range, flat_map}
 use Rattle.std.specs.Map.{remove_entry}
 use Rattle.std.specs.Option.{is_some}
 use Rattle.std.proofs.lemmas.List.{append-nil, take-append-drop, length-append, length-take, length-drop}
@@ -12,11 +12,11 @@ use Rattle.xs_stream.specs.declared.field.Field.{Field}
 use Rattle.xs_stream.specs.declared.id.Id.{Id}
 use Rattle.xs_stream.specs.Id.{is_same}
 use Rattle.xs_stream.specs.Kept.{fields_at, ids_of}
-use Rattle.xs_stream.specs.PackedNumber.{first_number, after_number}
+use Rattle.xs_stream.specs.PackedNumber.{number_code, first_number, after_number}
 use Rattle.xs_stream.specs.PackedText.{text_code, first_text, after_text}
-use Rattle.xs_stream.specs.Packed.{names_code, has_names, body_fields, entry_code, entry_id, entry_body, entry_in, after_entry, entries_in, after_entries, entries_code, block_entries, IsPacked}
+use Rattle.xs_stream.specs.Packed.{names_code, has_names, body_fields, entry_code, entry_id, entry_body, entry_in, after_entry, entries_in, after_entries, entries_code, block_entries, shares_names, body_code, field_code, mark_of, ms_code, rebased_code, all_rebased, IsPacked}
 use Rattle.xs_stream.proofs.Order.{is_same-eq, is_same-refl}
-use Rattle.xs_stream.proofs.PackedCodes.{entries_in-whole, after_entry-code, length-entries_in, first_text-code, after_text-code, has_names-own}
+use Rattle.xs_stream.proofs.PackedCodes.{first_number-code, entries_in-whole, entry_id-code, entry_body-code, after_entry-code, length-entries_in, first_text-code, after_text-code, has_names-own, has_names-missing}
 
 pub after_entries-suc : (i : ℕ) (bytes : List ℕ) → after_entries (suc i) bytes ≡ after_entry (after_entries i bytes)
 after_entries-suc zero bytes = refl
@@ -199,6 +199,84 @@ at-start base count start bytes names rest e f = let all : count - 0 ≡ count =
 pub none-left : (base : ℕ) (names : List ℕ) (count i : ℕ) (rest : List ℕ) → count ≤ i → entries_in base names (count - i) rest ≡ []
 none-left base names count i rest h = let e : count - i ≡ 0 = omega arith in rw e refl
 
+-- ---- shared names
+
+shares-step : (count : ℕ) (bytes : List ℕ) → 0 < count → shares_names count bytes ≡ (eqb (first_number (entry_body bytes)) 0 || shares_names (count - 1) (after_entry bytes))
+shares-step zero bytes h = absurd (omega arith)
+shares-step (suc count) bytes h = let e : suc count - 1 ≡ count = omega arith in rw e refl
+
+-- one more entry has been looked at
+module _ (count i mark : ℕ) (rest body : List ℕ) (h : i < count) (is : body ≡ entry_body rest) (marked : mark ≡ first_number body) where
+  pub shares-passed : (next : List ℕ) → next ≡ after_entry rest → (mark ≡ 0 → ⊥) → shares_names (count - i) rest ≡ shares_names (count - (i + 1)) next
+  shares-passed next on other =
+      let less : count - (i + 1) ≡ count - i - 1 = omega arith in
+      let names : eqb (first_number (entry_body rest)) 0 ≡ false = subst (λ b. eqb (first_number b) 0 ≡ false) is (grind (arith, nat_tests)) in
+      shares-step (count - i) rest (omega arith) ∙ rw (names, less, on) refl
+
+  pub shares-found : mark ≡ 0 → shares_names (count - i) rest ≡ true
+  shares-found own =
+      let names : eqb (first_number (entry_body rest)) 0 ≡ true = subst (λ b. eqb (first_number b) 0 ≡ true) is (grind (arith, nat_tests)) in
+      shares-step (count - i) rest (omega arith) ∙ rw names refl
+
+pub shares-none : (count i : ℕ) (rest : List ℕ) → count ≤ i → shares_names (count - i) rest ≡ false
+shares-none count i rest h = let e : count - i ≡ 0 = omega arith in rw e refl
+
+marked : (shared : Bool) (fields : List Field) → first_number (body_code shared fields) ≡ mark_of shared fields
+unfolding body_code
+marked shared fields = first_number-code (mark_of shared fields) (flat_map (field_code shared) fields)
+
+unmarked : (shared : Bool) (fields : List Field) → eqb (first_number (body_code shared fields)) 0 ≡ false → shared ≡ false
+unmarked true fields h = absurd (false≢true (sym h ∙ ap (λ mark. eqb mark 0) (marked true fields)))
+unmarked false fields h = refl
+
+neither : (s t : Bool) → (s || t) ≡ false → (s ≡ false) × (t ≡ false)
+neither true t h = absurd (false≢true (sym h))
+neither false t h = (refl, h)
+
+-- entries none of which has the names have no missing names either
+unshared-code : (base : ℕ) (names : List ℕ) (es : List (Id × List Field)) → shares_names (length es) (entries_code base names es) ≡ false → entries_code base names es ≡ entries_code base [] es
+unshared-code base names [] h = refl
+unshared-code base names (e ∷ es) h =
+    let shared = has_names names e.1 in
+    let rest = entries_code base names es in
+    let both = neither (eqb (first_number (entry_body (entry_code base shared e ++ rest))) 0) (shares_names (length es) (after_entry (entry_code base shared e ++ rest))) h in
+    let own : eqb (first_number (body_code shared e.1)) 0 ≡ false = ap (λ body. eqb (first_number body) 0) (sym (entry_body-code base shared e rest)) ∙ both.0 in
+    let others : shares_names (length es) rest ≡ false = ap (shares_names (length es)) (sym (after_entry-code base shared e rest)) ∙ both.1 in
+    ap (λ t. entry_code base t e ++ rest) (unmarked shared e.1 own ∙ has_names-missing [] e.1 refl)
+    ∙ ap (λ b. entry_code base (has_names [] e.1) e ++ b) (unshared-code base names es others)
+
+-- ---- another base
+
+rebased-step : (base from count : ℕ) (bytes : List ℕ) → 0 < count → all_rebased base from count bytes ≡ rebased_code base from bytes ++ all_rebased base from (count - 1) (after_entry bytes)
+rebased-step base from zero bytes h = absurd (omega arith)
+rebased-step base from (suc count) bytes h = let e : suc count - 1 ≡ count = omega arith in rw e refl
+
+module _ (base from count i : ℕ) (rest all out : List ℕ) (was : all ≡ out ++ all_rebased base from (count - i) rest) where
+  -- one more is appended
+  pub rebased-passed : (id : Id) (body next out2 : List ℕ) → i < count → id ≡ entry_id from rest → body ≡ entry_body rest → next ≡ after_entry rest
+      → out2 ≡ out ++ (ms_code base id.ms ++ (number_code id.seq ++ text_code body)) → all ≡ out2 ++ all_rebased base from (count - (i + 1)) next
+  rebased-passed id body next out2 h is own on e =
+      let less : count - (i + 1) ≡ count - i - 1 = omega arith in
+      let code = ms_code base id.ms ++ (number_code id.seq ++ text_code body) in
+      let left = all_rebased base from (count - (i + 1)) next in
+      let step : all_rebased base from (count - i) rest ≡ code ++ left = rebased-step base from (count - i) rest (omega arith) ∙ rw (is, own, on, less) refl in
+      was ∙ ap (λ b. out ++ b) step ∙ sym (append_assoc out code left) ∙ ap (λ b. b ++ left) (sym e)
+
+  -- none is left
+  pub rebased-all : count ≤ i → all ≡ out
+  rebased-all h =
+      let none : count - i ≡ 0 = omega arith in
+      was ∙ ap (λ n. out ++ all_rebased base from n rest) none ∙ append-nil out
+
+pub rebased-code : (base from : ℕ) (names : List ℕ) (es : List (Id × List Field)) → from < 2 ^ 64 → all_rebased base from (length es) (entries_code from names es) ≡ entries_code base names es
+unfolding entry_code
+rebased-code base from names [] fits = refl
+rebased-code base from names (e ∷ es) fits =
+    let shared = has_names names e.1 in
+    let rest = entries_code from names es in
+    rw (entry_id-code from shared e rest fits, entry_body-code from shared e rest, after_entry-code from shared e rest)
+    (ap (λ b. entry_code base shared e ++ b) (rebased-code base from names es fits))
+
 -- ---- lengths
 
 length-after_number : (bytes : List ℕ) → length (after_number bytes) ≤ length bytes
@@ -348,12 +426,40 @@ module _ (base count start : ℕ) (bytes : List ℕ) (packed : IsPacked base cou
   pub tidied-begins : length bytes - length (after_text bytes) ≡ length (text_code (first_text bytes) ++ [])
   tidied-begins = omega (arith, ap length (append-nil (text_code (first_text bytes))), ap length whole, length-append (text_code (first_text bytes)) (after_text bytes))
 
+  -- missing names take the place of names that no entry has
+  pub fronted-code : (new : List ℕ) → shares_names count (drop start bytes) ≡ false → new ≡ text_code [] ++ drop start bytes
+      → new ≡ (text_code [] ++ []) ++ entries_code base [] (block_entries base count start bytes)
+  fronted-code new none e =
+      let names = first_text bytes in
+      let es = block_entries base count start bytes in
+      let own : shares_names (length es) (entries_code base names es) ≡ false =
+      ap (λ n. shares_names n (entries_code base names es)) (length-block_entries base count start bytes) ∙ ap (shares_names count) (sym packed.coded) ∙ none in
+      e ∙ ap (λ b. text_code [] ++ b) (packed.coded ∙ unshared-code base names es own) ∙ ap (λ b. b ++ entries_code base [] es) (sym (append-nil (text_code [])))
+
   pub pushed-code : (entry : Id × List Field) → bytes ++ entry_code base (has_names (first_text bytes) entry.1) entry
       ≡ (text_code (first_text bytes) ++ gap) ++ entries_code base (first_text bytes) (block_entries base count start bytes ++ entry ∷ [])
   pushed-code entry =
       let names = first_text bytes in
       let es = block_entries base count start bytes in
       rw (flat_map-append, append-nil) (ap (λ b. b ++ entry_code base (has_names names entry.1) entry) opened ∙ append_assoc (text_code names ++ gap) (entries_code base names es) (entry_code base (has_names names entry.1) entry))
+
+  -- the entries of another block with the same names, behind these
+  pub taken-code : (from count2 start2 : ℕ) (bytes2 : List ℕ) → IsPacked from count2 start2 bytes2 → first_text bytes2 ≡ first_text bytes
+      → (new rest : List ℕ) → rest ≡ drop start2 bytes2 → new ≡ bytes ++ all_rebased base from count2 rest
+      → new ≡ (text_code (first_text bytes) ++ gap) ++ entries_code base (first_text bytes) (block_entries base count start bytes ++ block_entries from count2 start2 bytes2)
+  taken-code from count2 start2 bytes2 packed2 same new rest is e =
+      let names = first_text bytes in
+      let es = block_entries base count start bytes in
+      let es2 = block_entries from count2 start2 bytes2 in
+      let code : all_rebased base from count2 rest ≡ entries_code base names es2 =
+      ap (all_rebased base from count2) (is ∙ packed2.coded ∙ ap (λ ns. entries_code from ns es2) same)
+      ∙ ap (λ n. all_rebased base from n (entries_code from names es2)) (sym (length-block_entries from count2 start2 bytes2)) ∙ rebased-code base from names es2 packed2.base_fits in
+      e ∙ ap (λ b. bytes ++ b) code ∙ ap (λ b. b ++ entries_code base names es2) opened ∙ append_assoc (text_code names ++ gap) (entries_code base names es) (entries_code base names es2)
+      ∙ ap (λ b. (text_code names ++ gap) ++ b) (sym (flat_map-append (λ (e : Id × List Field). entry_code base (has_names names e.1) e) es es2))
+
+  pub length-taken : (from count2 start2 : ℕ) (bytes2 : List ℕ) → count + count2 ≡ length (block_entries base count start bytes ++ block_entries from count2 start2 bytes2)
+  length-taken from count2 start2 bytes2 =
+      omega (arith, length-append (block_entries base count start bytes) (block_entries from count2 start2 bytes2), length-block_entries base count start bytes, length-block_entries from count2 start2 bytes2)
 
   pub length-dropped : (k : ℕ) → count - k ≡ length (drop k (block_entries base count start bytes))
   length-dropped k = omega (arith, length-drop k (block_entries base count start bytes), length-block_entries base count start bytes)
@@ -365,6 +471,11 @@ module _ (base count start : ℕ) (bytes : List ℕ) (packed : IsPacked base cou
   length-removed i h =
       let es = block_entries base count start bytes in
       omega (arith, length-append (take i es) (drop (suc i) es), length-drop (suc i) es, length-take i es, length-block_entries base count start bytes)
+
+-- missing names take one byte
+pub fronted-begins : 1 ≡ length (text_code [] ++ [])
+unfolding text_code number_code
+fronted-begins = refl
 
 -- the first entry of a block, behind its names
 pub first-code : (entry : Id × List Field) (old bytes : List ℕ) → old ≡ [] → bytes ≡ old ++ (text_code (names_code entry.1) ++ entry_code entry.0.ms true entry)

@@ -8,7 +8,7 @@ use Rattle.std.specs.Int.{w16, w32, w64, to_le_bytes}
 use Rattle.std.specs.List.{flat_map}
 use Rattle.std.specs.Str.{bytes_eq}
 use Rattle.std.proofs.Math.Seq.{take-append_seam, drop-append_seam}
-use Rattle.std.proofs.lemmas.List.{append-nil, take_more, take-take, drop_all}
+use Rattle.std.proofs.lemmas.List.{append-nil, take_more, take-take, drop_all, length-take}
 use Rattle.std.proofs.Math.Seq.{drop-cons}
 use Rattle.std.specs.Result.{OnErr}
 use Rattle.std.specs.Prelude.{Result, Ok, Err}
@@ -80,7 +80,8 @@ fields_in-shared (f ∷ fs) names rest h =
 named : (names : List ℕ) (fields : List Field) → has_names names fields ≡ true → (first_number names ≡ length fields) × (all_named (after_number names) fields ≡ true)
 unfolding has_names
 named names fields h =
-    let both = and_both (eqb (first_number names) (length fields)) (all_named (after_number names) fields) h in
+    let some = and_both (not (eqb (length names) 0)) (eqb (first_number names) (length fields) && all_named (after_number names) fields) h in
+    let both = and_both (eqb (first_number names) (length fields)) (all_named (after_number names) fields) some.1 in
     let same : eqb (first_number names) (length fields) ≡ true = both.0 in
     (grind (arith, nat_tests), both.1)
 
@@ -114,12 +115,26 @@ all_named-own (f ∷ fs) rest =
     let own : bytes_eq (first_text (text_code f.name ++ others)) f.name ≡ true = (bytes_eq-Decides (first_text (text_code f.name ++ others)) f.name).1 (first_text-code f.name others) in
     rw (append_assoc, own, after_text-code f.name others) (all_named-own fs rest)
 
+number_code-some : (n : ℕ) (rest : List ℕ) → eqb (length (number_code n ++ rest)) 0 ≡ false
+unfolding number_code
+number_code-some n rest = by (ltb n 253) (ltb n (2 ^ 16)) (ltb n (2 ^ 32)) (ltb n (2 ^ 64)) where
+  some : (n : ℕ) → eqb (suc n) 0 ≡ false
+  some n = grind (arith, nat_tests)
+
+  by : (s t u v : Bool)
+      → eqb (length (cond s (n ∷ []) (cond t (253 ∷ to_le_bytes w16 n) (cond u (254 ∷ to_le_bytes w32 n) (cond v (255 ∷ to_le_bytes w64 n) (256 ∷ n ∷ [])))) ++ rest)) 0 ≡ false
+  by true t u v = some _
+  by false true u v = some _
+  by false false true v = some _
+  by false false false true = some _
+  by false false false false = some _
+
 pub has_names-own : (fields : List Field) → has_names (names_code fields) fields ≡ true
 unfolding has_names names_code
 has_names-own fields =
     let names = flat_map (λ f. text_code f.name) fields in
     let count : eqb (length fields) (length fields) ≡ true = grind (arith, nat_tests) in
-    rw (first_number-code (length fields) names, after_number-code (length fields) names, count) (ap (λ b. all_named b fields) (sym (append-nil names)) ∙ all_named-own fields [])
+    rw (number_code-some (length fields) names, first_number-code (length fields) names, after_number-code (length fields) names, count) (ap (λ b. all_named b fields) (sym (append-nil names)) ∙ all_named-own fields [])
 
 -- ---- entries
 
@@ -235,23 +250,37 @@ kept-before before more now last n m e f g h =
     let shorter : n ≤ m = omega (arith, ap length e, length-append before more) in
     sym (take-take n m last shorter) ∙ ap (take n) (f ∙ e) ∙ rw g (take-append_seam before more)
 
+-- what stands first stays first
+pub kept-first : (before now last : List ℕ) (n m : ℕ) → take n now ≡ before → n ≡ length before → take m last ≡ now → m ≡ length now → take n last ≡ before
+kept-first before now last n m e f g h =
+    let shorter : n ≤ m = omega (arith, ap length e, length-take n now, f, h) in
+    sym (take-take n m last shorter) ∙ ap (take n) g ∙ e
+
+pub kept-more : (before now more new : List ℕ) (n : ℕ) → take n now ≡ before → n ≡ length before → new ≡ now ++ more → take n new ≡ before
+kept-more before now more new n e f g = kept-first before now new n (length now) e f (ap (take (length now)) g ∙ take-append_seam now more) refl
+
 pub on_err-holds : {T E : Type 0} {P : Type 0} (r : Result T E) → P → OnErr r P
 on_err-holds (Ok x) h = tt
 on_err-holds (Err e) h = h
 
 -- ---- names that are compared
 
-pub has_names-other_count : (names : List ℕ) (fields : List Field) (count : ℕ) → count ≡ first_number names → (count ≡ length fields → ⊥) → false ≡ has_names names fields
+-- missing names are those of no fields
+pub has_names-missing : (names : List ℕ) (fields : List Field) → eqb (length names) 0 ≡ true → false ≡ has_names names fields
 unfolding has_names
-has_names-other_count names fields count e other =
-    let unlike : eqb (first_number names) (length fields) ≡ false = grind (arith, nat_tests) in
-    rw unlike refl
+has_names-missing names fields none = rw none refl
 
-pub has_names-same_count : (names : List ℕ) (fields : List Field) (count : ℕ) → count ≡ first_number names → count ≡ length fields → has_names names fields ≡ all_named (after_number names) fields
+pub has_names-other_count : (names : List ℕ) (fields : List Field) (count : ℕ) → eqb (length names) 0 ≡ false → count ≡ first_number names → (count ≡ length fields → ⊥) → false ≡ has_names names fields
 unfolding has_names
-has_names-same_count names fields count e same =
+has_names-other_count names fields count some e other =
+    let unlike : eqb (first_number names) (length fields) ≡ false = grind (arith, nat_tests) in
+    rw (some, unlike) refl
+
+pub has_names-same_count : (names : List ℕ) (fields : List Field) (count : ℕ) → eqb (length names) 0 ≡ false → count ≡ first_number names → count ≡ length fields → has_names names fields ≡ all_named (after_number names) fields
+unfolding has_names
+has_names-same_count names fields count some e same =
     let yes : eqb (first_number names) (length fields) ≡ true = grind (arith, nat_tests) in
-    rw yes refl
+    rw (some, yes) refl
 
 pub other_name : (names : List ℕ) (fields : List Field) (i : ℕ) (f : Field) (name own : List ℕ) → i < length fields → f ≡ get_or fields i f → name ≡ first_text names → own ≡ f.name → bytes_eq name own ≡ false → all_named names (drop i fields) ≡ false
 other_name names fields i f name own h is e g fails =
@@ -279,6 +308,14 @@ unfolding entry_code text_code ms_code
 written-entry base shared id fields size out a b d last small e f g h i =
     let fits : ltb id.ms (2 ^ 64) ≡ true = grind (arith, nat_tests) in
     i ∙ rw (g, f, e, h, fits) (simp append_assoc)
+
+pub written-packed : (base : ℕ) (id : Id) (body out a b last : List ℕ) → id.ms < 2 ^ 64
+    → a ≡ out ++ number_code ((id.ms + (2 ^ 64 - base)) % 2 ^ 64) → b ≡ a ++ number_code id.seq → last ≡ b ++ text_code body
+    → last ≡ out ++ (ms_code base id.ms ++ (number_code id.seq ++ text_code body))
+unfolding ms_code
+written-packed base id body out a b last small e f g =
+    let fits : ltb id.ms (2 ^ 64) ≡ true = grind (arith, nat_tests) in
+    g ∙ rw (f, e, fits) (simp append_assoc)
 
 pub appended-three : (out a b d x y z : List ℕ) → a ≡ out ++ x → b ≡ a ++ y → d ≡ b ++ z → d ≡ out ++ ((x ++ y) ++ z)
 appended-three out a b d x y z e f g = rw (g, f, e) (simp append_assoc)

@@ -1,8 +1,10 @@
 //! A stream: its top id and its entries, in the order of their ids.
-ghost use Rattle.std.specs.Prelude.{◌≡◌, ◌↔◌, ◌+◌, ◌-◌, ◌++◌, ◌∷◌, [], Ok, Err, IfOk, OnErr, IsErrOf, length};
+ghost use Rattle.std.specs.Prelude.{◌≡◌, ◌↔◌, ◌+◌, ◌-◌, ◌++◌, ◌∷◌, [], true, Ok};
+ghost use Rattle.std.specs.Prelude.{Err, IfOk, OnOk, OnErr, IsErrOf, length};
 ghost use Rattle.std.specs.Prelude.{filter};
 ghost use Rattle.xs_stream.specs.Id.{zero_id, is_below, assigned};
-ghost use Rattle.xs_stream.specs.Kept.{ids_of, fields_at, without, trimmed, ids_within, entries_within, limited, AreEntriesOf};
+ghost use Rattle.xs_stream.specs.Kept.{ids_of, fields_at, without, trimmed};
+ghost use Rattle.xs_stream.specs.Kept.{ids_within, entries_within, limited, AreEntriesOf};
 ghost use Rattle.xs_stream.specs.Lawful.{IsLawful};
 
 use crate::add::{AddError, AddId};
@@ -76,11 +78,28 @@ impl Stream {
         self.entries.get(id)
     }
 
-    /// The id that an addition would get now (XADD).
+    /// The id that an addition would get now, which is above the top (XADD).
     pub fn assign(&self, now: Moment, id: AddId) -> Result<Id, AddError>
-        ensures { result ≡ assigned now self.now.top id }
+        ensures given { result ≡ assigned now self.now.top id }
+        ensures above { IfOk result (λ given. is_below self.now.top given ≡ true) }
     {
         assigned_id(now, self.top, id)
+    }
+
+    /// Puts an entry with an id above the top behind the others. The stream is unchanged on refusal.
+    pub fn push(&mut self, id: Id, fields: &[Field]) -> Result<(), AllocError>
+        requires { is_below self.old.top id ≡ true }
+        ensures ok { OnOk result (self.new
+            ≡ record { top = id; entries = self.old.entries ++ (id, fields.now) ∷ [] }) }
+        ensures err { OnErr result (self.new ≡ self.old) }
+    {
+        match self.entries.push(self.top, id, fields) {
+            Ok(()) => {
+                self.top = id;
+                Ok(())
+            }
+            Err(error) => Err(error),
+        }
     }
 
     /// Adds an entry above all that were ever added (XADD). The stream is unchanged on each error.
@@ -93,11 +112,8 @@ impl Stream {
         ensures err { OnErr result (self.new ≡ self.old) }
     {
         let given = self.assign(now, id)?;
-        match self.entries.push(self.top, given, fields) {
-            Ok(()) => {
-                self.top = given;
-                Ok(given)
-            }
+        match self.push(given, fields) {
+            Ok(()) => Ok(given),
             Err(_) => Err(AddError::Memory),
         }
     }
@@ -144,8 +160,8 @@ impl Stream {
         Ok(List::new(ids))
     }
 
-    /// The entries of a range, from its low end up or from its high end down, at most `limit` of them. They are lent: none
-    /// is copied, and none is looked for again.
+    /// The entries of a range, from its low end up or from its high end down, at most `limit` of them. They are lent:
+    /// none is copied, and none is looked for again.
     pub fn entries(
         &self,
         alloc: Global,
