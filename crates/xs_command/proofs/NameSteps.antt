@@ -9,8 +9,7 @@ pub one-more : (n : ℕ) (words : List (List ℕ)) (word : List ℕ) (behind : L
 one-more n words word behind within next =
     let front = take n words in
     let count : length front ≡ n = length-take-le n words within in
-    let all : words ≡ front ++ (word ∷ behind) = sym (take-append-drop n words) ∙ ap (λ ws. front ++ ws) next in
-    (
+    let all : words ≡ front ++ (word ∷ behind) = sym (take-append-drop n words) ∙ ap (λ ws. front ++ ws) next in (
       ap (λ k. take (k + 1) words) (sym count) ∙ ap (take (length front + 1)) all ∙ take-append-add front (word ∷ behind) 1,
       sym (drop-drop 1 n words) ∙ ap (drop 1) next,
     )

@@ -7,6 +7,7 @@ use Rattle.std.proofs.lemmas.Option.{slice_get_within}
 use Rattle.std.proofs.lemmas.Bool.Decides.{nat_tests}
 use Rattle.xs_bytes.specs.SortedMap.{empty}
 use Rattle.xs_resp.specs.declared.reply.Reply.{Reply}
+use Rattle.xs_keys.specs.Event.{Event, History}
 use Rattle.xs_command.specs.declared.command.Command.{Command}
 use Rattle.xs_command.specs.WellFormed.{IsWellFormed}
 use Rattle.xs_keys.specs.Content.{Content}
@@ -16,14 +17,14 @@ use Rattle.xs_keys.specs.Step.{Step}
 use Rattle.xs_keys.proofs.Lawfulness.{content-lawful}
 use Rattle.xs_keys.proofs.Runs.{step-follows, headline}
 use Rattle.xs_desk.specs.History.{ServedCall, LaneOf, Desk, of_lane, commands_of, answers_of, events_of, replies_of, CountUp, IsHistory}
-use Rattle.xs_desk.specs.Serving.{with_call, Serves, ServesAll, HasPlaces}
+use Rattle.xs_desk.specs.KeeperTurns.{with_call, Serves, ServesAll, HasPlaces}
 use Rattle.xs_desk.proofs.Lists.{snoc-cases, set-cases, length-slice_set}
 
 -- ---- runs
 
-answers-snoc : (past events : List (ℕ × Command)) (answers : List Reply) (mid : List (ℕ × Command)) (e : ℕ × Command) (answer : Reply) (last : List (ℕ × Command))
-    → Answers past events answers mid → Follows e.0 mid e.1 answer last → Answers past (events ++ e ∷ []) (answers ++ answer ∷ []) last
-answers-snoc past [] [] mid e answer last run step = (last, subst (λ p. Follows e.0 p e.1 answer last) run step, refl)
+answers-snoc : (past events : History) (answers : List Reply) (mid : History) (e : Event) (answer : Reply) (last : History)
+    → Answers past events answers mid → Follows mid e.0 e.1 answer last → Answers past (events ++ e ∷ []) (answers ++ answer ∷ []) last
+answers-snoc past [] [] mid e answer last run step = (last, subst (λ p. Follows p e.0 e.1 answer last) run step, refl)
 answers-snoc past [] (a ∷ more) mid e answer last run step = absurd run
 answers-snoc past (x ∷ xs) [] mid e answer last run step = absurd run
 answers-snoc past (x ∷ xs) (a ∷ more) mid e answer last run step = (run.0, run.1, answers-snoc run.0 xs more mid e answer last run.2 step)
@@ -31,7 +32,7 @@ answers-snoc past (x ∷ xs) (a ∷ more) mid e answer last run step = (run.0, r
 pub runs-none : (old : Content) → RunsOn old [] [] old
 runs-none old = λ past is. (past, headline past [] [] past refl, is, content-lawful past old is)
 
-runs-snoc : (old : Content) (events : List (ℕ × Command)) (answers : List Reply) (mid new : Content) (e : ℕ × Command) (answer : Reply)
+runs-snoc : (old : Content) (events : History) (answers : List Reply) (mid new : Content) (e : Event) (answer : Reply)
     → RunsOn old events answers mid → IsWellFormed e.1 → Step mid e.0 e.1 answer new → RunsOn old (events ++ e ∷ []) (answers ++ answer ∷ []) new
 runs-snoc old events answers mid new e answer runs formed step = λ past is.
     let here = runs past is in

@@ -6,10 +6,10 @@ use Rattle.std.proofs.lemmas.Option.{get_or_from_slice_get, slice_get-map, slice
 use Rattle.std.proofs.lemmas.List.{length-map}
 use Rattle.std.specs.Option.{option_map}
 use Rattle.xs_desk.specs.History.{Ring, LaneOf, Desk, ServedCall}
-use Rattle.xs_desk.specs.Serving.{with_call, Serves, ServesAll, Turns}
+use Rattle.xs_desk.specs.KeeperTurns.{with_call, Serves, ServesAll, Turns}
 use Rattle.xs_desk.specs.Callers.{Caller, IsEndOf, AreEnds, IsSide}
 use Rattle.xs_desk.specs.Opening.{AreNew}
-use Rattle.xs_desk.specs.Keeping.{rings_of, KeepsRings, KeepsSide, KeepSides}
+use Rattle.xs_desk.specs.KeptRings.{rings_of, KeepsRings, KeepsSide, KeepSides}
 use Rattle.xs_desk.proofs.Lists.{some-at, some-of-map, snoc-cases, still-at, last-at}
 use Rattle.xs_desk.proofs.Turning.{turns-anyhow}
 

@@ -4,7 +4,7 @@ use Rattle.std.proofs.Common.{◌∙◌, ap, inl, inr}
 use Rattle.xs_resp.specs.declared.reply.Reply.{Reply}
 use Rattle.xs_command.specs.declared.command.Command.{Command}
 use Rattle.xs_desk.specs.Callers.{Caller}
-use Rattle.xs_desk.specs.Keeping.{KeepsSide}
+use Rattle.xs_desk.specs.KeptRings.{KeepsSide}
 use Rattle.xs_desk.specs.Asking.{Takes, Submits, Asks, Fails}
 
 pub side_again : (c m c' : Caller) → KeepsSide c m → KeepsSide m c' → KeepsSide c c'

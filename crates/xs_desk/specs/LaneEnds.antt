@@ -32,7 +32,8 @@ pub record Scene (C : Type 0) : Type 0 where
   pub clock : C
 
 abbrev pub scene : {C : Type 0} → LaneEnd → Content → ℕ → C → Scene C
-scene lane_end keyspace place clock = record { lane = lane_of lane_end; keyspace = keyspace; place = place; clock = clock }
+scene lane_end keyspace place clock =
+    record { lane = lane_of lane_end; keyspace = keyspace; place = place; clock = clock }
 
 -- one call of the lane was taken, which is well formed, applied at the moment that the clock gave, and answered
 pub record Answers {C : Type 0} (gives : C → ℕ → C → Type 0) (old new : Scene C) : Type 0 where

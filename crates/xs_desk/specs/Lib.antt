@@ -1,9 +1,9 @@
 pub mod History
 pub mod Rings
-pub mod Serving
+pub mod KeeperTurns
 pub mod LaneEnds
 pub mod Callers
 pub mod Asking
 pub mod Opening
 pub mod Closing
-pub mod Keeping
+pub mod KeptRings

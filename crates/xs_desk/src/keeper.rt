@@ -1,6 +1,6 @@
 //! The keeper of a desk.
 ghost use Rattle.std.specs.Prelude.{◌≡◌, ℕ, ◌+◌, ◌^◌, length, MatchResult};
-ghost use Rattle.xs_desk.specs.Serving.{HasPlaces, Turns};
+ghost use Rattle.xs_desk.specs.KeeperTurns.{HasPlaces, Turns};
 ghost use Rattle.xs_desk.specs.LaneEnds.{desk_of};
 
 use crate::lane_end::{LaneEnd, Look};
@@ -69,7 +69,7 @@ impl Drop for Keeper {
 pub struct SameRings(pub Snapshot<Keeper>);
 
 impl Promise<Keeper> for SameRings {
-    ghost use Rattle.xs_desk.specs.Keeping.{KeepsRings};
+    ghost use Rattle.xs_desk.specs.KeptRings.{KeepsRings};
 
     ghost kept_by = { λ p keeper. KeepsRings p.0.value keeper };
 }
@@ -129,9 +129,9 @@ fn serve_each<C: Clock>(
 impl Keeper {
     ghost use Rattle.std.specs.Prelude.{◌≡◌, ℕ, ◌+◌, ◌^◌, ◌<◌, length, List, [], MatchResult};
     ghost use Rattle.xs_desk.specs.History.{ServedCall, IsHistory};
-    ghost use Rattle.xs_desk.specs.Serving.{Turns};
+    ghost use Rattle.xs_desk.specs.KeeperTurns.{Turns};
     ghost use Rattle.xs_desk.specs.LaneEnds.{desk_of};
-    ghost use Rattle.xs_desk.specs.Keeping.{KeepsRings};
+    ghost use Rattle.xs_desk.specs.KeptRings.{KeepsRings};
 
     /// A keeper that has served nobody.
     pub(crate) fn new(

@@ -1,10 +1,11 @@
 //! Laws of the histories of desks.
 ghost use Rattle.std.specs.Prelude.{◌≡◌, ◌++◌, ◌∷◌, [], ℕ, List};
+ghost use Rattle.xs_keys.specs.Event.{Event, History};
 ghost use Rattle.xs_command.specs.declared.command.Command.{Command};
 ghost use Rattle.xs_keys.specs.Headline.{AreWellFormed, Headline, LivesAreApart};
-ghost use Rattle.xs_keys.specs.Move.{EachGoesAlong};
+ghost use Rattle.xs_keys.specs.JobMove.{EachGoesAlong};
 ghost use Rattle.xs_desk.specs.History.{ServedCall, Desk, IsHistory, events_of, replies_of};
-ghost use Rattle.xs_desk.specs.Serving.{ServesAll};
+ghost use Rattle.xs_desk.specs.KeeperTurns.{ServesAll};
 
 /// A desk has one history at most.
 pub fn history_is_unique()
@@ -20,8 +21,8 @@ pub fn history_grows_by_what_is_served()
 /// Of what a desk served the headline holds from the first call on, and of each event: its command is well formed, it
 /// leaves the lives of other groups alone, and each job goes along an arrow.
 pub fn what_is_served_has_the_headline()
-    ensures { (desk : Desk) (history : List ServedCall) → IsHistory history desk → (events : List (ℕ × Command))
+    ensures { (desk : Desk) (history : List ServedCall) → IsHistory history desk → (events : History)
         × Headline [] (events_of history) (replies_of history) events × AreWellFormed events
-        × ((later : List (ℕ × Command)) (e : ℕ × Command) (earlier : List (ℕ × Command)) → events ≡ later ++ e ∷ earlier
+        × ((later : History) (e : Event) (earlier : History) → events ≡ later ++ e ∷ earlier
         → LivesAreApart earlier e × EachGoesAlong earlier e) }
 {}

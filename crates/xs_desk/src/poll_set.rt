@@ -125,8 +125,8 @@ impl PollSet {
 
 impl Registration {
     /// Tells the keeper of a call, or of room for an answer, if it doesn't look. The bit comes before the waker: if
-    /// the keeper sleeps, the turn to which it wakes finds the bit; if it doesn't yet, the look after which it may sleep
-    /// comes later than the bit.
+    /// the keeper sleeps, the turn to which it wakes finds the bit; if it doesn't yet, the look after which it may
+    /// sleep comes later than the bit.
     pub fn notify(&self) {
         if self.rests.resting.load(Ordering::SeqCst) & self.lane != 0 {
             self.rests.notices.fetch_or(self.lane, Ordering::SeqCst);

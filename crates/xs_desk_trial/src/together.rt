@@ -1,6 +1,6 @@
 //! A desk whose clients and keeper each have a thread.
 ghost use Rattle.std.specs.Prelude.{◌≡◌, ℕ, ◌<◌, IfOk, length, map, slice_index_or};
-ghost use Rattle.xs_desk.specs.Keeping.{KeepsRings, KeepsSide, KeepSides};
+ghost use Rattle.xs_desk.specs.KeptRings.{KeepsRings, KeepsSide, KeepSides};
 
 use std::alloc::{AllocError, Global};
 use std::snapshot::Snapshot;
@@ -16,7 +16,7 @@ pub const MOST_TURNS: u64 = 100_000_000;
 
 /// What a thread does with its client.
 pub trait Job {
-    ghost use Rattle.xs_desk.specs.Keeping.{KeepsSide};
+    ghost use Rattle.xs_desk.specs.KeptRings.{KeepsSide};
 
     fn run<R: Wait>(&mut self, rt: &R, client: Client) -> Client
         ensures { KeepsSide client result };

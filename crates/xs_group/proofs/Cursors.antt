@@ -4,7 +4,7 @@ use Rattle.std.proofs.lemmas.Bool.{false≢true}
 use Rattle.xs_bytes.specs.SortedMap.{get, has_key}
 use Rattle.xs_stream.specs.declared.id.Id.{Id}
 use Rattle.xs_stream.specs.Id.{is_same, is_below, has_id}
-use Rattle.xs_stream.specs.Kept.{AllAbove, Ascends, limited}
+use Rattle.xs_stream.specs.StreamContent.{AllAbove, Ascends, limited}
 use Rattle.xs_stream.proofs.Order.{is_same-eq, below-not_back, below-irrefl, not_above-trans}
 use Rattle.xs_group.specs.State.{Row, Rows, last_of, with_rows}
 use Rattle.xs_group.specs.Indexes.{AreFree}

@@ -7,9 +7,9 @@ pub mod NewRows
 pub mod Cursors
 pub mod Touching
 pub mod OwnIds
-pub mod Undoing
-pub mod Choosing
+pub mod UndoneReads
+pub mod ChosenIds
 pub mod Scanning
 pub mod MovedRows
-pub mod Settling
+pub mod CarriedOutClaims
 pub mod ReportRows

@@ -13,7 +13,7 @@ use Rattle.xs_group.specs.State.{Row, Rows, Names, ids_total, is_name, has_name,
 use Rattle.xs_group.specs.Indexes.{rows_of, indexed_row, ConsumerIndex, is_owner, AreFree, IsAgreed, IsNamed, PendingList}
 use Rattle.xs_group.specs.Verdict.{AreAgreedBut}
 use Rattle.xs_group.proofs.ByConsumer.{is_name-eq, is_name-refl, is_name-symm}
-use Rattle.xs_group.proofs.Choosing.{has-more}
+use Rattle.xs_group.proofs.ChosenIds.{has-more}
 use Rattle.xs_group.proofs.Views.{RowMap, same_rows, same_names, get-rows_of}
 use Rattle.xs_group.proofs.Agreeing.{has_name-with_name, none-from_free}
 use Rattle.xs_group.proofs.RemovedRows.{get-changed, change-nothing}

@@ -20,7 +20,7 @@ use Rattle.xs_bytes.proofs.SortedMaps.{get-of_entries}
 use Rattle.xs_stream.specs.declared.id.Id.{Id}
 use Rattle.xs_stream.specs.declared.range.Range.{Range}
 use Rattle.xs_stream.specs.Id.{id_cmp, is_below}
-use Rattle.xs_stream.specs.Kept.{is_within}
+use Rattle.xs_stream.specs.StreamContent.{is_within}
 use Rattle.xs_stream.proofs.InOrder.{between-within, filter-filter}
 use Rattle.xs_group.specs.declared.reports.PendingRow.{PendingRow}
 use Rattle.xs_group.specs.State.{Row, Rows, is_name, idle, owned}

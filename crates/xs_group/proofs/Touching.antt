@@ -9,7 +9,7 @@ use Rattle.xs_group.specs.declared.delivery.Touch.{Touch}
 use Rattle.xs_group.specs.declared.delivery.DeliveryRow.{DeliveryRow}
 use Rattle.xs_group.specs.State.{Row, Rows, again, reread}
 use Rattle.xs_group.specs.Indexes.{rows_of, ConsumerIndex, is_owner, indexed_row, IsAgreed}
-use Rattle.xs_group.specs.Delivered.{touch_of, shown_row, shown_rows, touch_set, with_touch, touched_at, set_one, set_rows, row_ids}
+use Rattle.xs_group.specs.Deliveries.{touch_of, shown_row, shown_rows, touch_set, with_touch, touched_at, set_one, set_rows, row_ids}
 use Rattle.xs_group.proofs.Views.{RowMap, get-rows_of, same_rows}
 use Rattle.xs_group.proofs.RemovedRows.{get-changed, change-nothing}
 

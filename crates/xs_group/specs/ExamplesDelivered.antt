@@ -12,7 +12,7 @@ use Rattle.xs_group.specs.State.{State, delivered_to, reread_by}
 use Rattle.xs_group.specs.Indexes.{PendingList, rows_of, is_owner, indexed_row, IsNamed}
 use Rattle.xs_group.specs.Lawful.{IsUpTo}
 use Rattle.xs_group.specs.Count.{IsCount}
-use Rattle.xs_group.specs.Delivered.{delivery_of, history_of, set_rows, unmade}
+use Rattle.xs_group.specs.Deliveries.{delivery_of, history_of, set_rows, unmade}
 use Rattle.xs_group.specs.Verdict.{verdict_of, hits_of, with_taken, with_removed, scanned_after, moved, AreApart}
 use Rattle.xs_group.specs.ExamplesRead.{pending, names_in, three, group, present}
 use Rattle.xs_group.specs.ExamplesClaims.{idle_for, row, twelve}

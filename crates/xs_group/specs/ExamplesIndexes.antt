@@ -6,7 +6,7 @@ use Rattle.xs_stream.specs.Id.{greatest_id}
 use Rattle.xs_stream.specs.Examples.{at}
 use Rattle.xs_group.specs.declared.delivery.DeliveryKind.TheVariants as kind
 use Rattle.xs_group.specs.Indexes.{ConsumerIndex, rows_of, names_of, has_among, holds, AreFree}
-use Rattle.xs_group.specs.Delivered.{received, taken_back}
+use Rattle.xs_group.specs.Deliveries.{received, taken_back}
 use Rattle.xs_group.specs.Listing.{owners_told, is_told, rows_told, with_row, rows_among, rows_asked}
 use Rattle.xs_group.specs.Verdict.{AreSomeOf, AreAgreedBut}
 use Rattle.xs_group.specs.ExamplesRead.{pending, three, group, Is}

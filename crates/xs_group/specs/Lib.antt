@@ -3,7 +3,7 @@ pub mod Claims
 pub mod Report
 pub mod Indexes
 pub mod Lawful
-pub mod Delivered
+pub mod Deliveries
 pub mod Verdict
 pub mod Listing
 pub mod Count

@@ -3,7 +3,7 @@ use Rattle.std.specs.Prelude.{ℕ, Bool, ◌&&◌, List, [], ◌∷◌, map, fil
 use Rattle.xs_bytes.specs.SortedMap.{keys}
 use Rattle.xs_stream.specs.declared.id.Id.{Id}
 use Rattle.xs_stream.specs.declared.range.Range.{Range}
-use Rattle.xs_stream.specs.Kept.{is_within}
+use Rattle.xs_stream.specs.StreamContent.{is_within}
 use Rattle.xs_group.specs.declared.reports.OwnerCount.{OwnerCount}
 use Rattle.xs_group.specs.declared.reports.PendingRow.{PendingRow}
 use Rattle.xs_group.specs.State.{Row, Rows, Names, idle}

@@ -8,7 +8,7 @@ use Rattle.std.specs.Cmp.Lexicographic.{slice_cmp}
 use Rattle.xs_bytes.specs.SortedMap.{SortedMap, NameMap, empty, insert_by, insert, has_key, change, remove}
 use Rattle.xs_stream.specs.declared.id.Id.{Id}
 use Rattle.xs_stream.specs.Id.{id_cmp, has_id, is_below}
-use Rattle.xs_stream.specs.Kept.{limited}
+use Rattle.xs_stream.specs.StreamContent.{limited}
 
 -- a pending entry: whose it is, when it was last delivered, and how often
 pub record Row : Type 0 where

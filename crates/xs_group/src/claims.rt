@@ -4,7 +4,7 @@ ghost use Rattle.std.specs.Prelude.{IfOk, OnOk, Some, [], ◌≡◌};
 ghost use Rattle.xs_group.specs.Claims.{firsts, scan_of};
 ghost use Rattle.xs_group.specs.Verdict.{hits_of, verdict_of, with_removed, with_taken};
 ghost use Rattle.xs_stream.specs.Id.{has_id, id_cmp};
-ghost use Rattle.xs_stream.specs.Kept.{ids_of};
+ghost use Rattle.xs_stream.specs.StreamContent.{ids_of};
 
 use crate::id_index::IdIndex;
 use crate::pending_entry::PendingEntry;

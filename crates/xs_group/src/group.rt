@@ -7,8 +7,8 @@ ghost use Rattle.xs_group.specs.Lawful.{IsLawful};
 ghost use Rattle.xs_group.specs.Claims.{claim_of, scan_of, claimed_by};
 ghost use Rattle.xs_group.specs.Verdict.{IsClaimOn};
 ghost use Rattle.std.specs.Option.{option_map};
-ghost use Rattle.xs_group.specs.Delivered.{delivery_of, history_of, kind_of, received, IsMade};
-ghost use Rattle.xs_stream.specs.Kept.{ids_of, AllAbove, Ascends};
+ghost use Rattle.xs_group.specs.Deliveries.{delivery_of, history_of, kind_of, received, IsMade};
+ghost use Rattle.xs_stream.specs.StreamContent.{ids_of, AllAbove, Ascends};
 
 use crate::claims::{Claim, ClaimRule, Scan};
 use crate::delivery::{Delivery, DeliveryKind};

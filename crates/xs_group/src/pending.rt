@@ -9,9 +9,9 @@ ghost use Rattle.xs_group.specs.Verdict.{verdict_of, moved, AreApart};
 ghost use Rattle.xs_group.specs.State.{has_name, with_name, first_row, owned, with_rows, shown, unless_acked};
 ghost use Rattle.xs_group.specs.State.{unless_owned};
 ghost use Rattle.xs_group.specs.Indexes.{IsNamed, AreFree};
-ghost use Rattle.xs_stream.specs.Kept.{ids_of};
-ghost use Rattle.xs_group.specs.Delivered.{touch_of, shown_rows, set_one, set_rows, touch_set, row_ids, taken_back};
-ghost use Rattle.xs_group.specs.Delivered.{unmade};
+ghost use Rattle.xs_stream.specs.StreamContent.{ids_of};
+ghost use Rattle.xs_group.specs.Deliveries.{touch_of, shown_rows, set_one, set_rows, touch_set, row_ids, taken_back};
+ghost use Rattle.xs_group.specs.Deliveries.{unmade};
 
 use crate::claims::{Claim, ClaimRule, Found, Scan, Verdict};
 use crate::consumer_index::{self, ConsumerIndex};

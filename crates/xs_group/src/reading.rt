@@ -1,9 +1,9 @@
 //! What a read of a group is made of.
 ghost use Rattle.std.specs.Prelude.{◌≡◌, IfOk, take, filter};
 ghost use Rattle.xs_stream.specs.Id.{has_id, is_below};
-ghost use Rattle.xs_stream.specs.Kept.{ids_of, limited, AreEntriesOf};
+ghost use Rattle.xs_stream.specs.StreamContent.{ids_of, limited, AreEntriesOf};
 ghost use Rattle.xs_group.specs.State.{last_of};
-ghost use Rattle.xs_group.specs.Delivered.{new_rows, touch_set};
+ghost use Rattle.xs_group.specs.Deliveries.{new_rows, touch_set};
 
 use crate::delivery::{DeliveryRow, Touch};
 use crate::pending_entry::raised;

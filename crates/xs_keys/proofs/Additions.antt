@@ -2,7 +2,7 @@
 use Rattle.std.proofs.Common.{◌≡◌, ℕ, true, false, Some, Result, Ok, Err, is_ok, inl, inr, refl}
 use Rattle.std.proofs.lemmas.Bool.{false≢true}
 use Rattle.xs_command.specs.declared.command.AddCommand.{AddCommand}
-use Rattle.xs_keys.specs.Ground.{get, insert, Id, AddError, assigned, Kept, Reply, Add}
+use Rattle.xs_keys.specs.Terms.{get, insert, Id, AddError, assigned, Kept, Reply, Add}
 use Rattle.xs_keys.specs.Content.{Content, Key}
 use Rattle.xs_keys.specs.ReplyParts.{assigned_reply}
 use Rattle.xs_keys.specs.Step.{Step, is_error}

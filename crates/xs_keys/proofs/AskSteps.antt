@@ -1,9 +1,9 @@
 -- Commands that ask one group of one key.
 use Rattle.std.proofs.Common.{◌≡◌, ℕ, List, Option, Some, None, ap, ◌∙◌, refl}
-use Rattle.xs_keys.specs.Ground.{option_map_or, NameMap, get, insert, Id, Field, ids_of, State, Reply}
-use Rattle.xs_keys.specs.Ask.{Ask}
+use Rattle.xs_keys.specs.Terms.{option_map_or, NameMap, get, insert, Id, Field, ids_of, State, Reply}
+use Rattle.xs_keys.specs.GroupAsk.{Ask}
 use Rattle.xs_keys.specs.Content.{Content, Key}
-use Rattle.xs_keys.specs.After.{asked, group_after, with_group, group_in, entries_in}
+use Rattle.xs_keys.specs.ContentAfter.{asked, group_after, with_group, group_in, entries_in}
 use Rattle.xs_keys.specs.ReplyParts.{of_group}
 use Rattle.xs_keys.proofs.Names.{insert-same}
 

@@ -3,10 +3,10 @@ use Rattle.std.proofs.Common.{◌≡◌, ℕ, true, false, List, ◌∷◌, Opti
 use Rattle.std.proofs.lemmas.Bool.{false≢true}
 use Rattle.xs_group.specs.declared.claims.Claim.{Claim}
 use Rattle.xs_group.specs.Claims.{Rule, claimed}
-use Rattle.xs_keys.specs.Ground.{Id, has_id, Row}
-use Rattle.xs_keys.specs.Ask.{Ask, claim, auto_claim}
+use Rattle.xs_keys.specs.Terms.{Id, has_id, Row}
+use Rattle.xs_keys.specs.GroupAsk.{Ask, claim, auto_claim}
 use Rattle.xs_keys.specs.GroupEvent.{GroupEvent, claim_of_event, pending_row_at, rows}
-use Rattle.xs_keys.specs.Told.{IsAssigned}
+use Rattle.xs_keys.specs.RepliesTell.{IsAssigned}
 use Rattle.xs_keys.proofs.Owners.{claimed-over, owner-row, row-found, of_row}
 
 -- what becomes of the owner of a row by a claim

@@ -4,12 +4,13 @@ use Rattle.std.proofs.lemmas.Bool.{false≢true}
 use Rattle.xs_bytes.proofs.SortedMaps.{get-empty, same_entries_map}
 use Rattle.std.specs.Ordering.{nat_cmp}
 use Rattle.std.specs.Cmp.Lexicographic.{slice_cmp}
-use Rattle.xs_keys.specs.Ground.{option_map, option_map_or, option_or, list_all, NameMap, empty, get, has_key, insert, remove, Id, Ascends, ids_of, State, is_name, new_group, Command, Ping, Quit, Add, Delete, TrimTo, Len, Scan, GroupCreate, GroupDestroy, ConsumerCreate, ConsumerDelete, ReadGroup, Ack, Pending, PendingRows, Claim, AutoClaim, DropKeys, GroupCreateCommand, ReadGroupCommand, ReadOne}
+use Rattle.xs_keys.specs.Event.{History}
+use Rattle.xs_keys.specs.Terms.{option_map, option_map_or, option_or, list_all, NameMap, empty, get, has_key, insert, remove, Id, Ascends, ids_of, State, is_name, new_group, Command, Ping, Quit, Add, Delete, TrimTo, Len, Scan, GroupCreate, GroupDestroy, ConsumerCreate, ConsumerDelete, ReadGroup, Ack, Pending, PendingRows, Claim, AutoClaim, DropKeys, GroupCreateCommand, ReadGroupCommand, ReadOne}
 use Rattle.xs_keys.specs.Life.{Change, added, deleted, trimmed_to, is_listed, opened, key_life}
-use Rattle.xs_keys.specs.Ask.{Ask, join, leave, ack, claim, auto_claim}
+use Rattle.xs_keys.specs.GroupAsk.{Ask, join, leave, ack, claim, auto_claim}
 use Rattle.xs_keys.specs.GroupLife.{GroupLife, present_in, starting_id, new_life, life_after_ask, ask_of_read, life_after_reads, group_life}
 use Rattle.xs_keys.specs.Content.{Key, Content, IsGroup, GroupHolds, KeyHolds, IsContent}
-use Rattle.xs_keys.specs.After.{new_key, made, stream_after, key_after, changed, without_keys, group_after, with_group, asked, created, group_in, serves, read_each, after}
+use Rattle.xs_keys.specs.ContentAfter.{new_key, made, stream_after, key_after, changed, without_keys, group_after, with_group, asked, created, group_in, serves, read_each, after}
 use Rattle.xs_keys.proofs.Names.{is_name-eq, get-insert, get-remove, same_map, same_names}
 use Rattle.xs_keys.proofs.Streams.{stream-step, ascends-live}
 use Rattle.xs_keys.proofs.GroupSteps.{group-step, group-new}
@@ -189,7 +190,7 @@ group-known (Some key) (Some changes) lives group h = by (get key.groups group) 
 group-known None (Some changes) lives group h = absurd h
 group-known (Some key) None lives group h = absurd h
 
-pub serves-known : (reads : List ReadOne) (c : Content) (past : List (ℕ × Command)) (group : List ℕ) → IsContent c past
+pub serves-known : (reads : List ReadOne) (c : Content) (past : History) (group : List ℕ) → IsContent c past
     → list_all (λ one. is_some (group_in (get c one.key) group)) reads ≡ list_all (λ one. is_some (group_life past one.key group)) reads
 serves-known [] c past group h = refl
 serves-known (one ∷ more) c past group h =
@@ -293,7 +294,7 @@ destroyed-other c name group (Some key) q other = rw (get-insert c name (record 
 
 -- ---- an event
 
-module _ (c : Content) (past : List (ℕ × Command)) (h : IsContent c past) (q : List ℕ) where
+module _ (c : Content) (past : History) (h : IsContent c past) (q : List ℕ) where
   lives : List ℕ → Option GroupLife
   lives g = group_life past q g
 
@@ -334,11 +335,11 @@ module _ (c : Content) (past : List (ℕ × Command)) (h : IsContent c past) (q 
     by true e = destroys-here c name group (get c name) (key_life past q) (λ g. group_life past q g) q refl e (at_name name e)
     by false e = subst (λ k. KeyHolds k (key_life past q) (λ g. group_life past q g)) (sym (destroyed-other c name group (get c name) q e)) (h q)
 
-step-asked : (c : Content) (past : List (ℕ × Command)) (now : ℕ) (name group : List ℕ) (ask : Ask) → IsContent c past
+step-asked : (c : Content) (past : History) (now : ℕ) (name group : List ℕ) (ask : Ask) → IsContent c past
     → Holds (asked c now name group ask) (key_life past) (λ q g. cond (is_name q name && is_name g group) (life_after_ask now (present_in (key_life past q)) ask (group_life past q g)) (group_life past q g))
 step-asked c past now name group ask h = holds-ask c (key_life past) (λ q g. group_life past q g) now name group ask h
 
-step-read : (c : Content) (past : List (ℕ × Command)) (now : ℕ) (read : ReadGroupCommand) → IsContent c past
+step-read : (c : Content) (past : History) (now : ℕ) (read : ReadGroupCommand) → IsContent c past
     → Holds (cond (serves c read) (read_each c now read read.reads) c) (key_life past)
     (λ q g. cond (is_name g read.group && list_all (λ one. is_some (group_life past one.key read.group)) read.reads) (life_after_reads now (present_in (key_life past q)) read q read.reads (group_life past q g)) (group_life past q g))
 step-read c past now read h = by (serves c read) (serves-known read.reads c past read.group h) where
@@ -361,7 +362,7 @@ step-read c past now read h = by (serves c read) (serves-known read.reads c past
       (λ i g. none (is_name g read.group) (life_after_reads now (present_in (key_life past q)) read q read.reads (group_life past q g)) (group_life past q g) i) (h q))
 
 -- one event more
-pub content-step : (past : List (ℕ × Command)) (c : Content) (now : ℕ) (command : Command) → IsContent c past → IsContent (after c now command) ((now, command) ∷ past)
+pub content-step : (past : History) (c : Content) (now : ℕ) (command : Command) → IsContent c past → IsContent (after c now command) ((now, command) ∷ past)
 content-step past c now (Add add) h = λ q. step-addition c past h q add.key (added now add.id add.fields add.trim) add.make
 content-step past c now (Delete name ids) h = λ q. step-changed c past h q name (deleted ids)
 content-step past c now (TrimTo name trim) h = λ q. step-changed c past h q name (trimmed_to trim)
@@ -416,5 +417,5 @@ same_holds (Some a) (Some b) None lives h k = absurd h
 same_holds (Some a) None None lives h k = absurd h
 same_holds (Some a) None (Some changes) lives h k = absurd k
 
-pub content-unique : (past : List (ℕ × Command)) (one other : Content) → IsContent one past → IsContent other past → one ≡ other
+pub content-unique : (past : History) (one other : Content) → IsContent one past → IsContent other past → one ≡ other
 content-unique past one other h k = same_map one other (λ q. same_holds (get one q) (get other q) (key_life past q) (λ g. group_life past q g) (h q) (k q))

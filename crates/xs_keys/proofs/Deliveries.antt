@@ -1,9 +1,9 @@
 -- New deliveries of a life: they ascend, and are what was in the stream at its turn.
 use Rattle.std.proofs.Common.{◌≡◌, Bool, true, false, not, ◌&&◌, List, [], ◌∷◌, sym, ap, ◌∙◌, refl}
 use Rattle.std.proofs.lemmas.Bool.{false≢true}
-use Rattle.xs_keys.specs.Ground.{Id, is_below, has_id, Ascends, AllAbove}
+use Rattle.xs_keys.specs.Terms.{Id, is_below, has_id, Ascends, AllAbove}
 use Rattle.xs_keys.specs.Life.{greatest}
-use Rattle.xs_keys.specs.Ask.{Ask, read_new, read_own, ack, join, leave, claim, auto_claim, new_ids_of_ask}
+use Rattle.xs_keys.specs.GroupAsk.{Ask, read_new, read_own, ack, join, leave, claim, auto_claim, new_ids_of_ask}
 use Rattle.xs_keys.specs.GroupEvent.{GroupEvent, delivered, cursor, new_ids_of_event}
 use Rattle.xs_keys.specs.EachDelivery.{HadItsTurn}
 use Rattle.xs_keys.proofs.Truths.{none_or, or_none}

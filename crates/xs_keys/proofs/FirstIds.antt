@@ -3,10 +3,10 @@ use Rattle.std.proofs.Common.{◌≡◌, ◌⊎◌, inl, inr, ℕ, ◌≤◌, Bo
 use Rattle.std.proofs.lemmas.Bool.{false≢true}
 use Rattle.xs_stream.specs.Id.{is_below, is_same, has_id}
 use Rattle.xs_stream.proofs.Order.{below-not_back}
-use Rattle.xs_keys.specs.Ground.{Id, Ascends, AllUpTo, limited}
+use Rattle.xs_keys.specs.Terms.{Id, Ascends, AllUpTo, limited}
 use Rattle.xs_keys.specs.Telling.{AreFirst}
 use Rattle.xs_keys.proofs.IdLists.{ascends-limited}
-use Rattle.xs_keys.proofs.Sights.{above-has, limited-has}
+use Rattle.xs_keys.proofs.IdsAtEvents.{above-has, limited-has}
 
 -- an id is among the first, or it comes after as many
 take-first : (n : ℕ) (xs : List Id) → Ascends xs → (x : Id) → has_id xs x ≡ true → (has_id (take n xs) x ≡ true) ⊎ ((n ≡ length (take n xs)) × AllUpTo x (take n xs))

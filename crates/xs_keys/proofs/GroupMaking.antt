@@ -3,10 +3,10 @@ use Rattle.std.proofs.Common.{◌≡◌, ℕ, true, false, List, Some, None, is_
 use Rattle.std.specs.Ordering.{nat_cmp}
 use Rattle.std.specs.Cmp.Lexicographic.{slice_cmp}
 use Rattle.xs_bytes.proofs.SortedMaps.{get-empty}
-use Rattle.xs_keys.specs.Ground.{NameMap, empty, get, insert, has_key, State, new_group, Reply, Simple, Error, Okay, Memory, GroupCreateCommand, GroupCreate}
+use Rattle.xs_keys.specs.Terms.{NameMap, empty, get, insert, has_key, State, new_group, Reply, Simple, Error, Okay, Memory, GroupCreateCommand, GroupCreate}
 use Rattle.xs_keys.specs.GroupLife.{starting_id}
 use Rattle.xs_keys.specs.Content.{Content, Key}
-use Rattle.xs_keys.specs.After.{new_key, with_group}
+use Rattle.xs_keys.specs.ContentAfter.{new_key, with_group}
 use Rattle.xs_keys.specs.Grouping.{Creates}
 use Rattle.xs_keys.specs.Step.{Step}
 use Rattle.xs_keys.proofs.Names.{insert-same}

@@ -5,13 +5,13 @@ use Rattle.xs_bytes.specs.Each.{each}
 use Rattle.xs_bytes.specs.SortedMap.{empty, get, change, remove}
 use Rattle.xs_bytes.proofs.SortedMaps.{get-empty}
 use Rattle.xs_group.specs.State.{Row, Rows, State, Names, is_name, has_name, with_name, delivers, last_of, first_row, with_rows, delivered_to, shown, reread, reread_by, new_group, acked, unless_acked, unless_owned, without_consumer}
-use Rattle.xs_keys.specs.Ground.{Id, has_id, Ascends, AllAbove, AllUpTo, Rule, claimed, claim_of, scan_of}
+use Rattle.xs_keys.specs.Terms.{Id, has_id, Ascends, AllAbove, AllUpTo, Rule, claimed, claim_of, scan_of}
 use Rattle.xs_keys.specs.Life.{greatest}
-use Rattle.xs_keys.specs.Ask.{Ask, read_new, read_own, ack, join, leave, claim, auto_claim}
+use Rattle.xs_keys.specs.GroupAsk.{Ask, read_new, read_own, ack, join, leave, claim, auto_claim}
 use Rattle.xs_keys.specs.GroupEvent.{GroupEvent, new_ids_of_event, delivered, cursor, is_consumer, rows_among, pending_row_at, rows}
 use Rattle.xs_keys.specs.GroupLife.{GroupLife}
 use Rattle.xs_keys.specs.Content.{IsGroup}
-use Rattle.xs_keys.specs.After.{group_after}
+use Rattle.xs_keys.specs.ContentAfter.{group_after}
 use Rattle.xs_keys.proofs.Names.{get-insert, get-remove}
 use Rattle.xs_keys.proofs.Streams.{greatest-append, up_to-greatest}
 use Rattle.xs_keys.proofs.IdLists.{above-delivers, ascends-delivers, greatest-last, not_above}

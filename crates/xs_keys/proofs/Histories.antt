@@ -1,8 +1,9 @@
 -- What holds of the lives of a history: the ids in the stream ascend at each event.
 use Rattle.std.proofs.Common.{◌≡◌, ℕ, Bool, true, false, cond, ◌&&◌, List, [], ◌∷◌, Option, Some, None, is_some, subst, refl}
-use Rattle.xs_keys.specs.Ground.{list_all, Id, Ascends, is_name, Command, Ping, Quit, Add, Delete, TrimTo, Len, Scan, GroupCreate, GroupDestroy, ConsumerCreate, ConsumerDelete, ReadGroup, Ack, Pending, PendingRows, Claim, AutoClaim, DropKeys, GroupCreateCommand, ReadGroupCommand, ReadOne, option_or}
+use Rattle.xs_keys.specs.Event.{History}
+use Rattle.xs_keys.specs.Terms.{list_all, Id, Ascends, is_name, Command, Ping, Quit, Add, Delete, TrimTo, Len, Scan, GroupCreate, GroupDestroy, ConsumerCreate, ConsumerDelete, ReadGroup, Ack, Pending, PendingRows, Claim, AutoClaim, DropKeys, GroupCreateCommand, ReadGroupCommand, ReadOne, option_or}
 use Rattle.xs_keys.specs.Life.{Change, is_listed, key_life}
-use Rattle.xs_keys.specs.Ask.{Ask, join, leave, ack, claim, auto_claim}
+use Rattle.xs_keys.specs.GroupAsk.{Ask, join, leave, ack, claim, auto_claim}
 use Rattle.xs_keys.specs.GroupLife.{GroupLife, present_in, new_life, life_after_ask, ask_of_read, life_after_reads, group_life_after, reads_of, group_of, group_life}
 use Rattle.xs_keys.proofs.Streams.{ascends-live}
 use Rattle.xs_keys.proofs.Deliveries.{PresentAscends}
@@ -72,10 +73,10 @@ meets-lived now (Scan scan) key group served stream life h = h
 meets-lived now (Pending k g) key group served stream life h = h
 meets-lived now (PendingRows p) key group served stream life h = h
 
-pub meets-life : (past : List (ℕ × Command)) (key group : List ℕ) → MeetsAscending (group_life past key group)
+pub meets-life : (past : History) (key group : List ℕ) → MeetsAscending (group_life past key group)
 meets-life [] key group = tt
 meets-life (e ∷ past) key group =
     meets-lived e.0 e.1 key group (list_all (λ one. is_some (group_life past one.key (group_of e.1))) (reads_of e.1)) (key_life past key) (group_life past key group) (meets-life past key group)
 
-pub present-in-life : (past : List (ℕ × Command)) (key group : List ℕ) (life : GroupLife) → group_life past key group ≡ Some life → PresentAscends life.events
+pub present-in-life : (past : History) (key group : List ℕ) (life : GroupLife) → group_life past key group ≡ Some life → PresentAscends life.events
 present-in-life past key group life e = subst MeetsAscending e (meets-life past key group)

@@ -4,7 +4,7 @@ use Rattle.std.proofs.lemmas.Bool.{false≢true, and_right}
 use Rattle.xs_stream.specs.Id.{is_below, is_same, has_id}
 use Rattle.xs_stream.proofs.Order.{is_same-eq, is_same-symm, below-not_same, up_to-below, not_above-trans}
 use Rattle.xs_group.specs.State.{delivers, last_of}
-use Rattle.xs_keys.specs.Ground.{Id, Ascends, AllAbove, AllUpTo, limited}
+use Rattle.xs_keys.specs.Terms.{Id, Ascends, AllAbove, AllUpTo, limited}
 use Rattle.xs_keys.specs.Life.{greatest}
 
 above-filter : (p : Id → Bool) (a : Id) (xs : List Id) → AllAbove a xs → AllAbove a (filter p xs)

@@ -5,22 +5,23 @@ use Rattle.std.proofs.lemmas.List.{length-map}
 use Rattle.xs_stream.specs.Id.{is_below, is_same, has_id}
 use Rattle.xs_stream.proofs.Order.{is_same-eq, is_same-refl, is_same-symm, below-not_back}
 use Rattle.xs_group.specs.State.{Row, is_name, delivers, owned}
-use Rattle.xs_keys.specs.Ground.{Command, State, Reply, Int, NullBulk, get, summary_of, option_map_or, with_some, Id, ids_of, Ascends, AllAbove}
+use Rattle.xs_keys.specs.Event.{History}
+use Rattle.xs_keys.specs.Terms.{Command, State, Reply, Int, NullBulk, get, summary_of, option_map_or, with_some, Id, ids_of, Ascends, AllAbove}
 use Rattle.xs_keys.specs.Life.{Change, key_life, given_in, live}
 use Rattle.xs_keys.specs.GroupEvent.{GroupEvent, delivered, cursor, rows_among, pending_row_at, rows}
 use Rattle.xs_keys.specs.Owner.{last_assigned, owner}
 use Rattle.xs_keys.specs.GroupLife.{GroupLife, group_life}
 use Rattle.xs_keys.specs.Content.{Content, Key, IsGroup, GroupHolds, KeyHolds, IsContent}
 use Rattle.xs_keys.specs.ReplyParts.{array, array_or_null, id_reply, of_group, owner_reply, summary_reply}
-use Rattle.xs_keys.specs.Place.{Place, before_start, waiting, dropped, handed_out, pending, settled, place_of, StandsAt, HasOnePlace}
-use Rattle.xs_keys.specs.Books.{is_at, is_pending, jobs_at, BooksBalance, TellsPending}
+use Rattle.xs_keys.specs.JobPlace.{Place, before_start, waiting, dropped, handed_out, pending, settled, place_of, StandsAt, HasOnePlace}
+use Rattle.xs_keys.specs.GroupBooks.{is_at, is_pending, jobs_at, BooksBalance, TellsPending}
 use Rattle.xs_keys.proofs.Truths.{first_of, second_of, none_or}
 use Rattle.xs_keys.proofs.IdLists.{ascends-where, has_id-where, not_above}
 use Rattle.xs_keys.proofs.Streams.{ascends-given, ascends-live}
 use Rattle.xs_keys.proofs.Deliveries.{PresentAscends, ascends-delivered}
 use Rattle.xs_keys.proofs.Histories.{present-in-life}
 use Rattle.xs_keys.proofs.Owners.{owner-row, of_row, owned-delivered}
-use Rattle.xs_keys.proofs.Sights.{Sees, sees-of, above-has, delivered-given, live-given}
+use Rattle.xs_keys.proofs.IdsAtEvents.{Sees, sees-of, above-has, delivered-given, live-given}
 use Rattle.xs_keys.proofs.JobPlaces.{place_by, has-one-place}
 
 -- ---- lists that ascend, and have the same ids, are one
@@ -243,7 +244,7 @@ balances life changes asc sees =
 -- ---- what XPENDING tells
 
 -- the number of rows is what it tells first
-pub tells-pending : (c : Content) (past : List (ℕ × Command)) (now : ℕ) (key group : List ℕ) (changes : List Change) (life : GroupLife) → IsContent c past
+pub tells-pending : (c : Content) (past : History) (now : ℕ) (key group : List ℕ) (changes : List Change) (life : GroupLife) → IsContent c past
     → key_life past key ≡ Some changes → group_life past key group ≡ Some life → TellsPending c now key group (length (jobs_at is_pending changes life))
 tells-pending c past now key group changes life is k g =
     by (get c key) refl (subst (λ l. KeyHolds (get c key) l (λ name. group_life past key name)) k (is key))

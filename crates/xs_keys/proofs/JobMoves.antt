@@ -6,24 +6,25 @@ use Rattle.std.proofs.lemmas.List.{append-nil}
 use Rattle.std.proofs.lemmas.List.Elements.{filter-append}
 use Rattle.std.proofs.lemmas.Bool.Decides.{nat_tests}
 use Rattle.xs_stream.specs.declared.trim.Trim.TheVariants.{MaxLen, MinId}
+use Rattle.xs_keys.specs.Event.{History}
 use Rattle.xs_command.specs.declared.command.AddCommand.{AddCommand}
 use Rattle.std.proofs.lemmas.Bool.{false≢true, and_from, or_left, or_right}
 use Rattle.std.specs.List.{list_all, list_any, IsDistinct}
 use Rattle.xs_stream.specs.Id.{is_below, is_same, has_id, assigned}
-use Rattle.xs_stream.specs.Kept.{AllUpTo, ids_of, is_trimmed, count_above}
+use Rattle.xs_stream.specs.StreamContent.{AllUpTo, ids_of, is_trimmed, count_above}
 use Rattle.xs_group.specs.Claims.{Rule, row_at, is_idle, is_removed, is_taken, claim_among, firsts, from_start, is_hit, scanned}
 use Rattle.xs_command.specs.WellFormed.{IsWellFormed, keys_of}
 use Rattle.xs_command.specs.declared.command.ClaimCommand.{ClaimCommand}
 use Rattle.xs_command.specs.declared.command.AutoClaimCommand.{AutoClaimCommand}
-use Rattle.xs_keys.specs.Ground.{AddError, AddId, Field, GroupStart, Top, At, option_map, option_map_or, Id, Trim, Row, is_name, Command, Ping, Quit, Add, Delete, TrimTo, Len, Scan, GroupCreate, GroupDestroy, ConsumerCreate, ConsumerDelete, ReadGroup, Ack, Pending, PendingRows, Claim, AutoClaim, DropKeys, GroupCreateCommand, ReadGroupCommand, ReadOne, ReadFrom, New, After}
+use Rattle.xs_keys.specs.Terms.{AddError, AddId, Field, GroupStart, Top, At, option_map, option_map_or, Id, Trim, Row, is_name, Command, Ping, Quit, Add, Delete, TrimTo, Len, Scan, GroupCreate, GroupDestroy, ConsumerCreate, ConsumerDelete, ReadGroup, Ack, Pending, PendingRows, Claim, AutoClaim, DropKeys, GroupCreateCommand, ReadGroupCommand, ReadOne, ReadFrom, New, After}
 use Rattle.xs_keys.specs.Life.{Change, added, deleted, trimmed_to, is_listed, opened, key_life_after, key_life, entry_of, gives, given_in, top, drops, stands, live}
-use Rattle.xs_keys.specs.Ask.{Ask, join, leave, ack, claim, auto_claim, new_ids_of_ask, claim_of_ask, consumer_of, keeps_pending, is_acknowledgement_of, drops_consumer}
+use Rattle.xs_keys.specs.GroupAsk.{Ask, join, leave, ack, claim, auto_claim, new_ids_of_ask, claim_of_ask, consumer_of, keeps_pending, is_acknowledgement_of, drops_consumer}
 use Rattle.xs_keys.specs.GroupEvent.{GroupEvent, delivered, cursor, pending_row_at, rows}
 use Rattle.xs_keys.specs.Owner.{last_assigned, owner}
 use Rattle.xs_keys.specs.GroupLife.{GroupLife, present_in, starting_id, new_life, life_after_ask, ask_of_read, life_after_reads, group_life_after, reads_of, group_of, group_life, is_new, reads_new_entries}
-use Rattle.xs_keys.specs.Place.{Place, before_start, waiting, dropped, handed_out, pending, settled, place_of, place_in, place_after}
+use Rattle.xs_keys.specs.JobPlace.{Place, before_start, waiting, dropped, handed_out, pending, settled, place_of, place_in, place_after}
 use Rattle.xs_keys.specs.Effect.{deletes_entry, is_trimmed_below_one, trims_entry, reads_new_entries_in, with_noack, claims_by_id, claims_entry, consumer_of_command, acknowledges_entry, removes_consumer, begins_job, ends_group}
-use Rattle.xs_keys.specs.Move.{found_at, HasArrow, HasToMove, trims_new, IsFirstPlace, GoesAlong, is_final, GoesOnFor}
+use Rattle.xs_keys.specs.JobMove.{found_at, HasArrow, HasToMove, trims_new, IsFirstPlace, GoesAlong, is_final, GoesOnFor}
 use Rattle.xs_keys.proofs.Truths.{first_of, second_of, or_false}
 use Rattle.xs_keys.proofs.IdLists.{has_id-append, has_id-where}
 use Rattle.xs_keys.proofs.Streams.{gives-not_new, up_to-live}
@@ -32,8 +33,8 @@ use Rattle.xs_stream.proofs.Assigning.{assigned-above}
 use Rattle.xs_stream.proofs.InOrder.{ids_of-append}
 use Rattle.xs_keys.proofs.Lives.{others-absent, not-read}
 use Rattle.xs_keys.proofs.Owners.{owner-row, row-found, of_row}
-use Rattle.xs_keys.proofs.Takings.{firsts-has}
-use Rattle.xs_keys.proofs.Sights.{SeesItsKey, sees-life, given-more, given-up_to, live-before, has_id-live, delivered-given}
+use Rattle.xs_keys.proofs.ClaimedIds.{firsts-has}
+use Rattle.xs_keys.proofs.IdsAtEvents.{SeesItsKey, sees-life, given-more, given-up_to, live-before, has_id-live, delivered-given}
 use Rattle.xs_keys.proofs.JobPlaces.{place_by, life_of, Went, stayed, was_handed_out, was_delivered, was_taken, was_settled, went, settled-now, pending-owner, waiting-asked, owner-last}
 
 -- ---- a change of the stream
@@ -560,7 +561,7 @@ goes-lived now (DropKeys keys) key group served stream life x formed sees = by (
   by true e = ended (DropKeys keys) key group x (present_in stream) (place_in stream life x) e
   by false e = same (DropKeys keys) key group x (record { no_deletion = refl; no_settling = λ ids name. refl }) (present_in stream) (place_in stream life x)
 
-pub goes-along : (past : List (ℕ × Command)) (now : ℕ) (command : Command) (key group : List ℕ) (x : Id) → IsWellFormed command
+pub goes-along : (past : History) (now : ℕ) (command : Command) (key group : List ℕ) (x : Id) → IsWellFormed command
     → GoesAlong command key group (present_in (key_life past key)) x (place_after past key group x) (place_after ((now, command) ∷ past) key group x)
 goes-along past now command key group x formed =
     goes-lived now command key group (list_all (λ one. is_some (group_life past one.key (group_of command))) (reads_of command)) (key_life past key) (group_life past key group) x formed (sees-life past key group)
@@ -575,7 +576,7 @@ no_arrow command key group ids x handed_out there f h = h
 no_arrow command key group ids x (pending name) there f h = false≢true f
 no_arrow command key group ids x settled there f h = h
 
-pub for-good : (later earlier : List (ℕ × Command)) (key group : List ℕ) (x : Id) (here : Place) → GoesOnFor key group later → is_final here ≡ true → place_after earlier key group x ≡ Some here
+pub for-good : (later earlier : History) (key group : List ℕ) (x : Id) (here : Place) → GoesOnFor key group later → is_final here ≡ true → place_after earlier key group x ≡ Some here
     → place_after (later ++ earlier) key group x ≡ Some here
 for-good [] earlier key group x here on final e = e
 for-good (event ∷ later) earlier key group x here on final e =

@@ -4,9 +4,10 @@ use Rattle.std.proofs.lemmas.Option.{same_Some}
 use Rattle.std.proofs.lemmas.Bool.{false≢true}
 use Rattle.xs_bytes.specs.SortedMap.{get}
 use Rattle.xs_group.specs.State.{Row, State, is_name, delivers, first_row, shown, again, unless_owned}
-use Rattle.xs_keys.specs.Ground.{with_some, Id, has_id, Ascends, AllAbove, AllUpTo, Command}
+use Rattle.xs_keys.specs.Event.{History}
+use Rattle.xs_keys.specs.Terms.{with_some, Id, has_id, Ascends, AllAbove, AllUpTo, Command}
 use Rattle.xs_keys.specs.Life.{Change, key_life, stream_of}
-use Rattle.xs_keys.specs.Ask.{Ask, read_new, read_own, ack, join, leave, claim, auto_claim, row_after_ask}
+use Rattle.xs_keys.specs.GroupAsk.{Ask, read_new, read_own, ack, join, leave, claim, auto_claim, row_after_ask}
 use Rattle.xs_keys.specs.GroupEvent.{GroupEvent, delivered, cursor, is_consumer, rows_among, pending_row_at, rows}
 use Rattle.xs_keys.specs.GroupLife.{GroupLife, group_life}
 use Rattle.xs_keys.specs.Content.{Key, Content, IsGroup, GroupHolds, KeyHolds, IsContent}
@@ -125,5 +126,5 @@ lawful-key (Some k) (Some changes) lives h asc key e = subst IsLawfulKey (same_S
   groups = λ name g f. lawful-held (get k.groups name) (lives name) (h.1 name) (asc name) g f;
 })
 
-pub content-lawful : (past : List (ℕ × Command)) (content : Content) → IsContent content past → IsLawfulContent content
+pub content-lawful : (past : History) (content : Content) → IsContent content past → IsLawfulContent content
 content-lawful past content h = λ name key e. lawful-key (get content name) (key_life past name) (λ g. group_life past name g) (h name) (λ g. meets-life past name g) key e

@@ -1,7 +1,7 @@
 pub mod Additions
 pub mod AskSteps
 pub mod Assigning
-pub mod Comings
+pub mod Arrivals
 pub mod Computing
 pub mod Contents
 pub mod Deliveries
@@ -26,11 +26,11 @@ pub mod RowsTold
 pub mod Runs
 pub mod ScanParts
 pub mod SecondTries
-pub mod Sights
-pub mod Staying
+pub mod IdsAtEvents
+pub mod EntriesStay
 pub mod Streams
-pub mod Takings
+pub mod ClaimedIds
 pub mod Tellings
-pub mod Touches
+pub mod TimesOfRows
 pub mod Truths
 pub mod WholeReplies

@@ -4,10 +4,11 @@ use Rattle.std.proofs.lemmas.Bool.{false≢true, and_right}
 use Rattle.std.proofs.lemmas.List.{append-nil}
 use Rattle.std.proofs.lemmas.Slice.Eq.{bytes_eq-Decides}
 use Rattle.std.specs.List.{list_all, list_any, IsDistinct, AllByRecursion}
+use Rattle.xs_keys.specs.Event.{History}
 use Rattle.xs_command.specs.WellFormed.{IsWellFormed, keys_of}
-use Rattle.xs_keys.specs.Ground.{option_map_or, option_or, Id, is_name, delivers, Command, Ping, Quit, Add, Delete, TrimTo, Len, Scan, GroupCreate, GroupDestroy, ConsumerCreate, ConsumerDelete, ReadGroup, Ack, Pending, PendingRows, Claim, AutoClaim, DropKeys, GroupCreateCommand, ReadGroupCommand, ReadOne, ReadFrom, New, After}
+use Rattle.xs_keys.specs.Terms.{option_map_or, option_or, Id, is_name, delivers, Command, Ping, Quit, Add, Delete, TrimTo, Len, Scan, GroupCreate, GroupDestroy, ConsumerCreate, ConsumerDelete, ReadGroup, Ack, Pending, PendingRows, Claim, AutoClaim, DropKeys, GroupCreateCommand, ReadGroupCommand, ReadOne, ReadFrom, New, After}
 use Rattle.xs_keys.specs.Life.{Change, is_listed, key_life}
-use Rattle.xs_keys.specs.Ask.{Ask, join, leave, ack, claim, auto_claim, new_ids_of_ask}
+use Rattle.xs_keys.specs.GroupAsk.{Ask, join, leave, ack, claim, auto_claim, new_ids_of_ask}
 use Rattle.xs_keys.specs.GroupEvent.{delivered, cursor}
 use Rattle.xs_keys.specs.GroupLife.{GroupLife, limit_of, present_in, new_life, life_after_ask, ask_of_read, life_after_reads, group_of, group_life, is_new, reads_new_entries, has_all_groups, ids_delivered_by, GoesOn}
 use Rattle.xs_keys.proofs.Names.{is_name-eq}
@@ -126,13 +127,13 @@ reads-go-on now present read key life false distinct =
 -- ---- an event
 
 -- an ask of one group, which delivers nothing
-quiet : (past : List (ℕ × Command)) (now : ℕ) (key group k g : List ℕ) (ask : Ask) → ((a : Id) → new_ids_of_ask ask (present_in (key_life past key)) a ≡ [])
+quiet : (past : History) (now : ℕ) (key group k g : List ℕ) (ask : Ask) → ((a : Id) → new_ids_of_ask ask (present_in (key_life past key)) a ≡ [])
     → GoesOn (group_life past key group) [] (cond (is_name key k && is_name group g) (life_after_ask now (present_in (key_life past key)) ask (group_life past key group)) (group_life past key group))
 quiet past now key group k g ask none =
     either (is_name key k && is_name group g) (group_life past key group) (life_after_ask now (present_in (key_life past key)) ask (group_life past key group)) (group_life past key group)
     (asks-none now (present_in (key_life past key)) ask (group_life past key group) none) (stays (group_life past key group))
 
-pub goes-on : (past : List (ℕ × Command)) (now : ℕ) (command : Command) (key group : List ℕ) → IsWellFormed command
+pub goes-on : (past : History) (now : ℕ) (command : Command) (key group : List ℕ) → IsWellFormed command
     → GoesOn (group_life past key group) (ids_delivered_by past command key group) (group_life ((now, command) ∷ past) key group)
 goes-on past now (GroupCreate create) key group formed =
     either (is_name key create.key && is_name group create.group) (group_life past key group) (option_or (group_life past key group) (new_life create (key_life past key))) (group_life past key group)
@@ -160,7 +161,7 @@ goes-on past now (Pending k g) key group formed = stays (group_life past key gro
 goes-on past now (PendingRows p) key group formed = stays (group_life past key group)
 
 -- without a life that is open nothing is delivered
-pub closed : (past : List (ℕ × Command)) (command : Command) (key group : List ℕ) → group_life past key group ≡ None → ids_delivered_by past command key group ≡ []
+pub closed : (past : History) (command : Command) (key group : List ℕ) → group_life past key group ≡ None → ids_delivered_by past command key group ≡ []
 closed past command key group e =
     ap (λ life. cond (reads_new_entries command key && (is_name group (group_of command) && has_all_groups past command)) (delivered_in command (present_in (key_life past key)) life) []) e
     ∙ by (reads_new_entries command key && (is_name group (group_of command) && has_all_groups past command))
@@ -170,7 +171,7 @@ closed past command key group e =
     by false = refl
 
 -- nor by an event on another key or group
-pub elsewhere : (past : List (ℕ × Command)) (command : Command) (key group : List ℕ) → (is_name group (group_of command) ≡ false) ⊎ (reads_new_entries command key ≡ false) → ids_delivered_by past command key group ≡ []
+pub elsewhere : (past : History) (command : Command) (key group : List ℕ) → (is_name group (group_of command) ≡ false) ⊎ (reads_new_entries command key ≡ false) → ids_delivered_by past command key group ≡ []
 elsewhere past command key group (inl e) = rw e (by (reads_new_entries command key)) where
   by : (t : Bool) → cond {A = List Id} (t && false) (delivered_in command (present_in (key_life past key)) (group_life past key group)) [] ≡ []
   by true = refl

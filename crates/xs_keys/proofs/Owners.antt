@@ -7,8 +7,8 @@ use Rattle.xs_stream.proofs.Order.{is_same-eq}
 use Rattle.xs_group.specs.declared.claims.Claim.{Claim}
 use Rattle.xs_group.specs.Claims.{Rule, row_at, is_idle, is_removed, is_taken, claim_among, firsts, claim_of, from_start, is_hit, scanned, scan_of, claimed, claimed_row}
 use Rattle.xs_group.specs.State.{Row, is_name, delivers, first_row, shown, again, reread, unless_acked, unless_owned}
-use Rattle.xs_keys.specs.Ground.{with_some, Id}
-use Rattle.xs_keys.specs.Ask.{Ask, read_new, read_own, ack, join, leave, claim, auto_claim, new_ids_of_ask, claim_of_ask, consumer_of, keeps_pending, is_acknowledgement_of, drops_consumer, row_after_ask}
+use Rattle.xs_keys.specs.Terms.{with_some, Id}
+use Rattle.xs_keys.specs.GroupAsk.{Ask, read_new, read_own, ack, join, leave, claim, auto_claim, new_ids_of_ask, claim_of_ask, consumer_of, keeps_pending, is_acknowledgement_of, drops_consumer, row_after_ask}
 use Rattle.xs_keys.specs.GroupEvent.{GroupEvent, delivered, cursor, new_ids_of_event, rows_among, pending_row_at, rows}
 use Rattle.xs_keys.specs.Owner.{is_made_pending_by, takes, is_assigned_by, last_assigned, removes, settles, is_settled, owner}
 use Rattle.xs_keys.specs.EachOwner.{OwnerAfter, NoOwnerAfter, is_settled_in, OwnedUntilSettled, ChangesByClaims}

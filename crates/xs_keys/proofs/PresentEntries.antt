@@ -3,10 +3,10 @@ use Rattle.std.proofs.Common.{◌≡◌, ℕ, ◌&&◌, eqb, arith, Bool, true, 
 use Rattle.std.proofs.lemmas.List.{take-map, reverse-append, map-append}
 use Rattle.std.proofs.lemmas.Bool.Decides.{nat_tests}
 use Rattle.xs_stream.specs.declared.range.Range.{Range}
-use Rattle.xs_stream.specs.Kept.{ids_of, fields_at, Ascends, is_within, ids_within, entries_within, limited, IsEntryOf, AreEntriesOf}
+use Rattle.xs_stream.specs.StreamContent.{ids_of, fields_at, Ascends, is_within, ids_within, entries_within, limited, IsEntryOf, AreEntriesOf}
 use Rattle.xs_stream.proofs.Lending.{within-found}
 use Rattle.xs_stream.proofs.InOrder.{ids_of-filter}
-use Rattle.xs_keys.specs.Ground.{Id, Field}
+use Rattle.xs_keys.specs.Terms.{Id, Field}
 use Rattle.xs_keys.specs.ReplyParts.{entry_reply, present_reply}
 
 abbrev Entries : Type 0

@@ -4,13 +4,13 @@ use Rattle.std.proofs.lemmas.List.Concat.{flat_map-append}
 use Rattle.std.proofs.lemmas.Bool.{false≢true}
 use Rattle.xs_group.specs.declared.delivery.Delivery.{Delivery}
 use Rattle.xs_group.specs.State.{State, Rows, is_name, delivers}
-use Rattle.xs_group.specs.Delivered.{row_ids, new_rows, shown_rows, IsMade}
-use Rattle.xs_keys.specs.Ground.{flat_map, list_all, option_map_or, NameMap, get, insert, Id, Field, ids_of, ReadGroupCommand, ReadOne, ReadFrom, New, After}
+use Rattle.xs_group.specs.Deliveries.{row_ids, new_rows, shown_rows, IsMade}
+use Rattle.xs_keys.specs.Terms.{flat_map, list_all, option_map_or, NameMap, get, insert, Id, Field, ids_of, ReadGroupCommand, ReadOne, ReadFrom, New, After}
 use Rattle.xs_keys.specs.declared.xreadgroup.Served.{Served}
-use Rattle.xs_keys.specs.Ask.{Ask}
+use Rattle.xs_keys.specs.GroupAsk.{Ask}
 use Rattle.xs_keys.specs.GroupLife.{ask_of_read}
 use Rattle.xs_keys.specs.Content.{Content, Key}
-use Rattle.xs_keys.specs.After.{asked, read_each, group_after, with_group, group_in, entries_in}
+use Rattle.xs_keys.specs.ContentAfter.{asked, read_each, group_after, with_group, group_in, entries_in}
 use Rattle.xs_resp.specs.Token.{Token}
 use Rattle.xs_resp.specs.ReplyItems.{tokens_of}
 use Rattle.xs_keys.specs.Reply.{shown_by, parts}

@@ -9,12 +9,12 @@ use Rattle.xs_stream.specs.Id.{id_cmp, is_below, zero_id, assigned}
 use Rattle.xs_stream.proofs.Order.{same_id}
 use Rattle.xs_command.specs.WellFormed.{IsAddId, IsWellFormed}
 use Rattle.xs_command.specs.declared.command.AddCommand.{AddCommand}
-use Rattle.xs_keys.specs.Ground.{option_map_or, get, has_key, insert, remove, Id, AddId, AddError, Field, Trim, Kept, ids_of, State, has_name, new_group, claim_of, scan_of, owned_count, Reply, Simple, Error, Int, NullBulk, Okay, Busy, NoGroup, Command, Ping, Quit, Add, Delete, TrimTo, Len, Scan, GroupCreate, GroupDestroy, ConsumerCreate, ConsumerDelete, ReadGroup, Ack, Pending, PendingRows, Claim, AutoClaim, DropKeys, GroupCreateCommand, ReadGroupCommand}
+use Rattle.xs_keys.specs.Terms.{option_map_or, get, has_key, insert, remove, Id, AddId, AddError, Field, Trim, Kept, ids_of, State, has_name, new_group, claim_of, scan_of, owned_count, Reply, Simple, Error, Int, NullBulk, Okay, Busy, NoGroup, Command, Ping, Quit, Add, Delete, TrimTo, Len, Scan, GroupCreate, GroupDestroy, ConsumerCreate, ConsumerDelete, ReadGroup, Ack, Pending, PendingRows, Claim, AutoClaim, DropKeys, GroupCreateCommand, ReadGroupCommand}
 use Rattle.xs_keys.specs.Life.{added}
-use Rattle.xs_keys.specs.Ask.{Ask, join, leave, claim, auto_claim}
+use Rattle.xs_keys.specs.GroupAsk.{Ask, join, leave, claim, auto_claim}
 use Rattle.xs_keys.specs.GroupLife.{starting_id}
 use Rattle.xs_keys.specs.Content.{Content, Key}
-use Rattle.xs_keys.specs.After.{stream_with, changed, asked, with_group, created, made, group_in, entries_in, serves, read_each, after}
+use Rattle.xs_keys.specs.ContentAfter.{stream_with, changed, asked, with_group, created, made, group_in, entries_in, serves, read_each, after}
 use Rattle.xs_keys.specs.ReplyParts.{array_or_null, assigned_reply, of_group, of_key, taken_reply, scan_shown}
 use Rattle.xs_keys.specs.Reply.{parts, reply}
 use Rattle.xs_keys.specs.Step.{is_error, IsUnchangedIfRefused}

@@ -5,23 +5,23 @@ use Rattle.std.proofs.lemmas.Bool.{false≢true, and_from}
 use Rattle.std.proofs.lemmas.Bool.Decides.{nat_tests}
 use Rattle.std.proofs.lemmas.List.{take-map}
 use Rattle.xs_stream.specs.Id.{is_below, is_same, has_id}
-use Rattle.xs_stream.specs.Kept.{Ascends, AllAbove, is_within}
+use Rattle.xs_stream.specs.StreamContent.{Ascends, AllAbove, is_within}
 use Rattle.xs_stream.proofs.Order.{is_same-eq, is_same-refl, is_same-symm, below-not_same}
 use Rattle.xs_group.specs.State.{Row, idle, is_name}
 use Rattle.xs_group.specs.Claims.{row_at}
 use Rattle.xs_group.specs.Report.{is_of, is_asked, pending_row}
 use Rattle.xs_command.specs.declared.command.PendingRowsCommand.{PendingRowsCommand}
-use Rattle.xs_keys.specs.Ground.{Reply, option_map_or, Id, PendingRow}
+use Rattle.xs_keys.specs.Terms.{Reply, option_map_or, Id, PendingRow}
 use Rattle.xs_keys.specs.Owner.{owner}
 use Rattle.xs_keys.specs.GroupEvent.{rows}
 use Rattle.xs_keys.specs.GroupLife.{GroupLife}
 use Rattle.xs_keys.specs.ReplyParts.{array, row_reply}
 use Rattle.xs_keys.specs.Telling.{TellsEach}
-use Rattle.xs_keys.specs.Told.{IsAskedRow, TellsRow, TellsRows}
+use Rattle.xs_keys.specs.RepliesTell.{IsAskedRow, TellsRow, TellsRows}
 use Rattle.xs_keys.proofs.Truths.{first_of, second_of}
 use Rattle.xs_keys.proofs.Names.{is_name-eq, is_name-refl}
 use Rattle.xs_keys.proofs.Owners.{owner-row, row-found, of_row}
-use Rattle.xs_keys.proofs.Touches.{is-last-touched}
+use Rattle.xs_keys.proofs.TimesOfRows.{is-last-touched}
 use Rattle.xs_keys.proofs.JobBooks.{not_itself}
 use Rattle.xs_keys.proofs.FirstIds.{limited-first, first-as}
 

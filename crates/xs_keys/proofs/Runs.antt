@@ -1,10 +1,11 @@
 -- A run so far, and one event more.
 use Rattle.std.proofs.Common.{◌≡◌, ◌⊎◌, ℕ, List, [], ◌∷◌, ◌++◌, Some, inl, inr, sym, ap, ◌∙◌, subst, refl, append_assoc}
 use Rattle.std.proofs.lemmas.List.{append-nil}
+use Rattle.xs_keys.specs.Event.{Event, History}
 use Rattle.xs_command.specs.WellFormed.{IsWellFormed}
-use Rattle.xs_keys.specs.Ground.{Reply, Command}
+use Rattle.xs_keys.specs.Terms.{Reply, Command}
 use Rattle.xs_keys.specs.Content.{Content, IsContent}
-use Rattle.xs_keys.specs.Told.{IsTold}
+use Rattle.xs_keys.specs.RepliesTell.{IsTold}
 use Rattle.xs_keys.specs.EachReply.{Follows, Answers}
 use Rattle.xs_keys.specs.Headline.{AreWellFormed, AtEachEvent, LivesAreApart, Headline, RunsOn}
 use Rattle.xs_keys.specs.EachDelivery.{DeliversNew}
@@ -14,40 +15,40 @@ use Rattle.xs_keys.specs.GroupLife.{GroupLife, group_life}
 use Rattle.xs_keys.proofs.Lawfulness.{content-lawful}
 use Rattle.xs_keys.proofs.Deliveries.{ascends-delivered, past-start, had-event}
 use Rattle.xs_keys.proofs.Histories.{present-in-life}
-use Rattle.xs_keys.proofs.Takings.{in-full, claims-idle}
-use Rattle.xs_keys.proofs.Touches.{is-last-touched}
+use Rattle.xs_keys.proofs.ClaimedIds.{in-full, claims-idle}
+use Rattle.xs_keys.proofs.TimesOfRows.{is-last-touched}
 use Rattle.xs_keys.proofs.Owners.{owned-until-settled, changes-by-claims, owner-row, row-found, of_row}
 use Rattle.xs_keys.proofs.Streams.{ascends-given}
 use Rattle.xs_keys.proofs.Lives.{goes-on}
 use Rattle.xs_keys.proofs.Tellings.{is-told}
 use Rattle.xs_keys.proofs.Contents.{content-step}
-use Rattle.xs_keys.proofs.Sights.{sees-of}
+use Rattle.xs_keys.proofs.IdsAtEvents.{sees-of}
 use Rattle.xs_keys.proofs.JobPlaces.{has-one-place}
 use Rattle.xs_keys.proofs.JobMoves.{goes-along}
 use Rattle.xs_keys.proofs.JobBooks.{balances}
 use Rattle.xs_keys.specs.Life.{Change, key_life}
-use Rattle.xs_keys.specs.Books.{HasItsPlaces}
-use Rattle.xs_keys.specs.Move.{EachGoesAlong}
+use Rattle.xs_keys.specs.GroupBooks.{HasItsPlaces}
+use Rattle.xs_keys.specs.JobMove.{EachGoesAlong}
 use Rattle.xs_keys.specs.Presence.{EntriesAreAdded, EntriesStay, GroupsAreCreated, GroupsStay}
-use Rattle.xs_keys.proofs.Comings.{entries-added, groups-created}
+use Rattle.xs_keys.proofs.Arrivals.{entries-added, groups-created}
 use Rattle.xs_keys.proofs.Refusals.{refused-unchanged}
-use Rattle.xs_keys.proofs.Staying.{entries-stay, groups-stay}
+use Rattle.xs_keys.proofs.EntriesStay.{entries-stay, groups-stay}
 
 -- from this past on, the answers so far are good, whatever good answers to the rest of the events follow
-abbrev pub SoFar : List (ℕ × Command) → List (ℕ × Command) → List Reply → List (ℕ × Command) → List (ℕ × Command) → Type 0
-SoFar past events replies mid rest = (answers : List Reply) (last : List (ℕ × Command)) → Answers mid rest answers last → Answers past events (replies ++ answers) last
+abbrev pub SoFar : History → History → List Reply → History → History → Type 0
+SoFar past events replies mid rest = (answers : List Reply) (last : History) → Answers mid rest answers last → Answers past events (replies ++ answers) last
 
 -- over any history that left the old content
-abbrev pub RunsSoFar : Content → List (ℕ × Command) → List Reply → Content → List (ℕ × Command) → Type 0
+abbrev pub RunsSoFar : Content → History → List Reply → Content → History → Type 0
 RunsSoFar old events replies now rest =
-    (past : List (ℕ × Command)) → IsContent old past → (mid : List (ℕ × Command)) × IsContent now mid × SoFar past events replies mid rest
+    (past : History) → IsContent old past → (mid : History) × IsContent now mid × SoFar past events replies mid rest
 
-pub runs-none : (old : Content) (events : List (ℕ × Command)) → RunsSoFar old events [] old events
+pub runs-none : (old : Content) (events : History) → RunsSoFar old events [] old events
 runs-none old events = λ past is. (past, is, λ answers last done. done)
 
 -- how a step goes on with a history
-pub step-follows : (past : List (ℕ × Command)) (old new : Content) (now : ℕ) (command : Command) (answer : Reply) → IsWellFormed command → IsContent old past → Step old now command answer new
-    → (next : List (ℕ × Command)) × IsContent new next × Follows now past command answer next
+pub step-follows : (past : History) (old new : Content) (now : ℕ) (command : Command) (answer : Reply) → IsWellFormed command → IsContent old past → Step old now command answer new
+    → (next : History) × IsContent new next × Follows past now command answer next
 step-follows past old new now command answer formed is (inl applied) = (
   (now, command) ∷ past,
   subst (λ c. IsContent c ((now, command) ∷ past)) (sym applied.content_is) (content-step past old now command is),
@@ -69,20 +70,20 @@ step-follows past old new now command answer formed is (inr refused) = (
   inr (record { takes = refused.takes; content = old; left_by = is; no_other = refused.no_other; answer_is = refused.answer_is }, refl),
 )
 
-one_more : (mid : List (ℕ × Command)) (e : ℕ × Command) (reply : Reply) (now next : Content) → IsWellFormed e.1 → IsContent now mid → Step now e.0 e.1 reply next
-    → (more : List (ℕ × Command)) × IsContent next more × ((rest : List (ℕ × Command)) (answers : List Reply) (last : List (ℕ × Command)) → Answers more rest answers last → Answers mid (e ∷ rest) (reply ∷ answers) last)
+one_more : (mid : History) (e : Event) (reply : Reply) (now next : Content) → IsWellFormed e.1 → IsContent now mid → Step now e.0 e.1 reply next
+    → (more : History) × IsContent next more × ((rest : History) (answers : List Reply) (last : History) → Answers more rest answers last → Answers mid (e ∷ rest) (reply ∷ answers) last)
 one_more mid e reply now next formed is step =
     let more = step-follows mid now next e.0 e.1 reply formed is step in
     (more.0, more.1, λ rest answers last done. (more.0, more.2, done))
 
-pub runs-more : (old : Content) (events : List (ℕ × Command)) (replies : List Reply) (now next : Content) (e : ℕ × Command) (rest : List (ℕ × Command)) (reply : Reply)
+pub runs-more : (old : Content) (events : History) (replies : List Reply) (now next : Content) (e : Event) (rest : History) (reply : Reply)
     → RunsSoFar old events replies now (e ∷ rest) → IsWellFormed e.1 → Step now e.0 e.1 reply next → RunsSoFar old events (replies ++ reply ∷ []) next rest
 runs-more old events replies now next e rest reply so_far formed step = λ past is.
     let here = so_far past is in
     let more = one_more here.0 e reply now next formed here.1 step in
     (more.0, more.1, λ answers last done. rw append_assoc (here.2 (reply ∷ answers) last (more.2 rest answers last done)))
 
-pub delivers-new : (past : List (ℕ × Command)) (key group : List ℕ) (life : GroupLife) → group_life past key group ≡ Some life → DeliversNew life
+pub delivers-new : (past : History) (key group : List ℕ) (life : GroupLife) → group_life past key group ≡ Some life → DeliversNew life
 delivers-new past key group life e =
     let asc = present-in-life past key group life e in
     record {
@@ -92,7 +93,7 @@ delivers-new past key group life e =
       in_full = in-full life.start life.events;
     }
 
-pub has-one-owner : (past : List (ℕ × Command)) (key group : List ℕ) (life : GroupLife) → group_life past key group ≡ Some life → HasOneOwner life
+pub has-one-owner : (past : History) (key group : List ℕ) (life : GroupLife) → group_life past key group ≡ Some life → HasOneOwner life
 has-one-owner past key group life e = record {
   is_pending = λ x. owner-row life.start life.events x ∙ sym (ap of_row (row-found life.start life.events x));
   is_last_touched = is-last-touched life.start life.events;
@@ -101,7 +102,7 @@ has-one-owner past key group life e = record {
   by_claims = changes-by-claims life.start life.events;
 }
 
-pub has-its-places : (past : List (ℕ × Command)) (key group : List ℕ) (changes : List Change) (life : GroupLife) → key_life past key ≡ Some changes → group_life past key group ≡ Some life → HasItsPlaces changes life
+pub has-its-places : (past : History) (key group : List ℕ) (changes : List Change) (life : GroupLife) → key_life past key ≡ Some changes → group_life past key group ≡ Some life → HasItsPlaces changes life
 has-its-places past key group changes life k g =
     let asc = present-in-life past key group life g in
     let sees = sees-of past key group changes life k g in
@@ -109,33 +110,33 @@ has-its-places past key group changes life k g =
 
 -- ---- at each event
 
-pub formed-after : (past events : List (ℕ × Command)) (replies : List Reply) (history : List (ℕ × Command)) → Answers past events replies history → AreWellFormed past → AreWellFormed history
+pub formed-after : (past events : History) (replies : List Reply) (history : History) → Answers past events replies history → AreWellFormed past → AreWellFormed history
 formed-after past [] [] history are formed = subst AreWellFormed (sym are) formed
 formed-after past [] (reply ∷ replies) history are formed = absurd are
 formed-after past (e ∷ events) [] history are formed = absurd are
 formed-after past (e ∷ events) (reply ∷ replies) history (next, follows, rest) formed = formed-after next events replies history rest (by follows) where
-  by : Follows e.0 past e.1 reply next → AreWellFormed next
+  by : Follows past e.0 e.1 reply next → AreWellFormed next
   by (inl (answered, is)) = subst AreWellFormed (sym is) (answered.formed, formed)
   by (inr (left_out, is)) = subst AreWellFormed (sym is) formed
 
-formed-among : (later : List (ℕ × Command)) (e : ℕ × Command) (earlier : List (ℕ × Command)) → AreWellFormed (later ++ e ∷ earlier) → IsWellFormed e.1
+formed-among : (later : History) (e : Event) (earlier : History) → AreWellFormed (later ++ e ∷ earlier) → IsWellFormed e.1
 formed-among [] e earlier formed = formed.0
 formed-among (first ∷ later) e earlier formed = formed-among later e earlier formed.1
 
-formed-at : (past events : List (ℕ × Command)) (replies : List Reply) (history : List (ℕ × Command)) → Answers past events replies history
-    → (later : List (ℕ × Command)) (e : ℕ × Command) (earlier : List (ℕ × Command)) → history ≡ later ++ e ∷ earlier → AreWellFormed past ⊎ IsWellFormed e.1 → IsWellFormed e.1
+formed-at : (past events : History) (replies : List Reply) (history : History) → Answers past events replies history
+    → (later : History) (e : Event) (earlier : History) → history ≡ later ++ e ∷ earlier → AreWellFormed past ⊎ IsWellFormed e.1 → IsWellFormed e.1
 formed-at past events replies history are later e earlier is (inl formed) = formed-among later e earlier (subst AreWellFormed is (formed-after past events replies history are formed))
 formed-at past events replies history are later e earlier is (inr formed) = formed
 
-at-each-event : (past events : List (ℕ × Command)) (replies : List Reply) (history : List (ℕ × Command)) → Answers past events replies history
-    → (Holds : List (ℕ × Command) → ℕ × Command → Type 0) → ((earlier : List (ℕ × Command)) (e : ℕ × Command) → IsWellFormed e.1 → Holds earlier e)
+at-each-event : (past events : History) (replies : List Reply) (history : History) → Answers past events replies history
+    → (Holds : History → ℕ × Command → Type 0) → ((earlier : History) (e : Event) → IsWellFormed e.1 → Holds earlier e)
     → AtEachEvent past history Holds
 at-each-event [] events replies history are Holds holds = λ later e earlier is.
     holds earlier e (formed-at [] events replies history are later e earlier is (inl tt))
 at-each-event (first ∷ past) events replies history are Holds holds = λ later e earlier is formed.
     holds earlier e (formed-at (first ∷ past) events replies history are later e earlier is formed)
 
-pub headline : (past events : List (ℕ × Command)) (replies : List Reply) (history : List (ℕ × Command)) → Answers past events replies history → Headline past events replies history
+pub headline : (past events : History) (replies : List Reply) (history : History) → Answers past events replies history → Headline past events replies history
 headline past events replies history answers = record {
   replies = answers;
   steps = λ later e earlier f content is. (content-lawful earlier content is, content-step earlier content e.0 e.1 is);
@@ -152,7 +153,7 @@ headline past events replies history answers = record {
   open_groups = at-each-event past events replies history answers GroupsStay (λ earlier e formed. groups-stay earlier e);
 }
 
-pub runs-all : (old : Content) (events : List (ℕ × Command)) (replies : List Reply) (new : Content) → RunsSoFar old events replies new [] → RunsOn old events replies new
+pub runs-all : (old : Content) (events : History) (replies : List Reply) (new : Content) → RunsSoFar old events replies new [] → RunsOn old events replies new
 runs-all old events replies new so_far = λ past is.
     let here = so_far past is in
     (here.0, headline past events replies here.0 (rw append-nil at (here.2 [] here.0 refl)), here.1, content-lawful here.0 new here.1)

@@ -5,10 +5,10 @@ use Rattle.std.proofs.lemmas.Bool.{false≢true, or_right}
 use Rattle.xs_stream.specs.Id.{is_below, is_same, has_id, zero_id}
 use Rattle.xs_stream.proofs.Order.{is_same-eq, is_same-refl, below-not_back, below-irrefl}
 use Rattle.xs_group.specs.Claims.{is_enough, prefixes, first_where, scanned, first_or_zero}
-use Rattle.xs_keys.specs.Ground.{Id, Ascends}
-use Rattle.xs_keys.specs.Taken.{is_before}
+use Rattle.xs_keys.specs.Terms.{Id, Ascends}
+use Rattle.xs_keys.specs.ClaimsTake.{is_before}
 use Rattle.xs_keys.proofs.IdLists.{has_id-append}
-use Rattle.xs_keys.proofs.Sights.{above-has}
+use Rattle.xs_keys.proofs.IdsAtEvents.{above-has}
 use Rattle.xs_keys.proofs.Refusals.{first-below}
 
 -- ---- what is scanned is a beginning

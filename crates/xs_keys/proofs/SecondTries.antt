@@ -1,7 +1,7 @@
 -- A command that found no memory has changed nothing, so it may be applied again.
 use Rattle.std.proofs.Common.{◌≡◌, ℕ, inl, inr, sym, ap, subst, ◌∙◌}
 use Rattle.xs_command.specs.WellFormed.{IsWellFormed}
-use Rattle.xs_keys.specs.Ground.{Error, Memory, Command, Reply}
+use Rattle.xs_keys.specs.Terms.{Error, Memory, Command, Reply}
 use Rattle.xs_keys.specs.Content.{Content}
 use Rattle.xs_keys.specs.Step.{Step, is_error}
 use Rattle.xs_keys.proofs.Refusals.{refused-unchanged}

@@ -4,9 +4,9 @@ use Rattle.std.proofs.lemmas.List.{append-nil}
 use Rattle.xs_stream.proofs.Order.{is_same-refl, below-irrefl, below-not_same, below-not_back, up_to-below, not_above-trans}
 use Rattle.xs_stream.proofs.Assigning.{assigned-above}
 use Rattle.xs_stream.proofs.InOrder.{ids_of-append, ascends-push, ascends-filter, up_to-filter, filter-filter}
-use Rattle.xs_keys.specs.Ground.{option_map_or, Id, Field, Trim, AddError, is_below, has_id, zero_id, assigned, is_trimmed, Kept, ids_of, Ascends, AllUpTo}
+use Rattle.xs_keys.specs.Terms.{option_map_or, Id, Field, Trim, AddError, is_below, has_id, zero_id, assigned, is_trimmed, Kept, ids_of, Ascends, AllUpTo}
 use Rattle.xs_keys.specs.Life.{Change, added, deleted, trimmed_to, greatest, top_of, entry_of, gives, given_in, top, drops, stands, live, stream_of}
-use Rattle.xs_keys.specs.After.{stream_with, stream_after}
+use Rattle.xs_keys.specs.ContentAfter.{stream_with, stream_after}
 
 pub greatest-append : (a : Id) (xs ys : List Id) → greatest a (xs ++ ys) ≡ greatest (greatest a xs) ys
 greatest-append a [] ys = refl

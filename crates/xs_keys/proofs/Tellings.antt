@@ -12,22 +12,23 @@ use Rattle.xs_group.specs.declared.claims.Scan as scans
 use Rattle.xs_group.specs.Claims.{Rule, claim_of, scan_of, claim_among, firsts, from_start, scanned, is_hit, is_taken, is_idle, row_at}
 use Rattle.xs_group.specs.Report.{is_asked, pending_row, summary_of}
 use Rattle.xs_group.proofs.RemovedRows.{length-change}
+use Rattle.xs_keys.specs.Event.{History}
 use Rattle.xs_command.specs.WellFormed.{IsWellFormed, keys_of}
 use Rattle.xs_command.specs.declared.command.AddCommand.{AddCommand}
-use Rattle.xs_keys.specs.Ground.{option_map, option_map_or, get, Id, Field, AddError, Kept, Ascends, ids_of, fields_at, is_trimmed, limited, Reply, NullBulk, NullArray, Error, Int, NoGroup, Command, Ping, Quit, Add, Delete, TrimTo, Len, Scan, GroupCreate, GroupDestroy, ConsumerCreate, ConsumerDelete, ReadGroup, Ack, Pending, PendingRows, Claim, AutoClaim, DropKeys, ReadGroupCommand, ReadOne, ReadFrom, New, After}
+use Rattle.xs_keys.specs.Terms.{option_map, option_map_or, get, Id, Field, AddError, Kept, Ascends, ids_of, fields_at, is_trimmed, limited, Reply, NullBulk, NullArray, Error, Int, NoGroup, Command, Ping, Quit, Add, Delete, TrimTo, Len, Scan, GroupCreate, GroupDestroy, ConsumerCreate, ConsumerDelete, ReadGroup, Ack, Pending, PendingRows, Claim, AutoClaim, DropKeys, ReadGroupCommand, ReadOne, ReadFrom, New, After}
 use Rattle.xs_keys.specs.Life.{Change, added, deleted, trimmed_to, opened, key_life, entry_of, given_in, top_of, live, stands, stream_of}
 use Rattle.xs_keys.specs.GroupEvent.{delivered, cursor, pending_row_at, rows}
 use Rattle.xs_keys.specs.Owner.{owner}
-use Rattle.xs_keys.specs.Ask.{claim, auto_claim, ack}
+use Rattle.xs_keys.specs.GroupAsk.{claim, auto_claim, ack}
 use Rattle.xs_keys.specs.GroupLife.{GroupLife, group_life, life_after_ask, present_in, is_new, reads_new_entries, has_all_groups, ids_delivered_by, ask_of_read}
 use Rattle.xs_keys.specs.Content.{Content, Key, IsContent, IsGroup, GroupHolds, KeyHolds}
-use Rattle.xs_keys.specs.After.{made, stream_after, group_in, entries_in, asked}
+use Rattle.xs_keys.specs.ContentAfter.{made, stream_after, group_in, entries_in, asked}
 use Rattle.xs_keys.specs.Reply.{reply, shown_by, parts, removed_by}
 use Rattle.xs_keys.specs.ReplyParts.{assigned_reply, array, array_or_null, id_reply, field_replies, entry_reply, part, new_part, of_group, owner_reply, summary_reply, row_reply, taken_reply, scan_shown}
 use Rattle.xs_keys.specs.Telling.{TellsEntry, TellsEntryOrNull, TellsEach, AreFirst}
 use Rattle.xs_keys.specs.Life.{given_at}
-use Rattle.xs_keys.specs.Told.{TellsAddition, TellsFewer, present_count, pending_count, claimed_at, TellsTaken, TellsRows, IsTold}
-use Rattle.xs_keys.specs.TellsReads.{TellsNew, IsOwnPast, TellsRead, TellsReads}
+use Rattle.xs_keys.specs.RepliesTell.{TellsAddition, TellsFewer, present_count, pending_count, claimed_at, TellsTaken, TellsRows, IsTold}
+use Rattle.xs_keys.specs.ReadsTell.{TellsNew, IsOwnPast, TellsRead, TellsReads}
 use Rattle.xs_keys.proofs.Truths.{first_of, second_of}
 use Rattle.xs_keys.proofs.IdLists.{has_id-where, ascends-where}
 use Rattle.xs_keys.proofs.Names.{is_name-eq, is_name-refl}
@@ -38,7 +39,7 @@ use Rattle.xs_keys.proofs.Histories.{present-in-life}
 use Rattle.xs_keys.proofs.Contents.{no_life, asked-elsewhere, serves-known}
 use Rattle.xs_keys.proofs.Lives.{others-absent}
 use Rattle.xs_keys.proofs.Owners.{owner-row, of_row, held-delivered}
-use Rattle.xs_keys.proofs.Sights.{limited-has}
+use Rattle.xs_keys.proofs.IdsAtEvents.{limited-has}
 use Rattle.xs_keys.proofs.JobBooks.{owned-among, ascends-rows}
 use Rattle.xs_keys.proofs.Assigning.{assigned-claim, assigned-scan}
 use Rattle.xs_keys.proofs.RowsTold.{rows-told}
@@ -127,7 +128,7 @@ taken-among es present now rule ids x h =
 -- ---- a group that is there
 
 -- key and group are there, with their lives
-pub record IsThere (c : Content) (past : List (ℕ × Command)) (name group : List ℕ) : Type 0 where
+pub record IsThere (c : Content) (past : History) (name group : List ℕ) : Type 0 where
   pub key : Key
   pub changes : List Change
   pub state : State
@@ -139,7 +140,7 @@ pub record IsThere (c : Content) (past : List (ℕ × Command)) (name group : Li
   pub stream_is : key.stream ≡ stream_of changes
   pub holds : IsGroup state life
 
-there : (c : Content) (past : List (ℕ × Command)) (name group : List ℕ) → IsContent c past → is_some (group_life past name group) ≡ true → IsThere c past name group
+there : (c : Content) (past : History) (name group : List ℕ) → IsContent c past → is_some (group_life past name group) ≡ true → IsThere c past name group
 there c past name group is is_open = by (get c name) (key_life past name) refl refl (is name) where
   within : (key : Key) (changes : List Change) → get c name ≡ Some key → key_life past name ≡ Some changes → key.stream ≡ stream_of changes
       → (s : Option State) (l : Option GroupLife) → get key.groups group ≡ s → group_life past name group ≡ l → GroupHolds s l → IsThere c past name group
@@ -168,7 +169,7 @@ there c past name group is is_open = by (get c name) (key_life past name) refl r
 -- ---- claims
 
 -- without the group there is nothing to say
-missing : (c : Content) (past : List (ℕ × Command)) (name group : List ℕ) → IsContent c past → is_some (group_life past name group) ≡ false → group_in (get c name) group ≡ None
+missing : (c : Content) (past : History) (name group : List ℕ) → IsContent c past → is_some (group_life past name group) ≡ false → group_in (get c name) group ≡ None
 missing c past name group is gone = by (get c name) (key_life past name) (is name) where
   within : (s : Option State) (l : Option GroupLife) → is_some l ≡ false → GroupHolds s l → s ≡ None
   within None None g holds = refl
@@ -182,7 +183,7 @@ missing c past name group is gone = by (get c name) (key_life past name) (is nam
   by (Some key) None holds = absurd holds
 
 -- what XCLAIM tells
-told-claim : (c : Content) (past : List (ℕ × Command)) (now : ℕ) (name group consumer : List ℕ) (rule : Rule) (ids : List Id) (t : IsThere c past name group)
+told-claim : (c : Content) (past : History) (now : ℕ) (name group consumer : List ℕ) (rule : Rule) (ids : List Id) (t : IsThere c past name group)
     → TakenIs rule.just_id (given_at past name) (claimed_at past now name group (claim consumer rule ids)).claim.take
     (taken_reply rule.just_id t.key.stream.entries (claim_of t.state.rows.entries (ids_of t.key.stream.entries) now rule ids).take)
 told-claim c past now name group consumer rule ids t =
@@ -191,7 +192,7 @@ told-claim c past now name group consumer rule ids t =
     (taken-among (rows t.life.start t.life.events) (ids_of (live t.changes)) now rule (firsts ids)))
 
 -- what XAUTOCLAIM tells
-told-scan : (c : Content) (past : List (ℕ × Command)) (now : ℕ) (name group consumer : List ℕ) (rule : Rule) (start : Id) (limit : ℕ) (t : IsThere c past name group)
+told-scan : (c : Content) (past : History) (now : ℕ) (name group consumer : List ℕ) (rule : Rule) (start : Id) (limit : ℕ) (t : IsThere c past name group)
     → TakenIs rule.just_id (given_at past name) (claimed_at past now name group (auto_claim consumer rule start limit)).claim.take
     (taken_reply rule.just_id t.key.stream.entries (scan_of t.state.rows.entries (ids_of t.key.stream.entries) now rule start limit).claim.take)
 told-scan c past now name group consumer rule start limit t =
@@ -202,20 +203,20 @@ told-scan c past now name group consumer rule start limit t =
     (taken-among es present now rule (scanned (is_hit es present now rule) limit (from_start start es))))
 
 -- and where it goes on, and what it removes
-scan-is : (c : Content) (past : List (ℕ × Command)) (now : ℕ) (name group consumer : List ℕ) (rule : Rule) (start : Id) (limit : ℕ) (t : IsThere c past name group)
+scan-is : (c : Content) (past : History) (now : ℕ) (name group consumer : List ℕ) (rule : Rule) (start : Id) (limit : ℕ) (t : IsThere c past name group)
     → scan_of t.state.rows.entries (ids_of t.key.stream.entries) now rule start limit ≡ claimed_at past now name group (auto_claim consumer rule start limit)
 scan-is c past now name group consumer rule start limit t = rw (t.changes_are, t.life_is, t.holds.rows_are, t.stream_is) refl
 
 -- ---- reads
 
 -- what a read with `>` delivers in a group that is there
-delivers-there : (c : Content) (past : List (ℕ × Command)) (read : ReadGroupCommand) (name : List ℕ) (t : IsThere c past name read.group)
+delivers-there : (c : Content) (past : History) (read : ReadGroupCommand) (name : List ℕ) (t : IsThere c past name read.group)
     → has_all_groups past (ReadGroup read) ≡ true → reads_new_entries (ReadGroup read) name ≡ true
     → ids_delivered_by past (ReadGroup read) name read.group ≡ delivers read.limit (cursor t.life.start t.life.events) (ids_of (live t.changes))
 delivers-there c past read name t act new = rw (new, act, is_name-refl read.group, t.life_is, t.changes_are) refl
 
 -- the entries that a consumer has
-module _ (past : List (ℕ × Command)) (key group : List ℕ) (life : GroupLife) (is : group_life past key group ≡ Some life) (consumer : List ℕ) where
+module _ (past : History) (key group : List ℕ) (life : GroupLife) (is : group_life past key group ≡ Some life) (consumer : List ℕ) where
   held : Id → Option Row
   held x = pending_row_at life.start life.events x
 
@@ -258,7 +259,7 @@ module _ (past : List (ℕ × Command)) (key group : List ℕ) (life : GroupLife
       past_from = filter (λ y. is_below from y) (owned consumer (rows life.start life.events))
 
 -- one read of those that are left: its key and its group are as they were before the event
-told-read : (c next : Content) (past : List (ℕ × Command)) (read : ReadGroupCommand) (one : ReadOne) → IsThere c past one.key read.group → get next one.key ≡ get c one.key
+told-read : (c next : Content) (past : History) (read : ReadGroupCommand) (one : ReadOne) → IsThere c past one.key read.group → get next one.key ≡ get c one.key
     → has_all_groups past (ReadGroup read) ≡ true → (is_new one.from ≡ true → reads_new_entries (ReadGroup read) one.key ≡ true)
     → TellsRead past read one.key one.from
     (option_map_or (shown_by read one.key one.from (entries_in (get next one.key))) (group_in (get next one.key) read.group) [])
@@ -281,7 +282,7 @@ told-read c next past read one t same act asks = by one.from asks where
       )
 
 -- the reads that are left
-told-reads : (c : Content) (past : List (ℕ × Command)) (now : ℕ) (read : ReadGroupCommand) → IsContent c past → has_all_groups past (ReadGroup read) ≡ true
+told-reads : (c : Content) (past : History) (now : ℕ) (read : ReadGroupCommand) → IsContent c past → has_all_groups past (ReadGroup read) ≡ true
     → (reads : List ReadOne) (next : Content) → IsDistinct bytes_eq (keys_of reads)
     → list_all (λ one. is_some (group_life past one.key read.group)) reads ≡ true
     → ((key : List ℕ) → list_any (λ one. is_name key one.key) reads ≡ true → get next key ≡ get c key)
@@ -314,7 +315,7 @@ told-addition : (given : List (Id × List Field)) (fields : List Field) (id : Re
 told-addition given fields (Ok id) = inl (id, refl, refl)
 told-addition given fields (Err refusal) = inr (inl refl, append-nil given)
 
-told-add : (past : List (ℕ × Command)) (c : Content) (now : ℕ) (add : AddCommand) → IsContent c past → IsTold past now (Add add) (reply c now (Add add))
+told-add : (past : History) (c : Content) (now : ℕ) (add : AddCommand) → IsContent c past → IsTold past now (Add add) (reply c now (Add add))
 told-add past c now add is =
     subst (λ t. TellsAddition (option_map_or given_in (key_life past add.key) []) add.fields (reply c now (Add add))
     (option_map_or given_in (cond t (option_map (λ changes. added now add.id add.fields add.trim ∷ changes) (opened add.make (key_life past add.key))) (key_life past add.key)) []))
@@ -341,7 +342,7 @@ ids-length : (es : List (Id × List Field)) → length (ids_of es) ≡ length es
 ids-length es = length-map es (λ e. e.0)
 
 -- a change of a stream that only removes
-told-removal : (past : List (ℕ × Command)) (c : Content) (name : List ℕ) (change : Change) → IsContent c past
+told-removal : (past : History) (c : Content) (name : List ℕ) (change : Change) → IsContent c past
     → ((kept : Kept) → length (stream_after change kept).entries ≤ length kept.entries)
     → removed_by change (get c name) + length (present_in (cond (is_name name name) (option_map (λ changes. change ∷ changes) (key_life past name)) (key_life past name))) ≡ present_count name past
 told-removal past c name change is fewer =
@@ -360,7 +361,7 @@ told-removal past c name change is fewer =
         ap (λ n. length key.stream.entries - length (stream_after change key.stream).entries + n) (sym after)
         ∙ tells-fewer (length key.stream.entries) (length (stream_after change key.stream).entries) (fewer key.stream) ∙ before
 
-told-length : (past : List (ℕ × Command)) (c : Content) (name : List ℕ) → IsContent c past → Int (length (entries_in (get c name))) ≡ Int (present_count name past)
+told-length : (past : History) (c : Content) (name : List ℕ) → IsContent c past → Int (length (entries_in (get c name))) ≡ Int (present_count name past)
 told-length past c name is = ap Int (by (get c name) (key_life past name) (is name)) where
   by : (key : Option Key) (life : Option (List Change)) → KeyHolds key life (λ group. group_life past name group) → length (entries_in key) ≡ length (present_in life)
   by None None holds = refl
@@ -369,7 +370,7 @@ told-length past c name is = ap Int (by (get c name) (key_life past name) (is na
   by (Some key) (Some changes) holds = ap (λ (s : Kept). length s.entries) holds.0 ∙ sym (ids-length (live changes))
 
 -- how many an acknowledgement settles
-told-ack : (past : List (ℕ × Command)) (c : Content) (now : ℕ) (name group : List ℕ) (ids : List Id) → IsContent c past
+told-ack : (past : History) (c : Content) (now : ℕ) (name group : List ℕ) (ids : List Id) → IsContent c past
     → TellsFewer (pending_count name group) past (now, Ack name group ids) (reply c now (Ack name group ids))
 told-ack past c now name group ids is = (_, refl, by (is_some (group_life past name group)) refl) where
   gone : Option State → ℕ
@@ -403,7 +404,7 @@ told-ack past c now name group ids is = (_, refl, by (is_some (group_life past n
 
 -- ---- every command
 
-pub is-told : (past : List (ℕ × Command)) (c : Content) (now : ℕ) (command : Command) → IsContent c past → IsWellFormed command → IsTold past now command (reply c now command)
+pub is-told : (past : History) (c : Content) (now : ℕ) (command : Command) → IsContent c past → IsWellFormed command → IsTold past now command (reply c now command)
 is-told past c now (ReadGroup read) is formed = (
   λ act. (
     parts c now read read.reads,

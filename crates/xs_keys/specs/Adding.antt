@@ -3,11 +3,11 @@ use Rattle.std.specs.Prelude.{◌≡◌, ℕ, true, ◌⊎◌, Option, Some, Non
 use Rattle.xs_stream.specs.declared.id.Id.{Id}
 use Rattle.xs_stream.specs.declared.add.AddError.{AddError}
 use Rattle.xs_stream.specs.Id.{printed, assigned}
-use Rattle.xs_stream.specs.Kept.{Kept}
+use Rattle.xs_stream.specs.StreamContent.{Kept}
 use Rattle.xs_command.specs.declared.command.AddCommand.{AddCommand}
-use Rattle.xs_keys.specs.Ground.{Reply, Error, Memory}
+use Rattle.xs_keys.specs.Terms.{Reply, Error, Memory}
 use Rattle.xs_keys.specs.Life.{added}
-use Rattle.xs_keys.specs.After.{stream_after}
+use Rattle.xs_keys.specs.ContentAfter.{stream_after}
 use Rattle.xs_keys.specs.ReplyParts.{assigned_reply}
 use Rattle.xs_keys.specs.Event.{Bytes}
 

@@ -7,7 +7,7 @@ use Rattle.xs_group.specs.State.{State}
 use Rattle.xs_group.specs.Indexes.{coded_id, coded_state}
 use Rattle.xs_stream.specs.declared.id.Id.{Id}
 use Rattle.xs_stream.specs.declared.field.Field.{Field}
-use Rattle.xs_stream.specs.Kept.{Kept}
+use Rattle.xs_stream.specs.StreamContent.{Kept}
 use Rattle.xs_keys.specs.Content.{Key, Content}
 
 abbrev pub coded_field : Coded Field

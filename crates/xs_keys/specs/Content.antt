@@ -1,6 +1,6 @@
 -- The content of the keyspace: read off a history, what holds of it, and what each command makes of it.
 use Rattle.std.specs.Prelude.{◌≡◌, List, Option, Some, None}
-use Rattle.xs_keys.specs.Ground.{NameMap, get, Kept, State, has_name}
+use Rattle.xs_keys.specs.Terms.{NameMap, get, Kept, State, has_name}
 use Rattle.xs_keys.specs.Life.{Change, key_life, stream_of}
 use Rattle.xs_keys.specs.GroupEvent.{cursor, is_consumer, rows}
 use Rattle.xs_keys.specs.GroupLife.{GroupLife, group_life}

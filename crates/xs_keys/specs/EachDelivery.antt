@@ -1,8 +1,8 @@
 -- Each delivery of new entries: in id order, each once, and in full. (Redis, XREADGROUP.)
 use Rattle.std.specs.Prelude.{◌≡◌, ℕ, Bool, true, false, ◌⊎◌, Option, Some, List, ◌∷◌, ◌++◌, length}
-use Rattle.xs_keys.specs.Ground.{Id, is_below, has_id, Ascends, AllAbove}
+use Rattle.xs_keys.specs.Terms.{Id, is_below, has_id, Ascends, AllAbove}
 use Rattle.xs_keys.specs.GroupEvent.{GroupEvent, delivered, new_ids_of_event, cursor, is_their_turn}
-use Rattle.xs_keys.specs.Ask.{read_new}
+use Rattle.xs_keys.specs.GroupAsk.{read_new}
 use Rattle.xs_keys.specs.GroupLife.{GroupLife}
 use Rattle.xs_keys.specs.Event.{Bytes}
 

@@ -1,12 +1,12 @@
 -- Each owner: an entry that is pending has exactly one until it is settled. (Redis Streams, "Consumer groups"; XACK;
 -- XCLAIM; XAUTOCLAIM.)
 use Rattle.std.specs.Prelude.{◌≡◌, Bool, true, false, ◌⊎◌, Some, not, ◌||◌, List, [], ◌∷◌, ◌++◌, None, is_some}
-use Rattle.xs_keys.specs.Ground.{Id, option_map}
+use Rattle.xs_keys.specs.Terms.{Id, option_map}
 use Rattle.xs_group.specs.Claims.{row_at}
-use Rattle.xs_keys.specs.Touched.{IsLastTouched}
-use Rattle.xs_keys.specs.Taken.{ClaimsWhatIsIdle}
+use Rattle.xs_keys.specs.TimesAndCounts.{IsLastTouched}
+use Rattle.xs_keys.specs.ClaimsTake.{ClaimsWhatIsIdle}
 use Rattle.xs_keys.specs.GroupEvent.{GroupEvent, rows}
-use Rattle.xs_keys.specs.Ask.{consumer_of}
+use Rattle.xs_keys.specs.GroupAsk.{consumer_of}
 use Rattle.xs_keys.specs.Owner.{is_made_pending_by, takes, settles, owner}
 use Rattle.xs_keys.specs.GroupLife.{GroupLife}
 use Rattle.xs_keys.specs.Event.{Bytes}
@@ -14,7 +14,8 @@ use Rattle.xs_keys.specs.Event.{Bytes}
 -- one of these later events settles it
 abbrev pub is_settled_in : Id → List GroupEvent → List GroupEvent → Id → Bool
 is_settled_in start [] before x = false
-is_settled_in start (event ∷ later) before x = settles start (later ++ before) event x || is_settled_in start later before x
+is_settled_in start (event ∷ later) before x =
+    settles start (later ++ before) event x || is_settled_in start later before x
 
 -- after a delivery without NOACK there is an owner exactly as long as nothing has settled the entry
 abbrev pub OwnedUntilSettled : Id → List GroupEvent → Type 0

@@ -1,11 +1,11 @@
 -- Each reply: the model's, or that memory ran out.
 use Rattle.std.specs.Prelude.{◌≡◌, ℕ, true, false, ◌⊎◌, List, [], ◌∷◌}
-use Rattle.xs_keys.specs.Ground.{Memory, Reply, Error, Command}
+use Rattle.xs_keys.specs.Terms.{Memory, Reply, Error, Command}
 use Rattle.xs_command.specs.WellFormed.{IsWellFormed}
 use Rattle.xs_keys.specs.Content.{Content, IsContent}
 use Rattle.xs_keys.specs.Reply.{reply}
 use Rattle.xs_keys.specs.Step.{takes_memory, is_error, IsUnchangedIfRefused}
-use Rattle.xs_keys.specs.Told.{IsTold}
+use Rattle.xs_keys.specs.RepliesTell.{IsTold}
 use Rattle.xs_keys.specs.Event.{Event, History}
 
 -- an event of the history: its command is well formed, and its reply is the model's, at the content of the events
@@ -26,9 +26,9 @@ pub record IsLeftOut (past : History) (now : ℕ) (command : Command) (answer : 
   pub no_other : is_error (reply content now command) ≡ false
   pub answer_is : answer ≡ Error Memory
 
--- at a moment, over a past, a command is answered so, and this history follows: the event joins it, or is left out
-abbrev pub Follows : ℕ → History → Command → Reply → History → Type 0
-Follows now past command answer next =
+-- over a past, at a moment, a command is answered so, and this history follows: the event joins it, or is left out
+abbrev pub Follows : History → ℕ → Command → Reply → History → Type 0
+Follows past now command answer next =
     (IsAnswered past now command answer × (next ≡ (now, command) ∷ past))
     ⊎ (IsLeftOut past now command answer × (next ≡ past))
 
@@ -36,5 +36,5 @@ Follows now past command answer next =
 abbrev pub Answers : History → List Event → List Reply → History → Type 0
 Answers past [] [] last = last ≡ past
 Answers past (e ∷ events) (answer ∷ answers) last =
-    (next : History) × Follows e.0 past e.1 answer next × Answers next events answers last
+    (next : History) × Follows past e.0 e.1 answer next × Answers next events answers last
 Answers past _ _ last = ⊥

@@ -1,11 +1,11 @@
 -- What a command does to an entry, by its words alone. (Redis, XADD, XDEL, XTRIM, XGROUP, XREADGROUP, XACK, XCLAIM,
 -- XAUTOCLAIM and DEL.)
 use Rattle.std.specs.Prelude.{◌+◌, Bool, false, ◌&&◌, ◌||◌, List, nat_le, Option, Some, None}
-use Rattle.xs_stream.specs.Kept.{count_above}
+use Rattle.xs_stream.specs.StreamContent.{count_above}
 use Rattle.xs_stream.specs.declared.trim.Trim.TheVariants.{MaxLen, MinId}
-use Rattle.xs_keys.specs.Ground.{option_map_or, Id, Trim, is_below, has_id, is_trimmed, is_name, Command, Add, Delete}
-use Rattle.xs_keys.specs.Ground.{TrimTo, GroupCreate, GroupDestroy, ConsumerDelete, ReadGroup, Ack, Claim, AutoClaim}
-use Rattle.xs_keys.specs.Ground.{DropKeys}
+use Rattle.xs_keys.specs.Terms.{option_map_or, Id, Trim, is_below, has_id, is_trimmed, is_name, Command, Add, Delete}
+use Rattle.xs_keys.specs.Terms.{TrimTo, GroupCreate, GroupDestroy, ConsumerDelete, ReadGroup, Ack, Claim, AutoClaim}
+use Rattle.xs_keys.specs.Terms.{DropKeys}
 use Rattle.xs_keys.specs.Life.{is_listed}
 use Rattle.xs_keys.specs.GroupLife.{group_of, reads_new_entries}
 use Rattle.xs_keys.specs.Event.{Bytes}

@@ -2,9 +2,9 @@
 use Rattle.std.specs.Prelude.{[], ◌∷◌, codes}
 use Rattle.xs_resp.specs.declared.fault.Fault.TheVariants.{Arity, BadId, Busy, Exhausted, NoGroup, NoKey, NotInteger}
 use Rattle.xs_resp.specs.declared.fault.Fault.TheVariants.{SmallId, Syntax, UnknownCommand, Unsupported, ZeroId}
-use Rattle.xs_keys.specs.Ground.{Simple, Pong, Error, Int, NullBulk, NullArray}
+use Rattle.xs_keys.specs.Terms.{Simple, Pong, Error, Int, NullBulk, NullArray}
 use Rattle.xs_keys.specs.ReplyParts.{array}
-use Rattle.xs_keys.specs.Played.{IsPlayed, at, ok, name, number, id, entry, gone, stream, row}
+use Rattle.xs_keys.specs.PlayedLines.{IsPlayed, at, ok, name, number, id, entry, gone, stream, row}
 
 pub record Streams : Type 0 where
   -- the stored run of the program

@@ -10,7 +10,7 @@ use Rattle.xs_command.specs.ExamplesStreams.{field}
 use Rattle.xs_keys.specs.Life.{Change, added}
 use Rattle.xs_stream.specs.declared.add.AddId.TheVariants as add
 use Rattle.xs_keys.specs.GroupEvent.{GroupEvent}
-use Rattle.xs_keys.specs.Ask.{read_new}
+use Rattle.xs_keys.specs.GroupAsk.{read_new}
 use Rattle.xs_keys.specs.GroupLife.{GroupLife}
 use Rattle.xs_keys.specs.Content.{Key, GroupHolds, KeyHolds}
 

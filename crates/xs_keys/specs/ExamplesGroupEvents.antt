@@ -8,13 +8,13 @@ use Rattle.xs_stream.specs.Examples.{at}
 use Rattle.xs_group.specs.declared.claims.ClaimTime.TheVariants as time
 use Rattle.xs_group.specs.Claims.{Rule}
 use Rattle.xs_group.specs.ExamplesRead.{pending}
-use Rattle.xs_keys.specs.Ask.{Ask, read_new, read_own, ack, join, leave, claim, auto_claim}
+use Rattle.xs_keys.specs.GroupAsk.{Ask, read_new, read_own, ack, join, leave, claim, auto_claim}
 use Rattle.xs_keys.specs.GroupEvent.{GroupEvent}
 use Rattle.xs_keys.specs.GroupEvent.{delivered, cursor}
 use Rattle.xs_keys.specs.GroupEvent.{is_their_turn, is_consumer, rows}
 use Rattle.xs_keys.specs.Owner.{is_made_pending_by, takes, settles}
 use Rattle.xs_keys.specs.Owner.{is_assigned_by, last_assigned, is_settled, owner}
-use Rattle.xs_keys.specs.Ask.{consumer_of}
+use Rattle.xs_keys.specs.GroupAsk.{consumer_of}
 use Rattle.xs_keys.specs.EachOwner.{is_settled_in}
 
 -- the group starts at 1-0

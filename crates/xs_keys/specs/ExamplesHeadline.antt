@@ -9,10 +9,10 @@ use Rattle.xs_stream.specs.Examples.{at}
 use Rattle.xs_group.specs.State.{new_group}
 use Rattle.xs_command.specs.ExamplesStreams.{field}
 use Rattle.xs_command.specs.declared.command.AddCommand.{AddCommand}
-use Rattle.xs_keys.specs.Ground.{Kept, Simple, Error, Int, NullBulk, Okay, Pong, Memory, NoKey, Busy, Command, Ping}
-use Rattle.xs_keys.specs.Ground.{GroupCreateCommand, At}
+use Rattle.xs_keys.specs.Terms.{Kept, Simple, Error, Int, NullBulk, Okay, Pong, Memory, NoKey, Busy, Command, Ping}
+use Rattle.xs_keys.specs.Terms.{GroupCreateCommand, At}
 use Rattle.xs_keys.specs.GroupEvent.{GroupEvent}
-use Rattle.xs_keys.specs.Ask.{read_new, ack, join}
+use Rattle.xs_keys.specs.GroupAsk.{read_new, ack, join}
 use Rattle.xs_keys.specs.GroupLife.{GroupLife, GoesOn}
 use Rattle.xs_keys.specs.EachOwner.{OwnerAfter, NoOwnerAfter}
 use Rattle.xs_keys.specs.EachReply.{Follows, Answers}
@@ -20,7 +20,7 @@ use Rattle.xs_keys.specs.Step.{is_error}
 use Rattle.xs_keys.specs.Adding.{Adds}
 use Rattle.xs_keys.specs.Grouping.{Creates}
 use Rattle.xs_keys.specs.ReplyParts.{fault_of}
-use Rattle.xs_keys.specs.Played.{id}
+use Rattle.xs_keys.specs.PlayedLines.{id}
 use Rattle.xs_keys.specs.ExamplesGroupEvents.{start, event, read_by_a, noack_by_b, first_by_a, claim_by_b}
 
 -- b reads one more
@@ -58,7 +58,7 @@ pub record AnswersGoOn : Type 0 where
   pub an_error : is_error (Error NoKey) ≡ true
   pub a_number : is_error (Int 0) ≡ false
   pub nothing : is_error NullBulk ≡ false
-  pub follows : Follows 5 (ping 4 ∷ []) (Ping None) (Simple Pong) (ping 5 ∷ ping 4 ∷ [])
+  pub follows : Follows (ping 4 ∷ []) 5 (Ping None) (Simple Pong) (ping 5 ∷ ping 4 ∷ [])
   pub none : Answers (ping 4 ∷ []) [] [] (ping 4 ∷ [])
   pub two : Answers [] (ping 4 ∷ ping 5 ∷ []) (Simple Pong ∷ Simple Pong ∷ []) (ping 5 ∷ ping 4 ∷ [])
   pub not_one_for_two : Answers [] (ping 4 ∷ ping 5 ∷ []) (Simple Pong ∷ []) (ping 4 ∷ []) → ⊥

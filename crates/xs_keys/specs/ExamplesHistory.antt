@@ -4,31 +4,32 @@ use Rattle.std.specs.Prelude.{◌≡◌, ℕ, ◌++◌, Bool, true, false, List,
 use Rattle.std.specs.Prelude.{Result, Ok, Err}
 use Rattle.std.specs.Option.{option_map}
 use Rattle.xs_stream.specs.declared.id.Id.{Id}
-use Rattle.xs_stream.specs.Kept.{ids_of}
+use Rattle.xs_stream.specs.StreamContent.{ids_of}
 use Rattle.xs_stream.specs.Examples.{at}
 use Rattle.xs_group.specs.declared.claims.ClaimTime.TheVariants as time
 use Rattle.xs_group.specs.Claims.{Rule}
 use Rattle.xs_resp.specs.declared.fault.Fault.{Fault}
+use Rattle.xs_keys.specs.Event.{History}
 use Rattle.xs_command.specs.declared.command.Command.{Command}
 use Rattle.xs_command.specs.Read.{reads}
 use Rattle.xs_command.specs.Examples.{line}
 use Rattle.xs_command.specs.ExamplesStreams.{field}
 use Rattle.xs_keys.specs.Life.{Change, key_life, given_in, top, live, stream_of}
 use Rattle.xs_keys.specs.GroupEvent.{delivered, cursor}
-use Rattle.xs_keys.specs.Ask.{claim, auto_claim}
+use Rattle.xs_keys.specs.GroupAsk.{claim, auto_claim}
 use Rattle.xs_keys.specs.GroupLife.{GroupLife, group_life, ids_delivered_by}
 use Rattle.xs_keys.specs.Headline.{OfEachGroup}
 use Rattle.xs_keys.specs.Step.{takes_memory}
 use Rattle.xs_keys.specs.Life.{given_at}
-use Rattle.xs_keys.specs.Told.{claimed_at}
+use Rattle.xs_keys.specs.RepliesTell.{claimed_at}
 
 -- an event, where the words say a command
-abbrev pub event : ℕ → Result Command Fault → List (ℕ × Command)
+abbrev pub event : ℕ → Result Command Fault → History
 event now (Ok command) = (now, command) ∷ []
 event now (Err fault) = []
 
 -- the events of these lines, all at one moment; the newest first
-abbrev pub events : ℕ → List (List ℕ) → List (ℕ × Command)
+abbrev pub events : ℕ → List (List ℕ) → History
 events now [] = []
 events now (words ∷ lines) = events now lines ++ event now (reads (line words))
 
@@ -145,7 +146,7 @@ pub record Deliveries : Type 0 where
       of_group (group_and (codes "XREADGROUP GROUP g a NOACK STREAMS s >" ∷ [])) cursor_of ≡ Some (at 3 0)
 
 -- what the event of some words delivers behind those lines
-abbrev pub new_of : List (ℕ × Command) → List (List ℕ) → List ℕ → List ℕ → List Id
+abbrev pub new_of : History → List (List ℕ) → List ℕ → List ℕ → List Id
 new_of [] lines key group = []
 new_of (e ∷ es) lines key group = ids_delivered_by (events 5 lines) e.1 key group
 
@@ -174,7 +175,7 @@ pub record Events : Type 0 where
   pub none_by_another_command : delivers_behind (group_and []) (codes "XRANGE s - +") (codes "s") (codes "g") ≡ []
 
 -- what the command of some words asks of memory
-abbrev pub memory_for : List (ℕ × Command) → Option Bool
+abbrev pub memory_for : History → Option Bool
 memory_for [] = None
 memory_for (e ∷ es) = Some (takes_memory e.1)
 

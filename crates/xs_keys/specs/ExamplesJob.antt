@@ -4,21 +4,22 @@
 use Rattle.std.specs.Prelude.{◌≡◌, ℕ, Bool, List, [], ◌∷◌, codes, Option, Some, None}
 use Rattle.xs_stream.specs.declared.id.Id.{Id}
 use Rattle.xs_stream.specs.Examples.{at}
+use Rattle.xs_keys.specs.Event.{History}
 use Rattle.xs_command.specs.declared.command.Command.{Command}
 use Rattle.xs_command.specs.Read.{reads}
 use Rattle.xs_command.specs.Examples.{line}
-use Rattle.xs_keys.specs.Place.{Place, before_start, waiting, dropped, handed_out, pending, settled, StandsAt}
-use Rattle.xs_keys.specs.Move.{HasArrow}
+use Rattle.xs_keys.specs.JobPlace.{Place, before_start, waiting, dropped, handed_out, pending, settled, StandsAt}
+use Rattle.xs_keys.specs.JobMove.{HasArrow}
 use Rattle.xs_command.specs.declared.command.GroupStart.TheVariants.{Top, At}
 use Rattle.xs_keys.specs.Presence.{StartsBehind}
-use Rattle.xs_keys.specs.Move.{GoesAlong, is_final, GoesOnFor}
-use Rattle.xs_keys.specs.Place.{place_after}
-use Rattle.xs_keys.specs.Books.{is_at, is_pending, jobs_at}
+use Rattle.xs_keys.specs.JobMove.{GoesAlong, is_final, GoesOnFor}
+use Rattle.xs_keys.specs.JobPlace.{place_after}
+use Rattle.xs_keys.specs.GroupBooks.{is_at, is_pending, jobs_at}
 use Rattle.xs_keys.specs.ExamplesHistory.{event, events}
 use Rattle.xs_keys.specs.ExamplesGroupEvents.{event_over, read_by_a, noack_by_b}
 use Rattle.xs_keys.specs.ExamplesHeadline.{life}
 use Rattle.xs_keys.specs.GroupEvent.{GroupEvent}
-use Rattle.xs_keys.specs.Ask.{ack}
+use Rattle.xs_keys.specs.GroupAsk.{ack}
 use Rattle.xs_keys.specs.Life.{Change, key_life}
 use Rattle.xs_keys.specs.GroupLife.{GroupLife, group_life}
 
@@ -139,7 +140,7 @@ pub record Standings : Type 0 where
   pub not_settled_yet : StandsAt (life (read_by_a ∷ [])) [] (at 2 0) settled → ⊥
 
 -- a command leads the entry 1-0 of the key s, in its group g, from here to there
-abbrev pub leads_by : List (ℕ × Command) → List Id → Place → Place → Type 0
+abbrev pub leads_by : History → List Id → Place → Place → Type 0
 leads_by [] present here there = ⊥
 leads_by (e ∷ es) present here there = HasArrow e.1 (codes "s") (codes "g") present (at 1 0) here there
 
@@ -207,7 +208,7 @@ pub record NoArrows : Type 0 where
   pub never_the_group_s : (words : List ℕ) (there : Place) → LeadsIt words before_start there → ⊥
 
 -- what a command of some words makes of the entry 1-0
-abbrev pub goes_by : List (ℕ × Command) → List Id → Option Place → Option Place → Type 0
+abbrev pub goes_by : History → List Id → Option Place → Option Place → Type 0
 goes_by [] present here there = ⊥
 goes_by (e ∷ es) present here there = GoesAlong e.1 (codes "s") (codes "g") present (at 1 0) here there
 

@@ -2,10 +2,10 @@
 -- (XREADGROUP and XRANGE, "RESP2 Reply", with COUNT and without.)
 use Rattle.std.specs.Prelude.{◌≡◌, ℕ, true, List, [], ◌∷◌, codes, Option, Some, None}
 use Rattle.xs_stream.specs.Examples.{at}
-use Rattle.xs_keys.specs.Ground.{Id, Field, has_id, Reply, NullArray}
+use Rattle.xs_keys.specs.Terms.{Id, Field, has_id, Reply, NullArray}
 use Rattle.xs_keys.specs.ReplyParts.{array}
 use Rattle.xs_keys.specs.Telling.{TellsEntry, TellsEntryOrNull, TellsEach, AreFirst}
-use Rattle.xs_keys.specs.Played.{name, id, entry}
+use Rattle.xs_keys.specs.PlayedLines.{name, id, entry}
 
 -- 1-0 and 2-0 were given, each with its field
 abbrev pub given : List (Id × List Field)

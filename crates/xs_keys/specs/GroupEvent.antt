@@ -2,11 +2,11 @@
 -- back over the events of its life: deliveries, cursor, consumers, rows, and who has an entry.
 use Rattle.std.specs.Prelude.{ℕ, Bool, false, not, List, [], Option, None, true, ◌&&◌, ◌∷◌, ◌++◌, if◌then◌else◌}
 use Rattle.xs_group.specs.declared.claims.Claim.{Claim}
-use Rattle.xs_keys.specs.Ground.{Id, Row, with_some, is_below}
+use Rattle.xs_keys.specs.Terms.{Id, Row, with_some, is_below}
 use Rattle.xs_keys.specs.Life.{greatest}
 use Rattle.xs_keys.specs.Event.{Bytes, PendingEntries}
-use Rattle.xs_keys.specs.Ask.{Ask, new_ids_of_ask, claim_of_ask, scan_end_of_ask, adds_consumer, drops_consumer}
-use Rattle.xs_keys.specs.Ask.{row_after_ask}
+use Rattle.xs_keys.specs.GroupAsk.{Ask, new_ids_of_ask, claim_of_ask, scan_end_of_ask, adds_consumer, drops_consumer}
+use Rattle.xs_keys.specs.GroupAsk.{row_after_ask}
 
 pub record GroupEvent : Type 0 where
   pub now : ℕ
@@ -43,7 +43,9 @@ is_their_turn start past event x = is_below (cursor start past) x && not (is_bel
 abbrev pub is_consumer : List GroupEvent → Bytes → Bool
 is_consumer [] name = false
 is_consumer (event ∷ past) name =
-    if drops_consumer event.ask name then false else (if adds_consumer event.ask name then true else is_consumer past name)
+    if drops_consumer event.ask name
+    then false
+    else (if adds_consumer event.ask name then true else is_consumer past name)
 
 -- the rows of these ids, where they have one
 abbrev pub rows_among : (Id → Option Row) → List Id → PendingEntries

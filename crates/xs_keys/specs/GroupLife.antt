@@ -1,12 +1,12 @@
 -- The lives of groups, and what an event delivers in a group, over the whole history.
 use Rattle.std.specs.Prelude.{◌≡◌, ℕ, Bool, true, false, ◌&&◌, List, [], ◌∷◌, ◌++◌, Option, Some, None, is_some}
 use Rattle.std.specs.Prelude.{if◌then◌else◌}
-use Rattle.xs_keys.specs.Ground.{option_map, option_map_or, option_or, list_all, list_any, Id, ids_of, is_name}
-use Rattle.xs_keys.specs.Ground.{delivers, Command, GroupCreate, GroupDestroy, ConsumerCreate, ConsumerDelete}
-use Rattle.xs_keys.specs.Ground.{ReadGroup, Ack, Claim, AutoClaim, DropKeys, GroupStart, Top, At, GroupCreateCommand}
-use Rattle.xs_keys.specs.Ground.{ReadGroupCommand, ReadOne, ReadFrom, New, After}
+use Rattle.xs_keys.specs.Terms.{option_map, option_map_or, option_or, list_all, list_any, Id, ids_of, is_name}
+use Rattle.xs_keys.specs.Terms.{delivers, Command, GroupCreate, GroupDestroy, ConsumerCreate, ConsumerDelete}
+use Rattle.xs_keys.specs.Terms.{ReadGroup, Ack, Claim, AutoClaim, DropKeys, GroupStart, Top, At, GroupCreateCommand}
+use Rattle.xs_keys.specs.Terms.{ReadGroupCommand, ReadOne, ReadFrom, New, After}
 use Rattle.xs_keys.specs.Life.{Change, is_listed, opened, key_life, live, top}
-use Rattle.xs_keys.specs.Ask.{Ask, read_new, read_own, ack, join, leave, claim, auto_claim}
+use Rattle.xs_keys.specs.GroupAsk.{Ask, read_new, read_own, ack, join, leave, claim, auto_claim}
 use Rattle.xs_keys.specs.GroupEvent.{GroupEvent}
 use Rattle.xs_keys.specs.GroupEvent.{delivered, cursor}
 use Rattle.xs_keys.specs.Event.{Bytes, History}
@@ -43,7 +43,8 @@ ask_of_read read New = read_new read.consumer read.limit read.noack
 ask_of_read read (After id) = read_own read.consumer read.limit id
 
 -- the reads of this key, in their order
-abbrev pub life_after_reads : ℕ → List Id → ReadGroupCommand → Bytes → List ReadOne → Option GroupLife → Option GroupLife
+abbrev pub life_after_reads :
+    ℕ → List Id → ReadGroupCommand → Bytes → List ReadOne → Option GroupLife → Option GroupLife
 life_after_reads now present read key [] life = life
 life_after_reads now present read key (one ∷ more) life =
     let next = if is_name key one.key then life_after_ask now present (ask_of_read read one.from) life else life in
@@ -62,7 +63,9 @@ group_life_after now (ConsumerCreate k g consumer) key group served stream life 
 group_life_after now (ConsumerDelete k g consumer) key group served stream life =
     if is_name key k && is_name group g then life_after_ask now (present_in stream) (leave consumer) life else life
 group_life_after now (ReadGroup read) key group served stream life =
-    if is_name group read.group && served then life_after_reads now (present_in stream) read key read.reads life else life
+    if is_name group read.group && served
+    then life_after_reads now (present_in stream) read key read.reads life
+    else life
 group_life_after now (Ack k g ids) key group served stream life =
     if is_name key k && is_name group g then life_after_ask now (present_in stream) (ack ids) life else life
 group_life_after now (Claim c) key group served stream life =

@@ -1,8 +1,8 @@
 -- What the contracts of the creation of groups say within the code.
 use Rattle.std.specs.Prelude.{◌≡◌, true, false, ◌⊎◌}
-use Rattle.xs_keys.specs.Ground.{NameMap, has_key, insert, Id, State, new_group, Reply, Simple, Error, Okay, Busy}
-use Rattle.xs_keys.specs.Ground.{Memory}
-use Rattle.xs_keys.specs.Ground.{GroupCreateCommand}
+use Rattle.xs_keys.specs.Terms.{NameMap, has_key, insert, Id, State, new_group, Reply, Simple, Error, Okay, Busy}
+use Rattle.xs_keys.specs.Terms.{Memory}
+use Rattle.xs_keys.specs.Terms.{GroupCreateCommand}
 use Rattle.xs_keys.specs.GroupLife.{starting_id}
 
 -- among the groups of a key with this top: it is there already, or it is made, or memory ran out

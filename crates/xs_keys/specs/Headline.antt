@@ -1,15 +1,15 @@
 -- The headline, of a run of commands over a history; and what it promises of the ids of each key, and of each life of
 -- a group: new deliveries, and one owner until an entry is settled.
 use Rattle.std.specs.Prelude.{◌≡◌, ◌⊎◌, Some, List, [], ◌∷◌, ◌++◌}
-use Rattle.xs_keys.specs.Ground.{Reply, Ascends, ids_of}
+use Rattle.xs_keys.specs.Terms.{Reply, Ascends, ids_of}
 use Rattle.xs_command.specs.WellFormed.{IsWellFormed}
 use Rattle.xs_keys.specs.Life.{Change, key_life, given_in}
 use Rattle.xs_keys.specs.Content.{Content, IsContent}
 use Rattle.xs_keys.specs.LawfulContent.{IsLawfulContent}
-use Rattle.xs_keys.specs.After.{after}
+use Rattle.xs_keys.specs.ContentAfter.{after}
 use Rattle.xs_keys.specs.GroupLife.{GroupLife, group_life, ids_delivered_by, GoesOn}
-use Rattle.xs_keys.specs.Books.{EachHasAPlace}
-use Rattle.xs_keys.specs.Move.{EachGoesAlong}
+use Rattle.xs_keys.specs.GroupBooks.{EachHasAPlace}
+use Rattle.xs_keys.specs.JobMove.{EachGoesAlong}
 use Rattle.xs_keys.specs.Presence.{EntriesAreAdded, EntriesStay, GroupsAreCreated, GroupsStay}
 use Rattle.xs_keys.specs.Event.{Bytes, Event, History}
 use Rattle.xs_keys.specs.EachDelivery.{DeliversNew}
@@ -55,7 +55,8 @@ AtEachEvent (first ∷ past) history Holds =
 abbrev pub LivesAreApart : History → Event → Type 0
 LivesAreApart earlier e =
     (key group : Bytes)
-    → GoesOn (group_life earlier key group) (ids_delivered_by earlier e.1 key group) (group_life (e ∷ earlier) key group)
+    → GoesOn (group_life earlier key group) (ids_delivered_by earlier e.1 key group)
+    (group_life (e ∷ earlier) key group)
 
 -- each event of a history leads from the content before it to the content after it, and each content is lawful
 abbrev pub StepsLawfully : History → Type 0

@@ -1,6 +1,6 @@
 -- What holds of every content.
 use Rattle.std.specs.Prelude.{◌≡◌, true, map, Some}
-use Rattle.xs_keys.specs.Ground.{get, Id, Kept, Ascends, AllUpTo, ids_of, Row, State, has_name}
+use Rattle.xs_keys.specs.Terms.{get, Id, Kept, Ascends, AllUpTo, ids_of, Row, State, has_name}
 use Rattle.xs_keys.specs.Event.{Bytes}
 use Rattle.xs_keys.specs.Content.{Key, Content}
 

@@ -1,9 +1,9 @@
 -- Histories, the lives of keys, and the stream of a life by looking back. A list of past events has the newest first.
 use Rattle.std.specs.Prelude.{ℕ, Bool, List, [], ◌∷◌, Option, Some, None, if◌then◌else◌, true, false, ◌&&◌, ◌++◌}
 use Rattle.std.specs.Prelude.{filter, Result, Ok, Err, is_ok}
-use Rattle.xs_keys.specs.Ground.{option_map, option_map_or, option_or, list_any, Id, AddId, Trim, Field, is_name}
-use Rattle.xs_keys.specs.Ground.{Command, Add, Delete, TrimTo, GroupCreate, DropKeys, AddError, is_below, has_id}
-use Rattle.xs_keys.specs.Ground.{zero_id, is_trimmed, assigned, Kept, ids_of}
+use Rattle.xs_keys.specs.Terms.{option_map, option_map_or, option_or, list_any, Id, AddId, Trim, Field, is_name}
+use Rattle.xs_keys.specs.Terms.{Command, Add, Delete, TrimTo, GroupCreate, DropKeys, AddError, is_below, has_id}
+use Rattle.xs_keys.specs.Terms.{zero_id, is_trimmed, assigned, Kept, ids_of}
 use Rattle.xs_keys.specs.Event.{Bytes, History, Entries}
 
 -- the name is one of these; names of keys, groups and consumers are lists of bytes

@@ -1,10 +1,10 @@
 -- The owner of an entry, by looking back: it is assigned by a delivery or a claim, and settled. (Redis Streams,
 -- "Consumer groups"; XACK; XCLAIM.)
 use Rattle.std.specs.Prelude.{Bool, false, List, [], Option, None, ◌&&◌, ◌||◌, ◌∷◌, is_some, if◌then◌else◌}
-use Rattle.xs_keys.specs.Ground.{option_map_or, Id, has_id}
+use Rattle.xs_keys.specs.Terms.{option_map_or, Id, has_id}
 use Rattle.xs_keys.specs.Event.{Bytes}
 use Rattle.xs_keys.specs.GroupEvent.{GroupEvent, new_ids_of_event, claim_of_event, cursor, rows}
-use Rattle.xs_keys.specs.Ask.{consumer_of, keeps_pending, is_acknowledgement_of, drops_consumer}
+use Rattle.xs_keys.specs.GroupAsk.{consumer_of, keeps_pending, is_acknowledgement_of, drops_consumer}
 
 -- the event delivers it, and not with NOACK
 abbrev pub is_made_pending_by : Id → List GroupEvent → GroupEvent → Id → Bool

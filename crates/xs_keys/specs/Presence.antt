@@ -1,8 +1,8 @@
 -- How entries come to a stream and leave it, and how groups begin and end. (Redis, XADD, XDEL, XTRIM, XGROUP CREATE,
 -- XGROUP DESTROY and DEL.)
 use Rattle.std.specs.Prelude.{◌≡◌, ◌⊎◌, Bool, true, false, not, ◌&&◌, ◌||◌, List, ◌∷◌, Option, Some, None, is_some}
-use Rattle.xs_keys.specs.Ground.{Id, has_id, ids_of, is_name, Command, Add, GroupCreate, DropKeys}
-use Rattle.xs_keys.specs.Ground.{GroupStart, Top, At}
+use Rattle.xs_keys.specs.Terms.{Id, has_id, ids_of, is_name, Command, Add, GroupCreate, DropKeys}
+use Rattle.xs_keys.specs.Terms.{GroupStart, Top, At}
 use Rattle.xs_keys.specs.Life.{Change, is_listed, key_life, top_of}
 use Rattle.xs_keys.specs.GroupLife.{GroupLife, group_life, present_in}
 use Rattle.xs_keys.specs.Effect.{deletes_entry, trims_entry, ends_group}

@@ -4,14 +4,14 @@ use Rattle.std.specs.List.{flat_map}
 use Rattle.xs_resp.specs.Token.{Token}
 use Rattle.xs_resp.specs.ReplyItems.{tokens_of}
 use Rattle.xs_group.specs.declared.delivery.Delivery.{Delivery}
-use Rattle.xs_group.specs.Delivered.{IsMade}
+use Rattle.xs_group.specs.Deliveries.{IsMade}
 use Rattle.xs_keys.specs.declared.xreadgroup.Served.{Served}
-use Rattle.xs_keys.specs.Ground.{option_map_or, get, insert, Id, ids_of, delivers, shown, State, Reply}
-use Rattle.xs_keys.specs.Ground.{ReadGroupCommand}
-use Rattle.xs_keys.specs.Ground.{ReadOne, ReadFrom, New, After}
+use Rattle.xs_keys.specs.Terms.{option_map_or, get, insert, Id, ids_of, delivers, shown, State, Reply}
+use Rattle.xs_keys.specs.Terms.{ReadGroupCommand}
+use Rattle.xs_keys.specs.Terms.{ReadOne, ReadFrom, New, After}
 use Rattle.xs_keys.specs.GroupLife.{ask_of_read}
 use Rattle.xs_keys.specs.Content.{Content, Key}
-use Rattle.xs_keys.specs.After.{asked, entries_in, group_after, group_in, with_group}
+use Rattle.xs_keys.specs.ContentAfter.{asked, entries_in, group_after, group_in, with_group}
 use Rattle.xs_keys.specs.ReplyParts.{part, new_part}
 use Rattle.xs_keys.specs.Reply.{shown_by}
 use Rattle.xs_keys.specs.Event.{Bytes, Entries}

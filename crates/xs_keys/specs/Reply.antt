@@ -1,15 +1,15 @@
 -- The reply to each command, from the content that it meets. (The pages of the commands, "RESP2 Reply".)
 use Rattle.std.specs.Prelude.{ℕ, ◌+◌, ◌-◌, List, [], ◌∷◌, ◌++◌, map, length, Option, if◌then◌else◌}
-use Rattle.xs_keys.specs.Ground.{option_map_or, get, has_key, remove, assigned, ids_of, ids_within, limited, NoGroup}
-use Rattle.xs_keys.specs.Ground.{Busy, Reply, Simple, Error, Int, Bulk, NullBulk, Okay, Pong, Command, Ping, Quit, Add}
-use Rattle.xs_keys.specs.Ground.{Delete, TrimTo, Len, Scan, GroupCreate, GroupDestroy, ConsumerCreate, ConsumerDelete}
-use Rattle.xs_keys.specs.Ground.{ReadGroup, Ack, Pending, PendingRows, Claim, AutoClaim, DropKeys, ReadGroupCommand}
-use Rattle.xs_keys.specs.Ground.{ReadOne, ReadFrom, New, After, State, has_name, delivers, shown, claim_of, scan_of}
-use Rattle.xs_keys.specs.Ground.{acked, owned_count, summary_of, pending_of}
+use Rattle.xs_keys.specs.Terms.{option_map_or, get, has_key, remove, assigned, ids_of, ids_within, limited, NoGroup}
+use Rattle.xs_keys.specs.Terms.{Busy, Reply, Simple, Error, Int, Bulk, NullBulk, Okay, Pong, Command, Ping, Quit, Add}
+use Rattle.xs_keys.specs.Terms.{Delete, TrimTo, Len, Scan, GroupCreate, GroupDestroy, ConsumerCreate, ConsumerDelete}
+use Rattle.xs_keys.specs.Terms.{ReadGroup, Ack, Pending, PendingRows, Claim, AutoClaim, DropKeys, ReadGroupCommand}
+use Rattle.xs_keys.specs.Terms.{ReadOne, ReadFrom, New, After, State, has_name, delivers, shown, claim_of, scan_of}
+use Rattle.xs_keys.specs.Terms.{acked, owned_count, summary_of, pending_of}
 use Rattle.xs_keys.specs.Life.{Change, deleted, trimmed_to}
 use Rattle.xs_keys.specs.GroupLife.{ask_of_read}
 use Rattle.xs_keys.specs.Content.{Content, Key}
-use Rattle.xs_keys.specs.After.{stream_after, made, asked, serves, group_in, entries_in}
+use Rattle.xs_keys.specs.ContentAfter.{stream_after, made, asked, serves, group_in, entries_in}
 use Rattle.xs_keys.specs.Event.{Bytes, Entries}
 use Rattle.xs_keys.specs.ReplyParts.{array, array_or_null, entries_reply, assigned_reply, of_group, of_key, part}
 use Rattle.xs_keys.specs.ReplyParts.{new_part, summary_reply, row_reply, taken_reply, scan_shown}

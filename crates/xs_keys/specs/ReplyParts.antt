@@ -1,8 +1,8 @@
 -- The parts of replies. (The pages of the commands, "RESP2 Reply".)
 use Rattle.std.specs.Prelude.{Bool, List, [], ◌∷◌, map, decimal, Option, Result, Ok, Err, if◌then◌else◌}
-use Rattle.xs_keys.specs.Ground.{flat_map, option_map_or, Id, Field, AddError, printed, fields_at, Fault, SmallId}
-use Rattle.xs_keys.specs.Ground.{Exhausted, Memory, NoKey, NoGroup, Reply, Error, Int, Bulk, NullBulk, Array, NullArray}
-use Rattle.xs_keys.specs.Ground.{items_of, OwnerCount, GroupSummary, PendingRow, State}
+use Rattle.xs_keys.specs.Terms.{flat_map, option_map_or, Id, Field, AddError, printed, fields_at, Fault, SmallId}
+use Rattle.xs_keys.specs.Terms.{Exhausted, Memory, NoKey, NoGroup, Reply, Error, Int, Bulk, NullBulk, Array, NullArray}
+use Rattle.xs_keys.specs.Terms.{items_of, OwnerCount, GroupSummary, PendingRow, State}
 use Rattle.xs_stream.specs.declared.add.AddError.TheVariants as add_error
 use Rattle.xs_group.specs.declared.claims.Scan as scans
 use Rattle.xs_keys.specs.Content.{Key}

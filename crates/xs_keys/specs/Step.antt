@@ -1,9 +1,9 @@
 -- One call: applied, or refused as out of memory.
 use Rattle.std.specs.Prelude.{◌≡◌, ℕ, Bool, true, false, ◌⊎◌, Some}
-use Rattle.xs_keys.specs.Ground.{Memory, Reply, Error, Command, Ping, Add, Scan}
-use Rattle.xs_keys.specs.Ground.{GroupCreate, ConsumerCreate, ReadGroup, Pending, PendingRows, Claim, AutoClaim}
+use Rattle.xs_keys.specs.Terms.{Memory, Reply, Error, Command, Ping, Add, Scan}
+use Rattle.xs_keys.specs.Terms.{GroupCreate, ConsumerCreate, ReadGroup, Pending, PendingRows, Claim, AutoClaim}
 use Rattle.xs_keys.specs.Content.{Content}
-use Rattle.xs_keys.specs.After.{after}
+use Rattle.xs_keys.specs.ContentAfter.{after}
 use Rattle.xs_keys.specs.Reply.{reply}
 
 -- the commands that may find no memory

@@ -1,6 +1,6 @@
 //! DEL.
 ghost use Rattle.std.specs.Prelude.{◌≡◌};
-ghost use Rattle.xs_keys.specs.After.{without_keys};
+ghost use Rattle.xs_keys.specs.ContentAfter.{without_keys};
 ghost use Rattle.xs_keys.specs.Reply.{existing};
 ghost use Rattle.xs_keys.specs.Step.{StepAtAnyTime};
 

@@ -4,12 +4,12 @@
 ghost use Rattle.xs_keys.specs.Examples.{Streams, Words, Deliveries, Claims, Lives, Reads, Reports, Edges};
 ghost use Rattle.xs_keys.specs.ExamplesHistory as history;
 ghost use Rattle.xs_keys.specs.ExamplesGroupEvents as group_events;
-ghost use Rattle.xs_keys.specs.ExamplesAsked as asked;
+ghost use Rattle.xs_keys.specs.ExamplesAsks as asked;
 ghost use Rattle.xs_keys.specs.ExamplesContent as content;
 ghost use Rattle.xs_keys.specs.ExamplesHeadline as headline;
 ghost use Rattle.xs_keys.specs.ExamplesJob as job;
 ghost use Rattle.xs_keys.specs.ExamplesPresence as presence;
-ghost use Rattle.xs_keys.specs.ExamplesTold.{ToldAdditions, ToldReads, ToldClaims, ToldNumbers};
+ghost use Rattle.xs_keys.specs.ExamplesReplies.{ToldAdditions, ToldReads, ToldClaims, ToldNumbers};
 ghost use Rattle.xs_keys.specs.ExamplesTelling as telling;
 
 /// Ids, ranges and trims.

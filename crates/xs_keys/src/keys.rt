@@ -2,7 +2,7 @@
 ghost use Rattle.std.specs.Prelude.{◌≡◌};
 ghost use Rattle.std.specs.Option.{option_copied};
 ghost use Rattle.xs_bytes.specs.SortedMap.{get};
-ghost use Rattle.xs_keys.specs.After.{group_in};
+ghost use Rattle.xs_keys.specs.ContentAfter.{group_in};
 
 use crate::name_map::NameMap;
 use std::marker::Model;

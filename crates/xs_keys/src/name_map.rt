@@ -29,7 +29,7 @@ impl<V> Model for NameMap<V> {
 }
 
 impl<V> NameMap<V> {
-    ghost use Rattle.xs_keys.specs.Lends.{lends_value};
+    ghost use Rattle.xs_keys.specs.LentValue.{lends_value};
 
     /// The empty map. It takes no memory.
     pub fn new(alloc: Global) -> Self

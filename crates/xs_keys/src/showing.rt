@@ -1,7 +1,7 @@
 //! What replies are made of: ids and entries, as the tokens that are appended for them.
 ghost use Rattle.std.specs.Prelude.{◌≡◌, ◌++◌, IfOk, OnOk, map};
 ghost use Rattle.std.specs.List.{flat_map};
-ghost use Rattle.xs_stream.specs.Kept.{AreEntriesOf};
+ghost use Rattle.xs_stream.specs.StreamContent.{AreEntriesOf};
 ghost use Rattle.xs_resp.specs.ReplyItems.{tokens_of};
 ghost use Rattle.xs_keys.specs.ReplyParts.{array, field_replies, id_reply, entry_reply, present_reply, entries_reply};
 

@@ -4,7 +4,7 @@ ghost use Rattle.xs_bytes.specs.SortedMap as map;
 ghost use Rattle.xs_stream.specs.Id.{assigned};
 ghost use Rattle.xs_command.specs.WellFormed.{IsAddId};
 ghost use Rattle.xs_keys.specs.Life.{added};
-ghost use Rattle.xs_keys.specs.After.{stream_after};
+ghost use Rattle.xs_keys.specs.ContentAfter.{stream_after};
 ghost use Rattle.xs_keys.specs.Adding.{text_of, Adds};
 ghost use Rattle.xs_keys.specs.ReplyParts.{fault_of};
 ghost use Rattle.xs_keys.specs.Step.{Step};

@@ -1,9 +1,9 @@
 //! XAUTOCLAIM.
 ghost use Rattle.std.specs.Prelude.{◌≡◌, ◌++◌, map, IfOk, OnOk, OnErr};
-ghost use Rattle.xs_stream.specs.Kept.{ids_of};
+ghost use Rattle.xs_stream.specs.StreamContent.{ids_of};
 ghost use Rattle.xs_group.specs.Claims as claims;
-ghost use Rattle.xs_keys.specs.Ask.{auto_claim};
-ghost use Rattle.xs_keys.specs.After.{group_after};
+ghost use Rattle.xs_keys.specs.GroupAsk.{auto_claim};
+ghost use Rattle.xs_keys.specs.ContentAfter.{group_after};
 ghost use Rattle.xs_resp.specs.ReplyItems.{tokens_of};
 ghost use Rattle.xs_keys.specs.ReplyParts.{array, id_reply, scan_shown, taken_reply};
 ghost use Rattle.xs_keys.specs.Step.{Step};

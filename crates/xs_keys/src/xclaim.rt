@@ -1,9 +1,9 @@
 //! XCLAIM.
 ghost use Rattle.std.specs.Prelude.{◌≡◌, map, IfOk, OnOk, OnErr};
-ghost use Rattle.xs_stream.specs.Kept.{ids_of};
+ghost use Rattle.xs_stream.specs.StreamContent.{ids_of};
 ghost use Rattle.xs_group.specs.Claims as claims;
-ghost use Rattle.xs_keys.specs.Ask.{claim};
-ghost use Rattle.xs_keys.specs.After.{group_after};
+ghost use Rattle.xs_keys.specs.GroupAsk.{claim};
+ghost use Rattle.xs_keys.specs.ContentAfter.{group_after};
 ghost use Rattle.xs_keys.specs.ReplyParts.{array, id_reply, taken_reply};
 ghost use Rattle.xs_keys.specs.Step.{Step};
 

@@ -2,7 +2,7 @@
 ghost use Rattle.std.specs.Prelude.{◌≡◌, None, OnOk, OnErr, if◌then◌else◌};
 ghost use Rattle.xs_bytes.specs.SortedMap.{get, insert};
 ghost use Rattle.xs_group.specs.State.{new_group};
-ghost use Rattle.xs_keys.specs.After.{new_key, with_group};
+ghost use Rattle.xs_keys.specs.ContentAfter.{new_key, with_group};
 ghost use Rattle.xs_keys.specs.GroupLife.{starting_id};
 ghost use Rattle.xs_keys.specs.Grouping.{Creates};
 ghost use Rattle.xs_keys.specs.Step.{StepAtAnyTime};

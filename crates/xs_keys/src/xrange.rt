@@ -1,6 +1,6 @@
 //! XRANGE and XREVRANGE.
 ghost use Rattle.std.specs.Prelude.{◌≡◌, IfOk};
-ghost use Rattle.xs_stream.specs.Kept.{limited, ids_within};
+ghost use Rattle.xs_stream.specs.StreamContent.{limited, ids_within};
 ghost use Rattle.xs_keys.specs.ReplyParts.{entries_reply};
 ghost use Rattle.xs_keys.specs.Step.{StepAtAnyTime};
 

@@ -2,11 +2,11 @@
 ghost use Rattle.std.specs.Prelude.{◌≡◌, ◌++◌, true, is_some, map, IfOk, OnOk, OnErr};
 ghost use Rattle.std.specs.List.{flat_map};
 ghost use Rattle.xs_bytes.specs.SortedMap.{get};
-ghost use Rattle.xs_stream.specs.Kept.{ids_of};
-ghost use Rattle.xs_group.specs.Delivered.{IsMade, row_ids};
+ghost use Rattle.xs_stream.specs.StreamContent.{ids_of};
+ghost use Rattle.xs_group.specs.Deliveries.{IsMade, row_ids};
 ghost use Rattle.xs_keys.specs.GroupLife.{ask_of_read};
 ghost use Rattle.xs_keys.specs.Content.{Content};
-ghost use Rattle.xs_keys.specs.After.{group_after, group_in, serves, read_each};
+ghost use Rattle.xs_keys.specs.ContentAfter.{group_after, group_in, serves, read_each};
 ghost use Rattle.xs_resp.specs.ReplyItems.{tokens_of};
 ghost use Rattle.xs_keys.specs.ReplyParts.{array_or_null, entry_reply, part};
 ghost use Rattle.xs_keys.specs.Reply.{parts};

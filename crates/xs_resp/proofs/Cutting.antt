@@ -5,7 +5,7 @@ use Rattle.std.specs.List.{concat}
 use Rattle.xs_resp.specs.Outcome.{Outcome, Keeps}
 use Rattle.xs_resp.specs.Header.{header}
 use Rattle.xs_resp.specs.Reading.{Found, request}
-use Rattle.xs_resp.specs.Held.{Held, fed}
+use Rattle.xs_resp.specs.HeldBytes.{Held, fed}
 use Rattle.xs_resp.specs.Pieces.{Rests, Reads, ReadsHeld, ReadsPieces}
 use Rattle.xs_resp.proofs.Outcomes.{cases-outcome}
 use Rattle.xs_resp.proofs.Decisions.{request-keeps, request-read}

@@ -5,7 +5,7 @@ use Rattle.xs_resp.specs.declared.header.Part.TheVariants.{Count}
 use Rattle.xs_resp.specs.declared.header.Header.{Header}
 use Rattle.xs_resp.specs.declared.read_fault.Wrong.{Wrong}
 use Rattle.xs_resp.specs.Line.{line}
-use Rattle.xs_resp.specs.Part.{limit, number_in}
+use Rattle.xs_resp.specs.HeaderPart.{limit, number_in}
 use Rattle.xs_resp.specs.Outcome.{Outcome, ◌>>=◌, Keeps}
 use Rattle.xs_resp.specs.Header.{header}
 use Rattle.xs_resp.specs.declared.word.Span.{Span}
@@ -13,7 +13,7 @@ use Rattle.xs_resp.specs.Reading.{Found, text_in, after, words, request}
 use Rattle.xs_resp.specs.Grammar.{sent_words, spelling, null_spelling, AreSizes, Spells, BeginsLine, FaultBehind, FaultIn, IsOpen}
 use Rattle.xs_resp.proofs.Outcomes.{bind-ok, bind-err, cases-outcome, Keeps-bind, after-keeps}
 use Rattle.xs_resp.proofs.Reading.{header_ends}
-use Rattle.xs_resp.proofs.Keeping.{header-keeps}
+use Rattle.xs_resp.proofs.DecisionStays.{header-keeps}
 use Rattle.xs_resp.proofs.Progressing.{request-err}
 use Rattle.xs_resp.proofs.Headers.{header-fault, header-err, header-line, begins-header, count-line}
 use Rattle.xs_resp.proofs.SentWords.{word-err}

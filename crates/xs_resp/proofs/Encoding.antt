@@ -4,7 +4,7 @@ use Rattle.std.proofs.lemmas.List.{append-nil}
 use Rattle.std.specs.List.{flat_map}
 use Rattle.xs_resp.specs.Token.{Token}
 use Rattle.xs_resp.specs.ReplyText.{token_text}
-use Rattle.xs_resp.specs.Left.{left, left_of, pieces, string_of, strings_of}
+use Rattle.xs_resp.specs.LeftToWrite.{left, left_of, pieces, string_of, strings_of}
 
 pub left-pieces : (gathered : List ℕ) (lent : Bool) (tokens : List Token) → left (pieces gathered lent tokens) ≡ gathered ++ left_of lent tokens
 left-pieces [] true [] = refl

@@ -9,11 +9,11 @@ use Rattle.xs_resp.specs.declared.header.Header.{Header}
 use Rattle.xs_resp.specs.declared.read_fault.Wrong.{Wrong}
 use Rattle.xs_resp.specs.declared.read_fault.Wrong.TheVariants.{Length, Shape, Limit}
 use Rattle.xs_resp.specs.Line.{line, crlf}
-use Rattle.xs_resp.specs.Part.{marker, limit, number_in}
+use Rattle.xs_resp.specs.HeaderPart.{marker, limit, number_in}
 use Rattle.xs_resp.specs.Header.{is_not_cr, text_len, limited, line_at, header}
 use Rattle.xs_resp.specs.Grammar.{HasNoCr, BeginsLine, HeaderFault, null_spelling}
 use Rattle.xs_resp.proofs.Reading.{chosen, line_at-ok}
-use Rattle.xs_resp.proofs.Keeping.{line_at-whole}
+use Rattle.xs_resp.proofs.DecisionStays.{line_at-whole}
 use Rattle.xs_resp.proofs.Numbers.{number-size, number-count, number-decimal, decimal-no-cr, decimal-short}
 
 -- a line is the text before its first CR, the CR, and the rest

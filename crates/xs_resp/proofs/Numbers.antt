@@ -7,7 +7,7 @@ use Rattle.std.proofs.lemmas.Fmt.{decimal-digits_value, digits_decimal, digits_v
 use Rattle.xs_bytes.specs.Number.{is_digit, with_digit, value_of, is_number, has_leading_zero}
 use Rattle.xs_resp.specs.declared.header.Part.{Part}
 use Rattle.xs_resp.specs.declared.header.Part.TheVariants.{Count, Size}
-use Rattle.xs_resp.specs.Part.{limit, is_natural, is_minus_one, number_in}
+use Rattle.xs_resp.specs.HeaderPart.{limit, is_natural, is_minus_one, number_in}
 use Rattle.xs_resp.specs.Grammar.{HasNoCr}
 use Rattle.xs_resp.proofs.Reading.{chosen}
 

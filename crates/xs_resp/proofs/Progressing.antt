@@ -12,7 +12,7 @@ use Rattle.xs_resp.specs.Reading.{word, text_in, after, words, request}
 use Rattle.xs_resp.specs.Progress.{Follows}
 use Rattle.xs_resp.proofs.Outcomes.{after-after}
 use Rattle.xs_resp.proofs.Reading.{header_ends, word-ok}
-use Rattle.xs_resp.proofs.Keeping.{header-keeps, word-keeps}
+use Rattle.xs_resp.proofs.DecisionStays.{header-keeps, word-keeps}
 
 -- without its header a request isn't whole
 pub request-none : (bytes : List ℕ) → header Count bytes ≡ Ok None → request bytes ≡ Ok None

@@ -4,7 +4,7 @@ use Rattle.std.proofs.lemmas.Bool.{ltb-false, leb-false, eqb-true}
 use Rattle.xs_resp.specs.declared.header.Part.{Part}
 use Rattle.xs_resp.specs.declared.header.Part.TheVariants.{Size}
 use Rattle.xs_resp.specs.declared.header.Header.{Header}
-use Rattle.xs_resp.specs.Part.{marker, limit, number_in}
+use Rattle.xs_resp.specs.HeaderPart.{marker, limit, number_in}
 use Rattle.xs_resp.specs.Header.{text_len, limited, line_at, header}
 use Rattle.xs_resp.specs.declared.word.Span.{Span}
 use Rattle.xs_resp.specs.Reading.{closed, word}

@@ -8,7 +8,7 @@ use Rattle.xs_resp.specs.declared.word.Span.{Span}
 use Rattle.xs_resp.specs.declared.read_fault.Wrong.{Wrong}
 use Rattle.xs_resp.specs.declared.read_fault.Wrong.TheVariants.{Shape}
 use Rattle.xs_resp.specs.Line.{line, crlf}
-use Rattle.xs_resp.specs.Part.{limit}
+use Rattle.xs_resp.specs.HeaderPart.{limit}
 use Rattle.xs_resp.specs.Outcome.{◌>>=◌}
 use Rattle.xs_resp.specs.Header.{header}
 use Rattle.xs_resp.specs.Reading.{closed, word, text_in}

@@ -8,7 +8,7 @@ use Rattle.xs_resp.specs.Reading.{Found, word, text_in, after, words}
 use Rattle.xs_resp.specs.Grammar.{sent_word, sent_words, AreSizes, WordFault}
 use Rattle.xs_resp.proofs.Outcomes.{bind-ok, bind-err, after-after, after-none, after-keeps, Keeps-bind}
 use Rattle.xs_resp.proofs.Reading.{word-ok}
-use Rattle.xs_resp.proofs.Keeping.{word-keeps}
+use Rattle.xs_resp.proofs.DecisionStays.{word-keeps}
 use Rattle.xs_resp.proofs.Progressing.{text-later}
 use Rattle.xs_resp.proofs.SentWords.{word-read, word-fault, word-sent, text-sent, end-sent, sent-span}
 

@@ -4,7 +4,7 @@ use Rattle.std.proofs.lemmas.Bool.{cases_lt}
 use Rattle.xs_resp.specs.declared.progress.Progress.{Progress}
 use Rattle.xs_resp.specs.declared.requests.State.{State}
 use Rattle.xs_resp.specs.declared.requests.State.TheVariants.{Between, Within, Failed}
-use Rattle.xs_resp.specs.Held.{Held, HasNext, Skips}
+use Rattle.xs_resp.specs.HeldBytes.{Held, HasNext, Skips}
 use Rattle.xs_resp.specs.Progress.{Follows}
 use Rattle.xs_resp.specs.Reading.{Found, request, IsWhole}
 use Rattle.xs_resp.specs.State.{held_in}

@@ -3,7 +3,7 @@ use Rattle.std.proofs.Common.{◌≡◌, ℕ, zero, suc, ◌+◌, ◌<◌, ◌�
 use Rattle.std.proofs.lemmas.List.{drop-drop}
 use Rattle.xs_resp.specs.declared.mark.Mark.{Mark}
 use Rattle.xs_resp.specs.declared.mark.Mark.TheVariants.{Simple, Error, Int, Bulk, NullBulk, Array, NullArray}
-use Rattle.xs_resp.specs.Left.{string_of, strings_of}
+use Rattle.xs_resp.specs.LeftToWrite.{string_of, strings_of}
 use Rattle.xs_resp.specs.Marks.{string_length, strings_length, token_in, tokens_in}
 
 pub tokens-length : (ms : List Mark) (strings : List ℕ) → length (tokens_in ms strings) ≡ length ms

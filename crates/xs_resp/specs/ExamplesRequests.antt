@@ -5,7 +5,7 @@ use Rattle.xs_resp.specs.declared.read_fault.Wrong.TheVariants.{Length, Shape, L
 use Rattle.xs_resp.specs.declared.read_fault.ReadFault.TheVariants as fault
 use Rattle.xs_resp.specs.Outcome.{Outcome}
 use Rattle.xs_resp.specs.Reading.{Found, request}
-use Rattle.xs_resp.specs.Held.{fed, front_of, held_length, is_partial, HasNext, Next, Ready, Skips}
+use Rattle.xs_resp.specs.HeldBytes.{fed, front_of, held_length, is_partial, HasNext, Next, Ready, Skips}
 use Rattle.xs_resp.specs.Examples.{wire}
 
 -- these words, in so many bytes

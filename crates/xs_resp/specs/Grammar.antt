@@ -7,7 +7,7 @@ use Rattle.xs_resp.specs.declared.header.Part.TheVariants.{Count, Size}
 use Rattle.xs_resp.specs.declared.read_fault.Wrong.{Wrong}
 use Rattle.xs_resp.specs.declared.read_fault.Wrong.TheVariants.{Length, Shape, Limit}
 use Rattle.xs_resp.specs.Line.{crlf, line}
-use Rattle.xs_resp.specs.Part.{marker, limit, number_in}
+use Rattle.xs_resp.specs.HeaderPart.{marker, limit, number_in}
 
 -- a word as it is sent: $, its length, and its bytes
 abbrev pub sent_word : List ℕ → List ℕ

@@ -6,7 +6,7 @@ use Rattle.xs_resp.specs.declared.header.Part.{Part}
 use Rattle.xs_resp.specs.declared.header.Header.{Header}
 use Rattle.xs_resp.specs.declared.read_fault.Wrong.TheVariants.{Length, Shape, Limit}
 use Rattle.xs_resp.specs.Outcome.{Outcome}
-use Rattle.xs_resp.specs.Part.{marker, limit, number_in}
+use Rattle.xs_resp.specs.HeaderPart.{marker, limit, number_in}
 
 abbrev pub is_not_cr : ℕ → Bool
 is_not_cr byte = not (byte == 13)

@@ -2,7 +2,7 @@
 use Rattle.std.specs.Prelude.{◌≡◌, ℕ, List, [], ◌∷◌, ◌++◌, drop, Some, None, Ok, Err}
 use Rattle.xs_resp.specs.Outcome.{Outcome}
 use Rattle.xs_resp.specs.Reading.{Found, request}
-use Rattle.xs_resp.specs.Held.{Held, fed}
+use Rattle.xs_resp.specs.HeldBytes.{Held, fed}
 
 -- no request is whole: the bytes are held, or their fault
 abbrev pub Rests : Outcome Found → List ℕ → Held → Type 0

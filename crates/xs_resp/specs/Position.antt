@@ -2,7 +2,7 @@
 use Rattle.std.specs.Prelude.{◌≡◌, ℕ, ◌≤◌, true, false, List, [], length, take, drop}
 use Rattle.xs_resp.specs.declared.encoder.Position.{Position}
 use Rattle.xs_resp.specs.Token.{Token}
-use Rattle.xs_resp.specs.Left.{strings_of, HasString}
+use Rattle.xs_resp.specs.LeftToWrite.{strings_of, HasString}
 
 -- these bytes of tokens are gathered up to a position. Nothing is gathered only if all tokens are written
 pub record IsEncoding (gathered : List ℕ) (tokens : List Token) (position : Position) : Type 0 where

@@ -2,7 +2,7 @@
 use Rattle.std.specs.Prelude.{ℕ, List, Ok, Err}
 use Rattle.xs_resp.specs.declared.requests.State.{State}
 use Rattle.xs_resp.specs.declared.requests.State.TheVariants.{Between, Within, Failed}
-use Rattle.xs_resp.specs.Held.{Held}
+use Rattle.xs_resp.specs.HeldBytes.{Held}
 use Rattle.xs_resp.specs.Progress.{Follows}
 
 -- what is held, of these bytes in this state

@@ -3,9 +3,9 @@ ghost use Rattle.std.specs.Prelude.{◌≡◌, ◌+◌, ◌<◌, ◌≤◌, [], 
 ghost use Rattle.std.specs.List.{flat_map};
 ghost use Rattle.xs_resp.specs.ReplyText.{text, token_text};
 ghost use Rattle.xs_resp.specs.Marks.{token_in};
-ghost use Rattle.xs_resp.specs.Left.{left, left_of, string_of, strings_of};
+ghost use Rattle.xs_resp.specs.LeftToWrite.{left, left_of, string_of, strings_of};
 ghost use Rattle.xs_resp.specs.Position.{IsEncoding};
-ghost use Rattle.xs_resp.specs.Fitting.{Appends};
+ghost use Rattle.xs_resp.specs.TokenFit.{Appends};
 
 use crate::mark::Mark;
 use crate::reply::Reply;
@@ -58,7 +58,7 @@ pub struct Encoder {
 impl Model for Encoder {
     ghost use Rattle.std.specs.Prelude.{◌≡◌, ◌≤◌, [], false, drop, vec_capacity};
     ghost use Rattle.xs_resp.specs.ReplyItems.{tokens_of};
-    ghost use Rattle.xs_resp.specs.Left.{Left, pieces};
+    ghost use Rattle.xs_resp.specs.LeftToWrite.{Left, pieces};
     ghost use Rattle.xs_resp.specs.Position.{IsEncoding};
 
     ghost Value = { Left };

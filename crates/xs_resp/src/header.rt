@@ -3,7 +3,7 @@ ghost use Rattle.std.specs.Prelude.{◌≡◌, ◌≤◌, ◌<◌, ◌+◌, ◌-
 ghost use Rattle.std.specs.Prelude.{length};
 ghost use Rattle.std.specs.List.{list_all};
 ghost use Rattle.xs_bytes.specs.Number.{is_digit, value_of};
-ghost use Rattle.xs_resp.specs.Part.{marker, limit, is_natural, number_in};
+ghost use Rattle.xs_resp.specs.HeaderPart.{marker, limit, is_natural, number_in};
 ghost use Rattle.xs_resp.specs.Header.{text_len, limited, line_at, header};
 
 use crate::read_fault::Wrong;
@@ -108,7 +108,7 @@ fn limited(part: Part, end: usize, number: Option<u64>) -> Result<Option<Header>
 }
 
 /// The number that a header's text stands for, saturated.
-#[tactic(auto, unfolding(crate::specs::Part::number_in))]
+#[tactic(auto, unfolding(crate::specs::HeaderPart::number_in))]
 fn number_in(part: Part, text: &[u8]) -> Option<u64>
     ensures { result ≡ option_map (min (2 ^ 64 - 1)) (number_in part text.now) }
 {
@@ -119,7 +119,7 @@ fn number_in(part: Part, text: &[u8]) -> Option<u64>
 }
 
 /// The number that a text spells without leading zeros, saturated.
-#[tactic(auto, unfolding(crate::specs::Part::is_natural))]
+#[tactic(auto, unfolding(crate::specs::HeaderPart::is_natural))]
 fn natural(text: &[u8]) -> Option<u64>
     ensures { result ≡ (if is_natural text.now then Some (min (2 ^ 64 - 1) (value_of text.now)) else None) }
 {

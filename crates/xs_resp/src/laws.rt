@@ -12,7 +12,7 @@ ghost use Rattle.xs_resp.specs.Line.{line};
 ghost use Rattle.xs_resp.specs.Outcome.{Keeps};
 ghost use Rattle.xs_resp.specs.Reading.{Found, request};
 ghost use Rattle.xs_resp.specs.Grammar.{Spells, FaultIn, IsOpen};
-ghost use Rattle.xs_resp.specs.Held.{Held};
+ghost use Rattle.xs_resp.specs.HeldBytes.{Held};
 ghost use Rattle.xs_resp.specs.Pieces.{Reads, ReadsPieces};
 
 /// The text of an array is its header, and then the texts of its items.

@@ -31,7 +31,7 @@ pub enum ReadFault {
 
 impl From<Wrong> for ReadFault {
     ghost use Rattle.std.specs.Prelude.{◌≡◌};
-    ghost use Rattle.xs_resp.specs.Faulting.{fault_of};
+    ghost use Rattle.xs_resp.specs.ReadFaults.{fault_of};
 
     ghost from_gives = { λ wrong fault. fault ≡ fault_of wrong };
 

@@ -1,6 +1,6 @@
 //! The reader of requests, from bytes that come in pieces.
 ghost use Rattle.std.specs.Prelude.{◌≡◌, ◌≤◌, ◌-◌, length, drop, IsOk, IsErr, IfOk, OnOk, OnErr, Ok, Err};
-ghost use Rattle.xs_resp.specs.Held.{fed, front_of, is_partial, HasNext, Next, Ready, Skips};
+ghost use Rattle.xs_resp.specs.HeldBytes.{fed, front_of, is_partial, HasNext, Next, Ready, Skips};
 
 use crate::header::{Part, read_header};
 use crate::progress::{Progress, read_on};
@@ -34,7 +34,7 @@ pub struct Requests {
 
 impl Model for Requests {
     ghost use Rattle.std.specs.Prelude.{◌≤◌, drop, length};
-    ghost use Rattle.xs_resp.specs.Held.{Held};
+    ghost use Rattle.xs_resp.specs.HeldBytes.{Held};
 
     ghost Value = { Held };
 
@@ -47,7 +47,7 @@ impl Model for Requests {
 
 impl Requests {
     ghost use Rattle.std.specs.Prelude.{◌≡◌, ◌≢◌, ℕ, List, [], None, IfOk, OnOk, OnErr, IsOk, IsErr, Ok};
-    ghost use Rattle.xs_resp.specs.Held.{fed, front_of, is_partial, HasNext, Next, Ready, Skips};
+    ghost use Rattle.xs_resp.specs.HeldBytes.{fed, front_of, is_partial, HasNext, Next, Ready, Skips};
 
     /// A reader that holds nothing.
     pub fn new(alloc: Global) -> Self
@@ -152,7 +152,7 @@ impl Requests {
     ///
     /// # Errors
     /// `Memory`, and the reader is unchanged; else what is wrong with the bytes, for good.
-    #[tactic(auto, using(crate::proofs::Nexts::next_stays))]
+    #[tactic(auto, using(crate::proofs::NextRequest::next_stays))]
     pub fn next(&mut self) -> Result<Option<List<Bytes>>, ReadFault>
         ensures next { Next self.old result self.new }
         ensures stays { (more : List ℕ) → result ≢ Ok None → Next (fed self.old more) result (fed self.new more) }

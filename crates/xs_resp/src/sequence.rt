@@ -2,7 +2,7 @@
 ghost use Rattle.std.specs.Prelude.{◌≡◌, ◌+◌, ◌<◌, ◌≤◌, [], ◌∷◌, length, take, drop, slice_index_or};
 ghost use Rattle.xs_resp.specs.ReplyItems.{tokens_of};
 ghost use Rattle.xs_resp.specs.Marks.{token_in, string_length};
-ghost use Rattle.xs_resp.specs.Left.{string_of, strings_of};
+ghost use Rattle.xs_resp.specs.LeftToWrite.{string_of, strings_of};
 
 use crate::mark::Mark;
 use crate::reply::Reply;

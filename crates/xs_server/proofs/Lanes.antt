@@ -3,7 +3,7 @@ use Rattle.std.proofs.Common.{◌≡◌, ℕ, List, [], ◌∷◌, Option, Some,
 use Rattle.xs_resp.specs.declared.reply.Reply.{Reply}
 use Rattle.xs_command.specs.declared.command.Command.{Command}
 use Rattle.xs_desk.specs.Asking.{Asker, Asks, Fails}
-use Rattle.xs_desk.specs.Keeping.{KeepsSide}
+use Rattle.xs_desk.specs.KeptRings.{KeepsSide}
 use Rattle.xs_desk.proofs.Sides.{side_again, ask_keeps_side}
 use Rattle.xs_server.specs.declared.connections.ending.Ending.{Ending}
 use Rattle.xs_server.specs.declared.connections.ending.ServeFault.{ServeFault}

@@ -8,7 +8,7 @@ use Rattle.xs_desk.specs.declared.summary.Summary.{Summary}
 use Rattle.xs_server.specs.declared.work.fault.WorkFault.{WorkFault}
 use Rattle.xs_server.specs.declared.work.fault.WorkFault.TheVariants as work
 use Rattle.xs_server.specs.Report.{Says, work_text, IsServeCause, ReportsWork}
-use Rattle.xs_server.specs.Working.{IsClosed}
+use Rattle.xs_server.specs.WorkOutcome.{IsClosed}
 
 -- where the writer fails, what was to follow isn't said
 pub fails-before : (a b : List ℕ) (old new : Option (List ℕ)) (broken : Bool) → Says a old new broken → broken ≡ true → Says (a ++ b) old new broken

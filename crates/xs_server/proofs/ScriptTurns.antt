@@ -17,9 +17,9 @@ use Rattle.xs_server.specs.Line.{is_line_end, script_lines, line_of, line_limit}
 use Rattle.xs_server.specs.Machine.{Cause, input, reader, writer}
 use Rattle.xs_server.specs.Script.{Script, IsScript, with_end}
 use Rattle.xs_server.specs.Serving.{StepAt}
-use Rattle.xs_server.specs.Session.{piece, IsFew, IsRead, IsInHand, IsReadOut, Stands, RunsBy}
+use Rattle.xs_server.specs.ScriptMachine.{piece, IsFew, IsRead, IsInHand, IsReadOut, Stands, RunsBy}
 use Rattle.xs_server.proofs.ScriptLines.{read-more, read-line, read-lines, lines-last}
-use Rattle.xs_server.proofs.Sessions.{served-line, is-script, capped-more, capped-sent}
+use Rattle.xs_server.proofs.ScriptHeadline.{served-line, is-script, capped-more, capped-sent}
 
 -- ---- a piece at most stands behind the first line end
 

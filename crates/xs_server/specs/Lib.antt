@@ -4,11 +4,11 @@ pub mod Line
 pub mod Answering
 pub mod Script
 pub mod Serving
-pub mod Session
+pub mod ScriptMachine
 pub mod Report
 pub mod CommandLine
 pub mod Exchange
 pub mod Serve
 pub mod Connection
 pub mod Alone
-pub mod Working
+pub mod WorkOutcome

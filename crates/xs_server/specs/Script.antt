@@ -15,7 +15,7 @@ abbrev pub Script : History → List (List ℕ) → List ℕ → History → Typ
 Script past [] out last = (out ≡ []) × (last ≡ past)
 Script past (line ∷ lines) out last =
     (answer : Reply) × (next : History) × (more : List ℕ)
-    × IsSomeAnd (line_of line) (λ request. IsAnswer (Follows request.0) past request.1 answer next)
+    × IsSomeAnd (line_of line) (λ request. IsAnswer (λ before. Follows before request.0) past request.1 answer next)
     × (out ≡ text answer ++ more) × Script next lines more last
 
 -- a line that was answered: its moment, the command that its words asked, if they did, and the answer

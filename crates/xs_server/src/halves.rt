@@ -39,8 +39,8 @@ fn send(shared: &mut Shared) -> io::Result<()> {
     sent
 }
 
-/// Takes as many bytes from the front of a slice as there is room for, and says how many. A full buffer is sent. A slice
-/// that would fill the empty buffer is sent itself.
+/// Takes as many bytes from the front of a slice as there is room for, and says how many. A full buffer is sent. A
+/// slice that would fill the empty buffer is sent itself.
 fn hold(shared: &mut Shared, from: &[u8]) -> io::Result<usize>
     ensures { IfOk result (λ n. n ≤ length from.now) }
 {

@@ -2,7 +2,7 @@
 ghost use Rattle.std.specs.Prelude.{◌≡◌, ◌⊎◌, ℕ, List, length, IfOk};
 ghost use Rattle.xs_desk.specs.declared.summary.Summary.{Summary};
 ghost use Rattle.xs_server.specs.Report.{Says, IsServeCause};
-ghost use Rattle.xs_server.specs.Working.{IsClosed};
+ghost use Rattle.xs_server.specs.WorkOutcome.{IsClosed};
 
 use crate::announcement::Announcement;
 use crate::command_line::ServeOptions;

@@ -32,8 +32,8 @@ pub struct TcpGate<S: Clock + Drop, W: Sink + Drop> {
 }
 
 impl<S: Clock + Drop, W: Sink + Drop> TcpGate<S, W> {
-    /// A gate that takes so many connections from the listener, with all the memory that it needs for them. At its first
-    /// call it makes the announcement, which other gates may share.
+    /// A gate that takes so many connections from the listener, with all the memory that it needs for them. At its
+    /// first call it makes the announcement, which other gates may share.
     pub fn new(
         alloc: Global,
         system: S,

@@ -1,8 +1,8 @@
 //! Work over gates: a thread for each gate, and one for the keeper.
-pub mod worker_pool;
 pub mod fault;
 pub mod gate;
 pub mod keeper_thread;
 pub mod lifecycle;
 pub mod worker;
+pub mod worker_pool;
 pub mod working;

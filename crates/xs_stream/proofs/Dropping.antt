@@ -10,7 +10,7 @@ use Rattle.xs_stream.specs.declared.id.Id.{Id}
 use Rattle.xs_stream.specs.declared.field.Field.{Field}
 use Rattle.xs_stream.specs.declared.trim.Trim.TheVariants.{MinId}
 use Rattle.xs_stream.specs.Id.{is_below, is_same}
-use Rattle.xs_stream.specs.Kept.{ids_of, AllAbove, AllUpTo, Ascends, trimmed}
+use Rattle.xs_stream.specs.StreamContent.{ids_of, AllAbove, AllUpTo, Ascends, trimmed}
 use Rattle.xs_stream.specs.Blocks.{listed, AreFiled}
 use Rattle.xs_stream.proofs.Order.{is_same-refl, up_to-below, not_below-above}
 

@@ -11,7 +11,7 @@ use Rattle.std.specs.List.{slice_get}
 use Rattle.std.specs.BTreeMap.Range.{range_contains}
 use Rattle.std.specs.declared.ops.Bound.TheVariants.{Included}
 use Rattle.xs_stream.specs.declared.range.Range.{Range}
-use Rattle.xs_stream.specs.Kept.{is_within, count_above, Kept, ids_of, AllAbove, Ascends, AllUpTo, without, trimmed, limited}
+use Rattle.xs_stream.specs.StreamContent.{is_within, count_above, Kept, ids_of, AllAbove, Ascends, AllUpTo, without, trimmed, limited}
 use Rattle.xs_stream.specs.declared.id.Id.{Id}
 use Rattle.xs_stream.specs.declared.field.Field.{Field}
 use Rattle.xs_stream.specs.declared.trim.Trim.TheVariants.{MaxLen, MinId}

@@ -4,7 +4,7 @@ use Rattle.std.specs.Map.{lookup, lookup_key, remove_entry, set_value, keys_of}
 use Rattle.xs_stream.specs.declared.id.Id.{Id}
 use Rattle.xs_stream.specs.declared.field.Field.{Field}
 use Rattle.xs_stream.specs.Id.{is_below, is_same}
-use Rattle.xs_stream.specs.Kept.{ids_of, AllAbove, AllUpTo}
+use Rattle.xs_stream.specs.StreamContent.{ids_of, AllAbove, AllUpTo}
 use Rattle.xs_stream.specs.Blocks.{listed, AreFiled}
 use Rattle.xs_stream.proofs.Order.{is_same-eq, is_same-refl, is_same-symm, below-not_same, below-not_back, below-irrefl, below-trans, below-not_below}
 use Rattle.xs_stream.proofs.InOrder.{up_to-higher}

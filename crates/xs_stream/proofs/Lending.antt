@@ -3,7 +3,7 @@ use Rattle.std.proofs.Common.{ℕ, ◌<◌, zero, suc, get_or, length, arith, Bo
 use Rattle.xs_stream.specs.declared.id.Id.{Id}
 use Rattle.xs_stream.specs.declared.field.Field.{Field}
 use Rattle.xs_stream.specs.declared.range.Range.{Range}
-use Rattle.xs_stream.specs.Kept.{ids_of, AllAbove, Ascends, is_within, entries_within, IsEntryOf, AreEntriesOf}
+use Rattle.xs_stream.specs.StreamContent.{ids_of, AllAbove, Ascends, is_within, entries_within, IsEntryOf, AreEntriesOf}
 use Rattle.xs_stream.proofs.Order.{below-not_same, is_same-refl, is_same-symm}
 
 abbrev Entries : Type 0

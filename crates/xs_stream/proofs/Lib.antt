@@ -1,6 +1,6 @@
 pub mod Assigning
 pub mod Dropping
-pub mod Filing
+pub mod FiledBlocks
 pub mod Gaps
 pub mod InOrder
 pub mod Joining
@@ -9,6 +9,6 @@ pub mod Order
 pub mod PackedBlocks
 pub mod PackedCodes
 pub mod Past
-pub mod Places
+pub mod PlacesInLists
 pub mod WithinBlocks
 pub mod WithinEntries

@@ -11,7 +11,7 @@ use Rattle.std.proofs.Math.Seq.{take-append_seam, drop-append_seam}
 use Rattle.xs_stream.specs.declared.field.Field.{Field}
 use Rattle.xs_stream.specs.declared.id.Id.{Id}
 use Rattle.xs_stream.specs.Id.{is_same}
-use Rattle.xs_stream.specs.Kept.{fields_at, ids_of}
+use Rattle.xs_stream.specs.StreamContent.{fields_at, ids_of}
 use Rattle.xs_stream.specs.PackedNumber.{number_code, first_number, after_number}
 use Rattle.xs_stream.specs.PackedText.{text_code, first_text, after_text}
 use Rattle.xs_stream.specs.Packed.{names_code, has_names, body_fields, entry_code, entry_id, entry_body, entry_in, after_entry, entries_in, after_entries, entries_code, block_entries, shares_names, body_code, field_code, mark_of, ms_code, rebased_code, all_rebased, IsPacked}

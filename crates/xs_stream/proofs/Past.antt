@@ -5,7 +5,7 @@ use Rattle.std.specs.Ordering.{nat_cmp, is_lt}
 use Rattle.xs_stream.specs.declared.id.Id.{Id}
 use Rattle.xs_stream.specs.Id.{is_below, last, greatest_id}
 use Rattle.xs_stream.specs.IdText.{next_id}
-use Rattle.xs_stream.specs.Kept.{is_within}
+use Rattle.xs_stream.specs.StreamContent.{is_within}
 use Rattle.xs_stream.specs.Lawful.{IsId, AllIds}
 use Rattle.xs_stream.proofs.InOrder.{and_yes}
 

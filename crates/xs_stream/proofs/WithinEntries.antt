@@ -10,11 +10,11 @@ use Rattle.xs_stream.specs.declared.id.Id.{Id}
 use Rattle.xs_stream.specs.declared.field.Field.{Field}
 use Rattle.xs_stream.specs.declared.range.Range.{Range}
 use Rattle.xs_stream.specs.Id.{id_cmp, is_below}
-use Rattle.xs_stream.specs.Kept.{ids_of, AllAbove, AllUpTo, is_within}
+use Rattle.xs_stream.specs.StreamContent.{ids_of, AllAbove, AllUpTo, is_within}
 use Rattle.xs_stream.specs.Blocks.{listed, AreFiled, end_under, end_at}
 use Rattle.xs_stream.proofs.Order.{below-irrefl, below-not_back, up_to-below, below-not_below, not_above-trans, le-not_below}
 use Rattle.xs_stream.proofs.InOrder.{and_yes, not_within}
-use Rattle.xs_stream.proofs.Filing.{entry-of_key, entry-passes}
+use Rattle.xs_stream.proofs.FiledBlocks.{entry-of_key, entry-passes}
 use Rattle.xs_stream.proofs.WithinBlocks.{above-some, not_true, take-take_append, listed-push}
 
 abbrev Entries : Type 0

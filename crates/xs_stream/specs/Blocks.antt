@@ -8,7 +8,7 @@ use Rattle.xs_stream.specs.declared.id.Id.{Id}
 use Rattle.xs_stream.specs.declared.field.Field.{Field}
 use Rattle.xs_stream.specs.declared.entries.Entries.{Entries}
 use Rattle.xs_stream.specs.Id.{is_below, is_same}
-use Rattle.xs_stream.specs.Kept.{ids_of, AllAbove, AllUpTo}
+use Rattle.xs_stream.specs.StreamContent.{ids_of, AllAbove, AllUpTo}
 use Rattle.xs_stream.specs.Lawful.{IsLawful}
 
 -- the entries of blocks, one block after the other

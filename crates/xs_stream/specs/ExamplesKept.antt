@@ -4,8 +4,8 @@ use Rattle.xs_stream.specs.declared.id.Id.{Id}
 use Rattle.xs_stream.specs.declared.field.Field.{Field}
 use Rattle.xs_stream.specs.declared.range.Range.{Range}
 use Rattle.xs_stream.specs.declared.trim.Trim.TheVariants.{MaxLen, MinId}
-use Rattle.xs_stream.specs.Kept.{ids_of, Ascends, AllAbove, AllUpTo, fields_at, without, count_above, trimmed}
-use Rattle.xs_stream.specs.Kept.{is_within, limited, ids_within}
+use Rattle.xs_stream.specs.StreamContent.{ids_of, Ascends, AllAbove, AllUpTo, fields_at, without, count_above, trimmed}
+use Rattle.xs_stream.specs.StreamContent.{is_within, limited, ids_within}
 use Rattle.xs_stream.specs.Examples.{at}
 
 abbrev pub a_field : Field

@@ -1,7 +1,7 @@
 -- What holds of every stream.
 use Rattle.std.specs.Prelude.{◌<◌, ◌^◌, List, [], ◌∷◌}
 use Rattle.xs_stream.specs.declared.id.Id.{Id}
-use Rattle.xs_stream.specs.Kept.{Kept, ids_of, Ascends, AllUpTo}
+use Rattle.xs_stream.specs.StreamContent.{Kept, ids_of, Ascends, AllUpTo}
 
 -- both numbers are below 2^64
 abbrev pub IsId : Id → Type 0

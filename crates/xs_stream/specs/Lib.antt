@@ -1,7 +1,7 @@
 pub mod Id
 pub mod IdText
 pub mod RangeText
-pub mod Kept
+pub mod StreamContent
 pub mod Lawful
 pub mod Examples
 pub mod ExamplesKept

@@ -5,7 +5,7 @@ ghost use Rattle.std.specs.Prelude.{length, filter, take, drop, reverse, vec_len
 ghost use Rattle.std.specs.List.{flat_map};
 ghost use Rattle.std.specs.Map.{remove_entry};
 ghost use Rattle.xs_stream.specs.Id.{is_same, is_below};
-ghost use Rattle.xs_stream.specs.Kept.{is_within, ids_of, fields_at};
+ghost use Rattle.xs_stream.specs.StreamContent.{is_within, ids_of, fields_at};
 ghost use Rattle.xs_stream.specs.Packed.{names_code, has_names, field_code, entry_code};
 ghost use Rattle.xs_stream.specs.PackedText.{text_code, first_text, after_text};
 

@@ -6,7 +6,7 @@ ghost use Rattle.std.specs.Map.{lookup_key, remove_entry};
 ghost use Rattle.xs_stream.specs.declared.id.Id.{Id};
 ghost use Rattle.xs_stream.specs.declared.trim.Trim.TheVariants.{MinId};
 ghost use Rattle.xs_stream.specs.Id.{is_below, is_same};
-ghost use Rattle.xs_stream.specs.Kept.{is_within, ids_of, fields_at, without, trimmed, Ascends, AllUpTo};
+ghost use Rattle.xs_stream.specs.StreamContent.{is_within, ids_of, fields_at, without, trimmed, Ascends, AllUpTo};
 ghost use Rattle.xs_stream.specs.Lawful.{AllIds};
 ghost use Rattle.xs_stream.specs.Blocks.{all_of, AreFiled, BeginsFrom, IsLaidDown, filed_under, end_at, HasJoined};
 

@@ -1,7 +1,7 @@
 //! Ranges of ids (Redis, XRANGE).
 ghost use Rattle.std.specs.Prelude.{◌≡◌};
 ghost use Rattle.xs_stream.specs.RangeText.{low_end, high_end, range_between};
-ghost use Rattle.xs_stream.specs.Kept.{is_within};
+ghost use Rattle.xs_stream.specs.StreamContent.{is_within};
 
 use crate::id::Id;
 

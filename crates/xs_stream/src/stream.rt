@@ -3,8 +3,8 @@ ghost use Rattle.std.specs.Prelude.{◌≡◌, ◌↔◌, ◌+◌, ◌-◌, ◌+
 ghost use Rattle.std.specs.Prelude.{Err, IfOk, OnOk, OnErr, IsErrOf, length};
 ghost use Rattle.std.specs.Prelude.{filter};
 ghost use Rattle.xs_stream.specs.Id.{zero_id, is_below, assigned};
-ghost use Rattle.xs_stream.specs.Kept.{ids_of, fields_at, without, trimmed};
-ghost use Rattle.xs_stream.specs.Kept.{ids_within, entries_within, limited, AreEntriesOf};
+ghost use Rattle.xs_stream.specs.StreamContent.{ids_of, fields_at, without, trimmed};
+ghost use Rattle.xs_stream.specs.StreamContent.{ids_within, entries_within, limited, AreEntriesOf};
 ghost use Rattle.xs_stream.specs.Lawful.{IsLawful};
 
 use crate::add::{AddError, AddId};
@@ -28,7 +28,7 @@ pub struct Stream {
 }
 
 impl Model for Stream {
-    ghost use Rattle.xs_stream.specs.Kept.{Kept};
+    ghost use Rattle.xs_stream.specs.StreamContent.{Kept};
     ghost use Rattle.xs_stream.specs.Blocks.{all_of, IsSound};
 
     ghost Value = { Kept };

@@ -1,6 +1,6 @@
 //! A client that submits several calls at once, and keeps what is told of each.
 ghost use Rattle.xs_command.specs.WellFormed.{IsWellFormed};
-ghost use Rattle.xs_desk.specs.Keeping.{KeepsSide};
+ghost use Rattle.xs_desk.specs.KeptRings.{KeepsSide};
 
 use super::lines::Line;
 use std::alloc::{AllocError, Global};
@@ -45,7 +45,7 @@ fn is_submitted(client: &mut Client, command: Command) -> bool
 }
 
 impl Asking {
-    ghost use Rattle.xs_desk.specs.Keeping.{KeepsSide};
+    ghost use Rattle.xs_desk.specs.KeptRings.{KeepsSide};
 
     pub fn new(alloc: Global, line: Line, times: u64) -> Asking {
         Asking {

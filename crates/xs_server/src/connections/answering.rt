@@ -23,11 +23,7 @@ pub struct Said {
 
 /// The command of a request, as `read_request` gives it. If no memory is found, the reserve is given back for a second
 /// try.
-fn command_of(
-    alloc: Global,
-    reserve: &mut Reserve,
-    words: Request<'_>,
-) -> Result<Command, Refusal>
+fn command_of(alloc: Global, reserve: &mut Reserve, words: Request<'_>) -> Result<Command, Refusal>
     requires { 0 < length words }
     ensures exact { Gives result (reads words.entry) }
     ensures formed { IfOk result IsWellFormed }

@@ -1,8 +1,8 @@
 //! A connection, with no IO of its own: each of its turns answers a request.
 ghost use Rattle.std.specs.Prelude.{◌≡◌, ℕ, List, [], Ok, Err, IfOk};
 ghost use Rattle.xs_resp.specs.Grammar.{IsOpen};
-ghost use Rattle.xs_resp.specs.Held.{held_length};
-ghost use Rattle.xs_resp.specs.Left.{left};
+ghost use Rattle.xs_resp.specs.HeldBytes.{held_length};
+ghost use Rattle.xs_resp.specs.LeftToWrite.{left};
 ghost use Rattle.xs_server.specs.Connection.{IsNew, ServesBy, Stands};
 
 use crate::connections::answering::{Said, answer};

@@ -12,7 +12,8 @@ pub enum Turn<E> {
 }
 
 /// A machine: bytes are fed to it, each of its turns may ask a service of type `S`, and it owes bytes, which are paid
-/// piece by piece. What its turns need to wait, if they may, is of type `T`. A machine that has ended owes its last bytes, and has no further turn.
+/// piece by piece. What its turns need to wait, if they may, is of type `T`. A machine that has ended owes its
+/// last bytes, and has no further turn.
 pub trait Machine<S, T> {
     ghost use Rattle.std.specs.Prelude.{◌≡◌, ◌+◌, ◌<◌, ◌≤◌, ◌++◌, [], ℕ, List, length, take, OnOk, IfErr};
     ghost use Rattle.xs_server.specs.Machine.{Cause, EndsOncePaid, Turns};

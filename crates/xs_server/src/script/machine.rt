@@ -3,7 +3,7 @@ ghost use Rattle.std.specs.Prelude.{◌≡◌, ◌≤◌, ◌+◌, ℕ, [], fals
 ghost use Rattle.std.specs.List.{list_any};
 ghost use Rattle.xs_server.specs.Device.{capped};
 ghost use Rattle.xs_server.specs.Line.{is_line_end, line_limit};
-ghost use Rattle.xs_server.specs.Session.{IsNew, RunsBy, Stands};
+ghost use Rattle.xs_server.specs.ScriptMachine.{IsNew, RunsBy, Stands};
 
 use crate::lines::held::HeldBytes;
 use crate::machines::machine::{Machine, Turn};

@@ -3,7 +3,7 @@ ghost use Rattle.std.specs.Prelude.{◌+◌, ◌≤◌, List, ℕ};
 ghost use Rattle.std.specs.Io.KnownBytes.{Appends, Consumes};
 ghost use Rattle.xs_server.specs.Device.{capped};
 ghost use Rattle.xs_server.specs.Machine.{HasCause, reads_limit};
-ghost use Rattle.xs_server.specs.Session.{Runs, cause_of};
+ghost use Rattle.xs_server.specs.ScriptMachine.{Runs, cause_of};
 
 use crate::devices::chunk::Chunk;
 use crate::devices::device::{Sink, Source};

@@ -1,6 +1,6 @@
 //! The keeper in a thread of its own.
 ghost use Rattle.std.specs.Prelude.{◌≡◌, IfSome};
-ghost use Rattle.xs_desk.specs.Keeping.{KeepsRings};
+ghost use Rattle.xs_desk.specs.KeptRings.{KeepsRings};
 
 use crate::work::lifecycle::Lifecycle;
 use std::snapshot::Snapshot;
@@ -45,7 +45,11 @@ pub fn start_keeper<C: Clock + Send + Drop + 'static, R: Threads + Wait + Copy +
 {
     let handle = *rt;
     let promise = SameRings(Snapshot::of(&keeper));
-    match thread::spawn_with(rt, promise, move || keep(&handle, keeper, clock, &lifecycle)) {
+    match thread::spawn_with(
+        rt,
+        promise,
+        move || keep(&handle, keeper, clock, &lifecycle),
+    ) {
         Ok(thread) => Some(thread),
         Err(_) => None,
     }

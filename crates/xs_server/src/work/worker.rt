@@ -1,6 +1,6 @@
 //! A worker: it serves the connections of one gate through one lane.
 ghost use Rattle.std.specs.Prelude.{◌≡◌};
-ghost use Rattle.xs_desk.specs.Keeping.{KeepsSide};
+ghost use Rattle.xs_desk.specs.KeptRings.{KeepsSide};
 
 use crate::connections::buffers::Buffers;
 use crate::connections::ending::ServeFault;

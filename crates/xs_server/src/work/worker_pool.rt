@@ -1,6 +1,6 @@
 //! The workers, each in a thread of its own.
 ghost use Rattle.std.specs.Prelude.{◌≡◌, ◌≤◌, true, [], length, map, vec_capacity, IfOk, IfSome};
-ghost use Rattle.xs_desk.specs.Keeping.{KeepsSide, KeepSides};
+ghost use Rattle.xs_desk.specs.KeptRings.{KeepsSide, KeepSides};
 
 use crate::connections::buffers::Buffers;
 use crate::work::gate::Gate;
@@ -26,7 +26,7 @@ pub struct Worker<G> {
 pub struct SameSide(pub Snapshot<Client>);
 
 impl Promise<Worked> for SameSide {
-    ghost use Rattle.xs_desk.specs.Keeping.{KeepsSide};
+    ghost use Rattle.xs_desk.specs.KeptRings.{KeepsSide};
 
     ghost kept_by = { λ p worked. KeepsSide p.0.value worked.ended };
 }

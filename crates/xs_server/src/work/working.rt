@@ -2,15 +2,15 @@
 ghost use Rattle.std.specs.Prelude.{◌≡◌, ◌<◌, ◌≤◌, ℕ, true, false, [], length, map, vec_capacity};
 ghost use Rattle.std.specs.Prelude.{Err, IfOk, IfErr, IfSome};
 ghost use Rattle.xs_desk.specs.Callers.{AreEnds, HasEnd};
-ghost use Rattle.xs_desk.specs.Keeping.{KeepsRings, KeepSides};
+ghost use Rattle.xs_desk.specs.KeptRings.{KeepsRings, KeepSides};
 ghost use Rattle.xs_desk.specs.Opening.{AreNew, IsLaneCount, IsDepth};
-ghost use Rattle.xs_server.specs.Working.{IsClosed, IsWorkFault};
+ghost use Rattle.xs_server.specs.WorkOutcome.{IsClosed, IsWorkFault};
 
-use crate::work::worker_pool::{WorkerThread, Worker, join_all, make_workers, start_all};
 use crate::work::fault::WorkFault;
 use crate::work::gate::Gate;
 use crate::work::keeper_thread::start_keeper;
 use crate::work::lifecycle::Lifecycle;
+use crate::work::worker_pool::{Worker, WorkerThread, join_all, make_workers, start_all};
 use std::alloc::{AllocError, Global};
 use std::sync::{Arc, Wait};
 use std::thread::Threads;

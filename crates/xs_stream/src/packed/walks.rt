@@ -5,7 +5,7 @@ ghost use Rattle.std.specs.List.{remove};
 ghost use Rattle.std.specs.Map.{remove_entry};
 ghost use Rattle.std.specs.Option.{is_some};
 ghost use Rattle.xs_stream.specs.Id.{is_same, is_below};
-ghost use Rattle.xs_stream.specs.Kept.{is_within, ids_of, fields_at};
+ghost use Rattle.xs_stream.specs.StreamContent.{is_within, ids_of, fields_at};
 ghost use Rattle.xs_stream.specs.Packed.{after_entries, block_entries, shares_names, all_rebased};
 
 use crate::entry::Entry;

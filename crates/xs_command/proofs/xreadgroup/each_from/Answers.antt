@@ -13,8 +13,8 @@ returns-in_err-from c =
     let rest : into_iter_items c.loop-key.key-iterator ≡ c.in-Some.key ∷ left = search rules in
     let p = err_from_is_err_and c.from_residual-in_err-from.result c.from_residual-in_err-from.ensures.1 in
     rw (p.1, p.2) (sym c.loop-key.invariant.3
-        ∙ ap (λ keys. with_front reads (each_from keys c.loop-key.starts)) rest
-        ∙ fails reads c.in-Some.key left c.loop-key.starts c.in_err-from.field-0.0 (sym c.in_err-from.ensures))
+    ∙ ap (λ keys. with_front reads (each_from keys c.loop-key.starts)) rest
+    ∙ fails reads c.in-Some.key left c.loop-key.starts c.in_err-from.field-0.0 (sym c.in_err-from.ensures))
 
 pub loop-key-preserved : goal.loop-key-preserved
 loop-key-preserved c =
@@ -29,6 +29,6 @@ returns c =
     let reads = c.loop-key.reads.items in
     let none : into_iter_items c.loop-key.key-iterator ≡ [] = nil_from_length _ (sym c.loop-key.invariant.2 ∙ c.in-None.ensures.steps.0) in
     sym c.loop-key.invariant.3
-        ∙ ap (λ keys. with_front reads (each_from keys c.loop-key.starts)) none
-        ∙ ends reads c.loop-key.starts
-        ∙ ap Ok (sym c.new.ensures)
+    ∙ ap (λ keys. with_front reads (each_from keys c.loop-key.starts)) none
+    ∙ ends reads c.loop-key.starts
+    ∙ ap Ok (sym c.new.ensures)

@@ -1,5 +1,5 @@
 use Rattle.std.proofs.Common.{◌≡◌, ◌≤◌, ◌-◌, length}
-use Rattle.xs_desk.specs.Serving.{Turns, HasPlaces}
+use Rattle.xs_desk.specs.KeeperTurns.{Turns, HasPlaces}
 use Rattle.xs_desk.specs.LaneEnds.{desk_of}
 use Rattle.xs_desk.proofs.keeper.serve_each.Given as goal
 

@@ -1,4 +1,4 @@
-use Rattle.xs_desk.specs.Keeping.{KeepsRings}
+use Rattle.xs_desk.specs.KeptRings.{KeepsRings}
 use Rattle.xs_desk_trial.proofs.together.keep.Given as goal
 
 abbrev pub invariant-loop : goal.invariant-loop

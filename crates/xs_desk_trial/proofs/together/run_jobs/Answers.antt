@@ -4,7 +4,7 @@ use Rattle.std.proofs.Common.{sym, ◌∙◌, ap, subst, arith}
 use Rattle.std.proofs.lemmas.Option.{get_or_from_slice_get, slice_get-map, slice_get_within}
 use Rattle.std.specs.Option.{option_map}
 use Rattle.xs_desk.specs.Callers.{Caller}
-use Rattle.xs_desk.specs.Keeping.{KeepsSide, KeepSides}
+use Rattle.xs_desk.specs.KeptRings.{KeepsSide, KeepSides}
 use Rattle.xs_desk.proofs.Lists.{some-at, some-of-map}
 use Rattle.xs_desk_trial.proofs.together.run_jobs.Goals as goal
 

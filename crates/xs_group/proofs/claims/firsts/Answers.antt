@@ -7,7 +7,7 @@ use Rattle.xs_stream.proofs.Order.{is_same-symm}
 use Rattle.xs_group.specs.Claims.{firsts}
 use Rattle.xs_group.proofs.claims.firsts.Goals as goal
 use Rattle.xs_group.proofs.claims.firsts.Goals.{then-branch+in_ok-push, else-branch, Joined-branch}
-use Rattle.xs_group.proofs.Choosing.{firsts-more, has-more, had}
+use Rattle.xs_group.proofs.ChosenIds.{firsts-more, has-more, had}
 
 one : (b c : Bool) → cond c true b ≡ (b || c)
 one true true = refl

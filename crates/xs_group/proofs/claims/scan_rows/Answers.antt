@@ -4,11 +4,11 @@ use Rattle.std.specs.BTreeMap.Range.{range_contains, entries_between}
 use Rattle.std.specs.declared.ops.Bound.TheVariants.{Included, Unbounded}
 use Rattle.xs_stream.specs.declared.id.Id.{Id}
 use Rattle.xs_stream.specs.Id.{id_cmp, has_id}
-use Rattle.xs_stream.specs.Kept.{ids_of}
+use Rattle.xs_stream.specs.StreamContent.{ids_of}
 use Rattle.xs_group.specs.State.{Row}
 use Rattle.xs_group.specs.Claims.{is_taken, is_removed, is_hit, from_start, first_or_zero}
 use Rattle.xs_group.specs.Verdict.{verdict_of, with_taken, with_removed, hits_of, scanned_after}
-use Rattle.xs_group.proofs.Choosing.{taken-verdict, removed-verdict, hits-verdict, one_most}
+use Rattle.xs_group.proofs.ChosenIds.{taken-verdict, removed-verdict, hits-verdict, one_most}
 use Rattle.xs_group.proofs.Ordered.{is_sorted-from}
 use Rattle.xs_group.proofs.Scanning.{AreFound, found-all, found-filter, keys-between, scanned-on, scanned-enough, taken-on, removed-on, scan-ended}
 use Rattle.xs_group.proofs.claims.scan_rows.Goals as goal

@@ -1,5 +1,5 @@
 use Rattle.std.proofs.Common.{◌≡◌, ◌+◌, ◌<◌, ◌≤◌, ◌++◌, map, filter, length, drop}
-use Rattle.xs_stream.specs.Kept.{ids_of}
+use Rattle.xs_stream.specs.StreamContent.{ids_of}
 use Rattle.xs_group.specs.Claims.{is_taken, is_removed, is_hit, from_start, first_or_zero}
 use Rattle.xs_group.specs.Verdict.{scanned_after}
 use Rattle.xs_group.proofs.Scanning.{AreFound}

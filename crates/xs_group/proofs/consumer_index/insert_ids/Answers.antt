@@ -4,7 +4,7 @@ use Rattle.std.specs.BTreeSet.{contains}
 use Rattle.std.specs.List.{list_any}
 use Rattle.xs_stream.specs.Id.{id_cmp, is_same, has_id}
 use Rattle.xs_group.proofs.ByConsumer.{contains-more}
-use Rattle.xs_group.proofs.Choosing.{has-more}
+use Rattle.xs_group.proofs.ChosenIds.{has-more}
 use Rattle.xs_group.proofs.MovedRows.{some-take}
 use Rattle.xs_group.proofs.consumer_index.insert_ids.Goals as goal
 

@@ -3,7 +3,7 @@ use Rattle.std.proofs.lemmas.List.{take_more, take_all}
 use Rattle.xs_stream.specs.Id.{is_same, has_id}
 use Rattle.xs_group.specs.State.{is_name}
 use Rattle.xs_group.specs.Indexes.{holds, is_owner, indexed_row}
-use Rattle.xs_group.proofs.Choosing.{has-more}
+use Rattle.xs_group.proofs.ChosenIds.{has-more}
 use Rattle.xs_group.proofs.MovedRows.{and-more, agreed-again}
 use Rattle.xs_group.proofs.moving.take_back.Goals as goal
 

@@ -3,7 +3,7 @@ use Rattle.std.proofs.lemmas.Map.Made.{is_some-lookup}
 use Rattle.std.proofs.lemmas.Bool.Decides.{nat_tests}
 use Rattle.xs_stream.specs.declared.id.Id.{Id}
 use Rattle.xs_stream.specs.Id.{is_same}
-use Rattle.xs_stream.specs.Kept.{IsEntryOf, fields_at}
+use Rattle.xs_stream.specs.StreamContent.{IsEntryOf, fields_at}
 use Rattle.xs_stream.proofs.Lending.{is-lent}
 use Rattle.xs_group.proofs.reading.is_present_along.Goals as goal
 

@@ -1,5 +1,5 @@
 use Rattle.std.proofs.Common.{◌≡◌, ◌+◌, ◌≤◌, drop}
-use Rattle.xs_keys.specs.After.{without_keys}
+use Rattle.xs_keys.specs.ContentAfter.{without_keys}
 use Rattle.xs_keys.specs.Reply.{existing}
 use Rattle.xs_keys.proofs.del.remove_all.Given as goal
 

@@ -1,6 +1,6 @@
 use Rattle.std.proofs.Common.{codes, refl, ap, length, subst, T, arith}
 use Rattle.xs_bytes.specs.SortedMap.{empty, get, insert_by, remove, change}
-use Rattle.xs_stream.specs.Kept.{Kept}
+use Rattle.xs_stream.specs.StreamContent.{Kept}
 use Rattle.xs_keys.specs.Content.{IsGroup}
 use Rattle.xs_keys.proofs.examples.contents.Goals as goal
 

@@ -1,8 +1,8 @@
 use Rattle.std.proofs.Common.{ℕ, List, [], ◌∷◌, length, Option, is_some, refl, sym, ap, ◌∙◌, subst, T, arith}
 use Rattle.std.proofs.lemmas.Bool.{false≢true}
-use Rattle.xs_keys.specs.Ground.{Reply, Array, flat_map, option_map_or, Field}
+use Rattle.xs_keys.specs.Terms.{Reply, Array, flat_map, option_map_or, Field}
 use Rattle.xs_keys.specs.ReplyParts.{array, field_replies}
-use Rattle.xs_keys.specs.Played.{id as id_told}
+use Rattle.xs_keys.specs.PlayedLines.{id as id_told}
 use Rattle.xs_keys.proofs.examples.telling_of_entries.Goals as goal
 
 -- how many tokens a reply has behind its header

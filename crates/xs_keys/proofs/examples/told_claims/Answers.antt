@@ -1,12 +1,12 @@
 use Rattle.std.proofs.Common.{◌≡◌, ℕ, List, [], ◌∷◌, refl, sym, ap, subst, T, arith, codes}
-use Rattle.xs_keys.specs.Ground.{Reply, Array, NullArray, Id}
+use Rattle.xs_keys.specs.Terms.{Reply, Array, NullArray, Id}
 use Rattle.xs_keys.specs.ReplyParts.{array}
 use Rattle.xs_keys.specs.Telling.{TellsEntry, TellsEach}
 use Rattle.xs_keys.specs.Life.{given_at}
 use Rattle.xs_keys.specs.ExamplesHistory.{events}
 use Rattle.xs_stream.specs.Examples.{at}
-use Rattle.xs_keys.specs.Played.{id as id_told, entry}
-use Rattle.xs_keys.specs.ExamplesTold.{second, read_by_a}
+use Rattle.xs_keys.specs.PlayedLines.{id as id_told, entry}
+use Rattle.xs_keys.specs.ExamplesReplies.{second, read_by_a}
 use Rattle.xs_keys.proofs.Computing.{example_functions}
 use Rattle.xs_keys.proofs.Assigning.{assigned-claim, assigned-scan}
 use Rattle.xs_keys.proofs.examples.told_claims.Goals as goal

@@ -1,7 +1,7 @@
 use Rattle.std.proofs.Common.{◌≡◌, ℕ, ◌+◌, [], ◌∷◌, codes, refl, ap, subst, T, arith}
-use Rattle.xs_keys.specs.Ground.{Reply, Int}
+use Rattle.xs_keys.specs.Terms.{Reply, Int}
 use Rattle.xs_keys.specs.ReplyParts.{array}
-use Rattle.xs_keys.specs.Played.{name, id as id_told}
+use Rattle.xs_keys.specs.PlayedLines.{name, id as id_told}
 use Rattle.xs_keys.proofs.Computing.{example_functions}
 use Rattle.xs_keys.proofs.examples.told_numbers.Goals as goal
 

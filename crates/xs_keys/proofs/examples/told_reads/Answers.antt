@@ -2,15 +2,15 @@ use Rattle.std.proofs.Common.{◌≡◌, ◌⊎◌, inl, inr, ℕ, Bool, true, l
 use Rattle.std.proofs.lemmas.Bool.{false≢true}
 use Rattle.xs_resp.specs.Token.{Token}
 use Rattle.xs_resp.specs.Token as token
-use Rattle.xs_keys.specs.Ground.{Reply, Array, Bulk, NullArray, Id, has_id}
+use Rattle.xs_keys.specs.Terms.{Reply, Array, Bulk, NullArray, Id, has_id}
 use Rattle.xs_keys.specs.Life.{key_life}
 use Rattle.xs_keys.specs.GroupLife.{present_in}
 use Rattle.xs_keys.specs.Telling.{TellsEntryOrNull, TellsEach}
 use Rattle.xs_keys.specs.Life.{given_at}
 use Rattle.xs_keys.specs.ReplyParts.{array, array_or_null}
-use Rattle.xs_keys.specs.Played.{id as id_told, entry, stream}
+use Rattle.xs_keys.specs.PlayedLines.{id as id_told, entry, stream}
 use Rattle.xs_keys.specs.ExamplesHistory.{events, group_and}
-use Rattle.xs_keys.specs.ExamplesTold.{second, two_groups, read_by_a, with_a_deleted_one}
+use Rattle.xs_keys.specs.ExamplesReplies.{second, two_groups, read_by_a, with_a_deleted_one}
 use Rattle.xs_stream.specs.Examples.{at}
 use Rattle.xs_keys.proofs.Computing.{example_functions}
 use Rattle.xs_keys.proofs.Tellings.{shows-first}

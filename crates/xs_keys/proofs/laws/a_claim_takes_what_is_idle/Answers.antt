@@ -1,5 +1,5 @@
 use Rattle.xs_keys.proofs.Histories.{present-in-life}
-use Rattle.xs_keys.proofs.Takings.{claims-idle}
+use Rattle.xs_keys.proofs.ClaimedIds.{claims-idle}
 use Rattle.xs_keys.proofs.laws.a_claim_takes_what_is_idle.Goals as goal
 
 pub returns : goal.returns

@@ -1,4 +1,4 @@
-use Rattle.xs_keys.proofs.Takings.{in-full}
+use Rattle.xs_keys.proofs.ClaimedIds.{in-full}
 use Rattle.xs_keys.proofs.laws.a_read_delivers_in_full.Goals as goal
 
 pub returns : goal.returns

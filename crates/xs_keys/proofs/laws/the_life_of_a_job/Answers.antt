@@ -1,10 +1,10 @@
-use Rattle.xs_keys.proofs.Comings.{entries-added, groups-created}
+use Rattle.xs_keys.proofs.Arrivals.{entries-added, groups-created}
 use Rattle.xs_keys.proofs.Histories.{present-in-life}
 use Rattle.xs_keys.proofs.JobBooks.{balances, tells-pending}
 use Rattle.xs_keys.proofs.JobMoves.{goes-along, for-good}
 use Rattle.xs_keys.proofs.JobPlaces.{has-one-place}
-use Rattle.xs_keys.proofs.Sights.{sees-of}
-use Rattle.xs_keys.proofs.Staying.{entries-stay, groups-stay}
+use Rattle.xs_keys.proofs.IdsAtEvents.{sees-of}
+use Rattle.xs_keys.proofs.EntriesStay.{entries-stay, groups-stay}
 use Rattle.xs_keys.proofs.laws.the_life_of_a_job.Goals as goal
 
 pub returns-clause-one_place : goal.returns-clause-one_place

@@ -1,4 +1,4 @@
-use Rattle.xs_keys.proofs.Touches.{is-last-touched}
+use Rattle.xs_keys.proofs.TimesOfRows.{is-last-touched}
 use Rattle.xs_keys.proofs.laws.time_and_count_are_of_the_last_touch.Goals as goal
 
 pub returns : goal.returns

@@ -1,7 +1,7 @@
 use Rattle.std.proofs.Common.{◌≡◌, ◌++◌, OnOk, subst, sym, ◌∙◌}
 use Rattle.xs_resp.specs.ReplyItems.{tokens_of}
-use Rattle.xs_keys.specs.Ground.{Reply}
-use Rattle.xs_stream.specs.Kept.{IsEntryOf}
+use Rattle.xs_keys.specs.Terms.{Reply}
+use Rattle.xs_stream.specs.StreamContent.{IsEntryOf}
 use Rattle.xs_stream.proofs.Lending.{is-lent}
 use Rattle.xs_keys.proofs.PresentEntries.{lent-reply}
 use Rattle.xs_keys.proofs.showing.push_along.Goals as goal

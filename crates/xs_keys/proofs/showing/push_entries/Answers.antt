@@ -1,5 +1,5 @@
 use Rattle.std.proofs.Common.{subst, sym}
-use Rattle.xs_stream.specs.Kept.{AreEntriesOf}
+use Rattle.xs_stream.specs.StreamContent.{AreEntriesOf}
 use Rattle.xs_keys.proofs.showing.push_entries.Goals as goal
 
 pub push_along-requires : goal.push_along-requires

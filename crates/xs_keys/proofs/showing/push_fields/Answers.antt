@@ -2,7 +2,7 @@ use Rattle.std.proofs.Common.{◌≡◌, ℕ, ◌*◌, ◌∷◌, List, [], leng
 use Rattle.std.proofs.lemmas.List.{append-nil}
 use Rattle.xs_resp.specs.Token.{Token, Array}
 use Rattle.xs_resp.specs.ReplyItems.{tokens_of}
-use Rattle.xs_keys.specs.Ground.{Bulk, flat_map, Field}
+use Rattle.xs_keys.specs.Terms.{Bulk, flat_map, Field}
 use Rattle.xs_keys.specs.ReplyParts.{field_replies}
 use Rattle.xs_keys.proofs.showing.push_fields.Goals as goal
 

@@ -1,7 +1,7 @@
 use Rattle.std.proofs.Common.{Some, sym, ap, ◌∙◌, inl}
-use Rattle.xs_keys.specs.Ground.{State, insert, ids_of, scan_of}
+use Rattle.xs_keys.specs.Terms.{State, insert, ids_of, scan_of}
 use Rattle.xs_keys.specs.Content.{Key}
-use Rattle.xs_keys.specs.After.{with_group}
+use Rattle.xs_keys.specs.ContentAfter.{with_group}
 use Rattle.xs_keys.specs.ReplyParts.{scan_shown}
 use Rattle.xs_keys.proofs.AskSteps.{said-of}
 use Rattle.xs_keys.proofs.xautoclaim.claim.Goals as goal

@@ -1,7 +1,7 @@
 use Rattle.std.proofs.Common.{[], ◌∷◌, map, refl}
 use Rattle.xs_resp.specs.WholeReplies.{AreWhole}
 use Rattle.xs_resp.proofs.Wholeness.{filled, grown}
-use Rattle.xs_keys.specs.Ground.{Reply}
+use Rattle.xs_keys.specs.Terms.{Reply}
 use Rattle.xs_keys.specs.ReplyParts.{array, id_reply, taken_reply}
 use Rattle.xs_keys.proofs.WholeReplies.{taken-whole, ids-whole}
 use Rattle.xs_keys.proofs.xautoclaim.scan_shown.Goals as goal

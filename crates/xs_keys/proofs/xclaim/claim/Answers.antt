@@ -1,7 +1,7 @@
 use Rattle.std.proofs.Common.{ap, inl}
-use Rattle.xs_keys.specs.Ground.{State, insert}
+use Rattle.xs_keys.specs.Terms.{State, insert}
 use Rattle.xs_keys.specs.Content.{Key}
-use Rattle.xs_keys.specs.After.{with_group}
+use Rattle.xs_keys.specs.ContentAfter.{with_group}
 use Rattle.xs_keys.proofs.xclaim.claim.Goals as goal
 
 pub returns-in-Ok : goal.returns-in-Ok

@@ -1,6 +1,6 @@
 use Rattle.std.proofs.Common.{[], ◌∷◌, map, refl}
 use Rattle.xs_resp.proofs.Wholeness.{filled, grown}
-use Rattle.xs_keys.specs.Ground.{Reply, Int, NullBulk, option_map_or}
+use Rattle.xs_keys.specs.Terms.{Reply, Int, NullBulk, option_map_or}
 use Rattle.xs_keys.specs.ReplyParts.{array_or_null, id_reply, owner_reply}
 use Rattle.xs_keys.proofs.WholeReplies.{summary-whole}
 use Rattle.xs_keys.proofs.xpending.summary_shown.Goals as goal

@@ -4,7 +4,7 @@ use Rattle.xs_stream.specs.declared.range.Range.{Range}
 use Rattle.xs_resp.specs.Token.{Token}
 use Rattle.xs_resp.specs.Items.{Items}
 use Rattle.xs_resp.proofs.Wholeness.{filled}
-use Rattle.xs_keys.specs.Ground.{limited, ids_within, Array}
+use Rattle.xs_keys.specs.Terms.{limited, ids_within, Array}
 use Rattle.xs_keys.proofs.xrange.range.Goals as goal
 
 -- a missing key has no entries to show

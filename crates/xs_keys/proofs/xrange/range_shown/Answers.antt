@@ -1,5 +1,5 @@
 use Rattle.std.proofs.Common.{◌≡◌, List, map, ap, ◌∙◌, subst, IfOk}
-use Rattle.xs_keys.specs.Ground.{Reply}
+use Rattle.xs_keys.specs.Terms.{Reply}
 use Rattle.xs_keys.specs.ReplyParts.{array, present_reply}
 use Rattle.xs_keys.proofs.PresentEntries.{lent-within}
 use Rattle.xs_keys.proofs.xrange.range_shown.Goals as goal

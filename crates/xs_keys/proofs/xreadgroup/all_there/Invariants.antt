@@ -1,6 +1,6 @@
 use Rattle.std.proofs.Common.{◌≡◌, true, take, is_some}
-use Rattle.xs_keys.specs.Ground.{list_all, get}
-use Rattle.xs_keys.specs.After.{group_in}
+use Rattle.xs_keys.specs.Terms.{list_all, get}
+use Rattle.xs_keys.specs.ContentAfter.{group_in}
 use Rattle.xs_keys.proofs.xreadgroup.all_there.Given as goal
 
 -- so far each is there

@@ -1,7 +1,7 @@
 use Rattle.std.proofs.Common.{◌≡◌, ◌++◌, take, map}
 use Rattle.std.specs.List.{flat_map}
 use Rattle.xs_resp.specs.ReplyItems.{tokens_of}
-use Rattle.xs_group.specs.Delivered.{row_ids}
+use Rattle.xs_group.specs.Deliveries.{row_ids}
 use Rattle.xs_keys.specs.ReplyParts.{entry_reply}
 use Rattle.xs_keys.proofs.xreadgroup.push_rows.Given as goal
 

@@ -1,8 +1,8 @@
 use Rattle.std.proofs.Common.{◌≡◌, ap, ◌∙◌}
 use Rattle.std.proofs.lemmas.Result.{IfOk-weaker}
 use Rattle.xs_group.specs.declared.delivery.Delivery.{Delivery}
-use Rattle.xs_group.specs.Delivered.{row_ids, delivery_of, history_of}
-use Rattle.xs_keys.specs.Ground.{ids_of, delivers, shown}
+use Rattle.xs_group.specs.Deliveries.{row_ids, delivery_of, history_of}
+use Rattle.xs_keys.specs.Terms.{ids_of, delivers, shown}
 use Rattle.xs_keys.proofs.ReadSteps.{ids-new, ids-shown}
 use Rattle.xs_keys.proofs.xreadgroup.read_group.Goals as goal
 

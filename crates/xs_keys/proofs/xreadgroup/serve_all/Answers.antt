@@ -2,8 +2,8 @@ use Rattle.std.proofs.Common.{◌≡◌, ◌<◌, [], ◌∷◌, ◌∙◌, ◌+
 use Rattle.std.proofs.lemmas.List.{drop_more, append-nil}
 use Rattle.std.proofs.Math.ListN.{drop_of_length-le}
 use Rattle.xs_resp.proofs.Wholeness.{filled}
-use Rattle.xs_keys.specs.Ground.{list_all, get, ReadOne}
-use Rattle.xs_keys.specs.After.{group_in}
+use Rattle.xs_keys.specs.Terms.{list_all, get, ReadOne}
+use Rattle.xs_keys.specs.ContentAfter.{group_in}
 use Rattle.xs_keys.specs.Reply.{parts}
 use Rattle.xs_keys.proofs.ReadSteps.{Underway, first-there, one-more, parts-le, made-push}
 use Rattle.xs_keys.proofs.WholeReplies.{parts-whole}

@@ -3,7 +3,7 @@ use Rattle.std.proofs.lemmas.Result.{IfOk-weaker, on_err_weaker}
 use Rattle.xs_bytes.specs.SortedMap.{get, insert}
 use Rattle.xs_group.specs.State.{State}
 use Rattle.xs_keys.specs.Content.{Key}
-use Rattle.xs_keys.specs.After.{with_group}
+use Rattle.xs_keys.specs.ContentAfter.{with_group}
 use Rattle.xs_keys.specs.Reading.{IsServed, IsServedAt}
 use Rattle.xs_keys.proofs.AskSteps.{put_same}
 use Rattle.xs_keys.proofs.ReadSteps.{served-at}

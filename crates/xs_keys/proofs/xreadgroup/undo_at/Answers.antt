@@ -3,7 +3,7 @@ use Rattle.std.proofs.lemmas.Bool.{false≢true}
 use Rattle.xs_bytes.specs.SortedMap.{get, insert}
 use Rattle.xs_group.specs.State.{State}
 use Rattle.xs_keys.specs.Content.{Key}
-use Rattle.xs_keys.specs.After.{group_in, with_group}
+use Rattle.xs_keys.specs.ContentAfter.{group_in, with_group}
 use Rattle.xs_keys.proofs.ReadSteps.{made-there, made-state, taken-back}
 use Rattle.xs_keys.proofs.xreadgroup.undo_at.Goals as goal
 use Rattle.xs_keys.proofs.xreadgroup.undo_at.Goals.{After-slot}

@@ -1,7 +1,7 @@
 use Rattle.std.proofs.Common.{◌≡◌, ◌-◌, ◌≤◌, ◌++◌, length, take, drop, vec_capacity}
 use Rattle.std.specs.List.{flat_map}
 use Rattle.xs_resp.specs.ReplyText.{token_text}
-use Rattle.xs_resp.specs.Left.{strings_of}
+use Rattle.xs_resp.specs.LeftToWrite.{strings_of}
 use Rattle.xs_resp.proofs.encoder.gather.Given as goal
 
 -- what was appended, and the tokens that are left, are what there was

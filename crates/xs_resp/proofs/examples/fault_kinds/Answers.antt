@@ -3,7 +3,7 @@ use Rattle.std.specs.Fmt.{digits}
 use Rattle.std.proofs.Common.{refl, subst, arith, inl, inr}
 use Rattle.xs_resp.specs.declared.read_fault.Wrong.TheVariants.{Shape}
 use Rattle.xs_resp.specs.declared.header.Part.TheVariants.{Count}
-use Rattle.xs_resp.specs.Part.{number_in, is_natural}
+use Rattle.xs_resp.specs.HeaderPart.{number_in, is_natural}
 use Rattle.xs_resp.specs.Grammar.{Spells, FaultIn, HasNoCr, BeginsLine, LacksMarker}
 use Rattle.xs_resp.specs.Examples.{wire}
 use Rattle.xs_resp.proofs.examples.fault_kinds.Goals as goal

@@ -1,5 +1,5 @@
 use Rattle.std.proofs.Common.{refl}
-use Rattle.xs_resp.specs.Part.{number_in, is_natural}
+use Rattle.xs_resp.specs.HeaderPart.{number_in, is_natural}
 use Rattle.xs_resp.specs.Header.{header, line_at}
 use Rattle.xs_resp.specs.Reading.{word, words, request}
 use Rattle.xs_resp.proofs.examples.undecided.Goals as goal

@@ -1,5 +1,5 @@
 use Rattle.std.proofs.Common.{sym, ◌∙◌, subst}
-use Rattle.xs_stream.specs.Kept.{AllAbove, Ascends, ids_of}
+use Rattle.xs_stream.specs.StreamContent.{AllAbove, Ascends, ids_of}
 use Rattle.xs_group.proofs.group.Group.deliver.Goals as goal
 use Rattle.xs_group.proofs.Cursors.{delivers-above, delivers-ascend}
 

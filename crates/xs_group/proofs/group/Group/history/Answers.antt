@@ -1,7 +1,7 @@
 use Rattle.std.proofs.Common.{Some, ap, ◌∙◌}
-use Rattle.xs_stream.specs.Kept.{ids_of}
+use Rattle.xs_stream.specs.StreamContent.{ids_of}
 use Rattle.xs_group.specs.State.{with_name, shown, reread}
-use Rattle.xs_group.specs.Delivered.{set_rows, shown_rows}
+use Rattle.xs_group.specs.Deliveries.{set_rows, shown_rows}
 use Rattle.xs_group.proofs.group.Group.history.Goals as goal
 use Rattle.xs_group.proofs.RemovedRows.{up_to-change}
 use Rattle.xs_group.proofs.Touching.{rows-reread}

@@ -1,5 +1,5 @@
 use Rattle.std.proofs.Common.{sym, subst}
-use Rattle.xs_stream.specs.Kept.{AllAbove}
+use Rattle.xs_stream.specs.StreamContent.{AllAbove}
 use Rattle.xs_group.specs.State.{first_row}
 use Rattle.xs_group.proofs.group.Group.receive.Goals as goal
 use Rattle.xs_group.proofs.Cursors.{free-above, up_to-later, up_to-put}

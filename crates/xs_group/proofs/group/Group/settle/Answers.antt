@@ -1,7 +1,7 @@
 use Rattle.xs_group.specs.Claims.{claimed}
 use Rattle.xs_group.proofs.group.Group.settle.Goals as goal
 use Rattle.xs_group.proofs.RemovedRows.{up_to-change}
-use Rattle.xs_group.proofs.Settling.{apart-claim}
+use Rattle.xs_group.proofs.CarriedOutClaims.{apart-claim}
 
 pub settle-requires : goal.settle-requires
 settle-requires c = apart-claim c.args.self.now c.args.now c.args.rule.now c.args.claim.now c.requires

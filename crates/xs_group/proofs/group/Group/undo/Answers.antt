@@ -2,7 +2,7 @@ use Rattle.std.proofs.Common.{◌≡◌, sym, ap, ◌∙◌, subst}
 use Rattle.xs_group.specs.State.{State}
 use Rattle.xs_group.specs.Lawful.{IsUpTo}
 use Rattle.xs_group.proofs.group.Group.undo.Goals as goal
-use Rattle.xs_group.proofs.Undoing.{undone, undone-before}
+use Rattle.xs_group.proofs.UndoneReads.{undone, undone-before}
 
 pub returns : goal.returns
 returns c = λ before made.

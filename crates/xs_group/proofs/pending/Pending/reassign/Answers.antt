@@ -4,7 +4,7 @@ use Rattle.xs_group.specs.Indexes.{rows_of, names_of}
 use Rattle.xs_group.proofs.pending.Pending.reassign.Goals as goal
 use Rattle.xs_group.proofs.Views.{has_name-names_of, names-same}
 use Rattle.xs_group.proofs.Agreeing.{held-by, refused-as}
-use Rattle.xs_group.proofs.Settling.{rows-moved}
+use Rattle.xs_group.proofs.CarriedOutClaims.{rows-moved}
 
 pub add_ids-requires-clause-there : goal.add_ids-requires-clause-there
 add_ids-requires-clause-there c =

@@ -1,5 +1,5 @@
 use Rattle.std.proofs.Common.{◌≡◌, IfOk, sym, subst}
-use Rattle.xs_stream.specs.Kept.{ids_of}
+use Rattle.xs_stream.specs.StreamContent.{ids_of}
 use Rattle.xs_group.specs.Claims.{scan_of}
 use Rattle.xs_group.proofs.pending.Pending.scan.Goals as goal
 use Rattle.xs_group.proofs.Ordered.{entries-rows_of}

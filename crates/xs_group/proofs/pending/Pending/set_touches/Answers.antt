@@ -1,7 +1,7 @@
 use Rattle.std.proofs.Common.{take, sym, ap, ◌∙◌, ◌++◌, ◌∷◌, []}
 use Rattle.std.proofs.lemmas.List.{take_more}
 use Rattle.xs_group.specs.declared.delivery.DeliveryRow.{DeliveryRow}
-use Rattle.xs_group.specs.Delivered.{set_one, set_rows, touch_set}
+use Rattle.xs_group.specs.Deliveries.{set_one, set_rows, touch_set}
 use Rattle.xs_group.proofs.pending.Pending.set_touches.Goals as goal
 use Rattle.xs_group.proofs.Touching.{set_rows-more}
 

@@ -5,7 +5,7 @@ use Rattle.xs_group.specs.Verdict.{moved}
 use Rattle.xs_group.proofs.pending.Pending.settle.Goals as goal
 use Rattle.xs_group.proofs.Agreeing.{held-again}
 use Rattle.xs_group.proofs.NewRows.{held-back, name-there, was_there}
-use Rattle.xs_group.proofs.Settling.{rows-settled}
+use Rattle.xs_group.proofs.CarriedOutClaims.{rows-settled}
 
 pub reassign-requires-clause-there : goal.reassign-requires-clause-there
 reassign-requires-clause-there c = ap (λ held. has_name held.consumers c.args.name.now) c.in_ok-made.ensures.ok ∙ name-there c.args.self.now.consumers c.args.name.now

@@ -1,7 +1,7 @@
 use Rattle.std.proofs.Common.{◌≡◌, take}
 use Rattle.xs_bytes.specs.SortedMap.{change}
 use Rattle.xs_group.specs.State.{unless_acked}
-use Rattle.xs_group.specs.Delivered.{row_ids}
+use Rattle.xs_group.specs.Deliveries.{row_ids}
 use Rattle.xs_group.proofs.pending.Pending.take_rows.Given as goal
 
 -- the ids so far are out

@@ -45,7 +45,7 @@ returns c =
     let same : first.span ≡ span = let one = sym first.read ∙ read in cc in
     let behind : drop (first.span.end + 2) bytes ≡ c.rest_of.result.now = ap (λ s. drop (s.end + 2) bytes) same ∙ sym c.rest_of.ensures in
     sym c.self.view_is
-        ∙ ap (λ n. words_in (words n bytes)) some
-        ∙ first.words_are
-        ∙ ap (λ s. text_in bytes s ∷ words_in (words left (drop (first.span.end + 2) bytes))) same
-        ∙ ap (λ b. text_in bytes span ∷ words_in (words left b)) behind
+    ∙ ap (λ n. words_in (words n bytes)) some
+    ∙ first.words_are
+    ∙ ap (λ s. text_in bytes s ∷ words_in (words left (drop (first.span.end + 2) bytes))) same
+    ∙ ap (λ b. text_in bytes span ∷ words_in (words left b)) behind

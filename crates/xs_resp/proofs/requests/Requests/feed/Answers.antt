@@ -1,8 +1,8 @@
 use Rattle.std.proofs.Common.{◌≡◌, drop, refl, sym, subst}
 use Rattle.std.specs.Result.{IsErr, OnOk, OnErr}
-use Rattle.xs_resp.specs.Held.{fed}
+use Rattle.xs_resp.specs.HeldBytes.{fed}
 use Rattle.xs_resp.specs.State.{held_in}
-use Rattle.xs_resp.proofs.Holding.{not-failed, fed-state, fed-ok, fed-err}
+use Rattle.xs_resp.proofs.HeldBytes.{not-failed, fed-state, fed-ok, fed-err}
 use Rattle.xs_resp.proofs.requests.Requests.feed.Goals as goal
 
 pub invariant_of-self : goal.invariant_of-self

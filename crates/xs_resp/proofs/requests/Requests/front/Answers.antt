@@ -3,7 +3,7 @@ use Rattle.std.specs.Result.{IsOk}
 use Rattle.std.specs.Option.{IsSome}
 use Rattle.xs_resp.specs.declared.header.Part.TheVariants.{Count}
 use Rattle.xs_resp.specs.Header.{header}
-use Rattle.xs_resp.specs.Held.{front_of}
+use Rattle.xs_resp.specs.HeldBytes.{front_of}
 use Rattle.xs_resp.specs.Reading.{words, words_in, request, IsWhole}
 use Rattle.xs_resp.proofs.Fronts.{request-whole, behind-header}
 use Rattle.xs_resp.proofs.Reading.{header_ends}
@@ -55,7 +55,7 @@ returns c =
     let whole = subst (λ b. IsWhole (request b)) (sym held) c.requires.whole in
     let read : header Count c.rest_of-bytes.result.now ≡ Ok (Some c.unwrap-header.result) = sym c.read_header.ensures ∙ c.unwrap.ensures ∙ ap Ok c.unwrap-header.ensures in
     c.new.ensures
-        ∙ ap (λ b. words_in (words c.unwrap-header.result.number b)) c.rest_of.ensures
-        ∙ (behind-header c.rest_of-bytes.result.now c.unwrap-header.result read whole).1
-        ∙ ap (λ b. words_in (request b)) held
-        ∙ ap front_of (sym c.requires.holds)
+    ∙ ap (λ b. words_in (words c.unwrap-header.result.number b)) c.rest_of.ensures
+    ∙ (behind-header c.rest_of-bytes.result.now c.unwrap-header.result read whole).1
+    ∙ ap (λ b. words_in (request b)) held
+    ∙ ap front_of (sym c.requires.holds)

@@ -1,8 +1,8 @@
 use Rattle.std.proofs.Common.{◌≡◌, drop, Some, Ok, sym, ap, ◌∙◌, subst}
-use Rattle.xs_resp.specs.Held.{Ready}
+use Rattle.xs_resp.specs.HeldBytes.{Ready}
 use Rattle.xs_resp.specs.State.{held_in}
 use Rattle.xs_resp.specs.Progress.{Reaches}
-use Rattle.xs_resp.proofs.Holding.{ready-reached}
+use Rattle.xs_resp.proofs.HeldBytes.{ready-reached}
 use Rattle.xs_resp.proofs.requests.Requests.has_next.Goals as goal
 use Rattle.xs_resp.proofs.requests.Requests.has_next.Goals.{in-Between, in-Within}
 

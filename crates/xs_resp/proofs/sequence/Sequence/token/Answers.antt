@@ -1,7 +1,7 @@
 use Rattle.std.proofs.Common.{◌≡◌, ℕ, List, ◌+◌, ◌<◌, ◌≤◌, ◌∷◌, length, take, drop, get_or, sym, ap, ◌∙◌, add-one, arith, length-drop}
 use Rattle.xs_resp.specs.declared.mark.Mark.{Mark}
 use Rattle.xs_resp.specs.Token.{Token}
-use Rattle.xs_resp.specs.Left.{strings_of}
+use Rattle.xs_resp.specs.LeftToWrite.{strings_of}
 use Rattle.xs_resp.specs.Marks.{strings_length, string_length, token_in, tokens_in}
 use Rattle.xs_resp.proofs.TokensAt.{tokens-length, strings-take, lengths-next, token-at}
 use Rattle.xs_resp.proofs.sequence.Sequence.token.Goals as goal

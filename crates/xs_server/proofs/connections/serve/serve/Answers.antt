@@ -1,6 +1,6 @@
 use Rattle.std.proofs.Common.{[], refl}
 use Rattle.std.proofs.KnownBytes.{Consumes-nil, Appends-nil}
-use Rattle.xs_server.proofs.Exchanges.{answered-none}
+use Rattle.xs_server.proofs.AnsweredRequests.{answered-none}
 use Rattle.xs_server.proofs.connections.serve.serve.Goals as goal
 
 pub returns-in_default-clause-serves : goal.returns-in_default-clause-serves

@@ -1,5 +1,5 @@
 use Rattle.std.proofs.Common.{[], refl}
-use Rattle.xs_server.proofs.Exchanges.{answered-none}
+use Rattle.xs_server.proofs.AnsweredRequests.{answered-none}
 use Rattle.xs_server.proofs.connections.serve.serve_with.Goals as goal
 
 pub drive-requires-clause-new : goal.drive-requires-clause-new

@@ -3,7 +3,7 @@ use Rattle.std.proofs.lemmas.List.{append-nil}
 use Rattle.std.specs.Io.KnownBytes.{Consumes}
 use Rattle.std.proofs.KnownBytes.{Consumes-nil, Consumes-kept}
 use Rattle.xs_server.specs.Machine.{itself, input, reader}
-use Rattle.xs_server.proofs.Driving.{none-came}
+use Rattle.xs_server.proofs.MachineTurns.{none-came}
 use Rattle.xs_server.proofs.machines.drive.come.Goals as goal
 
 pub returns-in-Goes-clause-comes : goal.returns-in-Goes-clause-comes

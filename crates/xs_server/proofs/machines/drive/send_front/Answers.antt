@@ -1,5 +1,5 @@
 use Rattle.std.proofs.Common.{◌≡◌, ◌<◌, length, take, ap, arith, length-append}
-use Rattle.xs_server.proofs.Driving.{front-part}
+use Rattle.xs_server.proofs.MachineTurns.{front-part}
 use Rattle.xs_server.proofs.machines.drive.send_front.Goals as goal
 
 pub returns-in-Err-clause-err : goal.returns-in-Err-clause-err

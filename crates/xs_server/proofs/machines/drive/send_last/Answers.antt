@@ -1,7 +1,7 @@
 use Rattle.std.proofs.Common.{rules, true, false, ◌≡◌, [], ◌++◌, length, take, ap, ◌∙◌, subst, append_assoc, inl, inr, arith, length-append}
 use Rattle.std.proofs.lemmas.List.{append-nil}
 use Rattle.std.proofs.KnownBytes.{Appends-nil, Appends-trans}
-use Rattle.xs_server.proofs.Driving.{ends-later, empty-none, empty-some}
+use Rattle.xs_server.proofs.MachineTurns.{ends-later, empty-none, empty-some}
 use Rattle.xs_server.proofs.machines.drive.send_last.Goals as goal
 
 pub pieces-init : goal.pieces-init

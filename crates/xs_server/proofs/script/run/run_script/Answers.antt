@@ -1,7 +1,7 @@
 use Rattle.std.proofs.Common.{[], refl, sym, arith}
 use Rattle.std.proofs.KnownBytes.{Consumes-nil, Appends-nil}
 use Rattle.xs_keys.proofs.Contents.{content-none}
-use Rattle.xs_server.proofs.Sessions.{is-script}
+use Rattle.xs_server.proofs.ScriptHeadline.{is-script}
 use Rattle.xs_server.proofs.ScriptTurns.{few-none}
 use Rattle.xs_server.proofs.script.run.run_script.Goals as goal
 

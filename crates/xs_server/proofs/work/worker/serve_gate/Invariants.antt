@@ -1,4 +1,4 @@
-use Rattle.xs_desk.specs.Keeping.{KeepsSide}
+use Rattle.xs_desk.specs.KeptRings.{KeepsSide}
 use Rattle.xs_server.proofs.work.worker.serve_gate.Given as goal
 
 abbrev pub invariant-loop : goal.invariant-loop

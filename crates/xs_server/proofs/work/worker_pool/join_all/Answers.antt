@@ -2,10 +2,10 @@ use Rattle.std.proofs.Common.{rules, arith, ◌≡◌, List, [], ◌∷◌, ◌+
 use Rattle.std.specs.Vec.Iter.{into_iter_items}
 use Rattle.std.specs.declared.thread.PromisedHandle.{PromisedHandle}
 use Rattle.xs_desk.specs.Callers.{Caller}
-use Rattle.xs_desk.specs.Keeping.{KeepSides}
+use Rattle.xs_desk.specs.KeptRings.{KeepSides}
 use Rattle.xs_server.specs.declared.work.worker.Worked.{Worked}
 use Rattle.xs_server.specs.declared.work.worker_pool.SameSide.{SameSide}
-use Rattle.xs_server.proofs.Crews.{sides-more}
+use Rattle.xs_server.proofs.WorkerEnds.{sides-more}
 use Rattle.xs_server.proofs.work.worker_pool.join_all.Goals as goal
 
 abbrev client_of : PromisedHandle Worked SameSide → Caller

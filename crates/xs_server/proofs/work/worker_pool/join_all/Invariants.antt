@@ -1,7 +1,7 @@
 use Rattle.std.proofs.Common.{◌≡◌, ◌≤◌, ◌+◌, ◌++◌, List, length, map, vec_capacity}
 use Rattle.std.specs.Vec.Iter.{into_iter_items}
 use Rattle.xs_desk.specs.Callers.{Caller}
-use Rattle.xs_desk.specs.Keeping.{KeepSides}
+use Rattle.xs_desk.specs.KeptRings.{KeepSides}
 use Rattle.xs_server.proofs.work.worker_pool.join_all.Given as goal
 
 -- the ends are those of the first threads

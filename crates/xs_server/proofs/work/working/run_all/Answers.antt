@@ -1,7 +1,7 @@
 use Rattle.std.proofs.Common.{rules, ◌≡◌, true, List, ◌∙◌, subst}
 use Rattle.xs_desk.specs.Callers.{Caller}
-use Rattle.xs_desk.specs.Keeping.{KeepSides}
-use Rattle.xs_server.proofs.Crews.{same-count}
+use Rattle.xs_desk.specs.KeptRings.{KeepSides}
+use Rattle.xs_server.proofs.WorkerEnds.{same-count}
 use Rattle.xs_server.proofs.work.working.run_all.Goals as goal
 
 pub returns-clause-sides : goal.returns-clause-sides

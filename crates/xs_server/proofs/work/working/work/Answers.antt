@@ -1,10 +1,10 @@
 use Rattle.std.proofs.Common.{rules, arith, ◌≡◌, ℕ, List, ◌∙◌, ap, sym, subst, length, IfOk}
 use Rattle.std.proofs.lemmas.List.{length-map}
 use Rattle.xs_desk.specs.Callers.{Caller}
-use Rattle.xs_desk.specs.Keeping.{KeepSides}
+use Rattle.xs_desk.specs.KeptRings.{KeepSides}
 use Rattle.xs_desk.proofs.Keeps.{ends-new, ends-turned, ends-kept, keeps-count}
-use Rattle.xs_server.specs.Working.{IsClosed}
-use Rattle.xs_server.proofs.Crews.{all-there}
+use Rattle.xs_server.specs.WorkOutcome.{IsClosed}
+use Rattle.xs_server.proofs.WorkerEnds.{all-there}
 use Rattle.xs_server.proofs.work.working.work.Goals as goal
 
 pub conclude-requires-clause-ends : goal.conclude-requires-clause-ends

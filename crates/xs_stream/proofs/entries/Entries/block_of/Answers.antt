@@ -1,7 +1,7 @@
 use Rattle.std.proofs.Common.{not, sym, ap, ◌∙◌}
 use Rattle.std.specs.Option.{option_map}
 use Rattle.xs_stream.specs.Id.{is_below}
-use Rattle.xs_stream.proofs.Filing.{first-from, none-from, key-entry}
+use Rattle.xs_stream.proofs.FiledBlocks.{first-from, none-from, key-entry}
 use Rattle.xs_stream.proofs.entries.Entries.block_of.Goals as goal
 
 pub returns-in-Some : goal.returns-in-Some

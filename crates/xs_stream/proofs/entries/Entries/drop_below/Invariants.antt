@@ -1,7 +1,7 @@
 use Rattle.std.proofs.Common.{◌≡◌, length}
 use Rattle.xs_stream.specs.declared.id.Id.{Id}
 use Rattle.xs_stream.specs.declared.trim.Trim.TheVariants.{MinId}
-use Rattle.xs_stream.specs.Kept.{ids_of, Ascends, trimmed, AllUpTo}
+use Rattle.xs_stream.specs.StreamContent.{ids_of, Ascends, trimmed, AllUpTo}
 use Rattle.xs_stream.specs.Blocks.{all_of, IsLaidDown, filed_under}
 use Rattle.xs_stream.proofs.entries.Entries.drop_below.Given as goal
 

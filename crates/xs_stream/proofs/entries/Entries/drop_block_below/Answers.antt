@@ -1,7 +1,7 @@
 use Rattle.std.proofs.Common.{◌≡◌, ◌++◌, true, not, sym, ap, ◌∙◌, subst}
 use Rattle.xs_stream.specs.declared.trim.Trim.TheVariants.{MinId}
 use Rattle.xs_stream.specs.Id.{is_below}
-use Rattle.xs_stream.specs.Kept.{ids_of, Ascends, trimmed}
+use Rattle.xs_stream.specs.StreamContent.{ids_of, Ascends, trimmed}
 use Rattle.xs_stream.specs.Blocks.{listed, AreFiled}
 use Rattle.xs_stream.proofs.Order.{not_le-below, partial-le}
 use Rattle.xs_stream.proofs.Dropping.{first-splits, popped, trimmed-popped, ascends-popped}

@@ -1,6 +1,6 @@
 use Rattle.std.proofs.Common.{◌≡◌, ◌+◌, drop, length}
 use Rattle.xs_stream.specs.declared.id.Id.{Id}
-use Rattle.xs_stream.specs.Kept.{AllUpTo}
+use Rattle.xs_stream.specs.StreamContent.{AllUpTo}
 use Rattle.xs_stream.specs.Blocks.{all_of, IsLaidDown, filed_under}
 use Rattle.xs_stream.proofs.entries.Entries.drop_first.Given as goal
 

@@ -1,8 +1,8 @@
 use Rattle.std.proofs.Common.{not, sym, ap, ◌∙◌}
 use Rattle.std.specs.Option.{option_map, unwrap_or}
 use Rattle.xs_stream.specs.Id.{is_below}
-use Rattle.xs_stream.specs.Kept.{fields_at}
-use Rattle.xs_stream.proofs.Filing.{fields-block, lookup-entry, first-from, none-from}
+use Rattle.xs_stream.specs.StreamContent.{fields_at}
+use Rattle.xs_stream.proofs.FiledBlocks.{fields-block, lookup-entry, first-from, none-from}
 use Rattle.xs_stream.proofs.entries.Entries.get.Goals as goal
 
 pub returns-in-Some : goal.returns-in-Some

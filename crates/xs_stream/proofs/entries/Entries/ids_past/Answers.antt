@@ -1,6 +1,6 @@
 use Rattle.std.proofs.Common.{◌≡◌, List, take, Some, sym, ap, ◌∙◌, subst, IfOk}
 use Rattle.xs_stream.specs.declared.id.Id.{Id}
-use Rattle.xs_stream.specs.Kept.{ids_of}
+use Rattle.xs_stream.specs.StreamContent.{ids_of}
 use Rattle.xs_stream.specs.Blocks.{all_of}
 use Rattle.xs_stream.proofs.InOrder.{limited-none}
 use Rattle.xs_stream.proofs.Past.{past-within, past-none}

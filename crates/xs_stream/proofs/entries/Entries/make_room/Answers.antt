@@ -5,7 +5,7 @@ use Rattle.xs_stream.specs.declared.field.Field.{Field}
 use Rattle.xs_stream.specs.Id.{id_cmp}
 use Rattle.xs_stream.specs.Blocks.{listed}
 use Rattle.std.proofs.lemmas.Bool.Decides.{nat_tests}
-use Rattle.xs_stream.proofs.Filing.{insert-newest, listed-filed, filed-filed, keys-filed}
+use Rattle.xs_stream.proofs.FiledBlocks.{insert-newest, listed-filed, filed-filed, keys-filed}
 use Rattle.xs_stream.proofs.entries.Entries.make_room.Goals as goal
 
 some : (c : goal.Joined-insert-2) → length c.args.self.now.newest ≡ 0 → ⊥

@@ -1,7 +1,7 @@
 use Rattle.std.proofs.Common.{◌∷◌, [], ◌++◌, length, ap, arith, append_assoc}
 use Rattle.std.proofs.lemmas.List.{length_push}
 use Rattle.xs_stream.specs.Blocks.{listed}
-use Rattle.xs_stream.proofs.Filing.{filed-push}
+use Rattle.xs_stream.proofs.FiledBlocks.{filed-push}
 use Rattle.xs_stream.proofs.entries.Entries.push.Goals as goal
 
 pub returns-clause-laid_down : goal.returns-clause-laid_down

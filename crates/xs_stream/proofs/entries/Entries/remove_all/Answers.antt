@@ -2,7 +2,7 @@ use Rattle.std.proofs.Common.{take, sym, ap, ◌∙◌}
 use Rattle.std.specs.Map.{remove_entry}
 use Rattle.std.proofs.lemmas.List.{take_more}
 use Rattle.xs_stream.specs.Id.{is_same}
-use Rattle.xs_stream.specs.Kept.{without}
+use Rattle.xs_stream.specs.StreamContent.{without}
 use Rattle.xs_stream.specs.Blocks.{all_of}
 use Rattle.xs_stream.proofs.InOrder.{without-none, without-more}
 use Rattle.xs_stream.proofs.entries.Entries.remove_all.Goals as goal

@@ -1,6 +1,6 @@
 use Rattle.std.proofs.Common.{◌≡◌, take}
 use Rattle.xs_stream.specs.declared.id.Id.{Id}
-use Rattle.xs_stream.specs.Kept.{without, AllUpTo}
+use Rattle.xs_stream.specs.StreamContent.{without, AllUpTo}
 use Rattle.xs_stream.specs.Blocks.{all_of, IsLaidDown, filed_under}
 use Rattle.xs_stream.proofs.entries.Entries.remove_all.Given as goal
 

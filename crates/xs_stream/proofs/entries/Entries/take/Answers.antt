@@ -1,6 +1,6 @@
 use Rattle.std.proofs.Common.{not, sym}
 use Rattle.xs_stream.specs.Id.{is_below}
-use Rattle.xs_stream.proofs.Filing.{no_entry, listed-newest, filed-newest}
+use Rattle.xs_stream.proofs.FiledBlocks.{no_entry, listed-newest, filed-newest}
 use Rattle.xs_stream.proofs.entries.Entries.take.Goals as goal
 
 pub returns-in-None-clause-entries : goal.returns-in-None-clause-entries

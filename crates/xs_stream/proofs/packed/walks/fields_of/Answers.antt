@@ -1,5 +1,5 @@
 use Rattle.std.proofs.Common.{sym, ap, ◌∙◌, Some, ◌-◌, ◌+◌}
-use Rattle.xs_stream.specs.Kept.{fields_at}
+use Rattle.xs_stream.specs.StreamContent.{fields_at}
 use Rattle.xs_stream.specs.PackedText.{first_text}
 use Rattle.xs_stream.specs.Packed.{entries_in, body_fields}
 use Rattle.xs_stream.proofs.PackedBlocks.{lookup-passed, lookup-found}

@@ -1,5 +1,5 @@
 use Rattle.std.proofs.Common.{◌≡◌, ◌-◌}
-use Rattle.xs_stream.specs.Kept.{fields_at}
+use Rattle.xs_stream.specs.StreamContent.{fields_at}
 use Rattle.xs_stream.specs.PackedText.{first_text}
 use Rattle.xs_stream.specs.Packed.{entries_in, block_entries}
 use Rattle.xs_stream.proofs.packed.walks.fields_of.Given as goal

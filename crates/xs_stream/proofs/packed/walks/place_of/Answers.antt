@@ -3,7 +3,7 @@ use Rattle.std.proofs.lemmas.List.{length-drop}
 use Rattle.std.specs.Option.{is_some}
 use Rattle.std.specs.Map.{remove_entry}
 use Rattle.xs_stream.specs.Id.{is_same}
-use Rattle.xs_stream.specs.Kept.{fields_at}
+use Rattle.xs_stream.specs.StreamContent.{fields_at}
 use Rattle.xs_stream.specs.PackedText.{first_text}
 use Rattle.xs_stream.specs.Packed.{entries_in, after_entry, after_entries, entry_in, block_entries}
 use Rattle.xs_stream.proofs.PackedBlocks.{after_entries-more, lookup-passed, lookup-found, removed-passed, removed-found, take-passed, drop-passed, length-after_entry, joined, at-start}

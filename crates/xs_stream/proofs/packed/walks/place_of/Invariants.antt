@@ -1,7 +1,7 @@
 use Rattle.std.proofs.Common.{◌≡◌, ◌≤◌, ◌-◌, ◌++◌, take, drop, length}
 use Rattle.std.specs.Map.{remove_entry}
 use Rattle.xs_stream.specs.Id.{is_same}
-use Rattle.xs_stream.specs.Kept.{fields_at}
+use Rattle.xs_stream.specs.StreamContent.{fields_at}
 use Rattle.xs_stream.specs.PackedText.{first_text}
 use Rattle.xs_stream.specs.Packed.{entries_in, after_entries, block_entries}
 use Rattle.xs_stream.proofs.packed.walks.place_of.Given as goal

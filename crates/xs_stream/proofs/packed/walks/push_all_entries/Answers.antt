@@ -1,7 +1,7 @@
 use Rattle.std.proofs.Common.{◌∙◌, ◌++◌, ◌∷◌, [], List, sym, ap}
 use Rattle.xs_stream.specs.declared.id.Id.{Id}
 use Rattle.xs_stream.specs.declared.field.Field.{Field}
-use Rattle.xs_stream.specs.Kept.{is_within}
+use Rattle.xs_stream.specs.StreamContent.{is_within}
 use Rattle.xs_stream.specs.Packed.{body_fields}
 use Rattle.xs_stream.specs.PackedText.{first_text}
 use Rattle.xs_stream.proofs.PackedBlocks.{each_shown-taken, each_shown-left}

@@ -1,5 +1,5 @@
 use Rattle.std.proofs.Common.{◌≡◌, ◌-◌, ◌++◌, filter}
-use Rattle.xs_stream.specs.Kept.{is_within}
+use Rattle.xs_stream.specs.StreamContent.{is_within}
 use Rattle.xs_stream.specs.PackedText.{first_text}
 use Rattle.xs_stream.specs.Packed.{entries_in, block_entries}
 use Rattle.xs_stream.proofs.packed.walks.push_all_entries.Given as goal

@@ -1,5 +1,5 @@
 use Rattle.std.proofs.Common.{◌∙◌, sym, ap, arith, length}
-use Rattle.xs_stream.specs.Kept.{is_within}
+use Rattle.xs_stream.specs.StreamContent.{is_within}
 use Rattle.xs_stream.specs.PackedText.{first_text}
 use Rattle.xs_stream.proofs.PackedBlocks.{all-taken, all-left}
 use Rattle.xs_stream.proofs.packed.walks.push_ids.Goals as goal

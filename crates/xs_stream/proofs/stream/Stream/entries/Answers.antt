@@ -4,7 +4,7 @@ use Rattle.xs_stream.specs.declared.id.Id.{Id}
 use Rattle.xs_stream.specs.declared.field.Field.{Field}
 use Rattle.xs_stream.specs.declared.range.Range.{Range}
 use Rattle.xs_stream.specs.Id.{is_below}
-use Rattle.xs_stream.specs.Kept.{entries_within}
+use Rattle.xs_stream.specs.StreamContent.{entries_within}
 use Rattle.xs_stream.proofs.Order.{partial-below}
 use Rattle.xs_stream.proofs.WithinEntries.{within, within-none}
 use Rattle.xs_stream.proofs.stream.Stream.entries.Goals as goal

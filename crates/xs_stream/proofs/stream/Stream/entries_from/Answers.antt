@@ -1,5 +1,5 @@
 use Rattle.std.proofs.Common.{Result, Ok, Err, IfOk, subst, sym}
-use Rattle.xs_stream.specs.Kept.{AreEntriesOf}
+use Rattle.xs_stream.specs.StreamContent.{AreEntriesOf}
 use Rattle.xs_stream.proofs.Lending.{first-found}
 use Rattle.xs_stream.proofs.stream.Stream.entries_from.Goals as goal
 

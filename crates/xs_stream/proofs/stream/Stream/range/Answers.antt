@@ -1,7 +1,7 @@
 use Rattle.std.proofs.Common.{◌≡◌, true, false, Bool, List, [], sym, ◌∙◌, refl, reverse, ap, if◌then◌else◌}
 use Rattle.xs_stream.specs.declared.id.Id.{Id}
 use Rattle.xs_stream.specs.Id.{is_below}
-use Rattle.xs_stream.specs.Kept.{ids_of, limited}
+use Rattle.xs_stream.specs.StreamContent.{ids_of, limited}
 use Rattle.xs_stream.proofs.Order.{partial-below}
 use Rattle.xs_stream.proofs.InOrder.{within-none, limited-none}
 use Rattle.xs_stream.proofs.stream.Stream.range.Goals as goal

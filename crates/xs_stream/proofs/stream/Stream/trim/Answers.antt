@@ -1,5 +1,5 @@
 use Rattle.std.proofs.Common.{length, not, ap, arith}
-use Rattle.xs_stream.specs.Kept.{is_trimmed, ids_of}
+use Rattle.xs_stream.specs.StreamContent.{is_trimmed, ids_of}
 use Rattle.xs_stream.specs.Blocks.{all_of}
 use Rattle.xs_stream.proofs.InOrder.{length-filter-le, lawful-filter}
 use Rattle.xs_stream.proofs.stream.Stream.trim.Goals as goal

@@ -1,4 +1,4 @@
-use Rattle.xs_desk.specs.Keeping.{KeepsSide}
+use Rattle.xs_desk.specs.KeptRings.{KeepsSide}
 use Rattle.xs_desk_runs.proofs.tests.asking.AskingJob.run.Given as goal
 
 abbrev pub invariant-loop : goal.invariant-loop

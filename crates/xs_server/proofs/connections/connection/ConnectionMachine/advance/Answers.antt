@@ -3,17 +3,17 @@ use Rattle.xs_resp.specs.declared.fault.Fault.TheVariants as said
 use Rattle.xs_resp.specs.declared.fault.Fault.TheVariants.{Protocol}
 use Rattle.xs_resp.specs.declared.reply.Reply.TheVariants.{Error}
 use Rattle.xs_resp.specs.ReplyText.{text}
-use Rattle.xs_resp.specs.Left.{left}
+use Rattle.xs_resp.specs.LeftToWrite.{left}
 use Rattle.xs_resp.proofs.Decisions.{request-open, request-fault}
-use Rattle.xs_resp.specs.Held.{Next, Ready}
-use Rattle.xs_resp.proofs.Nexts.{next-words, next-none, next-same, next-fault, next-shorter, ready-next, ready-none, ready-wrong}
+use Rattle.xs_resp.specs.HeldBytes.{Next, Ready}
+use Rattle.xs_resp.proofs.NextRequest.{next-words, next-none, next-same, next-fault, next-shorter, ready-next, ready-none, ready-wrong}
 use Rattle.xs_server.specs.declared.connections.ending.ServeFault.TheVariants as fault
 use Rattle.xs_server.specs.Exchange.{Exchange}
 use Rattle.xs_server.specs.Machine.{itself}
 use Rattle.xs_server.specs.Connection.{ServesBy}
-use Rattle.xs_server.proofs.Driving.{empty-none, ends-now, none-came}
-use Rattle.xs_server.proofs.Endings.{settled, passed, port-ends, some-text, ends-quit, ends-refused}
-use Rattle.xs_server.proofs.Exchanges.{answered-again, answered-empty, one-answered, port-fails}
+use Rattle.xs_server.proofs.MachineTurns.{empty-none, ends-now, none-came}
+use Rattle.xs_server.proofs.ConnectionTurns.{settled, passed, port-ends, some-text, ends-quit, ends-refused}
+use Rattle.xs_server.proofs.AnsweredRequests.{answered-again, answered-empty, one-answered, port-fails}
 use Rattle.xs_server.proofs.connections.connection.ConnectionMachine.advance.Goals as goal
 
 pub returns-then-is_empty-clause-turns : goal.returns-then-is_empty-clause-turns

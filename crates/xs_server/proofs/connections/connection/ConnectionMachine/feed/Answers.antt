@@ -1,10 +1,10 @@
 use Rattle.std.proofs.Common.{Err, ◌++◌, length, ap, arith}
-use Rattle.xs_resp.specs.Left.{left}
+use Rattle.xs_resp.specs.LeftToWrite.{left}
 use Rattle.xs_server.specs.declared.connections.ending.ServeFault.TheVariants as fault
 use Rattle.xs_server.specs.Machine.{itself}
 use Rattle.xs_server.specs.Connection.{ServesBy}
-use Rattle.xs_server.proofs.Driving.{ends-now}
-use Rattle.xs_server.proofs.Endings.{settled, memory-ends}
+use Rattle.xs_server.proofs.MachineTurns.{ends-now}
+use Rattle.xs_server.proofs.ConnectionTurns.{settled, memory-ends}
 use Rattle.xs_server.proofs.connections.connection.ConnectionMachine.feed.Goals as goal
 
 pub returns-in-Err-clause-err : goal.returns-in-Err-clause-err

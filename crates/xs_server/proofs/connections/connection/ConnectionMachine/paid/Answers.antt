@@ -1,8 +1,8 @@
 use Rattle.std.proofs.Common.{◌≡◌, ◌<◌, [], ◌++◌, length, sym, ap, ◌∙◌, refl}
 use Rattle.std.proofs.lemmas.List.{append-nil}
-use Rattle.xs_resp.specs.Left.{left}
-use Rattle.xs_server.proofs.Driving.{empty-none, empty-some}
-use Rattle.xs_server.proofs.Endings.{stands-paid}
+use Rattle.xs_resp.specs.LeftToWrite.{left}
+use Rattle.xs_server.proofs.MachineTurns.{empty-none, empty-some}
+use Rattle.xs_server.proofs.ConnectionTurns.{stands-paid}
 use Rattle.xs_server.proofs.connections.connection.ConnectionMachine.paid.Goals as goal
 
 pub returns-then-is_empty-2-clause-stands : goal.returns-then-is_empty-2-clause-stands

@@ -1,10 +1,10 @@
 use Rattle.std.proofs.Common.{arith, ap, length, Err}
 use Rattle.xs_server.specs.declared.connections.ending.ServeFault.TheVariants as fault
-use Rattle.xs_resp.specs.Left.{left}
+use Rattle.xs_resp.specs.LeftToWrite.{left}
 use Rattle.xs_server.specs.Machine.{reader}
 use Rattle.xs_server.specs.Connection.{ServesBy}
-use Rattle.xs_server.proofs.Driving.{ends-now}
-use Rattle.xs_server.proofs.Endings.{settled, read-ends}
+use Rattle.xs_server.proofs.MachineTurns.{ends-now}
+use Rattle.xs_server.proofs.ConnectionTurns.{settled, read-ends}
 use Rattle.xs_server.proofs.connections.connection.ConnectionMachine.read_error.Goals as goal
 
 pub returns : goal.returns

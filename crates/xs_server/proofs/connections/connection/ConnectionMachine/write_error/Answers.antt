@@ -1,4 +1,4 @@
-use Rattle.xs_server.proofs.Endings.{stands-broken}
+use Rattle.xs_server.proofs.ConnectionTurns.{stands-broken}
 use Rattle.xs_server.proofs.connections.connection.ConnectionMachine.write_error.Goals as goal
 
 pub returns-clause-stands : goal.returns-clause-stands

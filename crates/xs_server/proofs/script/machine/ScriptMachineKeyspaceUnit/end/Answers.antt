@@ -1,6 +1,6 @@
 use Rattle.std.proofs.Common.{◌==◌, [], ◌∷◌, ◌++◌, length, Err, inl, inr, refl, ap, ◌∙◌, arith}
 use Rattle.xs_server.specs.Machine.{input}
-use Rattle.xs_server.proofs.Driving.{empty-none, empty-some}
+use Rattle.xs_server.proofs.MachineTurns.{empty-none, empty-some}
 use Rattle.xs_server.proofs.ScriptLines.{in-hand-last}
 use Rattle.xs_server.proofs.ScriptTurns.{all-said, ends-memory, ends-well, ends-wrong, last-answered, none-left}
 use Rattle.xs_server.proofs.script.machine.ScriptMachineKeyspaceUnit.end.Goals as goal

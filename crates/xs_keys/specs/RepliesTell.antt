@@ -4,24 +4,24 @@
 -- XCLAIM, XAUTOCLAIM, XPENDING, XACK, XDEL, XTRIM and XLEN, "RESP2 Reply".)
 use Rattle.std.specs.Prelude.{◌≡◌, ◌⊎◌, ℕ, ◌+◌, ◌-◌, ◌≤◌, Bool, true, false, List, [], ◌∷◌, ◌++◌, map, length, Option}
 use Rattle.std.specs.Prelude.{Some, None, is_some}
-use Rattle.xs_stream.specs.Kept.{is_within}
+use Rattle.xs_stream.specs.StreamContent.{is_within}
 use Rattle.xs_group.specs.declared.claims.Scan.{Scan}
 use Rattle.xs_group.specs.declared.claims.Claim as claims
 use Rattle.xs_command.specs.declared.command.PendingRowsCommand.{PendingRowsCommand}
-use Rattle.xs_keys.specs.Ground.{option_map_or, Id, Field, Command, Add, Delete, TrimTo, Len, ReadGroup, Ack, Pending}
-use Rattle.xs_keys.specs.Ground.{PendingRows, Claim, AutoClaim, Reply, Error, NoGroup, Int, Bulk, NullBulk, zero_id}
-use Rattle.xs_keys.specs.Ground.{has_id}
+use Rattle.xs_keys.specs.Terms.{option_map_or, Id, Field, Command, Add, Delete, TrimTo, Len, ReadGroup, Ack, Pending}
+use Rattle.xs_keys.specs.Terms.{PendingRows, Claim, AutoClaim, Reply, Error, NoGroup, Int, Bulk, NullBulk, zero_id}
+use Rattle.xs_keys.specs.Terms.{has_id}
 use Rattle.xs_keys.specs.Life.{key_life, given_at}
-use Rattle.xs_keys.specs.Ask.{Ask, claim, auto_claim, no_claim}
+use Rattle.xs_keys.specs.GroupAsk.{Ask, claim, auto_claim, no_claim}
 use Rattle.xs_keys.specs.GroupEvent.{GroupEvent, claim_of_event, scan_end_of_event, rows}
 use Rattle.xs_keys.specs.Owner.{owner}
-use Rattle.xs_keys.specs.Touched.{time_of, count_of}
+use Rattle.xs_keys.specs.TimesAndCounts.{time_of, count_of}
 use Rattle.xs_keys.specs.GroupLife.{GroupLife, group_life, present_in, has_all_groups}
 use Rattle.xs_keys.specs.ReplyParts.{array, array_or_null, id_reply}
 use Rattle.xs_keys.specs.Telling.{TellsEntry, TellsEach, AreFirst}
 use Rattle.xs_keys.specs.Step.{is_error}
 use Rattle.xs_keys.specs.Event.{Bytes, Event, History, Entries}
-use Rattle.xs_keys.specs.TellsReads.{owner_in, TellsReads}
+use Rattle.xs_keys.specs.ReadsTell.{owner_in, TellsReads}
 
 -- an addition tells the id of the one entry that it gives, with its fields, or that it gives none: by an error, or by
 -- the null bulk string if it may not make the key

@@ -4,7 +4,7 @@ use Rattle.std.proofs.Common.{inl, inr, sym, ◌∙◌, ap, subst, arith}
 use Rattle.std.proofs.lemmas.List.{length-map}
 use Rattle.xs_desk.specs.Callers.{Caller, HasEnd}
 use Rattle.xs_desk.specs.History.{LaneOf}
-use Rattle.xs_desk.specs.Keeping.{KeepsSide, KeepSides}
+use Rattle.xs_desk.specs.KeptRings.{KeepsSide, KeepSides}
 use Rattle.xs_desk.specs.Opening.{AreNew}
 use Rattle.xs_desk.proofs.Lists.{snoc-cases, still-at, last-at, some-at}
 

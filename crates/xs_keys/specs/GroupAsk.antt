@@ -2,8 +2,8 @@
 -- (Redis, XREADGROUP, XACK, XGROUP CREATECONSUMER and DELCONSUMER, XCLAIM, XAUTOCLAIM.)
 use Rattle.std.specs.Prelude.{ℕ, Bool, false, not, List, [], Option, Some, None, option_and_then, if◌then◌else◌}
 use Rattle.xs_group.specs.declared.claims.Claim.{Claim}
-use Rattle.xs_keys.specs.Ground.{option_map_or, Id, has_id, Rule, Row, is_name, delivers, claim_of, scan_of, zero_id}
-use Rattle.xs_keys.specs.Ground.{first_row, shown, reread, claimed, unless_acked, unless_owned}
+use Rattle.xs_keys.specs.Terms.{option_map_or, Id, has_id, Rule, Row, is_name, delivers, claim_of, scan_of, zero_id}
+use Rattle.xs_keys.specs.Terms.{first_row, shown, reread, claimed, unless_acked, unless_owned}
 use Rattle.xs_keys.specs.Event.{Bytes, PendingEntries}
 
 -- what is asked; each but an acknowledgement names a consumer
@@ -33,7 +33,8 @@ claim_of_ask _ now present rows = no_claim
 
 -- where a scan goes on, over the rows it meets, or 0-0 if it came to their end
 abbrev pub scan_end_of_ask : Ask → ℕ → List Id → PendingEntries → Id
-scan_end_of_ask (auto_claim consumer rule start limit) now present rows = (scan_of rows present now rule start limit).cursor
+scan_end_of_ask (auto_claim consumer rule start limit) now present rows =
+    (scan_of rows present now rule start limit).cursor
 scan_end_of_ask _ now present rows = zero_id
 
 -- the consumer that asks, or is asked for

@@ -3,12 +3,12 @@ use Rattle.std.specs.Prelude.{◌≡◌, ◌⊎◌, ℕ, ◌≤◌, ◌+◌, ◌
 use Rattle.std.specs.Prelude.{map, filter, length, is_some}
 use Rattle.xs_stream.specs.Id.{is_same}
 use Rattle.xs_group.specs.Verdict.{AreApart}
-use Rattle.xs_keys.specs.Ground.{option_map_or, Id, is_below, has_id, zero_id}
-use Rattle.xs_keys.specs.Ask.{Ask, claim, auto_claim, rule_of}
+use Rattle.xs_keys.specs.Terms.{option_map_or, Id, is_below, has_id, zero_id}
+use Rattle.xs_keys.specs.GroupAsk.{Ask, claim, auto_claim, rule_of}
 use Rattle.xs_keys.specs.GroupEvent.{GroupEvent, claim_of_event, scan_end_of_event, rows}
 use Rattle.xs_keys.specs.Owner.{takes}
 use Rattle.xs_keys.specs.Owner.{is_removed_by_claim, owner}
-use Rattle.xs_keys.specs.Touched.{time_of}
+use Rattle.xs_keys.specs.TimesAndCounts.{time_of}
 use Rattle.xs_keys.specs.Event.{PendingEntries}
 
 -- the least idle time that is asked for
@@ -51,7 +51,8 @@ abbrev pub most_hits : Ask → ℕ
 most_hits (auto_claim consumer rule start limit) = limit
 most_hits _ = 0
 
--- over these rows a claim takes and removes as many as it may, or it comes to ten times as many rows, so that it may stop
+-- over these rows a claim takes and removes as many as it may, or it comes to ten times as many rows, so that it may
+-- stop
 abbrev pub MayStop : GroupEvent → PendingEntries → Type 0
 MayStop event rows =
     (most_hits event.ask ≤ length (claim_of_event event rows).take + length (claim_of_event event rows).removed)
@@ -61,8 +62,8 @@ MayStop event rows =
 abbrev pub is_asked_for : GroupEvent → PendingEntries → Id → Bool
 is_asked_for event rows x = is_named_by event.ask x || comes_to event rows x
 
--- a claim takes the entry exactly if it is asked for it and may take it, and removes it exactly if it is asked for it and
--- it has left the stream
+-- a claim takes the entry exactly if it is asked for it and may take it, and removes it exactly if it is asked for it
+-- and it has left the stream
 pub record ClaimsWhatIsAsked (start : Id) (past : List GroupEvent) (event : GroupEvent) (x : Id) : Type 0 where
   pub takes_idle : takes start past event x ≡ true → IsTakenWhenIdle start past event x
   pub removes_gone : is_removed_by_claim start past event x ≡ true → IsRemovedWhenGone start past event x

@@ -1,14 +1,14 @@
 -- The content that each command leaves. (The pages of the commands.)
 use Rattle.std.specs.Prelude.{ℕ, List, Option, Some, None, Bool, [], ◌∷◌, ◌++◌, option_and_then, Result, Ok, Err}
 use Rattle.std.specs.Prelude.{is_some, if◌then◌else◌}
-use Rattle.xs_keys.specs.Ground.{list_all, option_or, option_map_or, get, Id, Kept, ids_of, State, Command, empty}
-use Rattle.xs_keys.specs.Ground.{has_key, insert, remove, Field, Trim, AddError, zero_id, assigned, trimmed, without}
-use Rattle.xs_keys.specs.Ground.{joined, delivered_to, reread_by, claim_of, scan_of, claimed_by, new_group, acked}
-use Rattle.xs_keys.specs.Ground.{without_consumer, Add, Delete, TrimTo, GroupCreate, GroupDestroy, ConsumerCreate}
-use Rattle.xs_keys.specs.Ground.{ConsumerDelete, ReadGroup, Ack, Claim, AutoClaim, DropKeys, GroupCreateCommand}
-use Rattle.xs_keys.specs.Ground.{ReadGroupCommand, ReadOne}
+use Rattle.xs_keys.specs.Terms.{list_all, option_or, option_map_or, get, Id, Kept, ids_of, State, Command, empty}
+use Rattle.xs_keys.specs.Terms.{has_key, insert, remove, Field, Trim, AddError, zero_id, assigned, trimmed, without}
+use Rattle.xs_keys.specs.Terms.{joined, delivered_to, reread_by, claim_of, scan_of, claimed_by, new_group, acked}
+use Rattle.xs_keys.specs.Terms.{without_consumer, Add, Delete, TrimTo, GroupCreate, GroupDestroy, ConsumerCreate}
+use Rattle.xs_keys.specs.Terms.{ConsumerDelete, ReadGroup, Ack, Claim, AutoClaim, DropKeys, GroupCreateCommand}
+use Rattle.xs_keys.specs.Terms.{ReadGroupCommand, ReadOne}
 use Rattle.xs_keys.specs.Life.{Change, added, deleted, trimmed_to}
-use Rattle.xs_keys.specs.Ask.{Ask, read_new, read_own, ack, join, leave, claim, auto_claim}
+use Rattle.xs_keys.specs.GroupAsk.{Ask, read_new, read_own, ack, join, leave, claim, auto_claim}
 use Rattle.xs_keys.specs.GroupLife.{starting_id, ask_of_read}
 use Rattle.xs_keys.specs.Event.{Bytes, Entries}
 use Rattle.xs_keys.specs.Content.{Key, Content}

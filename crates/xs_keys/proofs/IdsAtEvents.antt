@@ -5,9 +5,10 @@ use Rattle.std.proofs.lemmas.Bool.{false≢true, and_from, or_left, or_right}
 use Rattle.xs_stream.specs.Id.{is_below, is_same, has_id, zero_id}
 use Rattle.xs_stream.proofs.Order.{is_same-refl, up_to-below, not_above-trans}
 use Rattle.xs_stream.proofs.InOrder.{ids_of-append, ids_of-filter}
-use Rattle.xs_keys.specs.Ground.{list_all, option_map, option_or, Id, ids_of, AllAbove, AllUpTo, limited, is_name, Command, Ping, Quit, Add, Delete, TrimTo, Len, Scan, GroupCreate, GroupDestroy, ConsumerCreate, ConsumerDelete, ReadGroup, Ack, Pending, PendingRows, Claim, AutoClaim, DropKeys, GroupCreateCommand, ReadGroupCommand, ReadOne}
+use Rattle.xs_keys.specs.Event.{History}
+use Rattle.xs_keys.specs.Terms.{list_all, option_map, option_or, Id, ids_of, AllAbove, AllUpTo, limited, is_name, Command, Ping, Quit, Add, Delete, TrimTo, Len, Scan, GroupCreate, GroupDestroy, ConsumerCreate, ConsumerDelete, ReadGroup, Ack, Pending, PendingRows, Claim, AutoClaim, DropKeys, GroupCreateCommand, ReadGroupCommand, ReadOne}
 use Rattle.xs_keys.specs.Life.{Change, added, deleted, trimmed_to, is_listed, opened, key_life_after, key_life, greatest, gives, given_in, top, stands, live}
-use Rattle.xs_keys.specs.Ask.{Ask, read_new, read_own, join, leave, ack, claim, auto_claim, new_ids_of_ask}
+use Rattle.xs_keys.specs.GroupAsk.{Ask, read_new, read_own, join, leave, ack, claim, auto_claim, new_ids_of_ask}
 use Rattle.xs_keys.specs.GroupEvent.{GroupEvent, new_ids_of_event, delivered, cursor}
 use Rattle.xs_keys.specs.GroupLife.{GroupLife, present_in, new_life, life_after_ask, ask_of_read, life_after_reads, group_life_after, reads_of, group_of, group_life}
 use Rattle.xs_keys.proofs.Truths.{first_of, second_of}
@@ -214,13 +215,13 @@ sees-lived now (DropKeys keys) key group served stream life h = by (is_listed ke
   by true = tt
   by false = h
 
-pub sees-life : (past : List (ℕ × Command)) (key group : List ℕ) → SeesItsKey (key_life past key) (group_life past key group)
+pub sees-life : (past : History) (key group : List ℕ) → SeesItsKey (key_life past key) (group_life past key group)
 sees-life [] key group = tt
 sees-life (e ∷ past) key group =
     sees-lived e.0 e.1 key group (list_all (λ one. is_some (group_life past one.key (group_of e.1))) (reads_of e.1)) (key_life past key) (group_life past key group) (sees-life past key group)
 
 -- the open lives of a key and of a group of it
-pub sees-of : (past : List (ℕ × Command)) (key group : List ℕ) (changes : List Change) (life : GroupLife) → key_life past key ≡ Some changes → group_life past key group ≡ Some life → Sees changes life.events
+pub sees-of : (past : History) (key group : List ℕ) (changes : List Change) (life : GroupLife) → key_life past key ≡ Some changes → group_life past key group ≡ Some life → Sees changes life.events
 sees-of past key group changes life k g = subst (λ l. SeesItsKey (Some changes) l) g (subst (λ s. SeesItsKey s (group_life past key group)) k (sees-life past key group))
 
 -- ---- what was delivered was given

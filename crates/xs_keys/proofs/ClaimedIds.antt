@@ -11,13 +11,13 @@ use Rattle.xs_group.specs.declared.claims.ClaimTime.TheVariants as claim_time
 use Rattle.xs_group.specs.State.{Row, idle, delivers}
 use Rattle.xs_group.specs.Claims.{Rule, row_at, is_idle, is_taken, is_removed, is_hit, is_enough, prefixes, first_where, firsts, scanned, from_start, first_or_zero, claim_among}
 use Rattle.xs_group.specs.Verdict.{AreApart}
-use Rattle.xs_group.proofs.Settling.{apart-filter, apart-firsts}
-use Rattle.xs_keys.specs.Ground.{option_map_or, Id, Ascends, AllAbove}
+use Rattle.xs_group.proofs.CarriedOutClaims.{apart-filter, apart-firsts}
+use Rattle.xs_keys.specs.Terms.{option_map_or, Id, Ascends, AllAbove}
 use Rattle.xs_keys.specs.Life.{greatest}
-use Rattle.xs_keys.specs.Ask.{Ask, read_new, read_own, ack, join, leave, claim, auto_claim, claim_of_ask, scan_end_of_ask, rule_of, new_ids_of_ask}
+use Rattle.xs_keys.specs.GroupAsk.{Ask, read_new, read_own, ack, join, leave, claim, auto_claim, claim_of_ask, scan_end_of_ask, rule_of, new_ids_of_ask}
 use Rattle.xs_keys.specs.GroupEvent.{GroupEvent, delivered, pending_row_at, rows, new_ids_of_event, cursor}
 use Rattle.xs_keys.specs.Owner.{takes, is_removed_by_claim, owner}
-use Rattle.xs_keys.specs.Taken.{least_idle, IsTakenWhenIdle, IsRemovedWhenGone, is_before, comes_to, is_asked_for, MayStop, ClaimsWhatIsAsked, ClaimsInTurn, ClaimsWhatIsIdle}
+use Rattle.xs_keys.specs.ClaimsTake.{least_idle, IsTakenWhenIdle, IsRemovedWhenGone, is_before, comes_to, is_asked_for, MayStop, ClaimsWhatIsAsked, ClaimsInTurn, ClaimsWhatIsIdle}
 use Rattle.xs_keys.specs.EachDelivery.{DeliversInFull}
 use Rattle.xs_keys.proofs.Truths.{first_of, second_of, or_false}
 use Rattle.xs_keys.proofs.IdLists.{has_id-where, has_id-append, ascends-where, not_among}
@@ -25,11 +25,11 @@ use Rattle.xs_stream.proofs.Order.{not_above-trans}
 use Rattle.xs_keys.proofs.Streams.{greatest-up, up_to-greatest}
 use Rattle.xs_keys.proofs.GroupSteps.{cursor-step}
 use Rattle.xs_keys.proofs.Deliveries.{PresentAscends, past-start}
-use Rattle.xs_keys.proofs.Sights.{above-has}
+use Rattle.xs_keys.proofs.IdsAtEvents.{above-has}
 use Rattle.xs_keys.proofs.Owners.{owner-row, row-found, of_row}
 use Rattle.xs_keys.proofs.JobBooks.{ids-among, ascends-rows, ascends-same, same_truth, not_itself}
 use Rattle.xs_keys.proofs.ScanParts.{Begins, scanned-begins, AreNotZero, above-not_zero, before-part, part-before}
-use Rattle.xs_keys.proofs.Touches.{is-last-touched}
+use Rattle.xs_keys.proofs.TimesOfRows.{is-last-touched}
 
 -- ---- the ids that a claim looks at
 

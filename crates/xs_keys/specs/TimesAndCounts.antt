@@ -3,8 +3,8 @@
 use Rattle.std.specs.Prelude.{◌≡◌, ℕ, Bool, List, [], ◌∷◌, Some, ◌&&◌, ◌||◌, if◌then◌else◌}
 use Rattle.xs_group.specs.Claims.{row_at, claim_time, claim_count}
 use Rattle.xs_group.specs.State.{raised}
-use Rattle.xs_keys.specs.Ground.{option_map_or, Id, Row, has_id, shown}
-use Rattle.xs_keys.specs.Ask.{Ask, read_new, read_own, rule_of}
+use Rattle.xs_keys.specs.Terms.{option_map_or, Id, Row, has_id, shown}
+use Rattle.xs_keys.specs.GroupAsk.{Ask, read_new, read_own, rule_of}
 use Rattle.xs_keys.specs.GroupEvent.{GroupEvent, rows}
 use Rattle.xs_keys.specs.Owner.{is_assigned_by}
 use Rattle.xs_keys.specs.Event.{PendingEntries}

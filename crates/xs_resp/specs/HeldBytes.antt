@@ -1,11 +1,12 @@
 -- What a reader of requests holds, and what its calls do.
-use Rattle.std.specs.Prelude.{◌≡◌, ℕ, ◌==◌, Bool, true, false, not, List, [], ◌++◌, length, drop, Option, Some, None, Result, Ok}
+use Rattle.std.specs.Prelude.{◌≡◌, ℕ, ◌==◌, Bool, true, false, not, List, [], ◌++◌, length, drop, Option, Some, None}
+use Rattle.std.specs.Prelude.{Result, Ok}
 use Rattle.std.specs.Prelude.{Err, ◌⊎◌}
 use Rattle.xs_resp.specs.declared.read_fault.Wrong.{Wrong}
 use Rattle.xs_resp.specs.declared.read_fault.ReadFault.{ReadFault}
 use Rattle.xs_resp.specs.declared.read_fault.ReadFault.TheVariants.{Memory}
 use Rattle.xs_resp.specs.Outcome.{Outcome}
-use Rattle.xs_resp.specs.Faulting.{fault_of}
+use Rattle.xs_resp.specs.ReadFaults.{fault_of}
 use Rattle.xs_resp.specs.Reading.{Found, request, words_in, IsWhole}
 
 -- the bytes that a reader holds, or the fault with which it has failed

@@ -5,7 +5,7 @@ use Rattle.xs_resp.specs.declared.encoder.Fit.TheVariants.{Whole, Header, Nothin
 use Rattle.xs_resp.specs.Line.{crlf}
 use Rattle.xs_resp.specs.Token.{Token}
 use Rattle.xs_resp.specs.ReplyText.{token_text}
-use Rattle.xs_resp.specs.Left.{string_of}
+use Rattle.xs_resp.specs.LeftToWrite.{string_of}
 
 -- behind its header a token has its string and the end of a line
 abbrev pub Appends : Fit → List ℕ → List ℕ → Token → Type 0

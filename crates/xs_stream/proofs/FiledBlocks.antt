@@ -14,11 +14,11 @@ use Rattle.std.specs.declared.ops.Bound.TheVariants.{Included, Excluded, Unbound
 use Rattle.xs_stream.specs.declared.id.Id.{Id}
 use Rattle.xs_stream.specs.declared.field.Field.{Field}
 use Rattle.xs_stream.specs.Id.{id_cmp, is_below, is_same}
-use Rattle.xs_stream.specs.Kept.{ids_of, AllAbove, AllUpTo, fields_at}
+use Rattle.xs_stream.specs.StreamContent.{ids_of, AllAbove, AllUpTo, fields_at}
 use Rattle.xs_stream.specs.Blocks.{listed, AreFiled}
 use Rattle.xs_stream.proofs.Order.{is_same-eq, is_same-refl, is_same-symm, below-not_same, below-irrefl, up_to-below, above-greater, below-not_below, le-not_below}
 use Rattle.xs_stream.proofs.InOrder.{ids_of-append, above-push, and_yes}
-use Rattle.xs_stream.proofs.Places.{remove-none}
+use Rattle.xs_stream.proofs.PlacesInLists.{remove-none}
 
 abbrev Entries : Type 0
 Entries = List (Id × List Field)

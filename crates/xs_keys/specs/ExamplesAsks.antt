@@ -9,13 +9,13 @@ use Rattle.xs_group.specs.declared.claims.ClaimTime.TheVariants as time
 use Rattle.xs_group.specs.Claims.{Rule}
 use Rattle.xs_group.specs.State.{Row}
 use Rattle.xs_group.specs.ExamplesRead.{pending}
-use Rattle.xs_keys.specs.Ask.{Ask, read_new, read_own, ack, join, claim, auto_claim}
+use Rattle.xs_keys.specs.GroupAsk.{Ask, read_new, read_own, ack, join, claim, auto_claim}
 use Rattle.xs_keys.specs.GroupEvent.{rows, is_consumer}
-use Rattle.xs_keys.specs.Ask.{leave}
+use Rattle.xs_keys.specs.GroupAsk.{leave}
 use Rattle.xs_keys.specs.GroupEvent.{is_their_turn}
 use Rattle.xs_keys.specs.Owner.{is_settled, settles, owner, is_removed_by_claim}
-use Rattle.xs_keys.specs.Touched.{is_redelivered_by, is_touched_by, time_of, count_of}
-use Rattle.xs_keys.specs.Taken.{least_idle, is_named_by, is_from_start, is_before, comes_to, MayStop}
+use Rattle.xs_keys.specs.TimesAndCounts.{is_redelivered_by, is_touched_by, time_of, count_of}
+use Rattle.xs_keys.specs.ClaimsTake.{least_idle, is_named_by, is_from_start, is_before, comes_to, MayStop}
 use Rattle.xs_keys.specs.ExamplesHistory.{of_group, group_and}
 use Rattle.xs_keys.specs.ExamplesGroupEvents.{start, event, event_without, read_by_a, noack_by_b, first_by_a}
 use Rattle.xs_keys.specs.ExamplesGroupEvents.{claim_by_b}

@@ -4,12 +4,12 @@ use Rattle.std.specs.Prelude.{◌≡◌, ◌⊎◌, Bool, true, false, not, ◌&
 use Rattle.std.specs.Prelude.{if◌then◌else◌}
 use Rattle.xs_command.specs.WellFormed.{IsWellFormed}
 use Rattle.xs_stream.specs.declared.trim.Trim.TheVariants.{MaxLen, MinId}
-use Rattle.xs_keys.specs.Ground.{option_map_or, Id, Trim, is_below, has_id, Command, Add, GroupStart, Top, At}
-use Rattle.xs_keys.specs.Ground.{GroupCreate}
+use Rattle.xs_keys.specs.Terms.{option_map_or, Id, Trim, is_below, has_id, Command, Add, GroupStart, Top, At}
+use Rattle.xs_keys.specs.Terms.{GroupCreate}
 use Rattle.xs_keys.specs.Life.{key_life}
 use Rattle.xs_keys.specs.GroupLife.{present_in}
 use Rattle.xs_keys.specs.Event.{Bytes, Event, History}
-use Rattle.xs_keys.specs.Place.{Place, before_start, waiting, dropped, handed_out, pending, settled, place_after}
+use Rattle.xs_keys.specs.JobPlace.{Place, before_start, waiting, dropped, handed_out, pending, settled, place_after}
 use Rattle.xs_keys.specs.Effect.{deletes_entry, trims_entry, reads_new_entries_in, with_noack, claims_by_id}
 use Rattle.xs_keys.specs.Effect.{claims_entry, consumer_of_command, acknowledges_entry, removes_consumer, begins_job}
 use Rattle.xs_keys.specs.Effect.{ends_group}
@@ -18,9 +18,11 @@ use Rattle.xs_keys.specs.Effect.{ends_group}
 abbrev pub HasArrow : Command → Bytes → Bytes → List Id → Id → Place → Place → Type 0
 HasArrow command key group present x waiting dropped =
     (deletes_entry command key x || trims_entry command key present x) ≡ true
-HasArrow command key group present x waiting handed_out = (reads_new_entries_in command key group && with_noack command) ≡ true
+HasArrow command key group present x waiting handed_out =
+    (reads_new_entries_in command key group && with_noack command) ≡ true
 HasArrow command key group present x waiting (pending consumer) =
-    ((reads_new_entries_in command key group && not (with_noack command)) ≡ true) × (consumer_of_command command ≡ Some consumer)
+    ((reads_new_entries_in command key group && not (with_noack command)) ≡ true)
+    × (consumer_of_command command ≡ Some consumer)
 HasArrow command key group present x (pending one) (pending other) =
     ((claims_entry command key group x && has_id present x) ≡ true) × (consumer_of_command command ≡ Some other)
 HasArrow command key group present x (pending consumer) settled =

@@ -1,7 +1,7 @@
 -- The books of a group: each entry has one place, and the numbers add up. (Redis Streams, "Consumer groups"; XPENDING.)
 use Rattle.std.specs.Prelude.{◌≡◌, ℕ, ◌+◌, Bool, true, false, List, ◌∷◌, ◌++◌, filter, map, length, Some, None}
 use Rattle.xs_group.specs.State.{owned}
-use Rattle.xs_keys.specs.Ground.{Id, is_below, has_id, ids_of, is_name, delivers, Pending, Reply, Int}
+use Rattle.xs_keys.specs.Terms.{Id, is_below, has_id, ids_of, is_name, delivers, Pending, Reply, Int}
 use Rattle.xs_keys.specs.Life.{Change, key_life, given_in, live}
 use Rattle.xs_keys.specs.GroupEvent.{cursor, rows}
 use Rattle.xs_keys.specs.GroupLife.{GroupLife, group_life}
@@ -9,8 +9,8 @@ use Rattle.xs_keys.specs.Content.{Content}
 use Rattle.xs_keys.specs.ReplyParts.{array}
 use Rattle.xs_keys.specs.Reply.{reply}
 use Rattle.xs_keys.specs.Event.{Bytes, History}
-use Rattle.xs_keys.specs.Place.{Place, before_start, waiting, dropped, handed_out, pending, settled, place_of}
-use Rattle.xs_keys.specs.Place.{HasOnePlace}
+use Rattle.xs_keys.specs.JobPlace.{Place, before_start, waiting, dropped, handed_out, pending, settled, place_of}
+use Rattle.xs_keys.specs.JobPlace.{HasOnePlace}
 
 -- the same place
 abbrev pub is_at : Place → Place → Bool

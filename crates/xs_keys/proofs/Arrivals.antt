@@ -2,9 +2,10 @@
 use Rattle.std.proofs.Common.{◌≡◌, ◌⊎◌, inl, inr, ℕ, Bool, true, false, cond, ◌&&◌, List, [], ◌∷◌, Option, Some, None, is_some, sym, ap, subst, ◌∙◌, refl}
 use Rattle.std.proofs.lemmas.Bool.{false≢true}
 use Rattle.std.proofs.lemmas.List.{append-nil}
-use Rattle.xs_keys.specs.Ground.{list_all, option_map, option_map_or, Id, Field, zero_id, is_name, Command, Ping, Quit, Add, Delete, TrimTo, Len, Scan, GroupCreate, GroupDestroy, ConsumerCreate, ConsumerDelete, ReadGroup, Ack, Pending, PendingRows, Claim, AutoClaim, DropKeys, GroupCreateCommand, GroupStart, Top, At}
+use Rattle.xs_keys.specs.Event.{Event, History}
+use Rattle.xs_keys.specs.Terms.{list_all, option_map, option_map_or, Id, Field, zero_id, is_name, Command, Ping, Quit, Add, Delete, TrimTo, Len, Scan, GroupCreate, GroupDestroy, ConsumerCreate, ConsumerDelete, ReadGroup, Ack, Pending, PendingRows, Claim, AutoClaim, DropKeys, GroupCreateCommand, GroupStart, Top, At}
 use Rattle.xs_keys.specs.Life.{Change, added, deleted, trimmed_to, is_listed, opened, key_life_after, key_life, given_in, top, top_of}
-use Rattle.xs_keys.specs.Ask.{Ask, join, leave, ack, claim, auto_claim}
+use Rattle.xs_keys.specs.GroupAsk.{Ask, join, leave, ack, claim, auto_claim}
 use Rattle.xs_keys.specs.GroupLife.{GroupLife, present_in, starting_id, new_life, life_after_ask, group_life_after, reads_of, group_of, group_life}
 use Rattle.xs_keys.specs.Presence.{adds_or_drops, EntriesAreAdded, StartsBehind, MakesGroup, GroupsAreCreated}
 use Rattle.xs_keys.proofs.Lives.{no-life-read}
@@ -52,7 +53,7 @@ given-stays now (DropKeys keys) key life = by (is_listed keys key) where
   by true = inr refl
   by false = inl refl
 
-pub entries-added : (earlier : List (ℕ × Command)) (e : ℕ × Command) → EntriesAreAdded earlier e
+pub entries-added : (earlier : History) (e : Event) → EntriesAreAdded earlier e
 entries-added earlier e = λ key. given-stays e.0 e.1 key (key_life earlier key)
 
 -- ---- groups
@@ -108,7 +109,7 @@ makes-group now (Claim c) key group served stream life e = never _ (asked-none n
 makes-group now (AutoClaim c) key group served stream life e = never _ (asked-none now (present_in stream) (auto_claim c.consumer c.rule c.start c.limit) (is_name key c.key && is_name group c.group)) life e
 makes-group now (DropKeys keys) key group served stream life e = never _ (either-none (is_listed keys key) None refl) life e
 
-pub groups-created : (earlier : List (ℕ × Command)) (e : ℕ × Command) → GroupsAreCreated earlier e
+pub groups-created : (earlier : History) (e : Event) → GroupsAreCreated earlier e
 groups-created earlier e = λ key group life none is.
     let served = list_all (λ one. is_some (group_life earlier one.key (group_of e.1))) (reads_of e.1) in
     makes-group e.0 e.1 key group served (key_life earlier key) life

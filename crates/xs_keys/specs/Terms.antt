@@ -9,8 +9,9 @@ pub use Rattle.xs_stream.specs.declared.trim.Trim.{Trim}
 pub use Rattle.xs_stream.specs.declared.field.Field.{Field}
 pub use Rattle.xs_stream.specs.declared.add.AddError.{AddError}
 pub use Rattle.xs_stream.specs.Id.{is_below, has_id, zero_id, printed, assigned}
-pub use Rattle.xs_stream.specs.Kept.{Kept, ids_of, is_trimmed, trimmed, without, fields_at, ids_within, limited}
-pub use Rattle.xs_stream.specs.Kept.{Ascends, AllUpTo, AllAbove}
+pub use Rattle.xs_stream.specs.StreamContent.{Kept}
+pub use Rattle.xs_stream.specs.StreamContent.{ids_of, is_trimmed, trimmed, without, fields_at, ids_within, limited}
+pub use Rattle.xs_stream.specs.StreamContent.{Ascends, AllUpTo, AllAbove}
 pub use Rattle.xs_group.specs.State.{is_name, Row, State, has_name, new_group, joined, unless_acked, acked}
 pub use Rattle.xs_group.specs.State.{unless_owned, without_consumer, delivers, first_row, delivered_to, shown, reread}
 pub use Rattle.xs_group.specs.State.{reread_by}

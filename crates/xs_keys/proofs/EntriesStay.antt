@@ -2,14 +2,15 @@
 use Rattle.std.proofs.Common.{◌≡◌, ℕ, Bool, true, false, cond, not, ◌&&◌, ◌||◌, List, [], ◌∷◌, ◌++◌, filter, Option, Some, None, is_some, sym, ap, ◌∙◌, refl}
 use Rattle.std.proofs.lemmas.Bool.{false≢true, and_from, or_left}
 use Rattle.std.proofs.lemmas.List.{append-nil}
-use Rattle.xs_keys.specs.Ground.{list_all, option_map, option_map_or, option_or, Id, has_id, assigned, zero_id, ids_of, is_trimmed, is_name, Command, Ping, Quit, Add, Delete, TrimTo, Len, Scan, GroupCreate, GroupDestroy, ConsumerCreate, ConsumerDelete, ReadGroup, Ack, Pending, PendingRows, Claim, AutoClaim, DropKeys, ReadGroupCommand, ReadOne}
+use Rattle.xs_keys.specs.Event.{Event, History}
+use Rattle.xs_keys.specs.Terms.{list_all, option_map, option_map_or, option_or, Id, has_id, assigned, zero_id, ids_of, is_trimmed, is_name, Command, Ping, Quit, Add, Delete, TrimTo, Len, Scan, GroupCreate, GroupDestroy, ConsumerCreate, ConsumerDelete, ReadGroup, Ack, Pending, PendingRows, Claim, AutoClaim, DropKeys, ReadGroupCommand, ReadOne}
 use Rattle.xs_keys.specs.Life.{Change, added, deleted, trimmed_to, is_listed, opened, key_life_after, key_life, gives, given_in, top, drops, stands, live}
-use Rattle.xs_keys.specs.Ask.{Ask, join, leave, ack, claim, auto_claim}
+use Rattle.xs_keys.specs.GroupAsk.{Ask, join, leave, ack, claim, auto_claim}
 use Rattle.xs_keys.specs.GroupLife.{GroupLife, present_in, starting_id, new_life, life_after_ask, ask_of_read, life_after_reads, group_life_after, reads_of, group_of, group_life}
 use Rattle.xs_keys.specs.Effect.{ends_group}
 use Rattle.xs_keys.specs.Presence.{removes_entry, has_to_remove, Stays, EntriesStay, has_to_create, GroupsStay}
 use Rattle.xs_keys.proofs.Truths.{first_of, second_of, or_false}
-use Rattle.xs_keys.proofs.Sights.{live-given, live-before, given-up_to}
+use Rattle.xs_keys.proofs.IdsAtEvents.{live-given, live-before, given-up_to}
 use Rattle.xs_keys.proofs.JobMoves.{was-dropped, not-live, trimmed-below}
 
 -- ---- entries
@@ -114,7 +115,7 @@ stays now (DropKeys keys) key stream x = by (is_listed keys key) refl where
   by true e = record { unless_removed = λ b a. e; is_removed = λ r. refl; comes_new = λ b a. absurd (false≢true a) }
   by false e = same (DropKeys keys) key (present_in stream) (ids_of (option_map_or given_in stream [])) x e
 
-pub entries-stay : (earlier : List (ℕ × Command)) (e : ℕ × Command) → EntriesStay earlier e
+pub entries-stay : (earlier : History) (e : Event) → EntriesStay earlier e
 entries-stay earlier e = λ key x. stays e.0 e.1 key (key_life earlier key) x
 
 -- ---- groups
@@ -196,7 +197,7 @@ created now (Claim c) key group served stream life e = absurd (false≢true e)
 created now (AutoClaim c) key group served stream life e = absurd (false≢true e)
 created now (DropKeys keys) key group served stream life e = absurd (false≢true e)
 
-pub groups-stay : (earlier : List (ℕ × Command)) (e : ℕ × Command) → GroupsStay earlier e
+pub groups-stay : (earlier : History) (e : Event) → GroupsStay earlier e
 groups-stay earlier e = λ key group. (
   λ is. by key group (group_life earlier key group) is,
   λ has_to. created e.0 e.1 key group (list_all (λ one. is_some (group_life earlier one.key (group_of e.1))) (reads_of e.1)) (key_life earlier key) (group_life earlier key group) has_to,

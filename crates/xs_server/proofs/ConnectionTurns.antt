@@ -8,7 +8,7 @@ use Rattle.xs_resp.specs.declared.reply.Reply.TheVariants.{Simple, Error, Int, B
 use Rattle.xs_resp.specs.declared.fault.Fault.TheVariants.{Protocol}
 use Rattle.xs_resp.specs.declared.read_fault.Wrong.{Wrong}
 use Rattle.xs_resp.specs.ReplyText.{text}
-use Rattle.xs_resp.specs.Left.{left}
+use Rattle.xs_resp.specs.LeftToWrite.{left}
 use Rattle.xs_resp.specs.Grammar.{FaultIn, IsOpen}
 use Rattle.xs_command.specs.declared.command.Command.{Command}
 use Rattle.xs_server.specs.declared.connections.connection.Connection.{Connection}
@@ -21,7 +21,7 @@ use Rattle.xs_server.specs.Machine.{itself, reader, writer, EndsOncePaid}
 use Rattle.xs_server.specs.Exchange.{Exchange, AreAnswered, texts, is_quit}
 use Rattle.xs_server.specs.Serve.{WrittenTo, IsPart, PortFails, Ends, Serves}
 use Rattle.xs_server.specs.Connection.{Owes, Stands, ServesBy}
-use Rattle.xs_server.proofs.Exchanges.{answered-again}
+use Rattle.xs_server.proofs.AnsweredRequests.{answered-again}
 
 -- ---- what is written
 

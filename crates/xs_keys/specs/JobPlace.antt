@@ -1,6 +1,6 @@
 -- The places of a job: where an entry stands for a group. (Redis Streams, "Consumer groups"; XPENDING.)
 use Rattle.std.specs.Prelude.{◌≡◌, true, false, not, List, Option, Some, None, is_some, if◌then◌else◌}
-use Rattle.xs_keys.specs.Ground.{Id, is_below, has_id, ids_of}
+use Rattle.xs_keys.specs.Terms.{Id, is_below, has_id, ids_of}
 use Rattle.xs_keys.specs.Life.{Change, key_life, given_in, live}
 use Rattle.xs_keys.specs.GroupEvent.{delivered, cursor}
 use Rattle.xs_keys.specs.Owner.{last_assigned, owner}

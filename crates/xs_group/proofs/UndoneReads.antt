@@ -6,7 +6,7 @@ use Rattle.xs_group.specs.declared.delivery.Delivery.{Delivery}
 use Rattle.xs_group.specs.State.{Rows, State, has_name, with_name, delivers, first_row, with_rows, shown, delivered_to, reread_by, unless_acked}
 use Rattle.xs_group.specs.Indexes.{PendingList, IsNamed, AreFree}
 use Rattle.xs_group.specs.Lawful.{IsLawful}
-use Rattle.xs_group.specs.Delivered.{delivery_of, history_of, new_rows, kind_of, taken_back, without_made, unmade, row_ids, IsDelivered, IsReread, IsMade}
+use Rattle.xs_group.specs.Deliveries.{delivery_of, history_of, new_rows, kind_of, taken_back, without_made, unmade, row_ids, IsDelivered, IsReread, IsMade}
 use Rattle.xs_group.proofs.Agreeing.{name-again}
 use Rattle.xs_group.proofs.NewRows.{held-back, out-again}
 use Rattle.xs_group.proofs.Cursors.{free-above, delivers-above}

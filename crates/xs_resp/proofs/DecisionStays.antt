@@ -6,7 +6,7 @@ use Rattle.xs_resp.specs.declared.header.Part.{Part}
 use Rattle.xs_resp.specs.declared.header.Part.TheVariants.{Size}
 use Rattle.xs_resp.specs.declared.read_fault.Wrong.TheVariants.{Shape}
 use Rattle.xs_resp.specs.Outcome.{Keeps}
-use Rattle.xs_resp.specs.Part.{marker, number_in}
+use Rattle.xs_resp.specs.HeaderPart.{marker, number_in}
 use Rattle.xs_resp.specs.Header.{is_not_cr, text_len, limited, line_at, header}
 use Rattle.xs_resp.specs.Reading.{closed, word}
 use Rattle.xs_resp.proofs.Outcomes.{Keeps-same, Keeps-bind}

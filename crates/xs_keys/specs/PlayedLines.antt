@@ -1,11 +1,11 @@
 -- Lines of words at their moments, and the replies to them, one after the other from the empty keyspace.
 use Rattle.std.specs.Prelude.{◌≡◌, ℕ, List, [], ◌∷◌, map, codes, decimal, Result, Ok, Err}
 use Rattle.xs_bytes.specs.SortedMap.{empty}
-use Rattle.xs_keys.specs.Ground.{Fault, Reply, Simple, Error, Int, Bulk, NullArray, Okay, Command}
+use Rattle.xs_keys.specs.Terms.{Fault, Reply, Simple, Error, Int, Bulk, NullArray, Okay, Command}
 use Rattle.xs_command.specs.Read.{reads}
 use Rattle.xs_command.specs.Examples.{line}
 use Rattle.xs_keys.specs.Content.{Content}
-use Rattle.xs_keys.specs.After.{after}
+use Rattle.xs_keys.specs.ContentAfter.{after}
 use Rattle.xs_keys.specs.ReplyParts.{array, id_reply}
 use Rattle.xs_keys.specs.Reply.{reply}
 use Rattle.xs_keys.specs.Event.{Bytes}

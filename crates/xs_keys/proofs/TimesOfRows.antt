@@ -3,10 +3,10 @@ use Rattle.std.proofs.Common.{◌≡◌, ℕ, Bool, true, false, not, cond, ◌&
 use Rattle.xs_group.specs.declared.claims.Claim.{Claim}
 use Rattle.xs_group.specs.Claims.{Rule, claim_of, scan_of, claimed, claimed_row, claim_time, claim_count}
 use Rattle.xs_group.specs.State.{Row, is_name, delivers, first_row, shown, again, raised, unless_acked, unless_owned}
-use Rattle.xs_keys.specs.Ground.{Id, has_id}
-use Rattle.xs_keys.specs.Ask.{Ask, read_new, read_own, ack, join, leave, claim, auto_claim, row_after_ask, new_ids_of_ask, claim_of_ask, keeps_pending}
+use Rattle.xs_keys.specs.Terms.{Id, has_id}
+use Rattle.xs_keys.specs.GroupAsk.{Ask, read_new, read_own, ack, join, leave, claim, auto_claim, row_after_ask, new_ids_of_ask, claim_of_ask, keeps_pending}
 use Rattle.xs_keys.specs.GroupEvent.{GroupEvent, cursor, pending_row_at, rows}
-use Rattle.xs_keys.specs.Touched.{own_ids_shown, time_of_touch, count_of_touch, time_of, count_of, IsLastTouched}
+use Rattle.xs_keys.specs.TimesAndCounts.{own_ids_shown, time_of_touch, count_of_touch, time_of, count_of, IsLastTouched}
 use Rattle.xs_keys.proofs.Owners.{row-found}
 
 -- the row has that time and that count

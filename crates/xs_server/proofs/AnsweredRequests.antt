@@ -6,14 +6,14 @@ use Rattle.xs_resp.specs.declared.reply.Reply.{Reply}
 use Rattle.xs_resp.specs.declared.reply.Reply.TheVariants.{Error}
 use Rattle.xs_resp.specs.Grammar.{Spells, SpellsAll}
 use Rattle.xs_resp.specs.Reading.{Found, request}
-use Rattle.xs_resp.specs.Held.{Held, Next}
-use Rattle.xs_resp.proofs.Nexts.{took, next-words}
+use Rattle.xs_resp.specs.HeldBytes.{Held, Next}
+use Rattle.xs_resp.proofs.NextRequest.{took, next-words}
 use Rattle.xs_command.specs.declared.command.Command.{Command}
 use Rattle.xs_command.specs.Read.{reads}
 use Rattle.xs_server.specs.Answering.{Answered}
 use Rattle.xs_server.specs.Exchange.{Exchange, Run, AreAnswered, is_quit}
 use Rattle.xs_server.specs.Serve.{PortFails}
-use Rattle.xs_server.proofs.Driving.{empty-some}
+use Rattle.xs_server.proofs.MachineTurns.{empty-some}
 
 -- requests behind others
 spells-all : (a b : List ℕ) (first others : List (List (List ℕ))) → SpellsAll a first → SpellsAll b others → SpellsAll (a ++ b) (first ++ others)

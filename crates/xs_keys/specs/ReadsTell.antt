@@ -1,7 +1,7 @@
 -- What the reply to a read tells: with `>` what is delivered, with an id what the consumer has. (Redis, XREADGROUP,
 -- "RESP2 Reply".)
 use Rattle.std.specs.Prelude.{◌≡◌, true, List, [], ◌∷◌, ◌++◌, Option, Some, option_and_then}
-use Rattle.xs_keys.specs.Ground.{Id, ReadGroup, ReadGroupCommand, ReadOne, ReadFrom, New, After, Reply, Bulk, is_below}
+use Rattle.xs_keys.specs.Terms.{Id, ReadGroup, ReadGroupCommand, ReadOne, ReadFrom, New, After, Reply, Bulk, is_below}
 use Rattle.xs_keys.specs.Life.{key_life, given_at}
 use Rattle.xs_keys.specs.Owner.{owner}
 use Rattle.xs_keys.specs.GroupLife.{GroupLife, group_life, present_in, ids_delivered_by}
