@@ -10,7 +10,7 @@ use Rattle.std.specs.List.{slice_get}
 use Rattle.std.specs.BTreeMap.{insert_entry}
 use Rattle.std.specs.BTreeMap.Range.{range_contains, entries_between}
 use Rattle.std.specs.Ordering.{is_le}
-use Rattle.std.specs.declared.ops.Bound.TheVariants.{Included, Unbounded}
+use Rattle.std.specs.declared.ops.Bound.TheVariants.{Included, Excluded, Unbounded}
 use Rattle.xs_stream.specs.declared.id.Id.{Id}
 use Rattle.xs_stream.specs.declared.field.Field.{Field}
 use Rattle.xs_stream.specs.Id.{id_cmp, is_below, is_same}
@@ -126,6 +126,16 @@ first-from id bs b rest h = first-filtered (range_contains id_cmp (Included id) 
 
 pub none-from : (id : Id) (bs : Blocks) → entries_between id_cmp (Included id) Unbounded bs ≡ [] → lookup_entry (λ under. not (is_below under id)) bs ≡ None
 none-from id bs h = none-filtered (range_contains id_cmp (Included id) Unbounded) (λ under. not (is_below under id)) (from_id id) bs h
+
+-- and so is that of a range behind an id
+behind_id : (id x : Id) → range_contains id_cmp (Excluded id) Unbounded x ≡ is_below id x
+behind_id id x = and_yes (is_below id x)
+
+pub first-after : (id : Id) (bs : Blocks) (b : Id × Entries) (rest : Blocks) → entries_between id_cmp (Excluded id) Unbounded bs ≡ b ∷ rest → lookup_entry (λ other. is_below id other) bs ≡ Some b
+first-after id bs b rest h = first-filtered (range_contains id_cmp (Excluded id) Unbounded) (λ other. is_below id other) (behind_id id) bs b rest h
+
+pub none-after : (id : Id) (bs : Blocks) → entries_between id_cmp (Excluded id) Unbounded bs ≡ [] → lookup_entry (λ other. is_below id other) bs ≡ None
+none-after id bs h = none-filtered (range_contains id_cmp (Excluded id) Unbounded) (λ other. is_below id other) (behind_id id) bs h
 
 module _ (test : Id → Bool) where
   pub lookup-entry : (bs : Blocks) → lookup test bs ≡ option_map (λ b. b.1) (lookup_entry test bs)

@@ -3,6 +3,7 @@ pub mod Dropping
 pub mod Filing
 pub mod Gaps
 pub mod InOrder
+pub mod Joining
 pub mod Lending
 pub mod Order
 pub mod PackedBlocks

@@ -8,7 +8,7 @@ use Rattle.std.specs.Int.{w16, w32, w64, to_le_bytes}
 use Rattle.std.specs.List.{flat_map}
 use Rattle.std.specs.Str.{bytes_eq}
 use Rattle.std.proofs.Math.Seq.{take-append_seam, drop-append_seam}
-use Rattle.std.proofs.lemmas.List.{append-nil, take_more, take-take, drop_all}
+use Rattle.std.proofs.lemmas.List.{append-nil, take_more, take-take, drop_all, length-take}
 use Rattle.std.proofs.Math.Seq.{drop-cons}
 use Rattle.std.specs.Result.{OnErr}
 use Rattle.std.specs.Prelude.{Result, Ok, Err}
@@ -250,6 +250,15 @@ kept-before before more now last n m e f g h =
     let shorter : n ≤ m = omega (arith, ap length e, length-append before more) in
     sym (take-take n m last shorter) ∙ ap (take n) (f ∙ e) ∙ rw g (take-append_seam before more)
 
+-- what stands first stays first
+pub kept-first : (before now last : List ℕ) (n m : ℕ) → take n now ≡ before → n ≡ length before → take m last ≡ now → m ≡ length now → take n last ≡ before
+kept-first before now last n m e f g h =
+    let shorter : n ≤ m = omega (arith, ap length e, length-take n now, f, h) in
+    sym (take-take n m last shorter) ∙ ap (take n) g ∙ e
+
+pub kept-more : (before now more new : List ℕ) (n : ℕ) → take n now ≡ before → n ≡ length before → new ≡ now ++ more → take n new ≡ before
+kept-more before now more new n e f g = kept-first before now new n (length now) e f (ap (take (length now)) g ∙ take-append_seam now more) refl
+
 pub on_err-holds : {T E : Type 0} {P : Type 0} (r : Result T E) → P → OnErr r P
 on_err-holds (Ok x) h = tt
 on_err-holds (Err e) h = h
@@ -299,6 +308,14 @@ unfolding entry_code text_code ms_code
 written-entry base shared id fields size out a b d last small e f g h i =
     let fits : ltb id.ms (2 ^ 64) ≡ true = grind (arith, nat_tests) in
     i ∙ rw (g, f, e, h, fits) (simp append_assoc)
+
+pub written-packed : (base : ℕ) (id : Id) (body out a b last : List ℕ) → id.ms < 2 ^ 64
+    → a ≡ out ++ number_code ((id.ms + (2 ^ 64 - base)) % 2 ^ 64) → b ≡ a ++ number_code id.seq → last ≡ b ++ text_code body
+    → last ≡ out ++ (ms_code base id.ms ++ (number_code id.seq ++ text_code body))
+unfolding ms_code
+written-packed base id body out a b last small e f g =
+    let fits : ltb id.ms (2 ^ 64) ≡ true = grind (arith, nat_tests) in
+    g ∙ rw (f, e, fits) (simp append_assoc)
 
 pub appended-three : (out a b d x y z : List ℕ) → a ≡ out ++ x → b ≡ a ++ y → d ≡ b ++ z → d ≡ out ++ ((x ++ y) ++ z)
 appended-three out a b d x y z e f g = rw (g, f, e) (simp append_assoc)

@@ -1,13 +1,13 @@
 -- How a stream lays down its entries: in blocks, each filed under an id, and behind them the newest ones.
 use Rattle.std.specs.Prelude.{◌≡◌, ◌<◌, not, false, List, [], ◌∷◌, ◌++◌, length, Option, Some, None}
 use Rattle.std.specs.List.{flat_map}
-use Rattle.std.specs.Map.{keys_of, lookup_key}
+use Rattle.std.specs.Map.{keys_of, lookup, lookup_key, set_value}
 use Rattle.std.specs.declared.ops.Bound.{Bound}
 use Rattle.std.specs.declared.ops.Bound.TheVariants.{Included, Unbounded}
 use Rattle.xs_stream.specs.declared.id.Id.{Id}
 use Rattle.xs_stream.specs.declared.field.Field.{Field}
 use Rattle.xs_stream.specs.declared.entries.Entries.{Entries}
-use Rattle.xs_stream.specs.Id.{is_below}
+use Rattle.xs_stream.specs.Id.{is_below, is_same}
 use Rattle.xs_stream.specs.Kept.{ids_of, AllAbove, AllUpTo}
 use Rattle.xs_stream.specs.Lawful.{IsLawful}
 
@@ -33,6 +33,13 @@ AreFiled (b ∷ bs) newest = IsFiled b (listed bs ++ newest) × AreFiled bs newe
 pub record IsLaidDown (entries : Entries) : Type 0 where
   pub filed : AreFiled entries.older.entries entries.newest
   pub counted : entries.len ≡ length (all_of entries)
+
+-- a block has gone in front of the one under an id
+abbrev pub HasJoined : Id → List (Id × List Field) → List (Id × List (Id × List Field))
+    → List (Id × List (Id × List Field)) → Type 0
+HasJoined next front old new =
+    (es : List (Id × List Field)) × (lookup (is_same next) old ≡ Some es)
+    × (new ≡ set_value (is_same next) old (front ++ es))
 
 -- no block is filed under an id below this one
 abbrev pub BeginsFrom : Id → List (Id × List (Id × List Field)) → Type 0

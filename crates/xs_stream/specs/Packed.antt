@@ -1,6 +1,7 @@
 -- Entries after one another in bytes. An id's milliseconds stand as how far they are above a base, and the fields
 -- stand after their length, so that they can be passed over. Names that a block has once aren't repeated.
-use Rattle.std.specs.Prelude.{◌≡◌, ℕ, zero, suc, ◌+◌, ◌-◌, ◌%◌, ◌^◌, ◌<◌, ◌==◌, ◌&&◌, ◌||◌, Bool, true, false, not, List, [], ◌∷◌, ◌++◌, ◌≤◌, length, take, drop, nat_lt, if◌then◌else◌}
+use Rattle.std.specs.Prelude.{◌≡◌, ℕ, zero, suc, ◌+◌, ◌-◌, ◌%◌, ◌^◌, ◌<◌, ◌==◌, ◌&&◌, ◌||◌, Bool, true, false, not}
+use Rattle.std.specs.Prelude.{List, [], ◌∷◌, ◌++◌, ◌≤◌, length, take, drop, nat_lt, if◌then◌else◌}
 use Rattle.std.specs.List.{flat_map}
 use Rattle.std.specs.Str.{bytes_eq}
 use Rattle.xs_stream.specs.declared.id.Id.{Id}
@@ -42,7 +43,8 @@ body_code shared fields = number_code (mark_of shared fields) ++ flat_map (field
 abbrev pub fields_in : Bool → ℕ → List ℕ → List ℕ → List Field
 fields_in shared zero names bytes = []
 fields_in true (suc count) names bytes =
-    record { name = first_text names; value = first_text bytes } ∷ fields_in true count (after_text names) (after_text bytes)
+    record { name = first_text names; value = first_text bytes }
+    ∷ fields_in true count (after_text names) (after_text bytes)
 fields_in false (suc count) names bytes =
     record { name = first_text bytes; value = first_text (after_text bytes) }
     ∷ fields_in false count names (after_text (after_text bytes))
@@ -86,6 +88,17 @@ entries_in base names (suc count) bytes =
 
 abbrev pub entries_code : ℕ → List ℕ → List (Id × List Field) → List ℕ
 entries_code base names entries = flat_map (λ e. entry_code base (has_names names e.1) e) entries
+
+-- an entry as it is, over another base
+abbrev pub rebased_code : ℕ → ℕ → List ℕ → List ℕ
+rebased_code base from bytes =
+    ms_code base (entry_id from bytes).ms ++ (number_code (entry_id from bytes).seq ++ text_code (entry_body bytes))
+
+-- this many of them
+abbrev pub all_rebased : ℕ → ℕ → ℕ → List ℕ → List ℕ
+all_rebased base from zero bytes = []
+all_rebased base from (suc count) bytes =
+    rebased_code base from bytes ++ all_rebased base from count (after_entry bytes)
 
 -- one of this many entries has the names that stand elsewhere
 abbrev pub shares_names : ℕ → List ℕ → Bool

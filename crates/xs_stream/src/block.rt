@@ -1,5 +1,6 @@
 //! A block: entries that stand next to each other in a stream, packed into bytes.
-ghost use Rattle.std.specs.Prelude.{◌≡◌, ◌+◌, ◌-◌, ◌<◌, ◌≤◌, ◌==◌, ◌++◌, ◌∷◌, [], true, false, if◌then◌else◌, OnOk, OnErr, IfOk};
+ghost use Rattle.std.specs.Prelude.{◌≡◌, ◌+◌, ◌-◌, ◌<◌, ◌≤◌, ◌==◌, ◌++◌, ◌∷◌, []};
+ghost use Rattle.std.specs.Prelude.{true, false, if◌then◌else◌, OnOk, OnErr, IfOk};
 ghost use Rattle.std.specs.Prelude.{length, filter, take, drop, reverse, vec_len};
 ghost use Rattle.std.specs.List.{flat_map};
 ghost use Rattle.std.specs.Map.{remove_entry};
@@ -13,12 +14,12 @@ use crate::field::Field;
 use crate::id::Id;
 use crate::packed::entry::{has_names, push_entry, push_names};
 use crate::packed::fields::PackedFields;
-use crate::packed::gap::cut;
+use crate::packed::gap::{close_gap, cut};
 use crate::packed::number::after;
 use crate::packed::text::read_text;
 use crate::packed::walks::{
     after_entries, count_below, fields_of, place_of, push_all_entries, push_all_ids, push_entries,
-    push_ids, shares_names,
+    push_ids, push_rebased, shares_names,
 };
 use crate::range::Range;
 use std::alloc::{AllocError, Global};
@@ -29,6 +30,9 @@ const MOST_ENTRIES: usize = 128;
 
 /// How many bytes a block of many small entries has room for.
 const ROOM: usize = 1536;
+
+/// How many bytes an entry may take more in another block.
+const MOST_LONGER: usize = 8;
 
 /// How many bytes an entry mostly takes beside its values.
 const BESIDE_VALUES: u64 = 12;
@@ -182,6 +186,51 @@ impl Block {
         }
     }
 
+    /// Whether less than a quarter of a block of small entries is left, and less than half of its memory is taken.
+    pub(crate) fn is_sparse(&self) -> bool {
+        let len = self.bytes.len();
+        len < ROOM / 4 && len < self.bytes.capacity() / 2
+    }
+
+    /// Whether the entries of another block fit into the memory that it has, and belong there by their number.
+    fn has_room_for(&self, other: &Block) -> bool
+        ensures { result ≡ true → length self.now + length other.now ≤ 128 }
+    {
+        if self.count.saturating_add(other.count) > MOST_ENTRIES {
+            return false;
+        }
+        let left = self.bytes.capacity().saturating_sub(self.bytes.len());
+        let longer = other.count.saturating_mul(MOST_LONGER);
+        let entries = other.bytes.len().saturating_sub(other.start);
+        entries.saturating_add(longer) <= left
+    }
+
+    /// Puts the entries of another block behind its own, if they have the same names and fit into the memory that it
+    /// has, and says whether it did.
+    pub(crate) fn take_in(&mut self, other: &Block) -> bool
+        requires { 0 < length self.old }
+        ensures { self.new ≡ (if result then self.old ++ other.now else self.old) }
+    {
+        if !self.has_room_for(other) {
+            return false;
+        }
+        if !has_same_names(self.bytes.as_slice(), other.bytes.as_slice()) {
+            return false;
+        }
+        let before = self.bytes.len();
+        let bytes = after(other.bytes.as_slice(), other.start);
+        match push_rebased(&mut self.bytes, self.base, other.base, other.count, bytes) {
+            Ok(()) => {
+                self.count += other.count;
+                true
+            }
+            Err(_) => {
+                self.bytes.truncate(before);
+                false
+            }
+        }
+    }
+
     /// The fields of an entry.
     pub(crate) fn get(&self, id: Id) -> Option<PackedFields<'_>>
         ensures { result ≡ fields_at self.now id }
@@ -206,10 +255,22 @@ impl Block {
             self.drop_some(1);
             return true;
         }
-        cut(&mut self.bytes, place.from, place.to);
+        close_gap(&mut self.bytes, place.from, place.to);
         self.count -= 1;
-        self.tidy();
+        self.compact();
         true
+    }
+
+    /// Takes the entry with this id out of a block that has no neighbours to join, and says whether there was one.
+    pub(crate) fn remove_alone(&mut self, id: Id) -> bool
+        ensures entries { self.new ≡ remove_entry (is_same id) self.old }
+        ensures count { length self.new + (if result then 1 else 0) ≡ length self.old }
+    {
+        let removed = self.remove(id);
+        if self.is_sparse() {
+            self.seal();
+        }
+        removed
     }
 
     /// Takes all entries out.
@@ -244,9 +305,22 @@ impl Block {
         self.tidy();
     }
 
-    /// Cuts out what lies before the entries and isn't needed, once it may be more than a quarter: the names, if no entry
-    /// has them, and what lies between them and the entries. So each byte moves few times in all, whether entries go one
-    /// by one or many at once.
+    /// Tidies up, and gives memory back if less than half of it is taken. A sparse block keeps it: another one may fit
+    /// in.
+    fn compact(&mut self)
+        requires { 0 < length self.old }
+        ensures { self.new ≡ self.old }
+    {
+        self.tidy();
+        if self.bytes.len() < self.bytes.capacity() / 2 && !self.is_sparse() {
+            self.seal();
+        }
+    }
+
+    /// Cuts out what lies before the entries and isn't needed, once it may be more than a quarter: the names, if no
+    /// entry has them, and what lies between them and the entries. So each byte moves few times in all, whether entries
+    /// go one by one or many at once.
+    #[inline(always)]
     fn tidy(&mut self)
         requires { 0 < length self.old }
         ensures { self.new ≡ self.old }
@@ -401,6 +475,15 @@ fn shares(bytes: &[u8], fields: &[Field]) -> bool
 {
     let (names, _) = read_text(bytes);
     has_names(names, fields)
+}
+
+/// Whether two blocks have the same names.
+fn has_same_names(bytes: &[u8], others: &[u8]) -> bool
+    ensures { result ≡ true → first_text others.now ≡ first_text bytes.now }
+{
+    let (names, _) = read_text(bytes);
+    let (other_names, _) = read_text(others);
+    names == other_names
 }
 
 /// Appends the names of an entry, and then the entry, and says where that begins. A refusal may leave a part behind.

@@ -1,5 +1,6 @@
 //! The entries of a stream, in the order of their ids. Ids only grow, so an addition goes to the end without a search.
-ghost use Rattle.std.specs.Prelude.{◌≡◌, ◌+◌, ◌-◌, ◌<◌, ◌++◌, ◌∷◌, [], false, true, not, if◌then◌else◌, IfOk, OnOk, OnErr};
+ghost use Rattle.std.specs.Prelude.{◌≡◌, ◌+◌, ◌-◌, ◌<◌, ◌++◌, ◌∷◌, [], false};
+ghost use Rattle.std.specs.Prelude.{true, not, if◌then◌else◌, IfOk, OnOk, OnErr};
 ghost use Rattle.std.specs.Prelude.{length, take, drop, filter, reverse};
 ghost use Rattle.std.specs.Map.{lookup_key, remove_entry};
 ghost use Rattle.xs_stream.specs.declared.id.Id.{Id};
@@ -7,7 +8,7 @@ ghost use Rattle.xs_stream.specs.declared.trim.Trim.TheVariants.{MinId};
 ghost use Rattle.xs_stream.specs.Id.{is_below, is_same};
 ghost use Rattle.xs_stream.specs.Kept.{is_within, ids_of, fields_at, without, trimmed, Ascends, AllUpTo};
 ghost use Rattle.xs_stream.specs.Lawful.{AllIds};
-ghost use Rattle.xs_stream.specs.Blocks.{all_of, AreFiled, BeginsFrom, IsLaidDown, filed_under, end_at};
+ghost use Rattle.xs_stream.specs.Blocks.{all_of, AreFiled, BeginsFrom, IsLaidDown, filed_under, end_at, HasJoined};
 
 use crate::block::Block;
 use crate::entry::Entry;
@@ -60,9 +61,29 @@ impl Entries {
     fn block_of(&self, id: Id) -> Option<Id>
         ensures { result ≡ lookup_key (λ under. not (is_below under id)) self.now.older.entries }
     {
-        let mut from = self.older.range((Bound::Included(id), Bound::Unbounded));
+        let mut from = self.older.range(id..);
         match from.next() {
             Some((under, _)) => Some(*under),
+            None => None,
+        }
+    }
+
+    /// The id under which the first block is filed behind this id.
+    fn block_after(&self, under: Id) -> Option<Id>
+        ensures { result ≡ lookup_key (λ other. is_below under other) self.now.older.entries }
+    {
+        let mut from = self.older.range((Bound::Excluded(under), Bound::Unbounded));
+        match from.next() {
+            Some((other, _)) => Some(*other),
+            None => None,
+        }
+    }
+
+    /// The id under which the last block is filed before this id.
+    fn block_before(&self, under: Id) -> Option<Id> {
+        let mut to = self.older.range((Bound::Unbounded, Bound::Excluded(under)));
+        match to.next_back() {
+            Some((other, _)) => Some(*other),
             None => None,
         }
     }
@@ -72,15 +93,15 @@ impl Entries {
         requires { IsLaidDown self.now }
         ensures { result ≡ fields_at (all_of self.now) id }
     {
-        let mut from = self.older.range((Bound::Included(id), Bound::Unbounded));
+        let mut from = self.older.range(id..);
         match from.next() {
             Some((_, block)) => block.get(id),
             None => self.newest.get(id),
         }
     }
 
-    /// Files the newest entries as a block under the top, if another one, whose values take so many bytes, doesn't belong
-    /// to them.
+    /// Files the newest entries as a block under the top, if another one, whose values take so many bytes, doesn't
+    /// belong to them.
     fn make_room(&mut self, top: Id, values: u64) -> Result<(), AllocError>
         requires laid_down { IsLaidDown self.old }
         requires up_to_top { AllUpTo top (ids_of (all_of self.old)) }
@@ -128,24 +149,107 @@ impl Entries {
         Ok(())
     }
 
-    /// Takes an entry out of the block under this id, and says whether it was there. It isn't counted yet.
-    fn take_from(&mut self, under: Id, id: Id) -> bool
+    /// Puts the entries of a block in front of those of the block under this id, if both fit into the memory of the
+    /// first one, and says whether it did.
+    fn join_into(&mut self, next: Id, front: &mut Block) -> bool
+        requires { 0 < length front.old }
+        ensures joined { result ≡ true → HasJoined next front.old self.old.older.entries self.new.older.entries }
+        ensures refused { result ≡ false → (self.new.older.entries ≡ self.old.older.entries) × (front.new ≡ front.old) }
+        ensures newest { self.new.newest ≡ self.old.newest }
+        ensures len { self.new.len ≡ self.old.len }
+    {
+        let Some(block) = self.older.get_mut(&next) else {
+            return false;
+        };
+        if !front.take_in(block) {
+            return false;
+        }
+        mem::swap(front, block);
+        true
+    }
+
+    /// Joins the block under this id with the one behind it, if both fit into the memory of the first one.
+    fn join_next(&mut self, under: Id)
+        requires { AreFiled self.old.older.entries self.old.newest }
+        ensures same { all_of self.new ≡ all_of self.old }
+        ensures filed { AreFiled self.new.older.entries self.new.newest }
+        ensures filed_up_to_top { (top : Id) → AllUpTo top (filed_under self.old) → AllUpTo top (filed_under self.new) }
+        ensures len { self.new.len ≡ self.old.len }
+    {
+        let Some(next) = self.block_after(under) else {
+            return;
+        };
+        let Some(block) = self.older.get_mut(&under) else {
+            return;
+        };
+        let mut front = mem::replace(block, Block::new(self.alloc));
+        if self.join_into(next, &mut front) {
+            let _ = self.older.remove(&under);
+            return;
+        }
+        if let Some(block) = self.older.get_mut(&under) {
+            *block = front;
+        }
+    }
+
+    /// Joins the block under this id with the one behind it, and the one before it with what comes behind that, if they
+    /// fit.
+    fn join_around(&mut self, under: Id)
+        requires { AreFiled self.old.older.entries self.old.newest }
+        ensures same { all_of self.new ≡ all_of self.old }
+        ensures filed { AreFiled self.new.older.entries self.new.newest }
+        ensures filed_up_to_top { (top : Id) → AllUpTo top (filed_under self.old) → AllUpTo top (filed_under self.new) }
+        ensures len { self.new.len ≡ self.old.len }
+    {
+        self.join_next(under);
+        if let Some(before) = self.block_before(under) {
+            self.join_next(before);
+        }
+    }
+
+    /// Joins the block under this id with those around it, if they fit, and gives back the memory that is left over.
+    fn tighten(&mut self, under: Id)
+        requires { AreFiled self.old.older.entries self.old.newest }
+        ensures same { all_of self.new ≡ all_of self.old }
+        ensures filed { AreFiled self.new.older.entries self.new.newest }
+        ensures filed_up_to_top { (top : Id) → AllUpTo top (filed_under self.old) → AllUpTo top (filed_under self.new) }
+        ensures len { self.new.len ≡ self.old.len }
+    {
+        self.join_around(under);
+        self.seal(under);
+    }
+
+    /// Gives back the memory that no entry of the block under this id takes.
+    fn seal(&mut self, under: Id)
+        ensures blocks { self.new.older.entries ≡ self.old.older.entries }
+        ensures newest { self.new.newest ≡ self.old.newest }
+        ensures len { self.new.len ≡ self.old.len }
+    {
+        if let Some(block) = self.older.get_mut(&under) {
+            block.seal();
+        }
+    }
+
+    /// Takes an entry out of the block under this id, and says whether it was there, and whether the block is sparse
+    /// now. It isn't counted yet.
+    fn take_from(&mut self, under: Id, id: Id) -> (bool, bool)
         requires filed { AreFiled self.old.older.entries self.old.newest }
         requires under { lookup_key (λ under. not (is_below under id)) self.old.older.entries ≡ Some under }
         ensures entries { all_of self.new ≡ remove_entry (is_same id) (all_of self.old) }
         ensures filed { AreFiled self.new.older.entries self.new.newest }
         ensures filed_up_to_top { (top : Id) → AllUpTo top (filed_under self.old) → AllUpTo top (filed_under self.new) }
-        ensures count { length (all_of self.new) + (if result then 1 else 0) ≡ length (all_of self.old) }
+        ensures count { length (all_of self.new) + (if result.0 then 1 else 0) ≡ length (all_of self.old) }
         ensures len { self.new.len ≡ self.old.len }
     {
         let Some(block) = self.older.get_mut(&under) else {
-            return false;
+            return (false, false);
         };
         let removed = block.remove(id);
+        let is_sparse = block.is_sparse();
         if block.is_empty() {
             let _ = self.older.remove(&under);
         }
-        removed
+        (removed, is_sparse)
     }
 
     /// Takes the entry with this id out, and says whether it was there. It isn't counted yet.
@@ -158,8 +262,14 @@ impl Entries {
         ensures len { self.new.len ≡ self.old.len }
     {
         match self.block_of(id) {
-            Some(under) => self.take_from(under, id),
-            None => self.newest.remove(id),
+            Some(under) => {
+                let (removed, is_sparse) = self.take_from(under, id);
+                if is_sparse {
+                    self.tighten(under);
+                }
+                removed
+            }
+            None => self.newest.remove_alone(id),
         }
     }
 
@@ -313,9 +423,7 @@ impl Entries {
         ensures { IfOk result (λ ids. ids.items ≡ take most (filter (is_within range) (ids_of (all_of self.now)))) }
     {
         let mut ids = Vec::new(alloc);
-        let blocks = self
-            .older
-            .range((Bound::Included(range.low), Bound::Unbounded));
+        let blocks = self.older.range(range.low..);
         for (under, block) in blocks {
             block.push_up(&mut ids, range, most)?;
             if range.high <= *under || ids.len() as u64 >= most {
@@ -337,9 +445,7 @@ impl Entries {
         ensures { IfOk result (λ shown. shown.items ≡ take most (filter (λ e. is_within range e.0) (all_of self.now))) }
     {
         let mut shown = Vec::new(alloc);
-        let blocks = self
-            .older
-            .range((Bound::Included(range.low), Bound::Unbounded));
+        let blocks = self.older.range(range.low..);
         for (under, block) in blocks {
             block.push_entries_up(&mut shown, range, most)?;
             if range.high <= *under || shown.len() as u64 >= most {

@@ -1,8 +1,10 @@
 //! A stream: its top id and its entries, in the order of their ids.
-ghost use Rattle.std.specs.Prelude.{◌≡◌, ◌↔◌, ◌+◌, ◌-◌, ◌++◌, ◌∷◌, [], true, Ok, Err, IfOk, OnOk, OnErr, IsErrOf, length};
+ghost use Rattle.std.specs.Prelude.{◌≡◌, ◌↔◌, ◌+◌, ◌-◌, ◌++◌, ◌∷◌, [], true, Ok};
+ghost use Rattle.std.specs.Prelude.{Err, IfOk, OnOk, OnErr, IsErrOf, length};
 ghost use Rattle.std.specs.Prelude.{filter};
 ghost use Rattle.xs_stream.specs.Id.{zero_id, is_below, assigned};
-ghost use Rattle.xs_stream.specs.Kept.{ids_of, fields_at, without, trimmed, ids_within, entries_within, limited, AreEntriesOf};
+ghost use Rattle.xs_stream.specs.Kept.{ids_of, fields_at, without, trimmed};
+ghost use Rattle.xs_stream.specs.Kept.{ids_within, entries_within, limited, AreEntriesOf};
 ghost use Rattle.xs_stream.specs.Lawful.{IsLawful};
 
 use crate::add::{AddError, AddId};
@@ -158,8 +160,8 @@ impl Stream {
         Ok(List::new(ids))
     }
 
-    /// The entries of a range, from its low end up or from its high end down, at most `limit` of them. They are lent: none
-    /// is copied, and none is looked for again.
+    /// The entries of a range, from its low end up or from its high end down, at most `limit` of them. They are lent:
+    /// none is copied, and none is looked for again.
     pub fn entries(
         &self,
         alloc: Global,

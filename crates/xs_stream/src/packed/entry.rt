@@ -2,8 +2,9 @@
 ghost use Rattle.std.specs.Prelude.{◌≡◌, ◌++◌, IfSome, OnOk, OnErr, length, take, vec_len};
 ghost use Rattle.std.specs.Prelude.{true, false};
 ghost use Rattle.std.specs.List.{flat_map};
-ghost use Rattle.xs_stream.specs.Packed.{names_code, has_names, field_code, body_code, mark_of, entry_code, entry_id, entry_body, after_entry, first_ms};
-ghost use Rattle.xs_stream.specs.PackedNumber.{after_number};
+ghost use Rattle.xs_stream.specs.Packed.{names_code, has_names, field_code, body_code, mark_of, entry_code};
+ghost use Rattle.xs_stream.specs.Packed.{entry_id, entry_body, after_entry, first_ms, ms_code};
+ghost use Rattle.xs_stream.specs.PackedNumber.{number_code, after_number};
 ghost use Rattle.xs_stream.specs.PackedText.{text_code};
 
 use crate::field::Field;
@@ -213,5 +214,22 @@ pub(crate) fn push_entry(
     push_number(out, id.seq)?;
     push_number(out, size)?;
     push_body(out, shared, fields)?;
+    Ok(())
+}
+
+/// Appends an entry whose fields are packed. A refusal may leave a part behind.
+pub(crate) fn push_packed(
+    out: &mut Vec<u8>,
+    base: u64,
+    id: Id,
+    body: &[u8],
+) -> Result<(), AllocError>
+    ensures ok { OnOk result (out.new.items
+        ≡ out.old.items ++ (ms_code base id.ms ++ (number_code id.seq ++ text_code body.now))) }
+    ensures err { OnErr result (take (vec_len out.old) out.new.items ≡ out.old.items) }
+{
+    push_number(out, id.ms.wrapping_sub(base))?;
+    push_number(out, id.seq)?;
+    push_text(out, body)?;
     Ok(())
 }

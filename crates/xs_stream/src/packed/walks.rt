@@ -1,15 +1,16 @@
 //! Walks over the entries of a block, which lie behind one another from `start` on.
-ghost use Rattle.std.specs.Prelude.{◌≡◌, ◌+◌, ◌-◌, ◌<◌, ◌≤◌, ◌++◌, IfSome, OnOk, length, filter, take, drop};
+ghost use Rattle.std.specs.Prelude.{◌≡◌, ◌+◌, ◌-◌, ◌<◌, ◌≤◌, ◌++◌};
+ghost use Rattle.std.specs.Prelude.{IfSome, OnOk, OnErr, length, vec_len, filter, take, drop};
 ghost use Rattle.std.specs.List.{remove};
 ghost use Rattle.std.specs.Map.{remove_entry};
 ghost use Rattle.std.specs.Option.{is_some};
 ghost use Rattle.xs_stream.specs.Id.{is_same, is_below};
 ghost use Rattle.xs_stream.specs.Kept.{is_within, ids_of, fields_at};
-ghost use Rattle.xs_stream.specs.Packed.{after_entries, block_entries, shares_names};
+ghost use Rattle.xs_stream.specs.Packed.{after_entries, block_entries, shares_names, all_rebased};
 
 use crate::entry::Entry;
 use crate::id::Id;
-use crate::packed::entry::read_entry;
+use crate::packed::entry::{push_packed, read_entry};
 use crate::packed::fields::PackedFields;
 use crate::packed::number::{after, read_number};
 use crate::packed::text::read_text;
@@ -185,6 +186,26 @@ pub(crate) fn push_all_entries<'a>(
         if range.contains(entry.id) {
             shown.push(Entry::new(entry.id, PackedFields::new(names, entry.body)))?;
         }
+        rest = entry.rest;
+    }
+    Ok(())
+}
+
+/// Appends entries that are packed over a base as they are packed over another one. A refusal may leave a part behind.
+pub(crate) fn push_rebased(
+    out: &mut Vec<u8>,
+    base: u64,
+    from: u64,
+    count: usize,
+    bytes: &[u8],
+) -> Result<(), AllocError>
+    ensures ok { OnOk result (out.new.items ≡ out.old.items ++ all_rebased base from count bytes.now) }
+    ensures err { OnErr result (take (vec_len out.old) out.new.items ≡ out.old.items) }
+{
+    let mut rest = bytes;
+    for _ in 0..count {
+        let entry = read_entry(from, rest);
+        push_packed(out, base, entry.id, entry.body)?;
         rest = entry.rest;
     }
     Ok(())

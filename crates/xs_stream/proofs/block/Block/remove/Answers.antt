@@ -11,8 +11,8 @@ returns-in_default-clause-entries c =
     let absent = rw (c.as_slice-bytes.ensures.value) at c.in_default.ensures.found in
     rw (← c.self.view_is) (sym (remove-absent c.args.id (block_entries inside.base inside.count inside.start inside.bytes.items) (sym absent)))
 
-pub cut-requires-clause-forward : goal.cut-requires-clause-forward
-cut-requires-clause-forward c =
+pub close_gap-requires-clause-forward : goal.close_gap-requires-clause-forward
+close_gap-requires-clause-forward c =
     let i = c.in-Some.place.index in
     let bytes = c.as_slice-bytes.result.now in
     omega (arith, c.in-Some.ensures.from, c.in-Some.ensures.to, after_entries-one_less i (drop c.self.inside.start bytes))
@@ -20,7 +20,7 @@ cut-requires-clause-forward c =
 some : (c : goal.After-self-1) → 0 < c.self.inside.count
 some c = omega (arith, c.in-Some.ensures.index)
 
-code : (c : goal.After-self-1) → c.cut.new.bytes.items
+code : (c : goal.After-self-1) → c.close_gap.new.bytes.items
     ≡ (text_code (first_text c.self.inside.bytes.items) ++ gap c.self.inside.base c.self.inside.count c.self.inside.start c.self.inside.bytes.items c.self.invariant (some c))
     ++ entries_code c.self.inside.base (first_text c.self.inside.bytes.items) (remove (block_entries c.self.inside.base c.self.inside.count c.self.inside.start c.self.inside.bytes.items) c.in-Some.place.index)
 code c =
@@ -30,7 +30,7 @@ code c =
     let where_at : ℕ → List ℕ → ℕ = λ i b. length b - length (after_entries i (drop inside.start b)) in
     let from = c.in-Some.ensures.from ∙ ap (where_at place.index) c.as_slice-bytes.ensures.value in
     let to = c.in-Some.ensures.to ∙ ap (where_at (place.index + 1)) c.as_slice-bytes.ensures.value in
-    c.cut.ensures ∙ ap (λ n. remove_range bytes n place.to) from ∙ ap (remove_range bytes (where_at place.index bytes)) to
+    c.close_gap.ensures ∙ ap (λ n. remove_range bytes n place.to) from ∙ ap (remove_range bytes (where_at place.index bytes)) to
     ∙ removed-code inside.base inside.count inside.start bytes c.self.invariant (some c) place.index c.in-Some.ensures.index
 
 pub invariant_of-self : goal.invariant_of-self
@@ -39,7 +39,7 @@ invariant_of-self c =
     let count = length-removed inside.base inside.count inside.start inside.bytes.items c.self.invariant (some c) c.in-Some.place.index c.in-Some.ensures.index in
     repacked-packed inside.base _ _ _ _ _ _ c.self.invariant.base_fits (code c) (begins inside.base inside.count inside.start inside.bytes.items c.self.invariant (some c)) count
 
-left : (c : goal.After-self-1) → block_entries c.self.inside.base (c.self.inside.count - 1) c.self.inside.start c.cut.new.bytes.items
+left : (c : goal.After-self-1) → block_entries c.self.inside.base (c.self.inside.count - 1) c.self.inside.start c.close_gap.new.bytes.items
     ≡ remove (block_entries c.self.inside.base c.self.inside.count c.self.inside.start c.self.inside.bytes.items) c.in-Some.place.index
 left c =
     let inside = c.self.inside in
@@ -49,12 +49,12 @@ left c =
 pub returns-clause-entries : goal.returns-clause-entries
 returns-clause-entries c =
     let removed = rw (c.as_slice-bytes.ensures.value) at c.in-Some.ensures.removed in
-    rw (← c.self.view_is) (c.tidy.ensures ∙ left c.before.before ∙ sym removed)
+    rw (← c.self.view_is) (c.compact.ensures ∙ left c.before.before ∙ sym removed)
 
 pub returns-clause-count : goal.returns-clause-count
 returns-clause-count c =
     let inside = c.self.inside in
-    rw (← c.self.view_is) (omega (arith, length-block_entries inside.base inside.count inside.start inside.bytes.items, length-block_entries inside.base (inside.count - 1) inside.start c.cut.new.bytes.items, ap length c.tidy.ensures, c.in-Some.ensures.index))
+    rw (← c.self.view_is) (omega (arith, length-block_entries inside.base inside.count inside.start inside.bytes.items, length-block_entries inside.base (inside.count - 1) inside.start c.close_gap.new.bytes.items, ap length c.compact.ensures, c.in-Some.ensures.index))
 
 pub drop_some-requires : goal.drop_some-requires
 drop_some-requires c =
