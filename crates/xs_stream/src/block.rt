@@ -201,12 +201,8 @@ impl Block {
         }
         let left = self.bytes.capacity().saturating_sub(self.bytes.len());
         let longer = other.count.saturating_mul(MOST_LONGER);
-        other
-            .bytes
-            .len()
-            .saturating_sub(other.start)
-            .saturating_add(longer)
-            <= left
+        let entries = other.bytes.len().saturating_sub(other.start);
+        entries.saturating_add(longer) <= left
     }
 
     /// Puts the entries of another block behind its own, if they have the same names and fit into the memory that it
@@ -263,6 +259,18 @@ impl Block {
         self.count -= 1;
         self.compact();
         true
+    }
+
+    /// Takes the entry with this id out of a block that has no neighbours to join, and says whether there was one.
+    pub(crate) fn remove_alone(&mut self, id: Id) -> bool
+        ensures entries { self.new ≡ remove_entry (is_same id) self.old }
+        ensures count { length self.new + (if result then 1 else 0) ≡ length self.old }
+    {
+        let removed = self.remove(id);
+        if self.is_sparse() {
+            self.seal();
+        }
+        removed
     }
 
     /// Takes all entries out.

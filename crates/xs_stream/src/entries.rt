@@ -269,7 +269,7 @@ impl Entries {
                 }
                 removed
             }
-            None => self.newest.remove(id),
+            None => self.newest.remove_alone(id),
         }
     }
 

@@ -7,13 +7,13 @@ pub returns-in-None-clause-entries : goal.returns-in-None-clause-entries
 returns-in-None-clause-entries c =
     let all = c.args.self.now in
     let none = no_entry (λ k. not (is_below k c.args.id)) all.older.entries (sym c.in-None.ensures) in
-    rw c.remove.ensures.entries (listed-newest c.args.id all.older.entries all.newest none c.requires)
+    rw c.remove_alone.ensures.entries (listed-newest c.args.id all.older.entries all.newest none c.requires)
 
 pub returns-in-None-clause-filed : goal.returns-in-None-clause-filed
 returns-in-None-clause-filed c =
     let all = c.args.self.now in
     let none = no_entry (λ k. not (is_below k c.args.id)) all.older.entries (sym c.in-None.ensures) in
-    rw c.remove.ensures.entries (filed-newest c.args.id all.older.entries all.newest none c.requires)
+    rw c.remove_alone.ensures.entries (filed-newest c.args.id all.older.entries all.newest none c.requires)
 
 pub returns-then-is_sparse-clause-filed_up_to_top : goal.returns-then-is_sparse-clause-filed_up_to_top
 returns-then-is_sparse-clause-filed_up_to_top c = λ top up. c.tighten.ensures.filed_up_to_top top (c.take_from-removed.ensures.filed_up_to_top top up)
