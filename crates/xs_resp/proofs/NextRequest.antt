@@ -2,7 +2,6 @@
 use Rattle.std.proofs.Common.{◌≡◌, ℕ, ◌+◌, ◌<◌, ◌≤◌, true, false, List, [], ◌∷◌, ◌++◌, length, take, drop, Option, Some, None, Result, Ok, Err, inl, inr, sym, ap, ◌∙◌, subst, refl, arith, append_assoc, length-append, length-drop}
 use Rattle.std.proofs.lemmas.List.{append-nil, length-take-le, take-append-drop, drop-append-le}
 use Rattle.xs_resp.specs.declared.read_fault.Wrong.{Wrong}
-use Rattle.xs_resp.specs.declared.read_fault.Wrong.TheVariants.{Length, Shape, Limit}
 use Rattle.xs_resp.specs.declared.read_fault.ReadFault.{ReadFault}
 use Rattle.xs_resp.specs.declared.read_fault.ReadFault.TheVariants.{Memory}
 use Rattle.xs_resp.specs.Grammar.{Spells, SpellsAll}
@@ -51,18 +50,6 @@ fault-of bytes (Err wrong) fault new e other (is, left) = (wrong, e)
 pub next-fault : (old : Held) (bytes : List ℕ) (fault : ReadFault) (new : Held) → old ≡ Ok bytes → (fault ≡ Memory → ⊥) → Next old (Err fault) new → (wrong : Wrong) × (request bytes ≡ Err wrong)
 next-fault old bytes fault new e other next = fault-of bytes (request bytes) fault new refl other (subst (λ h. Next h (Err fault) new) e next)
 
-memory-of : (bytes : List ℕ) (outcome : Outcome Found) (new : Held) → request bytes ≡ outcome → NextOf bytes outcome (Err Memory) new → HasNext new
-memory-of bytes (Ok (Some found)) new e (inl (is, left)) = cc
-memory-of bytes (Ok (Some found)) new e (inr (is, left)) = record { bytes = bytes; holds = left; whole = (found, e) }
-memory-of bytes (Ok None) new e (is, left) = cc
-memory-of bytes (Err Length) new e (is, left) = cc
-memory-of bytes (Err Shape) new e (is, left) = cc
-memory-of bytes (Err Limit) new e (is, left) = cc
-
--- a request for which memory ran out is whole, and is still held
-pub next-memory : (old : Held) (bytes : List ℕ) (new : Held) → old ≡ Ok bytes → Next old (Err Memory) new → HasNext new
-next-memory old bytes new e next = memory-of bytes (request bytes) new refl (subst (λ h. Next h (Err Memory) new) e next)
-
 -- a request has bytes
 spelled-some : (bytes : List ℕ) (words : List (List ℕ)) → Spells bytes words → 0 < length bytes
 spelled-some bytes words spells = elim spells.spelled [ inl is ↦ omega (arith, ap length is) | inr is ↦ omega (arith, ap length is.1) ]
@@ -102,16 +89,6 @@ pub ready-next : (old held : Held) (words : List (List ℕ)) (new : Held) → Re
 ready-next old held words new ready are skips =
     subst (λ h. Next h (Ok (Some words)) new) (ready-front old held ready).1 (next-skipped held words new are skips)
 
--- out of memory it stays
-whole-memory : (bytes : List ℕ) (outcome : Outcome Found) (new : Held) → ReadyOf bytes outcome (Ok true) new → NextOf bytes outcome (Err Memory) new
-whole-memory bytes (Ok (Some found)) new (is, same) = inr (refl, same)
-whole-memory bytes (Ok None) new (is, same) = cc
-whole-memory bytes (Err wrong) new (is, same) = cc
-
-pub ready-memory : (old new : Held) → Ready old (Ok true) new → Next old (Err Memory) new
-ready-memory (Ok bytes) new ready = whole-memory bytes (request bytes) new ready
-ready-memory (Err wrong) new (is, same) = cc
-
 -- what isn't whole is none yet
 whole-none : (bytes : List ℕ) (outcome : Outcome Found) (new : Held) → ReadyOf bytes outcome (Ok false) new → NextOf bytes outcome (Ok None) new
 whole-none bytes (Ok (Some found)) new (is, same) = cc
@@ -130,16 +107,6 @@ wrong-of bytes (Err wrong) fault new e (is, same) = (wrong, e)
 
 pub ready-wrong : (old : Held) (bytes : List ℕ) (fault : ReadFault) (new : Held) → old ≡ Ok bytes → Ready old (Err fault) new → (wrong : Wrong) × (request bytes ≡ Err wrong)
 ready-wrong old bytes fault new is ready = wrong-of bytes (request bytes) fault new refl (subst (λ h. Ready h (Err fault) new) is ready)
-
--- and that of the next one
-whole-fault : (bytes : List ℕ) (outcome : Outcome Found) (fault : ReadFault) (new : Held) → ReadyOf bytes outcome (Err fault) new → NextOf bytes outcome (Err fault) new
-whole-fault bytes (Ok (Some found)) fault new (is, same) = cc
-whole-fault bytes (Ok None) fault new (is, same) = cc
-whole-fault bytes (Err wrong) fault new (is, same) = (ap Err (let same' : fault ≡ fault_of wrong = cc in same'), same)
-
-pub ready-fault : (old : Held) (fault : ReadFault) (new : Held) → Ready old (Err fault) new → Next old (Err fault) new
-ready-fault (Ok bytes) fault new ready = whole-fault bytes (request bytes) fault new ready
-ready-fault (Err wrong) fault new (is, same) = (ap Err (let told : fault ≡ fault_of wrong = cc in told), same)
 
 -- a piece more
 pub fed-length : (old : Held) (got : List ℕ) → held_length (fed old got) ≤ held_length old + length got

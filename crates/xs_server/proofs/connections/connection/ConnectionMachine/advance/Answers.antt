@@ -6,7 +6,7 @@ use Rattle.xs_resp.specs.ReplyText.{text}
 use Rattle.xs_resp.specs.LeftToWrite.{left}
 use Rattle.xs_resp.proofs.Decisions.{request-open, request-fault}
 use Rattle.xs_resp.specs.HeldBytes.{Next, Ready}
-use Rattle.xs_resp.proofs.NextRequest.{next-words, next-none, next-same, next-fault, next-shorter, ready-next, ready-none, ready-wrong}
+use Rattle.xs_resp.proofs.NextRequest.{next-words, next-none, next-same, next-shorter, ready-next, ready-none, ready-wrong}
 use Rattle.xs_server.specs.declared.connections.ending.ServeFault.TheVariants as fault
 use Rattle.xs_server.specs.Exchange.{Exchange}
 use Rattle.xs_server.specs.Machine.{itself}
