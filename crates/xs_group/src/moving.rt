@@ -17,7 +17,7 @@ use xs_bytes::Bytes;
 use xs_stream::{Id, Moment};
 
 /// The same name.
-fn is_same_name(a: &Bytes, b: &Bytes) -> bool
+fn are_equal_names(a: &Bytes, b: &Bytes) -> bool
     ensures { result ≡ is_name a.now b.now }
 {
     a.cmp(b).is_eq()
@@ -36,7 +36,7 @@ pub(crate) fn row_of<'a>(
     let ids = owners.get(name)?;
     let id = ids.first()?;
     let entry = rows.get(id)?;
-    if !is_same_name(entry.consumer(), name) {
+    if !are_equal_names(entry.consumer(), name) {
         return None;
     }
     Some(entry)
@@ -58,7 +58,7 @@ fn is_row_of(rows: &IdIndex, name: &Bytes, id: Id) -> bool
     ensures { result ≡ is_owner (indexed_row rows.now.entries id) name.now }
 {
     match rows.get(&id) {
-        Some(entry) => is_same_name(entry.consumer(), name),
+        Some(entry) => are_equal_names(entry.consumer(), name),
         None => false,
     }
 }
@@ -115,7 +115,7 @@ fn leave_owner(owners: &mut ConsumerIndex, old: &Bytes, name: &Bytes, id: Id)
         ≡ (if is_name old.now name.now then holds owners.old.entries n x
         else (holds owners.old.entries n x && not (is_name n old.now && is_same x id))) }
 {
-    if is_same_name(old, name) {
+    if are_equal_names(old, name) {
         return;
     }
     consumer_index::remove_id(owners, old, id);

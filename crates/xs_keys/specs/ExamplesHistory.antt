@@ -47,8 +47,8 @@ given_ids life = ids_of (given_in life)
 abbrev pub live_ids : List Change → List Id
 live_ids life = ids_of (live life)
 
-abbrev pub delivered_ids : GroupLife → List Id
-delivered_ids life = delivered life.start life.events
+abbrev pub ids_of_life : GroupLife → List Id
+ids_of_life life = delivered life.start life.events
 
 abbrev pub cursor_of : GroupLife → Id
 cursor_of life = cursor life.start life.events
@@ -120,7 +120,7 @@ pub record Groups : Type 0 where
 
 -- what is delivered behind these lines
 abbrev pub delivered_in : List (List ℕ) → Option (List Id)
-delivered_in lines = of_group (group_and lines) delivered_ids
+delivered_in lines = of_group (group_and lines) ids_of_life
 
 pub record Deliveries : Type 0 where
   pub nothing_yet : delivered_in [] ≡ Some []
