@@ -11,12 +11,12 @@ returns-in_err-entry-clause-found c = λ agreed x e.
     let found = sym (agreed c.args.name.now id) ∙ ap (λ o. has_among o id) (sym c.in_ok-ids.ensures.value) ∙ c.in_ok-id.ensures.member in
     absurd (false≢true (ap (λ o. is_owner o c.args.name.now) c.in_err-entry.ensures.value ∙ found))
 
-pub returns-then-not-is_same_name-clause-found : goal.returns-then-not-is_same_name-clause-found
-returns-then-not-is_same_name-clause-found c = λ agreed x e.
+pub returns-then-not-are_equal_names-clause-found : goal.returns-then-not-are_equal_names-clause-found
+returns-then-not-are_equal_names-clause-found c = λ agreed x e.
     let id = c.in_ok-id.id.now in
     let found = sym (agreed c.args.name.now id) ∙ ap (λ o. has_among o id) (sym c.in_ok-ids.ensures.value) ∙ c.in_ok-id.ensures.member in
-    c.if-not-is_same_name.ensures ∙ ap (λ k. is_name k c.args.name.now) c.consumer.ensures
+    c.if-not-are_equal_names.ensures ∙ ap (λ k. is_name k c.args.name.now) c.consumer.ensures
     ∙ ap (λ o. is_owner o c.args.name.now) c.in_ok-entry.ensures.value ∙ found
 
 pub returns-clause-whose : goal.returns-clause-whose
-returns-clause-whose c = sym c.consumer.ensures ∙ is_name-eq c.consumer.result.now c.args.name.now (sym c.if-not-is_same_name.ensures)
+returns-clause-whose c = sym c.consumer.ensures ∙ is_name-eq c.consumer.result.now c.args.name.now (sym c.if-not-are_equal_names.ensures)
