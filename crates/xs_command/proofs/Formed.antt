@@ -6,7 +6,7 @@ use Rattle.xs_stream.specs.declared.add.AddId.{AddId}
 use Rattle.xs_stream.specs.declared.add.AddId.TheVariants as add
 use Rattle.xs_stream.specs.declared.field.Field.{Field}
 use Rattle.xs_stream.specs.declared.trim.Trim.{Trim}
-use Rattle.xs_stream.specs.Id.{is_same, zero_id}
+use Rattle.xs_stream.specs.Id.{is_same_id, zero_id}
 use Rattle.xs_stream.specs.IdText.{parse_id, id_number}
 use Rattle.xs_resp.specs.declared.fault.Fault.{Fault}
 use Rattle.xs_resp.specs.declared.fault.Fault.TheVariants.{Syntax, BadId, Arity, ZeroId}
@@ -102,11 +102,11 @@ del_formed (k ∷ keys) y e = del_test (nat_lt 0 (length (k ∷ keys))) k keys y
 
 written_sure : (o : Option Id) (x : AddId) → written o ≡ Ok x → IsAddId x
 written_sure None x e = absurd cc
-written_sure (Some id) x e = written_test id x (is_same id zero_id) refl e
+written_sure (Some id) x e = written_test id x (is_same_id id zero_id) refl e
   where
-    written_test : (id : Id) (x : AddId) (b : Bool) → is_same id zero_id ≡ b → cond b (Err ZeroId) (Ok (add.Exact id)) ≡ Ok x → IsAddId x
+    written_test : (id : Id) (x : AddId) (b : Bool) → is_same_id id zero_id ≡ b → cond b (Err ZeroId) (Ok (add.Exact id)) ≡ Ok x → IsAddId x
     written_test id x true h e = absurd cc
-    written_test id x false h e = let same : add.Exact id ≡ x = cc in subst IsAddId same (λ z. cc (h, ap (λ i. is_same i zero_id) z))
+    written_test id x false h e = let same : add.Exact id ≡ x = cc in subst IsAddId same (λ z. cc (h, ap (λ i. is_same_id i zero_id) z))
 
 next_sure : (o : Option ℕ) (x : AddId) → next_in o ≡ Ok x → IsAddId x
 next_sure None x e = absurd cc

@@ -4,7 +4,7 @@ use Rattle.std.specs.Prelude.{if◌then◌else◌}
 use Rattle.xs_stream.specs.declared.id.Id.{Id}
 use Rattle.xs_stream.specs.declared.add.AddId.{AddId}
 use Rattle.xs_stream.specs.declared.add.AddId.TheVariants as add
-use Rattle.xs_stream.specs.Id.{is_same, zero_id}
+use Rattle.xs_stream.specs.Id.{is_same_id, zero_id}
 use Rattle.xs_stream.specs.IdText.{id_number, parse_id}
 use Rattle.xs_resp.specs.declared.fault.Fault.{Fault}
 use Rattle.xs_resp.specs.declared.fault.Fault.TheVariants.{BadId, ZeroId}
@@ -18,7 +18,7 @@ next_in (Some ms) = Ok (add.AutoSeq ms)
 -- a written id
 abbrev pub written : Option Id → Result AddId Fault
 written None = Err BadId
-written (Some id) = if is_same id zero_id then Err ZeroId else Ok (add.Exact id)
+written (Some id) = if is_same_id id zero_id then Err ZeroId else Ok (add.Exact id)
 
 -- `*`, `ms-*`, `ms-seq` or `ms`; a missing sequence is 0
 abbrev pub add_id_of : List ℕ → Result AddId Fault

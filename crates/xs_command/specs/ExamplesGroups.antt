@@ -2,7 +2,7 @@
 -- XAUTOCLAIM tell it and a real Redis 7.0 answers. Which fault is told first is this server's own.
 use Rattle.std.specs.Prelude.{ℕ, Bool, true, false, List, [], ◌∷◌, map, codes, Option, Some, None}
 use Rattle.xs_stream.specs.declared.id.Id.{Id}
-use Rattle.xs_stream.specs.Id.{zero_id, greatest_id, last}
+use Rattle.xs_stream.specs.Id.{zero_id, greatest_id, greatest_number}
 use Rattle.xs_stream.specs.Examples.{at}
 use Rattle.xs_group.specs.declared.claims.ClaimTime.{ClaimTime}
 use Rattle.xs_group.specs.declared.claims.ClaimTime.TheVariants as time
@@ -124,8 +124,8 @@ pub record Pending : Type 0 where
   pub second_is_none : HasFault (codes "XACK k g 1 x") BadId
   pub summary : Spells (codes "xpending k g") (command.Pending (codes "k") (codes "g"))
   pub rows : Spells (codes "XPENDING k g - + 10") (tells 0 zero_id greatest_id 10 None)
-  pub rows_of_a_consumer : Spells (codes "XPENDING k g 5 6 1 c") (tells 0 (at 5 0) (at 6 last) 1 (Some (codes "c")))
-  pub rows_left_out : Spells (codes "XPENDING k g (5-3 (6-0 1") (tells 0 (at 5 4) (at 5 last) 1 None)
+  pub rows_of_a_consumer : Spells (codes "XPENDING k g 5 6 1 c") (tells 0 (at 5 0) (at 6 greatest_number) 1 (Some (codes "c")))
+  pub rows_left_out : Spells (codes "XPENDING k g (5-3 (6-0 1") (tells 0 (at 5 4) (at 5 greatest_number) 1 None)
   pub rows_that_are_idle : Spells (codes "XPENDING k g idle 7 - + 10") (tells 7 zero_id greatest_id 10 None)
   pub idle_below_zero_own :
       Spells (codes "XPENDING k g IDLE -7 - + 10 c") (tells 0 zero_id greatest_id 10 (Some (codes "c")))

@@ -8,7 +8,7 @@ use Rattle.xs_stream.specs.declared.add.AddId.{AddId}
 use Rattle.xs_stream.specs.declared.add.AddId.TheVariants.{Auto, AutoSeq, Exact}
 use Rattle.xs_stream.specs.declared.trim.Trim.{Trim}
 use Rattle.xs_stream.specs.declared.trim.Trim.TheVariants.{MaxLen, MinId}
-use Rattle.xs_stream.specs.Id.{zero_id, greatest_id, last}
+use Rattle.xs_stream.specs.Id.{zero_id, greatest_id, greatest_number}
 use Rattle.xs_stream.specs.Examples.{at}
 use Rattle.xs_resp.specs.declared.fault.Fault.TheVariants.{Arity, Syntax, BadId, NotInteger, ZeroId, Unsupported}
 use Rattle.xs_command.specs.declared.command.Command.{Command}
@@ -106,9 +106,9 @@ pub record Removals : Type 0 where
 
 pub record Scans : Type 0 where
   pub all : Spells (codes "XRANGE k - +") (scans zero_id greatest_id None)
-  pub of_a_millisecond : Spells (codes "XRANGE k 5 5") (scans (at 5 0) (at 5 last) None)
+  pub of_a_millisecond : Spells (codes "XRANGE k 5 5") (scans (at 5 0) (at 5 greatest_number) None)
   pub one_id : Spells (codes "XRANGE k 5-3 5-3") (scans (at 5 3) (at 5 3) None)
-  pub ends_left_out : Spells (codes "XRANGE k (5-3 (6-0") (scans (at 5 4) (at 5 last) None)
+  pub ends_left_out : Spells (codes "XRANGE k (5-3 (6-0") (scans (at 5 4) (at 5 greatest_number) None)
   pub at_most_none_own : Spells (codes "XRANGE k - + COUNT 0") (scans zero_id greatest_id (Some 0))
   pub below_zero_own : Spells (codes "XRANGE k - + COUNT -5") (scans zero_id greatest_id (Some 0))
   pub the_last_count_own : Spells (codes "xrange k - + count 1 COUNT 2") (scans zero_id greatest_id (Some 2))
@@ -122,8 +122,8 @@ pub record Scans : Type 0 where
   pub count_is_none : HasFault (codes "XRANGE k - + COUNT x") NotInteger
   pub another_option : HasFault (codes "XRANGE k - + LIMIT 5") Syntax
   pub all_back : Spells (codes "XREVRANGE k + -") (scans_back zero_id greatest_id None)
-  pub high_first : Spells (codes "xrevrange k 6 5 COUNT 1") (scans_back (at 5 0) (at 6 last) (Some 1))
-  pub ends_left_out_back : Spells (codes "XREVRANGE k (6-0 (5-3") (scans_back (at 5 4) (at 5 last) None)
+  pub high_first : Spells (codes "xrevrange k 6 5 COUNT 1") (scans_back (at 5 0) (at 6 greatest_number) (Some 1))
+  pub ends_left_out_back : Spells (codes "XREVRANGE k (6-0 (5-3") (scans_back (at 5 4) (at 5 greatest_number) None)
   pub high_is_none_back : HasFault (codes "XREVRANGE k x -") BadId
   pub low_is_none_back : HasFault (codes "XREVRANGE k + x") BadId
   pub another_option_back : HasFault (codes "XREVRANGE k + - 5") Syntax

@@ -11,7 +11,7 @@ use Rattle.xs_keys.specs.Event.{Event, History}
 use Rattle.xs_command.specs.declared.command.Command.{Command}
 use Rattle.xs_command.specs.WellFormed.{IsWellFormed}
 use Rattle.xs_keys.specs.Content.{Content}
-use Rattle.xs_keys.specs.EachReply.{Follows, Answers}
+use Rattle.xs_keys.specs.EachReply.{Follows, AreReplied}
 use Rattle.xs_keys.specs.Headline.{RunsOn}
 use Rattle.xs_keys.specs.Step.{Step}
 use Rattle.xs_keys.proofs.Lawfulness.{content-lawful}
@@ -23,7 +23,7 @@ use Rattle.xs_desk.proofs.Lists.{snoc-cases, set-cases, length-slice_set}
 -- ---- runs
 
 answers-snoc : (past events : History) (answers : List Reply) (mid : History) (e : Event) (answer : Reply) (last : History)
-    → Answers past events answers mid → Follows mid e.0 e.1 answer last → Answers past (events ++ e ∷ []) (answers ++ answer ∷ []) last
+    → AreReplied past events answers mid → Follows mid e.0 e.1 answer last → AreReplied past (events ++ e ∷ []) (answers ++ answer ∷ []) last
 answers-snoc past [] [] mid e answer last run step = (last, subst (λ p. Follows p e.0 e.1 answer last) run step, refl)
 answers-snoc past [] (a ∷ more) mid e answer last run step = absurd run
 answers-snoc past (x ∷ xs) [] mid e answer last run step = absurd run

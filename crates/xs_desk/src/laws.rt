@@ -3,7 +3,7 @@ ghost use Rattle.std.specs.Prelude.{◌≡◌, ◌++◌, ◌∷◌, [], ℕ, Lis
 ghost use Rattle.xs_keys.specs.Event.{Event, History};
 ghost use Rattle.xs_command.specs.declared.command.Command.{Command};
 ghost use Rattle.xs_keys.specs.Headline.{AreWellFormed, Headline, LivesAreApart};
-ghost use Rattle.xs_keys.specs.JobMove.{EachGoesAlong};
+ghost use Rattle.xs_keys.specs.JobMove.{EachMovesAlong};
 ghost use Rattle.xs_desk.specs.History.{ServedCall, Desk, IsHistory, events_of, replies_of};
 ghost use Rattle.xs_desk.specs.KeeperTurns.{ServesAll};
 
@@ -24,5 +24,5 @@ pub fn what_is_served_has_the_headline()
     ensures { (desk : Desk) (history : List ServedCall) → IsHistory history desk → (events : History)
         × Headline [] (events_of history) (replies_of history) events × AreWellFormed events
         × ((later : History) (e : Event) (earlier : History) → events ≡ later ++ e ∷ earlier
-        → LivesAreApart earlier e × EachGoesAlong earlier e) }
+        → LivesAreApart earlier e × EachMovesAlong earlier e) }
 {}

@@ -8,24 +8,24 @@ use Rattle.std.specs.List.{list_any}
 use Rattle.xs_bytes.specs.SortedMap.{get, has_key}
 use Rattle.xs_bytes.proofs.SortedMaps.{get-insert_by}
 use Rattle.xs_stream.specs.declared.id.Id.{Id}
-use Rattle.xs_stream.specs.Id.{id_cmp, is_same}
+use Rattle.xs_stream.specs.Id.{id_cmp, is_same_id}
 use Rattle.xs_stream.proofs.Order.{is_same-eq, is_same-symm}
-use Rattle.xs_group.specs.State.{Row, Rows, Names, is_name, with_name, has_name}
+use Rattle.xs_group.specs.State.{RowState, Rows, Names, is_same_name, with_name, has_name}
 use Rattle.xs_group.specs.Indexes.{rows_of, PendingList, ConsumerIndex, names_of, ids_at, has_among, holds, is_owner, indexed_row, IsAgreed}
 use Rattle.xs_group.proofs.ByConsumer.{Index, is_name-eq, is_name-symm}
 use Rattle.xs_group.proofs.Views.{RowMap, has_name-names_of, same_names, names-same, get-rows_of}
 
 -- ---- a consumer more
 
-pub agreed-joined : (rows : List (Id × Row)) (m n : Index) (name : List ℕ) (s : BTreeSet Id) → IsAgreed rows m.entries
+pub agreed-joined : (rows : List (Id × RowState)) (m n : Index) (name : List ℕ) (s : BTreeSet Id) → IsAgreed rows m.entries
     → is_some (ids_at m.entries name) ≡ false → s.keys ≡ [] → UpdatesBy (slice_cmp nat_cmp) (slice_cmp nat_cmp name) m n (Some s) → IsAgreed rows n.entries
-agreed-joined rows m n name s agreed none nothing u q x = by (is_name name q) refl where
+agreed-joined rows m n name s agreed none nothing u q x = by (is_same_name name q) refl where
   gone : (o : Option (BTreeSet Id)) → is_some o ≡ false → has_among o x ≡ false
   gone None e = refl
   gone (Some y) e = cc
 
-  by : (t : Bool) → is_name name q ≡ t → holds n.entries q x ≡ is_owner (indexed_row rows x) q
-  by true t = ap (λ o. has_among o x) (u.0 q ∙ ap (λ b. cond b (Some s) (ids_at m.entries q)) t) ∙ ap (λ ks. list_any (is_same x) ks) nothing
+  by : (t : Bool) → is_same_name name q ≡ t → holds n.entries q x ≡ is_owner (indexed_row rows x) q
+  by true t = ap (λ o. has_among o x) (u.0 q ∙ ap (λ b. cond b (Some s) (ids_at m.entries q)) t) ∙ ap (λ ks. list_any (is_same_id x) ks) nothing
       ∙ sym (gone (ids_at m.entries q) (ap (λ k. is_some (ids_at m.entries k)) (sym (is_name-eq name q t)) ∙ none)) ∙ agreed q x
   by false t = ap (λ o. has_among o x) (u.2 q t) ∙ agreed q x
 
@@ -33,29 +33,29 @@ is_some-cond : {X : Type 0} (b : Bool) (x : X) (o : Option X) → is_some (cond 
 is_some-cond true x o = refl
 is_some-cond false x o = refl
 
-pub has_name-with_name : (names : Names) (name q : List ℕ) → has_name (with_name names name) q ≡ (is_name q name || has_name names q)
-has_name-with_name names name q = ap is_some (get-insert_by nat_list_cmp_total names name tt q) ∙ is_some-cond (is_name q name) tt (get names q)
+pub has_name-with_name : (names : Names) (name q : List ℕ) → has_name (with_name names name) q ≡ (is_same_name q name || has_name names q)
+has_name-with_name names name q = ap is_some (get-insert_by nat_list_cmp_total names name tt q) ∙ is_some-cond (is_same_name q name) tt (get names q)
 
 pub names-joined : (m n : Index) (name : List ℕ) (s : BTreeSet Id) → UpdatesBy (slice_cmp nat_cmp) (slice_cmp nat_cmp name) m n (Some s)
     → names_of n.entries ≡ with_name (names_of m.entries) name
 names-joined m n name s u = same_names _ _ (λ q.
-    has_name-names_of n.entries q ∙ ap is_some (u.0 q) ∙ is_some-cond (is_name name q) s (ids_at m.entries q)
-    ∙ ap (λ b. b || is_some (ids_at m.entries q)) (is_name-symm name q) ∙ ap (λ b. is_name q name || b) (sym (has_name-names_of m.entries q))
+    has_name-names_of n.entries q ∙ ap is_some (u.0 q) ∙ is_some-cond (is_same_name name q) s (ids_at m.entries q)
+    ∙ ap (λ b. b || is_some (ids_at m.entries q)) (is_name-symm name q) ∙ ap (λ b. is_same_name q name || b) (sym (has_name-names_of m.entries q))
     ∙ sym (has_name-with_name (names_of m.entries) name q))
 
 -- a consumer that is there already
 pub name-again : (names : Names) (name : List ℕ) → has_name names name ≡ true → with_name names name ≡ names
-name-again names name there = same_names _ _ (λ q. has_name-with_name names name q ∙ by q (is_name q name) refl) where
-  by : (q : List ℕ) (t : Bool) → is_name q name ≡ t → (t || has_name names q) ≡ has_name names q
+name-again names name there = same_names _ _ (λ q. has_name-with_name names name q ∙ by q (is_same_name q name) refl) where
+  by : (q : List ℕ) (t : Bool) → is_same_name q name ≡ t → (t || has_name names q) ≡ has_name names q
   by q true t = sym (ap (has_name names) (is_name-eq q name t) ∙ there)
   by q false t = refl
 
 -- ---- a row less
 
-pub agreed-taken : (m n : RowMap) (a b : ConsumerIndex) (id : Id) (row : Row) → IsAgreed m.entries a → indexed_row m.entries id ≡ Some row
-    → ((q : List ℕ) → (x : Id) → holds b q x ≡ (holds a q x && not (is_name q row.consumer && is_same x id)))
+pub agreed-taken : (m n : RowMap) (a b : ConsumerIndex) (id : Id) (row : RowState) → IsAgreed m.entries a → indexed_row m.entries id ≡ Some row
+    → ((q : List ℕ) → (x : Id) → holds b q x ≡ (holds a q x && not (is_same_name q row.consumer && is_same_id x id)))
     → UpdatesBy id_cmp (id_cmp id) m n None → IsAgreed n.entries b
-agreed-taken m n a b id row agreed found h u q x = h q x ∙ by (is_same id x) refl where
+agreed-taken m n a b id row agreed found h u q x = h q x ∙ by (is_same_id id x) refl where
   undone : (c d : Bool) → (c && not (d && false)) ≡ c
   undone true true = refl
   undone true false = refl
@@ -65,18 +65,18 @@ agreed-taken m n a b id row agreed found h u q x = h q x ∙ by (is_same id x) r
   nothing true = refl
   nothing false = refl
 
-  by : (t : Bool) → is_same id x ≡ t → (holds a q x && not (is_name q row.consumer && is_same x id)) ≡ is_owner (indexed_row n.entries x) q
+  by : (t : Bool) → is_same_id id x ≡ t → (holds a q x && not (is_same_name q row.consumer && is_same_id x id)) ≡ is_owner (indexed_row n.entries x) q
   by true t =
-      let mine : holds a q x ≡ is_name q row.consumer = agreed q x ∙ ap (λ o. is_owner o q) (ap (indexed_row m.entries) (sym (is_same-eq id x t)) ∙ found) ∙ is_name-symm row.consumer q in
-      ap (λ c. c && not (is_name q row.consumer && is_same x id)) mine ∙ ap (λ c. is_name q row.consumer && not (is_name q row.consumer && c)) (is_same-symm x id ∙ t)
-      ∙ nothing (is_name q row.consumer) ∙ sym (ap (λ o. is_owner o q) (u.0 x ∙ ap (λ c. cond c None (indexed_row m.entries x)) t))
-  by false t = ap (λ c. holds a q x && not (is_name q row.consumer && c)) (is_same-symm x id ∙ t) ∙ undone (holds a q x) (is_name q row.consumer) ∙ agreed q x ∙ sym (ap (λ o. is_owner o q) (u.2 x t))
+      let mine : holds a q x ≡ is_same_name q row.consumer = agreed q x ∙ ap (λ o. is_owner o q) (ap (indexed_row m.entries) (sym (is_same-eq id x t)) ∙ found) ∙ is_name-symm row.consumer q in
+      ap (λ c. c && not (is_same_name q row.consumer && is_same_id x id)) mine ∙ ap (λ c. is_same_name q row.consumer && not (is_same_name q row.consumer && c)) (is_same-symm x id ∙ t)
+      ∙ nothing (is_same_name q row.consumer) ∙ sym (ap (λ o. is_owner o q) (u.0 x ∙ ap (λ c. cond c None (indexed_row m.entries x)) t))
+  by false t = ap (λ c. holds a q x && not (is_same_name q row.consumer && c)) (is_same-symm x id ∙ t) ∙ undone (holds a q x) (is_same_name q row.consumer) ∙ agreed q x ∙ sym (ap (λ o. is_owner o q) (u.2 x t))
 
 -- ---- what callers know of a row
 
-pub none-from_free : (rows : List (Id × Row)) (id : Id) → has_key (rows_of rows) id ≡ false → indexed_row rows id ≡ None
+pub none-from_free : (rows : List (Id × RowState)) (id : Id) → has_key (rows_of rows) id ≡ false → indexed_row rows id ≡ None
 none-from_free rows id e = by (indexed_row rows id) (ap is_some (sym (get-rows_of rows id)) ∙ e) where
-  by : (o : Option Row) → is_some o ≡ false → o ≡ None
+  by : (o : Option RowState) → is_some o ≡ false → o ≡ None
   by None e = refl
   by (Some x) e = cc
 

@@ -11,18 +11,18 @@ use Rattle.std.proofs.Math.Bool.{or_assoc}
 use Rattle.std.proofs.lemmas.Cmp.{tied_itself}
 use Rattle.std.proofs.lemmas.Map.Lookups.{exact_bytes}
 use Rattle.xs_stream.specs.declared.id.Id.{Id}
-use Rattle.xs_stream.specs.Id.{id_cmp, is_same, has_id}
+use Rattle.xs_stream.specs.Id.{id_cmp, is_same_id, has_id}
 use Rattle.xs_stream.proofs.Order.{equal-from, is_same-symm}
-use Rattle.xs_group.specs.State.{is_name}
+use Rattle.xs_group.specs.State.{is_same_name}
 use Rattle.xs_group.specs.Indexes.{ids_at, has_among, holds}
 
-pub is_name-eq : (a b : List ℕ) → is_name a b ≡ true → a ≡ b
+pub is_name-eq : (a b : List ℕ) → is_same_name a b ≡ true → a ≡ b
 is_name-eq a b e = exact_bytes a b (equal-from _ e)
 
-pub is_name-refl : (a : List ℕ) → is_name a a ≡ true
+pub is_name-refl : (a : List ℕ) → is_same_name a a ≡ true
 is_name-refl a = ap is_eq (tied_itself nat_list_cmp_total a)
 
-pub is_name-symm : (a b : List ℕ) → is_name a b ≡ is_name b a
+pub is_name-symm : (a b : List ℕ) → is_same_name a b ≡ is_same_name b a
 is_name-symm a b = (eq_by_cmp_equiv nat_list_cmp_total).symm a b
 
 abbrev pub Index : Type 0
@@ -42,9 +42,9 @@ and_turned false false = refl
 
 -- an id more in a set
 pub contains-more : (s w : BTreeSet Id) (id : Id) (a h : Bool) (x : Id) → set.Updates id_cmp s w id true → set.contains id_cmp s x ≡ (a || h)
-    → set.contains id_cmp w x ≡ (a || (h || is_same x id))
-contains-more s w id a h x v e = v.0 x ∙ or_turned (is_same id x) (set.contains id_cmp s x) ∙ ap (λ b. b || is_same id x) e
-    ∙ ap (λ b. (a || h) || b) (is_same-symm id x) ∙ or_assoc a h (is_same x id)
+    → set.contains id_cmp w x ≡ (a || (h || is_same_id x id))
+contains-more s w id a h x v e = v.0 x ∙ or_turned (is_same_id id x) (set.contains id_cmp s x) ∙ ap (λ b. b || is_same_id id x) e
+    ∙ ap (λ b. (a || h) || b) (is_same-symm id x) ∙ or_assoc a h (is_same_id x id)
 
 or_no : (b : Bool) → b ≡ (b || false)
 or_no true = refl
@@ -56,38 +56,38 @@ and_yes false = refl
 
 module _ (m n : Index) (name : List ℕ) (s w : BTreeSet Id) (e : tree.get (slice_cmp nat_cmp) m name ≡ Some s)
     (u : UpdatesBy (slice_cmp nat_cmp) (slice_cmp nat_cmp name) m n (Some w)) where
-  found : (q : List ℕ) → is_name name q ≡ true → ids_at m.entries q ≡ Some s
+  found : (q : List ℕ) → is_same_name name q ≡ true → ids_at m.entries q ≡ Some s
   found q t = ap (λ k. ids_at m.entries k) (sym (is_name-eq name q t)) ∙ e
 
   pub names-written : (q : List ℕ) → is_some (ids_at n.entries q) ≡ is_some (ids_at m.entries q)
-  names-written q = by (is_name name q) refl where
-    by : (t : Bool) → is_name name q ≡ t → is_some (ids_at n.entries q) ≡ is_some (ids_at m.entries q)
+  names-written q = by (is_same_name name q) refl where
+    by : (t : Bool) → is_same_name name q ≡ t → is_some (ids_at n.entries q) ≡ is_some (ids_at m.entries q)
     by true t = ap is_some (u.0 q ∙ ap (λ b. cond b (Some w) (ids_at m.entries q)) t) ∙ sym (ap is_some (found q t))
     by false t = ap is_some (u.2 q t)
 
   -- ids more in the set that is found
   pub holds-put : (ids : List Id) → ((x : Id) → set.contains id_cmp w x ≡ (set.contains id_cmp s x || has_id ids x)) → (q : List ℕ) (x : Id)
-      → holds n.entries q x ≡ (holds m.entries q x || (is_name q name && has_id ids x))
-  holds-put ids v q x = by (is_name name q) refl where
-    by : (t : Bool) → is_name name q ≡ t → holds n.entries q x ≡ (holds m.entries q x || (is_name q name && has_id ids x))
+      → holds n.entries q x ≡ (holds m.entries q x || (is_same_name q name && has_id ids x))
+  holds-put ids v q x = by (is_same_name name q) refl where
+    by : (t : Bool) → is_same_name name q ≡ t → holds n.entries q x ≡ (holds m.entries q x || (is_same_name q name && has_id ids x))
     by true t = ap (λ o. has_among o x) (u.0 q ∙ ap (λ b. cond b (Some w) (ids_at m.entries q)) t) ∙ v x
         ∙ ap (λ b. b || has_id ids x) (sym (ap (λ o. has_among o x) (found q t)))
         ∙ ap (λ b. holds m.entries q x || (b && has_id ids x)) (sym t ∙ is_name-symm name q)
     by false t = ap (λ o. has_among o x) (u.2 q t) ∙ or_no (holds m.entries q x) ∙ ap (λ b. holds m.entries q x || (b && has_id ids x)) (sym t ∙ is_name-symm name q)
 
   -- an id less
-  pub holds-removed : (id : Id) → set.UpdatesBy id_cmp (id_cmp id) s w false → (q : List ℕ) (x : Id) → holds n.entries q x ≡ (holds m.entries q x && not (is_name q name && is_same x id))
-  holds-removed id v q x = by (is_name name q) refl where
-    by : (t : Bool) → is_name name q ≡ t → holds n.entries q x ≡ (holds m.entries q x && not (is_name q name && is_same x id))
-    by true t = ap (λ o. has_among o x) (u.0 q ∙ ap (λ b. cond b (Some w) (ids_at m.entries q)) t) ∙ v.0 x ∙ and_turned (is_same id x) (set.contains id_cmp s x)
-        ∙ ap (λ b. b && not (is_same id x)) (sym (ap (λ o. has_among o x) (found q t))) ∙ ap (λ b. holds m.entries q x && not b) (is_same-symm id x)
-        ∙ ap (λ b. holds m.entries q x && not (b && is_same x id)) (sym t ∙ is_name-symm name q)
-    by false t = ap (λ o. has_among o x) (u.2 q t) ∙ and_yes (holds m.entries q x) ∙ ap (λ b. holds m.entries q x && not (b && is_same x id)) (sym t ∙ is_name-symm name q)
+  pub holds-removed : (id : Id) → set.UpdatesBy id_cmp (id_cmp id) s w false → (q : List ℕ) (x : Id) → holds n.entries q x ≡ (holds m.entries q x && not (is_same_name q name && is_same_id x id))
+  holds-removed id v q x = by (is_same_name name q) refl where
+    by : (t : Bool) → is_same_name name q ≡ t → holds n.entries q x ≡ (holds m.entries q x && not (is_same_name q name && is_same_id x id))
+    by true t = ap (λ o. has_among o x) (u.0 q ∙ ap (λ b. cond b (Some w) (ids_at m.entries q)) t) ∙ v.0 x ∙ and_turned (is_same_id id x) (set.contains id_cmp s x)
+        ∙ ap (λ b. b && not (is_same_id id x)) (sym (ap (λ o. has_among o x) (found q t))) ∙ ap (λ b. holds m.entries q x && not b) (is_same-symm id x)
+        ∙ ap (λ b. holds m.entries q x && not (b && is_same_id x id)) (sym t ∙ is_name-symm name q)
+    by false t = ap (λ o. has_among o x) (u.2 q t) ∙ and_yes (holds m.entries q x) ∙ ap (λ b. holds m.entries q x && not (b && is_same_id x id)) (sym t ∙ is_name-symm name q)
 
 -- a consumer that isn't there has nothing to lose
 pub holds-absent : (m n : Index) (name : List ℕ) → n ≡ m → tree.get (slice_cmp nat_cmp) m name ≡ None → (id : Id) (q : List ℕ) (x : Id)
-    → holds n.entries q x ≡ (holds m.entries q x && not (is_name q name && is_same x id))
-holds-absent m n name e none id q x = ap (λ (k : Index). holds k.entries q x) e ∙ by (is_name q name) refl where
-  by : (t : Bool) → is_name q name ≡ t → holds m.entries q x ≡ (holds m.entries q x && not (t && is_same x id))
+    → holds n.entries q x ≡ (holds m.entries q x && not (is_same_name q name && is_same_id x id))
+holds-absent m n name e none id q x = ap (λ (k : Index). holds k.entries q x) e ∙ by (is_same_name q name) refl where
+  by : (t : Bool) → is_same_name q name ≡ t → holds m.entries q x ≡ (holds m.entries q x && not (t && is_same_id x id))
   by true t = let gone : holds m.entries q x ≡ false = ap (λ k. holds m.entries k x) (is_name-eq q name t) ∙ ap (λ o. has_among o x) none in rw gone refl
   by false t = and_yes (holds m.entries q x)

@@ -7,13 +7,13 @@ use Rattle.std.specs.Ordering.{is_lt, is_eq}
 use Rattle.std.specs.declared.cmp.Ordering.TheVariants.{Less, Equal, Greater}
 use Rattle.xs_bytes.specs.SortedMap.{get, change}
 use Rattle.xs_stream.specs.declared.id.Id.{Id}
-use Rattle.xs_stream.specs.Id.{id_cmp, is_same, is_below, has_id}
+use Rattle.xs_stream.specs.Id.{id_cmp, is_same_id, is_below, has_id}
 use Rattle.xs_stream.proofs.Order.{is_same-symm}
 use Rattle.xs_group.specs.declared.claims.Claim.{Claim}
-use Rattle.xs_group.specs.Claims.{Rule, is_taken, is_hit, firsts, from_start, scanned, claimed, claimed_row}
-use Rattle.xs_group.specs.State.{Row, Rows, State, unless_acked}
+use Rattle.xs_group.specs.Claims.{Rule, is_taken, is_hit, without_repeats, from_start, scanned_part, row_after_claim, claimed_row}
+use Rattle.xs_group.specs.State.{RowState, Rows, GroupState, unless_acked}
 use Rattle.xs_group.specs.Indexes.{rows_of, indexed_row}
-use Rattle.xs_group.specs.Verdict.{moved, scanned_after, AreApart, IsClaimOn}
+use Rattle.xs_group.specs.Verdict.{moved, scanned_after, AreDistinct, IsClaimOn}
 use Rattle.xs_group.proofs.Ordered.{first, second}
 use Rattle.xs_group.proofs.Views.{same_rows, get-rows_of}
 use Rattle.xs_group.proofs.RemovedRows.{get-changed}
@@ -23,32 +23,32 @@ use Rattle.xs_group.proofs.Scanning.{scanned-after}
 
 has-filter : (p : Id → Bool) (x : Id) (ids : List Id) → has_id ids x ≡ false → has_id (filter p ids) x ≡ false
 has-filter p x [] e = e
-has-filter p x (y ∷ ys) e = by (p y) (is_same x y) refl e (has-filter p x ys) where
-  by : (t s : Bool) → is_same x y ≡ s → (s || has_id ys x) ≡ false → (has_id ys x ≡ false → has_id (filter p ys) x ≡ false) → has_id (cond t (y ∷ filter p ys) (filter p ys)) x ≡ false
+has-filter p x (y ∷ ys) e = by (p y) (is_same_id x y) refl e (has-filter p x ys) where
+  by : (t s : Bool) → is_same_id x y ≡ s → (s || has_id ys x) ≡ false → (has_id ys x ≡ false → has_id (filter p ys) x ≡ false) → has_id (cond t (y ∷ filter p ys) (filter p ys)) x ≡ false
   by t true f e rest = absurd (false≢true (sym e))
   by true false f e rest = ap (λ b. b || has_id (filter p ys) x) f ∙ rest e
   by false false f e rest = rest e
 
-pub apart-filter : (p : Id → Bool) (ids : List Id) → AreApart ids → AreApart (filter p ids)
+pub apart-filter : (p : Id → Bool) (ids : List Id) → AreDistinct ids → AreDistinct (filter p ids)
 apart-filter p [] a = tt
 apart-filter p (y ∷ ys) a = by (p y) (apart-filter p ys a.1) where
-  by : (t : Bool) → AreApart (filter p ys) → AreApart (cond t (y ∷ filter p ys) (filter p ys))
+  by : (t : Bool) → AreDistinct (filter p ys) → AreDistinct (cond t (y ∷ filter p ys) (filter p ys))
   by true rest = (has-filter p y ys a.0, rest)
   by false rest = rest
 
-not_kept : (x : Id) (ids : List Id) → has_id (filter (λ y. not (is_same y x)) ids) x ≡ false
+not_kept : (x : Id) (ids : List Id) → has_id (filter (λ y. not (is_same_id y x)) ids) x ≡ false
 not_kept x [] = refl
-not_kept x (y ∷ ys) = by (is_same y x) refl (not_kept x ys) where
-  by : (t : Bool) → is_same y x ≡ t → has_id (filter (λ y. not (is_same y x)) ys) x ≡ false
-      → has_id (cond (not t) (y ∷ filter (λ y. not (is_same y x)) ys) (filter (λ y. not (is_same y x)) ys)) x ≡ false
+not_kept x (y ∷ ys) = by (is_same_id y x) refl (not_kept x ys) where
+  by : (t : Bool) → is_same_id y x ≡ t → has_id (filter (λ y. not (is_same_id y x)) ys) x ≡ false
+      → has_id (cond (not t) (y ∷ filter (λ y. not (is_same_id y x)) ys) (filter (λ y. not (is_same_id y x)) ys)) x ≡ false
   by true e rest = rest
-  by false e rest = ap (λ b. b || has_id (filter (λ y. not (is_same y x)) ys) x) (is_same-symm x y ∙ e) ∙ rest
+  by false e rest = ap (λ b. b || has_id (filter (λ y. not (is_same_id y x)) ys) x) (is_same-symm x y ∙ e) ∙ rest
 
-pub apart-firsts : (ids : List Id) → AreApart (firsts ids)
+pub apart-firsts : (ids : List Id) → AreDistinct (without_repeats ids)
 apart-firsts [] = tt
-apart-firsts (x ∷ xs) = (not_kept x (firsts xs), apart-filter (λ y. not (is_same y x)) (firsts xs) (apart-firsts xs))
+apart-firsts (x ∷ xs) = (not_kept x (without_repeats xs), apart-filter (λ y. not (is_same_id y x)) (without_repeats xs) (apart-firsts xs))
 
-above-keys : (x : Id) (es : List (Id × Row)) → T (below_all id_cmp x es) → has_id (map (λ e. e.0) es) x ≡ false
+above-keys : (x : Id) (es : List (Id × RowState)) → T (below_all id_cmp x es) → has_id (map (λ e. e.0) es) x ≡ false
 above-keys x [] h = refl
 above-keys x (e ∷ es) h = ap (λ b. b || has_id (map (λ e. e.0) es) x) (less _ (first _ _ h)) ∙ above-keys x es (second _ _ h) where
   less : (o : Ordering) → T (is_lt o) → is_eq o ≡ false
@@ -56,45 +56,45 @@ above-keys x (e ∷ es) h = ap (λ b. b || has_id (map (λ e. e.0) es) x) (less 
   less Equal p = absurd p
   less Greater p = absurd p
 
-apart-keys : (es : List (Id × Row)) → T (is_sorted id_cmp es) → AreApart (map (λ e. e.0) es)
+apart-keys : (es : List (Id × RowState)) → T (is_sorted id_cmp es) → AreDistinct (map (λ e. e.0) es)
 apart-keys [] h = tt
 apart-keys (e ∷ es) h = (above-keys e.0 es (first _ _ h), apart-keys es (second _ _ h))
 
 module _ (hit : Id → Bool) (limit : ℕ) where
   has-scanned : (hits seen : ℕ) (x : Id) (ids : List Id) → has_id ids x ≡ false → has_id (scanned_after hit limit hits seen ids) x ≡ false
   has-scanned hits seen x [] e = e
-  has-scanned hits seen x (y ∷ ys) e = by (leb limit hits || leb (10 * limit) seen) (is_same x y) refl e (has-scanned (hits + cond (hit y) 1 0) (seen + 1) x ys) where
-    by : (t s : Bool) → is_same x y ≡ s → (s || has_id ys x) ≡ false → (has_id ys x ≡ false → has_id (scanned_after hit limit (hits + cond (hit y) 1 0) (seen + 1) ys) x ≡ false)
+  has-scanned hits seen x (y ∷ ys) e = by (leb limit hits || leb (10 * limit) seen) (is_same_id x y) refl e (has-scanned (hits + cond (hit y) 1 0) (seen + 1) x ys) where
+    by : (t s : Bool) → is_same_id x y ≡ s → (s || has_id ys x) ≡ false → (has_id ys x ≡ false → has_id (scanned_after hit limit (hits + cond (hit y) 1 0) (seen + 1) ys) x ≡ false)
         → has_id (cond t [] (y ∷ scanned_after hit limit (hits + cond (hit y) 1 0) (seen + 1) ys)) x ≡ false
     by true s f e rest = refl
     by false true f e rest = absurd (false≢true (sym e))
     by false false f e rest = ap (λ b. b || has_id (scanned_after hit limit (hits + cond (hit y) 1 0) (seen + 1) ys) x) f ∙ rest e
 
-  apart-scanned : (hits seen : ℕ) (ids : List Id) → AreApart ids → AreApart (scanned_after hit limit hits seen ids)
+  apart-scanned : (hits seen : ℕ) (ids : List Id) → AreDistinct ids → AreDistinct (scanned_after hit limit hits seen ids)
   apart-scanned hits seen [] a = tt
   apart-scanned hits seen (y ∷ ys) a = by (leb limit hits || leb (10 * limit) seen) (apart-scanned (hits + cond (hit y) 1 0) (seen + 1) ys a.1) where
-    by : (t : Bool) → AreApart (scanned_after hit limit (hits + cond (hit y) 1 0) (seen + 1) ys) → AreApart (cond t [] (y ∷ scanned_after hit limit (hits + cond (hit y) 1 0) (seen + 1) ys))
+    by : (t : Bool) → AreDistinct (scanned_after hit limit (hits + cond (hit y) 1 0) (seen + 1) ys) → AreDistinct (cond t [] (y ∷ scanned_after hit limit (hits + cond (hit y) 1 0) (seen + 1) ys))
     by true rest = tt
     by false rest = (has-scanned (hits + cond (hit y) 1 0) (seen + 1) y ys a.0, rest)
 
-pub apart-claim : (group : State) (now : ℕ) (rule : Rule) (claim : Claim) → IsClaimOn group now rule claim → AreApart claim.take
-apart-claim group now rule claim (inl w) = subst (λ (c : Claim). AreApart c.take) (sym w.is) (apart-filter (is_taken group.rows.entries w.present now rule) (firsts w.ids) (apart-firsts w.ids))
+pub apart-claim : (group : GroupState) (now : ℕ) (rule : Rule) (claim : Claim) → IsClaimOn group now rule claim → AreDistinct claim.take
+apart-claim group now rule claim (inl w) = subst (λ (c : Claim). AreDistinct c.take) (sym w.is) (apart-filter (is_taken group.rows.entries w.present now rule) (without_repeats w.ids) (apart-firsts w.ids))
 apart-claim group now rule claim (inr w) =
     let rows = group.rows.entries in
     let hit = is_hit rows w.present now rule in
     let ids = from_start w.start rows in
     let apart = apart-filter (λ x. not (is_below x w.start)) (map (λ e. e.0) rows) (apart-keys rows group.rows.sorted) in
-    subst (λ (c : Claim). AreApart c.take) (sym w.is) (apart-filter (is_taken rows w.present now rule) (scanned hit w.limit ids)
-    (subst AreApart (sym (scanned-after hit w.limit ids)) (apart-scanned hit w.limit 0 0 ids apart)))
+    subst (λ (c : Claim). AreDistinct c.take) (sym w.is) (apart-filter (is_taken rows w.present now rule) (scanned_part hit w.limit ids)
+    (subst AreDistinct (sym (scanned-after hit w.limit ids)) (apart-scanned hit w.limit 0 0 ids apart)))
 
 -- ---- taken first, and then removed
 
 pub rows-settled : (name : List ℕ) (now : ℕ) (rule : Rule) (claim : Claim) (rows : Rows)
-    → change (unless_acked claim.removed) (change (moved name now rule claim.take) rows) ≡ change (claimed name now rule claim) rows
+    → change (unless_acked claim.removed) (change (moved name now rule claim.take) rows) ≡ change (row_after_claim name now rule claim) rows
 rows-settled name now rule claim rows = same_rows _ _ (λ q. get-changed (unless_acked claim.removed) (change (moved name now rule claim.take) rows) q
     ∙ ap (option_and_then (unless_acked claim.removed q)) (get-changed (moved name now rule claim.take) rows q)
-    ∙ by (has_id claim.removed q) (has_id claim.take q) (get rows q) ∙ sym (get-changed (claimed name now rule claim) rows q)) where
-      by : (r t : Bool) (o : Option Row) → option_and_then (λ row. cond r None (Some row)) (option_and_then (λ row. cond t (Some (claimed_row name now rule row)) (Some row)) o)
+    ∙ by (has_id claim.removed q) (has_id claim.take q) (get rows q) ∙ sym (get-changed (row_after_claim name now rule claim) rows q)) where
+      by : (r t : Bool) (o : Option RowState) → option_and_then (λ row. cond r None (Some row)) (option_and_then (λ row. cond t (Some (claimed_row name now rule row)) (Some row)) o)
           ≡ option_and_then (λ row. cond r None (cond t (Some (claimed_row name now rule row)) (Some row))) o
       by true true None = refl
       by true false None = refl
@@ -104,7 +104,7 @@ rows-settled name now rule claim rows = same_rows _ _ (λ q. get-changed (unless
       by false true (Some row) = refl
       by false false (Some row) = refl
 
-pub rows-moved : (a b : List (Id × Row)) (name : List ℕ) (now : ℕ) (rule : Rule) (ids : List Id)
+pub rows-moved : (a b : List (Id × RowState)) (name : List ℕ) (now : ℕ) (rule : Rule) (ids : List Id)
     → ((x : Id) → indexed_row b x ≡ option_and_then (moved name now rule ids x) (indexed_row a x)) → rows_of b ≡ change (moved name now rule ids) (rows_of a)
 rows-moved a b name now rule ids is = same_rows _ _ (λ q. get-rows_of b q ∙ is q ∙ ap (option_and_then (moved name now rule ids q)) (sym (get-rows_of a q))
     ∙ sym (get-changed (moved name now rule ids) (rows_of a) q))

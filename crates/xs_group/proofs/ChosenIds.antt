@@ -4,15 +4,15 @@ use Rattle.std.proofs.lemmas.List.Folds.{list_any-append}
 use Rattle.std.proofs.Math.Bool.{or-false}
 use Rattle.xs_bytes.specs.SortedMap.{get}
 use Rattle.xs_stream.specs.declared.id.Id.{Id}
-use Rattle.xs_stream.specs.Id.{is_same, has_id}
+use Rattle.xs_stream.specs.Id.{is_same_id, has_id}
 use Rattle.xs_group.specs.declared.claims.Verdict.{Verdict}
 use Rattle.xs_group.specs.declared.claims.Verdict.TheVariants.{Passed, Taken, Removed}
-use Rattle.xs_group.specs.Claims.{Rule, row_at, is_idle, is_taken, is_removed, is_hit, firsts}
-use Rattle.xs_group.specs.State.{Row, Rows}
+use Rattle.xs_group.specs.Claims.{Rule, row_at, is_idle, is_taken, is_removed, is_hit, without_repeats}
+use Rattle.xs_group.specs.State.{RowState, Rows}
 use Rattle.xs_group.specs.Verdict.{is_taken_by, is_removed_by, verdict_of, with_taken, with_removed, hits_of}
 
-pub has-more : (ids : List Id) (id q : Id) → has_id (ids ++ id ∷ []) q ≡ (has_id ids q || is_same q id)
-has-more ids id q = list_any-append (is_same q) ids (id ∷ []) ∙ ap (λ b. has_id ids q || b) (or-false (is_same q id))
+pub has-more : (ids : List Id) (id q : Id) → has_id (ids ++ id ∷ []) q ≡ (has_id ids q || is_same_id q id)
+has-more ids id q = list_any-append (is_same_id q) ids (id ∷ []) ∙ ap (λ b. has_id ids q || b) (or-false (is_same_id q id))
 
 pub filter-more : (p : Id → Bool) (ids : List Id) (id : Id) → filter p (ids ++ id ∷ []) ≡ cond (p id) (filter p ids ++ id ∷ []) (filter p ids)
 filter-more p [] id = by (p id) where
@@ -28,17 +28,17 @@ filter-more p (x ∷ xs) id = ap (λ rest. cond (p x) (x ∷ rest) rest) (filter
 
 -- ---- each id at its first place
 
-pub firsts-more : (ids : List Id) (id : Id) → firsts (ids ++ id ∷ []) ≡ cond (has_id ids id) (firsts ids) (firsts ids ++ id ∷ [])
+pub firsts-more : (ids : List Id) (id : Id) → without_repeats (ids ++ id ∷ []) ≡ cond (has_id ids id) (without_repeats ids) (without_repeats ids ++ id ∷ [])
 firsts-more [] id = refl
-firsts-more (x ∷ xs) id = ap (λ rest. x ∷ filter (λ y. not (is_same y x)) rest) (firsts-more xs id) ∙ by (has_id xs id) (is_same id x) refl where
-  by : (h t : Bool) → is_same id x ≡ t → x ∷ filter (λ y. not (is_same y x)) (cond h (firsts xs) (firsts xs ++ id ∷ []))
-      ≡ cond (t || h) (x ∷ filter (λ y. not (is_same y x)) (firsts xs)) (x ∷ filter (λ y. not (is_same y x)) (firsts xs) ++ id ∷ [])
+firsts-more (x ∷ xs) id = ap (λ rest. x ∷ filter (λ y. not (is_same_id y x)) rest) (firsts-more xs id) ∙ by (has_id xs id) (is_same_id id x) refl where
+  by : (h t : Bool) → is_same_id id x ≡ t → x ∷ filter (λ y. not (is_same_id y x)) (cond h (without_repeats xs) (without_repeats xs ++ id ∷ []))
+      ≡ cond (t || h) (x ∷ filter (λ y. not (is_same_id y x)) (without_repeats xs)) (x ∷ filter (λ y. not (is_same_id y x)) (without_repeats xs) ++ id ∷ [])
   by true true e = refl
   by true false e = refl
-  by false true e = ap (λ rest. x ∷ rest) (filter-more (λ y. not (is_same y x)) (firsts xs) id
-      ∙ ap (λ b. cond (not b) (filter (λ y. not (is_same y x)) (firsts xs) ++ id ∷ []) (filter (λ y. not (is_same y x)) (firsts xs))) e)
-  by false false e = ap (λ rest. x ∷ rest) (filter-more (λ y. not (is_same y x)) (firsts xs) id
-      ∙ ap (λ b. cond (not b) (filter (λ y. not (is_same y x)) (firsts xs) ++ id ∷ []) (filter (λ y. not (is_same y x)) (firsts xs))) e)
+  by false true e = ap (λ rest. x ∷ rest) (filter-more (λ y. not (is_same_id y x)) (without_repeats xs) id
+      ∙ ap (λ b. cond (not b) (filter (λ y. not (is_same_id y x)) (without_repeats xs) ++ id ∷ []) (filter (λ y. not (is_same_id y x)) (without_repeats xs))) e)
+  by false false e = ap (λ rest. x ∷ rest) (filter-more (λ y. not (is_same_id y x)) (without_repeats xs) id
+      ∙ ap (λ b. cond (not b) (filter (λ y. not (is_same_id y x)) (without_repeats xs) ++ id ∷ []) (filter (λ y. not (is_same_id y x)) (without_repeats xs))) e)
 
 -- ---- verdicts
 
@@ -46,10 +46,10 @@ pub row_at-get : (rows : Rows) (x : Id) → get rows x ≡ row_at rows.entries x
 unfolding get
 row_at-get rows x = refl
 
-module _ (rows : List (Id × Row)) (present : List Id) (now : ℕ) (rule : Rule) where
-  pub taken-verdict : (row : Option Row) (x : Id) → row ≡ row_at rows x → is_taken rows present now rule x ≡ is_taken_by (verdict_of row (has_id present x) now rule)
+module _ (rows : List (Id × RowState)) (present : List Id) (now : ℕ) (rule : Rule) where
+  pub taken-verdict : (row : Option RowState) (x : Id) → row ≡ row_at rows x → is_taken rows present now rule x ≡ is_taken_by (verdict_of row (has_id present x) now rule)
   taken-verdict row x e = ap (λ r. is_idle now rule r && has_id present x) (sym e) ∙ by row (has_id present x) where
-    inner : (r : Row) (i : Bool) → (i && true) ≡ is_taken_by (cond i Taken Passed)
+    inner : (r : RowState) (i : Bool) → (i && true) ≡ is_taken_by (cond i Taken Passed)
     inner r true = refl
     inner r false = refl
 
@@ -57,36 +57,36 @@ module _ (rows : List (Id × Row)) (present : List Id) (now : ℕ) (rule : Rule)
     no true = refl
     no false = refl
 
-    by : (r : Option Row) (p : Bool) → (is_idle now rule r && p) ≡ is_taken_by (verdict_of r p now rule)
+    by : (r : Option RowState) (p : Bool) → (is_idle now rule r && p) ≡ is_taken_by (verdict_of r p now rule)
     by None p = refl
     by (Some r) true = inner r (is_idle now rule (Some r))
     by (Some r) false = no (is_idle now rule (Some r))
 
-  pub removed-verdict : (row : Option Row) (x : Id) → row ≡ row_at rows x → is_removed rows present x ≡ is_removed_by (verdict_of row (has_id present x) now rule)
+  pub removed-verdict : (row : Option RowState) (x : Id) → row ≡ row_at rows x → is_removed rows present x ≡ is_removed_by (verdict_of row (has_id present x) now rule)
   removed-verdict row x e = ap (λ r. is_some r && not (has_id present x)) (sym e) ∙ by row (has_id present x) where
     inner : (i : Bool) → false ≡ is_removed_by (cond i Taken Passed)
     inner true = refl
     inner false = refl
 
-    by : (r : Option Row) (p : Bool) → (is_some r && not p) ≡ is_removed_by (verdict_of r p now rule)
+    by : (r : Option RowState) (p : Bool) → (is_some r && not p) ≡ is_removed_by (verdict_of r p now rule)
     by None p = refl
     by (Some r) true = inner (is_idle now rule (Some r))
     by (Some r) false = refl
 
-  pub hits-verdict : (row : Option Row) (x : Id) → row ≡ row_at rows x → cond (is_hit rows present now rule x) 1 0 ≡ hits_of (verdict_of row (has_id present x) now rule)
+  pub hits-verdict : (row : Option RowState) (x : Id) → row ≡ row_at rows x → cond (is_hit rows present now rule x) 1 0 ≡ hits_of (verdict_of row (has_id present x) now rule)
   hits-verdict row x e = (λ i. cond (removed-verdict row x e i || taken-verdict row x e i) 1 0) ∙ by (verdict_of row (has_id present x) now rule) where
     by : (v : Verdict) → cond (is_removed_by v || is_taken_by v) 1 0 ≡ hits_of v
     by Passed = refl
     by Taken = refl
     by Removed = refl
 
-  pub taken-more : (row : Option Row) (x : Id) (ids : List Id) → row ≡ row_at rows x
+  pub taken-more : (row : Option RowState) (x : Id) (ids : List Id) → row ≡ row_at rows x
       → with_taken (verdict_of row (has_id present x) now rule) (filter (is_taken rows present now rule) ids) x ≡ filter (is_taken rows present now rule) (ids ++ x ∷ [])
   taken-more row x ids e =
       ap (λ b. cond b (filter (is_taken rows present now rule) ids ++ x ∷ []) (filter (is_taken rows present now rule) ids)) (sym (taken-verdict row x e))
       ∙ sym (filter-more (is_taken rows present now rule) ids x)
 
-  pub removed-more : (row : Option Row) (x : Id) (ids : List Id) → row ≡ row_at rows x
+  pub removed-more : (row : Option RowState) (x : Id) (ids : List Id) → row ≡ row_at rows x
       → with_removed (verdict_of row (has_id present x) now rule) (filter (is_removed rows present) ids) x ≡ filter (is_removed rows present) (ids ++ x ∷ [])
   removed-more row x ids e =
       ap (λ b. cond b (filter (is_removed rows present) ids ++ x ∷ []) (filter (is_removed rows present) ids)) (sym (removed-verdict row x e))

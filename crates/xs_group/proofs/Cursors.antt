@@ -3,18 +3,18 @@ use Rattle.std.proofs.Common.{◌≡◌, ℕ, suc, zero, Bool, true, false, cond
 use Rattle.std.proofs.lemmas.Bool.{false≢true}
 use Rattle.xs_bytes.specs.SortedMap.{get, has_key}
 use Rattle.xs_stream.specs.declared.id.Id.{Id}
-use Rattle.xs_stream.specs.Id.{is_same, is_below, has_id}
+use Rattle.xs_stream.specs.Id.{is_same_id, is_below, has_id}
 use Rattle.xs_stream.specs.StreamContent.{AllAbove, Ascends, limited}
 use Rattle.xs_stream.proofs.Order.{is_same-eq, below-not_back, below-irrefl, not_above-trans}
-use Rattle.xs_group.specs.State.{Row, Rows, last_of, with_rows}
+use Rattle.xs_group.specs.State.{RowState, Rows, last_of, with_rows}
 use Rattle.xs_group.specs.Indexes.{AreFree}
 use Rattle.xs_group.specs.Lawful.{IsUpTo}
 use Rattle.xs_group.proofs.NewRows.{get-with_rows}
 
 pub above-has : (c : Id) (ids : List Id) → AllAbove c ids → (x : Id) → has_id ids x ≡ true → is_below c x ≡ true
 above-has c [] a x e = absurd (false≢true e)
-above-has c (y ∷ ys) a x e = by (is_same x y) refl e (above-has c ys a.1 x) where
-  by : (t : Bool) → is_same x y ≡ t → (t || has_id ys x) ≡ true → (has_id ys x ≡ true → is_below c x ≡ true) → is_below c x ≡ true
+above-has c (y ∷ ys) a x e = by (is_same_id x y) refl e (above-has c ys a.1 x) where
+  by : (t : Bool) → is_same_id x y ≡ t → (t || has_id ys x) ≡ true → (has_id ys x ≡ true → is_below c x ≡ true) → is_below c x ≡ true
   by true f e rest = ap (is_below c) (is_same-eq x y f) ∙ a.0
   by false f e rest = rest e
 
@@ -30,15 +30,15 @@ last-not_below c (y ∷ ys) a s = not_above-trans (last_of y ys) y c (last-not_b
 
 last-up_to : (c : Id) (ids : List Id) → AllAbove c ids → Ascends ids → (x : Id) → has_id ids x ≡ true → is_below (last_of c ids) x ≡ false
 last-up_to c [] a s x e = absurd (false≢true e)
-last-up_to c (y ∷ ys) a s x e = by (is_same x y) refl e (last-up_to y ys s.0 s.1 x) where
-  by : (t : Bool) → is_same x y ≡ t → (t || has_id ys x) ≡ true → (has_id ys x ≡ true → is_below (last_of y ys) x ≡ false) → is_below (last_of y ys) x ≡ false
+last-up_to c (y ∷ ys) a s x e = by (is_same_id x y) refl e (last-up_to y ys s.0 s.1 x) where
+  by : (t : Bool) → is_same_id x y ≡ t → (t || has_id ys x) ≡ true → (has_id ys x ≡ true → is_below (last_of y ys) x ≡ false) → is_below (last_of y ys) x ≡ false
   by true f e rest = ap (is_below (last_of y ys)) (is_same-eq x y f) ∙ last-not_below y ys s.0 s.1
   by false f e rest = rest e
 
 pub up_to-later : (c : Id) (ids : List Id) (rows : Rows) → IsUpTo c rows → AllAbove c ids → Ascends ids → IsUpTo (last_of c ids) rows
 up_to-later c ids rows up a s x e = not_above-trans (last_of c ids) c x (last-not_below c ids a s) (up x e)
 
-pub up_to-put : (c : Id) (ids : List Id) (row : Row) (rows : Rows) → IsUpTo c rows → AllAbove c ids → Ascends ids → IsUpTo (last_of c ids) (with_rows ids row rows)
+pub up_to-put : (c : Id) (ids : List Id) (row : RowState) (rows : Rows) → IsUpTo c rows → AllAbove c ids → Ascends ids → IsUpTo (last_of c ids) (with_rows ids row rows)
 up_to-put c ids row rows up a s x e = by (has_id ids x) refl (sym (ap is_some (get-with_rows ids row rows x)) ∙ e) where
   by : (t : Bool) → has_id ids x ≡ t → is_some (cond t (Some row) (get rows x)) ≡ true → is_below (last_of c ids) x ≡ false
   by true f e = last-up_to c ids a s x f

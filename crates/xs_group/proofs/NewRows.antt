@@ -7,9 +7,9 @@ use Rattle.std.specs.Cmp.Lexicographic.{nat_list_cmp_total}
 use Rattle.xs_bytes.specs.SortedMap.{get, remove, change, insert_by}
 use Rattle.xs_bytes.proofs.SortedMaps.{get-insert_by, get-remove}
 use Rattle.xs_stream.specs.declared.id.Id.{Id}
-use Rattle.xs_stream.specs.Id.{id_cmp, is_same, has_id}
+use Rattle.xs_stream.specs.Id.{id_cmp, is_same_id, has_id}
 use Rattle.xs_stream.proofs.Order.{is_same-symm}
-use Rattle.xs_group.specs.State.{Row, Rows, Names, ids_total, is_name, has_name, with_name, with_rows, unless_acked, unless_owned}
+use Rattle.xs_group.specs.State.{RowState, Rows, Names, ids_total, is_same_name, has_name, with_name, with_rows, unless_acked, unless_owned}
 use Rattle.xs_group.specs.Indexes.{rows_of, indexed_row, ConsumerIndex, is_owner, AreFree, IsAgreed, IsNamed, PendingList}
 use Rattle.xs_group.specs.Verdict.{AreAgreedBut}
 use Rattle.xs_group.proofs.ByConsumer.{is_name-eq, is_name-refl, is_name-symm}
@@ -24,63 +24,63 @@ cond_or true false x y = refl
 cond_or false true x y = refl
 cond_or false false x y = refl
 
-pub get-with_rows : (ids : List Id) (row : Row) (rows : Rows) (q : Id) → get (with_rows ids row rows) q ≡ cond (has_id ids q) (Some row) (get rows q)
+pub get-with_rows : (ids : List Id) (row : RowState) (rows : Rows) (q : Id) → get (with_rows ids row rows) q ≡ cond (has_id ids q) (Some row) (get rows q)
 get-with_rows [] row rows q = refl
 get-with_rows (x ∷ xs) row rows q = get-with_rows xs row (insert_by ids_total rows x row) q ∙ ap (cond (has_id xs q) (Some row)) (get-insert_by ids_total rows x row q)
-    ∙ cond_or (has_id xs q) (is_same q x) (Some row) (get rows q)
+    ∙ cond_or (has_id xs q) (is_same_id q x) (Some row) (get rows q)
 
 -- ---- one id after the other
 
-pub row-put : (m n : RowMap) (id : Id) (v : Option Row) → UpdatesBy id_cmp (id_cmp id) m n v → (x : Id) → indexed_row n.entries x ≡ cond (is_same x id) v (indexed_row m.entries x)
+pub row-put : (m n : RowMap) (id : Id) (v : Option RowState) → UpdatesBy id_cmp (id_cmp id) m n v → (x : Id) → indexed_row n.entries x ≡ cond (is_same_id x id) v (indexed_row m.entries x)
 row-put m n id v u x = u.0 x ∙ ap (λ b. cond b v (indexed_row m.entries x)) (is_same-symm id x)
 
-pub rows-more : (done : List Id) (id x : Id) (v o p : Option Row) → p ≡ cond (has_id done x) v o → cond (is_same x id) v p ≡ cond (has_id (done ++ id ∷ []) x) v o
-rows-more done id x v o p e = ap (cond (is_same x id) v) e ∙ cond_or (is_same x id) (has_id done x) v o ∙ ap (λ b. cond b v o) (sym (has-more done id x))
+pub rows-more : (done : List Id) (id x : Id) (v o p : Option RowState) → p ≡ cond (has_id done x) v o → cond (is_same_id x id) v p ≡ cond (has_id (done ++ id ∷ []) x) v o
+rows-more done id x v o p e = ap (cond (is_same_id x id) v) e ∙ cond_or (is_same_id x id) (has_id done x) v o ∙ ap (λ b. cond b v o) (sym (has-more done id x))
 
 -- ---- all of them
 
 -- the rows of ids that had none, once they are out again
-pub none-again : (rows : List (Id × Row)) (ids done : List Id) (row : Row) (x : Id) → AreFree (rows_of rows) ids → (has_id done x ≡ true → has_id ids x ≡ true)
+pub none-again : (rows : List (Id × RowState)) (ids done : List Id) (row : RowState) (x : Id) → AreFree (rows_of rows) ids → (has_id done x ≡ true → has_id ids x ≡ true)
     → cond (has_id done x) None (cond (has_id done x) (Some row) (indexed_row rows x)) ≡ indexed_row rows x
 none-again rows ids done row x free some = by (has_id done x) some where
   by : (t : Bool) → (t ≡ true → has_id ids x ≡ true) → cond t None (cond t (Some row) (indexed_row rows x)) ≡ indexed_row rows x
   by true e = sym (none-from_free rows x (free x (e refl)))
   by false e = refl
 
-pub rows-all : (m n : List (Id × Row)) (ids : List Id) (row : Row) → ((x : Id) → indexed_row n x ≡ cond (has_id ids x) (Some row) (indexed_row m x)) → rows_of n ≡ with_rows ids row (rows_of m)
+pub rows-all : (m n : List (Id × RowState)) (ids : List Id) (row : RowState) → ((x : Id) → indexed_row n x ≡ cond (has_id ids x) (Some row) (indexed_row m x)) → rows_of n ≡ with_rows ids row (rows_of m)
 rows-all m n ids row is = same_rows _ _ (λ q. get-rows_of n q ∙ is q ∙ ap (cond (has_id ids q) (Some row)) (sym (get-rows_of m q)) ∙ sym (get-with_rows ids row (rows_of m) q))
 
-pub agreed-all : (m n : List (Id × Row)) (b : ConsumerIndex) (name : List ℕ) (ids : List Id) (row : Row) → row.consumer ≡ name → AreFree (rows_of m) ids
+pub agreed-all : (m n : List (Id × RowState)) (b : ConsumerIndex) (name : List ℕ) (ids : List Id) (row : RowState) → row.consumer ≡ name → AreFree (rows_of m) ids
     → AreAgreedBut m b name ids → ((x : Id) → indexed_row n x ≡ cond (has_id ids x) (Some row) (indexed_row m x)) → IsAgreed n b
 agreed-all m n b name ids row whose free but is q x = but q x
     ∙ by (has_id ids x) (λ e. none-from_free m x (free x e)) ∙ sym (ap (λ o. is_owner o q) (is x)) where
-      by : (t : Bool) → (t ≡ true → indexed_row m x ≡ None) → (is_owner (indexed_row m x) q || (is_name q name && t)) ≡ is_owner (cond t (Some row) (indexed_row m x)) q
-      by true e = ap (λ o. is_owner o q || (is_name q name && true)) (e refl) ∙ and-true (is_name q name) ∙ is_name-symm q name ∙ ap (λ k. is_name k q) (sym whose)
-      by false e = ap (λ b. is_owner (indexed_row m x) q || b) (and-false (is_name q name)) ∙ or-false (is_owner (indexed_row m x) q)
+      by : (t : Bool) → (t ≡ true → indexed_row m x ≡ None) → (is_owner (indexed_row m x) q || (is_same_name q name && t)) ≡ is_owner (cond t (Some row) (indexed_row m x)) q
+      by true e = ap (λ o. is_owner o q || (is_same_name q name && true)) (e refl) ∙ and-true (is_same_name q name) ∙ is_name-symm q name ∙ ap (λ k. is_same_name k q) (sym whose)
+      by false e = ap (λ b. is_owner (indexed_row m x) q || b) (and-false (is_same_name q name)) ∙ or-false (is_owner (indexed_row m x) q)
 
 -- rows that are what they were
-pub agreed-but : (m n : List (Id × Row)) (b : ConsumerIndex) (name : List ℕ) (ids : List Id) → AreAgreedBut m b name ids
+pub agreed-but : (m n : List (Id × RowState)) (b : ConsumerIndex) (name : List ℕ) (ids : List Id) → AreAgreedBut m b name ids
     → ((x : Id) → indexed_row n x ≡ indexed_row m x) → AreAgreedBut n b name ids
-agreed-but m n b name ids but is q x = but q x ∙ ap (λ o. is_owner o q || (is_name q name && has_id ids x)) (sym (is x))
+agreed-but m n b name ids but is q x = but q x ∙ ap (λ o. is_owner o q || (is_same_name q name && has_id ids x)) (sym (is x))
 
 pub among-take : (ids : List Id) (i : ℕ) (q : Id) → has_id (take i ids) q ≡ true → has_id ids q ≡ true
 among-take [] zero q e = e
 among-take [] (suc i) q e = e
 among-take (x ∷ xs) zero q e = absurd (false≢true e)
-among-take (x ∷ xs) (suc i) q e = by (is_same q x) (among-take xs i q) e where
+among-take (x ∷ xs) (suc i) q e = by (is_same_id q x) (among-take xs i q) e where
   by : (b : Bool) → (has_id (take i xs) q ≡ true → has_id xs q ≡ true) → (b || has_id (take i xs) q) ≡ true → (b || has_id xs q) ≡ true
   by true rest e = refl
   by false rest e = rest e
 
-pub none_by : (o : Option Row) → is_some o ≡ false → o ≡ None
+pub none_by : (o : Option RowState) → is_some o ≡ false → o ≡ None
 none_by None e = refl
 none_by (Some x) e = cc
 
 -- rows that are put where none was, and taken out again
-pub out-again : (ids : List Id) (row : Row) (rows : Rows) → AreFree rows ids → change (unless_acked ids) (with_rows ids row rows) ≡ rows
+pub out-again : (ids : List Id) (row : RowState) (rows : Rows) → AreFree rows ids → change (unless_acked ids) (with_rows ids row rows) ≡ rows
 out-again ids row rows free = same_rows _ _ (λ q. get-changed (unless_acked ids) (with_rows ids row rows) q
     ∙ ap (option_and_then (unless_acked ids q)) (get-with_rows ids row rows q) ∙ by q (has_id ids q) refl) where
-      same_and : (o : Option Row) → option_and_then (λ row. Some row) o ≡ o
+      same_and : (o : Option RowState) → option_and_then (λ row. Some row) o ≡ o
       same_and None = refl
       same_and (Some row) = refl
 
@@ -92,8 +92,8 @@ out-again ids row rows free = same_rows _ _ (λ q. get-changed (unless_acked ids
 
 pub out-names : (names : Names) (name : List ℕ) → has_name names name ≡ false → remove (with_name names name) name ≡ names
 out-names names name none = same_names _ _ (λ q. ap is_some (get-remove nat_list_cmp_total (with_name names name) name q)
-    ∙ by q (is_name q name) refl) where
-      by : (q : List ℕ) (t : Bool) → is_name q name ≡ t → is_some (cond t None (get (with_name names name) q)) ≡ has_name names q
+    ∙ by q (is_same_name q name) refl) where
+      by : (q : List ℕ) (t : Bool) → is_same_name q name ≡ t → is_some (cond t None (get (with_name names name) q)) ≡ has_name names q
       by q true e = sym (ap (has_name names) (is_name-eq q name e) ∙ none)
       by q false e = has_name-with_name names name q ∙ ap (λ b. b || has_name names q) e
 
@@ -104,7 +104,7 @@ unowned-rows names rows name named none = change-nothing (unless_owned name) row
   own q false e = e
   own q true e = absurd (false≢true (sym none ∙ named name q e))
 
-  by : (q : Id) (o : Option Row) → is_owner o name ≡ false → option_and_then (unless_owned name q) o ≡ o
+  by : (q : Id) (o : Option RowState) → is_owner o name ≡ false → option_and_then (unless_owned name q) o ≡ o
   by q None e = refl
   by q (Some row) e = ap (λ b. cond b None (Some row)) e
 

@@ -12,9 +12,9 @@ use Rattle.std.proofs.lemmas.Map.Keys.{sorted_head, sorted_tail}
 use Rattle.xs_bytes.specs.SortedMap.{get}
 use Rattle.xs_bytes.proofs.SortedMaps.{get-of_entries}
 use Rattle.xs_stream.specs.declared.id.Id.{Id}
-use Rattle.xs_stream.specs.Id.{id_cmp, is_same, has_id}
+use Rattle.xs_stream.specs.Id.{id_cmp, is_same_id, has_id}
 use Rattle.xs_stream.proofs.Order.{same_id, is_same-eq}
-use Rattle.xs_group.specs.State.{Row, Rows, ids_total, is_name, owned}
+use Rattle.xs_group.specs.State.{RowState, Rows, ids_total, is_same_name, owned_ids}
 use Rattle.xs_group.specs.Indexes.{rows_of, is_owner}
 use Rattle.xs_group.proofs.Views.{RowMap}
 
@@ -70,11 +70,11 @@ keys-units : (xs : List Id) → keys_of (units xs) ≡ xs
 keys-units [] = refl
 keys-units (x ∷ xs) = ap (λ rest. x ∷ rest) (keys-units xs)
 
-below-units : (k : Id) (es : List (Id × Row)) → below_all id_cmp k (units (keys_of es)) ≡ below_all id_cmp k es
+below-units : (k : Id) (es : List (Id × RowState)) → below_all id_cmp k (units (keys_of es)) ≡ below_all id_cmp k es
 below-units k [] = refl
 below-units k (e ∷ es) = ap (λ b. is_lt (id_cmp k e.0) && b) (below-units k es)
 
-sorted-units : (es : List (Id × Row)) → is_sorted id_cmp (units (keys_of es)) ≡ is_sorted id_cmp es
+sorted-units : (es : List (Id × RowState)) → is_sorted id_cmp (units (keys_of es)) ≡ is_sorted id_cmp es
 sorted-units [] = refl
 sorted-units (e ∷ es) = λ i. below-units e.0 es i && sorted-units es i
 
@@ -86,45 +86,45 @@ some-unit (Some x) None e = cc
 
 find-units : (q : Id) (xs : List Id) → is_some (find id_cmp q (units xs)) ≡ has_id xs q
 find-units q [] = refl
-find-units q (x ∷ xs) = by (is_same q x) (find-units q xs) where
+find-units q (x ∷ xs) = by (is_same_id q x) (find-units q xs) where
   by : (t : Bool) → is_some (find id_cmp q (units xs)) ≡ has_id xs q → is_some (cond t (Some tt) (find id_cmp q (units xs))) ≡ (t || has_id xs q)
   by true e = refl
   by false e = e
 
 -- ids in order are known by what they have
-pub same_ids : (xs : List Id) (es : List (Id × Row)) → IsStrictlySortedBy id_cmp xs → T (is_sorted id_cmp es) → ((q : Id) → has_id xs q ≡ has_id (keys_of es) q) → xs ≡ keys_of es
+pub same_ids : (xs : List Id) (es : List (Id × RowState)) → IsStrictlySortedBy id_cmp xs → T (is_sorted id_cmp es) → ((q : Id) → has_id xs q ≡ has_id (keys_of es) q) → xs ≡ keys_of es
 same_ids xs es s t is =
     sym (keys-units xs) ∙ ap keys_of (same_entries id_cmp ids_total same_id (units xs) (units (keys_of es))
     (is_sorted-from id_cmp (units xs) (subst (IsStrictlySortedBy id_cmp) (sym (keys-units xs)) s)) (subst T (sym (sorted-units es)) t)
     (λ q. some-unit _ _ (find-units q xs ∙ is q ∙ sym (find-units q (keys_of es))))) ∙ keys-units (keys_of es)
 
-find-below : (k : Id) (name : List ℕ) (es : List (Id × Row)) → T (below_all id_cmp k es) → has_id (keys_of (filter (λ e. is_name e.1.consumer name) es)) k ≡ false
+find-below : (k : Id) (name : List ℕ) (es : List (Id × RowState)) → T (below_all id_cmp k es) → has_id (keys_of (filter (λ e. is_same_name e.1.consumer name) es)) k ≡ false
 find-below k name [] h = refl
-find-below k name (e ∷ es) h = by (is_name e.1.consumer name) (find-below k name es (second _ _ h)) where
+find-below k name (e ∷ es) h = by (is_same_name e.1.consumer name) (find-below k name es (second _ _ h)) where
   less : (o : Ordering) → T (is_lt o) → is_eq o ≡ false
   less Less p = refl
   less _ p = absurd p
 
-  by : (t : Bool) → has_id (keys_of (filter (λ e. is_name e.1.consumer name) es)) k ≡ false → has_id (keys_of (cond t (e ∷ filter (λ e. is_name e.1.consumer name) es) (filter (λ e. is_name e.1.consumer name) es))) k ≡ false
-  by true rest = ap (λ b. b || has_id (keys_of (filter (λ e. is_name e.1.consumer name) es)) k) (less _ (first _ _ h)) ∙ rest
+  by : (t : Bool) → has_id (keys_of (filter (λ e. is_same_name e.1.consumer name) es)) k ≡ false → has_id (keys_of (cond t (e ∷ filter (λ e. is_same_name e.1.consumer name) es) (filter (λ e. is_same_name e.1.consumer name) es))) k ≡ false
+  by true rest = ap (λ b. b || has_id (keys_of (filter (λ e. is_same_name e.1.consumer name) es)) k) (less _ (first _ _ h)) ∙ rest
   by false rest = rest
 
 -- the consumer's ids among rows in order
-pub has_owned : (name : List ℕ) (q : Id) (es : List (Id × Row)) → T (is_sorted id_cmp es) → has_id (owned name es) q ≡ is_owner (find id_cmp q es) name
+pub has_owned : (name : List ℕ) (q : Id) (es : List (Id × RowState)) → T (is_sorted id_cmp es) → has_id (owned_ids name es) q ≡ is_owner (find id_cmp q es) name
 has_owned name q [] h = refl
-has_owned name q (e ∷ es) h = by (is_same q e.0) (is_name e.1.consumer name) refl refl (has_owned name q es (second _ _ h)) where
-  by : (t u : Bool) → is_same q e.0 ≡ t → is_name e.1.consumer name ≡ u → has_id (owned name es) q ≡ is_owner (find id_cmp q es) name
-      → has_id (keys_of (cond u (e ∷ filter (λ e. is_name e.1.consumer name) es) (filter (λ e. is_name e.1.consumer name) es))) q ≡ is_owner (cond t (Some e.1) (find id_cmp q es)) name
-  by true true f g rest = ap (λ b. b || has_id (owned name es) q) f ∙ sym g
-  by true false f g rest = ap (has_id (owned name es)) (is_same-eq q e.0 f) ∙ find-below e.0 name es (first _ _ h) ∙ sym g
-  by false true f g rest = ap (λ b. b || has_id (owned name es) q) f ∙ rest
+has_owned name q (e ∷ es) h = by (is_same_id q e.0) (is_same_name e.1.consumer name) refl refl (has_owned name q es (second _ _ h)) where
+  by : (t u : Bool) → is_same_id q e.0 ≡ t → is_same_name e.1.consumer name ≡ u → has_id (owned_ids name es) q ≡ is_owner (find id_cmp q es) name
+      → has_id (keys_of (cond u (e ∷ filter (λ e. is_same_name e.1.consumer name) es) (filter (λ e. is_same_name e.1.consumer name) es))) q ≡ is_owner (cond t (Some e.1) (find id_cmp q es)) name
+  by true true f g rest = ap (λ b. b || has_id (owned_ids name es) q) f ∙ sym g
+  by true false f g rest = ap (has_id (owned_ids name es)) (is_same-eq q e.0 f) ∙ find-below e.0 name es (first _ _ h) ∙ sym g
+  by false true f g rest = ap (λ b. b || has_id (owned_ids name es) q) f ∙ rest
   by false false f g rest = rest
 
 -- the ids of a consumer, as the index has them
-pub ids-owned : (ids : List Id) (rows : Rows) (name : List ℕ) → IsStrictlySortedBy id_cmp ids → ((x : Id) → has_id ids x ≡ is_owner (get rows x) name) → ids ≡ owned name rows.entries
+pub ids-owned : (ids : List Id) (rows : Rows) (name : List ℕ) → IsStrictlySortedBy id_cmp ids → ((x : Id) → has_id ids x ≡ is_owner (get rows x) name) → ids ≡ owned_ids name rows.entries
 unfolding get
-ids-owned ids rows name s is = same_ids ids (filter (λ e. is_name e.1.consumer name) rows.entries) s
-    (is_sorted-filter id_cmp (λ e. is_name e.1.consumer name) rows.entries rows.sorted) (λ q. is q ∙ sym (has_owned name q rows.entries rows.sorted))
+ids-owned ids rows name s is = same_ids ids (filter (λ e. is_same_name e.1.consumer name) rows.entries) s
+    (is_sorted-filter id_cmp (λ e. is_same_name e.1.consumer name) rows.entries rows.sorted) (λ q. is q ∙ sym (has_owned name q rows.entries rows.sorted))
 
 pub sorted-none : IsStrictlySortedBy id_cmp []
 unfolding IsStrictlySortedBy

@@ -23,9 +23,9 @@ use Rattle.xs_stream.specs.Id.{id_cmp, is_below}
 use Rattle.xs_stream.specs.StreamContent.{is_within}
 use Rattle.xs_stream.proofs.InOrder.{between-within, filter-filter}
 use Rattle.xs_group.specs.declared.reports.PendingRow.{PendingRow}
-use Rattle.xs_group.specs.State.{Row, Rows, is_name, idle, owned}
+use Rattle.xs_group.specs.State.{RowState, Rows, is_same_name, idle, owned_ids}
 use Rattle.xs_group.specs.Indexes.{ConsumerIndex, names_of, ids_at, indexed_row}
-use Rattle.xs_group.specs.Report.{first_id, last_id, pending_row, is_of, is_asked}
+use Rattle.xs_group.specs.Report.{first_id, last_id, pending_row, is_of, is_selected}
 use Rattle.xs_group.specs.Listing.{is_told, with_row, rows_among}
 use Rattle.xs_group.proofs.ByConsumer.{Index, is_name-symm, is_name-refl}
 use Rattle.xs_group.proofs.Ordered.{is_sorted-from, first, second}
@@ -35,22 +35,22 @@ use Rattle.xs_stream.proofs.Order.{below-not_below}
 
 -- ---- the least and the greatest id
 
-pub first-told : (es : List (Id × Row)) (x : Id) (row : Row) → slice_get es 0 ≡ Some (x, row) → Some x ≡ first_id es
+pub first-told : (es : List (Id × RowState)) (x : Id) (row : RowState) → slice_get es 0 ≡ Some (x, row) → Some x ≡ first_id es
 first-told [] x row e = cc
 first-told (f ∷ es) x row e = cc
 
-pub first-none : (es : List (Id × Row)) → (IsSome {T = Id} None ↔ (0 < length es)) → None ≡ first_id es
+pub first-none : (es : List (Id × RowState)) → (IsSome {T = Id} None ↔ (0 < length es)) → None ≡ first_id es
 first-none [] v = refl
 first-none (f ∷ es) v = absurd (false≢true (v.1 (omega arith)))
 
-pub last-told : (es : List (Id × Row)) (x : Id) (row : Row) → slice_get es (length es - 1) ≡ Some (x, row) → Some x ≡ last_id es
+pub last-told : (es : List (Id × RowState)) (x : Id) (row : RowState) → slice_get es (length es - 1) ≡ Some (x, row) → Some x ≡ last_id es
 last-told [] x row e = cc
 last-told (f ∷ []) x row e = cc
 last-told (f ∷ g ∷ es) x row e =
     let k : suc (suc (length es)) - 1 ≡ suc (suc (length es) - 1) = omega arith in
     last-told (g ∷ es) x row (sym (ap (slice_get (f ∷ g ∷ es)) k) ∙ e)
 
-pub last-none : (es : List (Id × Row)) → (IsSome {T = Id} None ↔ (0 < length es)) → None ≡ last_id es
+pub last-none : (es : List (Id × RowState)) → (IsSome {T = Id} None ↔ (0 < length es)) → None ≡ last_id es
 last-none [] v = refl
 last-none (f ∷ es) v = absurd (false≢true (v.1 (omega arith)))
 
@@ -99,18 +99,18 @@ told xs ys all n e few (inr full) =
     let exact : length xs ≡ n = omega arith in
     sym (take-append_seam xs ys) ∙ ap (λ k. take k (xs ++ ys)) exact ∙ ap (take n) e
 
-filter-same : (p q : Id × Row → Bool) (es : List (Id × Row)) → ((e : Id × Row) → p e ≡ q e) → filter p es ≡ filter q es
+filter-same : (p q : Id × RowState → Bool) (es : List (Id × RowState)) → ((e : Id × RowState) → p e ≡ q e) → filter p es ≡ filter q es
 filter-same p q [] is = refl
 filter-same p q (e ∷ es) is = λ i. cond (is e i) (e ∷ filter-same p q es is i) (filter-same p q es is i)
 
-pub rows-between : (range : Range) (min now : ℕ) (rows : List (Id × Row))
+pub rows-between : (range : Range) (min now : ℕ) (rows : List (Id × RowState))
     → filter (λ e. leb min (idle now e.1.time)) (entries_between id_cmp (Included range.low) (Included range.high) rows) ≡ filter (is_told range min now) rows
 rows-between range min now rows =
-    filter-filter (λ (e : Id × Row). range_contains id_cmp (Included range.low) (Included range.high) e.0) (λ e. leb min (idle now e.1.time)) (is_told range min now)
+    filter-filter (λ (e : Id × RowState). range_contains id_cmp (Included range.low) (Included range.high) e.0) (λ e. leb min (idle now e.1.time)) (is_told range min now)
     (λ e. ap (λ b. b && leb min (idle now e.1.time)) (sym (between-within range e.0))) rows
 
 -- the rows of the ids in a range
-pub among-between : (range : Range) (rows : List (Id × Row)) (ids : List Id)
+pub among-between : (range : Range) (rows : List (Id × RowState)) (ids : List Id)
     → rows_among rows (filter (range_contains id_cmp (Included range.low) (Included range.high)) ids) ≡ filter (λ e. is_within range e.0) (rows_among rows ids)
 among-between range rows [] = refl
 among-between range rows (x ∷ xs) =
@@ -122,39 +122,39 @@ among-between range rows (x ∷ xs) =
       split true = refl
       split false = refl
 
-      one : (t : Bool) → is_within range x ≡ t → (o : Option Row) (a b : List (Id × Row)) → a ≡ filter (λ e. is_within range e.0) b
+      one : (t : Bool) → is_within range x ≡ t → (o : Option RowState) (a b : List (Id × RowState)) → a ≡ filter (λ e. is_within range e.0) b
           → cond t (with_row x o a) a ≡ filter (λ e. is_within range e.0) (with_row x o b)
       one true e None a b r = r
       one true e (Some row) a b r = ap (λ rest. (x, row) ∷ rest) r ∙ ap (λ t. cond t ((x, row) ∷ filter (λ e. is_within range e.0) b) (filter (λ e. is_within range e.0) b)) (sym e)
       one false e None a b r = r
       one false e (Some row) a b r = r ∙ ap (λ t. cond t ((x, row) ∷ filter (λ e. is_within range e.0) b) (filter (λ e. is_within range e.0) b)) (sym e)
 
-pub among-told : (range : Range) (min now : ℕ) (rows : List (Id × Row)) (ids : List Id)
+pub among-told : (range : Range) (min now : ℕ) (rows : List (Id × RowState)) (ids : List Id)
     → filter (λ e. leb min (idle now e.1.time)) (rows_among rows (filter (range_contains id_cmp (Included range.low) (Included range.high)) ids))
     ≡ filter (is_told range min now) (rows_among rows ids)
 among-told range min now rows ids = ap (filter (λ e. leb min (idle now e.1.time))) (among-between range rows ids)
-    ∙ filter-filter (λ (e : Id × Row). is_within range e.0) (λ e. leb min (idle now e.1.time)) (is_told range min now) (λ e. refl) (rows_among rows ids)
+    ∙ filter-filter (λ (e : Id × RowState). is_within range e.0) (λ e. leb min (idle now e.1.time)) (is_told range min now) (λ e. refl) (rows_among rows ids)
 
-among-found : (rows es : List (Id × Row)) → AreFound rows es → rows_among rows (keys_of es) ≡ es
+among-found : (rows es : List (Id × RowState)) → AreFound rows es → rows_among rows (keys_of es) ≡ es
 among-found rows [] a = refl
 among-found rows (e ∷ es) a = (λ i. with_row e.0 (sym (a.0 ∙ find-lookup id_cmp e.0 rows) i) (rows_among rows (keys_of es))) ∙ ap (λ rest. e ∷ rest) (among-found rows es a.1)
 
 -- ---- what is asked
 
-pub asked-all : (range : Range) (min now : ℕ) (rows : List (Id × Row)) → filter (is_told range min now) rows ≡ filter (is_asked range min now None) rows
-asked-all range min now rows = filter-same (is_told range min now) (is_asked range min now None) rows (λ e. ap (λ b. is_within range e.0 && b) (yes (leb min (idle now e.1.time)))) where
+pub asked-all : (range : Range) (min now : ℕ) (rows : List (Id × RowState)) → filter (is_told range min now) rows ≡ filter (is_selected range min now None) rows
+asked-all range min now rows = filter-same (is_told range min now) (is_selected range min now None) rows (λ e. ap (λ b. is_within range e.0 && b) (yes (leb min (idle now e.1.time)))) where
   yes : (b : Bool) → b ≡ (b && true)
   yes true = refl
   yes false = refl
 
-pub asked-owned : (range : Range) (min now : ℕ) (name : List ℕ) (rows : Rows) (ids : List Id) → ids ≡ owned name rows.entries
-    → filter (is_told range min now) (rows_among rows.entries ids) ≡ filter (is_asked range min now (Some name)) rows.entries
+pub asked-owned : (range : Range) (min now : ℕ) (name : List ℕ) (rows : Rows) (ids : List Id) → ids ≡ owned_ids name rows.entries
+    → filter (is_told range min now) (rows_among rows.entries ids) ≡ filter (is_selected range min now (Some name)) rows.entries
 asked-owned range min now name rows ids is =
     ap (λ k. filter (is_told range min now) (rows_among rows.entries k)) is
-    ∙ ap (filter (is_told range min now)) (among-found rows.entries (filter (λ e. is_name e.1.consumer name) rows.entries)
-    (found-filter rows.entries rows.entries (λ e. is_name e.1.consumer name) (found-all rows.entries rows.sorted)))
-    ∙ filter-filter (λ (e : Id × Row). is_name e.1.consumer name) (is_told range min now) (is_asked range min now (Some name))
-    (λ e. turned (is_within range e.0) (leb min (idle now e.1.time)) (is_name e.1.consumer name)) rows.entries where
+    ∙ ap (filter (is_told range min now)) (among-found rows.entries (filter (λ e. is_same_name e.1.consumer name) rows.entries)
+    (found-filter rows.entries rows.entries (λ e. is_same_name e.1.consumer name) (found-all rows.entries rows.sorted)))
+    ∙ filter-filter (λ (e : Id × RowState). is_same_name e.1.consumer name) (is_told range min now) (is_selected range min now (Some name))
+    (λ e. turned (is_within range e.0) (leb min (idle now e.1.time)) (is_same_name e.1.consumer name)) rows.entries where
       turned : (w i n : Bool) → (w && (i && n)) ≡ (n && (w && i))
       turned true true true = refl
       turned true true false = refl
@@ -169,12 +169,12 @@ not_within range h x = by (is_below x range.low) refl where
   by true e = refl
   by false e = ap not (below-not_below range.high range.low x h e)
 
-pub asked-none : (range : Range) (min now limit : ℕ) (consumer : Option (List ℕ)) (rows : List (Id × Row)) → is_below range.high range.low ≡ true
-    → [] ≡ take limit (map (pending_row now) (filter (is_asked range min now consumer) rows))
+pub asked-none : (range : Range) (min now limit : ℕ) (consumer : Option (List ℕ)) (rows : List (Id × RowState)) → is_below range.high range.low ≡ true
+    → [] ≡ take limit (map (pending_row now) (filter (is_selected range min now consumer) rows))
 asked-none range min now limit consumer rows h = sym (ap (λ es. take limit (map (pending_row now) es)) (none rows) ∙ nothing limit) where
-  none : (es : List (Id × Row)) → filter (is_asked range min now consumer) es ≡ []
+  none : (es : List (Id × RowState)) → filter (is_selected range min now consumer) es ≡ []
   none [] = refl
-  none (e ∷ es) = ap (λ b. cond (b && (leb min (idle now e.1.time) && is_of consumer e.1)) (e ∷ filter (is_asked range min now consumer) es) (filter (is_asked range min now consumer) es)) (not_within range h e.0) ∙ none es
+  none (e ∷ es) = ap (λ b. cond (b && (leb min (idle now e.1.time) && is_of consumer e.1)) (e ∷ filter (is_selected range min now consumer) es) (filter (is_selected range min now consumer) es)) (not_within range h e.0) ∙ none es
 
   nothing : (n : ℕ) → take n (map (pending_row now) []) ≡ []
   nothing zero = refl

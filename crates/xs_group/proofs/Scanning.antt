@@ -12,8 +12,8 @@ use Rattle.xs_stream.specs.Id.{id_cmp, is_below}
 use Rattle.xs_stream.proofs.Order.{is_same-symm, is_same-refl, le-not_below}
 use Rattle.xs_group.specs.declared.claims.Scan.{Scan}
 use Rattle.xs_group.specs.declared.claims.Verdict.{Verdict}
-use Rattle.xs_group.specs.Claims.{Rule, row_at, is_taken, is_removed, is_hit, from_start, prefixes, first_where, scanned, first_or_zero, scan_of}
-use Rattle.xs_group.specs.State.{Row}
+use Rattle.xs_group.specs.Claims.{Rule, row_at, is_taken, is_removed, is_hit, from_start, prefixes, first_where, scanned_part, first_or_zero, scan_of}
+use Rattle.xs_group.specs.State.{RowState}
 use Rattle.xs_group.specs.Verdict.{is_taken_by, is_removed_by, with_taken, with_removed, scanned_after}
 use Rattle.xs_group.proofs.Ordered.{first, second}
 
@@ -55,7 +55,7 @@ module _ (hit : Id → Bool) (limit : ℕ) where
       ap (λ more. cond (leb limit (hits + 0) || leb (10 * limit) (seen + 0)) [] more) rest
       ∙ (λ i. cond (leb limit (add-zero hits i) || leb (10 * limit) (add-zero seen i)) [] (x ∷ scanned_after hit limit (hits + cond (hit x) 1 0) (seen + 1) xs))
 
-  pub scanned-after : (ids : List Id) → scanned hit limit ids ≡ scanned_after hit limit 0 0 ids
+  pub scanned-after : (ids : List Id) → scanned_part hit limit ids ≡ scanned_after hit limit 0 0 ids
   scanned-after ids = first-same _ _ (λ p. λ i. leb limit (zero-plus (length (filter hit p)) i) || leb (10 * limit) (zero-plus (length p) i)) ids (prefixes ids) ∙ scanned-from 0 0 ids where
     zero-plus : (n : ℕ) → n ≡ 0 + n
     zero-plus n = omega arith
@@ -69,10 +69,10 @@ module _ (hit : Id → Bool) (limit : ℕ) where
 
 -- ---- the rows of a range are those of the map
 
-abbrev pub AreFound : List (Id × Row) → List (Id × Row) → Type 0
+abbrev pub AreFound : List (Id × RowState) → List (Id × RowState) → Type 0
 AreFound rows es = AllByRecursion (λ e. Some e.1 ≡ row_at rows e.0) es
 
-found-later : (e : Id × Row) (rows es : List (Id × Row)) → T (below_all id_cmp e.0 es) → AreFound rows es → AreFound (e ∷ rows) es
+found-later : (e : Id × RowState) (rows es : List (Id × RowState)) → T (below_all id_cmp e.0 es) → AreFound rows es → AreFound (e ∷ rows) es
 found-later e rows [] b a = tt
 found-later e rows (f ∷ fs) b a = (a.0 ∙ ap (λ t. cond t (Some e.1) (row_at rows f.0)) (sym (is_same-symm f.0 e.0 ∙ less _ (first _ _ b))), found-later e rows fs (second _ _ b) a.1) where
   less : (o : Ordering) → T (is_lt o) → is_eq o ≡ false
@@ -80,11 +80,11 @@ found-later e rows (f ∷ fs) b a = (a.0 ∙ ap (λ t. cond t (Some e.1) (row_at
   less Equal p = absurd p
   less Greater p = absurd p
 
-pub found-all : (rows : List (Id × Row)) → T (is_sorted id_cmp rows) → AreFound rows rows
+pub found-all : (rows : List (Id × RowState)) → T (is_sorted id_cmp rows) → AreFound rows rows
 found-all [] s = tt
 found-all (e ∷ es) s = (ap (λ t. cond t (Some e.1) (row_at es e.0)) (sym (is_same-refl e.0)), found-later e es es (first _ _ s) (found-all es (second _ _ s)))
 
-pub found-filter : (rows es : List (Id × Row)) (p : Id × Row → Bool) → AreFound rows es → AreFound rows (filter p es)
+pub found-filter : (rows es : List (Id × RowState)) (p : Id × RowState → Bool) → AreFound rows es → AreFound rows (filter p es)
 found-filter rows [] p a = tt
 found-filter rows (e ∷ es) p a = by (p e) (found-filter rows es p a.1) where
   by : (t : Bool) → AreFound rows (filter p es) → AreFound rows (cond t (e ∷ filter p es) (filter p es))
@@ -95,7 +95,7 @@ and_yes : (t : Bool) → (t && not false) ≡ t
 and_yes true = refl
 and_yes false = refl
 
-pub keys-between : (start : Id) (rows : List (Id × Row)) → map (λ e. e.0) (entries_between id_cmp (Included start) Unbounded rows) ≡ from_start start rows
+pub keys-between : (start : Id) (rows : List (Id × RowState)) → map (λ e. e.0) (entries_between id_cmp (Included start) Unbounded rows) ≡ from_start start rows
 keys-between start [] = refl
 keys-between start (e ∷ es) = by (range_contains id_cmp (Included start) Unbounded e.0) (not (is_below e.0 start)) (and_yes _ ∙ le-not_below start e.0) (keys-between start es) where
   by : (s t : Bool) → s ≡ t → map (λ e. e.0) (entries_between id_cmp (Included start) Unbounded es) ≡ from_start start es
@@ -119,7 +119,7 @@ removed-on v p ids x part e = by (is_removed_by v) ∙ ap (λ t. ids ++ cond t (
   by true = append_assoc ids (x ∷ []) (filter p part)
   by false = refl
 
-module _ (rows : List (Id × Row)) (present : List Id) (now : ℕ) (rule : Rule) (start : Id) (limit : ℕ) where
+module _ (rows : List (Id × RowState)) (present : List Id) (now : ℕ) (rule : Rule) (start : Id) (limit : ℕ) where
   -- what a scan has found where it ends
   pub scan-ended : (cursor : Id) (take removed : List Id)
       → take ≡ filter (is_taken rows present now rule) (scanned_after (is_hit rows present now rule) limit 0 0 (from_start start rows))

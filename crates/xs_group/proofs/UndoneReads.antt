@@ -3,7 +3,7 @@ use Rattle.std.proofs.Common.{Option, ◌≡◌, ℕ, Bool, true, false, cond, n
 use Rattle.xs_bytes.specs.SortedMap.{change}
 use Rattle.xs_stream.specs.declared.id.Id.{Id}
 use Rattle.xs_group.specs.declared.delivery.Delivery.{Delivery}
-use Rattle.xs_group.specs.State.{Rows, State, has_name, with_name, delivers, first_row, with_rows, shown, delivered_to, reread_by, unless_acked}
+use Rattle.xs_group.specs.State.{Rows, GroupState, has_name, with_name, new_ids, first_row, with_rows, own_ids, group_after_delivery, group_after_reread, unless_acked}
 use Rattle.xs_group.specs.Indexes.{PendingList, IsNamed, AreFree}
 use Rattle.xs_group.specs.Lawful.{IsLawful}
 use Rattle.xs_group.specs.Deliveries.{delivery_of, history_of, new_rows, kind_of, taken_back, without_made, unmade, row_ids, IsDelivered, IsReread, IsMade}
@@ -25,16 +25,16 @@ without-made held name named = by (has_name held.consumers name) refl where
   by false e = held-back held name named (sym (ap not e))
 
 -- a group with the consumers and the rows that an undoing leaves
-abbrev pub undone : Delivery → State → State
+abbrev pub undone : Delivery → GroupState → GroupState
 undone d group =
     let held = unmade d (record { consumers = group.consumers; rows = group.rows }) in
     record { cursor = d.cursor_before; consumers = held.consumers; rows = held.rows }
 
-abbrev state_of : Id → PendingList → State
+abbrev state_of : Id → PendingList → GroupState
 state_of cursor held = record { cursor = cursor; consumers = held.consumers; rows = held.rows }
 
-module _ (before : State) (law : IsLawful before) where
-  back : (d : Delivery) (after : State) (rows : Rows) → d.created ≡ not (has_name before.consumers d.consumer) → d.cursor_before ≡ before.cursor
+module _ (before : GroupState) (law : IsLawful before) where
+  back : (d : Delivery) (after : GroupState) (rows : Rows) → d.created ≡ not (has_name before.consumers d.consumer) → d.cursor_before ≡ before.cursor
       → after.consumers ≡ with_name before.consumers d.consumer → taken_back d.kind d.rows after.rows ≡ before.rows → undone d after ≡ before
   back d after rows made cursor names back_rows =
       let h : unmade d (record { consumers = after.consumers; rows = after.rows }) ≡ record { consumers = before.consumers; rows = before.rows } =
@@ -42,11 +42,11 @@ module _ (before : State) (law : IsLawful before) where
       ∙ without-made (record { consumers = before.consumers; rows = before.rows }) d.consumer law.named in
       λ i. state_of (cursor i) (h i)
 
-  undelivered : (after : State) (d : Delivery) → IsDelivered before after d → undone d after ≡ before
+  undelivered : (after : GroupState) (d : Delivery) → IsDelivered before after d → undone d after ≡ before
   undelivered after d w =
-      let ids = delivers w.limit before.cursor w.ids in
+      let ids = new_ids w.limit before.cursor w.ids in
       let free = free-above before.cursor before.rows ids law.up_to (delivers-above w.limit before.cursor w.ids) in
-      back d after before.rows (ap (λ (k : Delivery). k.created) w.answered) (ap (λ (k : Delivery). k.cursor_before) w.answered) (ap (λ (g : State). g.consumers) w.left)
+      back d after before.rows (ap (λ (k : Delivery). k.created) w.answered) (ap (λ (k : Delivery). k.cursor_before) w.answered) (ap (λ (g : GroupState). g.consumers) w.left)
       ((λ i. taken_back (w.answered i).kind (w.answered i).rows (w.left i).rows) ∙ by ids free w.noack) where
         by : (ids : List Id) → AreFree before.rows ids → (noack : Bool)
             → taken_back (kind_of noack) (new_rows ids) (cond noack before.rows (with_rows ids (first_row d.consumer w.now) before.rows)) ≡ before.rows
@@ -54,20 +54,20 @@ module _ (before : State) (law : IsLawful before) where
         by ids free false = ap (λ k. change (unless_acked k) (with_rows ids (first_row d.consumer w.now) before.rows)) (ids-new_rows ids)
             ∙ out-again ids (first_row d.consumer w.now) before.rows free
 
-  unreread : (after : State) (d : Delivery) → IsReread before after d → undone d after ≡ before
+  unreread : (after : GroupState) (d : Delivery) → IsReread before after d → undone d after ≡ before
   unreread after d w =
-      back d after before.rows (ap (λ (k : Delivery). k.created) w.answered) (ap (λ (k : Delivery). k.cursor_before) w.answered) (ap (λ (g : State). g.consumers) w.left)
+      back d after before.rows (ap (λ (k : Delivery). k.created) w.answered) (ap (λ (k : Delivery). k.cursor_before) w.answered) (ap (λ (g : GroupState). g.consumers) w.left)
       ((λ i. taken_back (w.answered i).kind (w.answered i).rows (w.left i).rows)
-      ∙ rows-unread w.now w.ids (shown d.consumer w.limit w.from before.rows.entries) before.rows)
+      ∙ rows-unread w.now w.ids (own_ids d.consumer w.limit w.from before.rows.entries) before.rows)
 
-pub undone-before : (before after : State) (d : Delivery) → IsMade before after d → undone d after ≡ before
+pub undone-before : (before after : GroupState) (d : Delivery) → IsMade before after d → undone d after ≡ before
 undone-before before after d (law, inl w) = undelivered before law after d w
 undone-before before after d (law, inr w) = unreread before law after d w
 
 -- ---- what a read ensures is what its undoing asks for
 
-pub made-delivery : (before after : State) (d : Delivery) (consumer : List ℕ) (now : ℕ) (limit : Option ℕ) (noack : Bool) (ids : List Id) → IsLawful before
-    → after ≡ delivered_to consumer now limit noack ids before → d ≡ delivery_of consumer limit noack ids before → IsMade before after d
+pub made-delivery : (before after : GroupState) (d : Delivery) (consumer : List ℕ) (now : ℕ) (limit : Option ℕ) (noack : Bool) (ids : List Id) → IsLawful before
+    → after ≡ group_after_delivery consumer now limit noack ids before → d ≡ delivery_of consumer limit noack ids before → IsMade before after d
 made-delivery before after d consumer now limit noack ids law left answered =
     let own : consumer ≡ d.consumer = sym (ap (λ (k : Delivery). k.consumer) answered) in (
       law,
@@ -76,13 +76,13 @@ made-delivery before after d consumer now limit noack ids law left answered =
         limit = limit;
         noack = noack;
         ids = ids;
-        left = left ∙ ap (λ k. delivered_to k now limit noack ids before) own;
+        left = left ∙ ap (λ k. group_after_delivery k now limit noack ids before) own;
         answered = answered ∙ ap (λ k. delivery_of k limit noack ids before) own;
       }),
     )
 
-pub made-history : (before after : State) (d : Delivery) (consumer : List ℕ) (now : ℕ) (limit : Option ℕ) (from : Id) (ids : List Id) → IsLawful before
-    → after ≡ reread_by consumer now limit from ids before → d ≡ history_of consumer limit from ids before → IsMade before after d
+pub made-history : (before after : GroupState) (d : Delivery) (consumer : List ℕ) (now : ℕ) (limit : Option ℕ) (from : Id) (ids : List Id) → IsLawful before
+    → after ≡ group_after_reread consumer now limit from ids before → d ≡ history_of consumer limit from ids before → IsMade before after d
 made-history before after d consumer now limit from ids law left answered =
     let own : consumer ≡ d.consumer = sym (ap (λ (k : Delivery). k.consumer) answered) in (
       law,
@@ -91,7 +91,7 @@ made-history before after d consumer now limit from ids law left answered =
         limit = limit;
         from = from;
         ids = ids;
-        left = left ∙ ap (λ k. reread_by k now limit from ids before) own;
+        left = left ∙ ap (λ k. group_after_reread k now limit from ids before) own;
         answered = answered ∙ ap (λ k. history_of k limit from ids before) own;
       }),
     )

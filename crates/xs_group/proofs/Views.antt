@@ -9,16 +9,16 @@ use Rattle.std.proofs.lemmas.Map.Lookups.{exact_bytes}
 use Rattle.xs_bytes.specs.SortedMap.{get, remove}
 use Rattle.xs_bytes.proofs.SortedMaps.{get-of_entries, get-remove, same_map}
 use Rattle.xs_stream.specs.declared.id.Id.{Id}
-use Rattle.xs_stream.specs.Id.{id_cmp, is_same}
+use Rattle.xs_stream.specs.Id.{id_cmp, is_same_id}
 use Rattle.xs_stream.proofs.Order.{same_id, is_same-symm}
-use Rattle.xs_group.specs.State.{Row, Rows, Names, is_name, has_name, ids_total}
+use Rattle.xs_group.specs.State.{RowState, Rows, Names, is_same_name, has_name, ids_total}
 use Rattle.xs_group.specs.Indexes.{rows_of, ConsumerIndex, names_of, ids_at, indexed_row}
 
 pub find-lookup : {K X : Type 0} (R : K → K → Ordering) (q : K) (es : List (K × X)) → find R q es ≡ lookup (is_at (R q)) es
 find-lookup R q [] = refl
 find-lookup R q (e ∷ es) = ap (cond (eq_by_cmp R q e.0) (Some e.1)) (find-lookup R q es)
 
-pub get-rows_of : (rows : List (Id × Row)) (x : Id) → get (rows_of rows) x ≡ indexed_row rows x
+pub get-rows_of : (rows : List (Id × RowState)) (x : Id) → get (rows_of rows) x ≡ indexed_row rows x
 get-rows_of rows x = get-of_entries ids_total rows x ∙ find-lookup id_cmp x rows
 
 abbrev pub unit_of : {X : Type 0} → Option X → Option (Unit {0})
@@ -27,7 +27,7 @@ unit_of (Some x) = Some tt
 
 lookup-units : (owners : ConsumerIndex) (n : List ℕ) → lookup (is_at (slice_cmp nat_cmp n)) (map (λ e. (e.0, tt)) owners) ≡ unit_of (ids_at owners n)
 lookup-units [] n = refl
-lookup-units (e ∷ es) n = ap (cond (is_name n e.0) (Some tt)) (lookup-units es n) ∙ by (is_name n e.0) where
+lookup-units (e ∷ es) n = ap (cond (is_same_name n e.0) (Some tt)) (lookup-units es n) ∙ by (is_same_name n e.0) where
   by : (t : Bool) → cond t (Some tt) (unit_of (ids_at es n)) ≡ unit_of (cond t (Some e.1) (ids_at es n))
   by true = refl
   by false = refl
@@ -58,14 +58,14 @@ names-same a b is = same_names (names_of a) (names_of b) (λ q. has_name-names_o
 pub same_rows : (m n : Rows) → ((q : Id) → get m q ≡ get n q) → m ≡ n
 same_rows m n is = same_map ids_total same_id m n is
 
-pub rows-same : (a b : List (Id × Row)) → ((q : Id) → indexed_row a q ≡ indexed_row b q) → rows_of a ≡ rows_of b
+pub rows-same : (a b : List (Id × RowState)) → ((q : Id) → indexed_row a q ≡ indexed_row b q) → rows_of a ≡ rows_of b
 rows-same a b is = same_rows (rows_of a) (rows_of b) (λ q. get-rows_of a q ∙ is q ∙ sym (get-rows_of b q))
 
 -- ---- one row
 
 abbrev pub RowMap : Type 0
-RowMap = BTreeMap Id Row
+RowMap = BTreeMap Id RowState
 
 pub rows-remove : (m n : RowMap) (id : Id) → UpdatesBy id_cmp (id_cmp id) m n None → rows_of n.entries ≡ remove (rows_of m.entries) id
 rows-remove m n id u = same_rows _ _ (λ q. get-rows_of n.entries q ∙ u.0 q ∙ ap (λ b. cond b None (indexed_row m.entries q)) (is_same-symm id q)
-    ∙ ap (cond (is_same q id) None) (sym (get-rows_of m.entries q)) ∙ sym (get-remove ids_total (rows_of m.entries) id q))
+    ∙ ap (cond (is_same_id q id) None) (sym (get-rows_of m.entries q)) ∙ sym (get-remove ids_total (rows_of m.entries) id q))

@@ -3,14 +3,14 @@ use Rattle.std.specs.Prelude.{◌≡◌, ℕ, Bool, true, not, ◌⊎◌, List, 
 use Rattle.std.specs.Option.{option_map}
 use Rattle.xs_bytes.specs.SortedMap.{get, change, remove}
 use Rattle.xs_stream.specs.declared.id.Id.{Id}
-use Rattle.xs_stream.specs.Id.{is_same, has_id}
+use Rattle.xs_stream.specs.Id.{is_same_id, has_id}
 use Rattle.xs_group.specs.declared.delivery.Touch.{Touch}
 use Rattle.xs_group.specs.declared.delivery.DeliveryRow.{DeliveryRow}
 use Rattle.xs_group.specs.declared.delivery.DeliveryKind.{DeliveryKind}
 use Rattle.xs_group.specs.declared.delivery.DeliveryKind.TheVariants.{New, NoAck, History}
 use Rattle.xs_group.specs.declared.delivery.Delivery.{Delivery}
-use Rattle.xs_group.specs.State.{Row, Rows, State, has_name, with_name, raised}
-use Rattle.xs_group.specs.State.{delivers, delivered_to, shown, reread_by, last_of, with_rows, first_row}
+use Rattle.xs_group.specs.State.{RowState, Rows, GroupState, has_name, with_name, next_count}
+use Rattle.xs_group.specs.State.{new_ids, group_after_delivery, own_ids, group_after_reread, last_of, with_rows, first_row}
 use Rattle.xs_group.specs.State.{unless_acked, unless_owned}
 use Rattle.xs_group.specs.Indexes.{PendingList}
 use Rattle.xs_group.specs.Lawful.{IsLawful}
@@ -23,7 +23,7 @@ abbrev pub new_rows : List Id → List DeliveryRow
 new_rows ids = map new_row ids
 
 -- a group after a delivery of these ids
-abbrev pub received : List ℕ → ℕ → Bool → List Id → State → State
+abbrev pub received : List ℕ → ℕ → Bool → List Id → GroupState → GroupState
 received consumer now noack ids group =
     record {
       cursor = last_of group.cursor ids;
@@ -35,17 +35,17 @@ abbrev pub kind_of : Bool → DeliveryKind
 kind_of noack = if noack then NoAck else New
 
 -- what a read of new entries answers
-abbrev pub delivery_of : List ℕ → Option ℕ → Bool → List Id → State → Delivery
+abbrev pub delivery_of : List ℕ → Option ℕ → Bool → List Id → GroupState → Delivery
 delivery_of consumer limit noack present group =
     record {
       consumer = consumer;
       created = not (has_name group.consumers consumer);
       cursor_before = group.cursor;
       kind = kind_of noack;
-      rows = new_rows (delivers limit group.cursor present);
+      rows = new_rows (new_ids limit group.cursor present);
     }
 
-abbrev pub touch_of : Option Row → Option Touch
+abbrev pub touch_of : Option RowState → Option Touch
 touch_of row = option_map (λ r. record { time = r.time; count = r.count }) row
 
 -- an entry of the consumer's own that is shown
@@ -56,36 +56,36 @@ abbrev pub shown_rows : Rows → List Id → List Id → List DeliveryRow
 shown_rows rows present ids = map (shown_row rows present) ids
 
 -- what a read of the consumer's own entries answers
-abbrev pub history_of : List ℕ → Option ℕ → Id → List Id → State → Delivery
+abbrev pub history_of : List ℕ → Option ℕ → Id → List Id → GroupState → Delivery
 history_of consumer limit from present group =
     record {
       consumer = consumer;
       created = not (has_name group.consumers consumer);
       cursor_before = group.cursor;
       kind = History;
-      rows = shown_rows group.rows present (shown consumer limit from group.rows.entries);
+      rows = shown_rows group.rows present (own_ids consumer limit from group.rows.entries);
     }
 
 -- a read of new entries made this group of the earlier one, and answered this delivery
-pub record IsDelivered (before after : State) (delivery : Delivery) : Type 0 where
+pub record IsDelivered (before after : GroupState) (delivery : Delivery) : Type 0 where
   pub now : ℕ
   pub limit : Option ℕ
   pub noack : Bool
   pub ids : List Id
-  pub left : after ≡ delivered_to delivery.consumer now limit noack ids before
+  pub left : after ≡ group_after_delivery delivery.consumer now limit noack ids before
   pub answered : delivery ≡ delivery_of delivery.consumer limit noack ids before
 
 -- so did a read of the consumer's own entries
-pub record IsReread (before after : State) (delivery : Delivery) : Type 0 where
+pub record IsReread (before after : GroupState) (delivery : Delivery) : Type 0 where
   pub now : ℕ
   pub limit : Option ℕ
   pub from : Id
   pub ids : List Id
-  pub left : after ≡ reread_by delivery.consumer now limit from ids before
+  pub left : after ≡ group_after_reread delivery.consumer now limit from ids before
   pub answered : delivery ≡ history_of delivery.consumer limit from ids before
 
 -- a read of a lawful group left this one, and answered this delivery
-abbrev pub IsMade : State → State → Delivery → Type 0
+abbrev pub IsMade : GroupState → GroupState → Delivery → Type 0
 IsMade before after delivery = IsLawful before × (IsDelivered before after delivery ⊎ IsReread before after delivery)
 
 -- ---- times and counts that are set
@@ -93,14 +93,14 @@ IsMade before after delivery = IsLawful before × (IsDelivered before after deli
 -- the time and count that a row gets by a delivery at a moment, or gets back
 abbrev pub touch_set : Option ℕ → DeliveryRow → Option Touch
 touch_set (Some now) row =
-    if row.present then option_map (λ t. record { time = now; count = raised t.count }) row.before else None
+    if row.present then option_map (λ t. record { time = now; count = next_count t.count }) row.before else None
 touch_set None row = row.before
 
-abbrev pub with_touch : Touch → Row → Row
+abbrev pub with_touch : Touch → RowState → RowState
 with_touch touch row = record { consumer = row.consumer; time = touch.time; count = touch.count }
 
-abbrev pub touched_at : Id → Touch → Id → Row → Option Row
-touched_at id touch x row = if is_same x id then Some (with_touch touch row) else Some row
+abbrev pub touched_at : Id → Touch → Id → RowState → Option RowState
+touched_at id touch x row = if is_same_id x id then Some (with_touch touch row) else Some row
 
 abbrev pub set_one : Id → Option Touch → Rows → Rows
 set_one id None rows = rows

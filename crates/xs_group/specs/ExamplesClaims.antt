@@ -2,12 +2,12 @@
 -- Where a rule is this server's, "own" says so.
 use Rattle.std.specs.Prelude.{◌≡◌, ℕ, true, false, List, [], ◌∷◌, codes, Some, None}
 use Rattle.xs_stream.specs.declared.id.Id.{Id}
-use Rattle.xs_stream.specs.Id.{is_same}
+use Rattle.xs_stream.specs.Id.{is_same_id}
 use Rattle.xs_stream.specs.Examples.{at}
 use Rattle.xs_group.specs.declared.claims.ClaimTime.TheVariants as time
-use Rattle.xs_group.specs.State.{Row}
-use Rattle.xs_group.specs.Claims.{Rule, is_idle, is_removed, is_taken, firsts, claim_of, from_start, is_hit, prefixes}
-use Rattle.xs_group.specs.Claims.{scanned, first_or_zero, scan_of, claim_time, claim_count, claimed_row, claimed_by}
+use Rattle.xs_group.specs.State.{RowState}
+use Rattle.xs_group.specs.Claims.{Rule, is_idle, is_removed, is_taken, without_repeats, claim_by_ids, from_start, is_hit, prefixes}
+use Rattle.xs_group.specs.Claims.{scanned_part, first_or_zero, scan_of, claim_time, claim_count, claimed_row, group_after_claim}
 use Rattle.xs_group.specs.ExamplesRead.{pending, three, group, Is}
 
 -- a claim of what is idle for so long, without options
@@ -19,7 +19,7 @@ abbrev pub present : List Id
 present = at 1 0 ∷ at 3 0 ∷ at 4 0 ∷ []
 
 -- the row of a consumer
-abbrev pub row : List ℕ → ℕ → ℕ → Row
+abbrev pub row : List ℕ → ℕ → ℕ → RowState
 row consumer time count = record { consumer = consumer; time = time; count = count }
 
 abbrev pub twelve : List Id
@@ -40,15 +40,15 @@ pub record ByIds : Type 0 where
   pub one_deleted_isnt : is_taken three present 150 (idle_for 0) (at 2 0) ≡ false
   pub one_not_idle_isnt : is_taken three present 150 (idle_for 50) (at 3 0) ≡ false
   pub one_not_pending_isnt : is_taken three present 150 (idle_for 0) (at 4 0) ≡ false
-  pub each_id_once : firsts (at 2 0 ∷ at 1 0 ∷ at 2 0 ∷ at 3 0 ∷ at 1 0 ∷ []) ≡ at 2 0 ∷ at 1 0 ∷ at 3 0 ∷ []
+  pub each_id_once : without_repeats (at 2 0 ∷ at 1 0 ∷ at 2 0 ∷ at 3 0 ∷ at 1 0 ∷ []) ≡ at 2 0 ∷ at 1 0 ∷ at 3 0 ∷ []
   pub in_the_order_written :
-      claim_of three present 150 (idle_for 0) (at 3 0 ∷ at 2 0 ∷ at 9 0 ∷ at 1 0 ∷ at 3 0 ∷ [])
+      claim_by_ids three present 150 (idle_for 0) (at 3 0 ∷ at 2 0 ∷ at 9 0 ∷ at 1 0 ∷ at 3 0 ∷ [])
       ≡ record { take = at 3 0 ∷ at 1 0 ∷ []; removed = at 2 0 ∷ [] }
   pub those_that_are_idle :
-      claim_of three present 150 (idle_for 50) (at 1 0 ∷ at 2 0 ∷ at 3 0 ∷ [])
+      claim_by_ids three present 150 (idle_for 50) (at 1 0 ∷ at 2 0 ∷ at 3 0 ∷ [])
       ≡ record { take = at 1 0 ∷ []; removed = at 2 0 ∷ [] }
   pub several_deleted :
-      claim_of three [] 150 (idle_for 999) (at 3 0 ∷ at 1 0 ∷ []) ≡ record { take = []; removed = at 3 0 ∷ at 1 0 ∷ [] }
+      claim_by_ids three [] 150 (idle_for 999) (at 3 0 ∷ at 1 0 ∷ []) ≡ record { take = []; removed = at 3 0 ∷ at 1 0 ∷ [] }
 
 -- XAUTOCLAIM; own: COUNT hits or 10 x COUNT ids
 pub record ByScan : Type 0 where
@@ -60,13 +60,13 @@ pub record ByScan : Type 0 where
   pub removed_is_a_hit : is_hit three present 150 (idle_for 50) (at 2 0) ≡ true
   pub another_is_no_hit : is_hit three present 150 (idle_for 50) (at 3 0) ≡ false
   pub all_beginnings : prefixes (at 1 0 ∷ at 2 0 ∷ []) ≡ [] ∷ (at 1 0 ∷ []) ∷ (at 1 0 ∷ at 2 0 ∷ []) ∷ []
-  pub as_many_hits : scanned (λ x. true) 2 twelve ≡ at 1 0 ∷ at 2 0 ∷ []
-  pub up_to_the_hit : scanned (λ x. is_same x (at 3 0)) 1 twelve ≡ at 1 0 ∷ at 2 0 ∷ at 3 0 ∷ []
+  pub as_many_hits : scanned_part (λ x. true) 2 twelve ≡ at 1 0 ∷ at 2 0 ∷ []
+  pub up_to_the_hit : scanned_part (λ x. is_same_id x (at 3 0)) 1 twelve ≡ at 1 0 ∷ at 2 0 ∷ at 3 0 ∷ []
   pub ten_times_as_many_ids :
-      scanned (λ x. false) 1 twelve
+      scanned_part (λ x. false) 1 twelve
       ≡ at 1 0 ∷ at 2 0 ∷ at 3 0 ∷ at 4 0 ∷ at 5 0 ∷ at 6 0 ∷ at 7 0 ∷ at 8 0 ∷ at 9 0 ∷ at 10 0 ∷ []
-  pub to_the_end : scanned (λ x. false) 2 twelve ≡ twelve
-  pub the_hit_at_the_end : scanned (λ x. is_same x (at 12 0)) 2 twelve ≡ twelve
+  pub to_the_end : scanned_part (λ x. false) 2 twelve ≡ twelve
+  pub the_hit_at_the_end : scanned_part (λ x. is_same_id x (at 12 0)) 2 twelve ≡ twelve
   pub next_one : first_or_zero (at 3 0 ∷ at 4 0 ∷ []) ≡ at 3 0
   pub no_next_one : first_or_zero [] ≡ at 0 0
   pub one_taken_and_one_removed :
@@ -110,17 +110,17 @@ pub record TimesAndCounts : Type 0 where
 
 pub record Settled : Type 0 where
   pub taken_and_removed :
-      Is (claimed_by (codes "d") 200 (idle_for 0) (record { take = at 3 0 ∷ at 1 0 ∷ []; removed = at 2 0 ∷ [] }) group)
+      Is (group_after_claim (codes "d") 200 (idle_for 0) (record { take = at 3 0 ∷ at 1 0 ∷ []; removed = at 2 0 ∷ [] }) group)
       (at 3 0) (codes "a" ∷ codes "b" ∷ codes "c" ∷ codes "d" ∷ [])
       (pending (at 1 0) (codes "d") 200 2 ∷ pending (at 3 0) (codes "d") 200 2 ∷ [])
   pub others_stay :
-      Is (claimed_by (codes "a") 200 (idle_for 0) (record { take = at 2 0 ∷ []; removed = [] }) group) (at 3 0)
+      Is (group_after_claim (codes "a") 200 (idle_for 0) (record { take = at 2 0 ∷ []; removed = [] }) group) (at 3 0)
       (codes "a" ∷ codes "b" ∷ codes "c" ∷ [])
       (pending (at 1 0) (codes "a") 100 1 ∷ pending (at 2 0) (codes "a") 200 3 ∷ pending (at 3 0) (codes "a") 120 1
       ∷ [])
   pub several_removed :
-      Is (claimed_by (codes "a") 200 (idle_for 0) (record { take = []; removed = at 2 0 ∷ at 3 0 ∷ [] }) group) (at 3 0)
+      Is (group_after_claim (codes "a") 200 (idle_for 0) (record { take = []; removed = at 2 0 ∷ at 3 0 ∷ [] }) group) (at 3 0)
       (codes "a" ∷ codes "b" ∷ codes "c" ∷ []) (pending (at 1 0) (codes "a") 100 1 ∷ [])
   pub nothing_claimed :
-      Is (claimed_by (codes "d") 200 (idle_for 0) (record { take = []; removed = [] }) group) (at 3 0)
+      Is (group_after_claim (codes "d") 200 (idle_for 0) (record { take = []; removed = [] }) group) (at 3 0)
       (codes "a" ∷ codes "b" ∷ codes "c" ∷ codes "d" ∷ []) three

@@ -3,17 +3,17 @@
 use Rattle.std.specs.Prelude.{◌≡◌, ℕ, true, false, [], ◌∷◌, codes, Some, None}
 use Rattle.xs_bytes.specs.SortedMap.{keys}
 use Rattle.xs_stream.specs.declared.id.Id.{Id}
-use Rattle.xs_stream.specs.Id.{is_same}
+use Rattle.xs_stream.specs.Id.{is_same_id}
 use Rattle.xs_stream.specs.Examples.{at}
 use Rattle.xs_group.specs.declared.delivery.DeliveryRow.{DeliveryRow}
 use Rattle.xs_group.specs.declared.delivery.DeliveryKind.TheVariants as kind
 use Rattle.xs_group.specs.declared.claims.Verdict.TheVariants.{Passed, Taken, Removed}
-use Rattle.xs_group.specs.State.{State, delivered_to, reread_by}
+use Rattle.xs_group.specs.State.{GroupState, group_after_delivery, group_after_reread}
 use Rattle.xs_group.specs.Indexes.{PendingList, rows_of, is_owner, indexed_row, IsNamed}
 use Rattle.xs_group.specs.Lawful.{IsUpTo}
 use Rattle.xs_group.specs.Count.{IsCount}
 use Rattle.xs_group.specs.Deliveries.{delivery_of, history_of, set_rows, unmade}
-use Rattle.xs_group.specs.Verdict.{verdict_of, hits_of, with_taken, with_removed, scanned_after, moved, AreApart}
+use Rattle.xs_group.specs.Verdict.{verdict_of, hits_of, with_taken, with_removed, scanned_after, moved, AreDistinct}
 use Rattle.xs_group.specs.ExamplesRead.{pending, names_in, three, group, present}
 use Rattle.xs_group.specs.ExamplesClaims.{idle_for, row, twelve}
 
@@ -69,7 +69,7 @@ pub record Answers : Type 0 where
         rows = own (at 3 0) 120 1 ∷ [];
       }
 
-abbrev pub held : State → PendingList
+abbrev pub held : GroupState → PendingList
 held group = record { consumers = group.consumers; rows = group.rows }
 
 -- the consumers and the rows are those of the group before the read
@@ -79,19 +79,19 @@ IsAsBefore held = (keys held.consumers ≡ codes "a" ∷ codes "b" ∷ codes "c"
 pub record TakenBack : Type 0 where
   pub new_entries_of_a_new_consumer :
       IsAsBefore (unmade (delivery_of (codes "d") (Some 2) false present group)
-      (held (delivered_to (codes "d") 200 (Some 2) false present group)))
+      (held (group_after_delivery (codes "d") 200 (Some 2) false present group)))
   pub new_entries_of_a_known_one :
       IsAsBefore (unmade (delivery_of (codes "a") None false present group)
-      (held (delivered_to (codes "a") 200 None false present group)))
+      (held (group_after_delivery (codes "a") 200 None false present group)))
   pub entries_that_arent_pending :
       IsAsBefore (unmade (delivery_of (codes "d") None true present group)
-      (held (delivered_to (codes "d") 200 None true present group)))
+      (held (group_after_delivery (codes "d") 200 None true present group)))
   pub own_entries :
       IsAsBefore (unmade (history_of (codes "a") None (at 0 0) present group)
-      (held (reread_by (codes "a") 200 None (at 0 0) present group)))
+      (held (group_after_reread (codes "a") 200 None (at 0 0) present group)))
   pub nothing_of_a_new_consumer :
       IsAsBefore (unmade (history_of (codes "d") None (at 0 0) present group)
-      (held (reread_by (codes "d") 200 None (at 0 0) present group)))
+      (held (group_after_reread (codes "d") 200 None (at 0 0) present group)))
   pub sets_time_and_count :
       (set_rows (Some 200) (gone (at 1 0) 100 1 ∷ own (at 3 0) 120 1 ∷ []) (rows_of three)).entries
       ≡ pending (at 1 0) (codes "a") 100 1 ∷ pending (at 2 0) (codes "b") 110 2 ∷ pending (at 3 0) (codes "a") 200 2
@@ -113,7 +113,7 @@ pub record Verdicts : Type 0 where
   pub others_arent_taken : with_taken Removed (at 1 0 ∷ []) (at 2 0) ≡ at 1 0 ∷ []
   pub removed_behind_others : with_removed Removed (at 1 0 ∷ []) (at 2 0) ≡ at 1 0 ∷ at 2 0 ∷ []
   pub others_arent_removed : with_removed Taken (at 1 0 ∷ []) (at 2 0) ≡ at 1 0 ∷ []
-  pub up_to_the_hits : scanned_after (λ x. is_same x (at 3 0)) 1 0 0 twelve ≡ at 1 0 ∷ at 2 0 ∷ at 3 0 ∷ []
+  pub up_to_the_hits : scanned_after (λ x. is_same_id x (at 3 0)) 1 0 0 twelve ≡ at 1 0 ∷ at 2 0 ∷ at 3 0 ∷ []
   pub up_to_two_hits : scanned_after (λ x. true) 2 0 0 twelve ≡ at 1 0 ∷ at 2 0 ∷ []
   pub up_to_ten_times_as_many :
       scanned_after (λ x. false) 1 0 0 twelve
@@ -125,9 +125,9 @@ pub record Verdicts : Type 0 where
       moved (codes "d") 200 (idle_for 0) (at 2 0 ∷ []) (at 1 0) (row (codes "a") 100 1) ≡ Some (row (codes "a") 100 1)
 
 pub record Lawful : Type 0 where
-  pub apart : AreApart (at 2 0 ∷ at 1 0 ∷ at 3 0 ∷ [])
-  pub not_apart : AreApart (at 2 0 ∷ at 1 0 ∷ at 2 0 ∷ []) → ⊥
-  pub not_apart_at_the_end : AreApart (at 2 0 ∷ at 1 0 ∷ at 1 0 ∷ []) → ⊥
+  pub apart : AreDistinct (at 2 0 ∷ at 1 0 ∷ at 3 0 ∷ [])
+  pub not_apart : AreDistinct (at 2 0 ∷ at 1 0 ∷ at 2 0 ∷ []) → ⊥
+  pub not_apart_at_the_end : AreDistinct (at 2 0 ∷ at 1 0 ∷ at 1 0 ∷ []) → ⊥
   pub owner : is_owner (indexed_row three (at 2 0)) (codes "b") ≡ true
   pub another : is_owner (indexed_row three (at 2 0)) (codes "a") ≡ false
   pub nobody : is_owner (indexed_row three (at 4 0)) (codes "a") ≡ false

@@ -7,7 +7,7 @@ use Rattle.xs_stream.specs.Id.{zero_id, greatest_id}
 use Rattle.xs_stream.specs.Examples.{at}
 use Rattle.xs_group.specs.declared.reports.OwnerCount.{OwnerCount}
 use Rattle.xs_group.specs.declared.reports.PendingRow.{PendingRow}
-use Rattle.xs_group.specs.State.{State, new_group}
+use Rattle.xs_group.specs.State.{GroupState, new_group}
 use Rattle.xs_group.specs.Report.{owned_count, summary_of, pending_of}
 use Rattle.xs_group.specs.Indexes.{rows_of}
 use Rattle.xs_group.specs.ExamplesRead.{group, names_in, pending}
@@ -25,7 +25,7 @@ abbrev pub between : Id → Id → Range
 between low high = record { low = low; high = high }
 
 -- a group whose first row was claimed again after the others were delivered
-abbrev pub taken_over : State
+abbrev pub taken_over : GroupState
 taken_over =
     record {
       cursor = at 4 0;

@@ -11,9 +11,9 @@ use Rattle.xs_bytes.specs.MapOf.{of_entries, from_entries}
 use Rattle.xs_bytes.specs.SortedMap.{get, has_key}
 use Rattle.xs_stream.specs.declared.id.Id.{Id}
 use Rattle.xs_stream.specs.Id.{id_cmp, has_id}
-use Rattle.xs_group.specs.State.{Row, Rows, Names, State, ids_total, is_name, has_name}
+use Rattle.xs_group.specs.State.{RowState, Rows, Names, GroupState, ids_total, is_same_name, has_name}
 
-abbrev pub rows_of : List (Id × Row) → Rows
+abbrev pub rows_of : List (Id × RowState) → Rows
 rows_of entries = of_entries ids_total entries
 
 pub record PendingList : Type 0 where
@@ -24,7 +24,7 @@ abbrev pub coded_id : Coded Id
 coded_id =
     code_by (ℕ × ℕ) (coded× coded_ℕ coded_ℕ) (λ i. (i.ms, i.seq)) (λ p. record { ms = p.0; seq = p.1 }) (λ _. refl)
 
-abbrev pub coded_row : Coded Row
+abbrev pub coded_row : Coded RowState
 coded_row =
     code_by (List ℕ × (ℕ × ℕ)) (coded× (coded_list coded_ℕ) (coded× coded_ℕ coded_ℕ))
     (λ r. (r.consumer, (r.time, r.count)))
@@ -44,7 +44,7 @@ coded_pending_list =
     code_by (Names × Rows) (coded× coded_names coded_rows) (λ h. (h.consumers, h.rows))
     (λ p. record { consumers = p.0; rows = p.1 }) (λ _. refl)
 
-abbrev pub coded_state : Coded State
+abbrev pub coded_state : Coded GroupState
 coded_state =
     code_by (Id × (Names × Rows)) (coded× coded_id (coded× coded_names coded_rows))
     (λ g. (g.cursor, (g.consumers, g.rows)))
@@ -68,16 +68,16 @@ has_among (Some ids) x = contains id_cmp ids x
 abbrev pub holds : ConsumerIndex → List ℕ → Id → Bool
 holds owners name x = has_among (ids_at owners name) x
 
-abbrev pub is_owner : Option Row → List ℕ → Bool
+abbrev pub is_owner : Option RowState → List ℕ → Bool
 is_owner None name = false
-is_owner (Some row) name = is_name row.consumer name
+is_owner (Some row) name = is_same_name row.consumer name
 
 -- the index by id
-abbrev pub indexed_row : List (Id × Row) → Id → Option Row
+abbrev pub indexed_row : List (Id × RowState) → Id → Option RowState
 indexed_row rows x = lookup (is_at (id_cmp x)) rows
 
 -- both indexes hold the same pairs
-abbrev pub IsAgreed : List (Id × Row) → ConsumerIndex → Type 0
+abbrev pub IsAgreed : List (Id × RowState) → ConsumerIndex → Type 0
 IsAgreed rows owners = (name : List ℕ) → (x : Id) → holds owners name x ≡ is_owner (indexed_row rows x) name
 
 -- each row's consumer is one of these

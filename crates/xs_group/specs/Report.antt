@@ -8,47 +8,47 @@ use Rattle.xs_stream.specs.StreamContent.{is_within}
 use Rattle.xs_group.specs.declared.reports.OwnerCount.{OwnerCount}
 use Rattle.xs_group.specs.declared.reports.GroupSummary.{GroupSummary}
 use Rattle.xs_group.specs.declared.reports.PendingRow.{PendingRow}
-use Rattle.xs_group.specs.State.{Row, State, is_name, idle, owned}
+use Rattle.xs_group.specs.State.{RowState, GroupState, is_same_name, idle, owned_ids}
 
-abbrev pub first_id : List (Id × Row) → Option Id
+abbrev pub first_id : List (Id × RowState) → Option Id
 first_id [] = None
 first_id (e ∷ es) = Some e.0
 
-abbrev pub last_id : List (Id × Row) → Option Id
+abbrev pub last_id : List (Id × RowState) → Option Id
 last_id [] = None
 last_id (e ∷ []) = Some e.0
 last_id (e ∷ f ∷ es) = last_id (f ∷ es)
 
 -- each of these consumers with the number of its rows
-abbrev pub counted : List (List ℕ) → List (Id × Row) → List OwnerCount
-counted names rows = map (λ name. record { consumer = name; count = length (owned name rows) }) names
+abbrev pub counts_of_owners : List (List ℕ) → List (Id × RowState) → List OwnerCount
+counts_of_owners names rows = map (λ name. record { consumer = name; count = length (owned_ids name rows) }) names
 
 -- how many rows a consumer has
-abbrev pub owned_count : List ℕ → State → ℕ
-owned_count consumer group = length (owned consumer group.rows.entries)
+abbrev pub owned_count : List ℕ → GroupState → ℕ
+owned_count consumer group = length (owned_ids consumer group.rows.entries)
 
 -- the summary: how many rows, the least and the greatest id, and the consumers that have rows,
 -- in the order of their bytes
-abbrev pub summary_of : State → GroupSummary
+abbrev pub summary_of : GroupState → GroupSummary
 summary_of group =
     let rows = group.rows.entries in
-    let owners = filter (λ owner. nat_lt 0 owner.count) (counted (keys group.consumers) rows) in
+    let owners = filter (λ owner. nat_lt 0 owner.count) (counts_of_owners (keys group.consumers) rows) in
     record { total = length rows; least = first_id rows; greatest = last_id rows; owners = owners }
 
 -- the row of one consumer, where one is named
-abbrev pub is_of : Option (List ℕ) → Row → Bool
+abbrev pub is_of : Option (List ℕ) → RowState → Bool
 is_of None row = true
-is_of (Some consumer) row = is_name row.consumer consumer
+is_of (Some consumer) row = is_same_name row.consumer consumer
 
-abbrev pub pending_row : ℕ → Id × Row → PendingRow
+abbrev pub pending_row : ℕ → Id × RowState → PendingRow
 pending_row now e = record { id = e.0; consumer = e.1.consumer; idle = idle now e.1.time; count = e.1.count }
 
 -- a row in a range that is idle for long enough, of the consumer where one is named
-abbrev pub is_asked : Range → ℕ → ℕ → Option (List ℕ) → Id × Row → Bool
-is_asked range min_idle now consumer e =
+abbrev pub is_selected : Range → ℕ → ℕ → Option (List ℕ) → Id × RowState → Bool
+is_selected range min_idle now consumer e =
     is_within range e.0 && (nat_le min_idle (idle now e.1.time) && is_of consumer e.1)
 
 -- the first of these rows
-abbrev pub pending_of : Range → ℕ → ℕ → ℕ → Option (List ℕ) → State → List PendingRow
+abbrev pub pending_of : Range → ℕ → ℕ → ℕ → Option (List ℕ) → GroupState → List PendingRow
 pending_of range min_idle now limit consumer group =
-    take limit (map (pending_row now) (filter (is_asked range min_idle now consumer) group.rows.entries))
+    take limit (map (pending_row now) (filter (is_selected range min_idle now consumer) group.rows.entries))

@@ -11,20 +11,20 @@ use Rattle.xs_stream.specs.Id.{id_cmp, has_id, is_below}
 use Rattle.xs_stream.specs.StreamContent.{limited}
 
 -- a pending entry: whose it is, when it was last delivered, and how often
-pub record Row : Type 0 where
+pub record RowState : Type 0 where
   pub consumer : List ℕ
   pub time : ℕ
   pub count : ℕ
 
 -- the pending rows, by id
 abbrev pub Rows : Type 0
-Rows = SortedMap id_cmp Row
+Rows = SortedMap id_cmp RowState
 
 -- the consumers
 abbrev pub Names : Type 0
 Names = NameMap (Unit {0})
 
-pub record State : Type 0 where
+pub record GroupState : Type 0 where
   pub cursor : Id
   pub consumers : Names
   pub rows : Rows
@@ -39,8 +39,8 @@ abbrev pub has_name : Names → List ℕ → Bool
 has_name names name = has_key names name
 
 -- the same name
-abbrev pub is_name : List ℕ → List ℕ → Bool
-is_name a b = eq_by_cmp (slice_cmp nat_cmp) a b
+abbrev pub is_same_name : List ℕ → List ℕ → Bool
+is_same_name a b = eq_by_cmp (slice_cmp nat_cmp) a b
 
 -- how long ago the time of a row is, that of its last delivery or what a claim gave it; 0 where the moment is before it
 abbrev pub idle : ℕ → ℕ → ℕ
@@ -51,35 +51,35 @@ abbrev pub greatest_count : ℕ
 greatest_count = 9223372036854775807
 
 -- one delivery more
-abbrev pub raised : ℕ → ℕ
-raised count = if nat_lt count greatest_count then count + 1 else greatest_count
+abbrev pub next_count : ℕ → ℕ
+next_count count = if nat_lt count greatest_count then count + 1 else greatest_count
 
 -- a new group
-abbrev pub new_group : Id → State
+abbrev pub new_group : Id → GroupState
 new_group start = record { cursor = start; consumers = empty; rows = empty }
 
 -- the consumer is one of the group's from now on
-abbrev pub joined : List ℕ → State → State
-joined consumer group = record group { consumers = with_name group.consumers consumer }
+abbrev pub with_consumer : List ℕ → GroupState → GroupState
+with_consumer consumer group = record group { consumers = with_name group.consumers consumer }
 
 -- an acknowledged row goes
-abbrev pub unless_acked : List Id → Id → Row → Option Row
+abbrev pub unless_acked : List Id → Id → RowState → Option RowState
 unless_acked ids x row = if has_id ids x then None else Some row
 
-abbrev pub acked : List Id → State → State
-acked ids group = record group { rows = change (unless_acked ids) group.rows }
+abbrev pub group_after_ack : List Id → GroupState → GroupState
+group_after_ack ids group = record group { rows = change (unless_acked ids) group.rows }
 
 -- a row of a removed consumer goes
-abbrev pub unless_owned : List ℕ → Id → Row → Option Row
-unless_owned consumer x row = if is_name row.consumer consumer then None else Some row
+abbrev pub unless_owned : List ℕ → Id → RowState → Option RowState
+unless_owned consumer x row = if is_same_name row.consumer consumer then None else Some row
 
-abbrev pub without_consumer : List ℕ → State → State
+abbrev pub without_consumer : List ℕ → GroupState → GroupState
 without_consumer consumer group =
     record group { consumers = remove group.consumers consumer; rows = change (unless_owned consumer) group.rows }
 
 -- what `>` delivers: the first of the ids in the stream that are above the cursor
-abbrev pub delivers : Option ℕ → Id → List Id → List Id
-delivers limit cursor present = limited limit (filter (λ x. is_below cursor x) present)
+abbrev pub new_ids : Option ℕ → Id → List Id → List Id
+new_ids limit cursor present = limited limit (filter (λ x. is_below cursor x) present)
 
 -- the last of these ids, or the id before them where there is none
 abbrev pub last_of : Id → List Id → Id
@@ -87,40 +87,40 @@ last_of a [] = a
 last_of a (x ∷ xs) = last_of x xs
 
 -- a first delivery
-abbrev pub first_row : List ℕ → ℕ → Row
+abbrev pub first_row : List ℕ → ℕ → RowState
 first_row consumer now = record { consumer = consumer; time = now; count = 1 }
 
 -- the same new row at each of these ids
-abbrev pub with_rows : List Id → Row → Rows → Rows
+abbrev pub with_rows : List Id → RowState → Rows → Rows
 with_rows [] row rows = rows
 with_rows (x ∷ xs) row rows = with_rows xs row (insert_by ids_total rows x row)
 
 -- a group after a delivery: the consumer is there, the cursor is the last id delivered,
 -- and without NOACK the ids are pending
-abbrev pub delivered_to : List ℕ → ℕ → Option ℕ → Bool → List Id → State → State
-delivered_to consumer now limit noack present group =
-    let ids = delivers limit group.cursor present in
+abbrev pub group_after_delivery : List ℕ → ℕ → Option ℕ → Bool → List Id → GroupState → GroupState
+group_after_delivery consumer now limit noack present group =
+    let ids = new_ids limit group.cursor present in
     let rows = if noack then group.rows else with_rows ids (first_row consumer now) group.rows in
     record { cursor = last_of group.cursor ids; consumers = with_name group.consumers consumer; rows = rows }
 
 -- the ids of these rows that a consumer has
-abbrev pub owned : List ℕ → List (Id × Row) → List Id
-owned consumer rows = map (λ e. e.0) (filter (λ e. is_name e.1.consumer consumer) rows)
+abbrev pub owned_ids : List ℕ → List (Id × RowState) → List Id
+owned_ids consumer rows = map (λ e. e.0) (filter (λ e. is_same_name e.1.consumer consumer) rows)
 
 -- the consumer's own pending ids above an id
-abbrev pub shown : List ℕ → Option ℕ → Id → List (Id × Row) → List Id
-shown consumer limit from rows = limited limit (filter (λ x. is_below from x) (owned consumer rows))
+abbrev pub own_ids : List ℕ → Option ℕ → Id → List (Id × RowState) → List Id
+own_ids consumer limit from rows = limited limit (filter (λ x. is_below from x) (owned_ids consumer rows))
 
 -- a row that is delivered once more
-abbrev pub again : ℕ → Row → Row
-again now row = record { consumer = row.consumer; time = now; count = raised row.count }
+abbrev pub redelivered_row : ℕ → RowState → RowState
+redelivered_row now row = record { consumer = row.consumer; time = now; count = next_count row.count }
 
 -- what becomes of a row where these ids are shown: it is delivered once more if its entry is in the stream
-abbrev pub reread : ℕ → List Id → List Id → Id → Row → Option Row
-reread now ids present x row = if has_id ids x && has_id present x then Some (again now row) else Some row
+abbrev pub row_after_reread : ℕ → List Id → List Id → Id → RowState → Option RowState
+row_after_reread now ids present x row = if has_id ids x && has_id present x then Some (redelivered_row now row) else Some row
 
 -- a group after a read of a consumer's own entries
-abbrev pub reread_by : List ℕ → ℕ → Option ℕ → Id → List Id → State → State
-reread_by consumer now limit from present group =
-    let rows = change (reread now (shown consumer limit from group.rows.entries) present) group.rows in
+abbrev pub group_after_reread : List ℕ → ℕ → Option ℕ → Id → List Id → GroupState → GroupState
+group_after_reread consumer now limit from present group =
+    let rows = change (row_after_reread now (own_ids consumer limit from group.rows.entries) present) group.rows in
     record group { consumers = with_name group.consumers consumer; rows = rows }

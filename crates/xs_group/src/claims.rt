@@ -1,7 +1,7 @@
 //! Claims: which pending entries go to another consumer, and what becomes of them (Redis, XCLAIM and XAUTOCLAIM).
 ghost use Rattle.std.specs.BTreeMap.{IsOrdered};
 ghost use Rattle.std.specs.Prelude.{IfOk, OnOk, Some, [], ◌≡◌};
-ghost use Rattle.xs_group.specs.Claims.{firsts, scan_of};
+ghost use Rattle.xs_group.specs.Claims.{without_repeats, scan_of};
 ghost use Rattle.xs_group.specs.Verdict.{hits_of, verdict_of, with_removed, with_taken};
 ghost use Rattle.xs_stream.specs.Id.{has_id, id_cmp};
 ghost use Rattle.xs_stream.specs.StreamContent.{ids_of};
@@ -163,7 +163,7 @@ pub(crate) fn judge(
 
 /// Each id at its first place.
 pub(crate) fn firsts(alloc: Global, ids: &[Id]) -> Result<Vec<Id>, AllocError>
-    ensures { IfOk result (λ kept. kept.items ≡ firsts ids.now) }
+    ensures { IfOk result (λ kept. kept.items ≡ without_repeats ids.now) }
 {
     let mut seen = BTreeSet::new(alloc);
     let mut kept = Vec::new(alloc);

@@ -1,10 +1,10 @@
 //! A consumer group: its cursor, its consumers, and what is pending.
 ghost use Rattle.std.specs.Prelude.{◌≡◌, ◌+◌, not, length, IfOk, OnOk, OnErr};
-ghost use Rattle.xs_group.specs.State.{State, has_name, joined, new_group, acked, without_consumer, delivered_to};
-ghost use Rattle.xs_group.specs.State.{reread_by};
+ghost use Rattle.xs_group.specs.State.{GroupState, has_name, with_consumer, new_group, group_after_ack, without_consumer, group_after_delivery};
+ghost use Rattle.xs_group.specs.State.{group_after_reread};
 ghost use Rattle.xs_group.specs.Report.{owned_count, summary_of, pending_of};
 ghost use Rattle.xs_group.specs.Lawful.{IsLawful};
-ghost use Rattle.xs_group.specs.Claims.{claim_of, scan_of, claimed_by};
+ghost use Rattle.xs_group.specs.Claims.{claim_by_ids, scan_of, group_after_claim};
 ghost use Rattle.xs_group.specs.Verdict.{IsClaimOn};
 ghost use Rattle.std.specs.Option.{option_map};
 ghost use Rattle.xs_group.specs.Deliveries.{delivery_of, history_of, kind_of, received, IsMade};
@@ -29,11 +29,11 @@ pub struct Group {
 }
 
 impl Model for Group {
-    ghost use Rattle.xs_group.specs.State.{State};
+    ghost use Rattle.xs_group.specs.State.{GroupState};
     ghost use Rattle.xs_group.specs.Indexes.{coded_state};
     ghost use Rattle.xs_group.specs.Lawful.{IsUpTo};
 
-    ghost Value = { State };
+    ghost Value = { GroupState };
 
     ghost coded = { coded_state };
 
@@ -76,7 +76,7 @@ impl Group {
 
     /// Takes these ids out of what is pending, and says how many were (XACK). It takes no memory.
     pub fn ack(&mut self, ids: &[Id]) -> u64
-        ensures rows { self.new ≡ acked ids.now self.old }
+        ensures rows { self.new ≡ group_after_ack ids.now self.old }
         ensures count { result + length self.new.rows.entries ≡ length self.old.rows.entries }
     {
         let before = self.pending.len();
@@ -87,7 +87,7 @@ impl Group {
     /// Makes a consumer, and says whether it is new (XGROUP CREATECONSUMER).
     pub fn add_consumer(&mut self, alloc: Global, consumer: &Bytes) -> Result<bool, AllocError>
         ensures made { IfOk result (λ made. made ≡ not (has_name self.old.consumers consumer.now)) }
-        ensures ok { OnOk result (self.new ≡ joined consumer.now self.old) }
+        ensures ok { OnOk result (self.new ≡ with_consumer consumer.now self.old) }
         ensures err { OnErr result (self.new ≡ self.old) }
     {
         self.pending.add_consumer(alloc, consumer)
@@ -116,7 +116,7 @@ impl Group {
         ensures answer { IfOk result (λ d. d
             ≡ delivery_of consumer.now limit noack (ids_of stream.now.entries) self.old) }
         ensures ok { OnOk result (self.new
-            ≡ delivered_to consumer.now now limit noack (ids_of stream.now.entries) self.old) }
+            ≡ group_after_delivery consumer.now now limit noack (ids_of stream.now.entries) self.old) }
         ensures err { OnErr result (self.new ≡ self.old) }
     {
         stream.lawful();
@@ -148,7 +148,7 @@ impl Group {
         ensures answer { IfOk result (λ d. d
             ≡ history_of consumer.now limit from (ids_of stream.now.entries) self.old) }
         ensures ok { OnOk result (self.new
-            ≡ reread_by consumer.now now limit from (ids_of stream.now.entries) self.old) }
+            ≡ group_after_reread consumer.now now limit from (ids_of stream.now.entries) self.old) }
         ensures err { OnErr result (self.new ≡ self.old) }
     {
         let cursor_before = self.cursor;
@@ -169,8 +169,8 @@ impl Group {
     /// Takes back the read that answered this delivery, where it was the last call that changed the
     /// group: cursor, consumers and rows are what they were before it. It takes no memory.
     pub fn undo(&mut self, delivery: Delivery)
-        requires { (before : State) × IsMade before self.old delivery }
-        ensures { (before : State) → IsMade before self.old delivery → self.new ≡ before }
+        requires { (before : GroupState) × IsMade before self.old delivery }
+        ensures { (before : GroupState) → IsMade before self.old delivery → self.new ≡ before }
     {
         self.pending.undo(&delivery);
         self.cursor = delivery.cursor_before;
@@ -186,7 +186,7 @@ impl Group {
         ids: &[Id],
     ) -> Result<Claim, AllocError>
         ensures { IfOk result (λ claim. claim
-            ≡ claim_of self.now.rows.entries (ids_of stream.now.entries) now rule.now ids.now) }
+            ≡ claim_by_ids self.now.rows.entries (ids_of stream.now.entries) now rule.now ids.now) }
     {
         let firsts = claims::firsts(alloc, ids)?;
         self.pending
@@ -222,7 +222,7 @@ impl Group {
         claim: &Claim,
     ) -> Result<(), AllocError>
         requires { IsClaimOn self.old now rule.now claim.now }
-        ensures ok { OnOk result (self.new ≡ claimed_by consumer.now now rule.now claim.now self.old) }
+        ensures ok { OnOk result (self.new ≡ group_after_claim consumer.now now rule.now claim.now self.old) }
         ensures err { OnErr result (self.new ≡ self.old) }
     {
         self.pending.settle(alloc, consumer, now, rule, claim)?;

@@ -1,7 +1,7 @@
 //! The index by id: the pending entries.
 ghost use Rattle.std.specs.Prelude.{◌≡◌, Some, None, OnOk, OnErr, if◌then◌else◌};
 ghost use Rattle.xs_stream.specs.declared.id.Id.{Id};
-ghost use Rattle.xs_stream.specs.Id.{is_same, has_id};
+ghost use Rattle.xs_stream.specs.Id.{is_same_id, has_id};
 ghost use Rattle.xs_group.specs.State.{first_row};
 ghost use Rattle.xs_group.specs.Indexes.{rows_of, indexed_row, AreFree};
 
@@ -17,7 +17,7 @@ pub(crate) type IdIndex = SmallMap<Id, PendingEntry>;
 /// Puts in a row that is delivered for the first time.
 fn put_row(rows: &mut IdIndex, name: &Name, now: Moment, id: Id) -> Result<(), AllocError>
     ensures ok { OnOk result ((x : Id) → indexed_row rows.new.entries x
-        ≡ (if is_same x id then Some (first_row name.now now) else indexed_row rows.old.entries x)) }
+        ≡ (if is_same_id x id then Some (first_row name.now now) else indexed_row rows.old.entries x)) }
     ensures err { OnErr result (rows.new.entries ≡ rows.old.entries) }
 {
     let consumer = name.share()?;

@@ -2,10 +2,10 @@
 ghost use Rattle.std.specs.Prelude.{◌≡◌, ◌∷◌, [], ◌&&◌, ℕ, List, Option, true, false, not, map, is_some};
 ghost use Rattle.std.specs.Prelude.{option_and_then, IfOk, IfSome, if◌then◌else◌, OnOk, OnErr, IsSome};
 ghost use Rattle.xs_stream.specs.declared.id.Id.{Id};
-ghost use Rattle.xs_stream.specs.Id.{is_same, has_id};
-ghost use Rattle.xs_group.specs.State.{is_name};
+ghost use Rattle.xs_stream.specs.Id.{is_same_id, has_id};
+ghost use Rattle.xs_group.specs.State.{is_same_name};
 ghost use Rattle.xs_group.specs.Indexes.{holds, ids_at, is_owner, indexed_row, IsAgreed};
-ghost use Rattle.xs_group.specs.Verdict.{moved, AreApart, AreAgreedBut, AreSomeOf};
+ghost use Rattle.xs_group.specs.Verdict.{moved, AreDistinct, AreAgreedBut, AreSomeOf};
 
 use crate::claims::ClaimRule;
 use crate::consumer_index::{self, ConsumerIndex};
@@ -18,7 +18,7 @@ use xs_stream::{Id, Moment};
 
 /// The same name.
 fn are_equal_names(a: &Bytes, b: &Bytes) -> bool
-    ensures { result ≡ is_name a.now b.now }
+    ensures { result ≡ is_same_name a.now b.now }
 {
     a.cmp(b).is_eq()
 }
@@ -68,7 +68,7 @@ fn take_back_one(rows: &IdIndex, owners: &mut ConsumerIndex, name: &Bytes, id: I
     ensures names { (n : List ℕ) → is_some (ids_at owners.new.entries n) ≡ is_some (ids_at owners.old.entries n) }
     ensures ids { (n : List ℕ) → (x : Id) → holds owners.new.entries n x
         ≡ (holds owners.old.entries n x
-        && not (is_name n name.now && (is_same x id && not (is_owner (indexed_row rows.now.entries x) name.now)))) }
+        && not (is_same_name n name.now && (is_same_id x id && not (is_owner (indexed_row rows.now.entries x) name.now)))) }
 {
     if is_row_of(rows, name, id) {
         return;
@@ -112,8 +112,8 @@ pub(crate) fn add_ids(
 fn leave_owner(owners: &mut ConsumerIndex, old: &Bytes, name: &Bytes, id: Id)
     ensures names { (n : List ℕ) → is_some (ids_at owners.new.entries n) ≡ is_some (ids_at owners.old.entries n) }
     ensures ids { (n : List ℕ) → (x : Id) → holds owners.new.entries n x
-        ≡ (if is_name old.now name.now then holds owners.old.entries n x
-        else (holds owners.old.entries n x && not (is_name n old.now && is_same x id))) }
+        ≡ (if is_same_name old.now name.now then holds owners.old.entries n x
+        else (holds owners.old.entries n x && not (is_same_name n old.now && is_same_id x id))) }
 {
     if are_equal_names(old, name) {
         return;
@@ -136,7 +136,7 @@ fn move_row(
     requires apart { has_id rest.now id ≡ false }
     requires agreed { AreAgreedBut rows.old.entries owners.old.entries name.now (id ∷ rest.now) }
     ensures rows { (x : Id) → indexed_row rows.new.entries x
-        ≡ (if is_same x id then option_and_then (moved name.now now rule.now (id
+        ≡ (if is_same_id x id then option_and_then (moved name.now now rule.now (id
         ∷ []) x) (indexed_row rows.old.entries x) else indexed_row rows.old.entries x) }
     ensures agreed { AreAgreedBut rows.new.entries owners.new.entries name.now rest.now }
     ensures names { (n : List ℕ) → is_some (ids_at owners.new.entries n) ≡ is_some (ids_at owners.old.entries n) }
@@ -160,7 +160,7 @@ pub(crate) fn move_rows(
     ids: &[Id],
 )
     requires names { names.items ≡ map (λ x. name.now) ids.now }
-    requires apart { AreApart ids.now }
+    requires apart { AreDistinct ids.now }
     requires agreed { AreAgreedBut rows.old.entries owners.old.entries name.now ids.now }
     ensures rows { (x : Id) → indexed_row rows.new.entries x
         ≡ option_and_then (moved name.now now rule.now ids.now x) (indexed_row rows.old.entries x) }

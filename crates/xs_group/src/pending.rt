@@ -4,9 +4,9 @@ ghost use Rattle.xs_bytes.specs.SortedMap.{empty, get, remove, change};
 ghost use Rattle.xs_stream.specs.Id.{has_id, is_below, zero_id};
 ghost use Rattle.xs_group.specs.Report.{summary_of};
 ghost use Rattle.xs_group.specs.Listing.{rows_asked};
-ghost use Rattle.xs_group.specs.Claims.{claim_among, scan_of, claimed};
-ghost use Rattle.xs_group.specs.Verdict.{verdict_of, moved, AreApart};
-ghost use Rattle.xs_group.specs.State.{has_name, with_name, first_row, owned, with_rows, shown, unless_acked};
+ghost use Rattle.xs_group.specs.Claims.{claim_among, scan_of, row_after_claim};
+ghost use Rattle.xs_group.specs.Verdict.{verdict_of, moved, AreDistinct};
+ghost use Rattle.xs_group.specs.State.{has_name, with_name, first_row, owned_ids, with_rows, own_ids, unless_acked};
 ghost use Rattle.xs_group.specs.State.{unless_owned};
 ghost use Rattle.xs_group.specs.Indexes.{IsNamed, AreFree};
 ghost use Rattle.xs_stream.specs.StreamContent.{ids_of};
@@ -154,7 +154,7 @@ impl Pending {
         from: Id,
         limit: Option<u64>,
     ) -> Result<List<Id>, AllocError>
-        ensures { IfOk result (λ ids. ids ≡ shown name.now limit from self.now.rows.entries) }
+        ensures { IfOk result (λ ids. ids ≡ own_ids name.now limit from self.now.rows.entries) }
     {
         let Some(ids) = self.owners.get(name) else {
             return Ok(List::new(Vec::new(alloc)));
@@ -317,7 +317,7 @@ impl Pending {
         ids: &[Id],
     ) -> Result<(), AllocError>
         requires there { has_name self.old.consumers name.now ≡ true }
-        requires apart { AreApart ids.now }
+        requires apart { AreDistinct ids.now }
         ensures ok { OnOk result (self.new
             ≡ record self.old { rows = change (moved name.now now rule.now ids.now) self.old.rows }) }
         ensures err { OnErr result (self.new ≡ self.old) }
@@ -346,10 +346,10 @@ impl Pending {
         rule: &ClaimRule,
         claim: &Claim,
     ) -> Result<(), AllocError>
-        requires { AreApart claim.now.take }
+        requires { AreDistinct claim.now.take }
         ensures ok { OnOk result (self.new ≡ record {
           consumers = with_name self.old.consumers name.now;
-          rows = change (claimed name.now now rule.now claim.now) self.old.rows;
+          rows = change (row_after_claim name.now now rule.now claim.now) self.old.rows;
         }) }
         ensures err { OnErr result (self.new ≡ self.old) }
     {
@@ -438,7 +438,7 @@ impl Pending {
           consumers = remove self.old.consumers name.now;
           rows = change (unless_owned name.now) self.old.rows;
         } }
-        ensures count { result ≡ length (owned name.now self.old.rows.entries) }
+        ensures count { result ≡ length (owned_ids name.now self.old.rows.entries) }
     {
         let Some(ids) = self.owners.remove(name) else {
             return 0;

@@ -1,6 +1,6 @@
 //! A pending entry.
 ghost use Rattle.std.specs.Prelude.{◌≡◌, IfOk};
-ghost use Rattle.xs_group.specs.State.{raised, idle};
+ghost use Rattle.xs_group.specs.State.{next_count, idle};
 ghost use Rattle.xs_group.specs.Claims.{claimed_row, claim_time, claim_count};
 
 use crate::claims::{ClaimRule, ClaimTime};
@@ -16,7 +16,7 @@ const GREATEST_COUNT: u64 = 9_223_372_036_854_775_807;
 
 /// One delivery more.
 pub(crate) fn raised(count: u64) -> u64
-    ensures { result ≡ raised count }
+    ensures { result ≡ next_count count }
 {
     if count < GREATEST_COUNT {
         return count + 1;
@@ -33,10 +33,10 @@ pub(crate) struct PendingEntry {
 }
 
 impl Model for PendingEntry {
-    ghost use Rattle.xs_group.specs.State.{Row};
+    ghost use Rattle.xs_group.specs.State.{RowState};
     ghost use Rattle.xs_group.specs.Indexes.{coded_row};
 
-    ghost Value = { Row };
+    ghost Value = { RowState };
 
     ghost coded = { coded_row };
 

@@ -2,34 +2,34 @@
 use Rattle.std.proofs.Common.{◌≡◌, ℕ, true, false, List, ◌∷◌, Option, Some, None, option_and_then, is_some, sym, ap, ◌∙◌, refl}
 use Rattle.std.proofs.lemmas.Bool.{false≢true}
 use Rattle.xs_group.specs.declared.claims.Claim.{Claim}
-use Rattle.xs_group.specs.Claims.{Rule, claimed}
-use Rattle.xs_keys.specs.Terms.{Id, has_id, Row}
-use Rattle.xs_keys.specs.GroupAsk.{Ask, claim, auto_claim}
+use Rattle.xs_group.specs.Claims.{Rule, row_after_claim}
+use Rattle.xs_keys.specs.Terms.{Id, has_id, RowState}
+use Rattle.xs_keys.specs.GroupAsk.{GroupAsk, claim, auto_claim}
 use Rattle.xs_keys.specs.GroupEvent.{GroupEvent, claim_of_event, pending_row_at, rows}
 use Rattle.xs_keys.specs.RepliesTell.{IsAssigned}
 use Rattle.xs_keys.proofs.Owners.{claimed-over, owner-row, row-found, of_row}
 
 -- what becomes of the owner of a row by a claim
-taken-row : (consumer : List ℕ) (now : ℕ) (rule : Rule) (c : Claim) (x : Id) (r : Option Row) → has_id c.take x ≡ true → has_id c.removed x ≡ false → is_some r ≡ true
-    → of_row (option_and_then (claimed consumer now rule c x) r) ≡ Some consumer
+taken-row : (consumer : List ℕ) (now : ℕ) (rule : Rule) (c : Claim) (x : Id) (r : Option RowState) → has_id c.take x ≡ true → has_id c.removed x ≡ false → is_some r ≡ true
+    → of_row (option_and_then (row_after_claim consumer now rule c x) r) ≡ Some consumer
 taken-row consumer now rule c x None t f some = absurd (false≢true some)
 taken-row consumer now rule c x (Some row) t f some = rw (f, t) refl
 
-removed-row : (consumer : List ℕ) (now : ℕ) (rule : Rule) (c : Claim) (x : Id) (r : Option Row) → has_id c.removed x ≡ true
-    → of_row (option_and_then (claimed consumer now rule c x) r) ≡ None
+removed-row : (consumer : List ℕ) (now : ℕ) (rule : Rule) (c : Claim) (x : Id) (r : Option RowState) → has_id c.removed x ≡ true
+    → of_row (option_and_then (row_after_claim consumer now rule c x) r) ≡ None
 removed-row consumer now rule c x None t = refl
 removed-row consumer now rule c x (Some row) t = rw t refl
 
-other-row : (consumer : List ℕ) (now : ℕ) (rule : Rule) (c : Claim) (x : Id) (r : Option Row) → has_id c.take x ≡ false → has_id c.removed x ≡ false
-    → of_row (option_and_then (claimed consumer now rule c x) r) ≡ of_row r
+other-row : (consumer : List ℕ) (now : ℕ) (rule : Rule) (c : Claim) (x : Id) (r : Option RowState) → has_id c.take x ≡ false → has_id c.removed x ≡ false
+    → of_row (option_and_then (row_after_claim consumer now rule c x) r) ≡ of_row r
 other-row consumer now rule c x None t f = refl
 other-row consumer now rule c x (Some row) t f = rw (f, t) refl
 
 module _ (start : Id) (past : List GroupEvent) (now : ℕ) (present : List Id) (consumer : List ℕ) (rule : Rule) where
-  abbrev pub event : Ask → GroupEvent
+  abbrev pub event : GroupAsk → GroupEvent
   event ask = record { now = now; present = present; ask = ask }
 
-  assigned : (ask : Ask) → ((x : Id) → pending_row_at start (event ask ∷ past) x ≡ option_and_then (claimed consumer now rule (claim_of_event (event ask) (rows start past)) x) (pending_row_at start past x))
+  assigned : (ask : GroupAsk) → ((x : Id) → pending_row_at start (event ask ∷ past) x ≡ option_and_then (row_after_claim consumer now rule (claim_of_event (event ask) (rows start past)) x) (pending_row_at start past x))
       → IsAssigned consumer (claim_of_event (event ask) (rows start past)) (Some (record { start = start; events = past })) (Some (record { start = start; events = event ask ∷ past }))
   assigned ask row_is = record {
     taken = λ x t.

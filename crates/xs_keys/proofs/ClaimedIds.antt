@@ -5,19 +5,19 @@ use Rattle.std.proofs.lemmas.Bool.{false≢true, and_from, or_left}
 use Rattle.std.proofs.Math.Seq.{drop-append_seam, drop-length}
 use Rattle.std.specs.Prelude.{nat_le}
 use Rattle.std.proofs.lemmas.Bool.Decides.{nat_tests}
-use Rattle.xs_stream.specs.Id.{is_below, is_same, has_id, zero_id}
+use Rattle.xs_stream.specs.Id.{is_below, is_same_id, has_id, zero_id}
 use Rattle.xs_group.specs.declared.claims.Claim.{Claim}
 use Rattle.xs_group.specs.declared.claims.ClaimTime.TheVariants as claim_time
-use Rattle.xs_group.specs.State.{Row, idle, delivers}
-use Rattle.xs_group.specs.Claims.{Rule, row_at, is_idle, is_taken, is_removed, is_hit, is_enough, prefixes, first_where, firsts, scanned, from_start, first_or_zero, claim_among}
-use Rattle.xs_group.specs.Verdict.{AreApart}
+use Rattle.xs_group.specs.State.{RowState, idle, new_ids}
+use Rattle.xs_group.specs.Claims.{Rule, row_at, is_idle, is_taken, is_removed, is_hit, is_enough, prefixes, first_where, without_repeats, scanned_part, from_start, first_or_zero, claim_among}
+use Rattle.xs_group.specs.Verdict.{AreDistinct}
 use Rattle.xs_group.proofs.CarriedOutClaims.{apart-filter, apart-firsts}
 use Rattle.xs_keys.specs.Terms.{option_map_or, Id, Ascends, AllAbove}
 use Rattle.xs_keys.specs.Life.{greatest}
-use Rattle.xs_keys.specs.GroupAsk.{Ask, read_new, read_own, ack, join, leave, claim, auto_claim, claim_of_ask, scan_end_of_ask, rule_of, new_ids_of_ask}
-use Rattle.xs_keys.specs.GroupEvent.{GroupEvent, delivered, pending_row_at, rows, new_ids_of_event, cursor}
-use Rattle.xs_keys.specs.Owner.{takes, is_removed_by_claim, owner}
-use Rattle.xs_keys.specs.ClaimsTake.{least_idle, IsTakenWhenIdle, IsRemovedWhenGone, is_before, comes_to, is_asked_for, MayStop, ClaimsWhatIsAsked, ClaimsInTurn, ClaimsWhatIsIdle}
+use Rattle.xs_keys.specs.GroupAsk.{GroupAsk, read_new, read_own, acknowledge, create_consumer, delete_consumer, claim, auto_claim, claim_of_ask, scan_end_of_ask, rule_of, new_ids_of_ask}
+use Rattle.xs_keys.specs.GroupEvent.{GroupEvent, delivered_ids, pending_row_at, rows, new_ids_of_event, cursor}
+use Rattle.xs_keys.specs.Owner.{is_taken_by_claim, is_removed_by_claim, owner}
+use Rattle.xs_keys.specs.ClaimsTake.{least_idle, MayBeTaken, MayBeRemoved, passes, is_scanned, is_asked_for, MayStop, ClaimsWhatIsAsked, ClaimIsExact, ClaimsAreExact}
 use Rattle.xs_keys.specs.EachDelivery.{DeliversInFull}
 use Rattle.xs_keys.proofs.Truths.{first_of, second_of, or_false}
 use Rattle.xs_keys.proofs.IdLists.{has_id-where, has_id-append, ascends-where, not_among}
@@ -34,33 +34,33 @@ use Rattle.xs_keys.proofs.TimesOfRows.{is-last-touched}
 -- ---- the ids that a claim looks at
 
 -- those that an ask looks at, over the rows it meets
-abbrev looked_at : Ask → ℕ → List Id → List (Id × Row) → List Id
-looked_at (claim consumer rule ids) now present all = firsts ids
-looked_at (auto_claim consumer rule from limit) now present all = scanned (is_hit all present now rule) limit (from_start from all)
+abbrev looked_at : GroupAsk → ℕ → List Id → List (Id × RowState) → List Id
+looked_at (claim consumer rule ids) now present all = without_repeats ids
+looked_at (auto_claim consumer rule from limit) now present all = scanned_part (is_hit all present now rule) limit (from_start from all)
 looked_at _ now present all = []
 
 -- the rule of a claim, or one that doesn't matter
-abbrev rule_for : Ask → Rule
+abbrev rule_for : GroupAsk → Rule
 rule_for ask = option_map_or (λ rule. rule) (rule_of ask) (record { min_idle = 0; when = claim_time.Now; retry = None; just_id = false })
 
 -- what is claimed is claimed among those
-looks : (ask : Ask) (now : ℕ) (present : List Id) (all : List (Id × Row))
+looks : (ask : GroupAsk) (now : ℕ) (present : List Id) (all : List (Id × RowState))
     → (claim_of_ask ask now present all ≡ claim_among all present now (rule_for ask) (looked_at ask now present all)) × ((rule_for ask).min_idle ≡ least_idle ask)
 looks (read_new consumer limit noack) now present all = (refl, refl)
 looks (read_own consumer limit from) now present all = (refl, refl)
-looks (ack ids) now present all = (refl, refl)
-looks (join consumer) now present all = (refl, refl)
-looks (leave consumer) now present all = (refl, refl)
+looks (acknowledge ids) now present all = (refl, refl)
+looks (create_consumer consumer) now present all = (refl, refl)
+looks (delete_consumer consumer) now present all = (refl, refl)
 looks (claim consumer rule ids) now present all = (refl, refl)
 looks (auto_claim consumer rule from limit) now present all = (refl, refl)
 
 -- each id stays once
-pub firsts-has : (ids : List Id) (x : Id) → has_id (firsts ids) x ≡ has_id ids x
+pub firsts-has : (ids : List Id) (x : Id) → has_id (without_repeats ids) x ≡ has_id ids x
 firsts-has [] x = refl
-firsts-has (y ∷ ys) x = by (is_same x y) refl (firsts-has ys x) where
-  by : (t : Bool) → is_same x y ≡ t → has_id (firsts ys) x ≡ has_id ys x → (t || has_id (filter (λ z. not (is_same z y)) (firsts ys)) x) ≡ (t || has_id ys x)
+firsts-has (y ∷ ys) x = by (is_same_id x y) refl (firsts-has ys x) where
+  by : (t : Bool) → is_same_id x y ≡ t → has_id (without_repeats ys) x ≡ has_id ys x → (t || has_id (filter (λ z. not (is_same_id z y)) (without_repeats ys)) x) ≡ (t || has_id ys x)
   by true f rest = refl
-  by false f rest = has_id-where (λ z. not (is_same z y)) (firsts ys) x ∙ (λ i. not (f i) && rest i)
+  by false f rest = has_id-where (λ z. not (is_same_id z y)) (without_repeats ys) x ∙ (λ i. not (f i) && rest i)
 
 -- ---- a scan
 
@@ -91,10 +91,10 @@ ascends-first (p ∷ ps) rest asc = (above ps asc.0, ascends-first ps rest asc.1
   above (y ∷ ys) h = (h.0, above ys h.1)
 
 -- rows in the order of their ids, none of which is 0-0
-abbrev AreRows : List (Id × Row) → Type 0
+abbrev AreRows : List (Id × RowState) → Type 0
 AreRows all = Ascends (map (λ e. e.0) all) × AreNotZero (map (λ e. e.0) all)
 
-module _ (all : List (Id × Row)) (are : AreRows all) (now : ℕ) (present : List Id) (consumer : List ℕ) (rule : Rule) (from : Id) (limit : ℕ) where
+module _ (all : List (Id × RowState)) (are : AreRows all) (now : ℕ) (present : List Id) (consumer : List ℕ) (rule : Rule) (from : Id) (limit : ℕ) where
   this : GroupEvent
   this = record { now = now; present = present; ask = auto_claim consumer rule from limit }
 
@@ -102,7 +102,7 @@ module _ (all : List (Id × Row)) (are : AreRows all) (now : ℕ) (present : Lis
   hit = is_hit all present now rule
 
   part : List Id
-  part = scanned hit limit (from_start from all)
+  part = scanned_part hit limit (from_start from all)
 
   begins : Begins part (from_start from all)
   unfolding hit part
@@ -122,27 +122,27 @@ module _ (all : List (Id × Row)) (are : AreRows all) (now : ℕ) (present : Lis
   part-from x h = ap (λ ids. has_id ids x) begins.1 ∙ has_id-append part begins.0 x ∙ or_left (has_id part x) (has_id begins.0 x) h
 
   -- it comes to what it scans
-  part-come : (x : Id) → has_id part x ≡ true → comes_to this all x ≡ true
+  part-come : (x : Id) → has_id part x ≡ true → is_scanned this all x ≡ true
   unfolding this
-  part-come x h = and_from (not (is_below x from)) (is_before (scan_end_of_ask (auto_claim consumer rule from limit) now present all) x)
+  part-come x h = and_from (not (is_below x from)) (passes (scan_end_of_ask (auto_claim consumer rule from limit) now present all) x)
       (first_of (not (is_below x from)) (has_id (map (λ e. e.0) all) x) (sym (has_id-where (λ y. not (is_below y from)) (map (λ e. e.0) all) x) ∙ part-from x h))
-      (ap (λ c. is_before c x) cursor-is ∙ before-part part begins.0 ascend x h)
+      (ap (λ c. passes c x) cursor-is ∙ before-part part begins.0 ascend x h)
 
   -- and scans the rows that it comes to
-  come-part : (x : Id) → has_id (map (λ e. e.0) all) x ≡ true → comes_to this all x ≡ true → has_id part x ≡ true
+  come-part : (x : Id) → has_id (map (λ e. e.0) all) x ≡ true → is_scanned this all x ≡ true → has_id part x ≡ true
   unfolding this
   come-part x h comes = part-before part begins.0 ascend not_zero x
       (ap (λ ids. has_id ids x) (sym begins.1) ∙ has_id-where (λ y. not (is_below y from)) (map (λ e. e.0) all) x
-      ∙ and_from (not (is_below x from)) (has_id (map (λ e. e.0) all) x) (first_of (not (is_below x from)) (is_before (scan_end_of_ask (auto_claim consumer rule from limit) now present all) x) comes) h)
-      (ap (λ c. is_before c x) (sym cursor-is) ∙ second_of (not (is_below x from)) (is_before (scan_end_of_ask (auto_claim consumer rule from limit) now present all) x) comes)
+      ∙ and_from (not (is_below x from)) (has_id (map (λ e. e.0) all) x) (first_of (not (is_below x from)) (passes (scan_end_of_ask (auto_claim consumer rule from limit) now present all) x) comes) h)
+      (ap (λ c. passes c x) (sym cursor-is) ∙ second_of (not (is_below x from)) (passes (scan_end_of_ask (auto_claim consumer rule from limit) now present all) x) comes)
 
-  part-is : part ≡ filter (λ x. comes_to this all x) (map (λ e. e.0) all)
-  part-is = ascends-same part (filter (λ x. comes_to this all x) (map (λ e. e.0) all)) (ascends-first part begins.0 ascend) (ascends-where (λ x. comes_to this all x) (map (λ e. e.0) all) are.0) (λ x.
-      same_truth (has_id part x) (has_id (filter (λ y. comes_to this all y) (map (λ e. e.0) all)) x)
-      (λ h. has_id-where (λ y. comes_to this all y) (map (λ e. e.0) all) x ∙ and_from (comes_to this all x) (has_id (map (λ e. e.0) all) x) (part-come x h)
+  part-is : part ≡ filter (λ x. is_scanned this all x) (map (λ e. e.0) all)
+  part-is = ascends-same part (filter (λ x. is_scanned this all x) (map (λ e. e.0) all)) (ascends-first part begins.0 ascend) (ascends-where (λ x. is_scanned this all x) (map (λ e. e.0) all) are.0) (λ x.
+      same_truth (has_id part x) (has_id (filter (λ y. is_scanned this all y) (map (λ e. e.0) all)) x)
+      (λ h. has_id-where (λ y. is_scanned this all y) (map (λ e. e.0) all) x ∙ and_from (is_scanned this all x) (has_id (map (λ e. e.0) all) x) (part-come x h)
       (second_of (not (is_below x from)) (has_id (map (λ e. e.0) all) x) (sym (has_id-where (λ y. not (is_below y from)) (map (λ e. e.0) all) x) ∙ part-from x h)))
-      (λ h. let is = sym (has_id-where (λ y. comes_to this all y) (map (λ e. e.0) all) x) ∙ h in
-      come-part x (second_of (comes_to this all x) (has_id (map (λ e. e.0) all) x) is) (first_of (comes_to this all x) (has_id (map (λ e. e.0) all) x) is)))
+      (λ h. let is = sym (has_id-where (λ y. is_scanned this all y) (map (λ e. e.0) all) x) ∙ h in
+      come-part x (second_of (is_scanned this all x) (has_id (map (λ e. e.0) all) x) is) (first_of (is_scanned this all x) (has_id (map (λ e. e.0) all) x) is)))
 
   stops : is_enough hit limit part ≡ true → MayStop this all
   unfolding this hit part
@@ -164,67 +164,67 @@ module _ (all : List (Id × Row)) (are : AreRows all) (now : ℕ) (present : Lis
 -- ---- every ask
 
 -- an ask looks at the rows that it is asked for
-looked-asked : (ask : Ask) (now : ℕ) (present : List Id) (all : List (Id × Row)) → AreRows all → (x : Id) → has_id (looked_at ask now present all) x ≡ true
+looked-asked : (ask : GroupAsk) (now : ℕ) (present : List Id) (all : List (Id × RowState)) → AreRows all → (x : Id) → has_id (looked_at ask now present all) x ≡ true
     → is_asked_for (record { now = now; present = present; ask = ask }) all x ≡ true
 unfolding this hit part
 looked-asked (read_new consumer limit noack) now present all are x h = absurd (false≢true h)
 looked-asked (read_own consumer limit from) now present all are x h = absurd (false≢true h)
-looked-asked (ack ids) now present all are x h = absurd (false≢true h)
-looked-asked (join consumer) now present all are x h = absurd (false≢true h)
-looked-asked (leave consumer) now present all are x h = absurd (false≢true h)
+looked-asked (acknowledge ids) now present all are x h = absurd (false≢true h)
+looked-asked (create_consumer consumer) now present all are x h = absurd (false≢true h)
+looked-asked (delete_consumer consumer) now present all are x h = absurd (false≢true h)
 looked-asked (claim consumer rule ids) now present all are x h = or_left (has_id ids x) false (sym (firsts-has ids x) ∙ h)
 looked-asked (auto_claim consumer rule from limit) now present all are x h = part-come all are now present consumer rule from limit x h
 
-asked-looked : (ask : Ask) (now : ℕ) (present : List Id) (all : List (Id × Row)) → AreRows all → (x : Id) → has_id (map (λ e. e.0) all) x ≡ true
+asked-looked : (ask : GroupAsk) (now : ℕ) (present : List Id) (all : List (Id × RowState)) → AreRows all → (x : Id) → has_id (map (λ e. e.0) all) x ≡ true
     → is_asked_for (record { now = now; present = present; ask = ask }) all x ≡ true → has_id (looked_at ask now present all) x ≡ true
 unfolding this hit part
 asked-looked (read_new consumer limit noack) now present all are x row h = h
 asked-looked (read_own consumer limit from) now present all are x row h = h
-asked-looked (ack ids) now present all are x row h = h
-asked-looked (join consumer) now present all are x row h = h
-asked-looked (leave consumer) now present all are x row h = h
+asked-looked (acknowledge ids) now present all are x row h = h
+asked-looked (create_consumer consumer) now present all are x row h = h
+asked-looked (delete_consumer consumer) now present all are x row h = h
 asked-looked (claim consumer rule ids) now present all are x row h = firsts-has ids x ∙ or_false (has_id ids x) h
 asked-looked (auto_claim consumer rule from limit) now present all are x row h = come-part all are now present consumer rule from limit x row h
 
-ascends-apart : (ids : List Id) → Ascends ids → AreApart ids
+ascends-apart : (ids : List Id) → Ascends ids → AreDistinct ids
 ascends-apart [] asc = tt
 ascends-apart (x ∷ xs) asc = (not_itself x xs asc.0, ascends-apart xs asc.1)
 
-looked-apart : (ask : Ask) (now : ℕ) (present : List Id) (all : List (Id × Row)) → AreRows all → AreApart (looked_at ask now present all)
+looked-apart : (ask : GroupAsk) (now : ℕ) (present : List Id) (all : List (Id × RowState)) → AreRows all → AreDistinct (looked_at ask now present all)
 unfolding hit part
 looked-apart (read_new consumer limit noack) now present all are = tt
 looked-apart (read_own consumer limit from) now present all are = tt
-looked-apart (ack ids) now present all are = tt
-looked-apart (join consumer) now present all are = tt
-looked-apart (leave consumer) now present all are = tt
+looked-apart (acknowledge ids) now present all are = tt
+looked-apart (create_consumer consumer) now present all are = tt
+looked-apart (delete_consumer consumer) now present all are = tt
 looked-apart (claim consumer rule ids) now present all are = apart-firsts ids
 looked-apart (auto_claim consumer rule from limit) now present all are =
     ascends-apart (part all are now present consumer rule from limit)
     (ascends-first (part all are now present consumer rule from limit) (begins all are now present consumer rule from limit).0 (ascend all are now present consumer rule from limit))
 
-goes-far : (ask : Ask) (now : ℕ) (present : List Id) (all : List (Id × Row)) → AreRows all
+goes-far : (ask : GroupAsk) (now : ℕ) (present : List Id) (all : List (Id × RowState)) → AreRows all
     → (scan_end_of_ask ask now present all ≡ zero_id) ⊎ MayStop (record { now = now; present = present; ask = ask }) all
 unfolding this hit part
 goes-far (read_new consumer limit noack) now present all are = inl refl
 goes-far (read_own consumer limit from) now present all are = inl refl
-goes-far (ack ids) now present all are = inl refl
-goes-far (join consumer) now present all are = inl refl
-goes-far (leave consumer) now present all are = inl refl
+goes-far (acknowledge ids) now present all are = inl refl
+goes-far (create_consumer consumer) now present all are = inl refl
+goes-far (delete_consumer consumer) now present all are = inl refl
 goes-far (claim consumer rule ids) now present all are = inl refl
 goes-far (auto_claim consumer rule from limit) now present all are = far-enough all are now present consumer rule from limit
 
 -- ---- one claim
 
 -- an id with a row is among theirs
-row-listed : (es : List (Id × Row)) (x : Id) → is_some (row_at es x) ≡ true → has_id (map (λ e. e.0) es) x ≡ true
+row-listed : (es : List (Id × RowState)) (x : Id) → is_some (row_at es x) ≡ true → has_id (map (λ e. e.0) es) x ≡ true
 row-listed [] x e = absurd (false≢true e)
-row-listed (e ∷ es) x found = by (is_same x e.0) found (row-listed es x) where
+row-listed (e ∷ es) x found = by (is_same_id x e.0) found (row-listed es x) where
   by : (t : Bool) → is_some (cond t (Some e.1) (row_at es x)) ≡ true → (is_some (row_at es x) ≡ true → has_id (map (λ e. e.0) es) x ≡ true) → (t || has_id (map (λ e. e.0) es) x) ≡ true
   by true f rest = refl
   by false f rest = rest f
 
 module _ (start : Id) (past : List GroupEvent) (asc : PresentAscends past) (event : GroupEvent) (x : Id) where
-  met : List (Id × Row)
+  met : List (Id × RowState)
   met = rows start past
 
   asked_rule : Rule
@@ -238,33 +238,33 @@ module _ (start : Id) (past : List GroupEvent) (asc : PresentAscends past) (even
   are-rows = (
     ascends-rows start past asc,
     λ y h. above-not_zero start y
-        (above-has start (delivered start past) y (past-start start past)
-        (second_of (is_some (pending_row_at start past y)) (has_id (delivered start past) y) (sym (has_id-where (λ z. is_some (pending_row_at start past z)) (delivered start past) y) ∙ ap (λ l. has_id l y) (sym ids) ∙ h))),
+        (above-has start (delivered_ids start past) y (past-start start past)
+        (second_of (is_some (pending_row_at start past y)) (has_id (delivered_ids start past) y) (sym (has_id-where (λ z. is_some (pending_row_at start past z)) (delivered_ids start past) y) ∙ ap (λ l. has_id l y) (sym ids) ∙ h))),
   )
     where
-      ids : map (λ e. e.0) (rows start past) ≡ filter (λ y. is_some (pending_row_at start past y)) (delivered start past)
-      ids = ids-among (λ y. pending_row_at start past y) (delivered start past)
+      ids : map (λ e. e.0) (rows start past) ≡ filter (λ y. is_some (pending_row_at start past y)) (delivered_ids start past)
+      ids = ids-among (λ y. pending_row_at start past y) (delivered_ids start past)
 
   -- an owner has a row, and a row an owner
   has-row : is_some (owner start past x) ≡ true → is_some (row_at met x) ≡ true
   unfolding met
   has-row owned = ap is_some (row-found start past x) ∙ by (pending_row_at start past x) (ap is_some (sym (owner-row start past x)) ∙ owned) where
-    by : (row : Option Row) → is_some (of_row row) ≡ true → is_some row ≡ true
+    by : (row : Option RowState) → is_some (of_row row) ≡ true → is_some row ≡ true
     by None e = e
     by (Some row) e = refl
 
   has-owner : is_some (row_at met x) ≡ true → is_some (owner start past x) ≡ true
   unfolding met
   has-owner h = ap is_some (owner-row start past x ∙ sym (ap of_row (row-found start past x))) ∙ by (row_at (rows start past) x) h where
-    by : (row : Option Row) → is_some row ≡ true → is_some (of_row row) ≡ true
+    by : (row : Option RowState) → is_some row ≡ true → is_some (of_row row) ≡ true
     by None e = absurd (false≢true e)
     by (Some row) e = refl
 
   -- what may be taken is idle by its row
-  idle-by-row : IsTakenWhenIdle start past event x → is_taken met event.present event.now asked_rule x ≡ true
+  idle-by-row : MayBeTaken start past event x → is_taken met event.present event.now asked_rule x ≡ true
   unfolding met asked_rule
   idle-by-row may = by (row_at (rows start past) x) refl where
-    by : (row : Option Row) → row_at (rows start past) x ≡ row → (is_idle event.now (rule_for event.ask) (row_at (rows start past) x) && has_id event.present x) ≡ true
+    by : (row : Option RowState) → row_at (rows start past) x ≡ row → (is_idle event.now (rule_for event.ask) (row_at (rows start past) x) && has_id event.present x) ≡ true
     by None f = absurd (false≢true (ap is_some (sym f) ∙ has-row may.owned))
     by (Some row) f =
         let old : (rule_for event.ask).min_idle ≤ event.now - row.time =
@@ -272,10 +272,10 @@ module _ (start : Id) (past : List GroupEvent) (asc : PresentAscends past) (even
         (subst (λ (time : ℕ). least_idle event.ask ≤ event.now - time) (sym (is-last-touched start past x row f).0) may.idle) in
         and_from (is_idle event.now (rule_for event.ask) (row_at (rows start past) x)) (has_id event.present x) (ap (is_idle event.now (rule_for event.ask)) f ∙ grind (arith, nat_tests, old)) may.present
 
-  idle-by-time : is_taken met event.present event.now asked_rule x ≡ true → IsTakenWhenIdle start past event x
+  idle-by-time : is_taken met event.present event.now asked_rule x ≡ true → MayBeTaken start past event x
   unfolding met asked_rule
   idle-by-time h = by (row_at (rows start past) x) refl h where
-    by : (row : Option Row) → row_at (rows start past) x ≡ row → (is_idle event.now (rule_for event.ask) row && has_id event.present x) ≡ true → IsTakenWhenIdle start past event x
+    by : (row : Option RowState) → row_at (rows start past) x ≡ row → (is_idle event.now (rule_for event.ask) row && has_id event.present x) ≡ true → MayBeTaken start past event x
     by None f t = absurd (false≢true t)
     by (Some row) f t =
         let test : nat_le (rule_for event.ask).min_idle (idle event.now row.time) ≡ true = first_of (nat_le (rule_for event.ask).min_idle (idle event.now row.time)) (has_id event.present x) t in
@@ -287,10 +287,10 @@ module _ (start : Id) (past : List GroupEvent) (asc : PresentAscends past) (even
               (subst (λ (least : ℕ). least ≤ event.now - row.time) (looks event.ask event.now event.present (rows start past)).1 old);
         }
 
-  gone-by-row : IsRemovedWhenGone start past event x → is_removed met event.present x ≡ true
+  gone-by-row : MayBeRemoved start past event x → is_removed met event.present x ≡ true
   gone-by-row may = and_from (is_some (row_at met x)) (not (has_id event.present x)) (has-row may.owned) (ap not may.gone)
 
-  gone-by-owner : is_removed met event.present x ≡ true → IsRemovedWhenGone start past event x
+  gone-by-owner : is_removed met event.present x ≡ true → MayBeRemoved start past event x
   gone-by-owner h = record {
     owned = has-owner (first_of (is_some (row_at met x)) (not (has_id event.present x)) h);
     gone = by (has_id event.present x) (second_of (is_some (row_at met x)) (not (has_id event.present x)) h);
@@ -300,7 +300,7 @@ module _ (start : Id) (past : List GroupEvent) (asc : PresentAscends past) (even
       by true e = absurd (false≢true e)
       by false e = refl
 
-  takes-is : takes start past event x ≡ (is_taken met event.present event.now asked_rule x && has_id looked x)
+  takes-is : is_taken_by_claim start past event x ≡ (is_taken met event.present event.now asked_rule x && has_id looked x)
   unfolding met asked_rule looked
   takes-is = ap (λ c. has_id c.take x) (looks event.ask event.now event.present (rows start past)).0 ∙ has_id-where (is_taken (rows start past) event.present event.now (rule_for event.ask)) _ x
 
@@ -327,11 +327,11 @@ module _ (start : Id) (past : List GroupEvent) (asc : PresentAscends past) (even
     removes_all = λ asked may. removes-is ∙ and_from _ (has_id looked x) (gone-by-row may) (looked-for asked (has-row may.owned));
   }
 
-in-turn : (start : Id) (past : List GroupEvent) → PresentAscends past → (event : GroupEvent) → ClaimsInTurn start past event
+in-turn : (start : Id) (past : List GroupEvent) → PresentAscends past → (event : GroupEvent) → ClaimIsExact start past event
 unfolding met asked_rule looked
 in-turn start past asc event = record {
   as_asked = as-asked start past asc event;
-  each_once = subst (λ (c : Claim). AreApart c.take) (sym (looks event.ask event.now event.present (rows start past)).0)
+  each_once = subst (λ (c : Claim). AreDistinct c.take) (sym (looks event.ask event.now event.present (rows start past)).0)
       (apart-filter (is_taken (rows start past) event.present event.now (rule_for event.ask)) (looked_at event.ask event.now event.present (rows start past))
       (looked-apart event.ask event.now event.present (rows start past) (are-rows start past asc event zero_id)));
   far_enough = goes-far event.ask event.now event.present (rows start past) (are-rows start past asc event zero_id);
@@ -341,7 +341,7 @@ present-earlier : (later : List GroupEvent) (event : GroupEvent) (earlier : List
 present-earlier [] event earlier asc = asc.1
 present-earlier (first ∷ later) event earlier asc = present-earlier later event earlier asc.1
 
-pub claims-idle : (start : Id) (events : List GroupEvent) → PresentAscends events → ClaimsWhatIsIdle start events
+pub claims-idle : (start : Id) (events : List GroupEvent) → PresentAscends events → ClaimsAreExact start events
 claims-idle start events asc = λ later event earlier e. in-turn start earlier (present-earlier later event earlier (subst PresentAscends e asc)) event
 
 -- ---- reads
@@ -365,7 +365,7 @@ none-left a present x h = by (is_below a x) refl where
 
 -- what a read delivers is as many as it asks for, or all
 full : (limit : Option ℕ) (a : Id) (present : List Id)
-    → (limit ≡ Some (length (delivers limit a present))) ⊎ ((x : Id) → has_id present x ≡ true → is_below (greatest a (delivers limit a present)) x ≡ false)
+    → (limit ≡ Some (length (new_ids limit a present))) ⊎ ((x : Id) → has_id present x ≡ true → is_below (greatest a (new_ids limit a present)) x ≡ false)
 full None a present = inr (none-left a present)
 full (Some n) a present = by (nat_le n (length above)) refl where
   above : List Id
@@ -383,11 +383,11 @@ full (Some n) a present = by (nat_le n (length above)) refl where
 pub in-full : (start : Id) (events : List GroupEvent) → DeliversInFull start events
 in-full start events = λ later event earlier e consumer limit noack asks.
     let a = cursor start earlier in
-    let same : new_ids_of_event event a ≡ delivers limit a event.present = ap (λ (ask : Ask). new_ids_of_ask ask event.present a) asks in
+    let same : new_ids_of_event event a ≡ new_ids limit a event.present = ap (λ (ask : GroupAsk). new_ids_of_ask ask event.present a) asks in
     by event earlier limit same (full limit a event.present) where
-      by : (event : GroupEvent) (earlier : List GroupEvent) (limit : Option ℕ) → new_ids_of_event event (cursor start earlier) ≡ delivers limit (cursor start earlier) event.present
-          → (limit ≡ Some (length (delivers limit (cursor start earlier) event.present)))
-          ⊎ ((x : Id) → has_id event.present x ≡ true → is_below (greatest (cursor start earlier) (delivers limit (cursor start earlier) event.present)) x ≡ false)
+      by : (event : GroupEvent) (earlier : List GroupEvent) (limit : Option ℕ) → new_ids_of_event event (cursor start earlier) ≡ new_ids limit (cursor start earlier) event.present
+          → (limit ≡ Some (length (new_ids limit (cursor start earlier) event.present)))
+          ⊎ ((x : Id) → has_id event.present x ≡ true → is_below (greatest (cursor start earlier) (new_ids limit (cursor start earlier) event.present)) x ≡ false)
           → (limit ≡ Some (length (new_ids_of_event event (cursor start earlier)))) ⊎ ((x : Id) → has_id event.present x ≡ true → is_below (cursor start (event ∷ earlier)) x ≡ false)
       by event earlier limit same (inl e) = inl (e ∙ ap (λ (ids : List Id). Some (length ids)) (sym same))
       by event earlier limit same (inr f) =

@@ -1,7 +1,7 @@
 -- The first of some ids, at most so many.
 use Rattle.std.proofs.Common.{◌≡◌, ◌⊎◌, inl, inr, ℕ, ◌≤◌, Bool, true, false, ◌||◌, List, [], ◌∷◌, length, take, Option, Some, None, zero, suc, ap, subst, refl, arith}
 use Rattle.std.proofs.lemmas.Bool.{false≢true}
-use Rattle.xs_stream.specs.Id.{is_below, is_same, has_id}
+use Rattle.xs_stream.specs.Id.{is_below, is_same_id, has_id}
 use Rattle.xs_stream.proofs.Order.{below-not_back}
 use Rattle.xs_keys.specs.Terms.{Id, Ascends, AllUpTo, limited}
 use Rattle.xs_keys.specs.Telling.{AreFirst}
@@ -12,7 +12,7 @@ use Rattle.xs_keys.proofs.IdsAtEvents.{above-has, limited-has}
 take-first : (n : ℕ) (xs : List Id) → Ascends xs → (x : Id) → has_id xs x ≡ true → (has_id (take n xs) x ≡ true) ⊎ ((n ≡ length (take n xs)) × AllUpTo x (take n xs))
 take-first zero xs asc x h = inr (refl, tt)
 take-first (suc n) [] asc x h = absurd (false≢true h)
-take-first (suc n) (y ∷ ys) asc x h = by (is_same x y) h (take-first n ys asc.1 x) (λ later. below-not_back y x (above-has y ys x asc.0 later)) where
+take-first (suc n) (y ∷ ys) asc x h = by (is_same_id x y) h (take-first n ys asc.1 x) (λ later. below-not_back y x (above-has y ys x asc.0 later)) where
   by : (t : Bool) → (t || has_id ys x) ≡ true
       → (has_id ys x ≡ true → (has_id (take n ys) x ≡ true) ⊎ ((n ≡ length (take n ys)) × AllUpTo x (take n ys)))
       → (has_id ys x ≡ true → is_below x y ≡ false)

@@ -3,16 +3,16 @@ use Rattle.std.proofs.Common.{◌≡◌, ℕ, true, false, List, Some, None, is_
 use Rattle.std.specs.Ordering.{nat_cmp}
 use Rattle.std.specs.Cmp.Lexicographic.{slice_cmp}
 use Rattle.xs_bytes.proofs.SortedMaps.{get-empty}
-use Rattle.xs_keys.specs.Terms.{NameMap, empty, get, insert, has_key, State, new_group, Reply, Simple, Error, Okay, Memory, GroupCreateCommand, GroupCreate}
+use Rattle.xs_keys.specs.Terms.{NameMap, empty, get, insert, has_key, GroupState, new_group, Reply, Simple, Error, Okay, Memory, GroupCreateCommand, GroupCreate}
 use Rattle.xs_keys.specs.GroupLife.{starting_id}
-use Rattle.xs_keys.specs.Content.{Content, Key}
+use Rattle.xs_keys.specs.Content.{Content, KeyState}
 use Rattle.xs_keys.specs.ContentAfter.{new_key, with_group}
 use Rattle.xs_keys.specs.Grouping.{Creates}
 use Rattle.xs_keys.specs.Step.{Step}
 use Rattle.xs_keys.proofs.Names.{insert-same}
 
 -- a creation in a key that is there is a step
-pub creates_step : (content : Content) (now : ℕ) (create : GroupCreateCommand) (answer : Reply) (key : Key) (groups : NameMap State) → get content create.key ≡ Some key
+pub creates_step : (content : Content) (now : ℕ) (create : GroupCreateCommand) (answer : Reply) (key : KeyState) (groups : NameMap GroupState) → get content create.key ≡ Some key
     → Creates create key.stream.top key.groups answer groups
     → Step content now (GroupCreate create) answer (insert content create.key (record { stream = key.stream; groups = groups }))
 creates_step content now create answer key groups found (inl busy) = inl (record {
@@ -30,8 +30,8 @@ creates_step content now create answer key groups found (inr (inr refused)) = in
   content_is = rw refused.2 (insert-same content create.key key found);
 })
 
-no-group : (name : List ℕ) → has_key {X = State} {R = slice_cmp nat_cmp} empty name ≡ false
-no-group name = ap is_some (get-empty {X = State} (slice_cmp nat_cmp) name)
+no-group : (name : List ℕ) → has_key {X = GroupState} {R = slice_cmp nat_cmp} empty name ≡ false
+no-group name = ap is_some (get-empty {X = GroupState} (slice_cmp nat_cmp) name)
 
 -- so is one that makes the key
 pub makes_step : (content : Content) (now : ℕ) (create : GroupCreateCommand) → create.make ≡ true → get content create.key ≡ None

@@ -4,11 +4,11 @@ use Rattle.std.proofs.lemmas.List.{append-nil}
 use Rattle.xs_bytes.specs.Each.{each}
 use Rattle.xs_bytes.specs.SortedMap.{empty, get, change, remove}
 use Rattle.xs_bytes.proofs.SortedMaps.{get-empty}
-use Rattle.xs_group.specs.State.{Row, Rows, State, Names, is_name, has_name, with_name, delivers, last_of, first_row, with_rows, delivered_to, shown, reread, reread_by, new_group, acked, unless_acked, unless_owned, without_consumer}
-use Rattle.xs_keys.specs.Terms.{Id, has_id, Ascends, AllAbove, AllUpTo, Rule, claimed, claim_of, scan_of}
+use Rattle.xs_group.specs.State.{RowState, Rows, GroupState, Names, is_same_name, has_name, with_name, new_ids, last_of, first_row, with_rows, group_after_delivery, own_ids, row_after_reread, group_after_reread, new_group, group_after_ack, unless_acked, unless_owned, without_consumer}
+use Rattle.xs_keys.specs.Terms.{Id, has_id, Ascends, AllAbove, AllUpTo, Rule, row_after_claim, claim_by_ids, scan_of}
 use Rattle.xs_keys.specs.Life.{greatest}
-use Rattle.xs_keys.specs.GroupAsk.{Ask, read_new, read_own, ack, join, leave, claim, auto_claim}
-use Rattle.xs_keys.specs.GroupEvent.{GroupEvent, new_ids_of_event, delivered, cursor, is_consumer, rows_among, pending_row_at, rows}
+use Rattle.xs_keys.specs.GroupAsk.{GroupAsk, read_new, read_own, acknowledge, create_consumer, delete_consumer, claim, auto_claim}
+use Rattle.xs_keys.specs.GroupEvent.{GroupEvent, new_ids_of_event, delivered_ids, cursor, is_consumer, rows_among, pending_row_at, rows}
 use Rattle.xs_keys.specs.GroupLife.{GroupLife}
 use Rattle.xs_keys.specs.Content.{IsGroup}
 use Rattle.xs_keys.specs.ContentAfter.{group_after}
@@ -19,40 +19,40 @@ use Rattle.xs_keys.proofs.GroupRows.{row_ids, each_row, each-among, among-append
 
 -- ---- the cursor and what was delivered
 
-pub up_to-delivered : (start : Id) (past : List GroupEvent) → AllUpTo (cursor start past) (delivered start past)
-up_to-delivered start past = up_to-greatest start (delivered start past)
+pub up_to-delivered : (start : Id) (past : List GroupEvent) → AllUpTo (cursor start past) (delivered_ids start past)
+up_to-delivered start past = up_to-greatest start (delivered_ids start past)
 
 pub cursor-step : (start : Id) (t : GroupEvent) (past : List GroupEvent) → cursor start (t ∷ past) ≡ greatest (cursor start past) (new_ids_of_event t (cursor start past))
-cursor-step start t past = greatest-append start (delivered start past) (new_ids_of_event t (cursor start past))
+cursor-step start t past = greatest-append start (delivered_ids start past) (new_ids_of_event t (cursor start past))
 
 -- ---- rows
 
 pub up_to-rows : (start : Id) (past : List GroupEvent) → AllUpTo (cursor start past) (row_ids (rows start past))
-up_to-rows start past = up_to-among (cursor start past) (λ x. pending_row_at start past x) (delivered start past) (up_to-delivered start past)
+up_to-rows start past = up_to-among (cursor start past) (λ x. pending_row_at start past x) (delivered_ids start past) (up_to-delivered start past)
 
 -- an event that delivers nothing changes rows that are there
-rows-changed : (start : Id) (past : List GroupEvent) (f : Id → Row → Option Row) (r : Rows) → r.entries ≡ rows start past
-    → (change f r).entries ≡ rows_among (λ x. option_and_then (f x) (pending_row_at start past x)) (delivered start past ++ [])
+rows-changed : (start : Id) (past : List GroupEvent) (f : Id → RowState → Option RowState) (r : Rows) → r.entries ≡ rows start past
+    → (change f r).entries ≡ rows_among (λ x. option_and_then (f x) (pending_row_at start past x)) (delivered_ids start past ++ [])
 unfolding change
 rows-changed start past f r e =
-    ap (each f) e ∙ each-among f (λ x. pending_row_at start past x) (delivered start past)
-    ∙ ap (rows_among (λ x. option_and_then (f x) (pending_row_at start past x))) (sym (append-nil (delivered start past)))
+    ap (each f) e ∙ each-among f (λ x. pending_row_at start past x) (delivered_ids start past)
+    ∙ ap (rows_among (λ x. option_and_then (f x) (pending_row_at start past x))) (sym (append-nil (delivered_ids start past)))
 
-rows-same : (start : Id) (past : List GroupEvent) (r : Rows) → r.entries ≡ rows start past → r.entries ≡ rows_among (λ x. pending_row_at start past x) (delivered start past ++ [])
-rows-same start past r e = e ∙ ap (rows_among (λ x. pending_row_at start past x)) (sym (append-nil (delivered start past)))
+rows-same : (start : Id) (past : List GroupEvent) (r : Rows) → r.entries ≡ rows start past → r.entries ≡ rows_among (λ x. pending_row_at start past x) (delivered_ids start past ++ [])
+rows-same start past r e = e ∙ ap (rows_among (λ x. pending_row_at start past x)) (sym (append-nil (delivered_ids start past)))
 
 module _ (start : Id) (past : List GroupEvent) (consumer : List ℕ) (now : ℕ) (new : List Id) (above : AllAbove (cursor start past) new) (asc : Ascends new) where
   -- what a delivery makes of a row
-  row_after : Bool → Id → Option Row
+  row_after : Bool → Id → Option RowState
   row_after noack x = cond (has_id new x) (cond noack None (Some (first_row consumer now))) (pending_row_at start past x)
 
   -- ids that were there before keep their rows
-  old-rows : (noack : Bool) → rows_among (row_after noack) (delivered start past) ≡ rows start past
+  old-rows : (noack : Bool) → rows_among (row_after noack) (delivered_ids start past) ≡ rows start past
   unfolding row_after
   old-rows noack =
       among-alike (cursor start past) (row_after noack) (λ x. pending_row_at start past x)
       (λ x up. ap (λ b. cond b (cond noack None (Some (first_row consumer now))) (pending_row_at start past x)) (not_above (cursor start past) x new up above))
-      (delivered start past) (up_to-delivered start past)
+      (delivered_ids start past) (up_to-delivered start past)
 
   -- the new ones get one, unless with NOACK
   new-rows : (noack : Bool) → rows_among (row_after noack) new ≡ cond noack [] (each_row (first_row consumer now) new)
@@ -67,84 +67,84 @@ module _ (start : Id) (past : List GroupEvent) (consumer : List ℕ) (now : ℕ)
       by false = among-all (first_row consumer now) new
 
   rows-delivered : (noack : Bool) (r : Rows) → r.entries ≡ rows start past
-      → (cond noack r (with_rows new (first_row consumer now) r)).entries ≡ rows_among (row_after noack) (delivered start past ++ new)
+      → (cond noack r (with_rows new (first_row consumer now) r)).entries ≡ rows_among (row_after noack) (delivered_ids start past ++ new)
   rows-delivered true r e =
-      e ∙ sym (append-nil (rows start past)) ∙ sym (λ i. old-rows true i ++ new-rows true i) ∙ sym (among-append (row_after true) (delivered start past) new)
+      e ∙ sym (append-nil (rows start past)) ∙ sym (λ i. old-rows true i ++ new-rows true i) ∙ sym (among-append (row_after true) (delivered_ids start past) new)
   rows-delivered false r e =
       entries-with_rows new (first_row consumer now) r (cursor start past) (subst (λ es. AllUpTo (cursor start past) (row_ids es)) (sym e) (up_to-rows start past)) above asc
       ∙ ap (λ es. es ++ each_row (first_row consumer now) new) e
-      ∙ sym (λ i. old-rows false i ++ new-rows false i) ∙ sym (among-append (row_after false) (delivered start past) new)
+      ∙ sym (λ i. old-rows false i ++ new-rows false i) ∙ sym (among-append (row_after false) (delivered_ids start past) new)
 
 -- ---- consumers
 
-joined-names : (names : Names) (consumer : List ℕ) (q : List ℕ) → has_name (with_name names consumer) q ≡ cond (is_name q consumer) true (has_name names q)
-joined-names names consumer q = ap is_some (get-insert names consumer tt q) ∙ by (is_name q consumer) where
+joined-names : (names : Names) (consumer : List ℕ) (q : List ℕ) → has_name (with_name names consumer) q ≡ cond (is_same_name q consumer) true (has_name names q)
+joined-names names consumer q = ap is_some (get-insert names consumer tt q) ∙ by (is_same_name q consumer) where
   by : (t : Bool) → is_some (cond t (Some tt) (get names q)) ≡ cond t true (has_name names q)
   by true = refl
   by false = refl
 
-left-names : (names : Names) (consumer : List ℕ) (q : List ℕ) → has_name (remove names consumer) q ≡ cond (is_name q consumer) false (has_name names q)
-left-names names consumer q = ap is_some (get-remove names consumer q) ∙ by (is_name q consumer) where
+left-names : (names : Names) (consumer : List ℕ) (q : List ℕ) → has_name (remove names consumer) q ≡ cond (is_same_name q consumer) false (has_name names q)
+left-names names consumer q = ap is_some (get-remove names consumer q) ∙ by (is_same_name q consumer) where
   by : (t : Bool) → is_some (cond t None (get names q)) ≡ cond t false (has_name names q)
   by true = refl
   by false = refl
 
 -- ---- one event
 
-module _ (life : GroupLife) (g : State) (h : IsGroup g life) (now : ℕ) (present : List Id) (asc : Ascends present) where
-  event : Ask → GroupEvent
+module _ (life : GroupLife) (g : GroupState) (h : IsGroup g life) (now : ℕ) (present : List Id) (asc : Ascends present) where
+  event : GroupAsk → GroupEvent
   event ask = record { now = now; present = present; ask = ask }
 
-  lived : Ask → GroupLife
+  lived : GroupAsk → GroupLife
   lived ask = record { start = life.start; events = event ask ∷ life.events }
 
-  joins : (consumer : List ℕ) (q : List ℕ) → has_name (with_name g.consumers consumer) q ≡ cond (is_name q consumer) true (is_consumer life.events q)
-  joins consumer q = joined-names g.consumers consumer q ∙ ap (cond (is_name q consumer) true) (h.consumers_are q)
+  joins : (consumer : List ℕ) (q : List ℕ) → has_name (with_name g.consumers consumer) q ≡ cond (is_same_name q consumer) true (is_consumer life.events q)
+  joins consumer q = joined-names g.consumers consumer q ∙ ap (cond (is_same_name q consumer) true) (h.consumers_are q)
 
-  still : g.cursor ≡ greatest life.start (delivered life.start life.events ++ [])
-  still = h.cursor_is ∙ ap (greatest life.start) (sym (append-nil (delivered life.start life.events)))
+  still : g.cursor ≡ greatest life.start (delivered_ids life.start life.events ++ [])
+  still = h.cursor_is ∙ ap (greatest life.start) (sym (append-nil (delivered_ids life.start life.events)))
 
-  changed_rows : (f : Id → Row → Option Row) → (change f g.rows).entries ≡ rows_among (λ x. option_and_then (f x) (pending_row_at life.start life.events x)) (delivered life.start life.events ++ [])
+  changed_rows : (f : Id → RowState → Option RowState) → (change f g.rows).entries ≡ rows_among (λ x. option_and_then (f x) (pending_row_at life.start life.events x)) (delivered_ids life.start life.events ++ [])
   changed_rows f = rows-changed life.start life.events f g.rows h.rows_are
 
-  step-read_new : (consumer : List ℕ) (limit : Option ℕ) (noack : Bool) → IsGroup (delivered_to consumer now limit noack present g) (lived (read_new consumer limit noack))
+  step-read_new : (consumer : List ℕ) (limit : Option ℕ) (noack : Bool) → IsGroup (group_after_delivery consumer now limit noack present g) (lived (read_new consumer limit noack))
   unfolding event lived row_after
   step-read_new consumer limit noack =
       let at_cursor = cursor life.start life.events in
       let above = above-delivers limit at_cursor present in
       let ascends = ascends-delivers limit at_cursor present asc in
-      let new_cursor = ap (λ c. last_of c (delivers limit c present)) h.cursor_is
-      ∙ sym (greatest-last at_cursor (delivers limit at_cursor present) above ascends)
+      let new_cursor = ap (λ c. last_of c (new_ids limit c present)) h.cursor_is
+      ∙ sym (greatest-last at_cursor (new_ids limit at_cursor present) above ascends)
       ∙ sym (cursor-step life.start (event (read_new consumer limit noack)) life.events) in
       record {
         cursor_is = new_cursor;
         consumers_are = joins consumer;
-        rows_are = ap (λ c. (cond noack g.rows (with_rows (delivers limit c present) (first_row consumer now) g.rows)).entries) h.cursor_is
-            ∙ rows-delivered life.start life.events consumer now (delivers limit at_cursor present) above ascends noack g.rows h.rows_are;
+        rows_are = ap (λ c. (cond noack g.rows (with_rows (new_ids limit c present) (first_row consumer now) g.rows)).entries) h.cursor_is
+            ∙ rows-delivered life.start life.events consumer now (new_ids limit at_cursor present) above ascends noack g.rows h.rows_are;
       }
 
-  step-read_own : (consumer : List ℕ) (limit : Option ℕ) (from : Id) → IsGroup (reread_by consumer now limit from present g) (lived (read_own consumer limit from))
+  step-read_own : (consumer : List ℕ) (limit : Option ℕ) (from : Id) → IsGroup (group_after_reread consumer now limit from present g) (lived (read_own consumer limit from))
   unfolding event lived
   step-read_own consumer limit from = record {
     cursor_is = still;
     consumers_are = joins consumer;
-    rows_are = ap (λ es. (change (reread now (shown consumer limit from es) present) g.rows).entries) h.rows_are
-        ∙ changed_rows (reread now (shown consumer limit from (rows life.start life.events)) present);
+    rows_are = ap (λ es. (change (row_after_reread now (own_ids consumer limit from es) present) g.rows).entries) h.rows_are
+        ∙ changed_rows (row_after_reread now (own_ids consumer limit from (rows life.start life.events)) present);
   }
 
-  step-ack : (ids : List Id) → IsGroup (acked ids g) (lived (ack ids))
+  step-ack : (ids : List Id) → IsGroup (group_after_ack ids g) (lived (acknowledge ids))
   unfolding event lived
   step-ack ids = record { cursor_is = still; consumers_are = h.consumers_are; rows_are = changed_rows (unless_acked ids) }
 
-  step-join : (consumer : List ℕ) → IsGroup (group_after now present (join consumer) g) (lived (join consumer))
+  step-join : (consumer : List ℕ) → IsGroup (group_after now present (create_consumer consumer) g) (lived (create_consumer consumer))
   unfolding event lived
   step-join consumer = record { cursor_is = still; consumers_are = joins consumer; rows_are = rows-same life.start life.events g.rows h.rows_are }
 
-  step-leave : (consumer : List ℕ) → IsGroup (without_consumer consumer g) (lived (leave consumer))
+  step-leave : (consumer : List ℕ) → IsGroup (without_consumer consumer g) (lived (delete_consumer consumer))
   unfolding event lived
   step-leave consumer = record {
     cursor_is = still;
-    consumers_are = λ q. left-names g.consumers consumer q ∙ ap (cond (is_name q consumer) false) (h.consumers_are q);
+    consumers_are = λ q. left-names g.consumers consumer q ∙ ap (cond (is_same_name q consumer) false) (h.consumers_are q);
     rows_are = changed_rows (unless_owned consumer);
   }
 
@@ -153,8 +153,8 @@ module _ (life : GroupLife) (g : State) (h : IsGroup g life) (now : ℕ) (presen
   step-claim consumer rule ids = record {
     cursor_is = still;
     consumers_are = joins consumer;
-    rows_are = ap (λ es. (change (claimed consumer now rule (claim_of es present now rule ids)) g.rows).entries) h.rows_are
-        ∙ changed_rows (claimed consumer now rule (claim_of (rows life.start life.events) present now rule ids));
+    rows_are = ap (λ es. (change (row_after_claim consumer now rule (claim_by_ids es present now rule ids)) g.rows).entries) h.rows_are
+        ∙ changed_rows (row_after_claim consumer now rule (claim_by_ids (rows life.start life.events) present now rule ids));
   }
 
   step-auto_claim : (consumer : List ℕ) (rule : Rule) (start : Id) (limit : ℕ) → IsGroup (group_after now present (auto_claim consumer rule start limit) g) (lived (auto_claim consumer rule start limit))
@@ -162,19 +162,19 @@ module _ (life : GroupLife) (g : State) (h : IsGroup g life) (now : ℕ) (presen
   step-auto_claim consumer rule start limit = record {
     cursor_is = still;
     consumers_are = joins consumer;
-    rows_are = ap (λ es. (change (claimed consumer now rule (scan_of es present now rule start limit).claim) g.rows).entries) h.rows_are
-        ∙ changed_rows (claimed consumer now rule (scan_of (rows life.start life.events) present now rule start limit).claim);
+    rows_are = ap (λ es. (change (row_after_claim consumer now rule (scan_of es present now rule start limit).claim) g.rows).entries) h.rows_are
+        ∙ changed_rows (row_after_claim consumer now rule (scan_of (rows life.start life.events) present now rule start limit).claim);
   }
 
 -- the group after one more event is what the event makes of the group
-pub group-step : (life : GroupLife) (g : State) → IsGroup g life → (now : ℕ) (present : List Id) → Ascends present → (ask : Ask)
+pub group-step : (life : GroupLife) (g : GroupState) → IsGroup g life → (now : ℕ) (present : List Id) → Ascends present → (ask : GroupAsk)
     → IsGroup (group_after now present ask g) (record { start = life.start; events = record { now = now; present = present; ask = ask } ∷ life.events })
 unfolding lived event
 group-step life g h now present asc (read_new consumer limit noack) = step-read_new life g h now present asc consumer limit noack
 group-step life g h now present asc (read_own consumer limit from) = step-read_own life g h now present asc consumer limit from
-group-step life g h now present asc (ack ids) = step-ack life g h now present asc ids
-group-step life g h now present asc (join consumer) = step-join life g h now present asc consumer
-group-step life g h now present asc (leave consumer) = step-leave life g h now present asc consumer
+group-step life g h now present asc (acknowledge ids) = step-ack life g h now present asc ids
+group-step life g h now present asc (create_consumer consumer) = step-join life g h now present asc consumer
+group-step life g h now present asc (delete_consumer consumer) = step-leave life g h now present asc consumer
 group-step life g h now present asc (claim consumer rule ids) = step-claim life g h now present asc consumer rule ids
 group-step life g h now present asc (auto_claim consumer rule start limit) = step-auto_claim life g h now present asc consumer rule start limit
 

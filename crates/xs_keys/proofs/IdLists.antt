@@ -1,9 +1,9 @@
 -- Lists of ids that ascend.
 use Rattle.std.proofs.Common.{◌≡◌, ℕ, zero, suc, Bool, true, false, cond, ◌&&◌, ◌||◌, List, [], ◌∷◌, ◌++◌, filter, take, Option, Some, None, sym, ap, ◌∙◌, refl}
 use Rattle.std.proofs.lemmas.Bool.{false≢true, and_right}
-use Rattle.xs_stream.specs.Id.{is_below, is_same, has_id}
+use Rattle.xs_stream.specs.Id.{is_below, is_same_id, has_id}
 use Rattle.xs_stream.proofs.Order.{is_same-eq, is_same-symm, below-not_same, up_to-below, not_above-trans}
-use Rattle.xs_group.specs.State.{delivers, last_of}
+use Rattle.xs_group.specs.State.{new_ids, last_of}
 use Rattle.xs_keys.specs.Terms.{Id, Ascends, AllAbove, AllUpTo, limited}
 use Rattle.xs_keys.specs.Life.{greatest}
 
@@ -47,10 +47,10 @@ ascends-limited None xs h = h
 ascends-limited (Some n) xs h = ascends-take n xs h
 
 -- what is delivered is above the cursor, and ascends
-pub above-delivers : (limit : Option ℕ) (a : Id) (present : List Id) → AllAbove a (delivers limit a present)
+pub above-delivers : (limit : Option ℕ) (a : Id) (present : List Id) → AllAbove a (new_ids limit a present)
 above-delivers limit a present = above-limited limit a _ (above-where a present)
 
-pub ascends-delivers : (limit : Option ℕ) (a : Id) (present : List Id) → Ascends present → Ascends (delivers limit a present)
+pub ascends-delivers : (limit : Option ℕ) (a : Id) (present : List Id) → Ascends present → Ascends (new_ids limit a present)
 ascends-delivers limit a present h = ascends-limited limit _ (ascends-where (λ x. is_below a x) present h)
 
 -- ---- the greatest of an id and those above it
@@ -88,7 +88,7 @@ ascends-append a (x ∷ xs) ys h up k above = (both xs h.0, ascends-append a xs 
 
 pub has_id-append : (xs ys : List Id) (x : Id) → has_id (xs ++ ys) x ≡ (has_id xs x || has_id ys x)
 has_id-append [] ys x = refl
-has_id-append (y ∷ xs) ys x = by (is_same x y) (has_id-append xs ys x) where
+has_id-append (y ∷ xs) ys x = by (is_same_id x y) (has_id-append xs ys x) where
   by : (t : Bool) → has_id (xs ++ ys) x ≡ (has_id xs x || has_id ys x) → (t || has_id (xs ++ ys) x) ≡ ((t || has_id xs x) || has_id ys x)
   by true e = refl
   by false e = e
@@ -106,14 +106,14 @@ not_among a (y ∷ ys) x e up =
 -- what a test passes
 pub has_id-where : (p : Id → Bool) (xs : List Id) (x : Id) → has_id (filter p xs) x ≡ (p x && has_id xs x)
 has_id-where p [] x = sym (and_right (p x) false refl)
-has_id-where p (y ∷ ys) x = by (p y) refl (is_same x y) refl (has_id-where p ys x) where
-  by : (t : Bool) → p y ≡ t → (s : Bool) → is_same x y ≡ s → has_id (filter p ys) x ≡ (p x && has_id ys x)
-      → has_id (cond t (y ∷ filter p ys) (filter p ys)) x ≡ (p x && (is_same x y || has_id ys x))
+has_id-where p (y ∷ ys) x = by (p y) refl (is_same_id x y) refl (has_id-where p ys x) where
+  by : (t : Bool) → p y ≡ t → (s : Bool) → is_same_id x y ≡ s → has_id (filter p ys) x ≡ (p x && has_id ys x)
+      → has_id (cond t (y ∷ filter p ys) (filter p ys)) x ≡ (p x && (is_same_id x y || has_id ys x))
   by true e true s rest = rw (s, is_same-eq x y s, e) refl
   by true e false s rest = rw s rest
   by false e true s rest =
       let not_it : p x ≡ false = ap p (is_same-eq x y s) ∙ e in
-      rest ∙ ap (λ b. b && has_id ys x) not_it ∙ sym (ap (λ b. b && (is_same x y || has_id ys x)) not_it)
+      rest ∙ ap (λ b. b && has_id ys x) not_it ∙ sym (ap (λ b. b && (is_same_id x y || has_id ys x)) not_it)
   by false e false s rest = rw s rest
 
 -- ---- the first of a list
@@ -125,16 +125,16 @@ take-up_to (suc n) [] a x above asc low high = refl
 take-up_to (suc n) (y ∷ ys) a x above asc low high =
     by (is_below y x) refl (ap (λ b. greatest (cond b y a) (take n ys)) above.0) (λ e. take-up_to n ys y x asc.0 asc.1 e) where
       by : (t : Bool) → is_below y x ≡ t → greatest a (y ∷ take n ys) ≡ greatest y (take n ys) → (is_below y x ≡ true → is_below (greatest y (take n ys)) x ≡ false → has_id (take n ys) x ≡ has_id ys x)
-          → (is_same x y || has_id (take n ys) x) ≡ (is_same x y || has_id ys x)
-      by true e g rest = ap (λ b. is_same x y || b) (rest e (ap (λ c. is_below c x) (sym g) ∙ high))
-      by false e g rest = λ i. is_same x y || (not_above y x (take n ys) e (above-take n y ys asc.0) ∙ sym (not_above y x ys e asc.0)) i
+          → (is_same_id x y || has_id (take n ys) x) ≡ (is_same_id x y || has_id ys x)
+      by true e g rest = ap (λ b. is_same_id x y || b) (rest e (ap (λ c. is_below c x) (sym g) ∙ high))
+      by false e g rest = λ i. is_same_id x y || (not_above y x (take n ys) e (above-take n y ys asc.0) ∙ sym (not_above y x ys e asc.0)) i
 
 pub limited-up_to : (limit : Option ℕ) (xs : List Id) (a x : Id) → AllAbove a xs → Ascends xs → is_below a x ≡ true → is_below (greatest a (limited limit xs)) x ≡ false → has_id (limited limit xs) x ≡ has_id xs x
 limited-up_to None xs a x above asc low high = refl
 limited-up_to (Some n) xs a x above asc low high = take-up_to n xs a x above asc low high
 
-pub delivers-up_to : (limit : Option ℕ) (present : List Id) (a x : Id) → Ascends present → is_below a x ≡ true → is_below (greatest a (delivers limit a present)) x ≡ false
-    → has_id (delivers limit a present) x ≡ has_id present x
+pub delivers-up_to : (limit : Option ℕ) (present : List Id) (a x : Id) → Ascends present → is_below a x ≡ true → is_below (greatest a (new_ids limit a present)) x ≡ false
+    → has_id (new_ids limit a present) x ≡ has_id present x
 delivers-up_to limit present a x asc low high =
     limited-up_to limit _ a x (above-where a present) (ascends-where (λ y. is_below a y) present asc) low high
     ∙ has_id-where (λ y. is_below a y) present x ∙ ap (λ b. b && has_id present x) low

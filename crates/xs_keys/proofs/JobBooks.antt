@@ -2,19 +2,19 @@
 use Rattle.std.proofs.Common.{◌≡◌, ℕ, ◌+◌, Bool, true, false, cond, ◌&&◌, List, [], ◌∷◌, filter, map, length, Option, Some, None, is_some, option_and_then, sym, ap, subst, ◌∙◌, refl, arith}
 use Rattle.std.proofs.lemmas.Bool.{false≢true, or_left}
 use Rattle.std.proofs.lemmas.List.{length-map}
-use Rattle.xs_stream.specs.Id.{is_below, is_same, has_id}
+use Rattle.xs_stream.specs.Id.{is_below, is_same_id, has_id}
 use Rattle.xs_stream.proofs.Order.{is_same-eq, is_same-refl, is_same-symm, below-not_back}
-use Rattle.xs_group.specs.State.{Row, is_name, delivers, owned}
+use Rattle.xs_group.specs.State.{RowState, is_same_name, new_ids, owned_ids}
 use Rattle.xs_keys.specs.Event.{History}
-use Rattle.xs_keys.specs.Terms.{Command, State, Reply, Int, NullBulk, get, summary_of, option_map_or, with_some, Id, ids_of, Ascends, AllAbove}
-use Rattle.xs_keys.specs.Life.{Change, key_life, given_in, live}
-use Rattle.xs_keys.specs.GroupEvent.{GroupEvent, delivered, cursor, rows_among, pending_row_at, rows}
+use Rattle.xs_keys.specs.Terms.{Command, GroupState, Reply, Int, NullBulk, get, summary_of, option_map_or, with_some, Id, ids_of, Ascends, AllAbove}
+use Rattle.xs_keys.specs.Life.{StreamEvent, key_life, added_in, present_entries}
+use Rattle.xs_keys.specs.GroupEvent.{GroupEvent, delivered_ids, cursor, rows_among, pending_row_at, rows}
 use Rattle.xs_keys.specs.Owner.{last_assigned, owner}
 use Rattle.xs_keys.specs.GroupLife.{GroupLife, group_life}
-use Rattle.xs_keys.specs.Content.{Content, Key, IsGroup, GroupHolds, KeyHolds, IsContent}
-use Rattle.xs_keys.specs.ReplyParts.{array, array_or_null, id_reply, of_group, owner_reply, summary_reply}
+use Rattle.xs_keys.specs.Content.{Content, KeyState, IsGroup, GroupHolds, KeyHolds, IsContent}
+use Rattle.xs_keys.specs.ReplyParts.{array, array_or_null, id_reply, reply_of_group, owner_reply, summary_reply}
 use Rattle.xs_keys.specs.JobPlace.{Place, before_start, waiting, dropped, handed_out, pending, settled, place_of, StandsAt, HasOnePlace}
-use Rattle.xs_keys.specs.GroupBooks.{is_at, is_pending, jobs_at, BooksBalance, TellsPending}
+use Rattle.xs_keys.specs.GroupBooks.{is_at, is_pending, jobs_at, PlacesAddUp, TellsPending}
 use Rattle.xs_keys.proofs.Truths.{first_of, second_of, none_or}
 use Rattle.xs_keys.proofs.IdLists.{ascends-where, has_id-where, not_above}
 use Rattle.xs_keys.proofs.Streams.{ascends-given, ascends-live}
@@ -35,12 +35,12 @@ not_itself x xs h = not_above x x xs (irrefl (is_below x x) refl) h where
 
 -- the first ids are the same
 first-same : (x y : Id) (xs ys : List Id) → AllAbove x xs → AllAbove y ys → ((z : Id) → has_id (x ∷ xs) z ≡ has_id (y ∷ ys) z) → x ≡ y
-first-same x y xs ys h k e = by (is_same x y) refl where
-  by : (t : Bool) → is_same x y ≡ t → x ≡ y
+first-same x y xs ys h k e = by (is_same_id x y) refl where
+  by : (t : Bool) → is_same_id x y ≡ t → x ≡ y
   by true f = is_same-eq x y f
   by false f =
-      let in_ys = sym (none_or (is_same x y) (has_id ys x) f) ∙ sym (e x) ∙ or_left _ _ (is_same-refl x) in
-      let in_xs = sym (none_or (is_same y x) (has_id xs y) (is_same-symm y x ∙ f)) ∙ e y ∙ or_left _ _ (is_same-refl y) in
+      let in_ys = sym (none_or (is_same_id x y) (has_id ys x) f) ∙ sym (e x) ∙ or_left _ _ (is_same-refl x) in
+      let in_xs = sym (none_or (is_same_id y x) (has_id xs y) (is_same-symm y x ∙ f)) ∙ e y ∙ or_left _ _ (is_same-refl y) in
       absurd (false≢true (sym (below-not_back x y (above-has x xs y h in_xs)) ∙ above-has y ys x k in_ys))
 
 pub ascends-same : (xs ys : List Id) → Ascends xs → Ascends ys → ((z : Id) → has_id xs z ≡ has_id ys z) → xs ≡ ys
@@ -49,44 +49,44 @@ ascends-same [] (y ∷ ys) h k e = absurd (false≢true (e y ∙ or_left _ _ (is
 ascends-same (x ∷ xs) [] h k e = absurd (false≢true (sym (e x) ∙ or_left _ _ (is_same-refl x)))
 ascends-same (x ∷ xs) (y ∷ ys) h k e =
     let first = first-same x y xs ys h.0 k.0 e in
-    let rest = ascends-same xs ys h.1 k.1 (λ z. by first z (is_same z x) refl) in
+    let rest = ascends-same xs ys h.1 k.1 (λ z. by first z (is_same_id z x) refl) in
     λ i. first i ∷ rest i
   where
-    by : x ≡ y → (z : Id) → (t : Bool) → is_same z x ≡ t → has_id xs z ≡ has_id ys z
+    by : x ≡ y → (z : Id) → (t : Bool) → is_same_id z x ≡ t → has_id xs z ≡ has_id ys z
     by f z true g =
         let is = is_same-eq z x g in
         ap (has_id xs) is ∙ not_itself x xs h.0 ∙ sym (not_itself y ys k.0) ∙ sym (ap (has_id ys) (is ∙ f))
-    by f z false g = sym (none_or (is_same z x) (has_id xs z) g) ∙ e z ∙ none_or (is_same z y) (has_id ys z) (ap (is_same z) (sym f) ∙ g)
+    by f z false g = sym (none_or (is_same_id z x) (has_id xs z) g) ∙ e z ∙ none_or (is_same_id z y) (has_id ys z) (ap (is_same_id z) (sym f) ∙ g)
 
 -- ---- rows by their ids
 
 -- the ids of rows are those of the list that have one
-pub ids-among : (row_of : Id → Option Row) (ids : List Id) → map (λ e. e.0) (rows_among row_of ids) ≡ filter (λ x. is_some (row_of x)) ids
+pub ids-among : (row_of : Id → Option RowState) (ids : List Id) → map (λ e. e.0) (rows_among row_of ids) ≡ filter (λ x. is_some (row_of x)) ids
 ids-among row_of [] = refl
 ids-among row_of (x ∷ xs) = by (row_of x) (ids-among row_of xs) where
-  by : (r : Option Row) → map (λ e. e.0) (rows_among row_of xs) ≡ filter (λ y. is_some (row_of y)) xs
+  by : (r : Option RowState) → map (λ e. e.0) (rows_among row_of xs) ≡ filter (λ y. is_some (row_of y)) xs
       → map (λ e. e.0) (with_some x r (rows_among row_of xs)) ≡ cond (is_some r) (x ∷ filter (λ y. is_some (row_of y)) xs) (filter (λ y. is_some (row_of y)) xs)
   by None e = e
   by (Some row) e = ap (λ rest. x ∷ rest) e
 
 pub ascends-rows : (start : Id) (events : List GroupEvent) → PresentAscends events → Ascends (map (λ e. e.0) (rows start events))
 ascends-rows start events asc =
-    subst Ascends (sym (ids-among (λ x. pending_row_at start events x) (delivered start events)))
-    (ascends-where (λ x. is_some (pending_row_at start events x)) (delivered start events) (ascends-delivered start events asc))
+    subst Ascends (sym (ids-among (λ x. pending_row_at start events x) (delivered_ids start events)))
+    (ascends-where (λ x. is_some (pending_row_at start events x)) (delivered_ids start events) (ascends-delivered start events asc))
 
 -- and those of one consumer's rows are those whose row is its own
-pub owned-among : (name : List ℕ) (row_of : Id → Option Row) (ids : List Id) → owned name (rows_among row_of ids) ≡ filter (λ x. option_map_or (λ row. is_name row.consumer name) (row_of x) false) ids
+pub owned-among : (name : List ℕ) (row_of : Id → Option RowState) (ids : List Id) → owned_ids name (rows_among row_of ids) ≡ filter (λ x. option_map_or (λ row. is_same_name row.consumer name) (row_of x) false) ids
 owned-among name row_of [] = refl
 owned-among name row_of (x ∷ xs) = by (row_of x) (owned-among name row_of xs) where
-  by : (r : Option Row) → owned name (rows_among row_of xs) ≡ filter (λ y. option_map_or (λ row. is_name row.consumer name) (row_of y) false) xs
-      → owned name (with_some x r (rows_among row_of xs))
-      ≡ cond (option_map_or (λ row. is_name row.consumer name) r false) (x ∷ filter (λ y. option_map_or (λ row. is_name row.consumer name) (row_of y) false) xs)
-      (filter (λ y. option_map_or (λ row. is_name row.consumer name) (row_of y) false) xs)
+  by : (r : Option RowState) → owned_ids name (rows_among row_of xs) ≡ filter (λ y. option_map_or (λ row. is_same_name row.consumer name) (row_of y) false) xs
+      → owned_ids name (with_some x r (rows_among row_of xs))
+      ≡ cond (option_map_or (λ row. is_same_name row.consumer name) r false) (x ∷ filter (λ y. option_map_or (λ row. is_same_name row.consumer name) (row_of y) false) xs)
+      (filter (λ y. option_map_or (λ row. is_same_name row.consumer name) (row_of y) false) xs)
   by None e = e
-  by (Some row) e = mine (is_name row.consumer name) e where
-    mine : (t : Bool) → owned name (rows_among row_of xs) ≡ filter (λ y. option_map_or (λ r. is_name r.consumer name) (row_of y) false) xs
-        → map (λ e. e.0) (cond t ((x, row) ∷ filter (λ e. is_name e.1.consumer name) (rows_among row_of xs)) (filter (λ e. is_name e.1.consumer name) (rows_among row_of xs)))
-        ≡ cond t (x ∷ filter (λ y. option_map_or (λ r. is_name r.consumer name) (row_of y) false) xs) (filter (λ y. option_map_or (λ r. is_name r.consumer name) (row_of y) false) xs)
+  by (Some row) e = mine (is_same_name row.consumer name) e where
+    mine : (t : Bool) → owned_ids name (rows_among row_of xs) ≡ filter (λ y. option_map_or (λ r. is_same_name r.consumer name) (row_of y) false) xs
+        → map (λ e. e.0) (cond t ((x, row) ∷ filter (λ e. is_same_name e.1.consumer name) (rows_among row_of xs)) (filter (λ e. is_same_name e.1.consumer name) (rows_among row_of xs)))
+        ≡ cond t (x ∷ filter (λ y. option_map_or (λ r. is_same_name r.consumer name) (row_of y) false) xs) (filter (λ y. option_map_or (λ r. is_same_name r.consumer name) (row_of y) false) xs)
     mine true f = ap (λ rest. x ∷ rest) f
     mine false f = f
 
@@ -109,30 +109,30 @@ same_truth true false f g = sym (f refl)
 same_truth false true f g = g refl
 same_truth false false f g = refl
 
-module _ (life : GroupLife) (changes : List Change) (asc : PresentAscends life.events) (sees : Sees changes life.events) where
+module _ (life : GroupLife) (changes : List StreamEvent) (asc : PresentAscends life.events) (sees : Sees changes life.events) where
   place : Id → Place
-  place x = place_of life (ids_of (live changes)) x
+  place x = place_of life (ids_of (present_entries changes)) x
 
-  one : (x : Id) → HasOnePlace life (ids_of (live changes)) x
+  one : (x : Id) → HasOnePlace life (ids_of (present_entries changes)) x
   one x = has-one-place life changes asc sees x
 
-  waiting-are : jobs_at (is_at waiting) changes life ≡ delivers None (cursor life.start life.events) (ids_of (live changes))
+  waiting-are : jobs_at (is_at waiting) changes life ≡ new_ids None (cursor life.start life.events) (ids_of (present_entries changes))
   waiting-are =
-      ascends-same (jobs_at (is_at waiting) changes life) (delivers None (cursor life.start life.events) (ids_of (live changes)))
-      (ascends-where (λ x. is_at waiting (place_of life (ids_of (live changes)) x)) (ids_of (given_in changes)) (ascends-given changes))
-      (ascends-where (λ x. is_below (cursor life.start life.events) x) (ids_of (live changes)) (ascends-live changes))
+      ascends-same (jobs_at (is_at waiting) changes life) (new_ids None (cursor life.start life.events) (ids_of (present_entries changes)))
+      (ascends-where (λ x. is_at waiting (place_of life (ids_of (present_entries changes)) x)) (ids_of (added_in changes)) (ascends-given changes))
+      (ascends-where (λ x. is_below (cursor life.start life.events) x) (ids_of (present_entries changes)) (ascends-live changes))
       (λ x.
-      has_id-where (λ y. is_at waiting (place_of life (ids_of (live changes)) y)) (ids_of (given_in changes)) x
+      has_id-where (λ y. is_at waiting (place_of life (ids_of (present_entries changes)) y)) (ids_of (added_in changes)) x
       ∙ same_truth _ _ (to x) (from x)
-      ∙ sym (has_id-where (λ y. is_below (cursor life.start life.events) y) (ids_of (live changes)) x))
+      ∙ sym (has_id-where (λ y. is_below (cursor life.start life.events) y) (ids_of (present_entries changes)) x))
     where
-      to : (x : Id) → (is_at waiting (place_of life (ids_of (live changes)) x) && has_id (ids_of (given_in changes)) x) ≡ true → (is_below (cursor life.start life.events) x && has_id (ids_of (live changes)) x) ≡ true
+      to : (x : Id) → (is_at waiting (place_of life (ids_of (present_entries changes)) x) && has_id (ids_of (added_in changes)) x) ≡ true → (is_below (cursor life.start life.events) x && has_id (ids_of (present_entries changes)) x) ≡ true
       to x e =
-          let at = waits (place_of life (ids_of (live changes)) x) (first_of _ _ e) in
-          let stands = subst (StandsAt life (ids_of (live changes)) x) at (has-one-place life changes asc sees x).0 in
+          let at = waits (place_of life (ids_of (present_entries changes)) x) (first_of _ _ e) in
+          let stands = subst (StandsAt life (ids_of (present_entries changes)) x) at (has-one-place life changes asc sees x).0 in
           λ i. stands.1 i && stands.0 i
 
-      from : (x : Id) → (is_below (cursor life.start life.events) x && has_id (ids_of (live changes)) x) ≡ true → (is_at waiting (place_of life (ids_of (live changes)) x) && has_id (ids_of (given_in changes)) x) ≡ true
+      from : (x : Id) → (is_below (cursor life.start life.events) x && has_id (ids_of (present_entries changes)) x) ≡ true → (is_at waiting (place_of life (ids_of (present_entries changes)) x) && has_id (ids_of (added_in changes)) x) ≡ true
       from x e =
           let there = second_of (is_below (cursor life.start life.events) x) _ e in
           let at = (has-one-place life changes asc sees x).1 waiting (there, first_of _ _ e) in
@@ -141,33 +141,33 @@ module _ (life : GroupLife) (changes : List Change) (asc : PresentAscends life.e
 
   -- ---- what is pending, where a test asks for the consumer
   pending-are : (at : Place → Bool) (test : List ℕ → Bool) → ((p : Place) → at p ≡ true → (name : List ℕ) × (p ≡ pending name)) → ((name : List ℕ) → at (pending name) ≡ test name)
-      → jobs_at at changes life ≡ filter (λ x. option_map_or test (owner life.start life.events x) false) (delivered life.start life.events)
+      → jobs_at at changes life ≡ filter (λ x. option_map_or test (owner life.start life.events x) false) (delivered_ids life.start life.events)
   pending-are at test only with =
-      ascends-same (jobs_at at changes life) (filter (λ x. option_map_or test (owner life.start life.events x) false) (delivered life.start life.events))
-      (ascends-where (λ x. at (place_of life (ids_of (live changes)) x)) (ids_of (given_in changes)) (ascends-given changes))
-      (ascends-where (λ x. option_map_or test (owner life.start life.events x) false) (delivered life.start life.events) (ascends-delivered life.start life.events asc))
+      ascends-same (jobs_at at changes life) (filter (λ x. option_map_or test (owner life.start life.events x) false) (delivered_ids life.start life.events))
+      (ascends-where (λ x. at (place_of life (ids_of (present_entries changes)) x)) (ids_of (added_in changes)) (ascends-given changes))
+      (ascends-where (λ x. option_map_or test (owner life.start life.events x) false) (delivered_ids life.start life.events) (ascends-delivered life.start life.events asc))
       (λ x.
-      has_id-where (λ y. at (place_of life (ids_of (live changes)) y)) (ids_of (given_in changes)) x
+      has_id-where (λ y. at (place_of life (ids_of (present_entries changes)) y)) (ids_of (added_in changes)) x
       ∙ by x (owner life.start life.events x) refl
-      ∙ sym (has_id-where (λ y. option_map_or test (owner life.start life.events y) false) (delivered life.start life.events) x))
+      ∙ sym (has_id-where (λ y. option_map_or test (owner life.start life.events y) false) (delivered_ids life.start life.events) x))
     where
       by : (x : Id) (o : Option (List ℕ)) → owner life.start life.events x ≡ o
-          → (at (place_of life (ids_of (live changes)) x) && has_id (ids_of (given_in changes)) x) ≡ (option_map_or test (owner life.start life.events x) false && has_id (delivered life.start life.events) x)
+          → (at (place_of life (ids_of (present_entries changes)) x) && has_id (ids_of (added_in changes)) x) ≡ (option_map_or test (owner life.start life.events x) false && has_id (delivered_ids life.start life.events) x)
       by x (Some name) o =
           let stands = (has-one-place life changes asc sees x).1 (pending name) o in
           let was_delivered = owned-delivered life.start life.events x (ap is_some o) in
           let given = delivered-given life.start changes life.events x sees was_delivered in
           (λ i. at (sym stands i) && given i) ∙ ap (λ b. b && true) (with name) ∙ sym (λ i. option_map_or test (o i) false && was_delivered i)
-      by x None o = (λ i. nowhere (at (place_of life (ids_of (live changes)) x)) refl i && has_id (ids_of (given_in changes)) x) ∙ sym (λ i. option_map_or test (o i) false && has_id (delivered life.start life.events) x) where
-        nowhere : (t : Bool) → at (place_of life (ids_of (live changes)) x) ≡ t → at (place_of life (ids_of (live changes)) x) ≡ false
+      by x None o = (λ i. nowhere (at (place_of life (ids_of (present_entries changes)) x)) refl i && has_id (ids_of (added_in changes)) x) ∙ sym (λ i. option_map_or test (o i) false && has_id (delivered_ids life.start life.events) x) where
+        nowhere : (t : Bool) → at (place_of life (ids_of (present_entries changes)) x) ≡ t → at (place_of life (ids_of (present_entries changes)) x) ≡ false
         nowhere false e = e
         nowhere true e =
-            let is = only (place_of life (ids_of (live changes)) x) e in
-            absurd (false≢true (ap is_some (sym o ∙ subst (StandsAt life (ids_of (live changes)) x) is.1 (has-one-place life changes asc sees x).0)))
+            let is = only (place_of life (ids_of (present_entries changes)) x) e in
+            absurd (false≢true (ap is_some (sym o ∙ subst (StandsAt life (ids_of (present_entries changes)) x) is.1 (has-one-place life changes asc sees x).0)))
 
   held : (test : List ℕ → Bool) (x : Id) → option_map_or test (owner life.start life.events x) false ≡ option_map_or (λ row. test row.consumer) (pending_row_at life.start life.events x) false
   held test x = ap (λ o. option_map_or test o false) (owner-row life.start life.events x) ∙ by (pending_row_at life.start life.events x) where
-    by : (r : Option Row) → option_map_or test (of_row r) false ≡ option_map_or (λ row. test row.consumer) r false
+    by : (r : Option RowState) → option_map_or test (of_row r) false ≡ option_map_or (λ row. test row.consumer) r false
     by None = refl
     by (Some row) = refl
 
@@ -218,52 +218,52 @@ add-up : (above : Id → Bool) (place : Id → Place) → ((x : Id) → above x 
 add-up above place is [] = refl
 add-up above place is (x ∷ xs) = one-more x (place x) (above x) (is x) _ _ _ _ _ _ (add-up above place is xs)
 
-pub balances : (life : GroupLife) (changes : List Change) → PresentAscends life.events → Sees changes life.events → BooksBalance changes life
+pub balances : (life : GroupLife) (changes : List StreamEvent) → PresentAscends life.events → Sees changes life.events → PlacesAddUp changes life
 balances life changes asc sees =
     let all_pending = pending-are life changes asc sees is_pending (λ name. true) is-pending (λ name. refl)
-    ∙ filter-same _ _ (delivered life.start life.events) (λ x. held life changes asc sees (λ name. true) x ∙ by (pending_row_at life.start life.events x))
-    ∙ sym (ids-among (λ x. pending_row_at life.start life.events x) (delivered life.start life.events)) in
+    ∙ filter-same _ _ (delivered_ids life.start life.events) (λ x. held life changes asc sees (λ name. true) x ∙ by (pending_row_at life.start life.events x))
+    ∙ sym (ids-among (λ x. pending_row_at life.start life.events x) (delivered_ids life.start life.events)) in
     record {
       waiting_are = waiting-are life changes asc sees;
       pending_are = all_pending;
       of_consumers = λ consumer.
-          pending-are life changes asc sees (is_at (pending consumer)) (λ name. is_name name consumer) (is-pending-with consumer) (λ name. refl)
-          ∙ filter-same _ _ (delivered life.start life.events) (held life changes asc sees (λ name. is_name name consumer))
-          ∙ sym (owned-among consumer (λ x. pending_row_at life.start life.events x) (delivered life.start life.events));
-      add_up = add-up (λ x. is_below life.start x) (λ x. place_of life (ids_of (live changes)) x)
-          (λ x. place-past (is_below life.start x) (has_id (delivered life.start life.events) x) (has_id (ids_of (live changes)) x) (last_assigned life.start life.events x) (owner life.start life.events x))
-          (ids_of (given_in changes))
+          pending-are life changes asc sees (is_at (pending consumer)) (λ name. is_same_name name consumer) (is-pending-with consumer) (λ name. refl)
+          ∙ filter-same _ _ (delivered_ids life.start life.events) (held life changes asc sees (λ name. is_same_name name consumer))
+          ∙ sym (owned-among consumer (λ x. pending_row_at life.start life.events x) (delivered_ids life.start life.events));
+      add_up = add-up (λ x. is_below life.start x) (λ x. place_of life (ids_of (present_entries changes)) x)
+          (λ x. place-past (is_below life.start x) (has_id (delivered_ids life.start life.events) x) (has_id (ids_of (present_entries changes)) x) (last_assigned life.start life.events x) (owner life.start life.events x))
+          (ids_of (added_in changes))
           ∙ ap (λ n. length (jobs_at (is_at waiting) changes life) + (length (jobs_at (is_at dropped) changes life) + (length (jobs_at (is_at handed_out) changes life) + (n + length (jobs_at (is_at settled) changes life)))))
           (ap length all_pending ∙ length-map (rows life.start life.events) (λ e. e.0));
     }
   where
-    by : (r : Option Row) → option_map_or (λ row. true) r false ≡ is_some r
+    by : (r : Option RowState) → option_map_or (λ row. true) r false ≡ is_some r
     by None = refl
     by (Some row) = refl
 
 -- ---- what XPENDING tells
 
 -- the number of rows is what it tells first
-pub tells-pending : (c : Content) (past : History) (now : ℕ) (key group : List ℕ) (changes : List Change) (life : GroupLife) → IsContent c past
+pub tells-pending : (c : Content) (past : History) (now : ℕ) (key group : List ℕ) (changes : List StreamEvent) (life : GroupLife) → IsContent c past
     → key_life past key ≡ Some changes → group_life past key group ≡ Some life → TellsPending c now key group (length (jobs_at is_pending changes life))
 tells-pending c past now key group changes life is k g =
     by (get c key) refl (subst (λ l. KeyHolds (get c key) l (λ name. group_life past key name)) k (is key))
   where
-    number : (state : State) → IsGroup state life → length state.rows.entries ≡ length (jobs_at is_pending changes life)
+    number : (state : GroupState) → IsGroup state life → length state.rows.entries ≡ length (jobs_at is_pending changes life)
     number state holds =
         ap length holds.rows_are ∙ sym (length-map (rows life.start life.events) (λ e. e.0))
         ∙ sym (ap length (balances life changes (present-in-life past key group life g) (sees-of past key group changes life k g)).pending_are)
 
-    by : (found : Option Key) → get c key ≡ found → KeyHolds found (Some changes) (λ name. group_life past key name) → TellsPending c now key group (length (jobs_at is_pending changes life))
+    by : (found : Option KeyState) → get c key ≡ found → KeyHolds found (Some changes) (λ name. group_life past key name) → TellsPending c now key group (length (jobs_at is_pending changes life))
     by None e h = absurd h
     by (Some held) e h = within (get held.groups group) refl (subst (GroupHolds (get held.groups group)) g (h.1 group)) where
-      within : (s : Option State) → get held.groups group ≡ s → GroupHolds s (Some life) → TellsPending c now key group (length (jobs_at is_pending changes life))
+      within : (s : Option GroupState) → get held.groups group ≡ s → GroupHolds s (Some life) → TellsPending c now key group (length (jobs_at is_pending changes life))
       within None f holds = absurd holds
       within (Some state) f holds =
           let told = summary_of state in
           let ids : Option Id → Reply = λ y. option_map_or id_reply y NullBulk in (
             ids told.least ∷ ids told.greatest ∷ array_or_null (map owner_reply told.owners) ∷ [],
-            (λ i. of_group (option_and_then (λ o. get o.groups group) (e i)) (λ s. summary_reply (summary_of s)))
-                ∙ (λ i. of_group (f i) (λ s. summary_reply (summary_of s)))
+            (λ i. reply_of_group (option_and_then (λ o. get o.groups group) (e i)) (λ s. summary_reply (summary_of s)))
+                ∙ (λ i. reply_of_group (f i) (λ s. summary_reply (summary_of s)))
                 ∙ ap (λ n. array (Int n ∷ ids told.least ∷ ids told.greatest ∷ array_or_null (map owner_reply told.owners) ∷ [])) (number state holds),
           )

@@ -3,15 +3,15 @@ use Rattle.std.proofs.Common.{◌≡◌, ℕ, Bool, true, false, cond, List, [],
 use Rattle.std.proofs.lemmas.Option.{same_Some}
 use Rattle.std.proofs.lemmas.Bool.{false≢true}
 use Rattle.xs_bytes.specs.SortedMap.{get}
-use Rattle.xs_group.specs.State.{Row, State, is_name, delivers, first_row, shown, again, unless_owned}
+use Rattle.xs_group.specs.State.{RowState, GroupState, is_same_name, new_ids, first_row, own_ids, redelivered_row, unless_owned}
 use Rattle.xs_keys.specs.Event.{History}
 use Rattle.xs_keys.specs.Terms.{with_some, Id, has_id, Ascends, AllAbove, AllUpTo, Command}
-use Rattle.xs_keys.specs.Life.{Change, key_life, stream_of}
-use Rattle.xs_keys.specs.GroupAsk.{Ask, read_new, read_own, ack, join, leave, claim, auto_claim, row_after_ask}
-use Rattle.xs_keys.specs.GroupEvent.{GroupEvent, delivered, cursor, is_consumer, rows_among, pending_row_at, rows}
+use Rattle.xs_keys.specs.Life.{StreamEvent, key_life, stream_of}
+use Rattle.xs_keys.specs.GroupAsk.{GroupAsk, read_new, read_own, acknowledge, create_consumer, delete_consumer, claim, auto_claim, row_after_ask}
+use Rattle.xs_keys.specs.GroupEvent.{GroupEvent, delivered_ids, cursor, is_consumer, rows_among, pending_row_at, rows}
 use Rattle.xs_keys.specs.GroupLife.{GroupLife, group_life}
-use Rattle.xs_keys.specs.Content.{Key, Content, IsGroup, GroupHolds, KeyHolds, IsContent}
-use Rattle.xs_keys.specs.LawfulContent.{IsLawfulStream, IsLawfulGroup, IsLawfulKey, IsLawfulContent}
+use Rattle.xs_keys.specs.Content.{KeyState, Content, IsGroup, GroupHolds, KeyHolds, IsContent}
+use Rattle.xs_keys.specs.LawfulContent.{IsConsistentStream, IsConsistentGroup, IsConsistentKey, IsConsistentContent}
 use Rattle.xs_keys.proofs.Streams.{ascends-live, up_to-live}
 use Rattle.xs_keys.proofs.GroupRows.{row_ids}
 use Rattle.xs_keys.proofs.GroupSteps.{up_to-rows}
@@ -19,19 +19,19 @@ use Rattle.xs_keys.proofs.Deliveries.{PresentAscends, ascends-delivered}
 use Rattle.xs_keys.proofs.Histories.{MeetsAscending, meets-life}
 use Rattle.xs_keys.proofs.Owners.{row-found}
 use Rattle.xs_keys.proofs.Names.{is_name-refl}
-use Rattle.xs_group.specs.Claims.{Rule, row_at, claim_of, scan_of, claimed_row}
+use Rattle.xs_group.specs.Claims.{Rule, row_at, claim_by_ids, scan_of, claimed_row}
 
-above-among : (a : Id) (row_of : Id → Option Row) (xs : List Id) → AllAbove a xs → AllAbove a (row_ids (rows_among row_of xs))
+above-among : (a : Id) (row_of : Id → Option RowState) (xs : List Id) → AllAbove a xs → AllAbove a (row_ids (rows_among row_of xs))
 above-among a row_of [] h = tt
 above-among a row_of (x ∷ xs) h = by (row_of x) (above-among a row_of xs h.1) where
-  by : (r : Option Row) → AllAbove a (row_ids (rows_among row_of xs)) → AllAbove a (row_ids (with_some x r (rows_among row_of xs)))
+  by : (r : Option RowState) → AllAbove a (row_ids (rows_among row_of xs)) → AllAbove a (row_ids (with_some x r (rows_among row_of xs)))
   by None rest = rest
   by (Some row) rest = (h.0, rest)
 
-ascends-among : (row_of : Id → Option Row) (xs : List Id) → Ascends xs → Ascends (row_ids (rows_among row_of xs))
+ascends-among : (row_of : Id → Option RowState) (xs : List Id) → Ascends xs → Ascends (row_ids (rows_among row_of xs))
 ascends-among row_of [] h = tt
 ascends-among row_of (x ∷ xs) h = by (row_of x) (ascends-among row_of xs h.1) where
-  by : (r : Option Row) → Ascends (row_ids (rows_among row_of xs)) → Ascends (row_ids (with_some x r (rows_among row_of xs)))
+  by : (r : Option RowState) → Ascends (row_ids (rows_among row_of xs)) → Ascends (row_ids (with_some x r (rows_among row_of xs)))
   by None rest = rest
   by (Some row) rest = (above-among x row_of xs h.0, rest)
 
@@ -42,55 +42,55 @@ still : (drops adds_consumer before : Bool) → drops ≡ false → before ≡ t
 still drops true before d b = rw d refl
 still drops false before d b = rw d b
 
-abbrev IsOfConsumers : List GroupEvent → Option Row → Type 0
-IsOfConsumers past r = (row : Row) → r ≡ Some row → is_consumer past row.consumer ≡ true
+abbrev IsOfConsumers : List GroupEvent → Option RowState → Type 0
+IsOfConsumers past r = (row : RowState) → r ≡ Some row → is_consumer past row.consumer ≡ true
 
-module _ (past : List GroupEvent) (now : ℕ) (present : List Id) (a : Id) (es : List (Id × Row)) (x : Id) where
-  of-new : (consumer : List ℕ) (limit : Option ℕ) (noack d : Bool) (r : Option Row) → IsOfConsumers past r
-      → (row : Row) → cond d (cond noack None (Some (first_row consumer now))) r ≡ Some row
-      → cond (is_name row.consumer consumer) true (is_consumer past row.consumer) ≡ true
+module _ (past : List GroupEvent) (now : ℕ) (present : List Id) (a : Id) (es : List (Id × RowState)) (x : Id) where
+  of-new : (consumer : List ℕ) (limit : Option ℕ) (noack d : Bool) (r : Option RowState) → IsOfConsumers past r
+      → (row : RowState) → cond d (cond noack None (Some (first_row consumer now))) r ≡ Some row
+      → cond (is_same_name row.consumer consumer) true (is_consumer past row.consumer) ≡ true
   of-new consumer limit true true r h row e = absurd (false≢true (ap is_some e))
-  of-new consumer limit false true r h row e = ap (λ n. cond (is_name n consumer) true (is_consumer past n)) (sym (ap (λ o. o.consumer) (same_Some (first_row consumer now) row e))) ∙ ap (λ b. cond b true (is_consumer past consumer)) (is_name-refl consumer)
-  of-new consumer limit noack false r h row e = still false (is_name row.consumer consumer) (is_consumer past row.consumer) refl (h row e)
+  of-new consumer limit false true r h row e = ap (λ n. cond (is_same_name n consumer) true (is_consumer past n)) (sym (ap (λ o. o.consumer) (same_Some (first_row consumer now) row e))) ∙ ap (λ b. cond b true (is_consumer past consumer)) (is_name-refl consumer)
+  of-new consumer limit noack false r h row e = still false (is_same_name row.consumer consumer) (is_consumer past row.consumer) refl (h row e)
 
-  of-own : (consumer : List ℕ) (b : Bool) (r : Option Row) → IsOfConsumers past r → (row : Row)
-      → option_and_then (λ o. cond b (Some (again now o)) (Some o)) r ≡ Some row → cond (is_name row.consumer consumer) true (is_consumer past row.consumer) ≡ true
+  of-own : (consumer : List ℕ) (b : Bool) (r : Option RowState) → IsOfConsumers past r → (row : RowState)
+      → option_and_then (λ o. cond b (Some (redelivered_row now o)) (Some o)) r ≡ Some row → cond (is_same_name row.consumer consumer) true (is_consumer past row.consumer) ≡ true
   of-own consumer b None h row e = absurd (false≢true (ap is_some e))
   of-own consumer true (Some o) h row e =
-      still false (is_name row.consumer consumer) (is_consumer past row.consumer) refl (ap (is_consumer past) (sym (ap (λ p. p.consumer) (same_Some (again now o) row e))) ∙ h o refl)
-  of-own consumer false (Some o) h row e = still false (is_name row.consumer consumer) (is_consumer past row.consumer) refl (h row e)
+      still false (is_same_name row.consumer consumer) (is_consumer past row.consumer) refl (ap (is_consumer past) (sym (ap (λ p. p.consumer) (same_Some (redelivered_row now o) row e))) ∙ h o refl)
+  of-own consumer false (Some o) h row e = still false (is_same_name row.consumer consumer) (is_consumer past row.consumer) refl (h row e)
 
-  of-ack : (b : Bool) (r : Option Row) → IsOfConsumers past r → (row : Row) → option_and_then (λ o. cond b None (Some o)) r ≡ Some row → is_consumer past row.consumer ≡ true
+  of-ack : (b : Bool) (r : Option RowState) → IsOfConsumers past r → (row : RowState) → option_and_then (λ o. cond b None (Some o)) r ≡ Some row → is_consumer past row.consumer ≡ true
   of-ack b None h row e = absurd (false≢true (ap is_some e))
   of-ack true (Some o) h row e = absurd (false≢true (ap is_some e))
   of-ack false (Some o) h row e = h row e
 
-  of-leave : (consumer : List ℕ) (r : Option Row) → IsOfConsumers past r → (row : Row) → option_and_then (unless_owned consumer x) r ≡ Some row
-      → cond (is_name row.consumer consumer) false (is_consumer past row.consumer) ≡ true
+  of-leave : (consumer : List ℕ) (r : Option RowState) → IsOfConsumers past r → (row : RowState) → option_and_then (unless_owned consumer x) r ≡ Some row
+      → cond (is_same_name row.consumer consumer) false (is_consumer past row.consumer) ≡ true
   of-leave consumer None h row e = absurd (false≢true (ap is_some e))
-  of-leave consumer (Some o) h row e = by (is_name o.consumer consumer) refl e where
-    by : (t : Bool) → is_name o.consumer consumer ≡ t → cond t None (Some o) ≡ Some row → cond (is_name row.consumer consumer) false (is_consumer past row.consumer) ≡ true
+  of-leave consumer (Some o) h row e = by (is_same_name o.consumer consumer) refl e where
+    by : (t : Bool) → is_same_name o.consumer consumer ≡ t → cond t None (Some o) ≡ Some row → cond (is_same_name row.consumer consumer) false (is_consumer past row.consumer) ≡ true
     by true i f = absurd (false≢true (ap is_some f))
     by false i f =
         let same = ap (λ p. p.consumer) (same_Some o row f) in
-        still (is_name row.consumer consumer) false (is_consumer past row.consumer) (ap (λ n. is_name n consumer) (sym same) ∙ i) (ap (is_consumer past) (sym same) ∙ h o refl)
+        still (is_same_name row.consumer consumer) false (is_consumer past row.consumer) (ap (λ n. is_same_name n consumer) (sym same) ∙ i) (ap (is_consumer past) (sym same) ∙ h o refl)
 
-  of-claim : (consumer : List ℕ) (rule : Rule) (gone taken : Bool) (r : Option Row) → IsOfConsumers past r → (row : Row)
+  of-claim : (consumer : List ℕ) (rule : Rule) (gone taken : Bool) (r : Option RowState) → IsOfConsumers past r → (row : RowState)
       → option_and_then (λ o. cond gone None (cond taken (Some (claimed_row consumer now rule o)) (Some o))) r ≡ Some row
-      → cond (is_name row.consumer consumer) true (is_consumer past row.consumer) ≡ true
+      → cond (is_same_name row.consumer consumer) true (is_consumer past row.consumer) ≡ true
   of-claim consumer rule gone taken None h row e = absurd (false≢true (ap is_some e))
   of-claim consumer rule true taken (Some o) h row e = absurd (false≢true (ap is_some e))
-  of-claim consumer rule false true (Some o) h row e = ap (λ n. cond (is_name n consumer) true (is_consumer past n)) (sym (ap (λ p. p.consumer) (same_Some (claimed_row consumer now rule o) row e))) ∙ ap (λ b. cond b true (is_consumer past consumer)) (is_name-refl consumer)
-  of-claim consumer rule false false (Some o) h row e = still false (is_name row.consumer consumer) (is_consumer past row.consumer) refl (h row e)
+  of-claim consumer rule false true (Some o) h row e = ap (λ n. cond (is_same_name n consumer) true (is_consumer past n)) (sym (ap (λ p. p.consumer) (same_Some (claimed_row consumer now rule o) row e))) ∙ ap (λ b. cond b true (is_consumer past consumer)) (is_name-refl consumer)
+  of-claim consumer rule false false (Some o) h row e = still false (is_same_name row.consumer consumer) (is_consumer past row.consumer) refl (h row e)
 
-  of-asked : (ask : Ask) (r : Option Row) → IsOfConsumers past r → IsOfConsumers (record { now = now; present = present; ask = ask } ∷ past) (row_after_ask ask now present a es x r)
-  of-asked (read_new consumer limit noack) r h = λ row e. of-new consumer limit noack (has_id (delivers limit a present) x) r h row e
-  of-asked (read_own consumer limit from) r h = λ row e. of-own consumer (has_id (shown consumer limit from es) x && has_id present x) r h row e
-  of-asked (ack ids) r h = λ row e. of-ack (has_id ids x) r h row e
-  of-asked (join consumer) r h = λ row e. still false (is_name row.consumer consumer) (is_consumer past row.consumer) refl (h row e)
-  of-asked (leave consumer) r h = λ row e. of-leave consumer r h row e
+  of-asked : (ask : GroupAsk) (r : Option RowState) → IsOfConsumers past r → IsOfConsumers (record { now = now; present = present; ask = ask } ∷ past) (row_after_ask ask now present a es x r)
+  of-asked (read_new consumer limit noack) r h = λ row e. of-new consumer limit noack (has_id (new_ids limit a present) x) r h row e
+  of-asked (read_own consumer limit from) r h = λ row e. of-own consumer (has_id (own_ids consumer limit from es) x && has_id present x) r h row e
+  of-asked (acknowledge ids) r h = λ row e. of-ack (has_id ids x) r h row e
+  of-asked (create_consumer consumer) r h = λ row e. still false (is_same_name row.consumer consumer) (is_consumer past row.consumer) refl (h row e)
+  of-asked (delete_consumer consumer) r h = λ row e. of-leave consumer r h row e
   of-asked (claim consumer rule ids) r h = λ row e.
-      let c = claim_of es present now rule ids in of-claim consumer rule (has_id c.removed x) (has_id c.take x) r h row e
+      let c = claim_by_ids es present now rule ids in of-claim consumer rule (has_id c.removed x) (has_id c.take x) r h row e
   of-asked (auto_claim consumer rule start limit) r h = λ row e.
       let c = (scan_of es present now rule start limit).claim in of-claim consumer rule (has_id c.removed x) (has_id c.take x) r h row e
 
@@ -101,30 +101,30 @@ of-consumers start (event ∷ past) x =
 
 -- ---- groups, keys, contents
 
-lawful-group : (g : State) (life : GroupLife) → IsGroup g life → PresentAscends life.events → IsLawfulGroup g
+lawful-group : (g : GroupState) (life : GroupLife) → IsGroup g life → PresentAscends life.events → IsConsistentGroup g
 unfolding get
 lawful-group g life h asc = record {
-  ascends = subst (λ es. Ascends (row_ids es)) (sym h.rows_are) (ascends-among (λ x. pending_row_at life.start life.events x) (delivered life.start life.events) (ascends-delivered life.start life.events asc));
+  ascends = subst (λ es. Ascends (row_ids es)) (sym h.rows_are) (ascends-among (λ x. pending_row_at life.start life.events x) (delivered_ids life.start life.events) (ascends-delivered life.start life.events asc));
   up_to_cursor = subst (λ es. AllUpTo g.cursor (row_ids es)) (sym h.rows_are) (subst (λ c. AllUpTo c (row_ids (rows life.start life.events))) (sym h.cursor_is) (up_to-rows life.start life.events));
   of_consumers = λ x row e.
       h.consumers_are row.consumer ∙ of-consumers life.start life.events x row (sym (row-found life.start life.events x) ∙ ap (λ es. row_at es x) (sym h.rows_are) ∙ e);
 }
 
-lawful-held : (s : Option State) (life : Option GroupLife) → GroupHolds s life → MeetsAscending life → (g : State) → s ≡ Some g → IsLawfulGroup g
-lawful-held (Some s) (Some life) h asc g e = subst IsLawfulGroup (same_Some s g e) (lawful-group s life h asc)
+lawful-held : (s : Option GroupState) (life : Option GroupLife) → GroupHolds s life → MeetsAscending life → (g : GroupState) → s ≡ Some g → IsConsistentGroup g
+lawful-held (Some s) (Some life) h asc g e = subst IsConsistentGroup (same_Some s g e) (lawful-group s life h asc)
 lawful-held None life h asc g e = absurd (false≢true (ap is_some e))
 lawful-held (Some s) None h asc g e = absurd h
 
-lawful-stream : (changes : List Change) → IsLawfulStream (stream_of changes)
+lawful-stream : (changes : List StreamEvent) → IsConsistentStream (stream_of changes)
 lawful-stream changes = record { ascends = ascends-live changes; up_to_top = up_to-live changes }
 
-lawful-key : (k : Option Key) (stream : Option (List Change)) (lives : List ℕ → Option GroupLife) → KeyHolds k stream lives → ((g : List ℕ) → MeetsAscending (lives g)) → (key : Key) → k ≡ Some key → IsLawfulKey key
+lawful-key : (k : Option KeyState) (stream : Option (List StreamEvent)) (lives : List ℕ → Option GroupLife) → KeyHolds k stream lives → ((g : List ℕ) → MeetsAscending (lives g)) → (key : KeyState) → k ≡ Some key → IsConsistentKey key
 lawful-key None stream lives h asc key e = absurd (false≢true (ap is_some e))
 lawful-key (Some k) None lives h asc key e = absurd h
-lawful-key (Some k) (Some changes) lives h asc key e = subst IsLawfulKey (same_Some k key e) (record {
-  stream = subst IsLawfulStream (sym h.0) (lawful-stream changes);
+lawful-key (Some k) (Some changes) lives h asc key e = subst IsConsistentKey (same_Some k key e) (record {
+  stream = subst IsConsistentStream (sym h.0) (lawful-stream changes);
   groups = λ name g f. lawful-held (get k.groups name) (lives name) (h.1 name) (asc name) g f;
 })
 
-pub content-lawful : (past : History) (content : Content) → IsContent content past → IsLawfulContent content
+pub content-lawful : (past : History) (content : Content) → IsContent content past → IsConsistentContent content
 content-lawful past content h = λ name key e. lawful-key (get content name) (key_life past name) (λ g. group_life past name g) (h name) (λ g. meets-life past name g) key e

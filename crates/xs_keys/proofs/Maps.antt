@@ -10,20 +10,20 @@ use Rattle.std.specs.Ordering.{nat_cmp}
 use Rattle.std.specs.Cmp.{eq_by_cmp_equiv}
 use Rattle.std.specs.Cmp.Lexicographic.{slice_cmp, nat_list_cmp_total}
 use Rattle.xs_bytes.specs.MapOf.{from_entries}
-use Rattle.xs_keys.specs.Terms.{get, insert, remove, is_name}
+use Rattle.xs_keys.specs.Terms.{get, insert, remove, is_same_name}
 use Rattle.xs_keys.proofs.Names.{same_map, get-insert, get-remove}
 use borrow.Follows.Closed.{read_of}
 
 module _ {X : Type 0} where
   find-lookup : (q : List ℕ) (es : List (List ℕ × X)) → find (slice_cmp nat_cmp) q es ≡ lookup (is_at (slice_cmp nat_cmp q)) es
   find-lookup q [] = refl
-  find-lookup q (e ∷ es) = ap (cond (is_name q e.0) (Some e.1)) (find-lookup q es)
+  find-lookup q (e ∷ es) = ap (cond (is_same_name q e.0) (Some e.1)) (find-lookup q es)
 
   -- a name is found in the value as it is found in the map
   pub get-entries : (m : BTreeMap (List ℕ) X) (q : List ℕ) → get (from_entries m.entries) q ≡ tree.get (slice_cmp nat_cmp) m q
   get-entries m q = get-of_entries nat_list_cmp_total m.entries q ∙ find-lookup q m.entries
 
-turned : (a b : List ℕ) → is_name a b ≡ is_name b a
+turned : (a b : List ℕ) → is_same_name a b ≡ is_same_name b a
 turned a b = (eq_by_cmp_equiv nat_list_cmp_total).symm a b
 
 module _ {X : Type 0} where
@@ -32,14 +32,14 @@ module _ {X : Type 0} where
       → from_entries n.entries ≡ insert (from_entries m.entries) name x
   insert-entries m n name x u = same_map _ _ (λ q.
       get-entries n q ∙ u.0 q ∙ ap (λ b. cond b (Some x) (tree.get (slice_cmp nat_cmp) m q)) (turned name q)
-      ∙ ap (cond (is_name q name) (Some x)) (sym (get-entries m q)) ∙ sym (get-insert (from_entries m.entries) name x q))
+      ∙ ap (cond (is_same_name q name) (Some x)) (sym (get-entries m q)) ∙ sym (get-insert (from_entries m.entries) name x q))
 
   -- a map without a name
   pub remove-entries : (m n : BTreeMap (List ℕ) X) (name : List ℕ) → UpdatesBy (slice_cmp nat_cmp) (slice_cmp nat_cmp name) m n None
       → from_entries n.entries ≡ remove (from_entries m.entries) name
   remove-entries m n name u = same_map _ _ (λ q.
       get-entries n q ∙ u.0 q ∙ ap (λ b. cond b None (tree.get (slice_cmp nat_cmp) m q)) (turned name q)
-      ∙ ap (cond (is_name q name) None) (sym (get-entries m q)) ∙ sym (get-remove (from_entries m.entries) name q))
+      ∙ ap (cond (is_same_name q name) None) (sym (get-entries m q)) ∙ sym (get-remove (from_entries m.entries) name q))
 
 -- two ways to say what a lender ends as, which agree where a value is lent and where none is
 pub same-loan : {D E : Type 0} (r : Option (MutBor E)) (lent : Option E) (F G : E → D) (v u : D) → option_copied_mut r ≡ lent

@@ -3,17 +3,17 @@ use Rattle.std.proofs.Common.{append_assoc, length-append, subst, ◌≡◌, ◌
 use Rattle.std.proofs.lemmas.List.Concat.{flat_map-append}
 use Rattle.std.proofs.lemmas.Bool.{false≢true}
 use Rattle.xs_group.specs.declared.delivery.Delivery.{Delivery}
-use Rattle.xs_group.specs.State.{State, Rows, is_name, delivers}
+use Rattle.xs_group.specs.State.{GroupState, Rows, is_same_name, new_ids}
 use Rattle.xs_group.specs.Deliveries.{row_ids, new_rows, shown_rows, IsMade}
 use Rattle.xs_keys.specs.Terms.{flat_map, list_all, option_map_or, NameMap, get, insert, Id, Field, ids_of, ReadGroupCommand, ReadOne, ReadFrom, New, After}
 use Rattle.xs_keys.specs.declared.xreadgroup.Served.{Served}
-use Rattle.xs_keys.specs.GroupAsk.{Ask}
+use Rattle.xs_keys.specs.GroupAsk.{GroupAsk}
 use Rattle.xs_keys.specs.GroupLife.{ask_of_read}
-use Rattle.xs_keys.specs.Content.{Content, Key}
-use Rattle.xs_keys.specs.ContentAfter.{asked, read_each, group_after, with_group, group_in, entries_in}
+use Rattle.xs_keys.specs.Content.{Content, KeyState}
+use Rattle.xs_keys.specs.ContentAfter.{content_after_ask, content_after_reads, group_after, with_group, group_in, entries_in}
 use Rattle.xs_resp.specs.Token.{Token}
 use Rattle.xs_resp.specs.ReplyItems.{tokens_of}
-use Rattle.xs_keys.specs.Reply.{shown_by, parts}
+use Rattle.xs_keys.specs.Reply.{parts_of_read, parts}
 use Rattle.xs_keys.specs.ReplyParts.{new_part}
 use Rattle.xs_keys.specs.Reading.{parts_of, IsServed, IsServedAt, IsMadeAt, AreMade}
 use Rattle.xs_keys.proofs.Names.{get-insert, is_name-eq, is_name-refl, same_map}
@@ -28,8 +28,8 @@ ids-shown rows present (x ∷ xs) = ap (λ rest. x ∷ rest) (ids-shown rows pre
 
 -- what was put in goes where the value before it is put in again
 pub insert-back : {X : Type 0} (m : NameMap X) (name : List ℕ) (a b : X) → get m name ≡ Some b → insert (insert m name a) name b ≡ m
-insert-back m name a b e = same_map _ m (λ q. get-insert (insert m name a) name b q ∙ by q (is_name q name) refl) where
-  by : (q : List ℕ) (t : Bool) → is_name q name ≡ t → cond t (Some b) (get (insert m name a) q) ≡ get m q
+insert-back m name a b e = same_map _ m (λ q. get-insert (insert m name a) name b q ∙ by q (is_same_name q name) refl) where
+  by : (q : List ℕ) (t : Bool) → is_same_name q name ≡ t → cond t (Some b) (get (insert m name a) q) ≡ get m q
   by q true h = rw (is_name-eq q name h) (sym e)
   by q false h = get-insert m name a q ∙ ap (λ t. cond t (Some a) (get m q)) h
 
@@ -37,19 +37,19 @@ pub get-inserted : {X : Type 0} (m : NameMap X) (name : List ℕ) (a : X) → ge
 get-inserted m name a = get-insert m name a name ∙ ap (λ t. cond t (Some a) (get m name)) (is_name-refl name)
 
 -- an ask of a group that is there
-pub asked-at : (content : Content) (now : ℕ) (name group_name : List ℕ) (ask : Ask) (key : Key) (was : State)
+pub asked-at : (content : Content) (now : ℕ) (name group_name : List ℕ) (ask : GroupAsk) (key : KeyState) (was : GroupState)
     → get content name ≡ Some key → get key.groups group_name ≡ Some was
-    → asked content now name group_name ask ≡ insert content name (with_group key group_name (group_after now (ids_of key.stream.entries) ask was))
+    → content_after_ask content now name group_name ask ≡ insert content name (with_group key group_name (group_after now (ids_of key.stream.entries) ask was))
 asked-at content now name group_name ask key was had has = rw (had, has) refl
 
 -- ---- one read
 
 -- a read of a group that is there is one among the keys
-pub served-at : (now : ℕ) (read : ReadGroupCommand) (one : ReadOne) (before : Content) (key : Key) (was is : State) (tokens longer : List Token) (served : Served)
+pub served-at : (now : ℕ) (read : ReadGroupCommand) (one : ReadOne) (before : Content) (key : KeyState) (was is : GroupState) (tokens longer : List Token) (served : Served)
     → get before one.key ≡ Some key → get key.groups read.group ≡ Some was → IsServed key.stream.entries now read one was is tokens longer served
     → IsServedAt now read one before (insert before one.key (with_group key read.group is)) tokens longer served
 served-at now read one before key was is tokens longer served had has s = record {
-  left = ap (λ (g : State). insert before one.key (with_group key read.group g)) s.left ∙ sym (asked-at before now one.key read.group (ask_of_read read one.from) key was had has);
+  left = ap (λ (g : GroupState). insert before one.key (with_group key read.group g)) s.left ∙ sym (asked-at before now one.key read.group (ask_of_read read one.from) key was had has);
   shows = rw (had, has) s.shows;
   made = record { key = key; was = was; is = is; had = had; has = has; put = refl; made = s.made };
 }
@@ -60,7 +60,7 @@ module _ (group name : List ℕ) (before after : Content) (d : Delivery) (m : Is
   pub stays-there : (q : List ℕ) → is_some (group_in (get before q) group) ≡ true → is_some (group_in (get after q) group) ≡ true
   stays-there q h =
       ap (λ (c : Content). is_some (group_in (get c q) group)) m.put
-      ∙ ap (λ k. is_some (group_in k group)) (get-insert before name (with_group m.key group m.is) q) ∙ by (is_name q name) where
+      ∙ ap (λ k. is_some (group_in k group)) (get-insert before name (with_group m.key group m.is) q) ∙ by (is_same_name q name) where
         by : (t : Bool) → is_some (group_in (cond t (Some (with_group m.key group m.is)) (get before q)) group) ≡ true
         by true = ap is_some (get-inserted m.key.groups group m.is)
         by false = h
@@ -120,22 +120,22 @@ module _ (group name : List ℕ) (before after : Content) (d : Delivery) (m : Is
   made-there = ap (λ k. is_some (group_in k group)) found ∙ ap is_some (get-inserted m.key.groups group m.is)
 
   -- the key that is there is the one that the read left
-  key-left : (key : Key) → get after name ≡ Some key → with_group m.key group m.is ≡ key
+  key-left : (key : KeyState) → get after name ≡ Some key → with_group m.key group m.is ≡ key
   key-left key there =
       let e : Some (with_group m.key group m.is) ≡ Some key = sym found ∙ there in
       cc e
 
   -- so is the group
-  pub made-state : (key : Key) (now : State) → get after name ≡ Some key → get key.groups group ≡ Some now → IsMade m.was now d
+  pub made-state : (key : KeyState) (now : GroupState) → get after name ≡ Some key → get key.groups group ≡ Some now → IsMade m.was now d
   made-state key now there has =
-      let left : get key.groups group ≡ Some m.is = ap (λ (k : Key). get k.groups group) (sym (key-left key there)) ∙ get-inserted m.key.groups group m.is in
+      let left : get key.groups group ≡ Some m.is = ap (λ (k : KeyState). get k.groups group) (sym (key-left key there)) ∙ get-inserted m.key.groups group m.is in
       let same : m.is ≡ now = cc (left, has) in
       subst (λ s. IsMade m.was s d) same m.made
 
-  pub taken-back : (key : Key) → get after name ≡ Some key → insert after name (with_group key group m.was) ≡ before
+  pub taken-back : (key : KeyState) → get after name ≡ Some key → insert after name (with_group key group m.was) ≡ before
   taken-back key there =
-      ap (λ (k : Key). insert after name (with_group k group m.was)) (sym (key-left key there))
-      ∙ ap (λ (groups : NameMap State). insert after name (record { stream = m.key.stream; groups = groups })) (insert-back m.key.groups group m.is m.was m.has)
+      ap (λ (k : KeyState). insert after name (with_group k group m.was)) (sym (key-left key there))
+      ∙ ap (λ (groups : NameMap GroupState). insert after name (record { stream = m.key.stream; groups = groups })) (insert-back m.key.groups group m.is m.was m.has)
       ∙ ap (λ (c : Content). insert c name m.key) m.put ∙ insert-back before name (with_group m.key group m.is) m.key m.had
 
 -- ---- several reads, one more of them
@@ -148,7 +148,7 @@ first-there test one more h = by (test one) h where
 
 -- of all these reads some are left, and lead to where all of them would
 pub record Underway (now : ℕ) (read : ReadGroupCommand) (all : List ReadOne) (first : Content) (left : List ReadOne) (here : Content) (tokens : List Token) (count : ℕ) : Type 0 where
-  pub content : read_each here now read left ≡ read_each first now read all
+  pub content : content_after_reads here now read left ≡ content_after_reads first now read all
   pub shown : tokens ++ flat_map tokens_of (parts here now read left) ≡ flat_map tokens_of (parts first now read all)
   pub counted : count + length (parts here now read left) ≡ length (parts first now read all)
   pub there : list_all (λ one. is_some (group_in (get here one.key) read.group)) left ≡ true
@@ -159,7 +159,7 @@ one-more now read all first one more before after tokens longer count served u s
     let this = parts_of before read one in
     let split : parts before now read (one ∷ more) ≡ this ++ parts after now read more = ap (λ c. this ++ parts c now read more) (sym s.left) in
     record {
-      content = ap (λ c. read_each c now read more) s.left ∙ u.content;
+      content = ap (λ c. content_after_reads c now read more) s.left ∙ u.content;
       shown =
           ap (λ ts. ts ++ flat_map tokens_of (parts after now read more)) s.shows.appended
           ∙ append_assoc tokens (flat_map tokens_of this) (flat_map tokens_of (parts after now read more))
@@ -173,11 +173,11 @@ one-more now read all first one more before after tokens longer count served u s
       by false h = absurd (false≢true h)
 
 -- a read has one part at most
-pub one-part : (read : ReadGroupCommand) (key : List ℕ) (from : ReadFrom) (entries : List (Id × List Field)) (group : Option State)
-    → length (option_map_or (shown_by read key from entries) group []) ≤ 1
+pub one-part : (read : ReadGroupCommand) (key : List ℕ) (from : ReadFrom) (entries : List (Id × List Field)) (group : Option GroupState)
+    → length (option_map_or (parts_of_read read key from entries) group []) ≤ 1
 one-part read key from entries None = omega arith
 one-part read key (After id) entries (Some group) = omega arith
-one-part read key New entries (Some group) = by (delivers read.limit group.cursor (ids_of entries)) where
+one-part read key New entries (Some group) = by (new_ids read.limit group.cursor (ids_of entries)) where
   by : (ids : List Id) → length (new_part key entries ids) ≤ 1
   by [] = omega arith
   by (x ∷ xs) = omega arith
@@ -187,5 +187,5 @@ pub parts-le : (content : Content) (now : ℕ) (read : ReadGroupCommand) (reads 
 parts-le content now read [] = omega arith
 parts-le content now read (one ∷ more) =
     let this = parts_of content read one in
-    let after = asked content now one.key read.group (ask_of_read read one.from) in
+    let after = content_after_ask content now one.key read.group (ask_of_read read one.from) in
     omega (arith, one-part read one.key one.from (entries_in (get content one.key)) (group_in (get content one.key) read.group), parts-le after now read more, length-append this (parts after now read more))

@@ -9,13 +9,13 @@ use Rattle.xs_stream.specs.Id.{id_cmp, is_below, zero_id, assigned}
 use Rattle.xs_stream.proofs.Order.{same_id}
 use Rattle.xs_command.specs.WellFormed.{IsAddId, IsWellFormed}
 use Rattle.xs_command.specs.declared.command.AddCommand.{AddCommand}
-use Rattle.xs_keys.specs.Terms.{option_map_or, get, has_key, insert, remove, Id, AddId, AddError, Field, Trim, Kept, ids_of, State, has_name, new_group, claim_of, scan_of, owned_count, Reply, Simple, Error, Int, NullBulk, Okay, Busy, NoGroup, Command, Ping, Quit, Add, Delete, TrimTo, Len, Scan, GroupCreate, GroupDestroy, ConsumerCreate, ConsumerDelete, ReadGroup, Ack, Pending, PendingRows, Claim, AutoClaim, DropKeys, GroupCreateCommand, ReadGroupCommand}
-use Rattle.xs_keys.specs.Life.{added}
-use Rattle.xs_keys.specs.GroupAsk.{Ask, join, leave, claim, auto_claim}
+use Rattle.xs_keys.specs.Terms.{option_map_or, get, has_key, insert, remove, Id, AddId, AddError, Field, Trim, StreamState, ids_of, GroupState, has_name, new_group, claim_by_ids, scan_of, owned_count, Reply, Simple, Error, Int, NullBulk, Okay, Busy, NoGroup, Command, Ping, Quit, Add, Delete, TrimTo, Len, Scan, GroupCreate, GroupDestroy, ConsumerCreate, ConsumerDelete, ReadGroup, Ack, Pending, PendingRows, Claim, AutoClaim, DropKeys, GroupCreateCommand, ReadGroupCommand}
+use Rattle.xs_keys.specs.Life.{add_entry}
+use Rattle.xs_keys.specs.GroupAsk.{GroupAsk, create_consumer, delete_consumer, claim, auto_claim}
 use Rattle.xs_keys.specs.GroupLife.{starting_id}
-use Rattle.xs_keys.specs.Content.{Content, Key}
-use Rattle.xs_keys.specs.ContentAfter.{stream_with, changed, asked, with_group, created, made, group_in, entries_in, serves, read_each, after}
-use Rattle.xs_keys.specs.ReplyParts.{array_or_null, assigned_reply, of_group, of_key, taken_reply, scan_shown}
+use Rattle.xs_keys.specs.Content.{Content, KeyState}
+use Rattle.xs_keys.specs.ContentAfter.{stream_with, content_after_stream_event, content_after_ask, with_group, content_after_create, key_or_new, group_in, entries_in, has_all_groups_in, content_after_reads, content_after}
+use Rattle.xs_keys.specs.ReplyParts.{array_or_null, assigned_reply, reply_of_group, reply_of_key, taken_reply, scan_reply}
 use Rattle.xs_keys.specs.Reply.{parts, reply}
 use Rattle.xs_keys.specs.Step.{is_error, IsUnchangedIfRefused}
 use Rattle.xs_keys.proofs.AskSteps.{asked-missing}
@@ -52,14 +52,14 @@ never-refused now (Exact id) formed = rw (first-below id formed) refl
 -- ---- commands
 
 -- a refused addition leaves the stream
-refused-stream : (given : Result Id AddError) (fields : List Field) (trim : Option Trim) (stream : Kept) → is_error (assigned_reply given) ≡ true → stream_with given fields trim stream ≡ stream
+refused-stream : (given : Result Id AddError) (fields : List Field) (trim : Option Trim) (stream : StreamState) → is_error (assigned_reply given) ≡ true → stream_with given fields trim stream ≡ stream
 refused-stream (Ok id) fields trim stream e = absurd (false≢true e)
 refused-stream (Err refusal) fields trim stream e = refl
 
-refused-add : (content : Content) (now : ℕ) (add : AddCommand) → IsAddId add.id → is_error (reply content now (Add add)) ≡ true → after content now (Add add) ≡ content
+refused-add : (content : Content) (now : ℕ) (add : AddCommand) → IsAddId add.id → is_error (reply content now (Add add)) ≡ true → content_after content now (Add add) ≡ content
 refused-add content now add formed = by (get content add.key) refl add.make where
-  by : (key : Option Key) → get content add.key ≡ key → (make : Bool) → is_error (option_map_or (λ k. assigned_reply (assigned now k.stream.top add.id)) (made make key) NullBulk) ≡ true
-      → changed content add.key (added now add.id add.fields add.trim) (made make key) ≡ content
+  by : (key : Option KeyState) → get content add.key ≡ key → (make : Bool) → is_error (option_map_or (λ k. assigned_reply (assigned now k.stream.top add.id)) (key_or_new make key) NullBulk) ≡ true
+      → content_after_stream_event content add.key (add_entry now add.id add.fields add.trim) (key_or_new make key) ≡ content
   by (Some key) found make e =
       ap (λ stream. insert content add.key (record { stream = stream; groups = key.groups })) (refused-stream (assigned now key.stream.top add.id) add.fields add.trim key.stream e)
       ∙ insert-same content add.key key found
@@ -71,27 +71,27 @@ no_error_taken true entries ids = refl
 no_error_taken false entries ids = refl
 
 -- a group that isn't there is asked nothing
-refused-ask : (content : Content) (now : ℕ) (name group : List ℕ) (ask : Ask) (said : State → Reply) → ((s : State) → is_error (said s) ≡ false)
-    → is_error (of_group (group_in (get content name) group) said) ≡ true → asked content now name group ask ≡ content
+refused-ask : (content : Content) (now : ℕ) (name group : List ℕ) (ask : GroupAsk) (said : GroupState → Reply) → ((s : GroupState) → is_error (said s) ≡ false)
+    → is_error (reply_of_group (group_in (get content name) group) said) ≡ true → content_after_ask content now name group ask ≡ content
 refused-ask content now name group ask said never = by (group_in (get content name) group) refl where
-  by : (found : Option State) → group_in (get content name) group ≡ found → is_error (of_group found said) ≡ true → asked content now name group ask ≡ content
+  by : (found : Option GroupState) → group_in (get content name) group ≡ found → is_error (reply_of_group found said) ≡ true → content_after_ask content now name group ask ≡ content
   by None missing e = asked-missing content now name group ask missing
   by (Some s) found e = absurd (false≢true (sym (never s) ∙ e))
 
 -- neither is one of a key that isn't there
-refused-within : (content : Content) (now : ℕ) (name group : List ℕ) (ask : Ask) (said : State → Reply) → ((s : State) → is_error (said s) ≡ false)
-    → is_error (of_key (get content name) (λ k. of_group (get k.groups group) said)) ≡ true → asked content now name group ask ≡ content
+refused-within : (content : Content) (now : ℕ) (name group : List ℕ) (ask : GroupAsk) (said : GroupState → Reply) → ((s : GroupState) → is_error (said s) ≡ false)
+    → is_error (reply_of_key (get content name) (λ k. reply_of_group (get k.groups group) said)) ≡ true → content_after_ask content now name group ask ≡ content
 refused-within content now name group ask said never = by (get content name) refl where
-  by : (key : Option Key) → get content name ≡ key → is_error (of_key key (λ k. of_group (get k.groups group) said)) ≡ true → asked content now name group ask ≡ content
+  by : (key : Option KeyState) → get content name ≡ key → is_error (reply_of_key key (λ k. reply_of_group (get k.groups group) said)) ≡ true → content_after_ask content now name group ask ≡ content
   by None missing e = asked-missing content now name group ask (ap (λ k. group_in k group) missing)
   by (Some key) found e = within (get key.groups group) refl e where
-    within : (s : Option State) → get key.groups group ≡ s → is_error (of_group s said) ≡ true → asked content now name group ask ≡ content
+    within : (s : Option GroupState) → get key.groups group ≡ s → is_error (reply_of_group s said) ≡ true → content_after_ask content now name group ask ≡ content
     within None missing f = asked-missing content now name group ask (ap (λ k. group_in k group) found ∙ missing)
     within (Some s) has f = absurd (false≢true (sym (never s) ∙ f))
 
-refused-create : (content : Content) (now : ℕ) (create : GroupCreateCommand) → is_error (reply content now (GroupCreate create)) ≡ true → after content now (GroupCreate create) ≡ content
-refused-create content now create = by (made create.make (get content create.key)) where
-  by : (key : Option Key) → is_error (of_key key (λ k. cond (has_key k.groups create.group) (Error Busy) (Simple Okay))) ≡ true → created content create key ≡ content
+refused-create : (content : Content) (now : ℕ) (create : GroupCreateCommand) → is_error (reply content now (GroupCreate create)) ≡ true → content_after content now (GroupCreate create) ≡ content
+refused-create content now create = by (key_or_new create.make (get content create.key)) where
+  by : (key : Option KeyState) → is_error (reply_of_key key (λ k. cond (has_key k.groups create.group) (Error Busy) (Simple Okay))) ≡ true → content_after_create content create key ≡ content
   by None e = refl
   by (Some key) e = within (has_key key.groups create.group) e where
     within : (t : Bool) → is_error (cond t (Error Busy) (Simple Okay)) ≡ true
@@ -99,9 +99,9 @@ refused-create content now create = by (made create.make (get content create.key
     within true f = refl
     within false f = absurd (false≢true f)
 
-refused-destroy : (content : Content) (now : ℕ) (name group : List ℕ) → is_error (reply content now (GroupDestroy name group)) ≡ true → after content now (GroupDestroy name group) ≡ content
+refused-destroy : (content : Content) (now : ℕ) (name group : List ℕ) → is_error (reply content now (GroupDestroy name group)) ≡ true → content_after content now (GroupDestroy name group) ≡ content
 refused-destroy content now name group = by (get content name) where
-  by : (key : Option Key) → is_error (of_key key (λ k. Int (cond (has_key k.groups group) 1 0))) ≡ true
+  by : (key : Option KeyState) → is_error (reply_of_key key (λ k. Int (cond (has_key k.groups group) 1 0))) ≡ true
       → option_map_or (λ k. insert content name (record k { groups = remove k.groups group })) key content ≡ content
   by None e = refl
   by (Some key) e = absurd (false≢true e)
@@ -110,9 +110,9 @@ no_error : (replies : List Reply) → is_error (array_or_null replies) ≡ false
 no_error [] = refl
 no_error (r ∷ rs) = refl
 
-refused-read : (content : Content) (now : ℕ) (read : ReadGroupCommand) → is_error (reply content now (ReadGroup read)) ≡ true → after content now (ReadGroup read) ≡ content
-refused-read content now read = by (serves content read) where
-  by : (t : Bool) → is_error (cond t (array_or_null (parts content now read read.reads)) (Error NoGroup)) ≡ true → cond t (read_each content now read read.reads) content ≡ content
+refused-read : (content : Content) (now : ℕ) (read : ReadGroupCommand) → is_error (reply content now (ReadGroup read)) ≡ true → content_after content now (ReadGroup read) ≡ content
+refused-read content now read = by (has_all_groups_in content read) where
+  by : (t : Bool) → is_error (cond t (array_or_null (parts content now read read.reads)) (Error NoGroup)) ≡ true → cond t (content_after_reads content now read read.reads) content ≡ content
   by true e = absurd (false≢true (sym (no_error (parts content now read read.reads)) ∙ e))
   by false e = refl
 
@@ -126,18 +126,18 @@ refused-unchanged content now (Len name) formed = λ e. refl
 refused-unchanged content now (Scan scan) formed = λ e. refl
 refused-unchanged content now (GroupCreate create) formed = refused-create content now create
 refused-unchanged content now (GroupDestroy name group) formed = refused-destroy content now name group
-refused-unchanged content now (ConsumerCreate name group consumer) formed = refused-within content now name group (join consumer) (λ s. Int (cond (has_name s.consumers consumer) 0 1)) (λ s. refl)
-refused-unchanged content now (ConsumerDelete name group consumer) formed = refused-within content now name group (leave consumer) (λ s. Int (owned_count consumer s)) (λ s. refl)
+refused-unchanged content now (ConsumerCreate name group consumer) formed = refused-within content now name group (create_consumer consumer) (λ s. Int (cond (has_name s.consumers consumer) 0 1)) (λ s. refl)
+refused-unchanged content now (ConsumerDelete name group consumer) formed = refused-within content now name group (delete_consumer consumer) (λ s. Int (owned_count consumer s)) (λ s. refl)
 refused-unchanged content now (ReadGroup read) formed = refused-read content now read
 refused-unchanged content now (Ack name group ids) formed = λ e. absurd (false≢true e)
 refused-unchanged content now (Pending name group) formed = λ e. refl
 refused-unchanged content now (PendingRows p) formed = λ e. refl
 refused-unchanged content now (Claim c) formed =
     let entries = entries_in (get content c.key) in
-    refused-ask content now c.key c.group (claim c.consumer c.rule c.ids) (λ g. taken_reply c.rule.just_id entries (claim_of g.rows.entries (ids_of entries) now c.rule c.ids).take)
-    (λ s. no_error_taken c.rule.just_id entries (claim_of s.rows.entries (ids_of entries) now c.rule c.ids).take)
+    refused-ask content now c.key c.group (claim c.consumer c.rule c.ids) (λ g. taken_reply c.rule.just_id entries (claim_by_ids g.rows.entries (ids_of entries) now c.rule c.ids).take)
+    (λ s. no_error_taken c.rule.just_id entries (claim_by_ids s.rows.entries (ids_of entries) now c.rule c.ids).take)
 refused-unchanged content now (AutoClaim c) formed =
     let entries = entries_in (get content c.key) in
     refused-ask content now c.key c.group (auto_claim c.consumer c.rule c.start c.limit)
-    (λ g. scan_shown c.rule.just_id entries (scan_of g.rows.entries (ids_of entries) now c.rule c.start c.limit)) (λ s. refl)
+    (λ g. scan_reply c.rule.just_id entries (scan_of g.rows.entries (ids_of entries) now c.rule c.start c.limit)) (λ s. refl)
 refused-unchanged content now (DropKeys names) formed = λ e. absurd (false≢true e)

@@ -6,10 +6,10 @@ use Rattle.xs_command.specs.WellFormed.{IsWellFormed}
 use Rattle.xs_keys.specs.Terms.{Reply, Command}
 use Rattle.xs_keys.specs.Content.{Content, IsContent}
 use Rattle.xs_keys.specs.RepliesTell.{IsTold}
-use Rattle.xs_keys.specs.EachReply.{Follows, Answers}
+use Rattle.xs_keys.specs.EachReply.{Follows, AreReplied}
 use Rattle.xs_keys.specs.Headline.{AreWellFormed, AtEachEvent, LivesAreApart, Headline, RunsOn}
 use Rattle.xs_keys.specs.EachDelivery.{DeliversNew}
-use Rattle.xs_keys.specs.EachOwner.{HasOneOwner}
+use Rattle.xs_keys.specs.EachOwner.{OwnersAndClaims}
 use Rattle.xs_keys.specs.Step.{Step}
 use Rattle.xs_keys.specs.GroupLife.{GroupLife, group_life}
 use Rattle.xs_keys.proofs.Lawfulness.{content-lawful}
@@ -26,9 +26,9 @@ use Rattle.xs_keys.proofs.IdsAtEvents.{sees-of}
 use Rattle.xs_keys.proofs.JobPlaces.{has-one-place}
 use Rattle.xs_keys.proofs.JobMoves.{goes-along}
 use Rattle.xs_keys.proofs.JobBooks.{balances}
-use Rattle.xs_keys.specs.Life.{Change, key_life}
+use Rattle.xs_keys.specs.Life.{StreamEvent, key_life}
 use Rattle.xs_keys.specs.GroupBooks.{HasItsPlaces}
-use Rattle.xs_keys.specs.JobMove.{EachGoesAlong}
+use Rattle.xs_keys.specs.JobMove.{EachMovesAlong}
 use Rattle.xs_keys.specs.Presence.{EntriesAreAdded, EntriesStay, GroupsAreCreated, GroupsStay}
 use Rattle.xs_keys.proofs.Arrivals.{entries-added, groups-created}
 use Rattle.xs_keys.proofs.Refusals.{refused-unchanged}
@@ -36,7 +36,7 @@ use Rattle.xs_keys.proofs.EntriesStay.{entries-stay, groups-stay}
 
 -- from this past on, the answers so far are good, whatever good answers to the rest of the events follow
 abbrev pub SoFar : History → History → List Reply → History → History → Type 0
-SoFar past events replies mid rest = (answers : List Reply) (last : History) → Answers mid rest answers last → Answers past events (replies ++ answers) last
+SoFar past events replies mid rest = (answers : List Reply) (last : History) → AreReplied mid rest answers last → AreReplied past events (replies ++ answers) last
 
 -- over any history that left the old content
 abbrev pub RunsSoFar : Content → History → List Reply → Content → History → Type 0
@@ -71,7 +71,7 @@ step-follows past old new now command answer formed is (inr refused) = (
 )
 
 one_more : (mid : History) (e : Event) (reply : Reply) (now next : Content) → IsWellFormed e.1 → IsContent now mid → Step now e.0 e.1 reply next
-    → (more : History) × IsContent next more × ((rest : History) (answers : List Reply) (last : History) → Answers more rest answers last → Answers mid (e ∷ rest) (reply ∷ answers) last)
+    → (more : History) × IsContent next more × ((rest : History) (answers : List Reply) (last : History) → AreReplied more rest answers last → AreReplied mid (e ∷ rest) (reply ∷ answers) last)
 one_more mid e reply now next formed is step =
     let more = step-follows mid now next e.0 e.1 reply formed is step in
     (more.0, more.1, λ rest answers last done. (more.0, more.2, done))
@@ -93,7 +93,7 @@ delivers-new past key group life e =
       in_full = in-full life.start life.events;
     }
 
-pub has-one-owner : (past : History) (key group : List ℕ) (life : GroupLife) → group_life past key group ≡ Some life → HasOneOwner life
+pub has-one-owner : (past : History) (key group : List ℕ) (life : GroupLife) → group_life past key group ≡ Some life → OwnersAndClaims life
 has-one-owner past key group life e = record {
   is_pending = λ x. owner-row life.start life.events x ∙ sym (ap of_row (row-found life.start life.events x));
   is_last_touched = is-last-touched life.start life.events;
@@ -102,7 +102,7 @@ has-one-owner past key group life e = record {
   by_claims = changes-by-claims life.start life.events;
 }
 
-pub has-its-places : (past : History) (key group : List ℕ) (changes : List Change) (life : GroupLife) → key_life past key ≡ Some changes → group_life past key group ≡ Some life → HasItsPlaces changes life
+pub has-its-places : (past : History) (key group : List ℕ) (changes : List StreamEvent) (life : GroupLife) → key_life past key ≡ Some changes → group_life past key group ≡ Some life → HasItsPlaces changes life
 has-its-places past key group changes life k g =
     let asc = present-in-life past key group life g in
     let sees = sees-of past key group changes life k g in
@@ -110,7 +110,7 @@ has-its-places past key group changes life k g =
 
 -- ---- at each event
 
-pub formed-after : (past events : History) (replies : List Reply) (history : History) → Answers past events replies history → AreWellFormed past → AreWellFormed history
+pub formed-after : (past events : History) (replies : List Reply) (history : History) → AreReplied past events replies history → AreWellFormed past → AreWellFormed history
 formed-after past [] [] history are formed = subst AreWellFormed (sym are) formed
 formed-after past [] (reply ∷ replies) history are formed = absurd are
 formed-after past (e ∷ events) [] history are formed = absurd are
@@ -123,12 +123,12 @@ formed-among : (later : History) (e : Event) (earlier : History) → AreWellForm
 formed-among [] e earlier formed = formed.0
 formed-among (first ∷ later) e earlier formed = formed-among later e earlier formed.1
 
-formed-at : (past events : History) (replies : List Reply) (history : History) → Answers past events replies history
+formed-at : (past events : History) (replies : List Reply) (history : History) → AreReplied past events replies history
     → (later : History) (e : Event) (earlier : History) → history ≡ later ++ e ∷ earlier → AreWellFormed past ⊎ IsWellFormed e.1 → IsWellFormed e.1
 formed-at past events replies history are later e earlier is (inl formed) = formed-among later e earlier (subst AreWellFormed is (formed-after past events replies history are formed))
 formed-at past events replies history are later e earlier is (inr formed) = formed
 
-at-each-event : (past events : History) (replies : List Reply) (history : History) → Answers past events replies history
+at-each-event : (past events : History) (replies : List Reply) (history : History) → AreReplied past events replies history
     → (Holds : History → ℕ × Command → Type 0) → ((earlier : History) (e : Event) → IsWellFormed e.1 → Holds earlier e)
     → AtEachEvent past history Holds
 at-each-event [] events replies history are Holds holds = λ later e earlier is.
@@ -136,7 +136,7 @@ at-each-event [] events replies history are Holds holds = λ later e earlier is.
 at-each-event (first ∷ past) events replies history are Holds holds = λ later e earlier is formed.
     holds earlier e (formed-at (first ∷ past) events replies history are later e earlier is formed)
 
-pub headline : (past events : History) (replies : List Reply) (history : History) → Answers past events replies history → Headline past events replies history
+pub headline : (past events : History) (replies : List Reply) (history : History) → AreReplied past events replies history → Headline past events replies history
 headline past events replies history answers = record {
   replies = answers;
   steps = λ later e earlier f content is. (content-lawful earlier content is, content-step earlier content e.0 e.1 is);
@@ -146,7 +146,7 @@ headline past events replies history answers = record {
   deliveries = λ later earlier e key group life f. delivers-new earlier key group life f;
   owners = λ later earlier e key group life f. has-one-owner earlier key group life f;
   places = λ later earlier e key group changes life k g. has-its-places earlier key group changes life k g;
-  moves = at-each-event past events replies history answers EachGoesAlong (λ earlier e formed key group x. goes-along earlier e.0 e.1 key group x formed);
+  moves = at-each-event past events replies history answers EachMovesAlong (λ earlier e formed key group x. goes-along earlier e.0 e.1 key group x formed);
   additions = at-each-event past events replies history answers EntriesAreAdded (λ earlier e formed. entries-added earlier e);
   presence = at-each-event past events replies history answers EntriesStay (λ earlier e formed. entries-stay earlier e);
   groups = at-each-event past events replies history answers GroupsAreCreated (λ earlier e formed. groups-created earlier e);

@@ -4,8 +4,8 @@ use Rattle.std.proofs.lemmas.List.{append-nil}
 use Rattle.xs_stream.proofs.Order.{is_same-refl, below-irrefl, below-not_same, below-not_back, up_to-below, not_above-trans}
 use Rattle.xs_stream.proofs.Assigning.{assigned-above}
 use Rattle.xs_stream.proofs.InOrder.{ids_of-append, ascends-push, ascends-filter, up_to-filter, filter-filter}
-use Rattle.xs_keys.specs.Terms.{option_map_or, Id, Field, Trim, AddError, is_below, has_id, zero_id, assigned, is_trimmed, Kept, ids_of, Ascends, AllUpTo}
-use Rattle.xs_keys.specs.Life.{Change, added, deleted, trimmed_to, greatest, top_of, entry_of, gives, given_in, top, drops, stands, live, stream_of}
+use Rattle.xs_keys.specs.Terms.{option_map_or, Id, Field, Trim, AddError, is_below, has_id, zero_id, assigned, is_trimmed, StreamState, ids_of, Ascends, AllUpTo}
+use Rattle.xs_keys.specs.Life.{StreamEvent, add_entry, delete_entries, trim_entries, greatest, top_of, entry_of, entries_added_by, added_in, top, removes_id, is_present, present_entries, stream_of}
 use Rattle.xs_keys.specs.ContentAfter.{stream_with, stream_after}
 
 pub greatest-append : (a : Id) (xs ys : List Id) → greatest a (xs ++ ys) ≡ greatest (greatest a xs) ys
@@ -28,8 +28,8 @@ up_to-greatest a (x ∷ xs) = (by (is_below a x) refl, up_to-greatest (cond (is_
   by true h = greatest-up x xs
   by false h = not_above-trans (greatest a xs) a x (greatest-up a xs) h
 
-pub up_to-top : (changes : List Change) → AllUpTo (top changes) (ids_of (given_in changes))
-up_to-top changes = up_to-greatest zero_id (ids_of (given_in changes))
+pub up_to-top : (changes : List StreamEvent) → AllUpTo (top changes) (ids_of (added_in changes))
+up_to-top changes = up_to-greatest zero_id (ids_of (added_in changes))
 
 -- ---- ids ascend
 
@@ -39,20 +39,20 @@ ascends-entry : (given : List (Id × List Field)) (t : Id) (r : Result Id AddErr
 ascends-entry given t (Ok id) fields above a up = rw (ids_of-append given ((id, fields) ∷ [])) (ascends-push (ids_of given) t id a up (above id refl))
 ascends-entry given t (Err e) fields above a up = rw (append-nil given) a
 
-ascends-gives : (given : List (Id × List Field)) (t : Id) (change : Change) → Ascends (ids_of given) → AllUpTo t (ids_of given) → Ascends (ids_of (given ++ gives change t))
-ascends-gives given t (added now id fields trim) a up = ascends-entry given t (assigned now t id) fields (λ x e. assigned-above now t id x e) a up
-ascends-gives given t (deleted ids) a up = rw (append-nil given) a
-ascends-gives given t (trimmed_to trim) a up = rw (append-nil given) a
+ascends-gives : (given : List (Id × List Field)) (t : Id) (change : StreamEvent) → Ascends (ids_of given) → AllUpTo t (ids_of given) → Ascends (ids_of (given ++ entries_added_by change t))
+ascends-gives given t (add_entry now id fields trim) a up = ascends-entry given t (assigned now t id) fields (λ x e. assigned-above now t id x e) a up
+ascends-gives given t (delete_entries ids) a up = rw (append-nil given) a
+ascends-gives given t (trim_entries trim) a up = rw (append-nil given) a
 
-pub ascends-given : (changes : List Change) → Ascends (ids_of (given_in changes))
+pub ascends-given : (changes : List StreamEvent) → Ascends (ids_of (added_in changes))
 ascends-given [] = tt
-ascends-given (change ∷ past) = ascends-gives (given_in past) (top past) change (ascends-given past) (up_to-top past)
+ascends-given (change ∷ past) = ascends-gives (added_in past) (top past) change (ascends-given past) (up_to-top past)
 
-pub ascends-live : (changes : List Change) → Ascends (ids_of (live changes))
-ascends-live changes = ascends-filter (λ e. stands changes e.0) (given_in changes) (ascends-given changes)
+pub ascends-live : (changes : List StreamEvent) → Ascends (ids_of (present_entries changes))
+ascends-live changes = ascends-filter (λ e. is_present changes e.0) (added_in changes) (ascends-given changes)
 
-pub up_to-live : (changes : List Change) → AllUpTo (top changes) (ids_of (live changes))
-up_to-live changes = up_to-filter (λ e. stands changes e.0) (top changes) (given_in changes) (up_to-top changes)
+pub up_to-live : (changes : List StreamEvent) → AllUpTo (top changes) (ids_of (present_entries changes))
+up_to-live changes = up_to-filter (λ e. is_present changes e.0) (top changes) (added_in changes) (up_to-top changes)
 
 -- ---- the step of the top
 
@@ -70,10 +70,10 @@ not_new : (t : Id) (r : Result Id AddError) (fields : List Field) (x : Id) → (
 not_new t (Ok id) fields x above up = rw (below-not_same x id (up_to-below t x id up (above id refl))) refl
 not_new t (Err e) fields x above up = refl
 
-pub gives-not_new : (change : Change) (t x : Id) → is_below t x ≡ false → has_id (ids_of (gives change t)) x ≡ false
-gives-not_new (added now id fields trim) t x up = not_new t (assigned now t id) fields x (λ y e. assigned-above now t id y e) up
-gives-not_new (deleted ids) t x up = refl
-gives-not_new (trimmed_to trim) t x up = refl
+pub gives-not_new : (change : StreamEvent) (t x : Id) → is_below t x ≡ false → has_id (ids_of (entries_added_by change t)) x ≡ false
+gives-not_new (add_entry now id fields trim) t x up = not_new t (assigned now t id) fields x (λ y e. assigned-above now t id y e) up
+gives-not_new (delete_entries ids) t x up = refl
+gives-not_new (trim_entries trim) t x up = refl
 
 -- a filter of entries up to t, by a test that differs at ids above t alone
 filter-up_to : (t : Id) (p q : Id → Bool) → ((x : Id) → is_below t x ≡ false → p x ≡ q x) → (es : List (Id × List Field)) → AllUpTo t (ids_of es) → filter (λ e. p e.0) es ≡ filter (λ e. q e.0) es
@@ -96,11 +96,11 @@ entry-stands d was (Ok id) fields = rw (is_same-refl id) (by (d id)) where
   by false = refl
 entry-stands d was (Err e) fields = refl
 
-gives-stands : (change : Change) (t : Id) (d was : Id → Bool)
-    → filter (λ e. cond (d e.0) false (cond (has_id (ids_of (gives change t)) e.0) true (was e.0))) (gives change t) ≡ filter (λ e. not (d e.0)) (gives change t)
-gives-stands (added now id fields trim) t d was = entry-stands d was (assigned now t id) fields
-gives-stands (deleted ids) t d was = refl
-gives-stands (trimmed_to trim) t d was = refl
+gives-stands : (change : StreamEvent) (t : Id) (d was : Id → Bool)
+    → filter (λ e. cond (d e.0) false (cond (has_id (ids_of (entries_added_by change t)) e.0) true (was e.0))) (entries_added_by change t) ≡ filter (λ e. not (d e.0)) (entries_added_by change t)
+gives-stands (add_entry now id fields trim) t d was = entry-stands d was (assigned now t id) fields
+gives-stands (delete_entries ids) t d was = refl
+gives-stands (trim_entries trim) t d was = refl
 
 both_pass : (d s : Bool) → cond d false s ≡ (s && not d)
 both_pass true true = refl
@@ -109,28 +109,28 @@ both_pass false true = refl
 both_pass false false = refl
 
 -- after a change those live are what was live and what is new, without what the change drops
-pub live-step : (change : Change) (past : List Change)
-    → live (change ∷ past) ≡ filter (λ e. not (drops change (top past) (ids_of (live past ++ gives change (top past))) e.0)) (live past ++ gives change (top past))
+pub live-step : (change : StreamEvent) (past : List StreamEvent)
+    → present_entries (change ∷ past) ≡ filter (λ e. not (removes_id change (top past) (ids_of (present_entries past ++ entries_added_by change (top past))) e.0)) (present_entries past ++ entries_added_by change (top past))
 live-step change past =
-    filter-append (λ e. stands (change ∷ past) e.0) (given_in past) new
-    ∙ ap (λ old. old ++ filter (λ e. stands (change ∷ past) e.0) new) old_ones
-    ∙ ap (λ rest. filter kept (live past) ++ rest) (gives-stands change (top past) d (stands past))
-    ∙ sym (filter-append kept (live past) new)
+    filter-append (λ e. is_present (change ∷ past) e.0) (added_in past) new
+    ∙ ap (λ old. old ++ filter (λ e. is_present (change ∷ past) e.0) new) old_ones
+    ∙ ap (λ rest. filter kept (present_entries past) ++ rest) (gives-stands change (top past) d (is_present past))
+    ∙ sym (filter-append kept (present_entries past) new)
   where
     new : List (Id × List Field)
-    new = gives change (top past)
+    new = entries_added_by change (top past)
 
     d : Id → Bool
-    d = drops change (top past) (ids_of (live past ++ gives change (top past)))
+    d = removes_id change (top past) (ids_of (present_entries past ++ entries_added_by change (top past)))
 
     kept : Id × List Field → Bool
-    kept = λ e. not (drops change (top past) (ids_of (live past ++ gives change (top past))) e.0)
+    kept = λ e. not (removes_id change (top past) (ids_of (present_entries past ++ entries_added_by change (top past))) e.0)
 
-    old_ones : filter (λ e. stands (change ∷ past) e.0) (given_in past) ≡ filter kept (live past)
+    old_ones : filter (λ e. is_present (change ∷ past) e.0) (added_in past) ≡ filter kept (present_entries past)
     old_ones =
-        filter-up_to (top past) (stands (change ∷ past)) (λ x. stands past x && not (d x)) (λ x up. rw (gives-not_new change (top past) x up) (both_pass (d x) (stands past x)))
-        (given_in past) (up_to-top past)
-        ∙ sym (filter-filter (λ (e : Id × List Field). stands past e.0) kept (λ e. stands past e.0 && not (d e.0)) (λ e. refl) (given_in past))
+        filter-up_to (top past) (is_present (change ∷ past)) (λ x. is_present past x && not (d x)) (λ x up. rw (gives-not_new change (top past) x up) (both_pass (d x) (is_present past x)))
+        (added_in past) (up_to-top past)
+        ∙ sym (filter-filter (λ (e : Id × List Field). is_present past e.0) kept (λ e. is_present past e.0 && not (d e.0)) (λ e. refl) (added_in past))
 
 filter-all : (es : List (Id × List Field)) → filter (λ e. true) es ≡ es
 filter-all [] = refl
@@ -138,25 +138,25 @@ filter-all (e ∷ es) = ap (λ rest. e ∷ rest) (filter-all es)
 
 -- ---- the step of the stream
 
-added-live : (r : Result Id AddError) (fields : List Field) (trim : Option Trim) (kept : Kept)
+added-live : (r : Result Id AddError) (fields : List Field) (trim : Option Trim) (kept : StreamState)
     → filter (λ e. not (is_ok r && option_map_or (λ t. is_trimmed t (ids_of (kept.entries ++ entry_of r fields)) e.0) trim false)) (kept.entries ++ entry_of r fields) ≡ (stream_with r fields trim kept).entries
 added-live (Ok id) fields None kept = filter-all (kept.entries ++ (id, fields) ∷ [])
 added-live (Ok id) fields (Some trim) kept = refl
 added-live (Err e) fields trim kept = filter-all (kept.entries ++ []) ∙ append-nil kept.entries
 
-live-after : (change : Change) (past : List Change)
-    → filter (λ e. not (drops change (top past) (ids_of (live past ++ gives change (top past))) e.0)) (live past ++ gives change (top past)) ≡ (stream_after change (stream_of past)).entries
-live-after (added now id fields trim) past = added-live (assigned now (top past) id) fields trim (stream_of past)
-live-after (deleted ids) past = rw (append-nil (live past)) refl
-live-after (trimmed_to trim) past = rw (append-nil (live past)) refl
+live-after : (change : StreamEvent) (past : List StreamEvent)
+    → filter (λ e. not (removes_id change (top past) (ids_of (present_entries past ++ entries_added_by change (top past))) e.0)) (present_entries past ++ entries_added_by change (top past)) ≡ (stream_after change (stream_of past)).entries
+live-after (add_entry now id fields trim) past = added-live (assigned now (top past) id) fields trim (stream_of past)
+live-after (delete_entries ids) past = rw (append-nil (present_entries past)) refl
+live-after (trim_entries trim) past = rw (append-nil (present_entries past)) refl
 
-top-after : (change : Change) (past : List Change) → top (change ∷ past) ≡ (stream_after change (stream_of past)).top
-top-after (added now id fields trim) past = top-entry (given_in past) (assigned now (top past) id) fields trim (live past) (λ x e. assigned-above now (top past) id x e)
-top-after (deleted ids) past = ap top_of (append-nil (given_in past))
-top-after (trimmed_to trim) past = ap top_of (append-nil (given_in past))
+top-after : (change : StreamEvent) (past : List StreamEvent) → top (change ∷ past) ≡ (stream_after change (stream_of past)).top
+top-after (add_entry now id fields trim) past = top-entry (added_in past) (assigned now (top past) id) fields trim (present_entries past) (λ x e. assigned-above now (top past) id x e)
+top-after (delete_entries ids) past = ap top_of (append-nil (added_in past))
+top-after (trim_entries trim) past = ap top_of (append-nil (added_in past))
 
 -- the stream after one more change is what the change makes of the stream
-pub stream-step : (change : Change) (past : List Change) → stream_of (change ∷ past) ≡ stream_after change (stream_of past)
+pub stream-step : (change : StreamEvent) (past : List StreamEvent) → stream_of (change ∷ past) ≡ stream_after change (stream_of past)
 stream-step change past =
     let t = top-after change past in
     let l = live-step change past ∙ live-after change past in

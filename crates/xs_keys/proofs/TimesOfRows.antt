@@ -1,47 +1,47 @@
 -- Time and count of a row are those of the last event that touched it.
 use Rattle.std.proofs.Common.{◌≡◌, ℕ, Bool, true, false, not, cond, ◌&&◌, ◌||◌, List, [], ◌∷◌, Option, Some, None, option_and_then, is_some, ◌⊎◌, inl, inr, sym, ap, subst, ◌∙◌, refl}
 use Rattle.xs_group.specs.declared.claims.Claim.{Claim}
-use Rattle.xs_group.specs.Claims.{Rule, claim_of, scan_of, claimed, claimed_row, claim_time, claim_count}
-use Rattle.xs_group.specs.State.{Row, is_name, delivers, first_row, shown, again, raised, unless_acked, unless_owned}
+use Rattle.xs_group.specs.Claims.{Rule, claim_by_ids, scan_of, row_after_claim, claimed_row, claim_time, claim_count}
+use Rattle.xs_group.specs.State.{RowState, is_same_name, new_ids, first_row, own_ids, redelivered_row, next_count, unless_acked, unless_owned}
 use Rattle.xs_keys.specs.Terms.{Id, has_id}
-use Rattle.xs_keys.specs.GroupAsk.{Ask, read_new, read_own, ack, join, leave, claim, auto_claim, row_after_ask, new_ids_of_ask, claim_of_ask, keeps_pending}
+use Rattle.xs_keys.specs.GroupAsk.{GroupAsk, read_new, read_own, acknowledge, create_consumer, delete_consumer, claim, auto_claim, row_after_ask, new_ids_of_ask, claim_of_ask, keeps_pending}
 use Rattle.xs_keys.specs.GroupEvent.{GroupEvent, cursor, pending_row_at, rows}
 use Rattle.xs_keys.specs.TimesAndCounts.{own_ids_shown, time_of_touch, count_of_touch, time_of, count_of, IsLastTouched}
 use Rattle.xs_keys.proofs.Owners.{row-found}
 
 -- the row has that time and that count
-Has : Option Row → ℕ → ℕ → Type 0
-Has r time count = (row : Row) → r ≡ Some row → (row.time ≡ time) × (row.count ≡ count)
+Has : Option RowState → ℕ → ℕ → Type 0
+Has r time count = (row : RowState) → r ≡ Some row → (row.time ≡ time) × (row.count ≡ count)
 
 none-has : (time count : ℕ) → Has None time count
 unfolding Has
 none-has time count row e = absurd (subst (λ o. cond (is_some o) ⊥ (Unit {0})) e tt)
 
-some-has : (row : Row) (time count : ℕ) → row.time ≡ time → row.count ≡ count → Has (Some row) time count
+some-has : (row : RowState) (time count : ℕ) → row.time ≡ time → row.count ≡ count → Has (Some row) time count
 unfolding Has
 some-has row time count t n other e =
     let first : other.time ≡ time = cc in
     let second : other.count ≡ count = cc in
     (first, second)
 
-has-some : (row : Row) (time count : ℕ) → Has (Some row) time count → (row.time ≡ time) × (row.count ≡ count)
+has-some : (row : RowState) (time count : ℕ) → Has (Some row) time count → (row.time ≡ time) × (row.count ≡ count)
 unfolding Has
 has-some row time count h = h row refl
 
 -- whether an ask touches an id, over the cursor and the rows that it meets
-asked_touch : Ask → ℕ → List Id → Id → List (Id × Row) → Id → Bool
+asked_touch : GroupAsk → ℕ → List Id → Id → List (Id × RowState) → Id → Bool
 asked_touch ask now present a es x =
     ((keeps_pending ask && has_id (new_ids_of_ask ask present a) x) || has_id (claim_of_ask ask now present es).take x)
     || (has_id (own_ids_shown ask es) x && has_id present x)
 
 -- time and count after an ask
-Touched : Ask → ℕ → List Id → Id → List (Id × Row) → Id → Option Row → ℕ → ℕ → Type 0
+Touched : GroupAsk → ℕ → List Id → Id → List (Id × RowState) → Id → Option RowState → ℕ → ℕ → Type 0
 Touched ask now present a es x r time count =
     let touch = asked_touch ask now present a es x in
     Has (row_after_ask ask now present a es x r) (cond touch (time_of_touch ask now) time) (cond touch (count_of_touch ask count) count)
 
-claim-has : (consumer : List ℕ) (now : ℕ) (rule : Rule) (c : Claim) (x : Id) (r : Option Row) (time count : ℕ) → Has r time count
-    → Has (option_and_then (claimed consumer now rule c x) r) (cond (has_id c.take x) (claim_time rule.when now) time) (cond (has_id c.take x) (claim_count rule.retry rule.just_id count) count)
+claim-has : (consumer : List ℕ) (now : ℕ) (rule : Rule) (c : Claim) (x : Id) (r : Option RowState) (time count : ℕ) → Has r time count
+    → Has (option_and_then (row_after_claim consumer now rule c x) r) (cond (has_id c.take x) (claim_time rule.when now) time) (cond (has_id c.take x) (claim_count rule.retry rule.just_id count) count)
 claim-has consumer now rule c x None time count h = none-has _ _
 claim-has consumer now rule c x (Some row) time count h = by (has_id c.removed x) (has_id c.take x) where
   is : (row.time ≡ time) × (row.count ≡ count)
@@ -52,14 +52,14 @@ claim-has consumer now rule c x (Some row) time count h = by (has_id c.removed x
   by false true = some-has _ _ _ refl (ap (claim_count rule.retry rule.just_id) is.1)
   by false false = some-has row time count is.0 is.1
 
-same : (f : Row → Option Row) (r : Option Row) (time count : ℕ) → ((row : Row) → (f row ≡ None) ⊎ (f row ≡ Some row)) → Has r time count → Has (option_and_then f r) time count
+same : (f : RowState → Option RowState) (r : Option RowState) (time count : ℕ) → ((row : RowState) → (f row ≡ None) ⊎ (f row ≡ Some row)) → Has r time count → Has (option_and_then f r) time count
 same f None time count keeps h = none-has time count
 same f (Some row) time count keeps h = by (keeps row) where
   by : (f row ≡ None) ⊎ (f row ≡ Some row) → Has (f row) time count
   by (inl e) = subst (λ o. Has o time count) (sym e) (none-has time count)
   by (inr e) = subst (λ o. Has o time count) (sym e) h
 
-unless : (t : Bool) (row : Row) → (cond t None (Some row) ≡ None) ⊎ (cond t None (Some row) ≡ Some row)
+unless : (t : Bool) (row : RowState) → (cond t None (Some row) ≡ None) ⊎ (cond t None (Some row) ≡ Some row)
 unless true row = inl refl
 unless false row = inr refl
 
@@ -67,32 +67,32 @@ or-false : (t : Bool) → ((false || t) || false) ≡ t
 or-false true = refl
 or-false false = refl
 
-asked-touched : (ask : Ask) (now : ℕ) (present : List Id) (a : Id) (es : List (Id × Row)) (x : Id) (r : Option Row) (time count : ℕ) → Has r time count
+asked-touched : (ask : GroupAsk) (now : ℕ) (present : List Id) (a : Id) (es : List (Id × RowState)) (x : Id) (r : Option RowState) (time count : ℕ) → Has r time count
     → Touched ask now present a es x r time count
 unfolding Touched asked_touch
-asked-touched (read_new consumer limit noack) now present a es x r time count h = by noack (has_id (delivers limit a present) x) where
+asked-touched (read_new consumer limit noack) now present a es x r time count h = by noack (has_id (new_ids limit a present) x) where
   by : (noack t : Bool) → Has (cond t (cond noack None (Some (first_row consumer now))) r) (cond (((not noack && t) || false) || false) now time) (cond (((not noack && t) || false) || false) 1 count)
   by true true = none-has _ _
   by true false = h
   by false true = some-has _ _ _ refl refl
   by false false = h
 asked-touched (read_own consumer limit from) now present a es x None time count h = none-has _ _
-asked-touched (read_own consumer limit from) now present a es x (Some row) time count h = by (has_id (shown consumer limit from es) x && has_id present x) where
+asked-touched (read_own consumer limit from) now present a es x (Some row) time count h = by (has_id (own_ids consumer limit from es) x && has_id present x) where
   is : (row.time ≡ time) × (row.count ≡ count)
   is = has-some row time count h
 
-  by : (t : Bool) → Has (cond t (Some (again now row)) (Some row)) (cond t now time) (cond t (raised count) count)
-  by true = some-has _ _ _ refl (ap raised is.1)
+  by : (t : Bool) → Has (cond t (Some (redelivered_row now row)) (Some row)) (cond t now time) (cond t (next_count count) count)
+  by true = some-has _ _ _ refl (ap next_count is.1)
   by false = h
-asked-touched (ack ids) now present a es x r time count h = same (unless_acked ids x) r time count (λ row. unless (has_id ids x) row) h
-asked-touched (join consumer) now present a es x r time count h = h
-asked-touched (leave consumer) now present a es x r time count h = same (unless_owned consumer x) r time count (λ row. unless (is_name row.consumer consumer) row) h
+asked-touched (acknowledge ids) now present a es x r time count h = same (unless_acked ids x) r time count (λ row. unless (has_id ids x) row) h
+asked-touched (create_consumer consumer) now present a es x r time count h = h
+asked-touched (delete_consumer consumer) now present a es x r time count h = same (unless_owned consumer x) r time count (λ row. unless (is_same_name row.consumer consumer) row) h
 asked-touched (claim consumer rule ids) now present a es x r time count h =
-    let c = claim_of es present now rule ids in
-    subst (λ t. Has (option_and_then (claimed consumer now rule c x) r) (cond t (claim_time rule.when now) time) (cond t (claim_count rule.retry rule.just_id count) count)) (sym (or-false (has_id c.take x))) (claim-has consumer now rule c x r time count h)
+    let c = claim_by_ids es present now rule ids in
+    subst (λ t. Has (option_and_then (row_after_claim consumer now rule c x) r) (cond t (claim_time rule.when now) time) (cond t (claim_count rule.retry rule.just_id count) count)) (sym (or-false (has_id c.take x))) (claim-has consumer now rule c x r time count h)
 asked-touched (auto_claim consumer rule start limit) now present a es x r time count h =
     let c = (scan_of es present now rule start limit).claim in
-    subst (λ t. Has (option_and_then (claimed consumer now rule c x) r) (cond t (claim_time rule.when now) time) (cond t (claim_count rule.retry rule.just_id count) count)) (sym (or-false (has_id c.take x))) (claim-has consumer now rule c x r time count h)
+    subst (λ t. Has (option_and_then (row_after_claim consumer now rule c x) r) (cond t (claim_time rule.when now) time) (cond t (claim_count rule.retry rule.just_id count) count)) (sym (or-false (has_id c.take x))) (claim-has consumer now rule c x r time count h)
 
 held-touched : (start : Id) (events : List GroupEvent) (x : Id) → Has (pending_row_at start events x) (time_of start events x) (count_of start events x)
 unfolding Touched asked_touch

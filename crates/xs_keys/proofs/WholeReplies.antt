@@ -2,12 +2,12 @@
 use Rattle.std.proofs.Common.{ℕ, decimal, Bool, true, false, List, [], ◌∷◌, map, Option, Some, None}
 use Rattle.xs_resp.specs.WholeReplies.{IsWhole, AreWhole}
 use Rattle.xs_resp.proofs.Wholeness.{items-whole, all-whole, whole-append}
-use Rattle.xs_keys.specs.Terms.{State, option_map_or, get, OwnerCount, GroupSummary, PendingRow, ReadGroupCommand, ReadOne, ReadFrom, New, After, delivers, Bulk, Int, NullBulk, NullArray, flat_map, Id, Field, fields_at, ids_of}
+use Rattle.xs_keys.specs.Terms.{GroupState, option_map_or, get, OwnerCount, GroupSummary, PendingRow, ReadGroupCommand, ReadOne, ReadFrom, New, After, new_ids, Bulk, Int, NullBulk, NullArray, flat_map, Id, Field, fields_at, ids_of}
 use Rattle.xs_keys.specs.GroupLife.{ask_of_read}
 use Rattle.xs_keys.specs.Content.{Content}
-use Rattle.xs_keys.specs.ContentAfter.{asked, group_in, entries_in}
-use Rattle.xs_keys.specs.ReplyParts.{array, array_or_null, id_reply, field_replies, entry_reply, present_reply, entries_reply, part, new_part, owner_reply, row_reply, taken_reply}
-use Rattle.xs_keys.specs.Reply.{shown_by, parts}
+use Rattle.xs_keys.specs.ContentAfter.{content_after_ask, group_in, entries_in}
+use Rattle.xs_keys.specs.ReplyParts.{array, array_or_null, id_reply, field_replies, entry_reply, present_reply, entries_reply, stream_part, new_part, owner_reply, row_reply, taken_reply}
+use Rattle.xs_keys.specs.Reply.{parts_of_read, parts}
 
 fields-whole : (fields : List Field) → AreWhole (flat_map field_replies fields)
 fields-whole [] = tt
@@ -37,14 +37,14 @@ pub taken-whole : (just_id : Bool) (entries : List (Id × List Field)) (ids : Li
 taken-whole true entries ids = ids-whole ids
 taken-whole false entries ids = entries-whole entries ids
 
-part-whole : (key : List ℕ) (entries : List (Id × List Field)) (ids : List Id) → IsWhole (part key entries ids)
+part-whole : (key : List ℕ) (entries : List (Id × List Field)) (ids : List Id) → IsWhole (stream_part key entries ids)
 part-whole key entries ids = items-whole (Bulk key ∷ entries_reply entries ids ∷ []) (tt, (entries-whole entries ids, tt))
 
-shown-whole : (read : ReadGroupCommand) (key : List ℕ) (from : ReadFrom) (entries : List (Id × List Field)) (group : Option State)
-    → AreWhole (option_map_or (shown_by read key from entries) group [])
+shown-whole : (read : ReadGroupCommand) (key : List ℕ) (from : ReadFrom) (entries : List (Id × List Field)) (group : Option GroupState)
+    → AreWhole (option_map_or (parts_of_read read key from entries) group [])
 shown-whole read key from entries None = tt
 shown-whole read key (After id) entries (Some group) = (part-whole key entries _, tt)
-shown-whole read key New entries (Some group) = by (delivers read.limit group.cursor (ids_of entries)) where
+shown-whole read key New entries (Some group) = by (new_ids read.limit group.cursor (ids_of entries)) where
   by : (ids : List Id) → AreWhole (new_part key entries ids)
   by [] = tt
   by (x ∷ xs) = (part-whole key entries (x ∷ xs), tt)
@@ -52,8 +52,8 @@ shown-whole read key New entries (Some group) = by (delivers read.limit group.cu
 pub parts-whole : (content : Content) (now : ℕ) (read : ReadGroupCommand) (reads : List ReadOne) → AreWhole (parts content now read reads)
 parts-whole content now read [] = tt
 parts-whole content now read (one ∷ more) =
-    let this = option_map_or (shown_by read one.key one.from (entries_in (get content one.key))) (group_in (get content one.key) read.group) [] in
-    let after = asked content now one.key read.group (ask_of_read read one.from) in
+    let this = option_map_or (parts_of_read read one.key one.from (entries_in (get content one.key))) (group_in (get content one.key) read.group) [] in
+    let after = content_after_ask content now one.key read.group (ask_of_read read one.from) in
     whole-append this (parts after now read more) (shown-whole read one.key one.from (entries_in (get content one.key)) (group_in (get content one.key) read.group)) (parts-whole after now read more)
 
 owner-whole : (owner : OwnerCount) → IsWhole (owner_reply owner)

@@ -3,19 +3,19 @@ use Rattle.std.specs.Prelude.{◌≡◌, ℕ, true, ◌⊎◌, Option, Some, Non
 use Rattle.xs_stream.specs.declared.id.Id.{Id}
 use Rattle.xs_stream.specs.declared.add.AddError.{AddError}
 use Rattle.xs_stream.specs.Id.{printed, assigned}
-use Rattle.xs_stream.specs.StreamContent.{Kept}
+use Rattle.xs_stream.specs.StreamContent.{StreamState}
 use Rattle.xs_command.specs.declared.command.AddCommand.{AddCommand}
 use Rattle.xs_keys.specs.Terms.{Reply, Error, Memory}
-use Rattle.xs_keys.specs.Life.{added}
+use Rattle.xs_keys.specs.Life.{add_entry}
 use Rattle.xs_keys.specs.ContentAfter.{stream_after}
 use Rattle.xs_keys.specs.ReplyParts.{assigned_reply}
 use Rattle.xs_keys.specs.Event.{Bytes}
 
 -- an addition to a stream is the model's, or memory ran out where the model refuses nothing, and nothing has changed
-abbrev pub Adds : Kept → ℕ → AddCommand → Reply → Kept → Type 0
+abbrev pub Adds : StreamState → ℕ → AddCommand → Reply → StreamState → Type 0
 Adds old now add answer new =
     ((answer ≡ assigned_reply (assigned now old.top add.id))
-    × (new ≡ stream_after (added now add.id add.fields add.trim) old))
+    × (new ≡ stream_after (add_entry now add.id add.fields add.trim) old))
     ⊎ ((is_ok (assigned now old.top add.id) ≡ true) × (answer ≡ Error Memory) × (new ≡ old))
 
 -- the printed id, where one is assigned

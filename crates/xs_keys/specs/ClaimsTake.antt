@@ -1,88 +1,88 @@
 -- What claims take and what they remove, by looking back. (Redis, XCLAIM and XAUTOCLAIM.)
 use Rattle.std.specs.Prelude.{◌≡◌, ◌⊎◌, ℕ, ◌≤◌, ◌+◌, ◌-◌, ◌*◌, Bool, true, false, not, ◌&&◌, ◌||◌, List, ◌∷◌, ◌++◌}
 use Rattle.std.specs.Prelude.{map, filter, length, is_some}
-use Rattle.xs_stream.specs.Id.{is_same}
-use Rattle.xs_group.specs.Verdict.{AreApart}
+use Rattle.xs_stream.specs.Id.{is_same_id}
+use Rattle.xs_group.specs.Verdict.{AreDistinct}
 use Rattle.xs_keys.specs.Terms.{option_map_or, Id, is_below, has_id, zero_id}
-use Rattle.xs_keys.specs.GroupAsk.{Ask, claim, auto_claim, rule_of}
+use Rattle.xs_keys.specs.GroupAsk.{GroupAsk, claim, auto_claim, rule_of}
 use Rattle.xs_keys.specs.GroupEvent.{GroupEvent, claim_of_event, scan_end_of_event, rows}
-use Rattle.xs_keys.specs.Owner.{takes}
+use Rattle.xs_keys.specs.Owner.{is_taken_by_claim}
 use Rattle.xs_keys.specs.Owner.{is_removed_by_claim, owner}
 use Rattle.xs_keys.specs.TimesAndCounts.{time_of}
 use Rattle.xs_keys.specs.Event.{PendingEntries}
 
 -- the least idle time that is asked for
-abbrev pub least_idle : Ask → ℕ
+abbrev pub least_idle : GroupAsk → ℕ
 least_idle ask = option_map_or (λ rule. rule.min_idle) (rule_of ask) 0
 
 -- an entry that is taken has an owner, is in the stream, and the time that it was last given lies as far back as the
 -- claim asks; an earlier claim with IDLE gave one that lay back already
-pub record IsTakenWhenIdle (start : Id) (past : List GroupEvent) (event : GroupEvent) (x : Id) : Type 0 where
+pub record MayBeTaken (start : Id) (past : List GroupEvent) (event : GroupEvent) (x : Id) : Type 0 where
   pub owned : is_some (owner start past x) ≡ true
   pub present : has_id event.present x ≡ true
   pub idle : least_idle event.ask ≤ event.now - time_of start past x
 
 -- an entry that is removed has an owner, and is no longer in the stream
-pub record IsRemovedWhenGone (start : Id) (past : List GroupEvent) (event : GroupEvent) (x : Id) : Type 0 where
+pub record MayBeRemoved (start : Id) (past : List GroupEvent) (event : GroupEvent) (x : Id) : Type 0 where
   pub owned : is_some (owner start past x) ≡ true
   pub gone : has_id event.present x ≡ false
 
 -- an XCLAIM names the entry
-abbrev pub is_named_by : Ask → Id → Bool
+abbrev pub is_named_by : GroupAsk → Id → Bool
 is_named_by (claim consumer rule ids) x = has_id ids x
 is_named_by _ x = false
 
 -- an XAUTOCLAIM starts at the entry or before it
-abbrev pub is_from_start : Ask → Id → Bool
+abbrev pub is_from_start : GroupAsk → Id → Bool
 is_from_start (auto_claim consumer rule start limit) x = not (is_below x start)
 is_from_start _ x = false
 
 -- an entry is before a cursor; 0-0 is past all
-abbrev pub is_before : Id → Id → Bool
-is_before cursor x = is_same cursor zero_id || is_below x cursor
+abbrev pub passes : Id → Id → Bool
+passes cursor x = is_same_id cursor zero_id || is_below x cursor
 
 -- an XAUTOCLAIM comes to the entry, over these rows: it is at its start or past it, and before the cursor where it goes
 -- on; a cursor of 0-0 is past all
-abbrev pub comes_to : GroupEvent → PendingEntries → Id → Bool
-comes_to event rows x = is_from_start event.ask x && is_before (scan_end_of_event event rows) x
+abbrev pub is_scanned : GroupEvent → PendingEntries → Id → Bool
+is_scanned event rows x = is_from_start event.ask x && passes (scan_end_of_event event rows) x
 
 -- as many entries as a scan may claim or remove
-abbrev pub most_hits : Ask → ℕ
-most_hits (auto_claim consumer rule start limit) = limit
-most_hits _ = 0
+abbrev pub scan_limit : GroupAsk → ℕ
+scan_limit (auto_claim consumer rule start limit) = limit
+scan_limit _ = 0
 
 -- over these rows a claim takes and removes as many as it may, or it comes to ten times as many rows, so that it may
 -- stop
 abbrev pub MayStop : GroupEvent → PendingEntries → Type 0
 MayStop event rows =
-    (most_hits event.ask ≤ length (claim_of_event event rows).take + length (claim_of_event event rows).removed)
-    ⊎ (10 * most_hits event.ask ≤ length (filter (λ x. comes_to event rows x) (map (λ e. e.0) rows)))
+    (scan_limit event.ask ≤ length (claim_of_event event rows).take + length (claim_of_event event rows).removed)
+    ⊎ (10 * scan_limit event.ask ≤ length (filter (λ x. is_scanned event rows x) (map (λ e. e.0) rows)))
 
 -- a claim is asked for this entry: an XCLAIM names it, or an XAUTOCLAIM comes to it
 abbrev pub is_asked_for : GroupEvent → PendingEntries → Id → Bool
-is_asked_for event rows x = is_named_by event.ask x || comes_to event rows x
+is_asked_for event rows x = is_named_by event.ask x || is_scanned event rows x
 
 -- a claim takes the entry exactly if it is asked for it and may take it, and removes it exactly if it is asked for it
 -- and it has left the stream
 pub record ClaimsWhatIsAsked (start : Id) (past : List GroupEvent) (event : GroupEvent) (x : Id) : Type 0 where
-  pub takes_idle : takes start past event x ≡ true → IsTakenWhenIdle start past event x
-  pub removes_gone : is_removed_by_claim start past event x ≡ true → IsRemovedWhenGone start past event x
-  pub takes_asked : takes start past event x ≡ true → is_asked_for event (rows start past) x ≡ true
+  pub takes_idle : is_taken_by_claim start past event x ≡ true → MayBeTaken start past event x
+  pub removes_gone : is_removed_by_claim start past event x ≡ true → MayBeRemoved start past event x
+  pub takes_asked : is_taken_by_claim start past event x ≡ true → is_asked_for event (rows start past) x ≡ true
   pub removes_asked : is_removed_by_claim start past event x ≡ true → is_asked_for event (rows start past) x ≡ true
   pub takes_all :
-      is_asked_for event (rows start past) x ≡ true → IsTakenWhenIdle start past event x
-      → takes start past event x ≡ true
+      is_asked_for event (rows start past) x ≡ true → MayBeTaken start past event x
+      → is_taken_by_claim start past event x ≡ true
   pub removes_all :
-      is_asked_for event (rows start past) x ≡ true → IsRemovedWhenGone start past event x
+      is_asked_for event (rows start past) x ≡ true → MayBeRemoved start past event x
       → is_removed_by_claim start past event x ≡ true
 
 -- so it is with each claim of a life; it takes no entry twice; and a scan comes to the end of the rows, or may stop
-pub record ClaimsInTurn (start : Id) (past : List GroupEvent) (event : GroupEvent) : Type 0 where
+pub record ClaimIsExact (start : Id) (past : List GroupEvent) (event : GroupEvent) : Type 0 where
   pub as_asked : (x : Id) → ClaimsWhatIsAsked start past event x
-  pub each_once : AreApart (claim_of_event event (rows start past)).take
+  pub each_once : AreDistinct (claim_of_event event (rows start past)).take
   pub far_enough : (scan_end_of_event event (rows start past) ≡ zero_id) ⊎ MayStop event (rows start past)
 
-abbrev pub ClaimsWhatIsIdle : Id → List GroupEvent → Type 0
-ClaimsWhatIsIdle start events =
+abbrev pub ClaimsAreExact : Id → List GroupEvent → Type 0
+ClaimsAreExact start events =
     (later : List GroupEvent) (event : GroupEvent) (earlier : List GroupEvent) → events ≡ later ++ event ∷ earlier
-    → ClaimsInTurn start earlier event
+    → ClaimIsExact start earlier event

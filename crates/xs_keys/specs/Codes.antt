@@ -3,26 +3,26 @@ use Rattle.std.specs.Prelude.{ℕ, List, refl}
 use Rattle.xs_bytes.specs.SortedMap.{NameMap}
 use Rattle.xs_bytes.specs.MapCode.{coded_map}
 use Rattle.std.specs.Coded.{Coded, code_by, coded×, coded_list, coded_ℕ}
-use Rattle.xs_group.specs.State.{State}
+use Rattle.xs_group.specs.State.{GroupState}
 use Rattle.xs_group.specs.Indexes.{coded_id, coded_state}
 use Rattle.xs_stream.specs.declared.id.Id.{Id}
 use Rattle.xs_stream.specs.declared.field.Field.{Field}
-use Rattle.xs_stream.specs.StreamContent.{Kept}
-use Rattle.xs_keys.specs.Content.{Key, Content}
+use Rattle.xs_stream.specs.StreamContent.{StreamState}
+use Rattle.xs_keys.specs.Content.{KeyState, Content}
 
 abbrev pub coded_field : Coded Field
 coded_field =
     code_by (List ℕ × List ℕ) (coded× (coded_list coded_ℕ) (coded_list coded_ℕ)) (λ f. (f.name, f.value))
     (λ p. record { name = p.0; value = p.1 }) (λ _. refl)
 
-abbrev pub coded_kept : Coded Kept
+abbrev pub coded_kept : Coded StreamState
 coded_kept =
     code_by (Id × List (Id × List Field)) (coded× coded_id (coded_list (coded× coded_id (coded_list coded_field))))
     (λ k. (k.top, k.entries)) (λ p. record { top = p.0; entries = p.1 }) (λ _. refl)
 
-abbrev pub coded_key : Coded Key
+abbrev pub coded_key : Coded KeyState
 coded_key =
-    code_by (Kept × NameMap State) (coded× coded_kept (coded_map (coded_list coded_ℕ) coded_state))
+    code_by (StreamState × NameMap GroupState) (coded× coded_kept (coded_map (coded_list coded_ℕ) coded_state))
     (λ k. (k.stream, k.groups)) (λ p. record { stream = p.0; groups = p.1 }) (λ _. refl)
 
 abbrev pub coded_content : Coded Content

@@ -1,34 +1,34 @@
 -- The content of the keyspace: read off a history, what holds of it, and what each command makes of it.
 use Rattle.std.specs.Prelude.{◌≡◌, List, Option, Some, None}
-use Rattle.xs_keys.specs.Terms.{NameMap, get, Kept, State, has_name}
-use Rattle.xs_keys.specs.Life.{Change, key_life, stream_of}
+use Rattle.xs_keys.specs.Terms.{NameMap, get, StreamState, GroupState, has_name}
+use Rattle.xs_keys.specs.Life.{StreamEvent, key_life, stream_of}
 use Rattle.xs_keys.specs.GroupEvent.{cursor, is_consumer, rows}
 use Rattle.xs_keys.specs.GroupLife.{GroupLife, group_life}
 use Rattle.xs_keys.specs.Event.{Bytes, History}
 
 -- what a key holds: its stream, and its groups by name
-pub record Key : Type 0 where
-  pub stream : Kept
-  pub groups : NameMap State
+pub record KeyState : Type 0 where
+  pub stream : StreamState
+  pub groups : NameMap GroupState
 
 -- what each key with an open life holds
 abbrev pub Content : Type 0
-Content = NameMap Key
+Content = NameMap KeyState
 
 -- a group's cursor, consumers and rows are those of its life
-pub record IsGroup (group : State) (life : GroupLife) : Type 0 where
+pub record IsGroup (group : GroupState) (life : GroupLife) : Type 0 where
   pub cursor_is : group.cursor ≡ cursor life.start life.events
   pub consumers_are : (name : Bytes) → has_name group.consumers name ≡ is_consumer life.events name
   pub rows_are : group.rows.entries ≡ rows life.start life.events
 
 -- a group is there exactly where its life is open
-abbrev pub GroupHolds : Option State → Option GroupLife → Type 0
+abbrev pub GroupHolds : Option GroupState → Option GroupLife → Type 0
 GroupHolds None None = Unit {0}
 GroupHolds (Some group) (Some life) = IsGroup group life
 GroupHolds _ _ = ⊥
 
 -- so is a key; without one there are no groups
-abbrev pub KeyHolds : Option Key → Option (List Change) → (Bytes → Option GroupLife) → Type 0
+abbrev pub KeyHolds : Option KeyState → Option (List StreamEvent) → (Bytes → Option GroupLife) → Type 0
 KeyHolds None None lives = (group : Bytes) → GroupHolds None (lives group)
 KeyHolds (Some key) (Some changes) lives =
     (key.stream ≡ stream_of changes) × ((group : Bytes) → GroupHolds (get key.groups group) (lives group))

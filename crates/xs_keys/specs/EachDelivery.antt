@@ -1,7 +1,7 @@
 -- Each delivery of new entries: in id order, each once, and in full. (Redis, XREADGROUP.)
 use Rattle.std.specs.Prelude.{◌≡◌, ℕ, Bool, true, false, ◌⊎◌, Option, Some, List, ◌∷◌, ◌++◌, length}
 use Rattle.xs_keys.specs.Terms.{Id, is_below, has_id, Ascends, AllAbove}
-use Rattle.xs_keys.specs.GroupEvent.{GroupEvent, delivered, new_ids_of_event, cursor, is_their_turn}
+use Rattle.xs_keys.specs.GroupEvent.{GroupEvent, delivered_ids, new_ids_of_event, cursor, is_turn_of}
 use Rattle.xs_keys.specs.GroupAsk.{read_new}
 use Rattle.xs_keys.specs.GroupLife.{GroupLife}
 use Rattle.xs_keys.specs.Event.{Bytes}
@@ -12,8 +12,8 @@ pub record HadItsTurn (start : Id) (events : List GroupEvent) (x : Id) : Type 0 
   pub event : GroupEvent
   pub earlier : List GroupEvent
   pub among : events ≡ later ++ event ∷ earlier
-  pub theirs : is_their_turn start earlier event x ≡ true
-  pub exactly : has_id (delivered start events) x ≡ has_id event.present x
+  pub theirs : is_turn_of start earlier event x ≡ true
+  pub exactly : has_id (delivered_ids start events) x ≡ has_id event.present x
 
 -- a read of new entries delivers as many as it asks for, or leaves no entry in the stream past the cursor
 abbrev pub DeliversInFull : Id → List GroupEvent → Type 0
@@ -26,8 +26,8 @@ DeliversInFull start events =
 -- new deliveries: in id order and each once, past the start, exactly the entries in the stream at their turn, and as
 -- many as are asked for
 pub record DeliversNew (life : GroupLife) : Type 0 where
-  pub ascend : Ascends (delivered life.start life.events)
-  pub past_start : AllAbove life.start (delivered life.start life.events)
+  pub ascend : Ascends (delivered_ids life.start life.events)
+  pub past_start : AllAbove life.start (delivered_ids life.start life.events)
   pub at_their_turn : (x : Id) → is_below life.start x ≡ true → is_below (cursor life.start life.events) x ≡ false
       → HadItsTurn life.start life.events x
   pub in_full : DeliversInFull life.start life.events

@@ -4,10 +4,10 @@ use Rattle.std.specs.Prelude.{◌≡◌, Bool, true, false, ◌⊎◌, Some, not
 use Rattle.xs_keys.specs.Terms.{Id, option_map}
 use Rattle.xs_group.specs.Claims.{row_at}
 use Rattle.xs_keys.specs.TimesAndCounts.{IsLastTouched}
-use Rattle.xs_keys.specs.ClaimsTake.{ClaimsWhatIsIdle}
+use Rattle.xs_keys.specs.ClaimsTake.{ClaimsAreExact}
 use Rattle.xs_keys.specs.GroupEvent.{GroupEvent, rows}
 use Rattle.xs_keys.specs.GroupAsk.{consumer_of}
-use Rattle.xs_keys.specs.Owner.{is_made_pending_by, takes, settles, owner}
+use Rattle.xs_keys.specs.Owner.{is_made_pending_by, is_taken_by_claim, settles_entry, owner}
 use Rattle.xs_keys.specs.GroupLife.{GroupLife}
 use Rattle.xs_keys.specs.Event.{Bytes}
 
@@ -15,7 +15,7 @@ use Rattle.xs_keys.specs.Event.{Bytes}
 abbrev pub is_settled_in : Id → List GroupEvent → List GroupEvent → Id → Bool
 is_settled_in start [] before x = false
 is_settled_in start (event ∷ later) before x =
-    settles start (later ++ before) event x || is_settled_in start later before x
+    settles_entry start (later ++ before) event x || is_settled_in start later before x
 
 -- after a delivery without NOACK there is an owner exactly as long as nothing has settled the entry
 abbrev pub OwnedUntilSettled : Id → List GroupEvent → Type 0
@@ -29,8 +29,8 @@ OwnedUntilSettled start events =
 abbrev pub OwnerAfter : Id → List GroupEvent → GroupEvent → Id → Bytes → Type 0
 OwnerAfter start past event x name =
     (owner start (event ∷ past) x ≡ Some name)
-    ⊎ (((settles start past event x ≡ true) × (owner start (event ∷ past) x ≡ None))
-    ⊎ ((takes start past event x ≡ true) × (owner start (event ∷ past) x ≡ consumer_of event.ask)))
+    ⊎ (((settles_entry start past event x ≡ true) × (owner start (event ∷ past) x ≡ None))
+    ⊎ ((is_taken_by_claim start past event x ≡ true) × (owner start (event ∷ past) x ≡ consumer_of event.ask)))
 
 -- without an owner there is none, unless the event delivers the entry
 abbrev pub NoOwnerAfter : Id → List GroupEvent → GroupEvent → Id → Type 0
@@ -46,7 +46,7 @@ ChangesByClaims start events =
     → events ≡ later ++ event ∷ earlier
     → ((name : Bytes) → owner start earlier x ≡ Some name → OwnerAfter start earlier event x name)
     × (owner start earlier x ≡ None → NoOwnerAfter start earlier event x)
-    × ((is_made_pending_by start earlier event x || takes start earlier event x) ≡ true
+    × ((is_made_pending_by start earlier event x || is_taken_by_claim start earlier event x) ≡ true
     → owner start (event ∷ earlier) x ≡ consumer_of event.ask)
 
 -- an entry has an owner exactly where it is pending, and the owner is the consumer of its pending row
@@ -55,9 +55,9 @@ IsPendingWithOwner start events =
     (x : Id) → owner start events x ≡ option_map (λ row. row.consumer) (row_at (rows start events) x)
 
 -- one owner until settled, and a claim takes only what has been idle for as long as it asks
-pub record HasOneOwner (life : GroupLife) : Type 0 where
+pub record OwnersAndClaims (life : GroupLife) : Type 0 where
   pub is_pending : IsPendingWithOwner life.start life.events
   pub is_last_touched : IsLastTouched life.start life.events
-  pub claims_idle : ClaimsWhatIsIdle life.start life.events
+  pub claims_idle : ClaimsAreExact life.start life.events
   pub until_settled : OwnedUntilSettled life.start life.events
   pub by_claims : ChangesByClaims life.start life.events

@@ -10,7 +10,7 @@ use Rattle.xs_keys.specs.Event.{Event, History}
 
 -- an event of the history: its command is well formed, and its reply is the model's, at the content of the events
 -- before it; what it tells a consumer of entries is what it delivers or claims; and what is refused changes nothing
-pub record IsAnswered (past : History) (now : ℕ) (command : Command) (answer : Reply) : Type 0 where
+pub record IsReplied (past : History) (now : ℕ) (command : Command) (answer : Reply) : Type 0 where
   pub formed : IsWellFormed command
   pub content : Content
   pub left_by : IsContent content past
@@ -29,12 +29,12 @@ pub record IsLeftOut (past : History) (now : ℕ) (command : Command) (answer : 
 -- over a past, at a moment, a command is answered so, and this history follows: the event joins it, or is left out
 abbrev pub Follows : History → ℕ → Command → Reply → History → Type 0
 Follows past now command answer next =
-    (IsAnswered past now command answer × (next ≡ (now, command) ∷ past))
+    (IsReplied past now command answer × (next ≡ (now, command) ∷ past))
     ⊎ (IsLeftOut past now command answer × (next ≡ past))
 
 -- from a past on, these are answers to these events, one after the other, and the last history has those that joined it
-abbrev pub Answers : History → List Event → List Reply → History → Type 0
-Answers past [] [] last = last ≡ past
-Answers past (e ∷ events) (answer ∷ answers) last =
-    (next : History) × Follows past e.0 e.1 answer next × Answers next events answers last
-Answers past _ _ last = ⊥
+abbrev pub AreReplied : History → List Event → List Reply → History → Type 0
+AreReplied past [] [] last = last ≡ past
+AreReplied past (e ∷ events) (answer ∷ answers) last =
+    (next : History) × Follows past e.0 e.1 answer next × AreReplied next events answers last
+AreReplied past _ _ last = ⊥

@@ -3,16 +3,16 @@
 use Rattle.std.specs.Prelude.{◌+◌, Bool, false, ◌&&◌, ◌||◌, List, nat_le, Option, Some, None}
 use Rattle.xs_stream.specs.StreamContent.{count_above}
 use Rattle.xs_stream.specs.declared.trim.Trim.TheVariants.{MaxLen, MinId}
-use Rattle.xs_keys.specs.Terms.{option_map_or, Id, Trim, is_below, has_id, is_trimmed, is_name, Command, Add, Delete}
+use Rattle.xs_keys.specs.Terms.{option_map_or, Id, Trim, is_below, has_id, is_trimmed, is_same_name, Command, Add, Delete}
 use Rattle.xs_keys.specs.Terms.{TrimTo, GroupCreate, GroupDestroy, ConsumerDelete, ReadGroup, Ack, Claim, AutoClaim}
 use Rattle.xs_keys.specs.Terms.{DropKeys}
 use Rattle.xs_keys.specs.Life.{is_listed}
-use Rattle.xs_keys.specs.GroupLife.{group_of, reads_new_entries}
+use Rattle.xs_keys.specs.GroupLife.{read_group_of, reads_new_entries}
 use Rattle.xs_keys.specs.Event.{Bytes}
 
 -- the command deletes the entry
 abbrev pub deletes_entry : Command → Bytes → Id → Bool
-deletes_entry (Delete k ids) key x = is_name key k && has_id ids x
+deletes_entry (Delete k ids) key x = is_same_name key k && has_id ids x
 deletes_entry _ key x = false
 
 -- a trim drops the entry from a stream of these ids and one that is added above them
@@ -21,15 +21,15 @@ is_trimmed_below_one (MaxLen n) present x = nat_le n (count_above x present + 1)
 is_trimmed_below_one (MinId low) present x = is_below x low
 
 -- it trims the entry away, by itself or behind an addition
-abbrev pub trims_entry : Command → Bytes → List Id → Id → Bool
-trims_entry (Add add) key present x =
-    is_name key add.key && option_map_or (λ trim. is_trimmed_below_one trim present x) add.trim false
-trims_entry (TrimTo k trim) key present x = is_name key k && is_trimmed trim present x
-trims_entry _ key present x = false
+abbrev pub may_trim_entry : Command → Bytes → List Id → Id → Bool
+may_trim_entry (Add add) key present x =
+    is_same_name key add.key && option_map_or (λ trim. is_trimmed_below_one trim present x) add.trim false
+may_trim_entry (TrimTo k trim) key present x = is_same_name key k && is_trimmed trim present x
+may_trim_entry _ key present x = false
 
 -- it reads new entries of the key in the group
 abbrev pub reads_new_entries_in : Command → Bytes → Bytes → Bool
-reads_new_entries_in command key group = is_name group (group_of command) && reads_new_entries command key
+reads_new_entries_in command key group = is_same_name group (read_group_of command) && reads_new_entries command key
 
 abbrev pub with_noack : Command → Bool
 with_noack (ReadGroup read) = read.noack
@@ -37,16 +37,16 @@ with_noack _ = false
 
 -- it claims the entry in the group by its id
 abbrev pub claims_by_id : Command → Bytes → Bytes → Id → Bool
-claims_by_id (Claim c) key group x = (is_name key c.key && is_name group c.group) && has_id c.ids x
+claims_by_id (Claim c) key group x = (is_same_name key c.key && is_same_name group c.group) && has_id c.ids x
 claims_by_id _ key group x = false
 
 -- it scans the group for what it claims
 abbrev pub scans_group : Command → Bytes → Bytes → Bool
-scans_group (AutoClaim c) key group = is_name key c.key && is_name group c.group
+scans_group (AutoClaim c) key group = is_same_name key c.key && is_same_name group c.group
 scans_group _ key group = false
 
-abbrev pub claims_entry : Command → Bytes → Bytes → Id → Bool
-claims_entry command key group x = scans_group command key group || claims_by_id command key group x
+abbrev pub may_claim_entry : Command → Bytes → Bytes → Id → Bool
+may_claim_entry command key group x = scans_group command key group || claims_by_id command key group x
 
 -- the consumer that reads or claims
 abbrev pub consumer_of_command : Command → Option Bytes
@@ -57,23 +57,23 @@ consumer_of_command _ = None
 
 -- it acknowledges the entry in the group
 abbrev pub acknowledges_entry : Command → Bytes → Bytes → Id → Bool
-acknowledges_entry (Ack k g ids) key group x = (is_name key k && is_name group g) && has_id ids x
+acknowledges_entry (Ack k g ids) key group x = (is_same_name key k && is_same_name group g) && has_id ids x
 acknowledges_entry _ key group x = false
 
 -- it removes the consumer from the group
 abbrev pub removes_consumer : Command → Bytes → Bytes → Bytes → Bool
 removes_consumer (ConsumerDelete k g consumer) key group name =
-    (is_name key k && is_name group g) && is_name name consumer
+    (is_same_name key k && is_same_name group g) && is_same_name name consumer
 removes_consumer _ key group name = false
 
 -- it gives entries to the stream, or makes the group
-abbrev pub begins_job : Command → Bytes → Bytes → Bool
-begins_job (Add add) key group = is_name key add.key
-begins_job (GroupCreate create) key group = is_name key create.key && is_name group create.group
-begins_job _ key group = false
+abbrev pub may_begin_job : Command → Bytes → Bytes → Bool
+may_begin_job (Add add) key group = is_same_name key add.key
+may_begin_job (GroupCreate create) key group = is_same_name key create.key && is_same_name group create.group
+may_begin_job _ key group = false
 
 -- it ends the life of the group
 abbrev pub ends_group : Command → Bytes → Bytes → Bool
-ends_group (GroupDestroy k g) key group = is_name key k && is_name group g
+ends_group (GroupDestroy k g) key group = is_same_name key k && is_same_name group g
 ends_group (DropKeys keys) key group = is_listed keys key
 ends_group _ key group = false

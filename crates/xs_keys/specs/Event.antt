@@ -2,7 +2,7 @@
 use Rattle.std.specs.Prelude.{ℕ, List}
 use Rattle.xs_stream.specs.declared.id.Id.{Id}
 use Rattle.xs_stream.specs.declared.field.Field.{Field}
-use Rattle.xs_group.specs.State.{Row}
+use Rattle.xs_group.specs.State.{RowState}
 use Rattle.xs_command.specs.declared.command.Command.{Command}
 
 -- a byte string: the name of a key, a group or a consumer
@@ -23,4 +23,4 @@ Entries = List (Id × List Field)
 
 -- the pending entries list of a group: rows by id, in the order of the ids
 abbrev pub PendingEntries : Type 0
-PendingEntries = List (Id × Row)
+PendingEntries = List (Id × RowState)

@@ -7,15 +7,15 @@ use Rattle.xs_stream.specs.declared.id.Id.{Id}
 use Rattle.xs_stream.specs.Examples.{at}
 use Rattle.xs_group.specs.declared.claims.ClaimTime.TheVariants as time
 use Rattle.xs_group.specs.Claims.{Rule}
-use Rattle.xs_group.specs.State.{Row}
+use Rattle.xs_group.specs.State.{RowState}
 use Rattle.xs_group.specs.ExamplesRead.{pending}
-use Rattle.xs_keys.specs.GroupAsk.{Ask, read_new, read_own, ack, join, claim, auto_claim}
+use Rattle.xs_keys.specs.GroupAsk.{GroupAsk, read_new, read_own, acknowledge, create_consumer, claim, auto_claim}
 use Rattle.xs_keys.specs.GroupEvent.{rows, is_consumer}
-use Rattle.xs_keys.specs.GroupAsk.{leave}
-use Rattle.xs_keys.specs.GroupEvent.{is_their_turn}
-use Rattle.xs_keys.specs.Owner.{is_settled, settles, owner, is_removed_by_claim}
+use Rattle.xs_keys.specs.GroupAsk.{delete_consumer}
+use Rattle.xs_keys.specs.GroupEvent.{is_turn_of}
+use Rattle.xs_keys.specs.Owner.{is_settled, settles_entry, owner, is_removed_by_claim}
 use Rattle.xs_keys.specs.TimesAndCounts.{is_redelivered_by, is_touched_by, time_of, count_of}
-use Rattle.xs_keys.specs.ClaimsTake.{least_idle, is_named_by, is_from_start, is_before, comes_to, MayStop}
+use Rattle.xs_keys.specs.ClaimsTake.{least_idle, is_named_by, is_from_start, passes, is_scanned, MayStop}
 use Rattle.xs_keys.specs.ExamplesHistory.{of_group, group_and}
 use Rattle.xs_keys.specs.ExamplesGroupEvents.{start, event, event_without, read_by_a, noack_by_b, first_by_a}
 use Rattle.xs_keys.specs.ExamplesGroupEvents.{claim_by_b}
@@ -28,14 +28,14 @@ read_and lines =
     group_and (codes "XREADGROUP GROUP g a STREAMS s >" ∷ codes "XGROUP CREATE s h 1" ∷ codes "XADD t 2-0 f v"
     ∷ codes "XADD t 3-0 f v" ∷ codes "XGROUP CREATE t g 1" ∷ codes "XREADGROUP GROUP g a STREAMS t >" ∷ lines)
 
-abbrev pub rows_behind : List (List ℕ) → Option (List (Id × Row))
+abbrev pub rows_behind : List (List ℕ) → Option (List (Id × RowState))
 rows_behind lines = of_group (read_and lines) (λ life. rows life.start life.events)
 
 abbrev pub has_behind : List (List ℕ) → List ℕ → Option Bool
 has_behind lines name = of_group (read_and lines) (λ life. is_consumer life.events name)
 
 -- both rows as the read left them
-abbrev pub both_rows : List (Id × Row)
+abbrev pub both_rows : List (Id × RowState)
 both_rows = pending (at 2 0) (codes "a") 5 1 ∷ pending (at 3 0) (codes "a") 5 1 ∷ []
 
 pub record Asked : Type 0 where
@@ -71,10 +71,10 @@ pub record Asked : Type 0 where
   pub deletion_leaves_rows : rows_behind (codes "XDEL s 2" ∷ []) ≡ Some both_rows
 
 -- a reads its own entries at 200, while all are in the stream, and after 2-0 was deleted
-abbrev pub reread_by_a : Ask
+abbrev pub reread_by_a : GroupAsk
 reread_by_a = read_own (codes "a") None (at 0 0)
 
-abbrev pub claims : Rule → Ask
+abbrev pub claims : Rule → GroupAsk
 claims rule = claim (codes "b") rule (at 2 0 ∷ [])
 
 abbrev pub of_an_hour : Rule
@@ -98,8 +98,8 @@ pub record Touches : Type 0 where
   pub not_past_its_count :
       is_redelivered_by start (read_by_a ∷ []) (event 200 (read_own (codes "a") (Some 1) (at 0 0))) (at 3 0) ≡ false
   pub not_a_deleted_one : is_redelivered_by start (read_by_a ∷ []) (event_without 200 reread_by_a) (at 2 0) ≡ false
-  pub not_by_an_acknowledgement : is_touched_by start (read_by_a ∷ []) (event 200 (ack (at 2 0 ∷ []))) (at 2 0) ≡ false
-  pub time_of_delivery : time_of start (event 200 (join (codes "c")) ∷ read_by_a ∷ []) (at 2 0) ≡ 100
+  pub not_by_an_acknowledgement : is_touched_by start (read_by_a ∷ []) (event 200 (acknowledge (at 2 0 ∷ []))) (at 2 0) ≡ false
+  pub time_of_delivery : time_of start (event 200 (create_consumer (codes "c")) ∷ read_by_a ∷ []) (at 2 0) ≡ 100
   pub time_of_a_claim : time_of start (claim_by_b ∷ read_by_a ∷ []) (at 2 0) ≡ 150
   pub time_of_one_that_was_not_claimed : time_of start (claim_by_b ∷ read_by_a ∷ []) (at 3 0) ≡ 100
   pub time_of_an_own_read : time_of start (event 200 reread_by_a ∷ read_by_a ∷ []) (at 3 0) ≡ 200
@@ -128,20 +128,20 @@ pub record Touches : Type 0 where
   pub from_its_start_on : is_from_start (auto_claim (codes "b") of_an_hour (at 2 0) 9) (at 2 0) ≡ true
   pub not_before_its_start : is_from_start (auto_claim (codes "b") of_an_hour (at 2 0) 9) (at 1 0) ≡ false
   pub no_start_of_a_claim : is_from_start (claims of_an_hour) (at 2 0) ≡ false
-  pub below_a_cursor : is_before (at 3 0) (at 2 0) ≡ true
-  pub not_the_cursor_itself : is_before (at 3 0) (at 3 0) ≡ false
-  pub below_the_cursor_that_is_past_all : is_before (at 0 0) (at 3 0) ≡ true
+  pub below_a_cursor : passes (at 3 0) (at 2 0) ≡ true
+  pub not_the_cursor_itself : passes (at 3 0) (at 3 0) ≡ false
+  pub below_the_cursor_that_is_past_all : passes (at 0 0) (at 3 0) ≡ true
   pub comes_to_its_first :
-      comes_to (event 150 (auto_claim (codes "b") any_idle_time (at 0 0) 1)) (rows start (read_by_a ∷ [])) (at 2 0)
+      is_scanned (event 150 (auto_claim (codes "b") any_idle_time (at 0 0) 1)) (rows start (read_by_a ∷ [])) (at 2 0)
       ≡ true
   pub not_to_its_cursor :
-      comes_to (event 150 (auto_claim (codes "b") any_idle_time (at 0 0) 1)) (rows start (read_by_a ∷ [])) (at 3 0)
+      is_scanned (event 150 (auto_claim (codes "b") any_idle_time (at 0 0) 1)) (rows start (read_by_a ∷ [])) (at 3 0)
       ≡ false
   pub comes_to_all :
-      comes_to (event 150 (auto_claim (codes "b") any_idle_time (at 0 0) 2)) (rows start (read_by_a ∷ [])) (at 3 0)
+      is_scanned (event 150 (auto_claim (codes "b") any_idle_time (at 0 0) 2)) (rows start (read_by_a ∷ [])) (at 3 0)
       ≡ true
   pub not_to_what_is_below_its_start :
-      comes_to (event 150 (auto_claim (codes "b") any_idle_time (at 3 0) 2)) (rows start (read_by_a ∷ [])) (at 2 0)
+      is_scanned (event 150 (auto_claim (codes "b") any_idle_time (at 3 0) 2)) (rows start (read_by_a ∷ [])) (at 2 0)
       ≡ false
   pub stops_at_its_count :
       MayStop (event 150 (auto_claim (codes "b") any_idle_time (at 0 0) 1)) (rows start (read_by_a ∷ []))
@@ -150,12 +150,12 @@ pub record Touches : Type 0 where
   pub removed_when_deleted :
       is_removed_by_claim start (read_by_a ∷ []) (event_without 200 (claims any_idle_time)) (at 2 0) ≡ true
   pub not_removed_when_there : is_removed_by_claim start (read_by_a ∷ []) claim_by_b (at 2 0) ≡ false
-  pub turn_after_an_own_read : is_their_turn start (event 50 reread_by_a ∷ []) read_by_a (at 2 0) ≡ true
-  pub turn_after_the_first : is_their_turn start (first_by_a ∷ []) read_by_a (at 2 0) ≡ false
+  pub turn_after_an_own_read : is_turn_of start (event 50 reread_by_a ∷ []) read_by_a (at 2 0) ≡ true
+  pub turn_after_the_first : is_turn_of start (first_by_a ∷ []) read_by_a (at 2 0) ≡ false
   pub turn_at_the_second :
-      is_their_turn start (first_by_a ∷ []) (event 150 (read_new (codes "a") (Some 1) false)) (at 3 0) ≡ true
+      is_turn_of start (first_by_a ∷ []) (event 150 (read_new (codes "a") (Some 1) false)) (at 3 0) ≡ true
   pub nothing_settled_at_first : is_settled start [] (at 2 0) ≡ false
-  pub not_settled_before_its_delivery : settles start [] (event 200 (leave (codes "a"))) (at 2 0) ≡ false
+  pub not_settled_before_its_delivery : settles_entry start [] (event 200 (delete_consumer (codes "a"))) (at 2 0) ≡ false
   pub acknowledged_before_its_delivery :
-      owner start (read_by_a ∷ event 50 (ack (at 2 0 ∷ [])) ∷ []) (at 2 0) ≡ Some (codes "a")
-  pub no_owner_before_its_delivery : owner start (event 200 (join (codes "c")) ∷ []) (at 2 0) ≡ None
+      owner start (read_by_a ∷ event 50 (acknowledge (at 2 0 ∷ [])) ∷ []) (at 2 0) ≡ Some (codes "a")
+  pub no_owner_before_its_delivery : owner start (event 200 (create_consumer (codes "c")) ∷ []) (at 2 0) ≡ None

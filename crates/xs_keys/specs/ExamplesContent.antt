@@ -5,21 +5,21 @@ use Rattle.std.specs.Prelude.{ℕ, false, List, [], ◌∷◌, codes, Option, So
 use Rattle.xs_bytes.specs.SortedMap.{empty}
 use Rattle.xs_stream.specs.declared.id.Id.{Id}
 use Rattle.xs_stream.specs.Examples.{at}
-use Rattle.xs_group.specs.State.{State, joined, new_group, delivered_to}
+use Rattle.xs_group.specs.State.{GroupState, with_consumer, new_group, group_after_delivery}
 use Rattle.xs_command.specs.ExamplesStreams.{field}
-use Rattle.xs_keys.specs.Life.{Change, added}
+use Rattle.xs_keys.specs.Life.{StreamEvent, add_entry}
 use Rattle.xs_stream.specs.declared.add.AddId.TheVariants as add
 use Rattle.xs_keys.specs.GroupEvent.{GroupEvent}
 use Rattle.xs_keys.specs.GroupAsk.{read_new}
 use Rattle.xs_keys.specs.GroupLife.{GroupLife}
-use Rattle.xs_keys.specs.Content.{Key, GroupHolds, KeyHolds}
+use Rattle.xs_keys.specs.Content.{KeyState, GroupHolds, KeyHolds}
 
 -- 2-0 was added
-abbrev pub changes : List Change
-changes = added 5 (add.Exact (at 2 0)) (field (codes "f") (codes "v") ∷ []) None ∷ []
+abbrev pub changes : List StreamEvent
+changes = add_entry 5 (add.Exact (at 2 0)) (field (codes "f") (codes "v") ∷ []) None ∷ []
 
 -- a key with this top and the one entry 2-0, and no group
-abbrev pub key : Id → Key
+abbrev pub key : Id → KeyState
 key top =
     record {
       stream = record { top = top; entries = (at 2 0, field (codes "f") (codes "v") ∷ []) ∷ [] };
@@ -27,7 +27,7 @@ key top =
     }
 
 -- a key without an entry
-abbrev pub empty_key : Key
+abbrev pub empty_key : KeyState
 empty_key = record { stream = record { top = at 2 0; entries = [] }; groups = empty }
 
 abbrev pub no_group : List ℕ → Option GroupLife
@@ -44,8 +44,8 @@ some_group name = Some (life [])
 abbrev pub read_by_a : GroupEvent
 read_by_a = record { now = 5; present = at 2 0 ∷ []; ask = read_new (codes "a") None false }
 
-abbrev pub read_group : State
-read_group = delivered_to (codes "a") 5 None false (at 2 0 ∷ []) (new_group (at 1 0))
+abbrev pub read_group : GroupState
+read_group = group_after_delivery (codes "a") 5 None false (at 2 0 ∷ []) (new_group (at 1 0))
 
 pub record Contents : Type 0 where
   pub of_a_key : KeyHolds (Some (key (at 2 0))) (Some changes) no_group
@@ -63,4 +63,4 @@ pub record Contents : Type 0 where
   pub not_another_start : GroupHolds (Some (new_group (at 2 0))) (Some (life [])) → ⊥
   pub not_before_its_read : GroupHolds (Some (new_group (at 1 0))) (Some (life (read_by_a ∷ []))) → ⊥
   pub not_after_a_read : GroupHolds (Some read_group) (Some (life [])) → ⊥
-  pub not_with_a_consumer : GroupHolds (Some (joined (codes "b") (new_group (at 1 0)))) (Some (life [])) → ⊥
+  pub not_with_a_consumer : GroupHolds (Some (with_consumer (codes "b") (new_group (at 1 0)))) (Some (life [])) → ⊥

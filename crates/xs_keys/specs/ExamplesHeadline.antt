@@ -9,13 +9,13 @@ use Rattle.xs_stream.specs.Examples.{at}
 use Rattle.xs_group.specs.State.{new_group}
 use Rattle.xs_command.specs.ExamplesStreams.{field}
 use Rattle.xs_command.specs.declared.command.AddCommand.{AddCommand}
-use Rattle.xs_keys.specs.Terms.{Kept, Simple, Error, Int, NullBulk, Okay, Pong, Memory, NoKey, Busy, Command, Ping}
+use Rattle.xs_keys.specs.Terms.{StreamState, Simple, Error, Int, NullBulk, Okay, Pong, Memory, NoKey, Busy, Command, Ping}
 use Rattle.xs_keys.specs.Terms.{GroupCreateCommand, At}
 use Rattle.xs_keys.specs.GroupEvent.{GroupEvent}
-use Rattle.xs_keys.specs.GroupAsk.{read_new, ack, join}
-use Rattle.xs_keys.specs.GroupLife.{GroupLife, GoesOn}
+use Rattle.xs_keys.specs.GroupAsk.{read_new, acknowledge, create_consumer}
+use Rattle.xs_keys.specs.GroupLife.{GroupLife, LifeContinues}
 use Rattle.xs_keys.specs.EachOwner.{OwnerAfter, NoOwnerAfter}
-use Rattle.xs_keys.specs.EachReply.{Follows, Answers}
+use Rattle.xs_keys.specs.EachReply.{Follows, AreReplied}
 use Rattle.xs_keys.specs.Step.{is_error}
 use Rattle.xs_keys.specs.Adding.{Adds}
 use Rattle.xs_keys.specs.Grouping.{Creates}
@@ -29,26 +29,26 @@ next_by_b = event 150 (read_new (codes "b") (Some 1) false)
 
 pub record OwnersGoOn : Type 0 where
   pub stays : OwnerAfter start (read_by_a ∷ []) claim_by_b (at 3 0) (codes "a")
-  pub is_settled : OwnerAfter start (read_by_a ∷ []) (event 200 (ack (at 2 0 ∷ []))) (at 2 0) (codes "a")
+  pub is_settled : OwnerAfter start (read_by_a ∷ []) (event 200 (acknowledge (at 2 0 ∷ []))) (at 2 0) (codes "a")
   pub is_claimed : OwnerAfter start (read_by_a ∷ []) claim_by_b (at 2 0) (codes "a")
-  pub none_yet : NoOwnerAfter start (first_by_a ∷ []) (event 150 (join (codes "c"))) (at 3 0)
+  pub none_yet : NoOwnerAfter start (first_by_a ∷ []) (event 150 (create_consumer (codes "c"))) (at 3 0)
   pub comes_by_a_delivery : NoOwnerAfter start (first_by_a ∷ []) next_by_b (at 3 0)
-  pub none_where_there_is_one : NoOwnerAfter start (read_by_a ∷ []) (event 150 (join (codes "c"))) (at 2 0) → ⊥
+  pub none_where_there_is_one : NoOwnerAfter start (read_by_a ∷ []) (event 150 (create_consumer (codes "c"))) (at 2 0) → ⊥
 
 abbrev pub life : List GroupEvent → GroupLife
 life events = record { start = start; events = events }
 
 pub record LivesGoOn : Type 0 where
   pub with_what_is_delivered :
-      GoesOn (Some (life (first_by_a ∷ []))) (at 3 0 ∷ []) (Some (life (next_by_b ∷ first_by_a ∷ [])))
+      LifeContinues (Some (life (first_by_a ∷ []))) (at 3 0 ∷ []) (Some (life (next_by_b ∷ first_by_a ∷ [])))
   pub with_nothing :
-      GoesOn (Some (life (read_by_a ∷ []))) [] (Some (life (claim_by_b ∷ read_by_a ∷ [])))
-  pub not_without_it : GoesOn (Some (life (first_by_a ∷ []))) [] (Some (life (next_by_b ∷ first_by_a ∷ []))) → ⊥
-  pub begins : GoesOn None [] (Some (life []))
-  pub begins_with_no_event : GoesOn None [] (Some (life (noack_by_b ∷ []))) → ⊥
-  pub begins_with_no_delivery : GoesOn None (at 2 0 ∷ []) (Some (life [])) → ⊥
-  pub ends : GoesOn (Some (life (read_by_a ∷ []))) [] None
-  pub ends_with_no_delivery : GoesOn (Some (life (first_by_a ∷ []))) (at 3 0 ∷ []) None → ⊥
+      LifeContinues (Some (life (read_by_a ∷ []))) [] (Some (life (claim_by_b ∷ read_by_a ∷ [])))
+  pub not_without_it : LifeContinues (Some (life (first_by_a ∷ []))) [] (Some (life (next_by_b ∷ first_by_a ∷ []))) → ⊥
+  pub begins : LifeContinues None [] (Some (life []))
+  pub begins_with_no_event : LifeContinues None [] (Some (life (noack_by_b ∷ []))) → ⊥
+  pub begins_with_no_delivery : LifeContinues None (at 2 0 ∷ []) (Some (life [])) → ⊥
+  pub ends : LifeContinues (Some (life (read_by_a ∷ []))) [] None
+  pub ends_with_no_delivery : LifeContinues (Some (life (first_by_a ∷ []))) (at 3 0 ∷ []) None → ⊥
 
 -- a PING at a moment
 abbrev pub ping : ℕ → ℕ × Command
@@ -59,10 +59,10 @@ pub record AnswersGoOn : Type 0 where
   pub a_number : is_error (Int 0) ≡ false
   pub nothing : is_error NullBulk ≡ false
   pub follows : Follows (ping 4 ∷ []) 5 (Ping None) (Simple Pong) (ping 5 ∷ ping 4 ∷ [])
-  pub none : Answers (ping 4 ∷ []) [] [] (ping 4 ∷ [])
-  pub two : Answers [] (ping 4 ∷ ping 5 ∷ []) (Simple Pong ∷ Simple Pong ∷ []) (ping 5 ∷ ping 4 ∷ [])
-  pub not_one_for_two : Answers [] (ping 4 ∷ ping 5 ∷ []) (Simple Pong ∷ []) (ping 4 ∷ []) → ⊥
-  pub not_two_for_one : Answers [] (ping 4 ∷ []) (Simple Pong ∷ Simple Pong ∷ []) (ping 4 ∷ []) → ⊥
+  pub none : AreReplied (ping 4 ∷ []) [] [] (ping 4 ∷ [])
+  pub two : AreReplied [] (ping 4 ∷ ping 5 ∷ []) (Simple Pong ∷ Simple Pong ∷ []) (ping 5 ∷ ping 4 ∷ [])
+  pub not_one_for_two : AreReplied [] (ping 4 ∷ ping 5 ∷ []) (Simple Pong ∷ []) (ping 4 ∷ []) → ⊥
+  pub not_two_for_one : AreReplied [] (ping 4 ∷ []) (Simple Pong ∷ Simple Pong ∷ []) (ping 4 ∷ []) → ⊥
 
 -- an addition of the id 2-0, and a stream whose top is 1-0
 abbrev pub addition : AddCommand
@@ -75,7 +75,7 @@ addition =
       fields = field (codes "f") (codes "v") ∷ [];
     }
 
-abbrev pub stream : Kept
+abbrev pub stream : StreamState
 stream = record { top = at 1 0; entries = [] }
 
 abbrev pub creation : GroupCreateCommand

@@ -14,14 +14,14 @@ use Rattle.xs_command.specs.declared.command.Command.{Command}
 use Rattle.xs_command.specs.Read.{reads}
 use Rattle.xs_command.specs.Examples.{line}
 use Rattle.xs_command.specs.ExamplesStreams.{field}
-use Rattle.xs_keys.specs.Life.{Change, key_life, given_in, top, live, stream_of}
-use Rattle.xs_keys.specs.GroupEvent.{delivered, cursor}
+use Rattle.xs_keys.specs.Life.{StreamEvent, key_life, added_in, top, present_entries, stream_of}
+use Rattle.xs_keys.specs.GroupEvent.{delivered_ids, cursor}
 use Rattle.xs_keys.specs.GroupAsk.{claim, auto_claim}
 use Rattle.xs_keys.specs.GroupLife.{GroupLife, group_life, ids_delivered_by}
 use Rattle.xs_keys.specs.Headline.{OfEachGroup}
 use Rattle.xs_keys.specs.Step.{takes_memory}
-use Rattle.xs_keys.specs.Life.{given_at}
-use Rattle.xs_keys.specs.RepliesTell.{claimed_at}
+use Rattle.xs_keys.specs.Life.{added_at}
+use Rattle.xs_keys.specs.RepliesTell.{scan_at}
 
 -- an event, where the words say a command
 abbrev pub event : ℕ → Result Command Fault → History
@@ -34,21 +34,21 @@ events now [] = []
 events now (words ∷ lines) = events now lines ++ event now (reads (line words))
 
 -- what is said of the open life of the key s
-abbrev pub of_key : {A : Type 0} → List (List ℕ) → (List Change → A) → Option A
+abbrev pub of_key : {A : Type 0} → List (List ℕ) → (List StreamEvent → A) → Option A
 of_key lines said = option_map said (key_life (events 5 lines) (codes "s"))
 
 -- what is said of the open life of its group g
 abbrev pub of_group : {A : Type 0} → List (List ℕ) → (GroupLife → A) → Option A
 of_group lines said = option_map said (group_life (events 5 lines) (codes "s") (codes "g"))
 
-abbrev pub given_ids : List Change → List Id
-given_ids life = ids_of (given_in life)
+abbrev pub given_ids : List StreamEvent → List Id
+given_ids life = ids_of (added_in life)
 
-abbrev pub live_ids : List Change → List Id
-live_ids life = ids_of (live life)
+abbrev pub live_ids : List StreamEvent → List Id
+live_ids life = ids_of (present_entries life)
 
 abbrev pub ids_of_life : GroupLife → List Id
-ids_of_life life = delivered life.start life.events
+ids_of_life life = delivered_ids life.start life.events
 
 abbrev pub cursor_of : GroupLife → Id
 cursor_of life = cursor life.start life.events
@@ -67,7 +67,7 @@ group_and lines = three_and (codes "XGROUP CREATE s g 1" ∷ lines)
 pub record Keys : Type 0 where
   pub given : of_key (three_and []) given_ids ≡ Some (at 1 0 ∷ at 2 0 ∷ at 3 0 ∷ [])
   pub with_all_fields :
-      of_key (three_and (codes "XDEL s 1-0 3-0" ∷ [])) live
+      of_key (three_and (codes "XDEL s 1-0 3-0" ∷ [])) present_entries
       ≡ Some ((at 2 0, field (codes "g") (codes "w") ∷ field (codes "h") (codes "x") ∷ []) ∷ [])
   pub deleted_ones_were_given :
       of_key (three_and (codes "XDEL s 1-0 3-0" ∷ [])) given_ids ≡ Some (at 1 0 ∷ at 2 0 ∷ at 3 0 ∷ [])
@@ -211,23 +211,23 @@ any_idle_time = record { min_idle = 0; when = time.Now; retry = None; just_id = 
 -- what replies tell
 pub record Told : Type 0 where
   pub all_that_was_given :
-      ids_of (given_at (events 5 (three_and (codes "XDEL s 2-0" ∷ []))) (codes "s")) ≡ at 1 0 ∷ at 2 0 ∷ at 3 0 ∷ []
-  pub nothing_of_another_key : given_at (events 5 (three_and [])) (codes "t") ≡ []
+      ids_of (added_at (events 5 (three_and (codes "XDEL s 2-0" ∷ []))) (codes "s")) ≡ at 1 0 ∷ at 2 0 ∷ at 3 0 ∷ []
+  pub nothing_of_another_key : added_at (events 5 (three_and [])) (codes "t") ≡ []
   pub claimed :
-      (claimed_at (events 5 (group_and (codes "XREADGROUP GROUP g a STREAMS s >" ∷ []))) 9 (codes "s") (codes "g")
+      (scan_at (events 5 (group_and (codes "XREADGROUP GROUP g a STREAMS s >" ∷ []))) 9 (codes "s") (codes "g")
       (claim (codes "b") any_idle_time (at 3 0 ∷ at 1 0 ∷ at 2 0 ∷ []))).claim.take ≡ at 3 0 ∷ at 2 0 ∷ []
   pub claimed_if_in_the_stream :
-      (claimed_at (events 5 (group_and (codes "XREADGROUP GROUP g a STREAMS s >" ∷ codes "XDEL s 3-0" ∷ []))) 9
+      (scan_at (events 5 (group_and (codes "XREADGROUP GROUP g a STREAMS s >" ∷ codes "XDEL s 3-0" ∷ []))) 9
       (codes "s") (codes "g") (claim (codes "b") any_idle_time (at 3 0 ∷ at 2 0 ∷ []))).claim.take ≡ at 2 0 ∷ []
   pub claimed_by_a_scan :
-      (claimed_at (events 5 (group_and (codes "XREADGROUP GROUP g a STREAMS s >" ∷ []))) 9 (codes "s") (codes "g")
+      (scan_at (events 5 (group_and (codes "XREADGROUP GROUP g a STREAMS s >" ∷ []))) 9 (codes "s") (codes "g")
       (auto_claim (codes "b") any_idle_time (at 0 0) 1)).claim.take ≡ at 2 0 ∷ []
   pub goes_on_at_the_next :
-      (claimed_at (events 5 (group_and (codes "XREADGROUP GROUP g a STREAMS s >" ∷ []))) 9 (codes "s") (codes "g")
+      (scan_at (events 5 (group_and (codes "XREADGROUP GROUP g a STREAMS s >" ∷ []))) 9 (codes "s") (codes "g")
       (auto_claim (codes "b") any_idle_time (at 0 0) 1)).cursor ≡ at 3 0
   pub came_to_the_end :
-      (claimed_at (events 5 (group_and (codes "XREADGROUP GROUP g a STREAMS s >" ∷ []))) 9 (codes "s") (codes "g")
+      (scan_at (events 5 (group_and (codes "XREADGROUP GROUP g a STREAMS s >" ∷ []))) 9 (codes "s") (codes "g")
       (auto_claim (codes "b") any_idle_time (at 0 0) 2)).cursor ≡ at 0 0
   pub nothing_of_a_missing_group :
-      (claimed_at (events 5 (group_and [])) 9 (codes "s") (codes "h")
+      (scan_at (events 5 (group_and [])) 9 (codes "s") (codes "h")
       (claim (codes "b") any_idle_time (at 2 0 ∷ []))).claim.take ≡ []

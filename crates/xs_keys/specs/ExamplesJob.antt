@@ -12,15 +12,15 @@ use Rattle.xs_keys.specs.JobPlace.{Place, before_start, waiting, dropped, handed
 use Rattle.xs_keys.specs.JobMove.{HasArrow}
 use Rattle.xs_command.specs.declared.command.GroupStart.TheVariants.{Top, At}
 use Rattle.xs_keys.specs.Presence.{StartsBehind}
-use Rattle.xs_keys.specs.JobMove.{GoesAlong, is_final, GoesOnFor}
+use Rattle.xs_keys.specs.JobMove.{MovesAlong, is_final, GroupStaysOpen}
 use Rattle.xs_keys.specs.JobPlace.{place_after}
 use Rattle.xs_keys.specs.GroupBooks.{is_at, is_pending, jobs_at}
 use Rattle.xs_keys.specs.ExamplesHistory.{event, events}
 use Rattle.xs_keys.specs.ExamplesGroupEvents.{event_over, read_by_a, noack_by_b}
 use Rattle.xs_keys.specs.ExamplesHeadline.{life}
 use Rattle.xs_keys.specs.GroupEvent.{GroupEvent}
-use Rattle.xs_keys.specs.GroupAsk.{ack}
-use Rattle.xs_keys.specs.Life.{Change, key_life}
+use Rattle.xs_keys.specs.GroupAsk.{acknowledge}
+use Rattle.xs_keys.specs.Life.{StreamEvent, key_life}
 use Rattle.xs_keys.specs.GroupLife.{GroupLife, group_life}
 
 -- where an entry of the key s stands for its group g behind these lines
@@ -40,7 +40,7 @@ read_by_c = codes "XREADGROUP GROUP g c STREAMS s >"
 
 -- an acknowledgement of 2-0
 abbrev pub acknowledged_two : GroupEvent
-acknowledged_two = event_over [] 200 (ack (at 2 0 ∷ []))
+acknowledged_two = event_over [] 200 (acknowledge (at 2 0 ∷ []))
 
 pub record Places : Type 0 where
   -- before a delivery
@@ -210,7 +210,7 @@ pub record NoArrows : Type 0 where
 -- what a command of some words makes of the entry 1-0
 abbrev pub goes_by : History → List Id → Option Place → Option Place → Type 0
 goes_by [] present here there = ⊥
-goes_by (e ∷ es) present here there = GoesAlong e.1 (codes "s") (codes "g") present (at 1 0) here there
+goes_by (e ∷ es) present here there = MovesAlong e.1 (codes "s") (codes "g") present (at 1 0) here there
 
 abbrev pub GoesBy : List ℕ → Option Place → Option Place → Type 0
 GoesBy words here there = goes_by (event 5 (reads (line words))) (at 1 0 ∷ []) here there
@@ -254,10 +254,10 @@ pub record Comings : Type 0 where
   pub not_kept_by_a_deletion : GoesBy (codes "XDEL s 1-0") (Some waiting) (Some waiting) → ⊥
 
 pub record Lasting : Type 0 where
-  pub at_a_command_of_no_group : GoesOnFor (codes "s") (codes "g") (events 5 (codes "PING" ∷ codes "QUIT" ∷ []))
-  pub at_another_group_s_end : GoesOnFor (codes "s") (codes "g") (events 5 (codes "XGROUP DESTROY s h" ∷ []))
+  pub at_a_command_of_no_group : GroupStaysOpen (codes "s") (codes "g") (events 5 (codes "PING" ∷ codes "QUIT" ∷ []))
+  pub at_another_group_s_end : GroupStaysOpen (codes "s") (codes "g") (events 5 (codes "XGROUP DESTROY s h" ∷ []))
   pub not_past_its_end :
-      GoesOnFor (codes "s") (codes "g") (events 5 (codes "PING" ∷ codes "XGROUP DESTROY s g" ∷ codes "PING" ∷ [])) → ⊥
+      GroupStaysOpen (codes "s") (codes "g") (events 5 (codes "PING" ∷ codes "XGROUP DESTROY s g" ∷ codes "PING" ∷ [])) → ⊥
 
 -- of five entries one is deleted, one is read and acknowledged, one is read with NOACK, one is read, and one waits
 abbrev pub five_jobs : List (List ℕ)
@@ -268,7 +268,7 @@ five_jobs =
     ∷ codes "XREADGROUP GROUP g c COUNT 1 NOACK STREAMS s >" ∷ codes "XREADGROUP GROUP g d COUNT 1 STREAMS s >" ∷ []
 
 -- the given entries at such places
-abbrev pub jobs_in : Option (List Change) → Option GroupLife → (Place → Bool) → List Id
+abbrev pub jobs_in : Option (List StreamEvent) → Option GroupLife → (Place → Bool) → List Id
 jobs_in (Some changes) (Some life) at = jobs_at at changes life
 jobs_in _ _ at = []
 

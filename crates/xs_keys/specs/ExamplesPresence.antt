@@ -7,9 +7,9 @@ use Rattle.xs_keys.specs.Event.{History}
 use Rattle.xs_command.specs.declared.command.Command.{Command}
 use Rattle.xs_command.specs.Read.{reads}
 use Rattle.xs_command.specs.Examples.{line}
-use Rattle.xs_keys.specs.Life.{Change}
+use Rattle.xs_keys.specs.Life.{StreamEvent}
 use Rattle.xs_keys.specs.ExamplesHistory.{event}
-use Rattle.xs_keys.specs.Presence.{removes_entry, has_to_remove, has_to_create}
+use Rattle.xs_keys.specs.Presence.{may_remove_entry, has_to_remove, has_to_create}
 
 -- what holds of the first command
 abbrev pub of_first : History → (Command → Bool) → Bool
@@ -22,7 +22,7 @@ of_words words holds = of_first (event 5 (reads (line words))) holds
 
 -- the words may remove the entry 1-0 from the stream s of these ids, and have to
 abbrev pub may_remove : List ℕ → List Id → Bool
-may_remove words present = of_words words (λ command. removes_entry command (codes "s") present (at 1 0))
+may_remove words present = of_words words (λ command. may_remove_entry command (codes "s") present (at 1 0))
 
 abbrev pub must_remove : List ℕ → List Id → Bool
 must_remove words present = of_words words (λ command. has_to_remove command (codes "s") present (at 1 0))
@@ -48,7 +48,7 @@ pub record Removals : Type 0 where
   pub read_with_noack : may_remove (codes "XREADGROUP GROUP g c NOACK STREAMS s >") two ≡ false
   pub its_group_is_destroyed : may_remove (codes "XGROUP DESTROY s g") two ≡ false
 
-abbrev pub must_create : List ℕ → Option (List Change) → Bool
+abbrev pub must_create : List ℕ → Option (List StreamEvent) → Bool
 must_create words stream = of_words words (λ command. has_to_create command (codes "s") (codes "g") stream)
 
 pub record Creations : Type 0 where

@@ -2,23 +2,23 @@
 -- (Redis, XREADGROUP, XACK, XGROUP CREATECONSUMER and DELCONSUMER, XCLAIM, XAUTOCLAIM.)
 use Rattle.std.specs.Prelude.{ℕ, Bool, false, not, List, [], Option, Some, None, option_and_then, if◌then◌else◌}
 use Rattle.xs_group.specs.declared.claims.Claim.{Claim}
-use Rattle.xs_keys.specs.Terms.{option_map_or, Id, has_id, Rule, Row, is_name, delivers, claim_of, scan_of, zero_id}
-use Rattle.xs_keys.specs.Terms.{first_row, shown, reread, claimed, unless_acked, unless_owned}
+use Rattle.xs_keys.specs.Terms.{option_map_or, Id, has_id, Rule, RowState, is_same_name, new_ids, claim_by_ids, scan_of, zero_id}
+use Rattle.xs_keys.specs.Terms.{first_row, own_ids, row_after_reread, row_after_claim, unless_acked, unless_owned}
 use Rattle.xs_keys.specs.Event.{Bytes, PendingEntries}
 
 -- what is asked; each but an acknowledgement names a consumer
-pub data Ask : Type 0 where
-  read_new : Bytes → Option ℕ → Bool → Ask  -- XREADGROUP with `>`: at most so many, and whether with NOACK
-  read_own : Bytes → Option ℕ → Id → Ask  -- XREADGROUP with an id: at most so many, past it
-  ack : List Id → Ask  -- XACK
-  join : Bytes → Ask  -- XGROUP CREATECONSUMER
-  leave : Bytes → Ask  -- XGROUP DELCONSUMER
-  claim : Bytes → Rule → List Id → Ask  -- XCLAIM
-  auto_claim : Bytes → Rule → Id → ℕ → Ask  -- XAUTOCLAIM: from a start, at most so many
+pub data GroupAsk : Type 0 where
+  read_new : Bytes → Option ℕ → Bool → GroupAsk  -- XREADGROUP with `>`: at most so many, and whether with NOACK
+  read_own : Bytes → Option ℕ → Id → GroupAsk  -- XREADGROUP with an id: at most so many, past it
+  acknowledge : List Id → GroupAsk  -- XACK
+  create_consumer : Bytes → GroupAsk  -- XGROUP CREATECONSUMER
+  delete_consumer : Bytes → GroupAsk  -- XGROUP DELCONSUMER
+  claim : Bytes → Rule → List Id → GroupAsk  -- XCLAIM
+  auto_claim : Bytes → Rule → Id → ℕ → GroupAsk  -- XAUTOCLAIM: from a start, at most so many
 
 -- what an ask delivers, over the ids in the stream and a cursor
-abbrev pub new_ids_of_ask : Ask → List Id → Id → List Id
-new_ids_of_ask (read_new consumer limit noack) present cursor = delivers limit cursor present
+abbrev pub new_ids_of_ask : GroupAsk → List Id → Id → List Id
+new_ids_of_ask (read_new consumer limit noack) present cursor = new_ids limit cursor present
 new_ids_of_ask _ present cursor = []
 
 -- nothing is claimed
@@ -26,63 +26,63 @@ abbrev pub no_claim : Claim
 no_claim = record { take = []; removed = [] }
 
 -- what an ask claims, over the rows it meets
-abbrev pub claim_of_ask : Ask → ℕ → List Id → PendingEntries → Claim
-claim_of_ask (claim consumer rule ids) now present rows = claim_of rows present now rule ids
+abbrev pub claim_of_ask : GroupAsk → ℕ → List Id → PendingEntries → Claim
+claim_of_ask (claim consumer rule ids) now present rows = claim_by_ids rows present now rule ids
 claim_of_ask (auto_claim consumer rule start limit) now present rows = (scan_of rows present now rule start limit).claim
 claim_of_ask _ now present rows = no_claim
 
 -- where a scan goes on, over the rows it meets, or 0-0 if it came to their end
-abbrev pub scan_end_of_ask : Ask → ℕ → List Id → PendingEntries → Id
+abbrev pub scan_end_of_ask : GroupAsk → ℕ → List Id → PendingEntries → Id
 scan_end_of_ask (auto_claim consumer rule start limit) now present rows =
     (scan_of rows present now rule start limit).cursor
 scan_end_of_ask _ now present rows = zero_id
 
 -- the consumer that asks, or is asked for
-abbrev pub consumer_of : Ask → Option Bytes
+abbrev pub consumer_of : GroupAsk → Option Bytes
 consumer_of (read_new consumer limit noack) = Some consumer
 consumer_of (read_own consumer limit from) = Some consumer
-consumer_of (ack ids) = None
-consumer_of (join consumer) = Some consumer
-consumer_of (leave consumer) = Some consumer
+consumer_of (acknowledge ids) = None
+consumer_of (create_consumer consumer) = Some consumer
+consumer_of (delete_consumer consumer) = Some consumer
 consumer_of (claim consumer rule ids) = Some consumer
 consumer_of (auto_claim consumer rule start limit) = Some consumer
 
 -- the rule of a claim
-abbrev pub rule_of : Ask → Option Rule
+abbrev pub rule_of : GroupAsk → Option Rule
 rule_of (claim consumer rule ids) = Some rule
 rule_of (auto_claim consumer rule start limit) = Some rule
 rule_of _ = None
 
 -- a read of new entries without NOACK
-abbrev pub keeps_pending : Ask → Bool
+abbrev pub keeps_pending : GroupAsk → Bool
 keeps_pending (read_new consumer limit noack) = not noack
 keeps_pending _ = false
 
 -- an acknowledgement that names the id
-abbrev pub is_acknowledgement_of : Ask → Id → Bool
-is_acknowledgement_of (ack ids) x = has_id ids x
+abbrev pub is_acknowledgement_of : GroupAsk → Id → Bool
+is_acknowledgement_of (acknowledge ids) x = has_id ids x
 is_acknowledgement_of _ x = false
 
 -- it puts the consumer in
-abbrev pub adds_consumer : Ask → Bytes → Bool
-adds_consumer (leave consumer) name = false
-adds_consumer ask name = option_map_or (is_name name) (consumer_of ask) false
+abbrev pub adds_consumer : GroupAsk → Bytes → Bool
+adds_consumer (delete_consumer consumer) name = false
+adds_consumer ask name = option_map_or (is_same_name name) (consumer_of ask) false
 
 -- it takes the consumer out
-abbrev pub drops_consumer : Ask → Bytes → Bool
-drops_consumer (leave consumer) name = is_name name consumer
-drops_consumer _ name = false
+abbrev pub deletes_consumer : GroupAsk → Bytes → Bool
+deletes_consumer (delete_consumer consumer) name = is_same_name name consumer
+deletes_consumer _ name = false
 
 -- what an ask makes of the row of an id, over the rows and the cursor that it meets
-abbrev pub row_after_ask : Ask → ℕ → List Id → Id → PendingEntries → Id → Option Row → Option Row
+abbrev pub row_after_ask : GroupAsk → ℕ → List Id → Id → PendingEntries → Id → Option RowState → Option RowState
 row_after_ask (read_new consumer limit noack) now present cursor rows x row =
-    if has_id (delivers limit cursor present) x then (if noack then None else Some (first_row consumer now)) else row
+    if has_id (new_ids limit cursor present) x then (if noack then None else Some (first_row consumer now)) else row
 row_after_ask (read_own consumer limit from) now present cursor rows x row =
-    option_and_then (reread now (shown consumer limit from rows) present x) row
-row_after_ask (ack ids) now present cursor rows x row = option_and_then (unless_acked ids x) row
-row_after_ask (join consumer) now present cursor rows x row = row
-row_after_ask (leave consumer) now present cursor rows x row = option_and_then (unless_owned consumer x) row
+    option_and_then (row_after_reread now (own_ids consumer limit from rows) present x) row
+row_after_ask (acknowledge ids) now present cursor rows x row = option_and_then (unless_acked ids x) row
+row_after_ask (create_consumer consumer) now present cursor rows x row = row
+row_after_ask (delete_consumer consumer) now present cursor rows x row = option_and_then (unless_owned consumer x) row
 row_after_ask (claim consumer rule ids) now present cursor rows x row =
-    option_and_then (claimed consumer now rule (claim_of rows present now rule ids) x) row
+    option_and_then (row_after_claim consumer now rule (claim_by_ids rows present now rule ids) x) row
 row_after_ask (auto_claim consumer rule start limit) now present cursor rows x row =
-    option_and_then (claimed consumer now rule (scan_of rows present now rule start limit).claim x) row
+    option_and_then (row_after_claim consumer now rule (scan_of rows present now rule start limit).claim x) row

@@ -1,14 +1,14 @@
 -- The lives of groups, and what an event delivers in a group, over the whole history.
 use Rattle.std.specs.Prelude.{◌≡◌, ℕ, Bool, true, false, ◌&&◌, List, [], ◌∷◌, ◌++◌, Option, Some, None, is_some}
 use Rattle.std.specs.Prelude.{if◌then◌else◌}
-use Rattle.xs_keys.specs.Terms.{option_map, option_map_or, option_or, list_all, list_any, Id, ids_of, is_name}
-use Rattle.xs_keys.specs.Terms.{delivers, Command, GroupCreate, GroupDestroy, ConsumerCreate, ConsumerDelete}
+use Rattle.xs_keys.specs.Terms.{option_map, option_map_or, option_or, list_all, list_any, Id, ids_of, is_same_name}
+use Rattle.xs_keys.specs.Terms.{new_ids, Command, GroupCreate, GroupDestroy, ConsumerCreate, ConsumerDelete}
 use Rattle.xs_keys.specs.Terms.{ReadGroup, Ack, Claim, AutoClaim, DropKeys, GroupStart, Top, At, GroupCreateCommand}
 use Rattle.xs_keys.specs.Terms.{ReadGroupCommand, ReadOne, ReadFrom, New, After}
-use Rattle.xs_keys.specs.Life.{Change, is_listed, opened, key_life, live, top}
-use Rattle.xs_keys.specs.GroupAsk.{Ask, read_new, read_own, ack, join, leave, claim, auto_claim}
+use Rattle.xs_keys.specs.Life.{StreamEvent, is_listed, life_or_new, key_life, present_entries, top}
+use Rattle.xs_keys.specs.GroupAsk.{GroupAsk, read_new, read_own, acknowledge, create_consumer, delete_consumer, claim, auto_claim}
 use Rattle.xs_keys.specs.GroupEvent.{GroupEvent}
-use Rattle.xs_keys.specs.GroupEvent.{delivered, cursor}
+use Rattle.xs_keys.specs.GroupEvent.{delivered_ids, cursor}
 use Rattle.xs_keys.specs.Event.{Bytes, History}
 
 -- a life of a group: the id behind which it starts, and its events, newest first
@@ -17,8 +17,8 @@ pub record GroupLife : Type 0 where
   pub events : List GroupEvent
 
 -- the ids in the stream
-abbrev pub present_in : Option (List Change) → List Id
-present_in stream = option_map_or (λ changes. ids_of (live changes)) stream []
+abbrev pub present_in : Option (List StreamEvent) → List Id
+present_in stream = option_map_or (λ changes. ids_of (present_entries changes)) stream []
 
 -- where a group starts: the written id, or the top
 abbrev pub starting_id : GroupStart → Id → Id
@@ -26,19 +26,19 @@ starting_id Top top = top
 starting_id (At id) top = id
 
 -- a new life; a missing key must be made with it
-abbrev pub new_life : GroupCreateCommand → Option (List Change) → Option GroupLife
+abbrev pub new_life : GroupCreateCommand → Option (List StreamEvent) → Option GroupLife
 new_life create stream =
     let begin : Id → GroupLife = λ id. record { start = starting_id create.start id; events = [] } in
-    option_map (λ changes. begin (top changes)) (opened create.make stream)
+    option_map (λ changes. begin (top changes)) (life_or_new create.make stream)
 
 -- one event more
-abbrev pub life_after_ask : ℕ → List Id → Ask → Option GroupLife → Option GroupLife
+abbrev pub life_after_ask : ℕ → List Id → GroupAsk → Option GroupLife → Option GroupLife
 life_after_ask now present ask life =
     let event : GroupEvent = record { now = now; present = present; ask = ask } in
     option_map (λ l. record { start = l.start; events = event ∷ l.events }) life
 
 -- what a read asks of one stream
-abbrev pub ask_of_read : ReadGroupCommand → ReadFrom → Ask
+abbrev pub ask_of_read : ReadGroupCommand → ReadFrom → GroupAsk
 ask_of_read read New = read_new read.consumer read.limit read.noack
 ask_of_read read (After id) = read_own read.consumer read.limit id
 
@@ -47,32 +47,32 @@ abbrev pub life_after_reads :
     ℕ → List Id → ReadGroupCommand → Bytes → List ReadOne → Option GroupLife → Option GroupLife
 life_after_reads now present read key [] life = life
 life_after_reads now present read key (one ∷ more) life =
-    let next = if is_name key one.key then life_after_ask now present (ask_of_read read one.from) life else life in
+    let next = if is_same_name key one.key then life_after_ask now present (ask_of_read read one.from) life else life in
     life_after_reads now present read key more next
 
 -- the life of a group after an event, from whether a read is served whole, and the lives of its key and its own before;
 -- one that is open goes on where the group is to be created
 abbrev pub group_life_after :
-    ℕ → Command → Bytes → Bytes → Bool → Option (List Change) → Option GroupLife → Option GroupLife
+    ℕ → Command → Bytes → Bytes → Bool → Option (List StreamEvent) → Option GroupLife → Option GroupLife
 group_life_after now (GroupCreate create) key group served stream life =
-    if is_name key create.key && is_name group create.group then option_or life (new_life create stream) else life
+    if is_same_name key create.key && is_same_name group create.group then option_or life (new_life create stream) else life
 group_life_after now (GroupDestroy k g) key group served stream life =
-    if is_name key k && is_name group g then None else life
+    if is_same_name key k && is_same_name group g then None else life
 group_life_after now (ConsumerCreate k g consumer) key group served stream life =
-    if is_name key k && is_name group g then life_after_ask now (present_in stream) (join consumer) life else life
+    if is_same_name key k && is_same_name group g then life_after_ask now (present_in stream) (create_consumer consumer) life else life
 group_life_after now (ConsumerDelete k g consumer) key group served stream life =
-    if is_name key k && is_name group g then life_after_ask now (present_in stream) (leave consumer) life else life
+    if is_same_name key k && is_same_name group g then life_after_ask now (present_in stream) (delete_consumer consumer) life else life
 group_life_after now (ReadGroup read) key group served stream life =
-    if is_name group read.group && served
+    if is_same_name group read.group && served
     then life_after_reads now (present_in stream) read key read.reads life
     else life
 group_life_after now (Ack k g ids) key group served stream life =
-    if is_name key k && is_name group g then life_after_ask now (present_in stream) (ack ids) life else life
+    if is_same_name key k && is_same_name group g then life_after_ask now (present_in stream) (acknowledge ids) life else life
 group_life_after now (Claim c) key group served stream life =
-    if is_name key c.key && is_name group c.group
+    if is_same_name key c.key && is_same_name group c.group
     then life_after_ask now (present_in stream) (claim c.consumer c.rule c.ids) life else life
 group_life_after now (AutoClaim c) key group served stream life =
-    if is_name key c.key && is_name group c.group
+    if is_same_name key c.key && is_same_name group c.group
     then life_after_ask now (present_in stream) (auto_claim c.consumer c.rule c.start c.limit) life else life
 group_life_after now (DropKeys keys) key group served stream life = if is_listed keys key then None else life
 group_life_after now _ key group served stream life = life
@@ -82,15 +82,15 @@ abbrev pub reads_of : Command → List ReadOne
 reads_of (ReadGroup read) = read.reads
 reads_of _ = []
 
-abbrev pub group_of : Command → Bytes
-group_of (ReadGroup read) = read.group
-group_of _ = []
+abbrev pub read_group_of : Command → Bytes
+read_group_of (ReadGroup read) = read.group
+read_group_of _ = []
 
 -- the open life of a group of a key, looking back over all events
 abbrev pub group_life : History → Bytes → Bytes → Option GroupLife
 group_life [] key group = None
 group_life (e ∷ past) key group =
-    let served = list_all (λ one. is_some (group_life past one.key (group_of e.1))) (reads_of e.1) in
+    let served = list_all (λ one. is_some (group_life past one.key (read_group_of e.1))) (reads_of e.1) in
     group_life_after e.0 e.1 key group served (key_life past key) (group_life past key group)
 
 abbrev pub is_new : ReadFrom → Bool
@@ -99,28 +99,28 @@ is_new (After id) = false
 
 -- the event asks for new entries of the key
 abbrev pub reads_new_entries : Command → Bytes → Bool
-reads_new_entries command key = list_any (λ one. is_name key one.key && is_new one.from) (reads_of command)
+reads_new_entries command key = list_any (λ one. is_same_name key one.key && is_new one.from) (reads_of command)
 
 -- it acts: each key and group that it reads is there
 abbrev pub has_all_groups : History → Command → Bool
-has_all_groups past command = list_all (λ one. is_some (group_life past one.key (group_of command))) (reads_of command)
+has_all_groups past command = list_all (λ one. is_some (group_life past one.key (read_group_of command))) (reads_of command)
 
-abbrev pub limit_of : Command → Option ℕ
-limit_of (ReadGroup read) = read.limit
-limit_of _ = None
+abbrev pub read_limit_of : Command → Option ℕ
+read_limit_of (ReadGroup read) = read.limit
+read_limit_of _ = None
 
 -- what an event delivers in a group, meeting this past: the first of the ids in the stream that are above the cursor
 abbrev pub ids_delivered_by : History → Command → Bytes → Bytes → List Id
 ids_delivered_by past command key group =
     let present = present_in (key_life past key) in
-    let new : GroupLife → List Id = λ life. delivers (limit_of command) (cursor life.start life.events) present in
-    if reads_new_entries command key && (is_name group (group_of command) && has_all_groups past command)
+    let new : GroupLife → List Id = λ life. new_ids (read_limit_of command) (cursor life.start life.events) present in
+    if reads_new_entries command key && (is_same_name group (read_group_of command) && has_all_groups past command)
     then option_map_or new (group_life past key group) [] else []
 
 -- an event and the life of a group: the life goes on, with what the event delivers of it, and nothing else;
 -- or it begins, and the event delivers nothing; or there is none behind the event, and the event delivers nothing
-abbrev pub GoesOn : Option GroupLife → List Id → Option GroupLife → Type 0
-GoesOn (Some before) new (Some life) =
-    (life.start ≡ before.start) × (delivered life.start life.events ≡ delivered before.start before.events ++ new)
-GoesOn None new (Some life) = (life.events ≡ []) × (new ≡ [])
-GoesOn before new None = new ≡ []
+abbrev pub LifeContinues : Option GroupLife → List Id → Option GroupLife → Type 0
+LifeContinues (Some before) new (Some life) =
+    (life.start ≡ before.start) × (delivered_ids life.start life.events ≡ delivered_ids before.start before.events ++ new)
+LifeContinues None new (Some life) = (life.events ≡ []) × (new ≡ [])
+LifeContinues before new None = new ≡ []

@@ -3,18 +3,18 @@
 use Rattle.std.specs.Prelude.{◌≡◌, ◌⊎◌, Some, List, [], ◌∷◌, ◌++◌}
 use Rattle.xs_keys.specs.Terms.{Reply, Ascends, ids_of}
 use Rattle.xs_command.specs.WellFormed.{IsWellFormed}
-use Rattle.xs_keys.specs.Life.{Change, key_life, given_in}
+use Rattle.xs_keys.specs.Life.{StreamEvent, key_life, added_in}
 use Rattle.xs_keys.specs.Content.{Content, IsContent}
-use Rattle.xs_keys.specs.LawfulContent.{IsLawfulContent}
-use Rattle.xs_keys.specs.ContentAfter.{after}
-use Rattle.xs_keys.specs.GroupLife.{GroupLife, group_life, ids_delivered_by, GoesOn}
+use Rattle.xs_keys.specs.LawfulContent.{IsConsistentContent}
+use Rattle.xs_keys.specs.ContentAfter.{content_after}
+use Rattle.xs_keys.specs.GroupLife.{GroupLife, group_life, ids_delivered_by, LifeContinues}
 use Rattle.xs_keys.specs.GroupBooks.{EachHasAPlace}
-use Rattle.xs_keys.specs.JobMove.{EachGoesAlong}
+use Rattle.xs_keys.specs.JobMove.{EachMovesAlong}
 use Rattle.xs_keys.specs.Presence.{EntriesAreAdded, EntriesStay, GroupsAreCreated, GroupsStay}
 use Rattle.xs_keys.specs.Event.{Bytes, Event, History}
 use Rattle.xs_keys.specs.EachDelivery.{DeliversNew}
-use Rattle.xs_keys.specs.EachOwner.{HasOneOwner}
-use Rattle.xs_keys.specs.EachReply.{Answers}
+use Rattle.xs_keys.specs.EachOwner.{OwnersAndClaims}
+use Rattle.xs_keys.specs.EachReply.{AreReplied}
 
 -- each group of a history, at each time of it: what holds of each of its lives
 abbrev pub OfEachGroup : History → (GroupLife → Type 0) → Type 0
@@ -32,7 +32,7 @@ OfEachLife Holds =
 abbrev pub IdsAscend : History → Type 0
 IdsAscend history =
     (later earlier : History) → history ≡ later ++ earlier
-    → (key : Bytes) (changes : List Change) → key_life earlier key ≡ Some changes → Ascends (ids_of (given_in changes))
+    → (key : Bytes) (changes : List StreamEvent) → key_life earlier key ≡ Some changes → Ascends (ids_of (added_in changes))
 
 -- each command of a history is well formed
 abbrev pub AreWellFormed : History → Type 0
@@ -55,15 +55,15 @@ AtEachEvent (first ∷ past) history Holds =
 abbrev pub LivesAreApart : History → Event → Type 0
 LivesAreApart earlier e =
     (key group : Bytes)
-    → GoesOn (group_life earlier key group) (ids_delivered_by earlier e.1 key group)
+    → LifeContinues (group_life earlier key group) (ids_delivered_by earlier e.1 key group)
     (group_life (e ∷ earlier) key group)
 
 -- each event of a history leads from the content before it to the content after it, and each content is lawful
-abbrev pub StepsLawfully : History → Type 0
-StepsLawfully history =
+abbrev pub StepsAreConsistent : History → Type 0
+StepsAreConsistent history =
     (later : History) (e : Event) (earlier : History) → history ≡ later ++ e ∷ earlier
     → (content : Content) → IsContent content earlier
-    → IsLawfulContent content × IsContent (after content e.0 e.1) (e ∷ earlier)
+    → IsConsistentContent content × IsContent (content_after content e.0 e.1) (e ∷ earlier)
 
 -- every reply is the model's, and tells what was delivered; each group's new deliveries are, in id order and each once,
 -- the entries past its start that were in the stream when their turn came, as many as were asked for; and each entry
@@ -72,15 +72,15 @@ StepsLawfully history =
 -- groups come and go by their own commands alone
 pub record Headline
     (past : History) (events : List Event) (answers : List Reply) (history : History) : Type 0 where
-  pub replies : Answers past events answers history
+  pub replies : AreReplied past events answers history
   pub formed : AreWellFormed past → AreWellFormed history
-  pub steps : StepsLawfully history
+  pub steps : StepsAreConsistent history
   pub ids : IdsAscend history
   pub apart : AtEachEvent past history LivesAreApart
   pub deliveries : OfEachGroup history DeliversNew
-  pub owners : OfEachGroup history HasOneOwner
+  pub owners : OfEachGroup history OwnersAndClaims
   pub places : EachHasAPlace history
-  pub moves : AtEachEvent past history EachGoesAlong
+  pub moves : AtEachEvent past history EachMovesAlong
   pub additions : AtEachEvent past history EntriesAreAdded
   pub presence : AtEachEvent past history EntriesStay
   pub groups : AtEachEvent past history GroupsAreCreated
@@ -92,4 +92,4 @@ abbrev pub RunsOn : Content → List Event → List Reply → Content → Type 0
 RunsOn old events answers new =
     (past : History) → IsContent old past
     → (history : History)
-    × Headline past events answers history × IsContent new history × IsLawfulContent new
+    × Headline past events answers history × IsContent new history × IsConsistentContent new

@@ -10,24 +10,24 @@ use Rattle.xs_keys.specs.Life.{key_life}
 use Rattle.xs_keys.specs.GroupLife.{present_in}
 use Rattle.xs_keys.specs.Event.{Bytes, Event, History}
 use Rattle.xs_keys.specs.JobPlace.{Place, before_start, waiting, dropped, handed_out, pending, settled, place_after}
-use Rattle.xs_keys.specs.Effect.{deletes_entry, trims_entry, reads_new_entries_in, with_noack, claims_by_id}
-use Rattle.xs_keys.specs.Effect.{claims_entry, consumer_of_command, acknowledges_entry, removes_consumer, begins_job}
+use Rattle.xs_keys.specs.Effect.{deletes_entry, may_trim_entry, reads_new_entries_in, with_noack, claims_by_id}
+use Rattle.xs_keys.specs.Effect.{may_claim_entry, consumer_of_command, acknowledges_entry, removes_consumer, may_begin_job}
 use Rattle.xs_keys.specs.Effect.{ends_group}
 
 -- the arrows: a command that meets these ids in the stream may lead an entry from here to there
 abbrev pub HasArrow : Command → Bytes → Bytes → List Id → Id → Place → Place → Type 0
 HasArrow command key group present x waiting dropped =
-    (deletes_entry command key x || trims_entry command key present x) ≡ true
+    (deletes_entry command key x || may_trim_entry command key present x) ≡ true
 HasArrow command key group present x waiting handed_out =
     (reads_new_entries_in command key group && with_noack command) ≡ true
 HasArrow command key group present x waiting (pending consumer) =
     ((reads_new_entries_in command key group && not (with_noack command)) ≡ true)
     × (consumer_of_command command ≡ Some consumer)
 HasArrow command key group present x (pending one) (pending other) =
-    ((claims_entry command key group x && has_id present x) ≡ true) × (consumer_of_command command ≡ Some other)
+    ((may_claim_entry command key group x && has_id present x) ≡ true) × (consumer_of_command command ≡ Some other)
 HasArrow command key group present x (pending consumer) settled =
     (acknowledges_entry command key group x || (removes_consumer command key group consumer
-    || (claims_entry command key group x && not (has_id present x)))) ≡ true
+    || (may_claim_entry command key group x && not (has_id present x)))) ≡ true
 HasArrow command key group present x _ _ = ⊥
 
 -- and some have to: a deletion drops what waits; and an acknowledgement, the removal of its consumer, and a claim by
@@ -66,12 +66,12 @@ IsFirstPlace _ present x there = ⊥
 
 -- what a command makes of an entry: it comes, as one that is given or with the group; it stays where it is, or goes
 -- along an arrow; or the life of the group ends
-abbrev pub GoesAlong : Command → Bytes → Bytes → List Id → Id → Option Place → Option Place → Type 0
-GoesAlong command key group present x None None = Unit {0}
-GoesAlong command key group present x None (Some there) =
-    (begins_job command key group ≡ true) × IsFirstPlace command present x there
-GoesAlong command key group present x (Some here) None = ends_group command key group ≡ true
-GoesAlong command key group present x (Some here) (Some there) =
+abbrev pub MovesAlong : Command → Bytes → Bytes → List Id → Id → Option Place → Option Place → Type 0
+MovesAlong command key group present x None None = Unit {0}
+MovesAlong command key group present x None (Some there) =
+    (may_begin_job command key group ≡ true) × IsFirstPlace command present x there
+MovesAlong command key group present x (Some here) None = ends_group command key group ≡ true
+MovesAlong command key group present x (Some here) (Some there) =
     ((there ≡ here) ⊎ HasArrow command key group present x here there)
     × HasToMove command key group present x here there
 
@@ -82,13 +82,13 @@ is_final (pending consumer) = false
 is_final _ = true
 
 -- while these events come, newest first, the life of the group goes on
-abbrev pub GoesOnFor : Bytes → Bytes → History → Type 0
-GoesOnFor key group [] = Unit {0}
-GoesOnFor key group (e ∷ later) = IsWellFormed e.1 × (ends_group e.1 key group ≡ false) × GoesOnFor key group later
+abbrev pub GroupStaysOpen : Bytes → Bytes → History → Type 0
+GroupStaysOpen key group [] = Unit {0}
+GroupStaysOpen key group (e ∷ later) = IsWellFormed e.1 × (ends_group e.1 key group ≡ false) × GroupStaysOpen key group later
 
 -- an event leaves each entry at its place, or leads it along an arrow
-abbrev pub EachGoesAlong : History → Event → Type 0
-EachGoesAlong earlier e =
+abbrev pub EachMovesAlong : History → Event → Type 0
+EachMovesAlong earlier e =
     (key group : Bytes) (x : Id)
-    → GoesAlong e.1 key group (present_in (key_life earlier key)) x (place_after earlier key group x)
+    → MovesAlong e.1 key group (present_in (key_life earlier key)) x (place_after earlier key group x)
     (place_after (e ∷ earlier) key group x)

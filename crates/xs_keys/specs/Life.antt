@@ -1,40 +1,40 @@
 -- Histories, the lives of keys, and the stream of a life by looking back. A list of past events has the newest first.
 use Rattle.std.specs.Prelude.{ℕ, Bool, List, [], ◌∷◌, Option, Some, None, if◌then◌else◌, true, false, ◌&&◌, ◌++◌}
 use Rattle.std.specs.Prelude.{filter, Result, Ok, Err, is_ok}
-use Rattle.xs_keys.specs.Terms.{option_map, option_map_or, option_or, list_any, Id, AddId, Trim, Field, is_name}
+use Rattle.xs_keys.specs.Terms.{option_map, option_map_or, option_or, list_any, Id, AddId, Trim, Field, is_same_name}
 use Rattle.xs_keys.specs.Terms.{Command, Add, Delete, TrimTo, GroupCreate, DropKeys, AddError, is_below, has_id}
-use Rattle.xs_keys.specs.Terms.{zero_id, is_trimmed, assigned, Kept, ids_of}
+use Rattle.xs_keys.specs.Terms.{zero_id, is_trimmed, assigned, StreamState, ids_of}
 use Rattle.xs_keys.specs.Event.{Bytes, History, Entries}
 
 -- the name is one of these; names of keys, groups and consumers are lists of bytes
 abbrev pub is_listed : List Bytes → Bytes → Bool
-is_listed names name = list_any (is_name name) names
+is_listed names name = list_any (is_same_name name) names
 
 -- what an event, a command at a moment, asks of the stream of a key: an addition at a moment, a deletion, a trim
-pub data Change : Type 0 where
-  added : ℕ → AddId → List Field → Option Trim → Change
-  deleted : List Id → Change
-  trimmed_to : Trim → Change
+pub data StreamEvent : Type 0 where
+  add_entry : ℕ → AddId → List Field → Option Trim → StreamEvent
+  delete_entries : List Id → StreamEvent
+  trim_entries : Trim → StreamEvent
 
 -- the open life, or a new one where the command may make the key
-abbrev pub opened : Bool → Option (List Change) → Option (List Change)
-opened make life = option_or life (if make then Some [] else None)
+abbrev pub life_or_new : Bool → Option (List StreamEvent) → Option (List StreamEvent)
+life_or_new make life = option_or life (if make then Some [] else None)
 
 -- the life of a key after an event: its changes, newest first, or none where no life is open
-abbrev pub key_life_after : ℕ → Command → Bytes → Option (List Change) → Option (List Change)
+abbrev pub key_life_after : ℕ → Command → Bytes → Option (List StreamEvent) → Option (List StreamEvent)
 key_life_after now (Add add) key life =
-    let change = added now add.id add.fields add.trim in
-    if is_name key add.key then option_map (λ changes. change ∷ changes) (opened add.make life) else life
+    let change = add_entry now add.id add.fields add.trim in
+    if is_same_name key add.key then option_map (λ changes. change ∷ changes) (life_or_new add.make life) else life
 key_life_after now (Delete name ids) key life =
-    if is_name key name then option_map (λ changes. deleted ids ∷ changes) life else life
+    if is_same_name key name then option_map (λ changes. delete_entries ids ∷ changes) life else life
 key_life_after now (TrimTo name trim) key life =
-    if is_name key name then option_map (λ changes. trimmed_to trim ∷ changes) life else life
-key_life_after now (GroupCreate create) key life = if is_name key create.key then opened create.make life else life
+    if is_same_name key name then option_map (λ changes. trim_entries trim ∷ changes) life else life
+key_life_after now (GroupCreate create) key life = if is_same_name key create.key then life_or_new create.make life else life
 key_life_after now (DropKeys keys) key life = if is_listed keys key then None else life
 key_life_after now _ key life = life
 
 -- the open life of a key, looking back over all events
-abbrev pub key_life : History → Bytes → Option (List Change)
+abbrev pub key_life : History → Bytes → Option (List StreamEvent)
 key_life [] key = None
 key_life (e ∷ past) key = key_life_after e.0 e.1 key (key_life past key)
 
@@ -53,43 +53,43 @@ entry_of (Ok id) fields = (id, fields) ∷ []
 entry_of (Err refusal) fields = []
 
 -- what a change gives to a stream with this top: an addition its entry, unless it is refused
-abbrev pub gives : Change → Id → Entries
-gives (added now id fields trim) top = entry_of (assigned now top id) fields
-gives _ top = []
+abbrev pub entries_added_by : StreamEvent → Id → Entries
+entries_added_by (add_entry now id fields trim) top = entry_of (assigned now top id) fields
+entries_added_by _ top = []
 
 -- all that was given in a life, in the order of the events, deleted entries included
-abbrev pub given_in : List Change → Entries
-given_in [] = []
-given_in (change ∷ past) = given_in past ++ gives change (top_of (given_in past))
+abbrev pub added_in : List StreamEvent → Entries
+added_in [] = []
+added_in (change ∷ past) = added_in past ++ entries_added_by change (top_of (added_in past))
 
 -- the top of the stream
-abbrev pub top : List Change → Id
-top past = top_of (given_in past)
+abbrev pub top : List StreamEvent → Id
+top past = top_of (added_in past)
 
 -- a change drops an id: a deletion that names it, a trim, or an addition that isn't refused and trims
-abbrev pub drops : Change → Id → List Id → Id → Bool
-drops (added now id fields trim) top present x =
+abbrev pub removes_id : StreamEvent → Id → List Id → Id → Bool
+removes_id (add_entry now id fields trim) top present x =
     is_ok (assigned now top id) && option_map_or (λ t. is_trimmed t present x) trim false
-drops (deleted ids) top present x = has_id ids x
-drops (trimmed_to trim) top present x = is_trimmed trim present x
+removes_id (delete_entries ids) top present x = has_id ids x
+removes_id (trim_entries trim) top present x = is_trimmed trim present x
 
 -- an id was given, and neither the change that gave it nor a later one has dropped it
-abbrev pub stands : List Change → Id → Bool
-stands [] x = false
-stands (change ∷ past) x =
-    let new = gives change (top past) in
-    let before = filter (λ e. stands past e.0) (given_in past) in
-    if drops change (top past) (ids_of (before ++ new)) x then false
-    else (if has_id (ids_of new) x then true else stands past x)
+abbrev pub is_present : List StreamEvent → Id → Bool
+is_present [] x = false
+is_present (change ∷ past) x =
+    let new = entries_added_by change (top past) in
+    let before = filter (λ e. is_present past e.0) (added_in past) in
+    if removes_id change (top past) (ids_of (before ++ new)) x then false
+    else (if has_id (ids_of new) x then true else is_present past x)
 
 -- the entries that are in the stream
-abbrev pub live : List Change → Entries
-live past = filter (λ e. stands past e.0) (given_in past)
+abbrev pub present_entries : List StreamEvent → Entries
+present_entries past = filter (λ e. is_present past e.0) (added_in past)
 
 -- the stream: its top and what is live
-abbrev pub stream_of : List Change → Kept
-stream_of past = record { top = top past; entries = live past }
+abbrev pub stream_of : List StreamEvent → StreamState
+stream_of past = record { top = top past; entries = present_entries past }
 
 -- all entries ever given in the open life of a key, with the fields that they were given with
-abbrev pub given_at : History → Bytes → Entries
-given_at past key = option_map_or given_in (key_life past key) []
+abbrev pub added_at : History → Bytes → Entries
+added_at past key = option_map_or added_in (key_life past key) []

@@ -4,19 +4,19 @@ use Rattle.std.specs.Prelude.{Bool, false, List, [], Option, None, ◌&&◌, ◌
 use Rattle.xs_keys.specs.Terms.{option_map_or, Id, has_id}
 use Rattle.xs_keys.specs.Event.{Bytes}
 use Rattle.xs_keys.specs.GroupEvent.{GroupEvent, new_ids_of_event, claim_of_event, cursor, rows}
-use Rattle.xs_keys.specs.GroupAsk.{consumer_of, keeps_pending, is_acknowledgement_of, drops_consumer}
+use Rattle.xs_keys.specs.GroupAsk.{consumer_of, keeps_pending, is_acknowledgement_of, deletes_consumer}
 
 -- the event delivers it, and not with NOACK
 abbrev pub is_made_pending_by : Id → List GroupEvent → GroupEvent → Id → Bool
 is_made_pending_by start past event x = keeps_pending event.ask && has_id (new_ids_of_event event (cursor start past)) x
 
 -- a claim takes it
-abbrev pub takes : Id → List GroupEvent → GroupEvent → Id → Bool
-takes start past event x = has_id (claim_of_event event (rows start past)).take x
+abbrev pub is_taken_by_claim : Id → List GroupEvent → GroupEvent → Id → Bool
+is_taken_by_claim start past event x = has_id (claim_of_event event (rows start past)).take x
 
 -- it is delivered without NOACK, or taken by a claim
 abbrev pub is_assigned_by : Id → List GroupEvent → GroupEvent → Id → Bool
-is_assigned_by start past event x = is_made_pending_by start past event x || takes start past event x
+is_assigned_by start past event x = is_made_pending_by start past event x || is_taken_by_claim start past event x
 
 -- the consumer to whom it was last assigned
 abbrev pub last_assigned : Id → List GroupEvent → Id → Option Bytes
@@ -25,24 +25,24 @@ last_assigned start (event ∷ past) x =
     if is_assigned_by start past event x then consumer_of event.ask else last_assigned start past x
 
 -- this consumer is removed
-abbrev pub removes : GroupEvent → Option Bytes → Bool
-removes event consumer = option_map_or (drops_consumer event.ask) consumer false
+abbrev pub is_deletion_of : GroupEvent → Option Bytes → Bool
+is_deletion_of event consumer = option_map_or (deletes_consumer event.ask) consumer false
 
 -- a claim removes it from what is pending
 abbrev pub is_removed_by_claim : Id → List GroupEvent → GroupEvent → Id → Bool
 is_removed_by_claim start past event x = has_id (claim_of_event event (rows start past)).removed x
 
 -- it was assigned, and is acknowledged; the consumer to whom it was last assigned is removed; or a claim removes it
-abbrev pub settles : Id → List GroupEvent → GroupEvent → Id → Bool
-settles start past event x =
+abbrev pub settles_entry : Id → List GroupEvent → GroupEvent → Id → Bool
+settles_entry start past event x =
     (is_acknowledgement_of event.ask x && is_some (last_assigned start past x))
-    || (removes event (last_assigned start past x) || is_removed_by_claim start past event x)
+    || (is_deletion_of event (last_assigned start past x) || is_removed_by_claim start past event x)
 
 -- an event has settled it since it was last assigned
 abbrev pub is_settled : Id → List GroupEvent → Id → Bool
 is_settled start [] x = false
 is_settled start (event ∷ past) x =
-    if is_assigned_by start past event x then false else settles start past event x || is_settled start past x
+    if is_assigned_by start past event x then false else settles_entry start past event x || is_settled start past x
 
 -- the consumer to whom it was last assigned, if nothing has settled it since
 abbrev pub owner : Id → List GroupEvent → Id → Option Bytes

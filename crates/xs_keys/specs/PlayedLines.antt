@@ -5,7 +5,7 @@ use Rattle.xs_keys.specs.Terms.{Fault, Reply, Simple, Error, Int, Bulk, NullArra
 use Rattle.xs_command.specs.Read.{reads}
 use Rattle.xs_command.specs.Examples.{line}
 use Rattle.xs_keys.specs.Content.{Content}
-use Rattle.xs_keys.specs.ContentAfter.{after}
+use Rattle.xs_keys.specs.ContentAfter.{content_after}
 use Rattle.xs_keys.specs.ReplyParts.{array, id_reply}
 use Rattle.xs_keys.specs.Reply.{reply}
 use Rattle.xs_keys.specs.Event.{Bytes}
@@ -21,7 +21,7 @@ at now words answer = record { now = now; words = words; answer = answer }
 
 -- the reply to what the words say, and the content after it
 abbrev pub answered : Content → ℕ → Result Command Fault → Reply × Content
-answered content now (Ok command) = (reply content now command, after content now command)
+answered content now (Ok command) = (reply content now command, content_after content now command)
 answered content now (Err fault) = (Error fault, content)
 
 -- the replies from a content on

@@ -1,45 +1,45 @@
 -- How entries come to a stream and leave it, and how groups begin and end. (Redis, XADD, XDEL, XTRIM, XGROUP CREATE,
 -- XGROUP DESTROY and DEL.)
 use Rattle.std.specs.Prelude.{◌≡◌, ◌⊎◌, Bool, true, false, not, ◌&&◌, ◌||◌, List, ◌∷◌, Option, Some, None, is_some}
-use Rattle.xs_keys.specs.Terms.{Id, has_id, ids_of, is_name, Command, Add, GroupCreate, DropKeys}
+use Rattle.xs_keys.specs.Terms.{Id, has_id, ids_of, is_same_name, Command, Add, GroupCreate, DropKeys}
 use Rattle.xs_keys.specs.Terms.{GroupStart, Top, At}
-use Rattle.xs_keys.specs.Life.{Change, is_listed, key_life, top_of}
+use Rattle.xs_keys.specs.Life.{StreamEvent, is_listed, key_life, top_of}
 use Rattle.xs_keys.specs.GroupLife.{GroupLife, group_life, present_in}
-use Rattle.xs_keys.specs.Effect.{deletes_entry, trims_entry, ends_group}
-use Rattle.xs_keys.specs.Life.{given_at}
+use Rattle.xs_keys.specs.Effect.{deletes_entry, may_trim_entry, ends_group}
+use Rattle.xs_keys.specs.Life.{added_at}
 use Rattle.xs_keys.specs.Event.{Bytes, Event, History, Entries}
 
 -- ---- entries
 
 -- the command deletes the key
-abbrev pub drops_key : Command → Bytes → Bool
-drops_key (DropKeys keys) key = is_listed keys key
-drops_key _ key = false
+abbrev pub deletes_key : Command → Bytes → Bool
+deletes_key (DropKeys keys) key = is_listed keys key
+deletes_key _ key = false
 
 -- the command adds to the key, or deletes it
-abbrev pub adds_or_drops : Command → Bytes → Bool
-adds_or_drops (Add add) key = is_name key add.key
-adds_or_drops command key = drops_key command key
+abbrev pub adds_or_deletes : Command → Bytes → Bool
+adds_or_deletes (Add add) key = is_same_name key add.key
+adds_or_deletes command key = deletes_key command key
 
 -- entries come by additions alone: another command leaves all that was given, unless the key goes
 abbrev pub EntriesAreAdded : History → Event → Type 0
 EntriesAreAdded earlier e =
-    (key : Bytes) → (given_at (e ∷ earlier) key ≡ given_at earlier key) ⊎ (adds_or_drops e.1 key ≡ true)
+    (key : Bytes) → (added_at (e ∷ earlier) key ≡ added_at earlier key) ⊎ (adds_or_deletes e.1 key ≡ true)
 
 -- the command may remove the entry from a stream of these ids: it deletes it, trims it away, or deletes the key
-abbrev pub removes_entry : Command → Bytes → List Id → Id → Bool
-removes_entry command key present x =
-    deletes_entry command key x || (trims_entry command key present x || drops_key command key)
+abbrev pub may_remove_entry : Command → Bytes → List Id → Id → Bool
+may_remove_entry command key present x =
+    deletes_entry command key x || (may_trim_entry command key present x || deletes_key command key)
 
 -- and has to; an addition that is refused doesn't trim
 abbrev pub has_to_remove : Command → Bytes → List Id → Id → Bool
 has_to_remove (Add add) key present x = false
-has_to_remove command key present x = removes_entry command key present x
+has_to_remove command key present x = may_remove_entry command key present x
 
 -- what a command makes of an entry, from the ids in the stream before and after it and those given before: what is
 -- there stays unless the command removes it, and what comes is new
-pub record Stays (command : Command) (key : Bytes) (before after given : List Id) (x : Id) : Type 0 where
-  pub unless_removed : has_id before x ≡ true → has_id after x ≡ false → removes_entry command key before x ≡ true
+pub record EntryStays (command : Command) (key : Bytes) (before after given : List Id) (x : Id) : Type 0 where
+  pub unless_removed : has_id before x ≡ true → has_id after x ≡ false → may_remove_entry command key before x ≡ true
   pub is_removed : has_to_remove command key before x ≡ true → has_id after x ≡ false
   pub comes_new : has_id before x ≡ false → has_id after x ≡ true → has_id given x ≡ false
 
@@ -47,8 +47,8 @@ pub record Stays (command : Command) (key : Bytes) (before after given : List Id
 abbrev pub EntriesStay : History → Event → Type 0
 EntriesStay earlier e =
     (key : Bytes) (x : Id)
-    → Stays e.1 key (present_in (key_life earlier key)) (present_in (key_life (e ∷ earlier) key))
-    (ids_of (given_at earlier key)) x
+    → EntryStays e.1 key (present_in (key_life earlier key)) (present_in (key_life (e ∷ earlier) key))
+    (ids_of (added_at earlier key)) x
 
 -- ---- groups
 
@@ -60,19 +60,19 @@ StartsBehind (At id) given start = start ≡ id
 -- a command makes this group with this start
 abbrev pub MakesGroup : Command → Bytes → Bytes → Entries → Id → Type 0
 MakesGroup (GroupCreate create) key group given start =
-    ((is_name key create.key && is_name group create.group) ≡ true) × StartsBehind create.start given start
+    ((is_same_name key create.key && is_same_name group create.group) ≡ true) × StartsBehind create.start given start
 MakesGroup _ key group given start = ⊥
 
 -- a group comes by its XGROUP CREATE alone, and starts as that asks
 abbrev pub GroupsAreCreated : History → Event → Type 0
 GroupsAreCreated earlier e =
     (key group : Bytes) (life : GroupLife) → group_life earlier key group ≡ None
-    → group_life (e ∷ earlier) key group ≡ Some life → MakesGroup e.1 key group (given_at earlier key) life.start
+    → group_life (e ∷ earlier) key group ≡ Some life → MakesGroup e.1 key group (added_at earlier key) life.start
 
 -- an XGROUP CREATE of the group, whose key is there or may be made
-abbrev pub has_to_create : Command → Bytes → Bytes → Option (List Change) → Bool
+abbrev pub has_to_create : Command → Bytes → Bytes → Option (List StreamEvent) → Bool
 has_to_create (GroupCreate create) key group stream =
-    (is_name key create.key && is_name group create.group) && (create.make || is_some stream)
+    (is_same_name key create.key && is_same_name group create.group) && (create.make || is_some stream)
 has_to_create _ key group stream = false
 
 -- a group that is open stays so until a command ends it, and then it is gone; and one that has to be created is open

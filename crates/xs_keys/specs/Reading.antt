@@ -6,50 +6,50 @@ use Rattle.xs_resp.specs.ReplyItems.{tokens_of}
 use Rattle.xs_group.specs.declared.delivery.Delivery.{Delivery}
 use Rattle.xs_group.specs.Deliveries.{IsMade}
 use Rattle.xs_keys.specs.declared.xreadgroup.Served.{Served}
-use Rattle.xs_keys.specs.Terms.{option_map_or, get, insert, Id, ids_of, delivers, shown, State, Reply}
+use Rattle.xs_keys.specs.Terms.{option_map_or, get, insert, Id, ids_of, new_ids, own_ids, GroupState, Reply}
 use Rattle.xs_keys.specs.Terms.{ReadGroupCommand}
 use Rattle.xs_keys.specs.Terms.{ReadOne, ReadFrom, New, After}
 use Rattle.xs_keys.specs.GroupLife.{ask_of_read}
-use Rattle.xs_keys.specs.Content.{Content, Key}
-use Rattle.xs_keys.specs.ContentAfter.{asked, entries_in, group_after, group_in, with_group}
-use Rattle.xs_keys.specs.ReplyParts.{part, new_part}
-use Rattle.xs_keys.specs.Reply.{shown_by}
+use Rattle.xs_keys.specs.Content.{Content, KeyState}
+use Rattle.xs_keys.specs.ContentAfter.{content_after_ask, entries_in, group_after, group_in, with_group}
+use Rattle.xs_keys.specs.ReplyParts.{stream_part, new_part}
+use Rattle.xs_keys.specs.Reply.{parts_of_read}
 use Rattle.xs_keys.specs.Event.{Bytes, Entries}
 
 -- these parts of a reply were counted and appended
-pub record IsShown (shown : List Reply) (count : ℕ) (before after : List Token) : Type 0 where
-  pub counted : count ≡ length shown
-  pub appended : after ≡ before ++ flat_map tokens_of shown
+pub record IsShown (own_ids : List Reply) (count : ℕ) (before after : List Token) : Type 0 where
+  pub counted : count ≡ length own_ids
+  pub appended : after ≡ before ++ flat_map tokens_of own_ids
 
 -- the ids that a read shows
-abbrev pub ids_shown : ReadGroupCommand → ReadFrom → List Id → State → List Id
-ids_shown read New present group = delivers read.limit group.cursor present
-ids_shown read (After id) present group = shown read.consumer read.limit id group.rows.entries
+abbrev pub ids_shown : ReadGroupCommand → ReadFrom → List Id → GroupState → List Id
+ids_shown read New present group = new_ids read.limit group.cursor present
+ids_shown read (After id) present group = own_ids read.consumer read.limit id group.rows.entries
 
 -- its part of the reply
 abbrev pub part_of : ReadFrom → Bytes → Entries → List Id → List Reply
 part_of New key entries ids = new_part key entries ids
-part_of (After id) key entries ids = part key entries ids ∷ []
+part_of (After id) key entries ids = stream_part key entries ids ∷ []
 
 -- what one of these reads shows
 abbrev pub parts_of : Content → ReadGroupCommand → ReadOne → List Reply
 parts_of content read one =
     let key = get content one.key in
-    option_map_or (shown_by read one.key one.from (entries_in key)) (group_in key read.group) []
+    option_map_or (parts_of_read read one.key one.from (entries_in key)) (group_in key read.group) []
 
 -- a read of a group was served: what it left, what it shows, and what takes it back
 pub record IsServed
-    (entries : Entries) (now : ℕ) (read : ReadGroupCommand) (one : ReadOne) (before after : State)
+    (entries : Entries) (now : ℕ) (read : ReadGroupCommand) (one : ReadOne) (before after : GroupState)
     (tokens longer : List Token) (served : Served) : Type 0 where
   pub left : after ≡ group_after now (ids_of entries) (ask_of_read read one.from) before
-  pub shows : IsShown (shown_by read one.key one.from entries before) served.parts tokens longer
+  pub shows : IsShown (parts_of_read read one.key one.from entries before) served.parts tokens longer
   pub made : IsMade before after served.delivery
 
 -- a read of a group of one of these keys made the ones of the others, and answered this delivery
 pub record IsMadeAt (group_name key_name : Bytes) (before after : Content) (delivery : Delivery) : Type 0 where
-  pub key : Key
-  pub was : State
-  pub is : State
+  pub key : KeyState
+  pub was : GroupState
+  pub is : GroupState
   pub had : get before key_name ≡ Some key
   pub has : get key.groups group_name ≡ Some was
   pub put : after ≡ insert before key_name (with_group key group_name is)
@@ -59,7 +59,7 @@ pub record IsMadeAt (group_name key_name : Bytes) (before after : Content) (deli
 pub record IsServedAt
     (now : ℕ) (read : ReadGroupCommand) (one : ReadOne) (before after : Content) (tokens longer : List Token)
     (served : Served) : Type 0 where
-  pub left : after ≡ asked before now one.key read.group (ask_of_read read one.from)
+  pub left : after ≡ content_after_ask before now one.key read.group (ask_of_read read one.from)
   pub shows : IsShown (parts_of before read one) served.parts tokens longer
   pub made : IsMadeAt read.group one.key before after served.delivery
 

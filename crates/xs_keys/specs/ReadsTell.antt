@@ -2,7 +2,7 @@
 -- "RESP2 Reply".)
 use Rattle.std.specs.Prelude.{◌≡◌, true, List, [], ◌∷◌, ◌++◌, Option, Some, option_and_then}
 use Rattle.xs_keys.specs.Terms.{Id, ReadGroup, ReadGroupCommand, ReadOne, ReadFrom, New, After, Reply, Bulk, is_below}
-use Rattle.xs_keys.specs.Life.{key_life, given_at}
+use Rattle.xs_keys.specs.Life.{key_life, added_at}
 use Rattle.xs_keys.specs.Owner.{owner}
 use Rattle.xs_keys.specs.GroupLife.{GroupLife, group_life, present_in, ids_delivered_by}
 use Rattle.xs_keys.specs.ReplyParts.{array}
@@ -28,11 +28,11 @@ IsOwnPast life consumer from x = (owner_in life x ≡ Some consumer) × (is_belo
 -- first entries past it that are pending with the consumer
 abbrev pub TellsRead : History → ReadGroupCommand → Bytes → ReadFrom → List Reply → Type 0
 TellsRead past read key New told =
-    TellsNew key (given_at past key) (ids_delivered_by past (ReadGroup read) key read.group) told
+    TellsNew key (added_at past key) (ids_delivered_by past (ReadGroup read) key read.group) told
 TellsRead past read key (After id) told =
     (ids : List Id) × (entries : List Reply) × (told ≡ array (Bulk key ∷ array entries ∷ []) ∷ [])
     × AreFirst (IsOwnPast (group_life past key read.group) read.consumer id) read.limit ids
-    × TellsEach (TellsEntryOrNull (given_at past key) (present_in (key_life past key))) ids entries
+    × TellsEach (TellsEntryOrNull (added_at past key) (present_in (key_life past key))) ids entries
 
 -- the parts of all streams, in the order written
 abbrev pub TellsReads : History → ReadGroupCommand → List ReadOne → List Reply → Type 0

@@ -11,8 +11,8 @@ use Rattle.xs_command.specs.declared.command.PendingRowsCommand.{PendingRowsComm
 use Rattle.xs_keys.specs.Terms.{option_map_or, Id, Field, Command, Add, Delete, TrimTo, Len, ReadGroup, Ack, Pending}
 use Rattle.xs_keys.specs.Terms.{PendingRows, Claim, AutoClaim, Reply, Error, NoGroup, Int, Bulk, NullBulk, zero_id}
 use Rattle.xs_keys.specs.Terms.{has_id}
-use Rattle.xs_keys.specs.Life.{key_life, given_at}
-use Rattle.xs_keys.specs.GroupAsk.{Ask, claim, auto_claim, no_claim}
+use Rattle.xs_keys.specs.Life.{key_life, added_at}
+use Rattle.xs_keys.specs.GroupAsk.{GroupAsk, claim, auto_claim, no_claim}
 use Rattle.xs_keys.specs.GroupEvent.{GroupEvent, claim_of_event, scan_end_of_event, rows}
 use Rattle.xs_keys.specs.Owner.{owner}
 use Rattle.xs_keys.specs.TimesAndCounts.{time_of, count_of}
@@ -43,8 +43,8 @@ pending_count key group past =
     option_map_or (λ life. length (rows life.start life.events)) (group_life past key group) 0
 
 -- what a claim takes and removes in a group, and where it goes on
-abbrev pub claimed_at : History → ℕ → Bytes → Bytes → Ask → Scan
-claimed_at past now key group ask =
+abbrev pub scan_at : History → ℕ → Bytes → Bytes → GroupAsk → Scan
+scan_at past now key group ask =
     let event : GroupEvent = record { now = now; present = present_in (key_life past key); ask = ask } in
     let scan : GroupLife → Scan = λ life. record {
       cursor = scan_end_of_event event (rows life.start life.events);
@@ -94,7 +94,7 @@ IfThere there answer Told = (there ≡ true → Told) × (there ≡ false → an
 -- XPENDING tells what is pending; and an acknowledgement and a removal tell how many they take away
 abbrev pub IsTold : History → ℕ → Command → Reply → Type 0
 IsTold past now (Add add) answer =
-    TellsAddition (given_at past add.key) add.fields answer (given_at ((now, Add add) ∷ past) add.key)
+    TellsAddition (added_at past add.key) add.fields answer (added_at ((now, Add add) ∷ past) add.key)
 IsTold past now (Delete key ids) answer = TellsFewer (present_count key) past (now, Delete key ids) answer
 IsTold past now (TrimTo key trim) answer = TellsFewer (present_count key) past (now, TrimTo key trim) answer
 IsTold past now (Len key) answer = answer ≡ Int (present_count key past)
@@ -109,18 +109,18 @@ IsTold past now (PendingRows asked) answer =
     IfThere (is_some (group_life past asked.key asked.group)) answer
     ((life : GroupLife) → group_life past asked.key asked.group ≡ Some life → TellsRows asked now life answer)
 IsTold past now (Claim c) answer =
-    let claimed = claimed_at past now c.key c.group (claim c.consumer c.rule c.ids) in
+    let claimed = scan_at past now c.key c.group (claim c.consumer c.rule c.ids) in
     IfThere (is_some (group_life past c.key c.group)) answer
     ((told : List Reply) × (answer ≡ array told)
-    × TellsTaken c.rule.just_id (given_at past c.key) claimed.claim.take told
+    × TellsTaken c.rule.just_id (added_at past c.key) claimed.claim.take told
     × IsAssigned c.consumer claimed.claim (group_life past c.key c.group)
     (group_life ((now, Claim c) ∷ past) c.key c.group))
 IsTold past now (AutoClaim c) answer =
-    let claimed = claimed_at past now c.key c.group (auto_claim c.consumer c.rule c.start c.limit) in
+    let claimed = scan_at past now c.key c.group (auto_claim c.consumer c.rule c.start c.limit) in
     IfThere (is_some (group_life past c.key c.group)) answer
     ((told : List Reply)
     × (answer ≡ array (id_reply claimed.cursor ∷ array told ∷ array (map id_reply claimed.claim.removed) ∷ []))
-    × TellsTaken c.rule.just_id (given_at past c.key) claimed.claim.take told
+    × TellsTaken c.rule.just_id (added_at past c.key) claimed.claim.take told
     × IsAssigned c.consumer claimed.claim (group_life past c.key c.group)
     (group_life ((now, AutoClaim c) ∷ past) c.key c.group))
 IsTold past now _ answer = Unit {0}

@@ -2,10 +2,10 @@
 use Rattle.std.specs.Prelude.{Bool, List, [], ◌∷◌, map, decimal, Option, Result, Ok, Err, if◌then◌else◌}
 use Rattle.xs_keys.specs.Terms.{flat_map, option_map_or, Id, Field, AddError, printed, fields_at, Fault, SmallId}
 use Rattle.xs_keys.specs.Terms.{Exhausted, Memory, NoKey, NoGroup, Reply, Error, Int, Bulk, NullBulk, Array, NullArray}
-use Rattle.xs_keys.specs.Terms.{items_of, OwnerCount, GroupSummary, PendingRow, State}
+use Rattle.xs_keys.specs.Terms.{items_of, OwnerCount, GroupSummary, PendingRow, GroupState}
 use Rattle.xs_stream.specs.declared.add.AddError.TheVariants as add_error
 use Rattle.xs_group.specs.declared.claims.Scan as scans
-use Rattle.xs_keys.specs.Content.{Key}
+use Rattle.xs_keys.specs.Content.{KeyState}
 use Rattle.xs_keys.specs.Event.{Bytes, Entries}
 
 -- an array of these replies
@@ -48,21 +48,21 @@ assigned_reply (Ok id) = id_reply id
 assigned_reply (Err refusal) = Error (fault_of refusal)
 
 -- what is said of a group; a missing one is an error
-abbrev pub of_group : Option State → (State → Reply) → Reply
-of_group group said = option_map_or said group (Error NoGroup)
+abbrev pub reply_of_group : Option GroupState → (GroupState → Reply) → Reply
+reply_of_group group said = option_map_or said group (Error NoGroup)
 
 -- XGROUP: what is said of a key; a missing one is an error
-abbrev pub of_key : Option Key → (Key → Reply) → Reply
-of_key key said = option_map_or said key (Error NoKey)
+abbrev pub reply_of_key : Option KeyState → (KeyState → Reply) → Reply
+reply_of_key key said = option_map_or said key (Error NoKey)
 
 -- a stream in the reply to a read: its key and its entries
-abbrev pub part : Bytes → Entries → List Id → Reply
-part key entries ids = array (Bulk key ∷ entries_reply entries ids ∷ [])
+abbrev pub stream_part : Bytes → Entries → List Id → Reply
+stream_part key entries ids = array (Bulk key ∷ entries_reply entries ids ∷ [])
 
 -- a stream with nothing new is left out
 abbrev pub new_part : Bytes → Entries → List Id → List Reply
 new_part key entries [] = []
-new_part key entries (x ∷ xs) = part key entries (x ∷ xs) ∷ []
+new_part key entries (x ∷ xs) = stream_part key entries (x ∷ xs) ∷ []
 
 -- XPENDING, the short form: a consumer with the number of its pending entries
 abbrev pub owner_reply : OwnerCount → Reply
@@ -84,6 +84,6 @@ abbrev pub taken_reply : Bool → Entries → List Id → Reply
 taken_reply just_id entries ids = if just_id then array (map id_reply ids) else entries_reply entries ids
 
 -- XAUTOCLAIM: where to go on, what was taken, and the ids that were removed
-abbrev pub scan_shown : Bool → Entries → scans.Scan → Reply
-scan_shown just_id entries s =
+abbrev pub scan_reply : Bool → Entries → scans.Scan → Reply
+scan_reply just_id entries s =
     array (id_reply s.cursor ∷ taken_reply just_id entries s.claim.take ∷ array (map id_reply s.claim.removed) ∷ [])

@@ -3,7 +3,7 @@ use Rattle.std.specs.Prelude.{◌≡◌, ℕ, Bool, true, false, ◌⊎◌, Some
 use Rattle.xs_keys.specs.Terms.{Memory, Reply, Error, Command, Ping, Add, Scan}
 use Rattle.xs_keys.specs.Terms.{GroupCreate, ConsumerCreate, ReadGroup, Pending, PendingRows, Claim, AutoClaim}
 use Rattle.xs_keys.specs.Content.{Content}
-use Rattle.xs_keys.specs.ContentAfter.{after}
+use Rattle.xs_keys.specs.ContentAfter.{content_after}
 use Rattle.xs_keys.specs.Reply.{reply}
 
 -- the commands that may find no memory
@@ -27,7 +27,7 @@ is_error _ = false
 -- the reply is the model's, and so is what is left
 pub record Applied (old : Content) (now : ℕ) (command : Command) (answer : Reply) (new : Content) : Type 0 where
   pub answer_is : answer ≡ reply old now command
-  pub content_is : new ≡ after old now command
+  pub content_is : new ≡ content_after old now command
 
 -- memory ran out, where the command takes some and the model refuses nothing: nothing has changed
 pub record OutOfMemory (old : Content) (now : ℕ) (command : Command) (answer : Reply) (new : Content) : Type 0 where
@@ -46,4 +46,4 @@ StepAtAnyTime old command answer new = (now : ℕ) → Step old now command answ
 -- what is refused changes nothing: the reply is an error only if the content stays
 abbrev pub IsUnchangedIfRefused : Content → ℕ → Command → Type 0
 IsUnchangedIfRefused content now command =
-    is_error (reply content now command) ≡ true → after content now command ≡ content
+    is_error (reply content now command) ≡ true → content_after content now command ≡ content

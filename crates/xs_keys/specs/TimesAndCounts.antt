@@ -2,16 +2,16 @@
 -- Streams, "Consumer groups": the pending entries list; XPENDING; XCLAIM.)
 use Rattle.std.specs.Prelude.{◌≡◌, ℕ, Bool, List, [], ◌∷◌, Some, ◌&&◌, ◌||◌, if◌then◌else◌}
 use Rattle.xs_group.specs.Claims.{row_at, claim_time, claim_count}
-use Rattle.xs_group.specs.State.{raised}
-use Rattle.xs_keys.specs.Terms.{option_map_or, Id, Row, has_id, shown}
-use Rattle.xs_keys.specs.GroupAsk.{Ask, read_new, read_own, rule_of}
+use Rattle.xs_group.specs.State.{next_count}
+use Rattle.xs_keys.specs.Terms.{option_map_or, Id, RowState, has_id, own_ids}
+use Rattle.xs_keys.specs.GroupAsk.{GroupAsk, read_new, read_own, rule_of}
 use Rattle.xs_keys.specs.GroupEvent.{GroupEvent, rows}
 use Rattle.xs_keys.specs.Owner.{is_assigned_by}
 use Rattle.xs_keys.specs.Event.{PendingEntries}
 
 -- the own pending entries that an ask shows once more, over the rows it meets
-abbrev pub own_ids_shown : Ask → PendingEntries → List Id
-own_ids_shown (read_own consumer limit from) rows = shown consumer limit from rows
+abbrev pub own_ids_shown : GroupAsk → PendingEntries → List Id
+own_ids_shown (read_own consumer limit from) rows = own_ids consumer limit from rows
 own_ids_shown _ rows = []
 
 -- the event delivers it once more to the consumer who has it: it is shown, and still in the stream
@@ -23,13 +23,13 @@ abbrev pub is_touched_by : Id → List GroupEvent → GroupEvent → Id → Bool
 is_touched_by start past event x = is_assigned_by start past event x || is_redelivered_by start past event x
 
 -- the time that it gets: that of the claim, else now
-abbrev pub time_of_touch : Ask → ℕ → ℕ
+abbrev pub time_of_touch : GroupAsk → ℕ → ℕ
 time_of_touch ask now = option_map_or (λ rule. claim_time rule.when now) (rule_of ask) now
 
 -- the count that it gets: 1 at its delivery, that of the claim, else one more
-abbrev pub count_of_touch : Ask → ℕ → ℕ
+abbrev pub count_of_touch : GroupAsk → ℕ → ℕ
 count_of_touch (read_new consumer limit noack) count = 1
-count_of_touch ask count = option_map_or (λ r. claim_count r.retry r.just_id count) (rule_of ask) (raised count)
+count_of_touch ask count = option_map_or (λ r. claim_count r.retry r.just_id count) (rule_of ask) (next_count count)
 
 -- the time that it got from the last event that touched it
 abbrev pub time_of : Id → List GroupEvent → Id → ℕ
@@ -46,5 +46,5 @@ count_of start (event ∷ past) x =
 -- time and count of a pending row are those of the last event that touched it
 abbrev pub IsLastTouched : Id → List GroupEvent → Type 0
 IsLastTouched start events =
-    (x : Id) (row : Row) → row_at (rows start events) x ≡ Some row
+    (x : Id) (row : RowState) → row_at (rows start events) x ≡ Some row
     → (row.time ≡ time_of start events x) × (row.count ≡ count_of start events x)

@@ -1,7 +1,7 @@
 //! DEL.
 ghost use Rattle.std.specs.Prelude.{◌≡◌};
 ghost use Rattle.xs_keys.specs.ContentAfter.{without_keys};
-ghost use Rattle.xs_keys.specs.Reply.{existing};
+ghost use Rattle.xs_keys.specs.Reply.{existing_count};
 ghost use Rattle.xs_keys.specs.Step.{StepAtAnyTime};
 
 use crate::keys::Keys;
@@ -12,7 +12,7 @@ use xs_resp::Reply;
 /// Removes keys, and counts those that were there, each once.
 fn remove_all(keys: &mut Keys, names: &[Bytes]) -> u64
     ensures content { keys.new ≡ without_keys names.now keys.old }
-    ensures count { result ≡ existing names.now keys.old }
+    ensures count { result ≡ existing_count names.now keys.old }
 {
     let mut count = 0;
     for name in names {

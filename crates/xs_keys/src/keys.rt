@@ -23,10 +23,10 @@ pub struct Slot {
 }
 
 impl Model for Slot {
-    ghost use Rattle.xs_keys.specs.Content.{Key};
+    ghost use Rattle.xs_keys.specs.Content.{KeyState};
     ghost use Rattle.xs_keys.specs.Codes.{coded_key};
 
-    ghost Value = { Key };
+    ghost Value = { KeyState };
 
     ghost coded = { coded_key };
 

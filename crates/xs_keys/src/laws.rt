@@ -6,25 +6,25 @@ ghost use Rattle.xs_bytes.specs.SortedMap as map;
 ghost use Rattle.xs_stream.specs.declared.id.Id.{Id};
 ghost use Rattle.xs_stream.specs.Id.{has_id, is_below};
 ghost use Rattle.xs_stream.specs.StreamContent.{Ascends, AllAbove, ids_of};
-ghost use Rattle.xs_group.specs.State.{is_name};
+ghost use Rattle.xs_group.specs.State.{is_same_name};
 ghost use Rattle.xs_command.specs.declared.command.Command.{Command};
 ghost use Rattle.xs_command.specs.WellFormed.{IsWellFormed};
-ghost use Rattle.xs_keys.specs.Life.{Change, key_life, given_in, live};
-ghost use Rattle.xs_keys.specs.GroupEvent.{delivered, cursor, pending_row_at};
+ghost use Rattle.xs_keys.specs.Life.{StreamEvent, key_life, added_in, present_entries};
+ghost use Rattle.xs_keys.specs.GroupEvent.{delivered_ids, cursor, pending_row_at};
 ghost use Rattle.xs_keys.specs.Owner.{owner};
-ghost use Rattle.xs_keys.specs.GroupLife.{GroupLife, group_life, group_of, present_in, reads_new_entries};
-ghost use Rattle.xs_keys.specs.GroupLife.{ids_delivered_by, GoesOn};
+ghost use Rattle.xs_keys.specs.GroupLife.{GroupLife, group_life, read_group_of, present_in, reads_new_entries};
+ghost use Rattle.xs_keys.specs.GroupLife.{ids_delivered_by, LifeContinues};
 ghost use Rattle.xs_keys.specs.Content.{Content, IsContent};
-ghost use Rattle.xs_keys.specs.ContentAfter.{after};
-ghost use Rattle.xs_keys.specs.LawfulContent.{IsLawfulContent};
+ghost use Rattle.xs_keys.specs.ContentAfter.{content_after};
+ghost use Rattle.xs_keys.specs.LawfulContent.{IsConsistentContent};
 ghost use Rattle.xs_keys.specs.Reply.{reply};
 ghost use Rattle.xs_keys.specs.Step.{IsUnchangedIfRefused};
 ghost use Rattle.xs_keys.specs.RepliesTell.{IsTold};
-ghost use Rattle.xs_keys.specs.ClaimsTake.{ClaimsWhatIsIdle};
+ghost use Rattle.xs_keys.specs.ClaimsTake.{ClaimsAreExact};
 ghost use Rattle.xs_keys.specs.TimesAndCounts.{IsLastTouched};
 ghost use Rattle.xs_keys.specs.JobPlace.{Place, HasOnePlace, place_after};
-ghost use Rattle.xs_keys.specs.JobMove.{GoesAlong, is_final, GoesOnFor};
-ghost use Rattle.xs_keys.specs.GroupBooks.{is_pending, jobs_at, BooksBalance, TellsPending};
+ghost use Rattle.xs_keys.specs.JobMove.{MovesAlong, is_final, GroupStaysOpen};
+ghost use Rattle.xs_keys.specs.GroupBooks.{is_pending, jobs_at, PlacesAddUp, TellsPending};
 ghost use Rattle.xs_keys.specs.Presence.{EntriesAreAdded, EntriesStay, GroupsAreCreated, GroupsStay};
 ghost use Rattle.xs_keys.specs.EachDelivery.{HadItsTurn, DeliversInFull};
 ghost use Rattle.xs_keys.specs.EachOwner.{OwnedUntilSettled, ChangesByClaims};
@@ -37,11 +37,11 @@ ghost use Rattle.xs_keys.specs.Event.{Bytes, Event, History};
 pub fn step_law()
     ensures empty { IsContent map.empty [] }
     ensures step { (past : History) (content : Content) (now : ℕ) (command : Command) →
-        IsContent content past → IsContent (after content now command) ((now, command) ∷ past) }
+        IsContent content past → IsContent (content_after content now command) ((now, command) ∷ past) }
     ensures unique { (past : History) (one other : Content) →
         IsContent one past → IsContent other past → one ≡ other }
     ensures lawful { (past : History) (content : Content) →
-        IsContent content past → IsLawfulContent content }
+        IsContent content past → IsConsistentContent content }
 {}
 
 /// What is refused changes nothing: where the reply to a command is an error, the content stays as it was.
@@ -52,14 +52,14 @@ pub fn what_is_refused_changes_nothing()
 
 /// The ids given in the life of a key ascend.
 pub fn ids_ascend()
-    ensures { (past : History) (name : Bytes) (changes : List Change) → key_life past name ≡ Some changes →
-        Ascends (ids_of (given_in changes)) }
+    ensures { (past : History) (name : Bytes) (changes : List StreamEvent) → key_life past name ≡ Some changes →
+        Ascends (ids_of (added_in changes)) }
 {}
 
 /// The ids delivered in the life of a group ascend over all its reads, and are past its start.
 pub fn deliveries_ascend()
-    ensures ascend { OfEachLife (λ life. Ascends (delivered life.start life.events)) }
-    ensures past_start { OfEachLife (λ life. AllAbove life.start (delivered life.start life.events)) }
+    ensures ascend { OfEachLife (λ life. Ascends (delivered_ids life.start life.events)) }
+    ensures past_start { OfEachLife (λ life. AllAbove life.start (delivered_ids life.start life.events)) }
 {}
 
 /// An id above the start and not above the cursor has had its turn, and was delivered exactly where it
@@ -87,14 +87,14 @@ pub fn one_owner_until_settled()
 /// events deliver, one after the other, and nothing else.
 pub fn lives_are_apart()
     ensures elsewhere { (past : History) (command : Command) (key group : Bytes) →
-        (is_name group (group_of command) ≡ false) ⊎ (reads_new_entries command key ≡ false)
+        (is_same_name group (read_group_of command) ≡ false) ⊎ (reads_new_entries command key ≡ false)
         → ids_delivered_by past command key group ≡ [] }
     ensures outside { (past : History) (command : Command) (key group : Bytes) →
         group_life past key group ≡ None → ids_delivered_by past command key group ≡ [] }
     ensures goes_on { (past : History) (now : ℕ) (command : Command) (key group : Bytes) →
         IsWellFormed command →
         let new = ids_delivered_by past command key group in
-        GoesOn (group_life past key group) new (group_life ((now, command) ∷ past) key group) }
+        LifeContinues (group_life past key group) new (group_life ((now, command) ∷ past) key group) }
 {}
 
 /// What an accepted read with `>` tells its consumer are the entries that the event delivers in the group, and what an
@@ -123,7 +123,7 @@ pub fn time_and_count_are_of_the_last_touch()
 /// may be taken so an XCLAIM takes each that it names, and an XAUTOCLAIM each from its start on, until it has COUNT
 /// hits or 10 x COUNT ids.
 pub fn a_claim_takes_what_is_idle()
-    ensures { OfEachLife (λ life. ClaimsWhatIsIdle life.start life.events) }
+    ensures { OfEachLife (λ life. ClaimsAreExact life.start life.events) }
 {}
 
 /// The life of a job. Entries come by XADD alone, and leave their stream by a deletion, a trim or with their key; a
@@ -136,24 +136,24 @@ pub fn a_claim_takes_what_is_idle()
 /// doubled or without an owner: what waits, what was dropped or handed out, the rows that XPENDING shows and what is
 /// settled are all that was given past the start.
 pub fn the_life_of_a_job()
-    ensures one_place { (past : History) (key group : Bytes) (changes : List Change) (life : GroupLife) →
+    ensures one_place { (past : History) (key group : Bytes) (changes : List StreamEvent) (life : GroupLife) →
         key_life past key ≡ Some changes → group_life past key group ≡ Some life →
-        (x : Id) → has_id (ids_of (given_in changes)) x ≡ true → HasOnePlace life (ids_of (live changes)) x }
+        (x : Id) → has_id (ids_of (added_in changes)) x ≡ true → HasOnePlace life (ids_of (present_entries changes)) x }
     ensures goes_along { (past : History) (now : ℕ) (command : Command) (key group : Bytes) (x : Id) →
         IsWellFormed command →
-        GoesAlong command key group (present_in (key_life past key)) x (place_after past key group x)
+        MovesAlong command key group (present_in (key_life past key)) x (place_after past key group x)
         (place_after ((now, command) ∷ past) key group x) }
     ensures additions { (earlier : History) (e : Event) → EntriesAreAdded earlier e }
     ensures presence { (earlier : History) (e : Event) → EntriesStay earlier e }
     ensures groups { (earlier : History) (e : Event) → GroupsAreCreated earlier e }
     ensures open_groups { (earlier : History) (e : Event) → GroupsStay earlier e }
     ensures for_good { (later earlier : History) (key group : Bytes) (x : Id) (here : Place) →
-        GoesOnFor key group later → is_final here ≡ true → place_after earlier key group x ≡ Some here →
+        GroupStaysOpen key group later → is_final here ≡ true → place_after earlier key group x ≡ Some here →
         place_after (later ++ earlier) key group x ≡ Some here }
-    ensures balances { (past : History) (key group : Bytes) (changes : List Change) (life : GroupLife) →
-        key_life past key ≡ Some changes → group_life past key group ≡ Some life → BooksBalance changes life }
+    ensures balances { (past : History) (key group : Bytes) (changes : List StreamEvent) (life : GroupLife) →
+        key_life past key ≡ Some changes → group_life past key group ≡ Some life → PlacesAddUp changes life }
     ensures told { (past : History) (content : Content) (now : ℕ) (key group : Bytes)
-        (changes : List Change) (life : GroupLife) → IsContent content past → key_life past key ≡ Some changes →
+        (changes : List StreamEvent) (life : GroupLife) → IsContent content past → key_life past key ≡ Some changes →
         group_life past key group ≡ Some life →
         TellsPending content now key group (length (jobs_at is_pending changes life)) }
 {}

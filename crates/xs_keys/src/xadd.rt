@@ -3,7 +3,7 @@ ghost use Rattle.std.specs.Prelude.{◌≡◌, Some, Ok, Err, None, true, is_ok,
 ghost use Rattle.xs_bytes.specs.SortedMap as map;
 ghost use Rattle.xs_stream.specs.Id.{assigned};
 ghost use Rattle.xs_command.specs.WellFormed.{IsAddId};
-ghost use Rattle.xs_keys.specs.Life.{added};
+ghost use Rattle.xs_keys.specs.Life.{add_entry};
 ghost use Rattle.xs_keys.specs.ContentAfter.{stream_after};
 ghost use Rattle.xs_keys.specs.Adding.{text_of, Adds};
 ghost use Rattle.xs_keys.specs.ReplyParts.{fault_of};
@@ -28,7 +28,7 @@ fn try_add(
     add: &AddCommand,
 ) -> Result<Bytes, AddError>
     ensures ok { IfOk result (λ text. (text_of (assigned now stream.old.top add.now.id) ≡ Some text)
-        × (stream.new ≡ stream_after (added now add.now.id add.now.fields add.now.trim) stream.old)) }
+        × (stream.new ≡ stream_after (add_entry now add.now.id add.now.fields add.now.trim) stream.old)) }
     ensures small { IsErrOf result AddError.Small → assigned now stream.old.top add.now.id ≡ Err AddError.Small }
     ensures exhausted { IsErrOf result AddError.Exhausted → assigned now stream.old.top add.now.id
         ≡ Err AddError.Exhausted }

@@ -5,7 +5,7 @@ ghost use Rattle.xs_group.specs.Claims as claims;
 ghost use Rattle.xs_keys.specs.GroupAsk.{auto_claim};
 ghost use Rattle.xs_keys.specs.ContentAfter.{group_after};
 ghost use Rattle.xs_resp.specs.ReplyItems.{tokens_of};
-ghost use Rattle.xs_keys.specs.ReplyParts.{array, id_reply, scan_shown, taken_reply};
+ghost use Rattle.xs_keys.specs.ReplyParts.{array, id_reply, scan_reply, taken_reply};
 ghost use Rattle.xs_keys.specs.Step.{Step};
 
 use crate::keys::Keys;
@@ -49,7 +49,7 @@ fn scan_shown(
     just_id: bool,
     scan: &Scan,
 ) -> Result<Reply, AllocError>
-    ensures { IfOk result (λ reply. reply ≡ scan_shown just_id stream.now.entries scan.now) }
+    ensures { IfOk result (λ reply. reply ≡ scan_reply just_id stream.now.entries scan.now) }
 {
     let mut tokens = Tokens::new(alloc);
     push_id(&mut tokens, alloc, scan.cursor)?;
@@ -76,7 +76,7 @@ fn claim_in(
     ensures answer { let asked = command.now in
         let present = ids_of stream.now.entries in
         let found = claims.scan_of group.old.rows.entries present now asked.rule asked.start asked.limit in
-        IfOk result (λ reply. reply ≡ scan_shown command.now.rule.just_id stream.now.entries found) }
+        IfOk result (λ reply. reply ≡ scan_reply command.now.rule.just_id stream.now.entries found) }
     ensures ok { let asked = auto_claim command.now.consumer command.now.rule command.now.start command.now.limit in
         OnOk result (group.new ≡ group_after now (ids_of stream.now.entries) asked group.old) }
     ensures err { OnErr result (group.new ≡ group.old) }

@@ -49,7 +49,7 @@ fn claim_in(
     command: &ClaimCommand,
 ) -> Result<Reply, AllocError>
     ensures answer { let present = ids_of stream.now.entries in
-        let found = claims.claim_of group.old.rows.entries present now command.now.rule command.now.ids in
+        let found = claims.claim_by_ids group.old.rows.entries present now command.now.rule command.now.ids in
         IfOk result (λ reply. reply ≡ taken_reply command.now.rule.just_id stream.now.entries found.take) }
     ensures ok { let asked = claim command.now.consumer command.now.rule command.now.ids in
         OnOk result (group.new ≡ group_after now (ids_of stream.now.entries) asked group.old) }

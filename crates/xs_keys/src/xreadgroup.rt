@@ -6,9 +6,9 @@ ghost use Rattle.xs_stream.specs.StreamContent.{ids_of};
 ghost use Rattle.xs_group.specs.Deliveries.{IsMade, row_ids};
 ghost use Rattle.xs_keys.specs.GroupLife.{ask_of_read};
 ghost use Rattle.xs_keys.specs.Content.{Content};
-ghost use Rattle.xs_keys.specs.ContentAfter.{group_after, group_in, serves, read_each};
+ghost use Rattle.xs_keys.specs.ContentAfter.{group_after, group_in, has_all_groups_in, content_after_reads};
 ghost use Rattle.xs_resp.specs.ReplyItems.{tokens_of};
-ghost use Rattle.xs_keys.specs.ReplyParts.{array_or_null, entry_reply, part};
+ghost use Rattle.xs_keys.specs.ReplyParts.{array_or_null, entry_reply, stream_part};
 ghost use Rattle.xs_keys.specs.Reply.{parts};
 ghost use Rattle.xs_keys.specs.Reading.{ids_shown, part_of, IsShown, IsServed, IsServedAt, IsMadeAt, AreMade};
 ghost use Rattle.xs_keys.specs.Step.{Step};
@@ -81,7 +81,7 @@ fn push_stream(
     rows: &[DeliveryRow],
 ) -> Result<(), AllocError>
     ensures { OnOk result (tokens.new ≡ tokens.old
-        ++ tokens_of (part key.now stream.now.entries (row_ids rows.now))) }
+        ++ tokens_of (stream_part key.now stream.now.entries (row_ids rows.now))) }
 {
     tokens.push_array(2)?;
     tokens.push_bulk(key.as_slice())?;
@@ -198,8 +198,8 @@ fn serve_all(
     now: Moment,
     read: &ReadGroupCommand,
 ) -> Result<Reply, AllocError>
-    requires { serves keys.old read.now ≡ true }
-    ensures content { OnOk result (keys.new ≡ read_each keys.old now read.now read.now.reads) }
+    requires { has_all_groups_in keys.old read.now ≡ true }
+    ensures content { OnOk result (keys.new ≡ content_after_reads keys.old now read.now read.now.reads) }
     ensures answer { IfOk result (λ reply. reply ≡ array_or_null (parts keys.old now read.now read.now.reads)) }
     ensures err { OnErr result (keys.new ≡ keys.old) }
 {
@@ -227,7 +227,7 @@ fn serve_all(
 
 /// Each key and group of a read is there.
 fn all_there(keys: &Keys, read: &ReadGroupCommand) -> bool
-    ensures { result ≡ serves keys.now read.now }
+    ensures { result ≡ has_all_groups_in keys.now read.now }
 {
     for one in read.reads.as_slice() {
         if group_at(keys, &one.key, &read.group).is_none() {

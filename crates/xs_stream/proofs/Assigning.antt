@@ -6,7 +6,7 @@ use Rattle.xs_stream.specs.declared.add.AddId.{AddId}
 use Rattle.xs_stream.specs.declared.add.AddId.TheVariants.{Auto, AutoSeq, Exact}
 use Rattle.xs_stream.specs.declared.add.AddError.{AddError}
 use Rattle.xs_stream.specs.declared.add.AddError.TheVariants.{Small, Exhausted}
-use Rattle.xs_stream.specs.Id.{is_below, is_same, last, greatest_id, assigned, assigned_above, successor}
+use Rattle.xs_stream.specs.Id.{is_below, is_same_id, greatest_number, greatest_id, assigned, assigned_above, successor}
 
 -- later milliseconds are above
 below-later : (m n s t : ℕ) → m < n → is_below (record { ms = m; seq = s }) (record { ms = n; seq = t }) ≡ true
@@ -24,8 +24,8 @@ ok-inj : (a b : Id) → ◌≡◌ {A = Result Id AddError} (Ok a) (Ok b) → a �
 ok-inj a b e = cc
 
 successor-above : (top : Id) → is_below top (successor top) ≡ true
-successor-above top = by (ltb top.seq last) refl where
-  by : (t : Bool) → ltb top.seq last ≡ t → is_below top (cond t (record { ms = top.ms; seq = top.seq + 1 }) (record { ms = top.ms + 1; seq = 0 })) ≡ true
+successor-above top = by (ltb top.seq greatest_number) refl where
+  by : (t : Bool) → ltb top.seq greatest_number ≡ t → is_below top (cond t (record { ms = top.ms; seq = top.seq + 1 }) (record { ms = top.ms + 1; seq = 0 })) ≡ true
   by true e = below-next top.ms top.seq (top.seq + 1) (omega arith)
   by false e = below-later top.ms (top.ms + 1) top.seq 0 (omega arith)
 
@@ -37,7 +37,7 @@ assigned_above-above now top Auto given e = by (ltb top.ms now) refl (ok-inj _ _
   by : (t : Bool) → ltb top.ms now ≡ t → cond t (record { ms = now; seq = 0 }) (successor top) ≡ given → is_below top given ≡ true
   by true f h = subst (λ x. is_below top x ≡ true) h (below-later top.ms now top.seq 0 (grind (arith, nat_tests)))
   by false f h = subst (λ x. is_below top x ≡ true) h (successor-above top)
-assigned_above-above now top (AutoSeq ms) given e = by (eqb ms top.ms) (ltb top.seq last) (ltb top.ms ms) refl refl e where
+assigned_above-above now top (AutoSeq ms) given e = by (eqb ms top.ms) (ltb top.seq greatest_number) (ltb top.ms ms) refl refl e where
   by : (s t u : Bool) → eqb ms top.ms ≡ s → ltb top.ms ms ≡ u
       → cond s (cond t (Ok (record { ms = ms; seq = top.seq + 1 })) (Err Small)) (cond u (Ok (record { ms = ms; seq = 0 })) (Err Small)) ≡ Ok given → is_below top given ≡ true
   by true true u f g h =
@@ -52,7 +52,7 @@ assigned_above-above now top (Exact id) given e = by (is_below top id) refl e wh
   by false f h = cc
 
 pub assigned-above : (now : ℕ) (top : Id) (add : AddId) (given : Id) → assigned now top add ≡ Ok given → is_below top given ≡ true
-assigned-above now top add given e = by (is_same top greatest_id) e where
+assigned-above now top add given e = by (is_same_id top greatest_id) e where
   by : (t : Bool) → cond t (Err Exhausted) (assigned_above now top add) ≡ Ok given → is_below top given ≡ true
   by true h = cc
   by false h = assigned_above-above now top add given h

@@ -9,7 +9,7 @@ use Rattle.std.specs.Map.{lookup, set_value}
 use Rattle.xs_stream.specs.declared.id.Id.{Id}
 use Rattle.xs_stream.specs.declared.field.Field.{Field}
 use Rattle.xs_stream.specs.declared.trim.Trim.TheVariants.{MinId}
-use Rattle.xs_stream.specs.Id.{is_below, is_same}
+use Rattle.xs_stream.specs.Id.{is_below, is_same_id}
 use Rattle.xs_stream.specs.StreamContent.{ids_of, AllAbove, AllUpTo, Ascends, trimmed}
 use Rattle.xs_stream.specs.Blocks.{listed, AreFiled}
 use Rattle.xs_stream.proofs.Order.{is_same-refl, up_to-below, not_below-above}
@@ -64,25 +64,25 @@ filed-within count under es bs newest h filed = (
   filed.1,
 )
 
-pub set-first : (under : Id) (es fs : Entries) (bs : Blocks) → set_value (is_same under) ((under, es) ∷ bs) fs ≡ (under, fs) ∷ bs
+pub set-first : (under : Id) (es fs : Entries) (bs : Blocks) → set_value (is_same_id under) ((under, es) ∷ bs) fs ≡ (under, fs) ∷ bs
 set-first under es fs bs = rw (is_same-refl under) refl
 
 module _ (older : Blocks) (under : Id) (es : Entries) (bs : Blocks) (is : older ≡ (under, es) ∷ bs) where
-  found-first : lookup (is_same under) older ≡ Some es
-  found-first = ap (lookup (is_same under)) is ∙ rw (is_same-refl under) refl
+  found-first : lookup (is_same_id under) older ≡ Some es
+  found-first = ap (lookup (is_same_id under)) is ∙ rw (is_same-refl under) refl
 
-  pub lent-first : (fs : Entries) → Some fs ≡ lookup (is_same under) older → fs ≡ es
+  pub lent-first : (fs : Entries) → Some fs ≡ lookup (is_same_id under) older → fs ≡ es
   lent-first fs e = let same : ◌≡◌ {A = Option Entries} (Some fs) (Some es) = e ∙ found-first in cc
 
   pub first-counted : (newest : Entries) → length es ≤ length (listed older ++ newest)
   first-counted newest =
       omega (arith, ap (λ cs. length (listed cs ++ newest)) is, length-append (es ++ listed bs) newest, length-append es (listed bs))
 
-  pub never-absent : ◌≡◌ {A = Option Entries} None (lookup (is_same under) older) → ⊥
+  pub never-absent : ◌≡◌ {A = Option Entries} None (lookup (is_same_id under) older) → ⊥
   never-absent e = let never : ◌≡◌ {A = Option Entries} None (Some es) = e ∙ found-first in cc
 
-  pub written-first : (new : Blocks) (fs : Entries) → new ≡ set_value (is_same under) older fs → new ≡ (under, fs) ∷ bs
-  written-first new fs e = e ∙ ap (λ cs. set_value (is_same under) cs fs) is ∙ set-first under es fs bs
+  pub written-first : (new : Blocks) (fs : Entries) → new ≡ set_value (is_same_id under) older fs → new ≡ (under, fs) ∷ bs
+  written-first new fs e = e ∙ ap (λ cs. set_value (is_same_id under) cs fs) is ∙ set-first under es fs bs
 
 -- ---- those below an id
 

@@ -13,7 +13,7 @@ use Rattle.std.specs.Ordering.{is_le}
 use Rattle.std.specs.declared.ops.Bound.TheVariants.{Included, Excluded, Unbounded}
 use Rattle.xs_stream.specs.declared.id.Id.{Id}
 use Rattle.xs_stream.specs.declared.field.Field.{Field}
-use Rattle.xs_stream.specs.Id.{id_cmp, is_below, is_same}
+use Rattle.xs_stream.specs.Id.{id_cmp, is_below, is_same_id}
 use Rattle.xs_stream.specs.StreamContent.{ids_of, AllAbove, AllUpTo, fields_at}
 use Rattle.xs_stream.specs.Blocks.{listed, AreFiled}
 use Rattle.xs_stream.proofs.Order.{is_same-eq, is_same-refl, is_same-symm, below-not_same, below-irrefl, up_to-below, above-greater, below-not_below, le-not_below}
@@ -28,16 +28,16 @@ Blocks = List (Id × List (Id × List Field))
 
 -- ---- entries that aren't among others
 
-not_same : (a b : Id) → is_below b a ≡ true → is_same a b ≡ false
+not_same : (a b : Id) → is_below b a ≡ true → is_same_id a b ≡ false
 not_same a b h = is_same-symm a b ∙ below-not_same b a h
 
 -- none of those up to an id is one above it
-pub none_up_to : (id under : Id) (es : Entries) → AllUpTo under (ids_of es) → is_below under id ≡ true → lookup (is_same id) es ≡ None
+pub none_up_to : (id under : Id) (es : Entries) → AllUpTo under (ids_of es) → is_below under id ≡ true → lookup (is_same_id id) es ≡ None
 none_up_to id under [] up h = refl
 none_up_to id under (e ∷ es) up h = rw (not_same id e.0 (up_to-below under e.0 id up.0 h)) (none_up_to id under es up.1 h)
 
 -- none of those above an id is one up to it
-pub none_above : (id under : Id) (es : Entries) → AllAbove under (ids_of es) → is_below under id ≡ false → lookup (is_same id) es ≡ None
+pub none_above : (id under : Id) (es : Entries) → AllAbove under (ids_of es) → is_below under id ≡ false → lookup (is_same_id id) es ≡ None
 none_above id under [] a h = refl
 none_above id under (e ∷ es) a h = rw (below-not_same id e.0 (up_to-below under id e.0 h a.0)) (none_above id under es a.1 h)
 
@@ -84,9 +84,9 @@ module _ (test : Id → Bool) where
       ]
 
 -- a block that is filed under another id
-other_id : (id under other : Id) → is_below other id ≡ true → not (is_below under id) ≡ true → is_same under other ≡ false
-other_id id under other h k = by (is_same under other) refl where
-  by : (t : Bool) → is_same under other ≡ t → is_same under other ≡ false
+other_id : (id under other : Id) → is_below other id ≡ true → not (is_below under id) ≡ true → is_same_id under other ≡ false
+other_id id under other h k = by (is_same_id under other) refl where
+  by : (t : Bool) → is_same_id under other ≡ t → is_same_id under other ≡ false
   by false e = e
   by true e = absurd (false≢true (sym (ap not h) ∙ ap (λ x. not (is_below x id)) (sym (is_same-eq under other e)) ∙ k))
 
@@ -98,8 +98,8 @@ fields-block id [] newest filed = refl
 fields-block id (b ∷ bs) newest filed = rw append_assoc (by (fields-block id bs newest filed.1) (is_below b.0 id) refl) where
   by : fields_at (listed bs ++ newest) id ≡ fields_at (unwrap_or (lookup (λ under. not (is_below under id)) bs) newest) id
       → (t : Bool) → is_below b.0 id ≡ t → fields_at (b.1 ++ (listed bs ++ newest)) id ≡ fields_at (unwrap_or (lookup (λ under. not (is_below under id)) (b ∷ bs)) newest) id
-  by rest true is = rw is (lookup-skip (is_same id) b.1 (listed bs ++ newest) (none_up_to id b.0 b.1 filed.0.up_to_id is) ∙ rest)
-  by rest false is = rw is (lookup-within (is_same id) b.1 (listed bs ++ newest) (none_above id b.0 (listed bs ++ newest) filed.0.later_above is))
+  by rest true is = rw is (lookup-skip (is_same_id id) b.1 (listed bs ++ newest) (none_up_to id b.0 b.1 filed.0.up_to_id is) ∙ rest)
+  by rest false is = rw is (lookup-within (is_same_id id) b.1 (listed bs ++ newest) (none_above id b.0 (listed bs ++ newest) filed.0.later_above is))
 
 -- ---- what a walk through the blocks meets first
 
@@ -193,16 +193,16 @@ abbrev pub blocks_without : Id → Blocks → Blocks
 blocks_without id [] = []
 blocks_without id (b ∷ bs) =
     cond (is_below b.0 id) (b ∷ blocks_without id bs)
-    (elim (remove_entry (is_same id) b.1) as (λ es. Blocks) [ [] ↦ bs | (e ∷ es) ↦ (b.0, e ∷ es) ∷ bs ])
+    (elim (remove_entry (is_same_id id) b.1) as (λ es. Blocks) [ [] ↦ bs | (e ∷ es) ↦ (b.0, e ∷ es) ∷ bs ])
 
 module _ (id : Id) where
   -- the first block that is filed under an id or above it is the only one with its own id
-  pub same-under : (bs : Blocks) (under : Id) (es : Entries) → lookup_entry (λ k. not (is_below k id)) bs ≡ Some (under, es) → lookup (is_same under) bs ≡ Some es
+  pub same-under : (bs : Blocks) (under : Id) (es : Entries) → lookup_entry (λ k. not (is_below k id)) bs ≡ Some (under, es) → lookup (is_same_id under) bs ≡ Some es
   same-under [] under es h = let no = h in cc
   same-under (b ∷ bs) under es h = by (same-under bs under es) (entry-passes (λ k. not (is_below k id)) bs (under, es)) (is_below b.0 id) refl where
-    by : (lookup_entry (λ k. not (is_below k id)) bs ≡ Some (under, es) → lookup (is_same under) bs ≡ Some es)
+    by : (lookup_entry (λ k. not (is_below k id)) bs ≡ Some (under, es) → lookup (is_same_id under) bs ≡ Some es)
         → (lookup_entry (λ k. not (is_below k id)) bs ≡ Some (under, es) → not (is_below under id) ≡ true)
-        → (t : Bool) → is_below b.0 id ≡ t → lookup (is_same under) (b ∷ bs) ≡ Some es
+        → (t : Bool) → is_below b.0 id ≡ t → lookup (is_same_id under) (b ∷ bs) ≡ Some es
     by rest passes true is =
         let later : lookup_entry (λ k. not (is_below k id)) bs ≡ Some (under, es) = rw is at h in
         rw (other_id id under b.0 is (passes later)) (rest later)
@@ -212,31 +212,31 @@ module _ (id : Id) where
         rw (same, is_same-refl under) refl
 
   -- an entry's block with one entry less, where it has others
-  pub set-without : (bs : Blocks) (under : Id) (es : Entries) (f : Id × List Field) (fs : Entries) → lookup_entry (λ k. not (is_below k id)) bs ≡ Some (under, es) → remove_entry (is_same id) es ≡ f ∷ fs
-      → set_value (is_same under) bs (f ∷ fs) ≡ blocks_without id bs
+  pub set-without : (bs : Blocks) (under : Id) (es : Entries) (f : Id × List Field) (fs : Entries) → lookup_entry (λ k. not (is_below k id)) bs ≡ Some (under, es) → remove_entry (is_same_id id) es ≡ f ∷ fs
+      → set_value (is_same_id under) bs (f ∷ fs) ≡ blocks_without id bs
   set-without [] under es f fs h left = let no = h in cc
   set-without (b ∷ bs) under es f fs h left = by (λ k. set-without bs under es f fs k left) (entry-passes (λ k. not (is_below k id)) bs (under, es)) (is_below b.0 id) refl where
-    by : (lookup_entry (λ k. not (is_below k id)) bs ≡ Some (under, es) → set_value (is_same under) bs (f ∷ fs) ≡ blocks_without id bs)
+    by : (lookup_entry (λ k. not (is_below k id)) bs ≡ Some (under, es) → set_value (is_same_id under) bs (f ∷ fs) ≡ blocks_without id bs)
         → (lookup_entry (λ k. not (is_below k id)) bs ≡ Some (under, es) → not (is_below under id) ≡ true)
-        → (t : Bool) → is_below b.0 id ≡ t → set_value (is_same under) (b ∷ bs) (f ∷ fs) ≡ blocks_without id (b ∷ bs)
+        → (t : Bool) → is_below b.0 id ≡ t → set_value (is_same_id under) (b ∷ bs) (f ∷ fs) ≡ blocks_without id (b ∷ bs)
     by rest passes true is =
         let later : lookup_entry (λ k. not (is_below k id)) bs ≡ Some (under, es) = rw is at h in
         rw (other_id id under b.0 is (passes later), is) (ap (λ others. b ∷ others) (rest later))
     by rest passes false is =
         let first : Some b ≡ Some (under, es) = rw is at h in
         let same : b ≡ (under, es) = cc in
-        let own : remove_entry (is_same id) b.1 ≡ f ∷ fs = ap (λ (c : Id × Entries). remove_entry (is_same id) c.1) same ∙ left in
+        let own : remove_entry (is_same_id id) b.1 ≡ f ∷ fs = ap (λ (c : Id × Entries). remove_entry (is_same_id id) c.1) same ∙ left in
         let key : b.0 ≡ under = ap (λ (c : Id × Entries). c.0) same in
         rw (is, own, key, is_same-refl under) refl
 
   -- or no block, where it has no others
-  pub removed-without : (bs : Blocks) (under : Id) (es : Entries) → lookup_entry (λ k. not (is_below k id)) bs ≡ Some (under, es) → remove_entry (is_same id) es ≡ []
-      → remove_entry (is_same under) (set_value (is_same under) bs []) ≡ blocks_without id bs
+  pub removed-without : (bs : Blocks) (under : Id) (es : Entries) → lookup_entry (λ k. not (is_below k id)) bs ≡ Some (under, es) → remove_entry (is_same_id id) es ≡ []
+      → remove_entry (is_same_id under) (set_value (is_same_id under) bs []) ≡ blocks_without id bs
   removed-without [] under es h left = let no = h in cc
   removed-without (b ∷ bs) under es h left = by (λ k. removed-without bs under es k left) (entry-passes (λ k. not (is_below k id)) bs (under, es)) (is_below b.0 id) refl where
-    by : (lookup_entry (λ k. not (is_below k id)) bs ≡ Some (under, es) → remove_entry (is_same under) (set_value (is_same under) bs []) ≡ blocks_without id bs)
+    by : (lookup_entry (λ k. not (is_below k id)) bs ≡ Some (under, es) → remove_entry (is_same_id under) (set_value (is_same_id under) bs []) ≡ blocks_without id bs)
         → (lookup_entry (λ k. not (is_below k id)) bs ≡ Some (under, es) → not (is_below under id) ≡ true)
-        → (t : Bool) → is_below b.0 id ≡ t → remove_entry (is_same under) (set_value (is_same under) (b ∷ bs) []) ≡ blocks_without id (b ∷ bs)
+        → (t : Bool) → is_below b.0 id ≡ t → remove_entry (is_same_id under) (set_value (is_same_id under) (b ∷ bs) []) ≡ blocks_without id (b ∷ bs)
     by rest passes true is =
         let later : lookup_entry (λ k. not (is_below k id)) bs ≡ Some (under, es) = rw is at h in
         let other = other_id id under b.0 is (passes later) in
@@ -244,12 +244,12 @@ module _ (id : Id) where
     by rest passes false is =
         let first : Some b ≡ Some (under, es) = rw is at h in
         let same : b ≡ (under, es) = cc in
-        let own : remove_entry (is_same id) b.1 ≡ [] = ap (λ (c : Id × Entries). remove_entry (is_same id) c.1) same ∙ left in
+        let own : remove_entry (is_same_id id) b.1 ≡ [] = ap (λ (c : Id × Entries). remove_entry (is_same_id id) c.1) same ∙ left in
         let key : b.0 ≡ under = ap (λ (c : Id × Entries). c.0) same in
         rw (is, own, key, is_same-refl under, is_same-refl under) refl
 
   -- the block that is lent under the key is that one
-  pub lent-entry : (bs : Blocks) (under : Id) (es : Entries) → lookup_key (λ k. not (is_below k id)) bs ≡ Some under → Some es ≡ lookup (is_same under) bs → lookup_entry (λ k. not (is_below k id)) bs ≡ Some (under, es)
+  pub lent-entry : (bs : Blocks) (under : Id) (es : Entries) → lookup_key (λ k. not (is_below k id)) bs ≡ Some under → Some es ≡ lookup (is_same_id under) bs → lookup_entry (λ k. not (is_below k id)) bs ≡ Some (under, es)
   lent-entry bs under es key lent =
       let entry = entry-of_key (λ k. not (is_below k id)) bs under key in
       let both : Some entry.0 ≡ Some es = sym (lent ∙ same-under bs under entry.0 entry.1) in
@@ -257,13 +257,13 @@ module _ (id : Id) where
       entry.1 ∙ ap (λ (fs : Entries). Some (under, fs)) same
 
   -- so what is left of it takes its place
-  pub set-left : (bs : Blocks) (under : Id) (es left : Entries) → lookup_entry (λ k. not (is_below k id)) bs ≡ Some (under, es) → left ≡ remove_entry (is_same id) es → (length left == 0) ≡ false
-      → set_value (is_same under) bs left ≡ blocks_without id bs
+  pub set-left : (bs : Blocks) (under : Id) (es left : Entries) → lookup_entry (λ k. not (is_below k id)) bs ≡ Some (under, es) → left ≡ remove_entry (is_same_id id) es → (length left == 0) ≡ false
+      → set_value (is_same_id under) bs left ≡ blocks_without id bs
   set-left bs under es [] h is some = absurd (false≢true (sym some))
   set-left bs under es (f ∷ fs) h is some = set-without bs under es f fs h (sym is)
 
-  pub removed-left : (bs : Blocks) (under : Id) (es left : Entries) → lookup_entry (λ k. not (is_below k id)) bs ≡ Some (under, es) → left ≡ remove_entry (is_same id) es → (length left == 0) ≡ true
-      → remove_entry (is_same under) (set_value (is_same under) bs left) ≡ blocks_without id bs
+  pub removed-left : (bs : Blocks) (under : Id) (es left : Entries) → lookup_entry (λ k. not (is_below k id)) bs ≡ Some (under, es) → left ≡ remove_entry (is_same_id id) es → (length left == 0) ≡ true
+      → remove_entry (is_same_id under) (set_value (is_same_id under) bs left) ≡ blocks_without id bs
   removed-left bs under es left h is none =
       let empty : left ≡ [] = nil_from_length left (none_counted left none) in
       rw empty (removed-without bs under es h (sym is ∙ empty)) where
@@ -272,15 +272,15 @@ module _ (id : Id) where
 
   -- as many are gone as from the block
   pub length-without : (bs : Blocks) (under : Id) (es : Entries) → lookup_entry (λ k. not (is_below k id)) bs ≡ Some (under, es)
-      → length (listed (blocks_without id bs)) + length es ≡ length (listed bs) + length (remove_entry (is_same id) es)
+      → length (listed (blocks_without id bs)) + length es ≡ length (listed bs) + length (remove_entry (is_same_id id) es)
   length-without [] under es h = let no = h in absurd (cc)
   length-without (b ∷ bs) under es h = by (length-without bs under es) (is_below b.0 id) refl where
     within : (left : Entries) → length (listed (elim left as (λ fs. Blocks) [ [] ↦ bs | (f ∷ fs) ↦ (b.0, f ∷ fs) ∷ bs ])) ≡ length left + length (listed bs)
     within [] = omega arith
     within (f ∷ fs) = length-append (f ∷ fs) (listed bs)
 
-    by : (lookup_entry (λ k. not (is_below k id)) bs ≡ Some (under, es) → length (listed (blocks_without id bs)) + length es ≡ length (listed bs) + length (remove_entry (is_same id) es))
-        → (t : Bool) → is_below b.0 id ≡ t → length (listed (blocks_without id (b ∷ bs))) + length es ≡ length (b.1 ++ listed bs) + length (remove_entry (is_same id) es)
+    by : (lookup_entry (λ k. not (is_below k id)) bs ≡ Some (under, es) → length (listed (blocks_without id bs)) + length es ≡ length (listed bs) + length (remove_entry (is_same_id id) es))
+        → (t : Bool) → is_below b.0 id ≡ t → length (listed (blocks_without id (b ∷ bs))) + length es ≡ length (b.1 ++ listed bs) + length (remove_entry (is_same_id id) es)
     by rest true is =
         let later = rest (rw is at h) in
         rw is (omega (arith, length-append b.1 (listed (blocks_without id bs)), length-append b.1 (listed bs), later))
@@ -288,52 +288,52 @@ module _ (id : Id) where
         let first : Some b ≡ Some (under, es) = rw is at h in
         let same : b ≡ (under, es) = cc in
         let own : b.1 ≡ es = ap (λ (c : Id × Entries). c.1) same in
-        rw is (omega (arith, within (remove_entry (is_same id) b.1), ap (λ (fs : Entries). length (remove_entry (is_same id) fs)) own, ap length own, length-append b.1 (listed bs)))
+        rw is (omega (arith, within (remove_entry (is_same_id id) b.1), ap (λ (fs : Entries). length (remove_entry (is_same_id id) fs)) own, ap length own, length-append b.1 (listed bs)))
 
   -- the entries are those without that one
   pub listed-without : (bs : Blocks) (newest : Entries) (b : Id × Entries) → lookup_entry (λ k. not (is_below k id)) bs ≡ Some b → AreFiled bs newest
-      → listed (blocks_without id bs) ++ newest ≡ remove_entry (is_same id) (listed bs ++ newest)
+      → listed (blocks_without id bs) ++ newest ≡ remove_entry (is_same_id id) (listed bs ++ newest)
   listed-without [] newest b h filed = let no = h in cc
   listed-without (c ∷ cs) newest b h filed = rw append_assoc (by (λ k. listed-without cs newest b k filed.1) (is_below c.0 id) refl) where
-    within : (left : Entries) → remove_entry (is_same id) c.1 ≡ left → listed (elim left as (λ es. Blocks) [ [] ↦ cs | (e ∷ es) ↦ (c.0, e ∷ es) ∷ cs ]) ++ newest ≡ left ++ (listed cs ++ newest)
+    within : (left : Entries) → remove_entry (is_same_id id) c.1 ≡ left → listed (elim left as (λ es. Blocks) [ [] ↦ cs | (e ∷ es) ↦ (c.0, e ∷ es) ∷ cs ]) ++ newest ≡ left ++ (listed cs ++ newest)
     within [] is = refl
     within (e ∷ es) is = append_assoc (e ∷ es) (listed cs) newest
 
-    by : (lookup_entry (λ k. not (is_below k id)) cs ≡ Some b → listed (blocks_without id cs) ++ newest ≡ remove_entry (is_same id) (listed cs ++ newest))
-        → (t : Bool) → is_below c.0 id ≡ t → listed (blocks_without id (c ∷ cs)) ++ newest ≡ remove_entry (is_same id) (c.1 ++ (listed cs ++ newest))
+    by : (lookup_entry (λ k. not (is_below k id)) cs ≡ Some b → listed (blocks_without id cs) ++ newest ≡ remove_entry (is_same_id id) (listed cs ++ newest))
+        → (t : Bool) → is_below c.0 id ≡ t → listed (blocks_without id (c ∷ cs)) ++ newest ≡ remove_entry (is_same_id id) (c.1 ++ (listed cs ++ newest))
     by rest true is =
-        let skip = remove-skip (is_same id) c.1 (listed cs ++ newest) (none_up_to id c.0 c.1 filed.0.up_to_id is) in
+        let skip = remove-skip (is_same_id id) c.1 (listed cs ++ newest) (none_up_to id c.0 c.1 filed.0.up_to_id is) in
         rw is (append_assoc c.1 (listed (blocks_without id cs)) newest ∙ ap (λ others. c.1 ++ others) (rest (rw is at h)) ∙ sym skip)
     by rest false is =
-        let here = remove-within (is_same id) c.1 (listed cs ++ newest) (none_above id c.0 (listed cs ++ newest) filed.0.later_above is) in
-        rw is (within (remove_entry (is_same id) c.1) refl ∙ sym here)
+        let here = remove-within (is_same_id id) c.1 (listed cs ++ newest) (none_above id c.0 (listed cs ++ newest) filed.0.later_above is) in
+        rw is (within (remove_entry (is_same_id id) c.1) refl ∙ sym here)
 
   pub filed-without : (bs : Blocks) (newest : Entries) (b : Id × Entries) → lookup_entry (λ k. not (is_below k id)) bs ≡ Some b → AreFiled bs newest → AreFiled (blocks_without id bs) newest
   filed-without [] newest b h filed = tt
   filed-without (c ∷ cs) newest b h filed = by (λ k. filed-without cs newest b k filed.1) (λ k. listed-without cs newest b k filed.1) (is_below c.0 id) refl where
-    within : (left : Entries) → remove_entry (is_same id) c.1 ≡ left → AreFiled (elim left as (λ es. Blocks) [ [] ↦ cs | (e ∷ es) ↦ (c.0, e ∷ es) ∷ cs ]) newest
+    within : (left : Entries) → remove_entry (is_same_id id) c.1 ≡ left → AreFiled (elim left as (λ es. Blocks) [ [] ↦ cs | (e ∷ es) ↦ (c.0, e ∷ es) ∷ cs ]) newest
     within [] is = filed.1
     within (e ∷ es) is = (
       record {
         has_entries = omega arith;
-        up_to_id = subst (λ es. AllUpTo c.0 (ids_of es)) is (up_to-remove (is_same id) c.0 c.1 filed.0.up_to_id);
+        up_to_id = subst (λ es. AllUpTo c.0 (ids_of es)) is (up_to-remove (is_same_id id) c.0 c.1 filed.0.up_to_id);
         later_above = filed.0.later_above;
       },
       filed.1,
     )
 
     by : (lookup_entry (λ k. not (is_below k id)) cs ≡ Some b → AreFiled (blocks_without id cs) newest)
-        → (lookup_entry (λ k. not (is_below k id)) cs ≡ Some b → listed (blocks_without id cs) ++ newest ≡ remove_entry (is_same id) (listed cs ++ newest))
+        → (lookup_entry (λ k. not (is_below k id)) cs ≡ Some b → listed (blocks_without id cs) ++ newest ≡ remove_entry (is_same_id id) (listed cs ++ newest))
         → (t : Bool) → is_below c.0 id ≡ t → AreFiled (blocks_without id (c ∷ cs)) newest
     by rest list true is = rw is (
       record {
         has_entries = filed.0.has_entries;
         up_to_id = filed.0.up_to_id;
-        later_above = subst (λ es. AllAbove c.0 (ids_of es)) (sym (list (rw is at h))) (above-remove (is_same id) c.0 (listed cs ++ newest) filed.0.later_above);
+        later_above = subst (λ es. AllAbove c.0 (ids_of es)) (sym (list (rw is at h))) (above-remove (is_same_id id) c.0 (listed cs ++ newest) filed.0.later_above);
       },
       rest (rw is at h),
     )
-    by rest list false is = rw is (within (remove_entry (is_same id) c.1) refl)
+    by rest list false is = rw is (within (remove_entry (is_same_id id) c.1) refl)
 
   -- the ids under which blocks are filed are some of those before
   pub keys-without : (top : Id) (bs : Blocks) → AllUpTo top (keys_of bs) → AllUpTo top (keys_of (blocks_without id bs))
@@ -345,31 +345,31 @@ module _ (id : Id) where
 
     by : AllUpTo top (keys_of (blocks_without id cs)) → (t : Bool) → is_below c.0 id ≡ t → AllUpTo top (keys_of (blocks_without id (c ∷ cs)))
     by rest true is = rw is (up.0, rest)
-    by rest false is = rw is (within (remove_entry (is_same id) c.1))
+    by rest false is = rw is (within (remove_entry (is_same_id id) c.1))
 
   -- where no block has the entry it may be among the newest
   pub listed-newest : (bs : Blocks) (newest : Entries) → lookup_entry (λ k. not (is_below k id)) bs ≡ None → AreFiled bs newest
-      → listed bs ++ remove_entry (is_same id) newest ≡ remove_entry (is_same id) (listed bs ++ newest)
+      → listed bs ++ remove_entry (is_same_id id) newest ≡ remove_entry (is_same_id id) (listed bs ++ newest)
   listed-newest [] newest h filed = refl
   listed-newest (c ∷ cs) newest h filed =
-      append_assoc c.1 (listed cs) (remove_entry (is_same id) newest) ∙ by (λ k. listed-newest cs newest k filed.1) (is_below c.0 id) refl
-      ∙ sym (ap (remove_entry (is_same id)) (append_assoc c.1 (listed cs) newest)) where
-        by : (lookup_entry (λ k. not (is_below k id)) cs ≡ None → listed cs ++ remove_entry (is_same id) newest ≡ remove_entry (is_same id) (listed cs ++ newest))
-            → (t : Bool) → is_below c.0 id ≡ t → c.1 ++ (listed cs ++ remove_entry (is_same id) newest) ≡ remove_entry (is_same id) (c.1 ++ (listed cs ++ newest))
-        by rest true is = ap (λ others. c.1 ++ others) (rest (rw is at h)) ∙ sym (remove-skip (is_same id) c.1 (listed cs ++ newest) (none_up_to id c.0 c.1 filed.0.up_to_id is))
+      append_assoc c.1 (listed cs) (remove_entry (is_same_id id) newest) ∙ by (λ k. listed-newest cs newest k filed.1) (is_below c.0 id) refl
+      ∙ sym (ap (remove_entry (is_same_id id)) (append_assoc c.1 (listed cs) newest)) where
+        by : (lookup_entry (λ k. not (is_below k id)) cs ≡ None → listed cs ++ remove_entry (is_same_id id) newest ≡ remove_entry (is_same_id id) (listed cs ++ newest))
+            → (t : Bool) → is_below c.0 id ≡ t → c.1 ++ (listed cs ++ remove_entry (is_same_id id) newest) ≡ remove_entry (is_same_id id) (c.1 ++ (listed cs ++ newest))
+        by rest true is = ap (λ others. c.1 ++ others) (rest (rw is at h)) ∙ sym (remove-skip (is_same_id id) c.1 (listed cs ++ newest) (none_up_to id c.0 c.1 filed.0.up_to_id is))
         by rest false is = let no = rw is at h in cc
 
-  pub filed-newest : (bs : Blocks) (newest : Entries) → lookup_entry (λ k. not (is_below k id)) bs ≡ None → AreFiled bs newest → AreFiled bs (remove_entry (is_same id) newest)
+  pub filed-newest : (bs : Blocks) (newest : Entries) → lookup_entry (λ k. not (is_below k id)) bs ≡ None → AreFiled bs newest → AreFiled bs (remove_entry (is_same_id id) newest)
   filed-newest [] newest h filed = tt
   filed-newest (c ∷ cs) newest h filed = by (λ k. filed-newest cs newest k filed.1) (λ k. listed-newest cs newest k filed.1) (is_below c.0 id) refl where
-    by : (lookup_entry (λ k. not (is_below k id)) cs ≡ None → AreFiled cs (remove_entry (is_same id) newest))
-        → (lookup_entry (λ k. not (is_below k id)) cs ≡ None → listed cs ++ remove_entry (is_same id) newest ≡ remove_entry (is_same id) (listed cs ++ newest))
-        → (t : Bool) → is_below c.0 id ≡ t → AreFiled (c ∷ cs) (remove_entry (is_same id) newest)
+    by : (lookup_entry (λ k. not (is_below k id)) cs ≡ None → AreFiled cs (remove_entry (is_same_id id) newest))
+        → (lookup_entry (λ k. not (is_below k id)) cs ≡ None → listed cs ++ remove_entry (is_same_id id) newest ≡ remove_entry (is_same_id id) (listed cs ++ newest))
+        → (t : Bool) → is_below c.0 id ≡ t → AreFiled (c ∷ cs) (remove_entry (is_same_id id) newest)
     by rest list true is = (
       record {
         has_entries = filed.0.has_entries;
         up_to_id = filed.0.up_to_id;
-        later_above = subst (λ es. AllAbove c.0 (ids_of es)) (sym (list (rw is at h))) (above-remove (is_same id) c.0 (listed cs ++ newest) filed.0.later_above);
+        later_above = subst (λ es. AllAbove c.0 (ids_of es)) (sym (list (rw is at h))) (above-remove (is_same_id id) c.0 (listed cs ++ newest) filed.0.later_above);
       },
       rest (rw is at h),
     )

@@ -11,11 +11,11 @@ use Rattle.std.specs.List.{slice_get}
 use Rattle.std.specs.BTreeMap.Range.{range_contains}
 use Rattle.std.specs.declared.ops.Bound.TheVariants.{Included}
 use Rattle.xs_stream.specs.declared.range.Range.{Range}
-use Rattle.xs_stream.specs.StreamContent.{is_within, count_above, Kept, ids_of, AllAbove, Ascends, AllUpTo, without, trimmed, limited}
+use Rattle.xs_stream.specs.StreamContent.{is_within, count_above, StreamState, ids_of, AllAbove, Ascends, AllUpTo, without, trimmed, limited}
 use Rattle.xs_stream.specs.declared.id.Id.{Id}
 use Rattle.xs_stream.specs.declared.field.Field.{Field}
 use Rattle.xs_stream.specs.declared.trim.Trim.TheVariants.{MaxLen, MinId}
-use Rattle.xs_stream.specs.Id.{id_cmp, is_below, is_same, has_id}
+use Rattle.xs_stream.specs.Id.{id_cmp, is_below, is_same_id, has_id}
 use Rattle.xs_stream.specs.Lawful.{IsLawful, AllIds, IsId}
 use Rattle.xs_stream.proofs.Order.{is_same-eq, is_same-refl, is_same-symm, below-not_same, below-not_back, below-irrefl, up_to-below, not_below-above, le-not_below, below-not_below}
 
@@ -84,16 +84,16 @@ module _ (p : Id × List Field → Bool) where
       ]
 
 -- what passes for each entry leaves the list as it is
-pub filter-same_above : (id : Id) (es : List (Id × List Field)) → AllAbove id (ids_of es) → filter (λ e. not (is_same id e.0)) es ≡ es
+pub filter-same_above : (id : Id) (es : List (Id × List Field)) → AllAbove id (ids_of es) → filter (λ e. not (is_same_id id e.0)) es ≡ es
 filter-same_above id [] a = refl
 filter-same_above id (e ∷ es) a = rw (below-not_same id e.0 a.0) (ap (λ rest. e ∷ rest) (filter-same_above id es a.1))
 
 -- ---- a deletion
 
-pub remove-filter : (id : Id) (es : List (Id × List Field)) → Ascends (ids_of es) → remove_entry (is_same id) es ≡ filter (λ e. not (is_same id e.0)) es
+pub remove-filter : (id : Id) (es : List (Id × List Field)) → Ascends (ids_of es) → remove_entry (is_same_id id) es ≡ filter (λ e. not (is_same_id id e.0)) es
 remove-filter id [] a = refl
-remove-filter id (e ∷ es) a = by (remove-filter id es a.1) (is_same id e.0) refl where
-  by : remove_entry (is_same id) es ≡ filter (λ f. not (is_same id f.0)) es → (t : Bool) → is_same id e.0 ≡ t → cond t es (e ∷ remove_entry (is_same id) es) ≡ cond (not t) (e ∷ filter (λ f. not (is_same id f.0)) es) (filter (λ f. not (is_same id f.0)) es)
+remove-filter id (e ∷ es) a = by (remove-filter id es a.1) (is_same_id id e.0) refl where
+  by : remove_entry (is_same_id id) es ≡ filter (λ f. not (is_same_id id f.0)) es → (t : Bool) → is_same_id id e.0 ≡ t → cond t es (e ∷ remove_entry (is_same_id id) es) ≡ cond (not t) (e ∷ filter (λ f. not (is_same_id id f.0)) es) (filter (λ f. not (is_same_id id f.0)) es)
   by rest true h = sym (filter-same_above id es (subst (λ x. AllAbove x (ids_of es)) (sym (is_same-eq id e.0 h)) a.0))
   by rest false h = ap (λ left. e ∷ left) rest
 
@@ -120,13 +120,13 @@ without-none [] = refl
 without-none (e ∷ es) = ap (λ rest. e ∷ rest) (without-none es)
 
 -- one deletion after others
-pub without-more : (ids : List Id) (id : Id) (es : List (Id × List Field)) → Ascends (ids_of es) → remove_entry (is_same id) (without ids es) ≡ without (ids ++ id ∷ []) es
+pub without-more : (ids : List Id) (id : Id) (es : List (Id × List Field)) → Ascends (ids_of es) → remove_entry (is_same_id id) (without ids es) ≡ without (ids ++ id ∷ []) es
 without-more ids id es a =
     remove-filter id (without ids es) (ascends-filter (λ e. not (has_id ids e.0)) es a)
-    ∙ filter-filter (λ (e : Id × List Field). not (has_id ids e.0)) (λ e. not (is_same id e.0)) (λ e. not (has_id (ids ++ id ∷ []) e.0))
+    ∙ filter-filter (λ (e : Id × List Field). not (has_id ids e.0)) (λ e. not (is_same_id id e.0)) (λ e. not (has_id (ids ++ id ∷ []) e.0))
     (λ e. one_more e.0) es where
-      one_more : (x : Id) → not (has_id (ids ++ id ∷ []) x) ≡ (not (has_id ids x) && not (is_same id x))
-      one_more x = ap not (list_any-append (is_same x) ids (id ∷ [])) ∙ ap (λ b. not (has_id ids x || b)) (or-false (is_same x id) ∙ is_same-symm x id) ∙ or_not (has_id ids x) (is_same id x)
+      one_more : (x : Id) → not (has_id (ids ++ id ∷ []) x) ≡ (not (has_id ids x) && not (is_same_id id x))
+      one_more x = ap not (list_any-append (is_same_id x) ids (id ∷ [])) ∙ ap (λ b. not (has_id ids x || b)) (or-false (is_same_id x id) ∙ is_same-symm x id) ∙ or_not (has_id ids x) (is_same_id id x)
 
 -- ---- a trim
 
@@ -194,7 +194,7 @@ length-filter-le p (e ∷ es) = by (length-filter-le p es) (p e) where
 
 -- ---- a stream stays lawful
 
-pub lawful-filter : (kept : Kept) (p : Id × List Field → Bool) → IsLawful kept → IsLawful (record { top = kept.top; entries = filter p kept.entries })
+pub lawful-filter : (kept : StreamState) (p : Id × List Field → Bool) → IsLawful kept → IsLawful (record { top = kept.top; entries = filter p kept.entries })
 lawful-filter kept p law = record {
   ascends = ascends-filter p kept.entries law.ascends;
   up_to_top = up_to-filter p kept.top kept.entries law.up_to_top;
@@ -202,7 +202,7 @@ lawful-filter kept p law = record {
   ids = ids-filter p kept.entries law.ids;
 }
 
-pub lawful-push : (kept : Kept) (id : Id) (fields : List Field) → IsLawful kept → is_below kept.top id ≡ true → IsId id → IsLawful (record { top = id; entries = kept.entries ++ (id, fields) ∷ [] })
+pub lawful-push : (kept : StreamState) (id : Id) (fields : List Field) → IsLawful kept → is_below kept.top id ≡ true → IsId id → IsLawful (record { top = id; entries = kept.entries ++ (id, fields) ∷ [] })
 lawful-push kept id fields law above fits =
     let ids = ids_of-append kept.entries ((id, fields) ∷ []) in
     record {
@@ -214,7 +214,7 @@ lawful-push kept id fields law above fits =
 
 -- ---- the first entry
 
-pub first-removed : (es : List (Id × List Field)) (id : Id) → option_map (λ e. e.0) (slice_get es 0) ≡ Some id → remove_entry (is_same id) es ≡ drop 1 es
+pub first-removed : (es : List (Id × List Field)) (id : Id) → option_map (λ e. e.0) (slice_get es 0) ≡ Some id → remove_entry (is_same_id id) es ≡ drop 1 es
 first-removed [] id h = let no = h in cc
 first-removed (e ∷ es) id h =
     let same : e.0 ≡ id = cc in

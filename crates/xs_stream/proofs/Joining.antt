@@ -3,7 +3,7 @@ use Rattle.std.proofs.Common.{◌≡◌, ◌<◌, Bool, true, false, cond, List,
 use Rattle.std.specs.Map.{lookup, lookup_key, remove_entry, set_value, keys_of}
 use Rattle.xs_stream.specs.declared.id.Id.{Id}
 use Rattle.xs_stream.specs.declared.field.Field.{Field}
-use Rattle.xs_stream.specs.Id.{is_below, is_same}
+use Rattle.xs_stream.specs.Id.{is_below, is_same_id}
 use Rattle.xs_stream.specs.StreamContent.{ids_of, AllAbove, AllUpTo}
 use Rattle.xs_stream.specs.Blocks.{listed, AreFiled}
 use Rattle.xs_stream.proofs.Order.{is_same-eq, is_same-refl, is_same-symm, below-not_same, below-not_back, below-irrefl, below-trans, below-not_below}
@@ -22,7 +22,7 @@ with_next b (c ∷ cs) = (c.0, b.1 ++ c.1) ∷ cs
 -- the blocks once the one under an id is in front of the next one
 abbrev pub joined : Id → Blocks → Blocks
 joined under [] = []
-joined under (b ∷ bs) = cond (is_same under b.0) (with_next b bs) (b ∷ joined under bs)
+joined under (b ∷ bs) = cond (is_same_id under b.0) (with_next b bs) (b ∷ joined under bs)
 
 -- ---- the same entries
 
@@ -32,7 +32,7 @@ listed-with_next b (c ∷ cs) = append_assoc b.1 c.1 (listed cs)
 
 pub listed-joined : (under : Id) (bs : Blocks) → listed (joined under bs) ≡ listed bs
 listed-joined under [] = refl
-listed-joined under (b ∷ bs) = by (listed-joined under bs) (is_same under b.0) where
+listed-joined under (b ∷ bs) = by (listed-joined under bs) (is_same_id under b.0) where
   by : listed (joined under bs) ≡ listed bs → (t : Bool) → listed (cond t (with_next b bs) (b ∷ joined under bs)) ≡ b.1 ++ listed bs
   by rest true = listed-with_next b bs
   by rest false = ap (λ es. b.1 ++ es) rest
@@ -63,7 +63,7 @@ filed-with_next b (c ∷ cs) newest filed = (
 
 pub filed-joined : (under : Id) (bs : Blocks) (newest : Entries) → AreFiled bs newest → AreFiled (joined under bs) newest
 filed-joined under [] newest filed = tt
-filed-joined under (b ∷ bs) newest filed = by (filed-joined under bs newest filed.1) (is_same under b.0) where
+filed-joined under (b ∷ bs) newest filed = by (filed-joined under bs newest filed.1) (is_same_id under b.0) where
   by : AreFiled (joined under bs) newest → (t : Bool) → AreFiled (cond t (with_next b bs) (b ∷ joined under bs)) newest
   by rest true = filed-with_next b bs newest filed
   by rest false = (
@@ -81,7 +81,7 @@ keys-with_next top b (c ∷ cs) up = up.1
 
 pub keys-joined : (top under : Id) (bs : Blocks) → AllUpTo top (keys_of bs) → AllUpTo top (keys_of (joined under bs))
 keys-joined top under [] up = tt
-keys-joined top under (b ∷ bs) up = by (keys-joined top under bs up.1) (is_same under b.0) where
+keys-joined top under (b ∷ bs) up = by (keys-joined top under bs up.1) (is_same_id under b.0) where
   by : AllUpTo top (keys_of (joined under bs)) → (t : Bool) → AllUpTo top (keys_of (cond t (with_next b bs) (b ∷ joined under bs)))
   by rest true = keys-with_next top b bs up
   by rest false = (up.0, rest)
@@ -99,10 +99,10 @@ above-keys b (c ∷ cs) newest filed =
     let below = below-next b c cs newest filed in
     (below, above-lower b.0 c.0 (keys_of cs) below (above-keys c cs newest filed.1))
 
-found-above : (x k : Id) (bs : Blocks) (es : Entries) → AllAbove x (keys_of bs) → lookup (is_same k) bs ≡ Some es → is_below x k ≡ true
+found-above : (x k : Id) (bs : Blocks) (es : Entries) → AllAbove x (keys_of bs) → lookup (is_same_id k) bs ≡ Some es → is_below x k ≡ true
 found-above x k [] es a h = let no = h in cc
-found-above x k (b ∷ bs) es a h = by (found-above x k bs es a.1) (is_same k b.0) refl where
-  by : (lookup (is_same k) bs ≡ Some es → is_below x k ≡ true) → (t : Bool) → is_same k b.0 ≡ t → is_below x k ≡ true
+found-above x k (b ∷ bs) es a h = by (found-above x k bs es a.1) (is_same_id k b.0) refl where
+  by : (lookup (is_same_id k) bs ≡ Some es → is_below x k ≡ true) → (t : Bool) → is_same_id k b.0 ≡ t → is_below x k ≡ true
   by rest true is = subst (λ y. is_below x y ≡ true) (sym (is_same-eq k b.0 is)) a.0
   by rest false is = rest (rw is at h)
 
@@ -117,48 +117,48 @@ key-above x k test (b ∷ bs) a h = by (key-above x k test bs a.1) (test b.0) re
   by rest false is = rest (rw is at h)
 
 front-joined : (under next : Id) (own es : Entries) (bs : Blocks) (newest : Entries) → AreFiled ((under, own) ∷ bs) newest → lookup_key (λ k. is_below under k) bs ≡ Some next
-    → lookup (is_same next) ((under, []) ∷ bs) ≡ Some es → remove_entry (is_same under) (set_value (is_same next) ((under, []) ∷ bs) (own ++ es)) ≡ with_next (under, own) bs
+    → lookup (is_same_id next) ((under, []) ∷ bs) ≡ Some es → remove_entry (is_same_id under) (set_value (is_same_id next) ((under, []) ∷ bs) (own ++ es)) ≡ with_next (under, own) bs
 front-joined under next own es [] newest filed after second = let no = after in cc
 front-joined under next own es (c ∷ cs) newest filed after second =
     let below = below-next (under, own) c cs newest filed in
     let first : Some c.0 ≡ Some next = rw below at after in
     let key : next ≡ c.0 = cc in
-    let other : is_same c.0 under ≡ false = is_same-symm c.0 under ∙ below-not_same under c.0 below in
+    let other : is_same_id c.0 under ≡ false = is_same-symm c.0 under ∙ below-not_same under c.0 below in
     let own_next : Some c.1 ≡ Some es = rw (key, other, is_same-refl c.0) at second in
     let same : es ≡ c.1 = cc in
     rw (key, other, is_same-refl c.0, is_same-refl under, same) refl
 
 -- the next one has the entries of both, and the first one goes
-pub joined-is : (under next : Id) (bs : Blocks) (newest own es : Entries) → AreFiled bs newest → lookup (is_same under) bs ≡ Some own → lookup_key (λ k. is_below under k) bs ≡ Some next
-    → lookup (is_same next) (set_value (is_same under) bs []) ≡ Some es → remove_entry (is_same under) (set_value (is_same next) (set_value (is_same under) bs []) (own ++ es)) ≡ joined under bs
+pub joined-is : (under next : Id) (bs : Blocks) (newest own es : Entries) → AreFiled bs newest → lookup (is_same_id under) bs ≡ Some own → lookup_key (λ k. is_below under k) bs ≡ Some next
+    → lookup (is_same_id next) (set_value (is_same_id under) bs []) ≡ Some es → remove_entry (is_same_id under) (set_value (is_same_id next) (set_value (is_same_id under) bs []) (own ++ es)) ≡ joined under bs
 joined-is under next [] newest own es filed first after second = let no = first in cc
-joined-is under next (b ∷ bs) newest own es filed first after second = by (joined-is under next bs newest own es filed.1) (is_same under b.0) refl where
-  by : (lookup (is_same under) bs ≡ Some own → lookup_key (λ k. is_below under k) bs ≡ Some next → lookup (is_same next) (set_value (is_same under) bs []) ≡ Some es
-      → remove_entry (is_same under) (set_value (is_same next) (set_value (is_same under) bs []) (own ++ es)) ≡ joined under bs)
-      → (t : Bool) → is_same under b.0 ≡ t → remove_entry (is_same under) (set_value (is_same next) (set_value (is_same under) (b ∷ bs) []) (own ++ es)) ≡ joined under (b ∷ bs)
+joined-is under next (b ∷ bs) newest own es filed first after second = by (joined-is under next bs newest own es filed.1) (is_same_id under b.0) refl where
+  by : (lookup (is_same_id under) bs ≡ Some own → lookup_key (λ k. is_below under k) bs ≡ Some next → lookup (is_same_id next) (set_value (is_same_id under) bs []) ≡ Some es
+      → remove_entry (is_same_id under) (set_value (is_same_id next) (set_value (is_same_id under) bs []) (own ++ es)) ≡ joined under bs)
+      → (t : Bool) → is_same_id under b.0 ≡ t → remove_entry (is_same_id under) (set_value (is_same_id next) (set_value (is_same_id under) (b ∷ bs) []) (own ++ es)) ≡ joined under (b ∷ bs)
   by rest true is =
       let key : b.0 ≡ under = sym (is_same-eq under b.0 is) in
       let found : Some b.1 ≡ Some own = rw is at first in
       let same : b.1 ≡ own = cc in
       let pair : b ≡ (under, own) = λ i. (key i, same i) in
       let passed : is_below under b.0 ≡ false = rw key (below-irrefl under) in
-      let own_second : lookup (is_same next) ((under, []) ∷ bs) ≡ Some es = rw (is, key) at second in
-      rw is (subst (λ (x : Id × Entries). remove_entry (is_same under) (set_value (is_same next) ((x.0, []) ∷ bs) (own ++ es)) ≡ with_next x bs) (sym pair)
+      let own_second : lookup (is_same_id next) ((under, []) ∷ bs) ≡ Some es = rw (is, key) at second in
+      rw is (subst (λ (x : Id × Entries). remove_entry (is_same_id under) (set_value (is_same_id next) ((x.0, []) ∷ bs) (own ++ es)) ≡ with_next x bs) (sym pair)
       (front-joined under next own es bs newest (subst (λ (x : Id × Entries). AreFiled (x ∷ bs) newest) pair filed) (rw passed at after) own_second))
   by rest false is =
-      let here : lookup (is_same under) bs ≡ Some own = rw is at first in
+      let here : lookup (is_same_id under) bs ≡ Some own = rw is at first in
       let keys = above-keys b bs newest filed in
       let passed : is_below under b.0 ≡ false = below-not_back b.0 under (found-above b.0 under bs own keys here) in
       let later : lookup_key (λ k. is_below under k) bs ≡ Some next = rw passed at after in
-      let other : is_same next b.0 ≡ false = is_same-symm next b.0 ∙ below-not_same b.0 next (key-above b.0 next (λ k. is_below under k) bs keys later) in
+      let other : is_same_id next b.0 ≡ false = is_same-symm next b.0 ∙ below-not_same b.0 next (key-above b.0 next (λ k. is_below under k) bs keys later) in
       rw (is, other, is) (ap (λ left. b ∷ left) (rest here later (rw (is, other) at second)))
 
 -- what was taken out is put back
-pub restored : (under : Id) (bs : Blocks) (es : Entries) → lookup (is_same under) bs ≡ Some es → set_value (is_same under) (set_value (is_same under) bs []) es ≡ bs
+pub restored : (under : Id) (bs : Blocks) (es : Entries) → lookup (is_same_id under) bs ≡ Some es → set_value (is_same_id under) (set_value (is_same_id under) bs []) es ≡ bs
 restored under [] es h = refl
-restored under (b ∷ bs) es h = by (restored under bs es) (is_same under b.0) refl where
-  by : (lookup (is_same under) bs ≡ Some es → set_value (is_same under) (set_value (is_same under) bs []) es ≡ bs)
-      → (t : Bool) → is_same under b.0 ≡ t → set_value (is_same under) (set_value (is_same under) (b ∷ bs) []) es ≡ b ∷ bs
+restored under (b ∷ bs) es h = by (restored under bs es) (is_same_id under b.0) refl where
+  by : (lookup (is_same_id under) bs ≡ Some es → set_value (is_same_id under) (set_value (is_same_id under) bs []) es ≡ bs)
+      → (t : Bool) → is_same_id under b.0 ≡ t → set_value (is_same_id under) (set_value (is_same_id under) (b ∷ bs) []) es ≡ b ∷ bs
   by rest true is =
       let first : Some b.1 ≡ Some es = rw is at h in
       let same : es ≡ b.1 = cc in
@@ -166,29 +166,29 @@ restored under (b ∷ bs) es h = by (restored under bs es) (is_same under b.0) r
   by rest false is = rw (is, is) (ap (λ left. b ∷ left) (rest (rw is at h)))
 
 -- and what is written as it was changes nothing
-pub rewritten : (under : Id) (bs : Blocks) (es : Entries) → lookup (is_same under) bs ≡ Some es → set_value (is_same under) bs es ≡ bs
+pub rewritten : (under : Id) (bs : Blocks) (es : Entries) → lookup (is_same_id under) bs ≡ Some es → set_value (is_same_id under) bs es ≡ bs
 rewritten under [] es h = refl
-rewritten under (b ∷ bs) es h = by (rewritten under bs es) (is_same under b.0) refl where
-  by : (lookup (is_same under) bs ≡ Some es → set_value (is_same under) bs es ≡ bs) → (t : Bool) → is_same under b.0 ≡ t → set_value (is_same under) (b ∷ bs) es ≡ b ∷ bs
+rewritten under (b ∷ bs) es h = by (rewritten under bs es) (is_same_id under b.0) refl where
+  by : (lookup (is_same_id under) bs ≡ Some es → set_value (is_same_id under) bs es ≡ bs) → (t : Bool) → is_same_id under b.0 ≡ t → set_value (is_same_id under) (b ∷ bs) es ≡ b ∷ bs
   by rest true is =
       let first : Some b.1 ≡ Some es = rw is at h in
       let same : es ≡ b.1 = cc in
       rw (is, same) refl
   by rest false is = rw is (ap (λ left. b ∷ left) (rest (rw is at h)))
 
-pub found-set : (under : Id) (bs : Blocks) (own es : Entries) → lookup (is_same under) bs ≡ Some own → lookup (is_same under) (set_value (is_same under) bs es) ≡ Some es
+pub found-set : (under : Id) (bs : Blocks) (own es : Entries) → lookup (is_same_id under) bs ≡ Some own → lookup (is_same_id under) (set_value (is_same_id under) bs es) ≡ Some es
 found-set under [] own es h = let no = h in cc
-found-set under (b ∷ bs) own es h = by (found-set under bs own es) (is_same under b.0) refl where
-  by : (lookup (is_same under) bs ≡ Some own → lookup (is_same under) (set_value (is_same under) bs es) ≡ Some es)
-      → (t : Bool) → is_same under b.0 ≡ t → lookup (is_same under) (set_value (is_same under) (b ∷ bs) es) ≡ Some es
+found-set under (b ∷ bs) own es h = by (found-set under bs own es) (is_same_id under b.0) refl where
+  by : (lookup (is_same_id under) bs ≡ Some own → lookup (is_same_id under) (set_value (is_same_id under) bs es) ≡ Some es)
+      → (t : Bool) → is_same_id under b.0 ≡ t → lookup (is_same_id under) (set_value (is_same_id under) (b ∷ bs) es) ≡ Some es
   by rest true is = rw (is, is) refl
   by rest false is = rw (is, is) (rest (rw is at h))
 
 -- a filed block has entries
-pub found-some : (under : Id) (bs : Blocks) (newest es : Entries) → AreFiled bs newest → lookup (is_same under) bs ≡ Some es → 0 < length es
+pub found-some : (under : Id) (bs : Blocks) (newest es : Entries) → AreFiled bs newest → lookup (is_same_id under) bs ≡ Some es → 0 < length es
 found-some under [] newest es filed h = let no = h in absurd (cc)
-found-some under (b ∷ bs) newest es filed h = by (found-some under bs newest es filed.1) (is_same under b.0) refl where
-  by : (lookup (is_same under) bs ≡ Some es → 0 < length es) → (t : Bool) → is_same under b.0 ≡ t → 0 < length es
+found-some under (b ∷ bs) newest es filed h = by (found-some under bs newest es filed.1) (is_same_id under b.0) refl where
+  by : (lookup (is_same_id under) bs ≡ Some es → 0 < length es) → (t : Bool) → is_same_id under b.0 ≡ t → 0 < length es
   by rest true is =
       let first : Some b.1 ≡ Some es = rw is at h in
       let same : b.1 ≡ es = cc in

@@ -6,7 +6,7 @@ use Rattle.std.specs.Ordering.{nat_cmp, is_lt, is_eq, is_le, is_some_and, orderi
 use Rattle.std.proofs.lemmas.Cmp.{ranked, tied_itself}
 use Rattle.std.proofs.lemmas.Bool.{false≢true}
 use Rattle.xs_stream.specs.declared.id.Id.{Id}
-use Rattle.xs_stream.specs.Id.{id_cmp, is_below, is_same}
+use Rattle.xs_stream.specs.Id.{id_cmp, is_below, is_same_id}
 
 pub ids_total : IsTotalOrder id_cmp
 ids_total = then_total (on_total (λ s. s.ms) nat_cmp_total) (on_total (λ s. s.seq) nat_cmp_total)
@@ -41,13 +41,13 @@ same_id a b e =
     let seq = nat_same a.seq b.seq (then_second _ _ e) in
     λ i. record { ms = ms i; seq = seq i }
 
-pub is_same-eq : (a b : Id) → is_same a b ≡ true → a ≡ b
+pub is_same-eq : (a b : Id) → is_same_id a b ≡ true → a ≡ b
 is_same-eq a b e = same_id a b (equal-from _ e)
 
-pub is_same-refl : (a : Id) → is_same a a ≡ true
+pub is_same-refl : (a : Id) → is_same_id a a ≡ true
 is_same-refl a = ap is_eq (tied_itself ids_total a)
 
-pub below-not_same : (a b : Id) → is_below a b ≡ true → is_same a b ≡ false
+pub below-not_same : (a b : Id) → is_below a b ≡ true → is_same_id a b ≡ false
 below-not_same a b e = ap is_eq (less-from _ e)
 
 pub below-not_back : (a b : Id) → is_below a b ≡ true → is_below b a ≡ false
@@ -81,7 +81,7 @@ not_above-trans a b c h k = by (is_below a c) refl where
   by false e = e
   by true e = absurd (false≢true (sym k ∙ up_to-below a b c h e))
 
-pub is_same-symm : (a b : Id) → is_same a b ≡ is_same b a
+pub is_same-symm : (a b : Id) → is_same_id a b ≡ is_same_id b a
 is_same-symm a b = (eq_by_cmp_equiv ids_total).symm a b
 
 -- what is above something not below low isn't below low either

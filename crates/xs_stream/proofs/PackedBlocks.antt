@@ -10,7 +10,7 @@ use Rattle.std.proofs.lemmas.Bool.{false≢true}
 use Rattle.std.proofs.Math.Seq.{take-append_seam, drop-append_seam}
 use Rattle.xs_stream.specs.declared.field.Field.{Field}
 use Rattle.xs_stream.specs.declared.id.Id.{Id}
-use Rattle.xs_stream.specs.Id.{is_same}
+use Rattle.xs_stream.specs.Id.{is_same_id}
 use Rattle.xs_stream.specs.StreamContent.{fields_at, ids_of}
 use Rattle.xs_stream.specs.PackedNumber.{number_code, first_number, after_number}
 use Rattle.xs_stream.specs.PackedText.{text_code, first_text, after_text}
@@ -47,14 +47,14 @@ module _ (base : ℕ) (names : List ℕ) where
 
 -- ---- a search by id
 
-same-reads : (a b : Id) (t : Bool) → (eqb a.ms b.ms && eqb a.seq b.seq) ≡ t → is_same b a ≡ t
+same-reads : (a b : Id) (t : Bool) → (eqb a.ms b.ms && eqb a.seq b.seq) ≡ t → is_same_id b a ≡ t
 same-reads a b true e =
     let ms : a.ms ≡ b.ms = grind (arith, nat_tests) in
     let seq : a.seq ≡ b.seq = grind (arith, nat_tests) in
     let same : a ≡ b = λ i. record { ms = ms i; seq = seq i } in
     rw same (is_same-refl b)
-same-reads a b false e = by (is_same b a) refl where
-  by : (t : Bool) → is_same b a ≡ t → t ≡ false
+same-reads a b false e = by (is_same_id b a) refl where
+  by : (t : Bool) → is_same_id b a ≡ t → t ≡ false
   by true h =
       let same : b ≡ a = is_same-eq b a h in
       let ms : eqb a.ms b.ms ≡ true = grind (arith, nat_tests, ap (λ x. x.ms) same) in
@@ -65,22 +65,22 @@ same-reads a b false e = by (is_same b a) refl where
 module _ (base : ℕ) (names : List ℕ) (count i : ℕ) (id x : Id) (rest : List ℕ) (h : i < count) (is : x ≡ entry_id base rest) where
   pub lookup-passed : (eqb x.ms id.ms && eqb x.seq id.seq) ≡ false → fields_at (entries_in base names (count - i) rest) id ≡ fields_at (entries_in base names (count - (i + 1)) (after_entry rest)) id
   lookup-passed e =
-      let other : is_same id (entry_id base rest) ≡ false = subst (λ y. is_same id y ≡ false) is (same-reads x id false e) in
+      let other : is_same_id id (entry_id base rest) ≡ false = subst (λ y. is_same_id id y ≡ false) is (same-reads x id false e) in
       rw (left-step base names count i rest h, other) refl
 
   pub lookup-found : (eqb x.ms id.ms && eqb x.seq id.seq) ≡ true → fields_at (entries_in base names (count - i) rest) id ≡ Some (body_fields names (entry_body rest))
   lookup-found e =
-      let same : is_same id (entry_id base rest) ≡ true = subst (λ y. is_same id y ≡ true) is (same-reads x id true e) in
+      let same : is_same_id id (entry_id base rest) ≡ true = subst (λ y. is_same_id id y ≡ true) is (same-reads x id true e) in
       rw (left-step base names count i rest h, same) refl
 
-  pub removed-passed : (eqb x.ms id.ms && eqb x.seq id.seq) ≡ false → remove_entry (is_same id) (entries_in base names (count - i) rest) ≡ entry_in base names rest ∷ remove_entry (is_same id) (entries_in base names (count - (i + 1)) (after_entry rest))
+  pub removed-passed : (eqb x.ms id.ms && eqb x.seq id.seq) ≡ false → remove_entry (is_same_id id) (entries_in base names (count - i) rest) ≡ entry_in base names rest ∷ remove_entry (is_same_id id) (entries_in base names (count - (i + 1)) (after_entry rest))
   removed-passed e =
-      let other : is_same id (entry_id base rest) ≡ false = subst (λ y. is_same id y ≡ false) is (same-reads x id false e) in
+      let other : is_same_id id (entry_id base rest) ≡ false = subst (λ y. is_same_id id y ≡ false) is (same-reads x id false e) in
       rw (left-step base names count i rest h, other) refl
 
-  pub removed-found : (eqb x.ms id.ms && eqb x.seq id.seq) ≡ true → remove_entry (is_same id) (entries_in base names (count - i) rest) ≡ entries_in base names (count - (i + 1)) (after_entry rest)
+  pub removed-found : (eqb x.ms id.ms && eqb x.seq id.seq) ≡ true → remove_entry (is_same_id id) (entries_in base names (count - i) rest) ≡ entries_in base names (count - (i + 1)) (after_entry rest)
   removed-found e =
-      let same : is_same id (entry_id base rest) ≡ true = subst (λ y. is_same id y ≡ true) is (same-reads x id true e) in
+      let same : is_same_id id (entry_id base rest) ≡ true = subst (λ y. is_same_id id y ≡ true) is (same-reads x id true e) in
       rw (left-step base names count i rest h, same) refl
 
 take-cons : {X : Type 0} (xs : List X) (i : ℕ) (x : X) (ys : List X) → drop i xs ≡ x ∷ ys → take (suc i) xs ≡ take i xs ++ x ∷ []
@@ -487,10 +487,10 @@ first-code entry old bytes none e =
     ∙ ap (λ b. b ++ entries_code entry.0.ms names (entry ∷ [])) (sym (append-nil (text_code names)))
 
 -- nothing is removed that isn't found
-pub remove-absent : (id : Id) (es : List (Id × List Field)) → is_some (fields_at es id) ≡ false → remove_entry (is_same id) es ≡ es
+pub remove-absent : (id : Id) (es : List (Id × List Field)) → is_some (fields_at es id) ≡ false → remove_entry (is_same_id id) es ≡ es
 remove-absent id [] h = refl
-remove-absent id (e ∷ es) h = by (remove-absent id es) (is_same id e.0) h where
-  by : (is_some (fields_at es id) ≡ false → remove_entry (is_same id) es ≡ es) → (t : Bool) → is_some (cond t (Some e.1) (fields_at es id)) ≡ false → cond t es (e ∷ remove_entry (is_same id) es) ≡ e ∷ es
+remove-absent id (e ∷ es) h = by (remove-absent id es) (is_same_id id e.0) h where
+  by : (is_some (fields_at es id) ≡ false → remove_entry (is_same_id id) es ≡ es) → (t : Bool) → is_some (cond t (Some e.1) (fields_at es id)) ≡ false → cond t es (e ∷ remove_entry (is_same_id id) es) ≡ e ∷ es
   by rest true h = absurd (false≢true (sym h))
   by rest false h = ap (λ left. e ∷ left) (rest h)
 

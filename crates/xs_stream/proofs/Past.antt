@@ -3,7 +3,7 @@ use Rattle.std.proofs.Common.{◌≡◌, ℕ, ◌+◌, ◌<◌, Bool, true, fals
 use Rattle.std.proofs.lemmas.Bool.Decides.{nat_tests}
 use Rattle.std.specs.Ordering.{nat_cmp, is_lt}
 use Rattle.xs_stream.specs.declared.id.Id.{Id}
-use Rattle.xs_stream.specs.Id.{is_below, last, greatest_id}
+use Rattle.xs_stream.specs.Id.{is_below, greatest_number, greatest_id}
 use Rattle.xs_stream.specs.IdText.{next_id}
 use Rattle.xs_stream.specs.StreamContent.{is_within}
 use Rattle.xs_stream.specs.Lawful.{IsId, AllIds}
@@ -27,20 +27,20 @@ below-is m s n t = by (ltb m n) (eqb m n) refl refl where
 after_next : (m s n t : ℕ) → not (ltb n m || (eqb n m && ltb t (s + 1))) ≡ (ltb m n || (eqb m n && ltb s t))
 after_next m s n t = grind (arith, nat_tests)
 
-after_last : (m s n t : ℕ) → ltb s last ≡ false → t < 18446744073709551616 → not (ltb n (m + 1) || (eqb n (m + 1) && ltb t 0)) ≡ (ltb m n || (eqb m n && ltb s t))
+after_last : (m s n t : ℕ) → ltb s greatest_number ≡ false → t < 18446744073709551616 → not (ltb n (m + 1) || (eqb n (m + 1) && ltb t 0)) ≡ (ltb m n || (eqb m n && ltb s t))
 after_last m s n t e h = grind (arith, nat_tests)
 
-none_after : (m s n t : ℕ) → ltb m last ≡ false → ltb s last ≡ false → n < 18446744073709551616 → t < 18446744073709551616 → (ltb m n || (eqb m n && ltb s t)) ≡ false
+none_after : (m s n t : ℕ) → ltb m greatest_number ≡ false → ltb s greatest_number ≡ false → n < 18446744073709551616 → t < 18446744073709551616 → (ltb m n || (eqb m n && ltb s t)) ≡ false
 none_after m s n t e f h k = grind (arith, nat_tests)
 
 up_to_greatest : (x : Id) → IsId x → is_below greatest_id x ≡ false
-up_to_greatest x fits = below-is last last x.ms x.seq ∙ none_after last last x.ms x.seq refl refl fits.0 fits.1
+up_to_greatest x fits = below-is greatest_number greatest_number x.ms x.seq ∙ none_after greatest_number greatest_number x.ms x.seq refl refl fits.0 fits.1
 
 -- what is above a cursor is within the range from its successor on
 above-within : (cursor low x : Id) → next_id cursor ≡ Some low → IsId x → is_within (record { low = low; high = greatest_id }) x ≡ is_below cursor x
 above-within cursor low x h fits =
-    ap (λ b. not (is_below x low) && not b) (up_to_greatest x fits) ∙ and_yes (not (is_below x low)) ∙ by (ltb cursor.seq last) (ltb cursor.ms last) refl h where
-      by : (s m : Bool) → ltb cursor.seq last ≡ s
+    ap (λ b. not (is_below x low) && not b) (up_to_greatest x fits) ∙ and_yes (not (is_below x low)) ∙ by (ltb cursor.seq greatest_number) (ltb cursor.ms greatest_number) refl h where
+      by : (s m : Bool) → ltb cursor.seq greatest_number ≡ s
           → cond s (Some (record { ms = cursor.ms; seq = cursor.seq + 1 })) (cond m (Some (record { ms = cursor.ms + 1; seq = 0 })) None) ≡ Some low → not (is_below x low) ≡ is_below cursor x
       by true m e f =
           let next : record { ms = cursor.ms; seq = cursor.seq + 1 } ≡ low = cc in
@@ -54,8 +54,8 @@ above-within cursor low x h fits =
 
 -- where a cursor has no successor nothing is above it
 none-above : (cursor x : Id) → next_id cursor ≡ None → IsId x → is_below cursor x ≡ false
-none-above cursor x h fits = below-is cursor.ms cursor.seq x.ms x.seq ∙ by (ltb cursor.seq last) (ltb cursor.ms last) refl refl h where
-  by : (s m : Bool) → ltb cursor.seq last ≡ s → ltb cursor.ms last ≡ m
+none-above cursor x h fits = below-is cursor.ms cursor.seq x.ms x.seq ∙ by (ltb cursor.seq greatest_number) (ltb cursor.ms greatest_number) refl refl h where
+  by : (s m : Bool) → ltb cursor.seq greatest_number ≡ s → ltb cursor.ms greatest_number ≡ m
       → cond {A = Option Id} s (Some (record { ms = cursor.ms; seq = cursor.seq + 1 })) (cond m (Some (record { ms = cursor.ms + 1; seq = 0 })) None) ≡ None
       → (ltb cursor.ms x.ms || (eqb cursor.ms x.ms && ltb cursor.seq x.seq)) ≡ false
   by true m e f g = let no = g in cc

@@ -7,7 +7,7 @@ use Rattle.std.specs.declared.ops.Bound.TheVariants.{Included, Unbounded}
 use Rattle.xs_stream.specs.declared.id.Id.{Id}
 use Rattle.xs_stream.specs.declared.field.Field.{Field}
 use Rattle.xs_stream.specs.declared.entries.Entries.{Entries}
-use Rattle.xs_stream.specs.Id.{is_below, is_same}
+use Rattle.xs_stream.specs.Id.{is_below, is_same_id}
 use Rattle.xs_stream.specs.StreamContent.{ids_of, AllAbove, AllUpTo}
 use Rattle.xs_stream.specs.Lawful.{IsLawful}
 
@@ -38,8 +38,8 @@ pub record IsLaidDown (entries : Entries) : Type 0 where
 abbrev pub HasJoined : Id → List (Id × List Field) → List (Id × List (Id × List Field))
     → List (Id × List (Id × List Field)) → Type 0
 HasJoined next front old new =
-    (es : List (Id × List Field)) × (lookup (is_same next) old ≡ Some es)
-    × (new ≡ set_value (is_same next) old (front ++ es))
+    (es : List (Id × List Field)) × (lookup (is_same_id next) old ≡ Some es)
+    × (new ≡ set_value (is_same_id next) old (front ++ es))
 
 -- no block is filed under an id below this one
 abbrev pub BeginsFrom : Id → List (Id × List (Id × List Field)) → Type 0

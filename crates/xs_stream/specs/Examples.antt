@@ -4,7 +4,7 @@ use Rattle.std.specs.Prelude.{◌≡◌, ℕ, ◌+◌, ◌^◌, true, false, [],
 use Rattle.xs_stream.specs.declared.id.Id.{Id}
 use Rattle.xs_stream.specs.declared.add.AddId.TheVariants.{Auto, AutoSeq, Exact}
 use Rattle.xs_stream.specs.declared.add.AddError.TheVariants.{Small, Exhausted}
-use Rattle.xs_stream.specs.Id.{is_below, is_same, has_id, last, zero_id, greatest_id, printed, successor, assigned}
+use Rattle.xs_stream.specs.Id.{is_below, is_same_id, has_id, greatest_number, zero_id, greatest_id, printed, successor, assigned}
 use Rattle.xs_stream.specs.IdText.{next_id, previous_id, id_number, parse_id}
 use Rattle.xs_stream.specs.RangeText.{low_end, high_end, range_between}
 use Rattle.xs_stream.specs.Lawful.{IsId, AllIds}
@@ -18,16 +18,16 @@ pub record Order : Type 0 where
   pub sequence_within_a_millisecond : is_below (at 1 1) (at 1 2) ≡ true
   pub greater_sequence : is_below (at 1 2) (at 1 1) ≡ false
   pub not_below_itself : is_below (at 1 1) (at 1 1) ≡ false
-  pub same : is_same (at 1 2) (at 1 2) ≡ true
-  pub another_sequence : is_same (at 1 2) (at 1 3) ≡ false
-  pub another_millisecond : is_same (at 1 2) (at 2 2) ≡ false
+  pub same : is_same_id (at 1 2) (at 1 2) ≡ true
+  pub another_sequence : is_same_id (at 1 2) (at 1 3) ≡ false
+  pub another_millisecond : is_same_id (at 1 2) (at 2 2) ≡ false
   pub the_first_of_three : has_id (at 1 0 ∷ at 1 1 ∷ at 2 0 ∷ []) (at 1 0) ≡ true
   pub the_last_of_three : has_id (at 1 0 ∷ at 1 1 ∷ at 2 0 ∷ []) (at 2 0) ≡ true
   pub none_of_three : has_id (at 1 0 ∷ at 1 1 ∷ at 2 0 ∷ []) (at 2 1) ≡ false
   pub none_at_all : has_id [] (at 0 0) ≡ false
 
 pub record Bounds : Type 0 where
-  pub numbers_of_64_bits : last + 1 ≡ 2 ^ 64
+  pub numbers_of_64_bits : greatest_number + 1 ≡ 2 ^ 64
   pub the_least : printed zero_id ≡ codes "0-0"
   pub the_greatest : printed greatest_id ≡ codes "18446744073709551615-18446744073709551615"
   pub as_printed : printed (at 1526919030474 55) ≡ codes "1526919030474-55"
@@ -144,6 +144,6 @@ pub record Ends : Type 0 where
   pub no_word_at_the_high_end : high_end [] ≡ None
   pub another_word : low_end (codes "x") ≡ None
   pub both_ends :
-      range_between (low_end (codes "1")) (high_end (codes "2")) ≡ Some (record { low = at 1 0; high = at 2 last })
+      range_between (low_end (codes "1")) (high_end (codes "2")) ≡ Some (record { low = at 1 0; high = at 2 greatest_number })
   pub no_low_end : range_between None (Some (at 2 0)) ≡ None
   pub no_high_end : range_between (Some (at 1 0)) None ≡ None

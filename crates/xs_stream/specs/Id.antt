@@ -16,22 +16,22 @@ id_cmp a b = ordering_then (nat_cmp a.ms b.ms) (nat_cmp a.seq b.seq)
 abbrev pub is_below : Id → Id → Bool
 is_below a b = is_lt (id_cmp a b)
 
-abbrev pub is_same : Id → Id → Bool
-is_same a b = is_eq (id_cmp a b)
+abbrev pub is_same_id : Id → Id → Bool
+is_same_id a b = is_eq (id_cmp a b)
 
 -- the id is one of these
 abbrev pub has_id : List Id → Id → Bool
-has_id ids id = list_any (is_same id) ids
+has_id ids id = list_any (is_same_id id) ids
 
 -- the greatest number that an id has
-abbrev pub last : ℕ
-last = 18446744073709551615
+abbrev pub greatest_number : ℕ
+greatest_number = 18446744073709551615
 
 abbrev pub zero_id : Id
 zero_id = record { ms = 0; seq = 0 }
 
 abbrev pub greatest_id : Id
-greatest_id = record { ms = last; seq = last }
+greatest_id = record { ms = greatest_number; seq = greatest_number }
 
 -- `ms-seq`
 abbrev pub printed : Id → List ℕ
@@ -40,16 +40,16 @@ printed id = decimal id.ms ++ 45 ∷ decimal id.seq
 -- the successor of an id that isn't the greatest
 abbrev pub successor : Id → Id
 successor id =
-    if nat_lt id.seq last then record { ms = id.ms; seq = id.seq + 1 } else record { ms = id.ms + 1; seq = 0 }
+    if nat_lt id.seq greatest_number then record { ms = id.ms; seq = id.seq + 1 } else record { ms = id.ms + 1; seq = 0 }
 
 -- what a stream with room gives, by its top
 abbrev pub assigned_above : ℕ → Id → AddId → Result Id AddError
 assigned_above now top Auto = Ok (if nat_lt top.ms now then record { ms = now; seq = 0 } else successor top)
 assigned_above now top (AutoSeq ms) =
-    if ms == top.ms then (if nat_lt top.seq last then Ok (record { ms = ms; seq = top.seq + 1 }) else Err Small)
+    if ms == top.ms then (if nat_lt top.seq greatest_number then Ok (record { ms = ms; seq = top.seq + 1 }) else Err Small)
     else (if nat_lt top.ms ms then Ok (record { ms = ms; seq = 0 }) else Err Small)
 assigned_above now top (Exact id) = if is_below top id then Ok id else Err Small
 
 -- the id that an addition at this moment gets in a stream with this top
 abbrev pub assigned : ℕ → Id → AddId → Result Id AddError
-assigned now top id = if is_same top greatest_id then Err Exhausted else assigned_above now top id
+assigned now top id = if is_same_id top greatest_id then Err Exhausted else assigned_above now top id

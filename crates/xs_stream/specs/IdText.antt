@@ -4,19 +4,19 @@ use Rattle.std.specs.Prelude.{Option, Some, None, option_and_then, if◌then◌e
 use Rattle.std.specs.Option.{option_map}
 use Rattle.xs_bytes.specs.Number.{number_of}
 use Rattle.xs_stream.specs.declared.id.Id.{Id}
-use Rattle.xs_stream.specs.Id.{last}
+use Rattle.xs_stream.specs.Id.{greatest_number}
 
 -- the least id above
 abbrev pub next_id : Id → Option Id
 next_id id =
-    if nat_lt id.seq last then Some (record { ms = id.ms; seq = id.seq + 1 })
-    else (if nat_lt id.ms last then Some (record { ms = id.ms + 1; seq = 0 }) else None)
+    if nat_lt id.seq greatest_number then Some (record { ms = id.ms; seq = id.seq + 1 })
+    else (if nat_lt id.ms greatest_number then Some (record { ms = id.ms + 1; seq = 0 }) else None)
 
 -- the greatest id below
 abbrev pub previous_id : Id → Option Id
 previous_id id =
     if nat_lt 0 id.seq then Some (record { ms = id.ms; seq = id.seq - 1 })
-    else (if nat_lt 0 id.ms then Some (record { ms = id.ms - 1; seq = last }) else None)
+    else (if nat_lt 0 id.ms then Some (record { ms = id.ms - 1; seq = greatest_number }) else None)
 
 -- one to twenty digits, worth less than 2^64
 abbrev pub id_number : List ℕ → Option ℕ

@@ -1,7 +1,7 @@
 -- What holds of every stream.
 use Rattle.std.specs.Prelude.{◌<◌, ◌^◌, List, [], ◌∷◌}
 use Rattle.xs_stream.specs.declared.id.Id.{Id}
-use Rattle.xs_stream.specs.StreamContent.{Kept, ids_of, Ascends, AllUpTo}
+use Rattle.xs_stream.specs.StreamContent.{StreamState, ids_of, Ascends, AllUpTo}
 
 -- both numbers are below 2^64
 abbrev pub IsId : Id → Type 0
@@ -12,7 +12,7 @@ AllIds [] = Unit {0}
 AllIds (x ∷ xs) = IsId x × AllIds xs
 
 -- the ids ascend, none is above the top, and all are ids
-pub record IsLawful (kept : Kept) : Type 0 where
+pub record IsLawful (kept : StreamState) : Type 0 where
   pub ascends : Ascends (ids_of kept.entries)
   pub up_to_top : AllUpTo kept.top (ids_of kept.entries)
   pub top_is_id : IsId kept.top

@@ -3,7 +3,7 @@ use Rattle.std.specs.Prelude.{ℕ, List, [], ◌∷◌, ◌==◌, Option, Some, 
 use Rattle.std.specs.Option.{option_map}
 use Rattle.xs_stream.specs.declared.id.Id.{Id}
 use Rattle.xs_stream.specs.declared.range.Range.{Range}
-use Rattle.xs_stream.specs.Id.{zero_id, greatest_id, last}
+use Rattle.xs_stream.specs.Id.{zero_id, greatest_id, greatest_number}
 use Rattle.xs_stream.specs.IdText.{parse_id, next_id, previous_id}
 
 -- an end that begins with this byte: `-`, `+`, or `(` and an id whose neighbour is meant
@@ -26,7 +26,7 @@ abbrev pub low_end : List ℕ → Option Id
 low_end text = end_of 0 next_id text
 
 abbrev pub high_end : List ℕ → Option Id
-high_end text = end_of last previous_id text
+high_end text = end_of greatest_number previous_id text
 
 abbrev pub range_between : Option Id → Option Id → Option Range
 range_between low high = option_and_then (λ l. option_map (λ h. record { low = l; high = h }) high) low

@@ -7,10 +7,10 @@ use Rattle.xs_stream.specs.declared.field.Field.{Field}
 use Rattle.xs_stream.specs.declared.range.Range.{Range}
 use Rattle.xs_stream.specs.declared.trim.Trim.{Trim}
 use Rattle.xs_stream.specs.declared.trim.Trim.TheVariants.{MaxLen, MinId}
-use Rattle.xs_stream.specs.Id.{is_below, is_same, has_id}
+use Rattle.xs_stream.specs.Id.{is_below, is_same_id, has_id}
 
 -- the greatest id ever added, and the entries in the order of their ids
-pub record Kept : Type 0 where
+pub record StreamState : Type 0 where
   pub top : Id
   pub entries : List (Id × List Field)
 
@@ -34,7 +34,7 @@ AllUpTo top (x ∷ xs) = (is_below top x ≡ false) × AllUpTo top xs
 
 -- the fields of an entry
 abbrev pub fields_at : List (Id × List Field) → Id → Option (List Field)
-fields_at entries id = lookup (is_same id) entries
+fields_at entries id = lookup (is_same_id id) entries
 
 -- the entries without those that are named
 abbrev pub without : List Id → List (Id × List Field) → List (Id × List Field)

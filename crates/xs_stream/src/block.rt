@@ -4,7 +4,7 @@ ghost use Rattle.std.specs.Prelude.{true, false, if◌then◌else◌, OnOk, OnEr
 ghost use Rattle.std.specs.Prelude.{length, filter, take, drop, reverse, vec_len};
 ghost use Rattle.std.specs.List.{flat_map};
 ghost use Rattle.std.specs.Map.{remove_entry};
-ghost use Rattle.xs_stream.specs.Id.{is_same, is_below};
+ghost use Rattle.xs_stream.specs.Id.{is_same_id, is_below};
 ghost use Rattle.xs_stream.specs.StreamContent.{is_within, ids_of, fields_at};
 ghost use Rattle.xs_stream.specs.Packed.{names_code, has_names, field_code, entry_code};
 ghost use Rattle.xs_stream.specs.PackedText.{text_code, first_text, after_text};
@@ -240,7 +240,7 @@ impl Block {
 
     /// Takes the entry with this id out, and says whether there was one.
     pub(crate) fn remove(&mut self, id: Id) -> bool
-        ensures entries { self.new ≡ remove_entry (is_same id) self.old }
+        ensures entries { self.new ≡ remove_entry (is_same_id id) self.old }
         ensures count { length self.new + (if result then 1 else 0) ≡ length self.old }
     {
         let bytes = self.bytes.as_slice();
@@ -263,7 +263,7 @@ impl Block {
 
     /// Takes the entry with this id out of a block that has no neighbours to join, and says whether there was one.
     pub(crate) fn remove_alone(&mut self, id: Id) -> bool
-        ensures entries { self.new ≡ remove_entry (is_same id) self.old }
+        ensures entries { self.new ≡ remove_entry (is_same_id id) self.old }
         ensures count { length self.new + (if result then 1 else 0) ≡ length self.old }
     {
         let removed = self.remove(id);

@@ -5,7 +5,7 @@ ghost use Rattle.std.specs.Prelude.{length, take, drop, filter, reverse};
 ghost use Rattle.std.specs.Map.{lookup_key, remove_entry};
 ghost use Rattle.xs_stream.specs.declared.id.Id.{Id};
 ghost use Rattle.xs_stream.specs.declared.trim.Trim.TheVariants.{MinId};
-ghost use Rattle.xs_stream.specs.Id.{is_below, is_same};
+ghost use Rattle.xs_stream.specs.Id.{is_below, is_same_id};
 ghost use Rattle.xs_stream.specs.StreamContent.{is_within, ids_of, fields_at, without, trimmed, Ascends, AllUpTo};
 ghost use Rattle.xs_stream.specs.Lawful.{AllIds};
 ghost use Rattle.xs_stream.specs.Blocks.{all_of, AreFiled, BeginsFrom, IsLaidDown, filed_under, end_at, HasJoined};
@@ -235,7 +235,7 @@ impl Entries {
     fn take_from(&mut self, under: Id, id: Id) -> (bool, bool)
         requires filed { AreFiled self.old.older.entries self.old.newest }
         requires under { lookup_key (λ under. not (is_below under id)) self.old.older.entries ≡ Some under }
-        ensures entries { all_of self.new ≡ remove_entry (is_same id) (all_of self.old) }
+        ensures entries { all_of self.new ≡ remove_entry (is_same_id id) (all_of self.old) }
         ensures filed { AreFiled self.new.older.entries self.new.newest }
         ensures filed_up_to_top { (top : Id) → AllUpTo top (filed_under self.old) → AllUpTo top (filed_under self.new) }
         ensures count { length (all_of self.new) + (if result.0 then 1 else 0) ≡ length (all_of self.old) }
@@ -255,7 +255,7 @@ impl Entries {
     /// Takes the entry with this id out, and says whether it was there. It isn't counted yet.
     fn take(&mut self, id: Id) -> bool
         requires { AreFiled self.old.older.entries self.old.newest }
-        ensures entries { all_of self.new ≡ remove_entry (is_same id) (all_of self.old) }
+        ensures entries { all_of self.new ≡ remove_entry (is_same_id id) (all_of self.old) }
         ensures filed { AreFiled self.new.older.entries self.new.newest }
         ensures filed_up_to_top { (top : Id) → AllUpTo top (filed_under self.old) → AllUpTo top (filed_under self.new) }
         ensures count { length (all_of self.new) + (if result then 1 else 0) ≡ length (all_of self.old) }
@@ -276,7 +276,7 @@ impl Entries {
     /// Removes the entry with this id.
     fn remove(&mut self, id: Id)
         requires { IsLaidDown self.old }
-        ensures entries { all_of self.new ≡ remove_entry (is_same id) (all_of self.old) }
+        ensures entries { all_of self.new ≡ remove_entry (is_same_id id) (all_of self.old) }
         ensures laid_down { IsLaidDown self.new }
         ensures filed_up_to_top { (top : Id) → AllUpTo top (filed_under self.old) → AllUpTo top (filed_under self.new) }
     {

@@ -28,10 +28,10 @@ pub struct Stream {
 }
 
 impl Model for Stream {
-    ghost use Rattle.xs_stream.specs.StreamContent.{Kept};
+    ghost use Rattle.xs_stream.specs.StreamContent.{StreamState};
     ghost use Rattle.xs_stream.specs.Blocks.{all_of, IsSound};
 
-    ghost Value = { Kept };
+    ghost Value = { StreamState };
 
     ghost view = { λ s. record { top = s.top; entries = all_of s.entries } };
 

@@ -4,7 +4,7 @@ ghost use Rattle.std.specs.Prelude.{IfSome, OnOk, OnErr, length, vec_len, filter
 ghost use Rattle.std.specs.List.{remove};
 ghost use Rattle.std.specs.Map.{remove_entry};
 ghost use Rattle.std.specs.Option.{is_some};
-ghost use Rattle.xs_stream.specs.Id.{is_same, is_below};
+ghost use Rattle.xs_stream.specs.Id.{is_same_id, is_below};
 ghost use Rattle.xs_stream.specs.StreamContent.{is_within, ids_of, fields_at};
 ghost use Rattle.xs_stream.specs.Packed.{after_entries, block_entries, shares_names, all_rebased};
 
@@ -54,7 +54,7 @@ pub(crate) fn place_of(base: u64, count: usize, start: usize, bytes: &[u8], id: 
         ≡ length bytes.now - length (after_entries p.index (drop start bytes.now))) }
     ensures to { IfSome result (λ p. p.to
         ≡ length bytes.now - length (after_entries (p.index + 1) (drop start bytes.now))) }
-    ensures removed { IfSome result (λ p. remove_entry (is_same id) (block_entries base count start bytes.now)
+    ensures removed { IfSome result (λ p. remove_entry (is_same_id id) (block_entries base count start bytes.now)
         ≡ remove (block_entries base count start bytes.now) p.index) }
     ensures found { is_some result ≡ is_some (fields_at (block_entries base count start bytes.now) id) }
 {

@@ -2,9 +2,9 @@ use Rattle.std.proofs.Common.{◌≡◌, take}
 use Rattle.std.specs.BTreeSet.{contains}
 use Rattle.xs_stream.specs.declared.id.Id.{Id}
 use Rattle.xs_stream.specs.Id.{id_cmp, has_id}
-use Rattle.xs_group.specs.Claims.{firsts}
+use Rattle.xs_group.specs.Claims.{without_repeats}
 use Rattle.xs_group.proofs.claims.firsts.Given as goal
 
 -- the ids so far are seen, each kept at its first place
 abbrev pub invariant-loop-id : goal.invariant-loop-id
-invariant-loop-id l = (l.kept.items ≡ firsts (take l.id-index l.ids)) × ((q : Id) → contains id_cmp l.seen q ≡ has_id (take l.id-index l.ids) q)
+invariant-loop-id l = (l.kept.items ≡ without_repeats (take l.id-index l.ids)) × ((q : Id) → contains id_cmp l.seen q ≡ has_id (take l.id-index l.ids) q)

@@ -5,7 +5,7 @@ use Rattle.std.specs.declared.ops.Bound.TheVariants.{Included, Unbounded}
 use Rattle.xs_stream.specs.declared.id.Id.{Id}
 use Rattle.xs_stream.specs.Id.{id_cmp, has_id}
 use Rattle.xs_stream.specs.StreamContent.{ids_of}
-use Rattle.xs_group.specs.State.{Row}
+use Rattle.xs_group.specs.State.{RowState}
 use Rattle.xs_group.specs.Claims.{is_taken, is_removed, is_hit, from_start, first_or_zero}
 use Rattle.xs_group.specs.Verdict.{verdict_of, with_taken, with_removed, hits_of, scanned_after}
 use Rattle.xs_group.proofs.ChosenIds.{taken-verdict, removed-verdict, hits-verdict, one_most}
@@ -14,7 +14,7 @@ use Rattle.xs_group.proofs.Scanning.{AreFound, found-all, found-filter, keys-bet
 use Rattle.xs_group.proofs.claims.scan_rows.Goals as goal
 use Rattle.xs_group.proofs.claims.scan_rows.Goals.{then-hits-limit-via-then-hits-limit, then-hits-limit-via-else-hits-limit+then-seen-limit}
 
-abbrev keys : List (Id × Row) → List Id
+abbrev keys : List (Id × RowState) → List Id
 keys es = map (λ e. e.0) es
 
 pub loop-id-init : goal.loop-id-init

@@ -2,7 +2,7 @@ use Rattle.std.proofs.Common.{◌||◌, get_or, take, sym, ap, ◌∙◌}
 use Rattle.std.proofs.lemmas.List.{take_more}
 use Rattle.std.specs.BTreeSet.{contains}
 use Rattle.std.specs.List.{list_any}
-use Rattle.xs_stream.specs.Id.{id_cmp, is_same, has_id}
+use Rattle.xs_stream.specs.Id.{id_cmp, is_same_id, has_id}
 use Rattle.xs_group.proofs.ByConsumer.{contains-more}
 use Rattle.xs_group.proofs.ChosenIds.{has-more}
 use Rattle.xs_group.proofs.MovedRows.{some-take}
@@ -12,7 +12,7 @@ pub returns-in_default-clause-err : goal.returns-in_default-clause-err
 returns-in_default-clause-err c = (
   take c.loop-id.id-index c.args.ids.now,
   some-take c.args.ids.now c.loop-id.id-index,
-  λ x. ap (λ keys. list_any (is_same x) keys) c.in_default.ensures.err ∙ c.loop-id.invariant x,
+  λ x. ap (λ keys. list_any (is_same_id x) keys) c.in_default.ensures.err ∙ c.loop-id.invariant x,
 )
 
 pub loop-id-preserved : goal.loop-id-preserved

@@ -2,7 +2,7 @@ use Rattle.std.proofs.Common.{◌≡◌, map, option_and_then, ◌∷◌, sym, a
 use Rattle.std.specs.Vec.Iter.{into_iter_items}
 use Rattle.xs_stream.specs.declared.id.Id.{Id}
 use Rattle.xs_group.specs.Indexes.{indexed_row}
-use Rattle.xs_group.specs.Verdict.{moved, AreApart}
+use Rattle.xs_group.specs.Verdict.{moved, AreDistinct}
 use Rattle.xs_group.proofs.MovedRows.{rows-left, tails}
 use Rattle.xs_group.proofs.moving.move_rows.Goals as goal
 
@@ -13,7 +13,7 @@ loop-share-preserved c =
     let rest = c.in-Some-split_first.rest.now in
     let name = c.args.name.now in
     let todo : c.loop-share.todo.now ≡ id ∷ rest = c.in-Some-split_first.ensures.cases.0 in
-    let apart = subst AreApart todo inv.apart in
+    let apart = subst AreDistinct todo inv.apart in
     let steps : into_iter_items c.loop-share.share-iterator ≡ c.in-Some.share ∷ into_iter_items c.next.new.self = c.in-Some.ensures.steps.0 in
     record {
       left = tails c.in-Some.share name (into_iter_items c.next.new.self) (map (λ (x : Id). name) rest) (sym steps ∙ inv.left ∙ ap (map (λ (x : Id). name)) todo);

@@ -2,14 +2,14 @@ use Rattle.std.proofs.Common.{◌≡◌, ℕ, List, map, is_some, option_and_the
 use Rattle.std.specs.Vec.Iter.{into_iter_items}
 use Rattle.xs_stream.specs.declared.id.Id.{Id}
 use Rattle.xs_group.specs.Indexes.{ids_at, indexed_row}
-use Rattle.xs_group.specs.Verdict.{moved, AreApart, AreAgreedBut}
+use Rattle.xs_group.specs.Verdict.{moved, AreDistinct, AreAgreedBut}
 use Rattle.xs_group.proofs.moving.move_rows.Given as goal
 
 -- what is left to do makes of the rows what all was to make of them
 abbrev pub invariant-loop-share : goal.invariant-loop-share
 invariant-loop-share l = record {
   left : into_iter_items l.share-iterator ≡ map (λ x. l.fn.name) l.todo;
-  apart : AreApart l.todo;
+  apart : AreDistinct l.todo;
   agreed : AreAgreedBut l.rows.entries l.owners.entries l.fn.name l.todo;
   rows : (x : Id) → option_and_then (moved l.fn.name l.fn.now l.fn.rule l.todo x) (indexed_row l.rows.entries x) ≡ option_and_then (moved l.fn.name l.fn.now l.fn.rule l.fn.ids x) (indexed_row l.fn.rows.entries x);
   names : (n : List ℕ) → is_some (ids_at l.owners.entries n) ≡ is_some (ids_at l.fn.owners.entries n);

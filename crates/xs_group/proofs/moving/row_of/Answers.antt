@@ -1,6 +1,6 @@
 use Rattle.std.proofs.Common.{sym, ap, ◌∙◌}
 use Rattle.std.proofs.lemmas.Bool.{false≢true}
-use Rattle.xs_group.specs.State.{is_name}
+use Rattle.xs_group.specs.State.{is_same_name}
 use Rattle.xs_group.specs.Indexes.{has_among, is_owner}
 use Rattle.xs_group.proofs.ByConsumer.{is_name-eq}
 use Rattle.xs_group.proofs.moving.row_of.Goals as goal
@@ -15,7 +15,7 @@ pub returns-then-not-are_equal_names-clause-found : goal.returns-then-not-are_eq
 returns-then-not-are_equal_names-clause-found c = λ agreed x e.
     let id = c.in_ok-id.id.now in
     let found = sym (agreed c.args.name.now id) ∙ ap (λ o. has_among o id) (sym c.in_ok-ids.ensures.value) ∙ c.in_ok-id.ensures.member in
-    c.if-not-are_equal_names.ensures ∙ ap (λ k. is_name k c.args.name.now) c.consumer.ensures
+    c.if-not-are_equal_names.ensures ∙ ap (λ k. is_same_name k c.args.name.now) c.consumer.ensures
     ∙ ap (λ o. is_owner o c.args.name.now) c.in_ok-entry.ensures.value ∙ found
 
 pub returns-clause-whose : goal.returns-clause-whose

@@ -1,7 +1,7 @@
 use Rattle.std.proofs.Common.{◌≡◌, ◌&&◌, get_or, take, sym, ap, ◌∙◌, not, arith}
 use Rattle.std.proofs.lemmas.List.{take_more, take_all}
-use Rattle.xs_stream.specs.Id.{is_same, has_id}
-use Rattle.xs_group.specs.State.{is_name}
+use Rattle.xs_stream.specs.Id.{is_same_id, has_id}
+use Rattle.xs_group.specs.State.{is_same_name}
 use Rattle.xs_group.specs.Indexes.{holds, is_owner, indexed_row}
 use Rattle.xs_group.proofs.ChosenIds.{has-more}
 use Rattle.xs_group.proofs.MovedRows.{and-more, agreed-again}
@@ -16,9 +16,9 @@ loop-id-preserved c =
     let rows = c.args.rows.now.entries in
     record {
       names = λ q. c.take_back_one.ensures.names q ∙ c.loop-id.invariant.names q;
-      back = λ q x. c.take_back_one.ensures.ids q x ∙ ap (λ b. b && not (is_name q name && (is_same x id && not (is_owner (indexed_row rows x) name)))) (c.loop-id.invariant.back q x)
-          ∙ and-more (holds c.args.owners.now.entries q x) (is_name q name) (has_id done x) (is_same x id) (is_owner (indexed_row rows x) name)
-          ∙ ap (λ b. holds c.args.owners.now.entries q x && not (is_name q name && (b && not (is_owner (indexed_row rows x) name)))) (sym (has-more done id x) ∙ ap (λ ids. has_id ids x) (sym next));
+      back = λ q x. c.take_back_one.ensures.ids q x ∙ ap (λ b. b && not (is_same_name q name && (is_same_id x id && not (is_owner (indexed_row rows x) name)))) (c.loop-id.invariant.back q x)
+          ∙ and-more (holds c.args.owners.now.entries q x) (is_same_name q name) (has_id done x) (is_same_id x id) (is_owner (indexed_row rows x) name)
+          ∙ ap (λ b. holds c.args.owners.now.entries q x && not (is_same_name q name && (b && not (is_owner (indexed_row rows x) name)))) (sym (has-more done id x) ∙ ap (λ ids. has_id ids x) (sym next));
     }
 
 pub returns-clause-agreed : goal.returns-clause-agreed
@@ -27,4 +27,4 @@ returns-clause-agreed c =
     let rows = c.args.rows.now.entries in
     let all : take c.loop-id.id-index c.args.ids.now ≡ c.args.ids.now = take_all c.loop-id.id-index c.args.ids.now (omega arith) in
     agreed-again rows c.args.owners.now.entries c.loop-id.owners.entries name c.requires.0 c.args.ids.now c.requires.1 c.requires.2
-    (λ q x. c.loop-id.invariant.back q x ∙ ap (λ ids. holds c.args.owners.now.entries q x && not (is_name q name && (has_id ids x && not (is_owner (indexed_row rows x) name)))) all)
+    (λ q x. c.loop-id.invariant.back q x ∙ ap (λ ids. holds c.args.owners.now.entries q x && not (is_same_name q name && (has_id ids x && not (is_owner (indexed_row rows x) name)))) all)

@@ -1,7 +1,7 @@
 use Rattle.std.proofs.Common.{◌≡◌, ◌&&◌, ℕ, List, take, is_some, not}
 use Rattle.xs_stream.specs.declared.id.Id.{Id}
 use Rattle.xs_stream.specs.Id.{has_id}
-use Rattle.xs_group.specs.State.{is_name}
+use Rattle.xs_group.specs.State.{is_same_name}
 use Rattle.xs_group.specs.Indexes.{holds, ids_at, is_owner, indexed_row}
 use Rattle.xs_group.proofs.moving.take_back.Given as goal
 
@@ -10,5 +10,5 @@ abbrev pub invariant-loop-id : goal.invariant-loop-id
 invariant-loop-id l = record {
   names : (n : List ℕ) → is_some (ids_at l.owners.entries n) ≡ is_some (ids_at l.fn.owners.entries n);
   back : (n : List ℕ) → (x : Id) → holds l.owners.entries n x
-      ≡ (holds l.fn.owners.entries n x && not (is_name n l.name && (has_id (take l.id-index l.ids) x && not (is_owner (indexed_row l.rows.entries x) l.name))));
+      ≡ (holds l.fn.owners.entries n x && not (is_same_name n l.name && (has_id (take l.id-index l.ids) x && not (is_owner (indexed_row l.rows.entries x) l.name))));
 }

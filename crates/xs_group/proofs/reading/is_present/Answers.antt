@@ -1,7 +1,7 @@
 use Rattle.std.proofs.Common.{ap, is_some, ◌∙◌}
 use Rattle.std.proofs.lemmas.Map.Made.{is_some-lookup}
-use Rattle.xs_stream.specs.Id.{is_same}
+use Rattle.xs_stream.specs.Id.{is_same_id}
 use Rattle.xs_group.proofs.reading.is_present.Goals as goal
 
 pub returns : goal.returns
-returns c = c.is_some.ensures ∙ ap is_some c.get.ensures ∙ is_some-lookup (is_same c.args.id) c.args.stream.now.entries
+returns c = c.is_some.ensures ∙ ap is_some c.get.ensures ∙ is_some-lookup (is_same_id c.args.id) c.args.stream.now.entries

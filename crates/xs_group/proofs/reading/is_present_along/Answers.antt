@@ -2,7 +2,7 @@ use Rattle.std.proofs.Common.{◌≡◌, ◌&&◌, eqb, true, is_some, ap, sym, 
 use Rattle.std.proofs.lemmas.Map.Made.{is_some-lookup}
 use Rattle.std.proofs.lemmas.Bool.Decides.{nat_tests}
 use Rattle.xs_stream.specs.declared.id.Id.{Id}
-use Rattle.xs_stream.specs.Id.{is_same}
+use Rattle.xs_stream.specs.Id.{is_same_id}
 use Rattle.xs_stream.specs.StreamContent.{IsEntryOf, fields_at}
 use Rattle.xs_stream.proofs.Lending.{is-lent}
 use Rattle.xs_group.proofs.reading.is_present_along.Goals as goal
@@ -19,4 +19,4 @@ returns-then-eq c =
     let found = c.in-Some.ensures.lookup in
     let is : IsEntryOf entries c.in-Some.entry.now = subst (IsEntryOf entries) (sym found.1) (is-lent entries c.args.lent.now c.args.place c.in-Some.entry.now found.3.0 c.requires) in
     let same : c.in-Some.entry.now.0 ≡ c.args.id = sym c.id.ensures ∙ same-id c.id.result c.args.id (sym c.eq.ensures ∙ c.if-eq.true) in
-    sym (sym (is_some-lookup (is_same c.args.id) entries) ∙ ap (λ id. is_some (fields_at entries id)) (sym same) ∙ ap is_some is)
+    sym (sym (is_some-lookup (is_same_id c.args.id) entries) ∙ ap (λ id. is_some (fields_at entries id)) (sym same) ∙ ap is_some is)

@@ -1,7 +1,7 @@
 use Rattle.std.proofs.Common.{◌≡◌, ◌++◌, filter, ltb}
 use Rattle.std.specs.Map.{keys_of}
 use Rattle.xs_group.specs.Indexes.{rows_of}
-use Rattle.xs_group.specs.Report.{counted}
+use Rattle.xs_group.specs.Report.{counts_of_owners}
 use Rattle.xs_group.proofs.ReportRows.{AreHeld}
 use Rattle.xs_group.proofs.reports.owner_counts.Given as goal
 
@@ -11,6 +11,6 @@ invariant-loop-name l =
     let rows = (rows_of l._rows.entries).entries in
     record {
       held : AreHeld l.owners.entries l.name-iterator;
-      counted : l.counts.items ++ filter (λ owner. ltb 0 owner.count) (counted (keys_of l.name-iterator) rows)
-          ≡ filter (λ owner. ltb 0 owner.count) (counted (keys_of l.owners.entries) rows);
+      counts_of_owners : l.counts.items ++ filter (λ owner. ltb 0 owner.count) (counts_of_owners (keys_of l.name-iterator) rows)
+          ≡ filter (λ owner. ltb 0 owner.count) (counts_of_owners (keys_of l.owners.entries) rows);
     }

@@ -1,6 +1,6 @@
 use Rattle.std.proofs.Common.{codes, refl, ap, length, subst, T, arith}
 use Rattle.xs_bytes.specs.SortedMap.{empty, get, insert_by, remove, change}
-use Rattle.xs_stream.specs.StreamContent.{Kept}
+use Rattle.xs_stream.specs.StreamContent.{StreamState}
 use Rattle.xs_keys.specs.Content.{IsGroup}
 use Rattle.xs_keys.proofs.examples.contents.Goals as goal
 
@@ -9,8 +9,8 @@ unfolding empty get insert_by remove change
 returns c = record {
   of_a_key = (refl, λ group. tt);
   no_key = λ group. tt;
-  not_another_top = λ h. omega (arith, ap (λ (k : Kept). k.top.ms) h.0);
-  not_without_its_entry = λ h. omega (arith, ap (λ (k : Kept). length k.entries) h.0);
+  not_another_top = λ h. omega (arith, ap (λ (k : StreamState). k.top.ms) h.0);
+  not_without_its_entry = λ h. omega (arith, ap (λ (k : StreamState). length k.entries) h.0);
   not_without_a_life = λ h. h;
   not_without_a_key = λ h. h;
   not_without_its_group = λ h. h.1 (codes "g");

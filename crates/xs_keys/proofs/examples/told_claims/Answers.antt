@@ -2,7 +2,7 @@ use Rattle.std.proofs.Common.{◌≡◌, ℕ, List, [], ◌∷◌, refl, sym, ap
 use Rattle.xs_keys.specs.Terms.{Reply, Array, NullArray, Id}
 use Rattle.xs_keys.specs.ReplyParts.{array}
 use Rattle.xs_keys.specs.Telling.{TellsEntry, TellsEach}
-use Rattle.xs_keys.specs.Life.{given_at}
+use Rattle.xs_keys.specs.Life.{added_at}
 use Rattle.xs_keys.specs.ExamplesHistory.{events}
 use Rattle.xs_stream.specs.Examples.{at}
 use Rattle.xs_keys.specs.PlayedLines.{id as id_told, entry}
@@ -32,7 +32,7 @@ unfolding count_of kind example_functions
 returns c = record {
   claimed = (λ h. (second ∷ [], refl, ((_, refl, refl), tt), assigned-claim _ _ _ _ _ _ _), λ h. absurd (subst T h tt));
   claimed_ids = (λ h. (id_told 2 0 ∷ [], refl, (refl, tt), assigned-claim _ _ _ _ _ _ _), λ h. absurd (subst T h tt));
-  not_none_of_them = λ h. let told = h.0 refl in one_told (TellsEntry (given_at (events 5 read_by_a) (codes "s"))) (at 2 0) [] told.0 told.1 told.2;
+  not_none_of_them = λ h. let told = h.0 refl in one_told (TellsEntry (added_at (events 5 read_by_a) (codes "s"))) (at 2 0) [] told.0 told.1 told.2;
   no_claim = (λ h. absurd (subst T (sym h) tt), λ h. refl);
   scanned = (λ h. (entry 3 0 ∷ [], refl, ((_, refl, refl), tt), assigned-scan _ _ _ _ _ _ _ _), λ h. absurd (subst T h tt));
   scanned_one = (λ h. (second ∷ [], refl, ((_, refl, refl), tt), assigned-scan _ _ _ _ _ _ _ _), λ h. absurd (subst T h tt));

@@ -6,7 +6,7 @@ use Rattle.xs_keys.specs.Terms.{Reply, Array, Bulk, NullArray, Id, has_id}
 use Rattle.xs_keys.specs.Life.{key_life}
 use Rattle.xs_keys.specs.GroupLife.{present_in}
 use Rattle.xs_keys.specs.Telling.{TellsEntryOrNull, TellsEach}
-use Rattle.xs_keys.specs.Life.{given_at}
+use Rattle.xs_keys.specs.Life.{added_at}
 use Rattle.xs_keys.specs.ReplyParts.{array, array_or_null}
 use Rattle.xs_keys.specs.PlayedLines.{id as id_told, entry, stream}
 use Rattle.xs_keys.specs.ExamplesHistory.{events, group_and}
@@ -77,7 +77,7 @@ returns c = record {
   );
   not_none_of_its_own = λ h.
       let r = h.0 refl in
-      none_told (TellsEntryOrNull (given_at (events 5 read_by_a) (codes "s")) (present_in (key_life (events 5 read_by_a) (codes "s")))) r.2.3.0 r.2.3.1
+      none_told (TellsEntryOrNull (added_at (events 5 read_by_a) (codes "s")) (present_in (key_life (events 5 read_by_a) (codes "s")))) r.2.3.0 r.2.3.1
       (stream_told r.0 r.2.0 r.2.1 r.2.3.1 r.1 r.2.2 r.2.3.2) (all_own _ (r.2.3.3.in_full (at 2 0) (refl, refl)) (λ limited. false≢true (ap is_some limited.0))) r.2.3.4;
   own_pending_past_an_id = (
     λ h. (

@@ -1,10 +1,10 @@
 use Rattle.std.proofs.Common.{◌≡◌, ◌∙◌, true, not, Option, Some, None, Bor, is_some, sym, ap, refl}
 use Rattle.std.proofs.lemmas.List.Folds.{list_all_at, list_all_more}
-use Rattle.xs_keys.specs.Terms.{list_all, option_map, get, State, ReadOne}
+use Rattle.xs_keys.specs.Terms.{list_all, option_map, get, GroupState, ReadOne}
 use Rattle.xs_keys.specs.ContentAfter.{group_in}
 use Rattle.xs_keys.proofs.xreadgroup.all_there.Goals as goal
 
-is_there : (o : Option (Bor State)) → is_some (option_map (λ g. g.now) o) ≡ is_some o
+is_there : (o : Option (Bor GroupState)) → is_some (option_map (λ g. g.now) o) ≡ is_some o
 is_there None = refl
 is_there (Some g) = refl
 

@@ -1,8 +1,8 @@
 use Rattle.std.proofs.Common.{◌≡◌, ◌∙◌, Some, sym, ap}
 use Rattle.std.proofs.lemmas.Result.{IfOk-weaker, on_err_weaker}
 use Rattle.xs_bytes.specs.SortedMap.{get, insert}
-use Rattle.xs_group.specs.State.{State}
-use Rattle.xs_keys.specs.Content.{Key}
+use Rattle.xs_group.specs.State.{GroupState}
+use Rattle.xs_keys.specs.Content.{KeyState}
 use Rattle.xs_keys.specs.ContentAfter.{with_group}
 use Rattle.xs_keys.specs.Reading.{IsServed, IsServedAt}
 use Rattle.xs_keys.proofs.AskSteps.{put_same}
@@ -10,7 +10,7 @@ use Rattle.xs_keys.proofs.ReadSteps.{served-at}
 use Rattle.xs_keys.proofs.xreadgroup.serve_at.Goals as goal
 use Rattle.xs_keys.proofs.xreadgroup.serve_at.Goals.{After-serve}
 
-abbrev key : After-serve → Key
+abbrev key : After-serve → KeyState
 key c = record { stream = c.slot.inside.stream; groups = c.slot.inside.groups }
 
 found : (c : After-serve) → get c.args.keys.now c.args.one.now.key ≡ Some (key c)
@@ -35,4 +35,4 @@ returns-clause-err c =
     let name = c.args.one.now.key in
     let group = c.args.read.now.group in
     on_err_weaker c.serve.result
-    (λ e. ap (λ (g : State). insert keys name (with_group (key at) group g)) e ∙ put_same keys name group (key at) c.in-Some-get_mut.group.now (found at) (sym c.in-Some-get_mut.ensures.value)) c.serve.ensures.err
+    (λ e. ap (λ (g : GroupState). insert keys name (with_group (key at) group g)) e ∙ put_same keys name group (key at) c.in-Some-get_mut.group.now (found at) (sym c.in-Some-get_mut.ensures.value)) c.serve.ensures.err

@@ -1,14 +1,14 @@
 use Rattle.std.proofs.Common.{◌≡◌, ◌∙◌, Some, is_some, sym, ap}
 use Rattle.std.proofs.lemmas.Bool.{false≢true}
 use Rattle.xs_bytes.specs.SortedMap.{get, insert}
-use Rattle.xs_group.specs.State.{State}
-use Rattle.xs_keys.specs.Content.{Key}
+use Rattle.xs_group.specs.State.{GroupState}
+use Rattle.xs_keys.specs.Content.{KeyState}
 use Rattle.xs_keys.specs.ContentAfter.{group_in, with_group}
 use Rattle.xs_keys.proofs.ReadSteps.{made-there, made-state, taken-back}
 use Rattle.xs_keys.proofs.xreadgroup.undo_at.Goals as goal
 use Rattle.xs_keys.proofs.xreadgroup.undo_at.Goals.{After-slot}
 
-abbrev key : After-slot → Key
+abbrev key : After-slot → KeyState
 key c = record { stream = c.slot.inside.stream; groups = c.slot.inside.groups }
 
 found : (c : After-slot) → get c.args.keys.now c.args.key.now ≡ Some (key c)
@@ -38,4 +38,4 @@ returns c = λ before m.
     let name = c.args.key.now in
     let group = c.args.group.now in
     let made = made-state group name before keys c.args.delivery m (key at) c.in-Some-get_mut.group.now (found at) (sym c.in-Some-get_mut.ensures.value) in
-    ap (λ (g : State). insert keys name (with_group (key at) group g)) (c.undo.ensures m.was made) ∙ taken-back group name before keys c.args.delivery m (key at) (found at)
+    ap (λ (g : GroupState). insert keys name (with_group (key at) group g)) (c.undo.ensures m.was made) ∙ taken-back group name before keys c.args.delivery m (key at) (found at)

@@ -1,6 +1,6 @@
 use Rattle.std.proofs.Common.{Some, ap, ◌∙◌}
 use Rattle.xs_stream.specs.StreamContent.{ids_of}
-use Rattle.xs_group.specs.State.{with_name, shown, reread}
+use Rattle.xs_group.specs.State.{with_name, own_ids, row_after_reread}
 use Rattle.xs_group.specs.Deliveries.{set_rows, shown_rows}
 use Rattle.xs_group.proofs.group.Group.history.Goals as goal
 use Rattle.xs_group.proofs.RemovedRows.{up_to-change}
@@ -10,7 +10,7 @@ pub returns-clause-ok : goal.returns-clause-ok
 returns-clause-ok c =
     let held = c.self.inside.pending in
     let present = ids_of c.args.stream.now.entries in
-    let ids = shown c.args.consumer.now c.args.limit c.args.from held.rows.entries in
+    let ids = own_ids c.args.consumer.now c.args.limit c.args.from held.rows.entries in
     let rows = c.in_ok-rows.ensures ∙ ap (shown_rows held.rows present) (c.as_slice.ensures ∙ c.in_ok-ids.ensures) in
     let is = c.set_touches.ensures ∙ ap (λ h. record { consumers = h.consumers; rows = set_rows (Some c.args.now) c.as_slice-3.result.now h.rows }) c.in_ok-created.ensures.ok
     ∙ ap (λ rs. record { consumers = with_name held.consumers c.args.consumer.now; rows = set_rows (Some c.args.now) rs held.rows }) (c.as_slice-3.ensures.value ∙ rows)
@@ -21,9 +21,9 @@ pub invariant_of-self-2 : goal.invariant_of-self-2
 invariant_of-self-2 c =
     let held = c.self.inside.pending in
     let present = ids_of c.args.stream.now.entries in
-    let ids = shown c.args.consumer.now c.args.limit c.args.from held.rows.entries in
+    let ids = own_ids c.args.consumer.now c.args.limit c.args.from held.rows.entries in
     let rows = c.in_ok-rows.ensures ∙ ap (shown_rows held.rows present) (c.as_slice.ensures ∙ c.in_ok-ids.ensures) in
     let is = c.set_touches.ensures ∙ ap (λ h. record { consumers = h.consumers; rows = set_rows (Some c.args.now) c.as_slice-3.result.now h.rows }) c.in_ok-created.ensures.ok
     ∙ ap (λ rs. record { consumers = with_name held.consumers c.args.consumer.now; rows = set_rows (Some c.args.now) rs held.rows }) (c.as_slice-3.ensures.value ∙ rows)
     ∙ ap (λ r. record { consumers = with_name held.consumers c.args.consumer.now; rows = r }) (rows-reread c.args.now present ids held.rows) in
-    rw is (up_to-change (reread c.args.now ids present) c.self.inside.cursor held.rows c.self.invariant)
+    rw is (up_to-change (row_after_reread c.args.now ids present) c.self.inside.cursor held.rows c.self.invariant)

@@ -1,7 +1,7 @@
 use Rattle.std.proofs.Common.{Some, sym, ap, ◌∙◌, subst, rules}
 use Rattle.std.specs.BTreeMap.{UpdatesBy}
 use Rattle.xs_stream.specs.Id.{id_cmp}
-use Rattle.xs_group.specs.State.{Row}
+use Rattle.xs_group.specs.State.{RowState}
 use Rattle.xs_group.specs.Indexes.{rows_of, names_of, IsAgreed}
 use Rattle.xs_group.proofs.pending.Pending.set_touch.Goals as goal
 use Rattle.xs_group.proofs.Touching.{rows-touched, untouched, agreed-touched}
@@ -13,7 +13,7 @@ invariant_of-self c = subst (λ m. IsAgreed m.entries c.self.inside.owners.entri
 pub returns : goal.returns
 returns c =
     let m = c.self.inside.rows in
-    let u = subst (λ (row : Row). UpdatesBy id_cmp (id_cmp c.args.id) m (c.get_mut.follows.lender c.set_touch.new.self) (Some row)) c.set_touch.ensures
+    let u = subst (λ (row : RowState). UpdatesBy id_cmp (id_cmp c.args.id) m (c.get_mut.follows.lender c.set_touch.new.self) (Some row)) c.set_touch.ensures
     ((c.get_mut.follows.holds c.set_touch.new.self).3 (search rules)) in
     rw (← c.self.view_is) (ap (λ rows. record { consumers = names_of c.self.inside.owners.entries; rows = rows })
     (rows-touched m (c.get_mut.follows.lender c.set_touch.new.self) c.args.id c.args.touch c.in-Some.entry.now (sym c.in-Some.ensures.value) u))
@@ -28,6 +28,6 @@ returns-in_default c =
 pub invariant_of-self-2 : goal.invariant_of-self-2
 invariant_of-self-2 c =
     let m = c.self.inside.rows in
-    let u = subst (λ (row : Row). UpdatesBy id_cmp (id_cmp c.args.id) m (c.get_mut.follows.lender c.set_touch.new.self) (Some row)) c.set_touch.ensures
+    let u = subst (λ (row : RowState). UpdatesBy id_cmp (id_cmp c.args.id) m (c.get_mut.follows.lender c.set_touch.new.self) (Some row)) c.set_touch.ensures
     ((c.get_mut.follows.holds c.set_touch.new.self).3 (search rules)) in
     agreed-touched m (c.get_mut.follows.lender c.set_touch.new.self) c.self.inside.owners.entries c.args.id c.args.touch c.in-Some.entry.now c.self.invariant (sym c.in-Some.ensures.value) u

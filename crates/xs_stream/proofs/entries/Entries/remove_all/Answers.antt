@@ -1,7 +1,7 @@
 use Rattle.std.proofs.Common.{take, sym, ap, ◌∙◌}
 use Rattle.std.specs.Map.{remove_entry}
 use Rattle.std.proofs.lemmas.List.{take_more}
-use Rattle.xs_stream.specs.Id.{is_same}
+use Rattle.xs_stream.specs.Id.{is_same_id}
 use Rattle.xs_stream.specs.StreamContent.{without}
 use Rattle.xs_stream.specs.Blocks.{all_of}
 use Rattle.xs_stream.proofs.InOrder.{without-none, without-more}
@@ -20,7 +20,7 @@ loop-id-preserved c =
     let all = all_of c.args.self.now in
     let next = take_more ids c.loop-id.id-index (record { ms = 0; seq = 0 }) c.loop-id-test.true in
     record {
-      entries = c.remove.ensures.entries ∙ ap (remove_entry (is_same _)) c.loop-id.invariant.entries ∙ without-more (take c.loop-id.id-index ids) _ all c.requires.ascends
+      entries = c.remove.ensures.entries ∙ ap (remove_entry (is_same_id _)) c.loop-id.invariant.entries ∙ without-more (take c.loop-id.id-index ids) _ all c.requires.ascends
           ∙ ap (λ done. without done all) (sym next);
       laid_down = c.remove.ensures.laid_down;
       filed_up_to_top = λ top up. c.remove.ensures.filed_up_to_top top (c.loop-id.invariant.filed_up_to_top top up);

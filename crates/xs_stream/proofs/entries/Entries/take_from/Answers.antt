@@ -2,7 +2,7 @@ use Rattle.std.proofs.Common.{◌≡◌, not, Some, None, Option, List, length, 
 use Rattle.std.specs.Map.{lookup, lookup_entry, remove_entry}
 use Rattle.xs_stream.specs.declared.id.Id.{Id}
 use Rattle.xs_stream.specs.declared.field.Field.{Field}
-use Rattle.xs_stream.specs.Id.{is_below, is_same}
+use Rattle.xs_stream.specs.Id.{is_below, is_same_id}
 use Rattle.xs_stream.specs.Blocks.{listed}
 use Rattle.xs_stream.proofs.FiledBlocks.{same-under, entry-of_key, lent-entry, blocks_without, set-left, removed-left, listed-without, length-without, filed-without, keys-without}
 use Rattle.xs_stream.proofs.entries.Entries.take_from.Goals as goal
@@ -11,7 +11,7 @@ pub returns-in_default-clause-entries : goal.returns-in_default-clause-entries
 returns-in_default-clause-entries c =
     let older = c.args.self.now.older.entries in
     let entry = entry-of_key (λ k. not (is_below k c.args.id)) older c.args.under c.requires.under in
-    let lent : ◌≡◌ {A = Option (List (Id × List Field))} None (lookup (is_same c.args.under) older) = c.in_default.ensures.value in
+    let lent : ◌≡◌ {A = Option (List (Id × List Field))} None (lookup (is_same_id c.args.under) older) = c.in_default.ensures.value in
     let no : ◌≡◌ {A = Option (List (Id × List Field))} None (Some entry.0) = lent ∙ same-under c.args.id older c.args.under entry.0 entry.1 in
     cc
 
@@ -23,7 +23,7 @@ lent c = lent-entry c.args.id c.args.self.now.older.entries c.args.under c.in-So
 gone : (c : goal.Joined-remove) → c.remove.new.self.entries ≡ blocks_without c.args.id c.args.self.now.older.entries
 gone c =
     let left = c.remove-removed.new.self in
-    c.remove.ensures.entries ∙ ap (remove_entry (is_same c.args.under)) (c.get_mut.follows.holds left).0
+    c.remove.ensures.entries ∙ ap (remove_entry (is_same_id c.args.under)) (c.get_mut.follows.holds left).0
     ∙ removed-left c.args.id c.args.self.now.older.entries c.args.under c.in-Some.block.now left (lent c) c.remove-removed.ensures.entries (sym c.if-is_empty.ensures)
 
 pub returns-then-is_empty-clause-entries : goal.returns-then-is_empty-clause-entries

@@ -2,7 +2,7 @@ use Rattle.std.proofs.Common.{◌∙◌, ◌-◌, ◌+◌, ◌++◌, ◌∷◌, 
 use Rattle.std.proofs.lemmas.List.{length-drop}
 use Rattle.std.specs.Option.{is_some}
 use Rattle.std.specs.Map.{remove_entry}
-use Rattle.xs_stream.specs.Id.{is_same}
+use Rattle.xs_stream.specs.Id.{is_same_id}
 use Rattle.xs_stream.specs.StreamContent.{fields_at}
 use Rattle.xs_stream.specs.PackedText.{first_text}
 use Rattle.xs_stream.specs.Packed.{entries_in, after_entry, after_entries, entry_in, block_entries}
@@ -17,7 +17,7 @@ loop-index-init c =
     record {
       rest = c.after-rest.ensures;
       lookup = ap (λ es. fields_at es id) all;
-      removed = ap (remove_entry (is_same id)) all;
+      removed = ap (remove_entry (is_same_id id)) all;
       short = omega (arith, ap length c.after-rest.ensures, length-drop c.args.start bytes);
     }
 
@@ -60,8 +60,8 @@ loop-index-preserved c =
       lookup = was.lookup ∙ lookup-passed base names count i id entry.result.id c.loop-index.rest.now c.loop-index-test.true entry.ensures.id other
           ∙ ap (λ rest. fields_at (entries_in base names (count - (i + 1)) rest) id) (sym entry.ensures.rest);
       removed = was.removed ∙ ap (λ left. take i (block_entries base count start bytes) ++ left) (removed-passed base names count i id entry.result.id c.loop-index.rest.now c.loop-index-test.true entry.ensures.id other)
-          ∙ ap (λ r. take i (block_entries base count start bytes) ++ (entry_in base names r ∷ remove_entry (is_same id) (entries_in base names (count - (i + 1)) (after_entry c.loop-index.rest.now)))) was.rest
-          ∙ ap (λ r. take i (block_entries base count start bytes) ++ (entry_in base names (after_entries i rest) ∷ remove_entry (is_same id) (entries_in base names (count - (i + 1)) r))) (sym entry.ensures.rest)
+          ∙ ap (λ r. take i (block_entries base count start bytes) ++ (entry_in base names r ∷ remove_entry (is_same_id id) (entries_in base names (count - (i + 1)) (after_entry c.loop-index.rest.now)))) was.rest
+          ∙ ap (λ r. take i (block_entries base count start bytes) ++ (entry_in base names (after_entries i rest) ∷ remove_entry (is_same_id id) (entries_in base names (count - (i + 1)) r))) (sym entry.ensures.rest)
           ∙ joined (take i (block_entries base count start bytes)) (take (i + 1) (block_entries base count start bytes)) _ _ (take-passed base names count i rest c.loop-index-test.true);
       short = omega (arith, was.short, ap length entry.ensures.rest, length-after_entry c.loop-index.rest.now);
     }

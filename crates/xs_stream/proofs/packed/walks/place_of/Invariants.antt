@@ -1,6 +1,6 @@
 use Rattle.std.proofs.Common.{◌≡◌, ◌≤◌, ◌-◌, ◌++◌, take, drop, length}
 use Rattle.std.specs.Map.{remove_entry}
-use Rattle.xs_stream.specs.Id.{is_same}
+use Rattle.xs_stream.specs.Id.{is_same_id}
 use Rattle.xs_stream.specs.StreamContent.{fields_at}
 use Rattle.xs_stream.specs.PackedText.{first_text}
 use Rattle.xs_stream.specs.Packed.{entries_in, after_entries, block_entries}
@@ -11,6 +11,6 @@ abbrev pub invariant-loop-index : goal.invariant-loop-index
 invariant-loop-index l = record {
   rest : l.rest ≡ after_entries l.index (drop l.start l.bytes);
   lookup : fields_at (block_entries l.base l.count l.start l.bytes) l.id ≡ fields_at (entries_in l.base (first_text l.bytes) (l.count - l.index) l.rest) l.id;
-  removed : remove_entry (is_same l.id) (block_entries l.base l.count l.start l.bytes) ≡ take l.index (block_entries l.base l.count l.start l.bytes) ++ remove_entry (is_same l.id) (entries_in l.base (first_text l.bytes) (l.count - l.index) l.rest);
+  removed : remove_entry (is_same_id l.id) (block_entries l.base l.count l.start l.bytes) ≡ take l.index (block_entries l.base l.count l.start l.bytes) ++ remove_entry (is_same_id l.id) (entries_in l.base (first_text l.bytes) (l.count - l.index) l.rest);
   short : length l.rest ≤ length l.bytes;
 }
