@@ -1,5 +1,6 @@
 -- What sorted maps answer.
-use Rattle.std.proofs.Common.{◌≡◌, Bool, true, false, cond, not, ◌&&◌, List, [], ◌∷◌, Option, Some, None, option_and_then, sym, ap, subst, ◌∙◌, refl, Ordering}
+use Rattle.std.proofs.Common.{◌≡◌, Bool, true, false, cond, not, ◌&&◌, List, [], ◌∷◌, Option, Some, None}
+use Rattle.std.proofs.Common.{option_and_then, sym, ap, subst, ◌∙◌, refl, Ordering}
 use Rattle.std.proofs.Math.Dec.{T, T_prop}
 use Rattle.std.specs.FinMap.Entries.{find, below_all, is_sorted, find-put, find-where_key, same_entries}
 use Rattle.std.specs.FinMap.{IsAntisymmetric}

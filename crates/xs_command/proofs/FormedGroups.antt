@@ -1,5 +1,6 @@
 -- What the words of the group commands give is well formed.
-use Rattle.std.proofs.Common.{◌≡◌, ◌≢◌, ℕ, ◌+◌, Bool, true, false, cond, List, [], ◌∷◌, length, Option, Some, None, Ok, Err, subst, codes}
+use Rattle.std.proofs.Common.{◌≡◌, ◌≢◌, ℕ, ◌+◌, Bool, true, false, cond, List, [], ◌∷◌, length, Option, Some, None, Ok}
+use Rattle.std.proofs.Common.{Err, subst, codes}
 use Rattle.std.specs.Prelude.{◌==◌, ◌||◌}
 use Rattle.xs_stream.specs.declared.id.Id.{Id}
 use Rattle.xs_resp.specs.declared.fault.Fault.TheVariants.{Syntax, BadId, Arity}
@@ -13,7 +14,8 @@ use Rattle.xs_command.specs.Words.{Reading, is_word, word, low, high, integer}
 use Rattle.xs_command.specs.Options.{many}
 use Rattle.xs_command.specs.CommandName.{fits}
 use Rattle.xs_command.specs.Syntax.{ids}
-use Rattle.xs_command.specs.Xgroup.{xgroup, group_named, group_syntax, counts, create, destroy, create_consumer, delete_consumer, create_option, group_start, subcommand_of}
+use Rattle.xs_command.specs.Xgroup.{xgroup, group_named, group_syntax, counts, create, destroy, create_consumer}
+use Rattle.xs_command.specs.Xgroup.{delete_consumer, create_option, group_start, subcommand_of}
 use Rattle.xs_command.specs.Xack.{xack}
 use Rattle.xs_command.specs.Xpending.{xpending, form, counted, idle_rows, pending_rows, optional}
 use Rattle.xs_command.specs.Xclaim.{xclaim, claim_option, plain_rule}

@@ -5,13 +5,17 @@ use Rattle.xs_resp.specs.declared.fault.Fault.TheVariants.{Arity}
 use Rattle.xs_command.specs.declared.command.Command.{Command}
 use Rattle.xs_command.specs.declared.refusal.Refusal.{Refusal}
 use Rattle.xs_command.specs.declared.command_name.CommandName.{CommandName}
-use Rattle.xs_command.specs.declared.command_name.CommandName.TheVariants.{Ping, Quit, Xadd, Xdel, Xtrim, Xlen, Xrange, Xrevrange, Xgroup, Xreadgroup, Xack, Xpending, Xclaim, Xautoclaim, Del}
+use Rattle.xs_command.specs.declared.command_name.CommandName.TheVariants.{Ping, Quit, Xadd, Xdel, Xtrim, Xlen, Xrange}
+use Rattle.xs_command.specs.declared.command_name.CommandName.TheVariants.{Xrevrange, Xgroup, Xreadgroup, Xack}
+use Rattle.xs_command.specs.declared.command_name.CommandName.TheVariants.{Xpending, Xclaim, Xautoclaim, Del}
 use Rattle.xs_command.specs.Words.{Gives, word}
 use Rattle.xs_command.specs.WellFormed.{IsWellFormed}
 use Rattle.xs_command.specs.CommandName.{name_of, counts, fits}
 use Rattle.xs_command.specs.Read.{syntax, named, reads}
-use Rattle.xs_command.proofs.Formed.{Always, after_any, ping_formed, quit_formed, xadd_formed, xdel_formed, xtrim_formed, xlen_formed, xrange_formed, xrevrange_formed, del_formed}
-use Rattle.xs_command.proofs.FormedGroups.{xgroup_formed, xack_formed, xpending_formed, xclaim_formed, xautoclaim_formed}
+use Rattle.xs_command.proofs.Formed.{Always, after_any, ping_formed, quit_formed, xadd_formed, xdel_formed}
+use Rattle.xs_command.proofs.Formed.{xtrim_formed, xlen_formed, xrange_formed, xrevrange_formed, del_formed}
+use Rattle.xs_command.proofs.FormedGroups.{xgroup_formed, xack_formed, xpending_formed, xclaim_formed}
+use Rattle.xs_command.proofs.FormedGroups.{xautoclaim_formed}
 use Rattle.xs_command.proofs.FormedReadGroup.{xreadgroup_formed}
 
 syntax_formed : (name : CommandName) → Always IsWellFormed (syntax name)

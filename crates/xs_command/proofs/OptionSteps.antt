@@ -1,5 +1,6 @@
 -- Reading options one after the other, as a loop does.
-use Rattle.std.proofs.Common.{◌≡◌, Option, ℕ, zero, suc, ◌-◌, ◌+◌, ◌≤◌, ◌<◌, List, [], ◌∷◌, Some, None, Result, Ok, Err, refl, sym, ap, ◌∙◌, arith}
+use Rattle.std.proofs.Common.{◌≡◌, Option, ℕ, zero, suc, ◌-◌, ◌+◌, ◌≤◌, ◌<◌, List, [], ◌∷◌, Some, None, Result, Ok, Err}
+use Rattle.std.proofs.Common.{refl, sym, ap, ◌∙◌, arith}
 use Rattle.xs_resp.specs.declared.fault.Fault.{Fault}
 use Rattle.xs_command.specs.declared.refusal.Refusal.{Refusal}
 use Rattle.xs_command.specs.declared.refusal.Refusal.TheVariants.{Said, Memory}

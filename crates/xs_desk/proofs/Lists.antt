@@ -1,5 +1,6 @@
 -- Lists by their places.
-use Rattle.std.specs.Prelude.{◌≡◌, ◌≢◌, ℕ, zero, suc, ◌<◌, ◌⊎◌, List, [], ◌∷◌, ◌++◌, length, map, slice_get, slice_set, Some, refl}
+use Rattle.std.specs.Prelude.{◌≡◌, ◌≢◌, ℕ, zero, suc, ◌<◌, ◌⊎◌, List, [], ◌∷◌, ◌++◌, length, map, slice_get, slice_set}
+use Rattle.std.specs.Prelude.{Some, refl}
 use Rattle.std.proofs.Common.{inl, inr, arith}
 
 pub same_some : {X : Type 0} (x y : X) → Some x ≡ Some y → x ≡ y

@@ -1,5 +1,6 @@
 -- A turn, lane by lane.
-use Rattle.std.specs.Prelude.{◌≡◌, ℕ, ◌+◌, ◌≤◌, List, [], ◌∷◌, ◌++◌, length, slice_get, Some, Result, Ok, Err, MatchResult, refl}
+use Rattle.std.specs.Prelude.{◌≡◌, ℕ, ◌+◌, ◌≤◌, List, [], ◌∷◌, ◌++◌, length, slice_get, Some, Result, Ok, Err}
+use Rattle.std.specs.Prelude.{MatchResult, refl}
 use Rattle.std.proofs.Common.{subst, ap, inl, inr, arith, length-append}
 use Rattle.xs_desk.specs.History.{ServedCall, Desk, IsHistory}
 use Rattle.xs_desk.specs.KeeperTurns.{with_call, Serves, ServesAll, TellsMoments, LanesAscend, Turns, HasPlaces}

@@ -1,5 +1,6 @@
 -- The index by consumer.
-use Rattle.std.proofs.Common.{◌≡◌, ℕ, Bool, true, false, cond, not, ◌&&◌, ◌||◌, List, Some, None, is_some, sym, ap, ◌∙◌, refl, BTreeMap}
+use Rattle.std.proofs.Common.{◌≡◌, ℕ, Bool, true, false, cond, not, ◌&&◌, ◌||◌, List, Some, None, is_some, sym, ap, ◌∙◌}
+use Rattle.std.proofs.Common.{refl, BTreeMap}
 use Rattle.std.specs.BTreeMap as tree
 use Rattle.std.specs.BTreeMap.{UpdatesBy}
 use Rattle.std.specs.BTreeSet as set

@@ -1,5 +1,6 @@
 -- A claim that is carried out.
-use Rattle.std.proofs.Common.{◌≡◌, ℕ, ◌+◌, ◌*◌, Bool, true, false, cond, not, ◌||◌, inl, inr, leb, List, [], ◌∷◌, map, filter, Option, Some, None, option_and_then, sym, ap, ◌∙◌, refl, subst, Ordering}
+use Rattle.std.proofs.Common.{◌≡◌, ℕ, ◌+◌, ◌*◌, Bool, true, false, cond, not, ◌||◌, inl, inr, leb, List, [], ◌∷◌, map}
+use Rattle.std.proofs.Common.{filter, Option, Some, None, option_and_then, sym, ap, ◌∙◌, refl, subst, Ordering}
 use Rattle.std.proofs.lemmas.Bool.{false≢true}
 use Rattle.std.proofs.Math.Dec.{T}
 use Rattle.std.specs.FinMap.Entries.{below_all, is_sorted}
@@ -10,7 +11,8 @@ use Rattle.xs_stream.specs.declared.id.Id.{Id}
 use Rattle.xs_stream.specs.Id.{id_cmp, is_same_id, is_below, has_id}
 use Rattle.xs_stream.proofs.Order.{is_same-symm}
 use Rattle.xs_group.specs.declared.claims.Claim.{Claim}
-use Rattle.xs_group.specs.Claims.{Rule, is_taken, is_hit, without_repeats, from_start, scanned_part, row_after_claim, claimed_row}
+use Rattle.xs_group.specs.Claims.{Rule, is_taken, is_hit, without_repeats, from_start, scanned_part, row_after_claim}
+use Rattle.xs_group.specs.Claims.{claimed_row}
 use Rattle.xs_group.specs.State.{RowState, Rows, GroupState, unless_acked}
 use Rattle.xs_group.specs.Indexes.{rows_of, indexed_row}
 use Rattle.xs_group.specs.Verdict.{moved, scanned_after, AreDistinct, IsClaimOn}

@@ -1,5 +1,6 @@
 -- Rows that are put.
-use Rattle.std.proofs.Common.{◌≡◌, ℕ, suc, zero, Bool, true, false, cond, not, ◌||◌, List, [], ◌∷◌, ◌++◌, take, Option, Some, None, is_some, option_and_then, ◌&&◌, sym, ap, ◌∙◌, refl}
+use Rattle.std.proofs.Common.{◌≡◌, ℕ, suc, zero, Bool, true, false, cond, not, ◌||◌, List, [], ◌∷◌, ◌++◌, take, Option}
+use Rattle.std.proofs.Common.{Some, None, is_some, option_and_then, ◌&&◌, sym, ap, ◌∙◌, refl}
 use Rattle.std.proofs.lemmas.Bool.{false≢true}
 use Rattle.std.proofs.Math.Bool.{and-true, and-false, or-false}
 use Rattle.std.specs.BTreeMap.{UpdatesBy}
@@ -9,8 +10,10 @@ use Rattle.xs_bytes.proofs.SortedMaps.{get-insert_by, get-remove}
 use Rattle.xs_stream.specs.declared.id.Id.{Id}
 use Rattle.xs_stream.specs.Id.{id_cmp, is_same_id, has_id}
 use Rattle.xs_stream.proofs.Order.{is_same-symm}
-use Rattle.xs_group.specs.State.{RowState, Rows, Names, ids_total, is_same_name, has_name, with_name, with_rows, unless_acked, unless_owned}
-use Rattle.xs_group.specs.Indexes.{rows_of, indexed_row, ConsumerIndex, is_owner, AreFree, IsAgreed, IsNamed, PendingList}
+use Rattle.xs_group.specs.State.{RowState, Rows, Names, ids_total, is_same_name, has_name, with_name, with_rows}
+use Rattle.xs_group.specs.State.{unless_acked, unless_owned}
+use Rattle.xs_group.specs.Indexes.{rows_of, indexed_row, ConsumerIndex, is_owner, AreFree, IsAgreed, IsNamed}
+use Rattle.xs_group.specs.Indexes.{PendingList}
 use Rattle.xs_group.specs.Verdict.{AreAgreedBut}
 use Rattle.xs_group.proofs.ByConsumer.{is_name-eq, is_name-refl, is_name-symm}
 use Rattle.xs_group.proofs.ChosenIds.{has-more}

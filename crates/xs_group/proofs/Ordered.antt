@@ -1,5 +1,6 @@
 -- Lists and maps in the order of their keys.
-use Rattle.std.proofs.Common.{◌≡◌, ℕ, Bool, true, false, cond, ◌&&◌, ◌||◌, List, [], ◌∷◌, filter, Option, Some, None, is_some, sym, ap, subst, ◌∙◌, refl, Ordering}
+use Rattle.std.proofs.Common.{◌≡◌, ℕ, Bool, true, false, cond, ◌&&◌, ◌||◌, List, [], ◌∷◌, filter, Option, Some, None}
+use Rattle.std.proofs.Common.{is_some, sym, ap, subst, ◌∙◌, refl, Ordering}
 use Rattle.std.proofs.Math.Dec.{T}
 use Rattle.std.specs.FinMap.Entries.{find, below_all, is_sorted, same_entries}
 use Rattle.std.specs.List.{AllByRecursion}

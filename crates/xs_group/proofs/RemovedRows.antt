@@ -1,5 +1,6 @@
 -- Rows that go: acknowledged ones, and those of a consumer that goes.
-use Rattle.std.proofs.Common.{◌≡◌, ℕ, ◌≤◌, suc, Bool, true, false, cond, ◌||◌, List, [], ◌∷◌, ◌++◌, length, Option, Some, None, is_some, option_and_then, sym, ap, ◌∙◌, refl, arith}
+use Rattle.std.proofs.Common.{◌≡◌, ℕ, ◌≤◌, suc, Bool, true, false, cond, ◌||◌, List, [], ◌∷◌, ◌++◌, length, Option}
+use Rattle.std.proofs.Common.{Some, None, is_some, option_and_then, sym, ap, ◌∙◌, refl, arith}
 use Rattle.std.specs.BTreeSet.{BTreeSet}
 use Rattle.std.specs.List.{list_any}
 use Rattle.std.specs.Cmp.Lexicographic.{nat_list_cmp_total}
@@ -12,7 +13,8 @@ use Rattle.xs_stream.specs.declared.id.Id.{Id}
 use Rattle.xs_stream.specs.Id.{id_cmp, is_same_id, has_id}
 use Rattle.xs_stream.proofs.Order.{same_id, is_same-symm}
 use Rattle.xs_group.specs.State.{RowState, Rows, ids_total, is_same_name, unless_acked, unless_owned}
-use Rattle.xs_group.specs.Indexes.{rows_of, ConsumerIndex, names_of, ids_at, has_among, holds, is_owner, indexed_row, IsAgreed, IsNamed}
+use Rattle.xs_group.specs.Indexes.{rows_of, ConsumerIndex, names_of, ids_at, has_among, holds, is_owner, indexed_row}
+use Rattle.xs_group.specs.Indexes.{IsAgreed, IsNamed}
 use Rattle.xs_group.specs.Lawful.{IsUpTo}
 use Rattle.xs_group.proofs.ByConsumer.{is_name-eq, is_name-symm}
 use Rattle.xs_group.proofs.Views.{same_rows, same_names, get-rows_of, has_name-names_of}

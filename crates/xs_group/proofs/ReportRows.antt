@@ -1,5 +1,7 @@
 -- What is told of pending rows.
-use Rattle.std.proofs.Common.{◌≡◌, ℕ, ◌-◌, ◌<◌, ◌≤◌, suc, zero, Bool, true, false, cond, not, ◌&&◌, ◌⊎◌, inl, inr, leb, List, [], ◌∷◌, ◌++◌, map, filter, take, length, Option, Some, None, IsSome, ◌↔◌, sym, ap, ◌∙◌, refl, subst, arith, append-nil, take_all, Ordering}
+use Rattle.std.proofs.Common.{◌≡◌, ℕ, ◌-◌, ◌<◌, ◌≤◌, suc, zero, Bool, true, false, cond, not, ◌&&◌, ◌⊎◌, inl, inr, leb}
+use Rattle.std.proofs.Common.{List, [], ◌∷◌, ◌++◌, map, filter, take, length, Option, Some, None, IsSome, ◌↔◌, sym, ap}
+use Rattle.std.proofs.Common.{◌∙◌, refl, subst, arith, append-nil, take_all, Ordering}
 use Rattle.std.proofs.lemmas.Bool.{false≢true}
 use Rattle.std.proofs.Math.Dec.{T}
 use Rattle.std.proofs.Math.Seq.{take-append_seam}

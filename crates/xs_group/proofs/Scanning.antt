@@ -1,5 +1,6 @@
 -- The scanned part, met one id after another.
-use Rattle.std.proofs.Common.{◌≡◌, ℕ, ◌+◌, ◌*◌, Bool, true, false, cond, not, ◌&&◌, ◌||◌, leb, List, [], ◌∷◌, ◌++◌, map, filter, length, drop, Some, sym, ap, ◌∙◌, refl, add-zero, arith, append_assoc, Ordering}
+use Rattle.std.proofs.Common.{◌≡◌, ℕ, ◌+◌, ◌*◌, Bool, true, false, cond, not, ◌&&◌, ◌||◌, leb, List, [], ◌∷◌, ◌++◌, map}
+use Rattle.std.proofs.Common.{filter, length, drop, Some, sym, ap, ◌∙◌, refl, add-zero, arith, append_assoc, Ordering}
 use Rattle.std.proofs.Math.Dec.{T}
 use Rattle.std.specs.FinMap.Entries.{below_all, is_sorted}
 use Rattle.std.specs.List.{AllByRecursion}
@@ -12,7 +13,8 @@ use Rattle.xs_stream.specs.Id.{id_cmp, is_below}
 use Rattle.xs_stream.proofs.Order.{is_same-symm, is_same-refl, le-not_below}
 use Rattle.xs_group.specs.declared.claims.Scan.{Scan}
 use Rattle.xs_group.specs.declared.claims.Verdict.{Verdict}
-use Rattle.xs_group.specs.Claims.{Rule, row_at, is_taken, is_removed, is_hit, from_start, prefixes, first_where, scanned_part, first_or_zero, scan_of}
+use Rattle.xs_group.specs.Claims.{Rule, row_at, is_taken, is_removed, is_hit, from_start, prefixes, first_where}
+use Rattle.xs_group.specs.Claims.{scanned_part, first_or_zero, scan_of}
 use Rattle.xs_group.specs.State.{RowState}
 use Rattle.xs_group.specs.Verdict.{is_taken_by, is_removed_by, with_taken, with_removed, scanned_after}
 use Rattle.xs_group.proofs.Ordered.{first, second}

@@ -1,5 +1,6 @@
 -- Times and counts that are set.
-use Rattle.std.proofs.Common.{◌≡◌, ℕ, Bool, true, false, cond, ◌&&◌, ◌||◌, List, [], ◌∷◌, ◌++◌, map, Option, Some, None, option_and_then, sym, ap, ◌∙◌, refl}
+use Rattle.std.proofs.Common.{◌≡◌, ℕ, Bool, true, false, cond, ◌&&◌, ◌||◌, List, [], ◌∷◌, ◌++◌, map, Option, Some, None}
+use Rattle.std.proofs.Common.{option_and_then, sym, ap, ◌∙◌, refl}
 use Rattle.std.specs.BTreeMap.{UpdatesBy}
 use Rattle.xs_bytes.specs.SortedMap.{get, change}
 use Rattle.xs_stream.specs.declared.id.Id.{Id}
@@ -9,7 +10,8 @@ use Rattle.xs_group.specs.declared.delivery.Touch.{Touch}
 use Rattle.xs_group.specs.declared.delivery.DeliveryRow.{DeliveryRow}
 use Rattle.xs_group.specs.State.{RowState, Rows, redelivered_row, row_after_reread}
 use Rattle.xs_group.specs.Indexes.{rows_of, ConsumerIndex, is_owner, indexed_row, IsAgreed}
-use Rattle.xs_group.specs.Deliveries.{touch_of, shown_row, shown_rows, touch_set, with_touch, touched_at, set_one, set_rows, row_ids}
+use Rattle.xs_group.specs.Deliveries.{touch_of, shown_row, shown_rows, touch_set, with_touch, touched_at, set_one}
+use Rattle.xs_group.specs.Deliveries.{set_rows, row_ids}
 use Rattle.xs_group.proofs.Views.{RowMap, get-rows_of, same_rows}
 use Rattle.xs_group.proofs.RemovedRows.{get-changed, change-nothing}
 

@@ -1,5 +1,6 @@
 -- The maps that the two indexes are seen as.
-use Rattle.std.proofs.Common.{◌≡◌, ℕ, Bool, true, false, cond, List, [], ◌∷◌, map, Option, Some, None, is_some, sym, ap, ◌∙◌, refl, BTreeMap, Ordering}
+use Rattle.std.proofs.Common.{◌≡◌, ℕ, Bool, true, false, cond, List, [], ◌∷◌, map, Option, Some, None, is_some, sym, ap}
+use Rattle.std.proofs.Common.{◌∙◌, refl, BTreeMap, Ordering}
 use Rattle.std.specs.FinMap.Entries.{find}
 use Rattle.std.specs.Map.{lookup}
 use Rattle.std.specs.BTreeMap.{UpdatesBy, is_at}

@@ -10,7 +10,8 @@ use Rattle.xs_group.specs.declared.delivery.DeliveryKind.{DeliveryKind}
 use Rattle.xs_group.specs.declared.delivery.DeliveryKind.TheVariants.{New, NoAck, History}
 use Rattle.xs_group.specs.declared.delivery.Delivery.{Delivery}
 use Rattle.xs_group.specs.State.{RowState, Rows, GroupState, has_name, with_name, next_count}
-use Rattle.xs_group.specs.State.{new_ids, group_after_delivery, own_ids, group_after_reread, last_of, with_rows, first_row}
+use Rattle.xs_group.specs.State.{new_ids, group_after_delivery, own_ids, group_after_reread, last_of, with_rows}
+use Rattle.xs_group.specs.State.{first_row}
 use Rattle.xs_group.specs.State.{unless_acked, unless_owned}
 use Rattle.xs_group.specs.Indexes.{PendingList}
 use Rattle.xs_group.specs.Lawful.{IsLawful}

@@ -1,6 +1,7 @@
 //! A consumer group: its cursor, its consumers, and what is pending.
 ghost use Rattle.std.specs.Prelude.{◌≡◌, ◌+◌, not, length, IfOk, OnOk, OnErr};
-ghost use Rattle.xs_group.specs.State.{GroupState, has_name, with_consumer, new_group, group_after_ack, without_consumer, group_after_delivery};
+ghost use Rattle.xs_group.specs.State.{GroupState, has_name, with_consumer, new_group, group_after_ack};
+ghost use Rattle.xs_group.specs.State.{without_consumer, group_after_delivery};
 ghost use Rattle.xs_group.specs.State.{group_after_reread};
 ghost use Rattle.xs_group.specs.Report.{owned_count, summary_of, pending_of};
 ghost use Rattle.xs_group.specs.Lawful.{IsLawful};

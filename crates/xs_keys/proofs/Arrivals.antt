@@ -1,12 +1,18 @@
 -- Entries come by additions alone, and groups by XGROUP CREATE.
-use Rattle.std.proofs.Common.{◌≡◌, ◌⊎◌, inl, inr, ℕ, Bool, true, false, cond, ◌&&◌, List, [], ◌∷◌, Option, Some, None, is_some, sym, ap, subst, ◌∙◌, refl}
+use Rattle.std.proofs.Common.{◌≡◌, ◌⊎◌, inl, inr, ℕ, Bool, true, false, cond, ◌&&◌, List, [], ◌∷◌, Option, Some, None}
+use Rattle.std.proofs.Common.{is_some, sym, ap, subst, ◌∙◌, refl}
 use Rattle.std.proofs.lemmas.Bool.{false≢true}
 use Rattle.std.proofs.lemmas.List.{append-nil}
 use Rattle.xs_keys.specs.Event.{Event, History}
-use Rattle.xs_keys.specs.Terms.{list_all, option_map, option_map_or, Id, Field, zero_id, is_same_name, Command, Ping, Quit, Add, Delete, TrimTo, Len, Scan, GroupCreate, GroupDestroy, ConsumerCreate, ConsumerDelete, ReadGroup, Ack, Pending, PendingRows, Claim, AutoClaim, DropKeys, GroupCreateCommand, GroupStart, Top, At}
-use Rattle.xs_keys.specs.Life.{StreamEvent, add_entry, delete_entries, trim_entries, is_listed, life_or_new, key_life_after, key_life, added_in, top, top_of}
+use Rattle.xs_keys.specs.Terms.{list_all, option_map, option_map_or, Id, Field, zero_id, is_same_name, Command, Ping}
+use Rattle.xs_keys.specs.Terms.{Quit, Add, Delete, TrimTo, Len, Scan, GroupCreate, GroupDestroy, ConsumerCreate}
+use Rattle.xs_keys.specs.Terms.{ConsumerDelete, ReadGroup, Ack, Pending, PendingRows, Claim, AutoClaim, DropKeys}
+use Rattle.xs_keys.specs.Terms.{GroupCreateCommand, GroupStart, Top, At}
+use Rattle.xs_keys.specs.Life.{StreamEvent, add_entry, delete_entries, trim_entries, is_listed, life_or_new}
+use Rattle.xs_keys.specs.Life.{key_life_after, key_life, added_in, top, top_of}
 use Rattle.xs_keys.specs.GroupAsk.{GroupAsk, create_consumer, delete_consumer, acknowledge, claim, auto_claim}
-use Rattle.xs_keys.specs.GroupLife.{GroupLife, present_in, starting_id, new_life, life_after_ask, group_life_after, reads_of, read_group_of, group_life}
+use Rattle.xs_keys.specs.GroupLife.{GroupLife, present_in, starting_id, new_life, life_after_ask, group_life_after}
+use Rattle.xs_keys.specs.GroupLife.{reads_of, read_group_of, group_life}
 use Rattle.xs_keys.specs.Presence.{adds_or_deletes, EntriesAreAdded, StartsBehind, MakesGroup, GroupsAreCreated}
 use Rattle.xs_keys.proofs.Lives.{no-life-read}
 use Rattle.xs_keys.proofs.JobPlaces.{life_of}

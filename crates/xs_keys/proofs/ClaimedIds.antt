@@ -1,5 +1,7 @@
 -- What claims take and remove, and how many a read delivers.
-use Rattle.std.proofs.Common.{◌≡◌, ℕ, ◌≤◌, ◌-◌, ◌⊎◌, inl, inr, Bool, true, false, ◌&&◌, ◌||◌, not, List, [], ◌∷◌, ◌++◌, length, take, drop, filter, Option, Some, None, is_some, sym, ap, ◌∙◌, refl, subst, arith, take_all, ◌+◌, ◌*◌, map, cond}
+use Rattle.std.proofs.Common.{◌≡◌, ℕ, ◌≤◌, ◌-◌, ◌⊎◌, inl, inr, Bool, true, false, ◌&&◌, ◌||◌, not, List, [], ◌∷◌, ◌++◌}
+use Rattle.std.proofs.Common.{length, take, drop, filter, Option, Some, None, is_some, sym, ap, ◌∙◌, refl, subst, arith}
+use Rattle.std.proofs.Common.{take_all, ◌+◌, ◌*◌, map, cond}
 use Rattle.std.proofs.lemmas.List.{length-take-le}
 use Rattle.std.proofs.lemmas.Bool.{false≢true, and_from, or_left}
 use Rattle.std.proofs.Math.Seq.{drop-append_seam, drop-length}
@@ -9,15 +11,18 @@ use Rattle.xs_stream.specs.Id.{is_below, is_same_id, has_id, zero_id}
 use Rattle.xs_group.specs.declared.claims.Claim.{Claim}
 use Rattle.xs_group.specs.declared.claims.ClaimTime.TheVariants as claim_time
 use Rattle.xs_group.specs.State.{RowState, idle, new_ids}
-use Rattle.xs_group.specs.Claims.{Rule, row_at, is_idle, is_taken, is_removed, is_hit, is_enough, prefixes, first_where, without_repeats, scanned_part, from_start, first_or_zero, claim_among}
+use Rattle.xs_group.specs.Claims.{Rule, row_at, is_idle, is_taken, is_removed, is_hit, is_enough, prefixes, first_where}
+use Rattle.xs_group.specs.Claims.{without_repeats, scanned_part, from_start, first_or_zero, claim_among}
 use Rattle.xs_group.specs.Verdict.{AreDistinct}
 use Rattle.xs_group.proofs.CarriedOutClaims.{apart-filter, apart-firsts}
 use Rattle.xs_keys.specs.Terms.{option_map_or, Id, Ascends, AllAbove}
 use Rattle.xs_keys.specs.Life.{greatest}
-use Rattle.xs_keys.specs.GroupAsk.{GroupAsk, read_new, read_own, acknowledge, create_consumer, delete_consumer, claim, auto_claim, claim_of_ask, scan_end_of_ask, rule_of, new_ids_of_ask}
+use Rattle.xs_keys.specs.GroupAsk.{GroupAsk, read_new, read_own, acknowledge, create_consumer, delete_consumer, claim}
+use Rattle.xs_keys.specs.GroupAsk.{auto_claim, claim_of_ask, scan_end_of_ask, rule_of, new_ids_of_ask}
 use Rattle.xs_keys.specs.GroupEvent.{GroupEvent, delivered_ids, pending_row_at, rows, new_ids_of_event, cursor}
 use Rattle.xs_keys.specs.Owner.{is_taken_by_claim, is_removed_by_claim, owner}
-use Rattle.xs_keys.specs.ClaimsTake.{least_idle, MayBeTaken, MayBeRemoved, passes, is_scanned, is_asked_for, MayStop, ClaimsWhatIsAsked, ClaimIsExact, ClaimsAreExact}
+use Rattle.xs_keys.specs.ClaimsTake.{least_idle, MayBeTaken, MayBeRemoved, passes, is_scanned, is_asked_for, MayStop}
+use Rattle.xs_keys.specs.ClaimsTake.{ClaimsWhatIsAsked, ClaimIsExact, ClaimsAreExact}
 use Rattle.xs_keys.specs.EachDelivery.{DeliversInFull}
 use Rattle.xs_keys.proofs.Truths.{first_of, second_of, or_false}
 use Rattle.xs_keys.proofs.IdLists.{has_id-where, has_id-append, ascends-where, not_among}

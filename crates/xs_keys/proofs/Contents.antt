@@ -1,16 +1,24 @@
 -- The content that a history leaves: the empty one, one event more, and that there is one.
-use Rattle.std.proofs.Common.{◌≡◌, ℕ, Bool, true, false, cond, ◌||◌, ◌&&◌, List, [], ◌∷◌, Option, Some, None, is_some, sym, ap, ◌∙◌, refl, subst}
+use Rattle.std.proofs.Common.{◌≡◌, ℕ, Bool, true, false, cond, ◌||◌, ◌&&◌, List, [], ◌∷◌, Option, Some, None, is_some}
+use Rattle.std.proofs.Common.{sym, ap, ◌∙◌, refl, subst}
 use Rattle.std.proofs.lemmas.Bool.{false≢true}
 use Rattle.xs_bytes.proofs.SortedMaps.{get-empty, same_entries_map}
 use Rattle.std.specs.Ordering.{nat_cmp}
 use Rattle.std.specs.Cmp.Lexicographic.{slice_cmp}
 use Rattle.xs_keys.specs.Event.{History}
-use Rattle.xs_keys.specs.Terms.{option_map, option_map_or, option_or, list_all, NameMap, empty, get, has_key, insert, remove, Id, Ascends, ids_of, GroupState, is_same_name, new_group, Command, Ping, Quit, Add, Delete, TrimTo, Len, Scan, GroupCreate, GroupDestroy, ConsumerCreate, ConsumerDelete, ReadGroup, Ack, Pending, PendingRows, Claim, AutoClaim, DropKeys, GroupCreateCommand, ReadGroupCommand, ReadOne}
+use Rattle.xs_keys.specs.Terms.{option_map, option_map_or, option_or, list_all, NameMap, empty, get, has_key, insert}
+use Rattle.xs_keys.specs.Terms.{remove, Id, Ascends, ids_of, GroupState, is_same_name, new_group, Command, Ping, Quit}
+use Rattle.xs_keys.specs.Terms.{Add, Delete, TrimTo, Len, Scan, GroupCreate, GroupDestroy, ConsumerCreate}
+use Rattle.xs_keys.specs.Terms.{ConsumerDelete, ReadGroup, Ack, Pending, PendingRows, Claim, AutoClaim, DropKeys}
+use Rattle.xs_keys.specs.Terms.{GroupCreateCommand, ReadGroupCommand, ReadOne}
 use Rattle.xs_keys.specs.Life.{StreamEvent, add_entry, delete_entries, trim_entries, is_listed, life_or_new, key_life}
 use Rattle.xs_keys.specs.GroupAsk.{GroupAsk, create_consumer, delete_consumer, acknowledge, claim, auto_claim}
-use Rattle.xs_keys.specs.GroupLife.{GroupLife, present_in, starting_id, new_life, life_after_ask, ask_of_read, life_after_reads, group_life}
+use Rattle.xs_keys.specs.GroupLife.{GroupLife, present_in, starting_id, new_life, life_after_ask, ask_of_read}
+use Rattle.xs_keys.specs.GroupLife.{life_after_reads, group_life}
 use Rattle.xs_keys.specs.Content.{KeyState, Content, IsGroup, GroupHolds, KeyHolds, IsContent}
-use Rattle.xs_keys.specs.ContentAfter.{new_key, key_or_new, stream_after, key_after, content_after_stream_event, without_keys, group_after, with_group, content_after_ask, content_after_create, group_in, has_all_groups_in, content_after_reads, content_after}
+use Rattle.xs_keys.specs.ContentAfter.{new_key, key_or_new, stream_after, key_after, content_after_stream_event}
+use Rattle.xs_keys.specs.ContentAfter.{without_keys, group_after, with_group, content_after_ask, content_after_create}
+use Rattle.xs_keys.specs.ContentAfter.{group_in, has_all_groups_in, content_after_reads, content_after}
 use Rattle.xs_keys.proofs.Names.{is_name-eq, get-insert, get-remove, same_map, same_names}
 use Rattle.xs_keys.proofs.Streams.{stream-step, ascends-live}
 use Rattle.xs_keys.proofs.GroupSteps.{group-step, group-new}

@@ -3,11 +3,13 @@ use Rattle.std.proofs.Common.{◌≡◌, Bool, true, false, not, ◌&&◌, List,
 use Rattle.std.proofs.lemmas.Bool.{false≢true}
 use Rattle.xs_keys.specs.Terms.{Id, is_below, has_id, Ascends, AllAbove}
 use Rattle.xs_keys.specs.Life.{greatest}
-use Rattle.xs_keys.specs.GroupAsk.{GroupAsk, read_new, read_own, acknowledge, create_consumer, delete_consumer, claim, auto_claim, new_ids_of_ask}
+use Rattle.xs_keys.specs.GroupAsk.{GroupAsk, read_new, read_own, acknowledge, create_consumer, delete_consumer, claim}
+use Rattle.xs_keys.specs.GroupAsk.{auto_claim, new_ids_of_ask}
 use Rattle.xs_keys.specs.GroupEvent.{GroupEvent, delivered_ids, cursor, new_ids_of_event}
 use Rattle.xs_keys.specs.EachDelivery.{HadItsTurn}
 use Rattle.xs_keys.proofs.Truths.{none_or, or_none}
-use Rattle.xs_keys.proofs.IdLists.{above-delivers, ascends-delivers, ascends-append, above-lower, not_above, has_id-append, delivers-up_to, above-append, not_among}
+use Rattle.xs_keys.proofs.IdLists.{above-delivers, ascends-delivers, ascends-append, above-lower, not_above}
+use Rattle.xs_keys.proofs.IdLists.{has_id-append, delivers-up_to, above-append, not_among}
 use Rattle.xs_keys.proofs.Streams.{greatest-up}
 use Rattle.xs_keys.proofs.GroupSteps.{up_to-delivered, cursor-step}
 

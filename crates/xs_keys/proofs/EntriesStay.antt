@@ -1,12 +1,19 @@
 -- Entries stay in a stream, and groups stay open, until a command removes them.
-use Rattle.std.proofs.Common.{◌≡◌, ℕ, Bool, true, false, cond, not, ◌&&◌, ◌||◌, List, [], ◌∷◌, ◌++◌, filter, Option, Some, None, is_some, sym, ap, ◌∙◌, refl}
+use Rattle.std.proofs.Common.{◌≡◌, ℕ, Bool, true, false, cond, not, ◌&&◌, ◌||◌, List, [], ◌∷◌, ◌++◌, filter, Option}
+use Rattle.std.proofs.Common.{Some, None, is_some, sym, ap, ◌∙◌, refl}
 use Rattle.std.proofs.lemmas.Bool.{false≢true, and_from, or_left}
 use Rattle.std.proofs.lemmas.List.{append-nil}
 use Rattle.xs_keys.specs.Event.{Event, History}
-use Rattle.xs_keys.specs.Terms.{list_all, option_map, option_map_or, option_or, Id, has_id, assigned, zero_id, ids_of, is_trimmed, is_same_name, Command, Ping, Quit, Add, Delete, TrimTo, Len, Scan, GroupCreate, GroupDestroy, ConsumerCreate, ConsumerDelete, ReadGroup, Ack, Pending, PendingRows, Claim, AutoClaim, DropKeys, ReadGroupCommand, ReadOne}
-use Rattle.xs_keys.specs.Life.{StreamEvent, add_entry, delete_entries, trim_entries, is_listed, life_or_new, key_life_after, key_life, entries_added_by, added_in, top, removes_id, is_present, present_entries}
+use Rattle.xs_keys.specs.Terms.{list_all, option_map, option_map_or, option_or, Id, has_id, assigned, zero_id, ids_of}
+use Rattle.xs_keys.specs.Terms.{is_trimmed, is_same_name, Command, Ping, Quit, Add, Delete, TrimTo, Len, Scan}
+use Rattle.xs_keys.specs.Terms.{GroupCreate, GroupDestroy, ConsumerCreate, ConsumerDelete, ReadGroup, Ack, Pending}
+use Rattle.xs_keys.specs.Terms.{PendingRows, Claim, AutoClaim, DropKeys, ReadGroupCommand, ReadOne}
+use Rattle.xs_keys.specs.Life.{StreamEvent, add_entry, delete_entries, trim_entries, is_listed, life_or_new}
+use Rattle.xs_keys.specs.Life.{key_life_after, key_life, entries_added_by, added_in, top, removes_id, is_present}
+use Rattle.xs_keys.specs.Life.{present_entries}
 use Rattle.xs_keys.specs.GroupAsk.{GroupAsk, create_consumer, delete_consumer, acknowledge, claim, auto_claim}
-use Rattle.xs_keys.specs.GroupLife.{GroupLife, present_in, starting_id, new_life, life_after_ask, ask_of_read, life_after_reads, group_life_after, reads_of, read_group_of, group_life}
+use Rattle.xs_keys.specs.GroupLife.{GroupLife, present_in, starting_id, new_life, life_after_ask, ask_of_read}
+use Rattle.xs_keys.specs.GroupLife.{life_after_reads, group_life_after, reads_of, read_group_of, group_life}
 use Rattle.xs_keys.specs.Effect.{ends_group}
 use Rattle.xs_keys.specs.Presence.{may_remove_entry, has_to_remove, EntryStays, EntriesStay, has_to_create, GroupsStay}
 use Rattle.xs_keys.proofs.Truths.{first_of, second_of, or_false}

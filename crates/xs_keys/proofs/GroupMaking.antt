@@ -3,7 +3,8 @@ use Rattle.std.proofs.Common.{◌≡◌, ℕ, true, false, List, Some, None, is_
 use Rattle.std.specs.Ordering.{nat_cmp}
 use Rattle.std.specs.Cmp.Lexicographic.{slice_cmp}
 use Rattle.xs_bytes.proofs.SortedMaps.{get-empty}
-use Rattle.xs_keys.specs.Terms.{NameMap, empty, get, insert, has_key, GroupState, new_group, Reply, Simple, Error, Okay, Memory, GroupCreateCommand, GroupCreate}
+use Rattle.xs_keys.specs.Terms.{NameMap, empty, get, insert, has_key, GroupState, new_group, Reply, Simple, Error, Okay}
+use Rattle.xs_keys.specs.Terms.{Memory, GroupCreateCommand, GroupCreate}
 use Rattle.xs_keys.specs.GroupLife.{starting_id}
 use Rattle.xs_keys.specs.Content.{Content, KeyState}
 use Rattle.xs_keys.specs.ContentAfter.{new_key, with_group}

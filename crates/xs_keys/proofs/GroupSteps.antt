@@ -1,21 +1,28 @@
 -- A group by looking back, and a group event by event: they are the same.
-use Rattle.std.proofs.Common.{◌≡◌, ℕ, Bool, true, false, cond, List, [], ◌∷◌, ◌++◌, Option, Some, None, option_and_then, is_some, sym, ap, subst, ◌∙◌, refl}
+use Rattle.std.proofs.Common.{◌≡◌, ℕ, Bool, true, false, cond, List, [], ◌∷◌, ◌++◌, Option, Some, None, option_and_then}
+use Rattle.std.proofs.Common.{is_some, sym, ap, subst, ◌∙◌, refl}
 use Rattle.std.proofs.lemmas.List.{append-nil}
 use Rattle.xs_bytes.specs.Each.{each}
 use Rattle.xs_bytes.specs.SortedMap.{empty, get, change, remove}
 use Rattle.xs_bytes.proofs.SortedMaps.{get-empty}
-use Rattle.xs_group.specs.State.{RowState, Rows, GroupState, Names, is_same_name, has_name, with_name, new_ids, last_of, first_row, with_rows, group_after_delivery, own_ids, row_after_reread, group_after_reread, new_group, group_after_ack, unless_acked, unless_owned, without_consumer}
+use Rattle.xs_group.specs.State.{RowState, Rows, GroupState, Names, is_same_name, has_name, with_name, new_ids, last_of}
+use Rattle.xs_group.specs.State.{first_row, with_rows, group_after_delivery, own_ids, row_after_reread}
+use Rattle.xs_group.specs.State.{group_after_reread, new_group, group_after_ack, unless_acked, unless_owned}
+use Rattle.xs_group.specs.State.{without_consumer}
 use Rattle.xs_keys.specs.Terms.{Id, has_id, Ascends, AllAbove, AllUpTo, Rule, row_after_claim, claim_by_ids, scan_of}
 use Rattle.xs_keys.specs.Life.{greatest}
-use Rattle.xs_keys.specs.GroupAsk.{GroupAsk, read_new, read_own, acknowledge, create_consumer, delete_consumer, claim, auto_claim}
-use Rattle.xs_keys.specs.GroupEvent.{GroupEvent, new_ids_of_event, delivered_ids, cursor, is_consumer, rows_among, pending_row_at, rows}
+use Rattle.xs_keys.specs.GroupAsk.{GroupAsk, read_new, read_own, acknowledge, create_consumer, delete_consumer, claim}
+use Rattle.xs_keys.specs.GroupAsk.{auto_claim}
+use Rattle.xs_keys.specs.GroupEvent.{GroupEvent, new_ids_of_event, delivered_ids, cursor, is_consumer, rows_among}
+use Rattle.xs_keys.specs.GroupEvent.{pending_row_at, rows}
 use Rattle.xs_keys.specs.GroupLife.{GroupLife}
 use Rattle.xs_keys.specs.Content.{IsGroup}
 use Rattle.xs_keys.specs.ContentAfter.{group_after}
 use Rattle.xs_keys.proofs.Names.{get-insert, get-remove}
 use Rattle.xs_keys.proofs.Streams.{greatest-append, up_to-greatest}
 use Rattle.xs_keys.proofs.IdLists.{above-delivers, ascends-delivers, greatest-last, not_above}
-use Rattle.xs_keys.proofs.GroupRows.{row_ids, each_row, each-among, among-append, among-alike, among-known, among-none, among-all, up_to-among, entries-with_rows}
+use Rattle.xs_keys.proofs.GroupRows.{row_ids, each_row, each-among, among-append, among-alike, among-known, among-none}
+use Rattle.xs_keys.proofs.GroupRows.{among-all, up_to-among, entries-with_rows}
 
 -- ---- the cursor and what was delivered
 

@@ -1,10 +1,15 @@
 -- What holds of the lives of a history: the ids in the stream ascend at each event.
-use Rattle.std.proofs.Common.{◌≡◌, ℕ, Bool, true, false, cond, ◌&&◌, List, [], ◌∷◌, Option, Some, None, is_some, subst, refl}
+use Rattle.std.proofs.Common.{◌≡◌, ℕ, Bool, true, false, cond, ◌&&◌, List, [], ◌∷◌, Option, Some, None, is_some, subst}
+use Rattle.std.proofs.Common.{refl}
 use Rattle.xs_keys.specs.Event.{History}
-use Rattle.xs_keys.specs.Terms.{list_all, Id, Ascends, is_same_name, Command, Ping, Quit, Add, Delete, TrimTo, Len, Scan, GroupCreate, GroupDestroy, ConsumerCreate, ConsumerDelete, ReadGroup, Ack, Pending, PendingRows, Claim, AutoClaim, DropKeys, GroupCreateCommand, ReadGroupCommand, ReadOne, option_or}
+use Rattle.xs_keys.specs.Terms.{list_all, Id, Ascends, is_same_name, Command, Ping, Quit, Add, Delete, TrimTo, Len}
+use Rattle.xs_keys.specs.Terms.{Scan, GroupCreate, GroupDestroy, ConsumerCreate, ConsumerDelete, ReadGroup, Ack}
+use Rattle.xs_keys.specs.Terms.{Pending, PendingRows, Claim, AutoClaim, DropKeys, GroupCreateCommand, ReadGroupCommand}
+use Rattle.xs_keys.specs.Terms.{ReadOne, option_or}
 use Rattle.xs_keys.specs.Life.{StreamEvent, is_listed, key_life}
 use Rattle.xs_keys.specs.GroupAsk.{GroupAsk, create_consumer, delete_consumer, acknowledge, claim, auto_claim}
-use Rattle.xs_keys.specs.GroupLife.{GroupLife, present_in, new_life, life_after_ask, ask_of_read, life_after_reads, group_life_after, reads_of, read_group_of, group_life}
+use Rattle.xs_keys.specs.GroupLife.{GroupLife, present_in, new_life, life_after_ask, ask_of_read, life_after_reads}
+use Rattle.xs_keys.specs.GroupLife.{group_life_after, reads_of, read_group_of, group_life}
 use Rattle.xs_keys.proofs.Streams.{ascends-live}
 use Rattle.xs_keys.proofs.Deliveries.{PresentAscends}
 

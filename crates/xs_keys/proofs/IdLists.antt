@@ -1,5 +1,6 @@
 -- Lists of ids that ascend.
-use Rattle.std.proofs.Common.{◌≡◌, ℕ, zero, suc, Bool, true, false, cond, ◌&&◌, ◌||◌, List, [], ◌∷◌, ◌++◌, filter, take, Option, Some, None, sym, ap, ◌∙◌, refl}
+use Rattle.std.proofs.Common.{◌≡◌, ℕ, zero, suc, Bool, true, false, cond, ◌&&◌, ◌||◌, List, [], ◌∷◌, ◌++◌, filter, take}
+use Rattle.std.proofs.Common.{Option, Some, None, sym, ap, ◌∙◌, refl}
 use Rattle.std.proofs.lemmas.Bool.{false≢true, and_right}
 use Rattle.xs_stream.specs.Id.{is_below, is_same_id, has_id}
 use Rattle.xs_stream.proofs.Order.{is_same-eq, is_same-symm, below-not_same, up_to-below, not_above-trans}

@@ -1,16 +1,24 @@
 -- The ids in the stream at each event of a group are those that a beginning of the changes of the stream left. So what was
 -- delivered was given, and no entry stays behind the cursor.
-use Rattle.std.proofs.Common.{◌≡◌, ℕ, Bool, true, false, cond, not, ◌&&◌, ◌||◌, List, [], ◌∷◌, ◌++◌, Option, Some, None, is_some, filter, take, zero, suc, sym, ap, subst, ◌∙◌, refl}
+use Rattle.std.proofs.Common.{◌≡◌, ℕ, Bool, true, false, cond, not, ◌&&◌, ◌||◌, List, [], ◌∷◌, ◌++◌, Option, Some, None}
+use Rattle.std.proofs.Common.{is_some, filter, take, zero, suc, sym, ap, subst, ◌∙◌, refl}
 use Rattle.std.proofs.lemmas.Bool.{false≢true, and_from, or_left, or_right}
 use Rattle.xs_stream.specs.Id.{is_below, is_same_id, has_id, zero_id}
 use Rattle.xs_stream.proofs.Order.{is_same-refl, up_to-below, not_above-trans}
 use Rattle.xs_stream.proofs.InOrder.{ids_of-append, ids_of-filter}
 use Rattle.xs_keys.specs.Event.{History}
-use Rattle.xs_keys.specs.Terms.{list_all, option_map, option_or, Id, ids_of, AllAbove, AllUpTo, limited, is_same_name, Command, Ping, Quit, Add, Delete, TrimTo, Len, Scan, GroupCreate, GroupDestroy, ConsumerCreate, ConsumerDelete, ReadGroup, Ack, Pending, PendingRows, Claim, AutoClaim, DropKeys, GroupCreateCommand, ReadGroupCommand, ReadOne}
-use Rattle.xs_keys.specs.Life.{StreamEvent, add_entry, delete_entries, trim_entries, is_listed, life_or_new, key_life_after, key_life, greatest, entries_added_by, added_in, top, is_present, present_entries}
-use Rattle.xs_keys.specs.GroupAsk.{GroupAsk, read_new, read_own, create_consumer, delete_consumer, acknowledge, claim, auto_claim, new_ids_of_ask}
+use Rattle.xs_keys.specs.Terms.{list_all, option_map, option_or, Id, ids_of, AllAbove, AllUpTo, limited, is_same_name}
+use Rattle.xs_keys.specs.Terms.{Command, Ping, Quit, Add, Delete, TrimTo, Len, Scan, GroupCreate, GroupDestroy}
+use Rattle.xs_keys.specs.Terms.{ConsumerCreate, ConsumerDelete, ReadGroup, Ack, Pending, PendingRows, Claim, AutoClaim}
+use Rattle.xs_keys.specs.Terms.{DropKeys, GroupCreateCommand, ReadGroupCommand, ReadOne}
+use Rattle.xs_keys.specs.Life.{StreamEvent, add_entry, delete_entries, trim_entries, is_listed, life_or_new}
+use Rattle.xs_keys.specs.Life.{key_life_after, key_life, greatest, entries_added_by, added_in, top, is_present}
+use Rattle.xs_keys.specs.Life.{present_entries}
+use Rattle.xs_keys.specs.GroupAsk.{GroupAsk, read_new, read_own, create_consumer, delete_consumer, acknowledge, claim}
+use Rattle.xs_keys.specs.GroupAsk.{auto_claim, new_ids_of_ask}
 use Rattle.xs_keys.specs.GroupEvent.{GroupEvent, new_ids_of_event, delivered_ids, cursor}
-use Rattle.xs_keys.specs.GroupLife.{GroupLife, present_in, new_life, life_after_ask, ask_of_read, life_after_reads, group_life_after, reads_of, read_group_of, group_life}
+use Rattle.xs_keys.specs.GroupLife.{GroupLife, present_in, new_life, life_after_ask, ask_of_read, life_after_reads}
+use Rattle.xs_keys.specs.GroupLife.{group_life_after, reads_of, read_group_of, group_life}
 use Rattle.xs_keys.proofs.Truths.{first_of, second_of}
 use Rattle.xs_keys.proofs.IdLists.{has_id-append, has_id-where, not_above, not_among}
 use Rattle.xs_keys.proofs.Streams.{greatest-append, greatest-up, up_to-top, gives-not_new}

@@ -1,5 +1,7 @@
 -- What a change of the stream and what a command makes of the place of an entry.
-use Rattle.std.proofs.Common.{◌≡◌, ◌⊎◌, inl, inr, ℕ, ◌+◌, ◌≤◌, Bool, true, false, cond, not, ◌&&◌, ◌||◌, List, [], ◌∷◌, ◌++◌, filter, Option, Some, None, is_some, Result, Ok, Err, is_ok, length, bytes_eq, sym, ap, subst, ◌∙◌, refl, arith, length-append}
+use Rattle.std.proofs.Common.{◌≡◌, ◌⊎◌, inl, inr, ℕ, ◌+◌, ◌≤◌, Bool, true, false, cond, not, ◌&&◌, ◌||◌, List, [], ◌∷◌}
+use Rattle.std.proofs.Common.{◌++◌, filter, Option, Some, None, is_some, Result, Ok, Err, is_ok, length, bytes_eq, sym}
+use Rattle.std.proofs.Common.{ap, subst, ◌∙◌, refl, arith, length-append}
 use Rattle.std.proofs.lemmas.Option.{same_Some}
 use Rattle.std.specs.Prelude.{nat_le}
 use Rattle.std.proofs.lemmas.List.{append-nil}
@@ -12,19 +14,34 @@ use Rattle.std.proofs.lemmas.Bool.{false≢true, and_from, or_left, or_right}
 use Rattle.std.specs.List.{list_all, list_any, IsDistinct}
 use Rattle.xs_stream.specs.Id.{is_below, is_same_id, has_id, assigned}
 use Rattle.xs_stream.specs.StreamContent.{AllUpTo, ids_of, is_trimmed, count_above}
-use Rattle.xs_group.specs.Claims.{Rule, row_at, is_idle, is_removed, is_taken, claim_among, without_repeats, from_start, is_hit, scanned_part}
+use Rattle.xs_group.specs.Claims.{Rule, row_at, is_idle, is_removed, is_taken, claim_among, without_repeats, from_start}
+use Rattle.xs_group.specs.Claims.{is_hit, scanned_part}
 use Rattle.xs_command.specs.WellFormed.{IsWellFormed, keys_of}
 use Rattle.xs_command.specs.declared.command.ClaimCommand.{ClaimCommand}
 use Rattle.xs_command.specs.declared.command.AutoClaimCommand.{AutoClaimCommand}
-use Rattle.xs_keys.specs.Terms.{AddError, AddId, Field, GroupStart, Top, At, option_map, option_map_or, Id, Trim, RowState, is_same_name, Command, Ping, Quit, Add, Delete, TrimTo, Len, Scan, GroupCreate, GroupDestroy, ConsumerCreate, ConsumerDelete, ReadGroup, Ack, Pending, PendingRows, Claim, AutoClaim, DropKeys, GroupCreateCommand, ReadGroupCommand, ReadOne, ReadFrom, New, After}
-use Rattle.xs_keys.specs.Life.{StreamEvent, add_entry, delete_entries, trim_entries, is_listed, life_or_new, key_life_after, key_life, entry_of, entries_added_by, added_in, top, removes_id, is_present, present_entries}
-use Rattle.xs_keys.specs.GroupAsk.{GroupAsk, create_consumer, delete_consumer, acknowledge, claim, auto_claim, new_ids_of_ask, claim_of_ask, consumer_of, keeps_pending, is_acknowledgement_of, deletes_consumer}
+use Rattle.xs_keys.specs.Terms.{AddError, AddId, Field, GroupStart, Top, At, option_map, option_map_or, Id, Trim}
+use Rattle.xs_keys.specs.Terms.{RowState, is_same_name, Command, Ping, Quit, Add, Delete, TrimTo, Len, Scan}
+use Rattle.xs_keys.specs.Terms.{GroupCreate, GroupDestroy, ConsumerCreate, ConsumerDelete, ReadGroup, Ack, Pending}
+use Rattle.xs_keys.specs.Terms.{PendingRows, Claim, AutoClaim, DropKeys, GroupCreateCommand, ReadGroupCommand, ReadOne}
+use Rattle.xs_keys.specs.Terms.{ReadFrom, New, After}
+use Rattle.xs_keys.specs.Life.{StreamEvent, add_entry, delete_entries, trim_entries, is_listed, life_or_new}
+use Rattle.xs_keys.specs.Life.{key_life_after, key_life, entry_of, entries_added_by, added_in, top, removes_id}
+use Rattle.xs_keys.specs.Life.{is_present, present_entries}
+use Rattle.xs_keys.specs.GroupAsk.{GroupAsk, create_consumer, delete_consumer, acknowledge, claim, auto_claim}
+use Rattle.xs_keys.specs.GroupAsk.{new_ids_of_ask, claim_of_ask, consumer_of, keeps_pending, is_acknowledgement_of}
+use Rattle.xs_keys.specs.GroupAsk.{deletes_consumer}
 use Rattle.xs_keys.specs.GroupEvent.{GroupEvent, delivered_ids, cursor, pending_row_at, rows}
 use Rattle.xs_keys.specs.Owner.{last_assigned, owner}
-use Rattle.xs_keys.specs.GroupLife.{GroupLife, present_in, starting_id, new_life, life_after_ask, ask_of_read, life_after_reads, group_life_after, reads_of, read_group_of, group_life, is_new, reads_new_entries}
-use Rattle.xs_keys.specs.JobPlace.{Place, before_start, waiting, dropped, handed_out, pending, settled, place_of, place_in, place_after}
-use Rattle.xs_keys.specs.Effect.{deletes_entry, is_trimmed_below_one, may_trim_entry, reads_new_entries_in, with_noack, claims_by_id, may_claim_entry, consumer_of_command, acknowledges_entry, removes_consumer, may_begin_job, ends_group}
-use Rattle.xs_keys.specs.JobMove.{found_at, HasArrow, HasToMove, trims_new, IsFirstPlace, MovesAlong, is_final, GroupStaysOpen}
+use Rattle.xs_keys.specs.GroupLife.{GroupLife, present_in, starting_id, new_life, life_after_ask, ask_of_read}
+use Rattle.xs_keys.specs.GroupLife.{life_after_reads, group_life_after, reads_of, read_group_of, group_life, is_new}
+use Rattle.xs_keys.specs.GroupLife.{reads_new_entries}
+use Rattle.xs_keys.specs.JobPlace.{Place, before_start, waiting, dropped, handed_out, pending, settled, place_of}
+use Rattle.xs_keys.specs.JobPlace.{place_in, place_after}
+use Rattle.xs_keys.specs.Effect.{deletes_entry, is_trimmed_below_one, may_trim_entry, reads_new_entries_in, with_noack}
+use Rattle.xs_keys.specs.Effect.{claims_by_id, may_claim_entry, consumer_of_command, acknowledges_entry}
+use Rattle.xs_keys.specs.Effect.{removes_consumer, may_begin_job, ends_group}
+use Rattle.xs_keys.specs.JobMove.{found_at, HasArrow, HasToMove, trims_new, IsFirstPlace, MovesAlong, is_final}
+use Rattle.xs_keys.specs.JobMove.{GroupStaysOpen}
 use Rattle.xs_keys.proofs.Truths.{first_of, second_of, or_false}
 use Rattle.xs_keys.proofs.IdLists.{has_id-append, has_id-where}
 use Rattle.xs_keys.proofs.Streams.{gives-not_new, up_to-live}
@@ -34,8 +51,10 @@ use Rattle.xs_stream.proofs.InOrder.{ids_of-append}
 use Rattle.xs_keys.proofs.Lives.{others-absent, not-read}
 use Rattle.xs_keys.proofs.Owners.{owner-row, row-found, of_row}
 use Rattle.xs_keys.proofs.ClaimedIds.{firsts-has}
-use Rattle.xs_keys.proofs.IdsAtEvents.{SeesItsKey, sees-life, given-more, given-up_to, live-before, has_id-live, delivered-given}
-use Rattle.xs_keys.proofs.JobPlaces.{place_by, life_of, Went, stayed, was_handed_out, was_delivered, was_taken, was_settled, went, settled-now, pending-owner, waiting-asked, owner-last}
+use Rattle.xs_keys.proofs.IdsAtEvents.{SeesItsKey, sees-life, given-more, given-up_to, live-before, has_id-live}
+use Rattle.xs_keys.proofs.IdsAtEvents.{delivered-given}
+use Rattle.xs_keys.proofs.JobPlaces.{place_by, life_of, Went, stayed, was_handed_out, was_delivered, was_taken}
+use Rattle.xs_keys.proofs.JobPlaces.{was_settled, went, settled-now, pending-owner, waiting-asked, owner-last}
 
 -- ---- a change of the stream
 

@@ -1,5 +1,6 @@
 -- The place of an entry: it is one, and an event of the group moves it along an arrow.
-use Rattle.std.proofs.Common.{◌≡◌, ℕ, Bool, true, false, cond, not, ◌&&◌, ◌||◌, List, [], ◌∷◌, Option, Some, None, is_some, sym, ap, ◌∙◌, refl}
+use Rattle.std.proofs.Common.{◌≡◌, ℕ, Bool, true, false, cond, not, ◌&&◌, ◌||◌, List, [], ◌∷◌, Option, Some, None}
+use Rattle.std.proofs.Common.{is_some, sym, ap, ◌∙◌, refl}
 use Rattle.std.proofs.lemmas.Bool.{false≢true, or_left, or_right}
 use Rattle.xs_stream.proofs.Order.{up_to-below}
 use Rattle.xs_keys.specs.Terms.{Id, is_below, has_id, ids_of}
@@ -8,11 +9,13 @@ use Rattle.xs_keys.specs.GroupEvent.{GroupEvent, new_ids_of_event, delivered_ids
 use Rattle.xs_keys.specs.GroupAsk.{consumer_of, keeps_pending}
 use Rattle.xs_keys.specs.Owner.{is_taken_by_claim, last_assigned, settles_entry, is_settled, owner}
 use Rattle.xs_keys.specs.GroupLife.{GroupLife}
-use Rattle.xs_keys.specs.JobPlace.{Place, before_start, waiting, dropped, handed_out, pending, settled, place_of_delivered, place_of, StandsAt, HasOnePlace}
+use Rattle.xs_keys.specs.JobPlace.{Place, before_start, waiting, dropped, handed_out, pending, settled}
+use Rattle.xs_keys.specs.JobPlace.{place_of_delivered, place_of, StandsAt, HasOnePlace}
 use Rattle.xs_keys.proofs.IdLists.{has_id-append, not_among}
 use Rattle.xs_keys.proofs.GroupSteps.{up_to-delivered}
 use Rattle.xs_keys.proofs.Deliveries.{PresentAscends, start-up, past-start}
-use Rattle.xs_keys.proofs.Owners.{owned-delivered, assigned-again, taken-owned, owner-step, taken-unsettled, pending-named, claim-named}
+use Rattle.xs_keys.proofs.Owners.{owned-delivered, assigned-again, taken-owned, owner-step, taken-unsettled}
+use Rattle.xs_keys.proofs.Owners.{pending-named, claim-named}
 use Rattle.xs_keys.proofs.IdsAtEvents.{Sees, none-stranded, asked-present, above-has}
 
 -- ---- who has what was delivered

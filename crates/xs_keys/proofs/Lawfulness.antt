@@ -1,13 +1,16 @@
 -- Every content of a history is lawful.
-use Rattle.std.proofs.Common.{◌≡◌, ℕ, Bool, true, false, cond, List, [], ◌∷◌, Option, Some, None, is_some, option_and_then, ◌&&◌, sym, ap, subst, ◌∙◌, refl}
+use Rattle.std.proofs.Common.{◌≡◌, ℕ, Bool, true, false, cond, List, [], ◌∷◌, Option, Some, None, is_some}
+use Rattle.std.proofs.Common.{option_and_then, ◌&&◌, sym, ap, subst, ◌∙◌, refl}
 use Rattle.std.proofs.lemmas.Option.{same_Some}
 use Rattle.std.proofs.lemmas.Bool.{false≢true}
 use Rattle.xs_bytes.specs.SortedMap.{get}
-use Rattle.xs_group.specs.State.{RowState, GroupState, is_same_name, new_ids, first_row, own_ids, redelivered_row, unless_owned}
+use Rattle.xs_group.specs.State.{RowState, GroupState, is_same_name, new_ids, first_row, own_ids, redelivered_row}
+use Rattle.xs_group.specs.State.{unless_owned}
 use Rattle.xs_keys.specs.Event.{History}
 use Rattle.xs_keys.specs.Terms.{with_some, Id, has_id, Ascends, AllAbove, AllUpTo, Command}
 use Rattle.xs_keys.specs.Life.{StreamEvent, key_life, stream_of}
-use Rattle.xs_keys.specs.GroupAsk.{GroupAsk, read_new, read_own, acknowledge, create_consumer, delete_consumer, claim, auto_claim, row_after_ask}
+use Rattle.xs_keys.specs.GroupAsk.{GroupAsk, read_new, read_own, acknowledge, create_consumer, delete_consumer, claim}
+use Rattle.xs_keys.specs.GroupAsk.{auto_claim, row_after_ask}
 use Rattle.xs_keys.specs.GroupEvent.{GroupEvent, delivered_ids, cursor, is_consumer, rows_among, pending_row_at, rows}
 use Rattle.xs_keys.specs.GroupLife.{GroupLife, group_life}
 use Rattle.xs_keys.specs.Content.{KeyState, Content, IsGroup, GroupHolds, KeyHolds, IsContent}

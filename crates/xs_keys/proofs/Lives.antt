@@ -1,16 +1,23 @@
 -- What each event delivers of a life, and that no other event does.
-use Rattle.std.proofs.Common.{◌≡◌, ◌⊎◌, inl, inr, ℕ, Bool, true, false, cond, ◌&&◌, ◌||◌, List, [], ◌∷◌, ◌++◌, Option, Some, None, is_some, bytes_eq, sym, ap, subst, ◌∙◌, refl}
+use Rattle.std.proofs.Common.{◌≡◌, ◌⊎◌, inl, inr, ℕ, Bool, true, false, cond, ◌&&◌, ◌||◌, List, [], ◌∷◌, ◌++◌, Option}
+use Rattle.std.proofs.Common.{Some, None, is_some, bytes_eq, sym, ap, subst, ◌∙◌, refl}
 use Rattle.std.proofs.lemmas.Bool.{false≢true, and_right}
 use Rattle.std.proofs.lemmas.List.{append-nil}
 use Rattle.std.proofs.lemmas.Slice.Eq.{bytes_eq-Decides}
 use Rattle.std.specs.List.{list_all, list_any, IsDistinct, AllByRecursion}
 use Rattle.xs_keys.specs.Event.{History}
 use Rattle.xs_command.specs.WellFormed.{IsWellFormed, keys_of}
-use Rattle.xs_keys.specs.Terms.{option_map_or, option_or, Id, is_same_name, new_ids, Command, Ping, Quit, Add, Delete, TrimTo, Len, Scan, GroupCreate, GroupDestroy, ConsumerCreate, ConsumerDelete, ReadGroup, Ack, Pending, PendingRows, Claim, AutoClaim, DropKeys, GroupCreateCommand, ReadGroupCommand, ReadOne, ReadFrom, New, After}
+use Rattle.xs_keys.specs.Terms.{option_map_or, option_or, Id, is_same_name, new_ids, Command, Ping, Quit, Add, Delete}
+use Rattle.xs_keys.specs.Terms.{TrimTo, Len, Scan, GroupCreate, GroupDestroy, ConsumerCreate, ConsumerDelete, ReadGroup}
+use Rattle.xs_keys.specs.Terms.{Ack, Pending, PendingRows, Claim, AutoClaim, DropKeys, GroupCreateCommand}
+use Rattle.xs_keys.specs.Terms.{ReadGroupCommand, ReadOne, ReadFrom, New, After}
 use Rattle.xs_keys.specs.Life.{StreamEvent, is_listed, key_life}
-use Rattle.xs_keys.specs.GroupAsk.{GroupAsk, create_consumer, delete_consumer, acknowledge, claim, auto_claim, new_ids_of_ask}
+use Rattle.xs_keys.specs.GroupAsk.{GroupAsk, create_consumer, delete_consumer, acknowledge, claim, auto_claim}
+use Rattle.xs_keys.specs.GroupAsk.{new_ids_of_ask}
 use Rattle.xs_keys.specs.GroupEvent.{delivered_ids, cursor}
-use Rattle.xs_keys.specs.GroupLife.{GroupLife, read_limit_of, present_in, new_life, life_after_ask, ask_of_read, life_after_reads, read_group_of, group_life, is_new, reads_new_entries, has_all_groups, ids_delivered_by, LifeContinues}
+use Rattle.xs_keys.specs.GroupLife.{GroupLife, read_limit_of, present_in, new_life, life_after_ask, ask_of_read}
+use Rattle.xs_keys.specs.GroupLife.{life_after_reads, read_group_of, group_life, is_new, reads_new_entries}
+use Rattle.xs_keys.specs.GroupLife.{has_all_groups, ids_delivered_by, LifeContinues}
 use Rattle.xs_keys.proofs.Names.{is_name-eq}
 
 -- ---- events that deliver nothing

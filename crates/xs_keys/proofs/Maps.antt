@@ -1,5 +1,6 @@
 -- The map of entries as the code keeps it, and the map by names that it is seen as.
-use Rattle.std.proofs.Common.{◌≡◌, ℕ, true, cond, List, [], ◌∷◌, Option, Some, None, is_some, inl, inr, sym, ap, ◌∙◌, refl, BTreeMap, MutBor}
+use Rattle.std.proofs.Common.{◌≡◌, ℕ, true, cond, List, [], ◌∷◌, Option, Some, None, is_some, inl, inr, sym, ap, ◌∙◌}
+use Rattle.std.proofs.Common.{refl, BTreeMap, MutBor}
 use Rattle.std.specs.Option.{ghost_name_of, option_copied_mut}
 use Rattle.std.specs.FinMap.Entries.{find}
 use Rattle.xs_bytes.proofs.SortedMaps.{get-of_entries}

@@ -1,16 +1,23 @@
 -- The owner, by the last assigning event and what settled since, is that of the row; and what one event makes of it.
-use Rattle.std.proofs.Common.{◌≡◌, ℕ, Bool, true, false, not, cond, ◌&&◌, ◌||◌, ◌⊎◌, inl, inr, List, [], ◌∷◌, ◌++◌, Option, Some, None, option_and_then, option_map, is_some, sym, ap, ◌∙◌, refl}
+use Rattle.std.proofs.Common.{◌≡◌, ℕ, Bool, true, false, not, cond, ◌&&◌, ◌||◌, ◌⊎◌, inl, inr, List, [], ◌∷◌, ◌++◌}
+use Rattle.std.proofs.Common.{Option, Some, None, option_and_then, option_map, is_some, sym, ap, ◌∙◌, refl}
 use Rattle.std.proofs.lemmas.Option.{same_Some}
 use Rattle.std.proofs.lemmas.Bool.{false≢true, or_left, or_right}
 use Rattle.xs_stream.specs.Id.{is_below, is_same_id, has_id}
 use Rattle.xs_stream.proofs.Order.{is_same-eq}
 use Rattle.xs_group.specs.declared.claims.Claim.{Claim}
-use Rattle.xs_group.specs.Claims.{Rule, row_at, is_idle, is_removed, is_taken, claim_among, without_repeats, claim_by_ids, from_start, is_hit, scanned_part, scan_of, row_after_claim, claimed_row}
-use Rattle.xs_group.specs.State.{RowState, is_same_name, new_ids, first_row, own_ids, redelivered_row, row_after_reread, unless_acked, unless_owned}
+use Rattle.xs_group.specs.Claims.{Rule, row_at, is_idle, is_removed, is_taken, claim_among, without_repeats}
+use Rattle.xs_group.specs.Claims.{claim_by_ids, from_start, is_hit, scanned_part, scan_of, row_after_claim, claimed_row}
+use Rattle.xs_group.specs.State.{RowState, is_same_name, new_ids, first_row, own_ids, redelivered_row, row_after_reread}
+use Rattle.xs_group.specs.State.{unless_acked, unless_owned}
 use Rattle.xs_keys.specs.Terms.{with_some, Id}
-use Rattle.xs_keys.specs.GroupAsk.{GroupAsk, read_new, read_own, acknowledge, create_consumer, delete_consumer, claim, auto_claim, new_ids_of_ask, claim_of_ask, consumer_of, keeps_pending, is_acknowledgement_of, deletes_consumer, row_after_ask}
-use Rattle.xs_keys.specs.GroupEvent.{GroupEvent, delivered_ids, cursor, new_ids_of_event, rows_among, pending_row_at, rows}
-use Rattle.xs_keys.specs.Owner.{is_made_pending_by, is_taken_by_claim, is_assigned_by, last_assigned, is_deletion_of, settles_entry, is_settled, owner}
+use Rattle.xs_keys.specs.GroupAsk.{GroupAsk, read_new, read_own, acknowledge, create_consumer, delete_consumer, claim}
+use Rattle.xs_keys.specs.GroupAsk.{auto_claim, new_ids_of_ask, claim_of_ask, consumer_of, keeps_pending}
+use Rattle.xs_keys.specs.GroupAsk.{is_acknowledgement_of, deletes_consumer, row_after_ask}
+use Rattle.xs_keys.specs.GroupEvent.{GroupEvent, delivered_ids, cursor, new_ids_of_event, rows_among, pending_row_at}
+use Rattle.xs_keys.specs.GroupEvent.{rows}
+use Rattle.xs_keys.specs.Owner.{is_made_pending_by, is_taken_by_claim, is_assigned_by, last_assigned, is_deletion_of}
+use Rattle.xs_keys.specs.Owner.{settles_entry, is_settled, owner}
 use Rattle.xs_keys.specs.EachOwner.{OwnerAfter, NoOwnerAfter, is_settled_in, OwnedUntilSettled, ChangesByClaims}
 use Rattle.xs_keys.proofs.Truths.{first_of, second_of, none_or, or_none}
 use Rattle.xs_keys.proofs.IdLists.{has_id-append, has_id-where, not_above, not_among}

@@ -1,9 +1,11 @@
 -- Entries that a stream lends are those that are looked for by their ids.
-use Rattle.std.proofs.Common.{◌≡◌, ℕ, ◌&&◌, eqb, arith, Bool, true, false, List, [], ◌∷◌, ◌++◌, filter, take, map, reverse, Option, Some, None, sym, ap, ◌∙◌, refl}
+use Rattle.std.proofs.Common.{◌≡◌, ℕ, ◌&&◌, eqb, arith, Bool, true, false, List, [], ◌∷◌, ◌++◌, filter, take, map}
+use Rattle.std.proofs.Common.{reverse, Option, Some, None, sym, ap, ◌∙◌, refl}
 use Rattle.std.proofs.lemmas.List.{take-map, reverse-append, map-append}
 use Rattle.std.proofs.lemmas.Bool.Decides.{nat_tests}
 use Rattle.xs_stream.specs.declared.range.Range.{Range}
-use Rattle.xs_stream.specs.StreamContent.{ids_of, fields_at, Ascends, is_within, ids_within, entries_within, limited, IsEntryOf, AreEntriesOf}
+use Rattle.xs_stream.specs.StreamContent.{ids_of, fields_at, Ascends, is_within, ids_within, entries_within, limited}
+use Rattle.xs_stream.specs.StreamContent.{IsEntryOf, AreEntriesOf}
 use Rattle.xs_stream.proofs.Lending.{within-found}
 use Rattle.xs_stream.proofs.InOrder.{ids_of-filter}
 use Rattle.xs_keys.specs.Terms.{Id, Field}

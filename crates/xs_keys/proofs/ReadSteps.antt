@@ -1,16 +1,20 @@
 -- Reads of groups: what one leaves, how several go on, and how they are taken back.
-use Rattle.std.proofs.Common.{append_assoc, length-append, subst, ◌≡◌, ◌&&◌, ℕ, ◌+◌, ◌<◌, ◌≤◌, Bool, true, false, cond, List, [], ◌∷◌, ◌++◌, Option, Some, None, is_some, length, get_or, sym, ap, ◌∙◌, refl, arith}
+use Rattle.std.proofs.Common.{append_assoc, length-append, subst, ◌≡◌, ◌&&◌, ℕ, ◌+◌, ◌<◌, ◌≤◌, Bool, true, false, cond}
+use Rattle.std.proofs.Common.{List, [], ◌∷◌, ◌++◌, Option, Some, None, is_some, length, get_or, sym, ap, ◌∙◌, refl}
+use Rattle.std.proofs.Common.{arith}
 use Rattle.std.proofs.lemmas.List.Concat.{flat_map-append}
 use Rattle.std.proofs.lemmas.Bool.{false≢true}
 use Rattle.xs_group.specs.declared.delivery.Delivery.{Delivery}
 use Rattle.xs_group.specs.State.{GroupState, Rows, is_same_name, new_ids}
 use Rattle.xs_group.specs.Deliveries.{row_ids, new_rows, shown_rows, IsMade}
-use Rattle.xs_keys.specs.Terms.{flat_map, list_all, option_map_or, NameMap, get, insert, Id, Field, ids_of, ReadGroupCommand, ReadOne, ReadFrom, New, After}
+use Rattle.xs_keys.specs.Terms.{flat_map, list_all, option_map_or, NameMap, get, insert, Id, Field, ids_of}
+use Rattle.xs_keys.specs.Terms.{ReadGroupCommand, ReadOne, ReadFrom, New, After}
 use Rattle.xs_keys.specs.declared.xreadgroup.Served.{Served}
 use Rattle.xs_keys.specs.GroupAsk.{GroupAsk}
 use Rattle.xs_keys.specs.GroupLife.{ask_of_read}
 use Rattle.xs_keys.specs.Content.{Content, KeyState}
-use Rattle.xs_keys.specs.ContentAfter.{content_after_ask, content_after_reads, group_after, with_group, group_in, entries_in}
+use Rattle.xs_keys.specs.ContentAfter.{content_after_ask, content_after_reads, group_after, with_group, group_in}
+use Rattle.xs_keys.specs.ContentAfter.{entries_in}
 use Rattle.xs_resp.specs.Token.{Token}
 use Rattle.xs_resp.specs.ReplyItems.{tokens_of}
 use Rattle.xs_keys.specs.Reply.{parts_of_read, parts}

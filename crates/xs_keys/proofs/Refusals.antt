@@ -1,5 +1,6 @@
 -- What is refused changes nothing.
-use Rattle.std.proofs.Common.{◌≡◌, ◌≢◌, ◌<◌, ℕ, eqb, ltb, Bool, true, false, cond, List, [], ◌∷◌, Ordering, Option, Some, None, Result, Ok, Err, sym, ap, ◌∙◌, refl, arith}
+use Rattle.std.proofs.Common.{◌≡◌, ◌≢◌, ◌<◌, ℕ, eqb, ltb, Bool, true, false, cond, List, [], ◌∷◌, Ordering, Option}
+use Rattle.std.proofs.Common.{Some, None, Result, Ok, Err, sym, ap, ◌∙◌, refl, arith}
 use Rattle.std.specs.Ordering.{nat_cmp, is_lt, ordering_then}
 use Rattle.std.specs.declared.cmp.Ordering.TheVariants.{Less, Equal, Greater}
 use Rattle.std.proofs.lemmas.Bool.{false≢true}
@@ -9,13 +10,21 @@ use Rattle.xs_stream.specs.Id.{id_cmp, is_below, zero_id, assigned}
 use Rattle.xs_stream.proofs.Order.{same_id}
 use Rattle.xs_command.specs.WellFormed.{IsAddId, IsWellFormed}
 use Rattle.xs_command.specs.declared.command.AddCommand.{AddCommand}
-use Rattle.xs_keys.specs.Terms.{option_map_or, get, has_key, insert, remove, Id, AddId, AddError, Field, Trim, StreamState, ids_of, GroupState, has_name, new_group, claim_by_ids, scan_of, owned_count, Reply, Simple, Error, Int, NullBulk, Okay, Busy, NoGroup, Command, Ping, Quit, Add, Delete, TrimTo, Len, Scan, GroupCreate, GroupDestroy, ConsumerCreate, ConsumerDelete, ReadGroup, Ack, Pending, PendingRows, Claim, AutoClaim, DropKeys, GroupCreateCommand, ReadGroupCommand}
+use Rattle.xs_keys.specs.Terms.{option_map_or, get, has_key, insert, remove, Id, AddId, AddError, Field, Trim}
+use Rattle.xs_keys.specs.Terms.{StreamState, ids_of, GroupState, has_name, new_group, claim_by_ids, scan_of}
+use Rattle.xs_keys.specs.Terms.{owned_count, Reply, Simple, Error, Int, NullBulk, Okay, Busy, NoGroup, Command, Ping}
+use Rattle.xs_keys.specs.Terms.{Quit, Add, Delete, TrimTo, Len, Scan, GroupCreate, GroupDestroy, ConsumerCreate}
+use Rattle.xs_keys.specs.Terms.{ConsumerDelete, ReadGroup, Ack, Pending, PendingRows, Claim, AutoClaim, DropKeys}
+use Rattle.xs_keys.specs.Terms.{GroupCreateCommand, ReadGroupCommand}
 use Rattle.xs_keys.specs.Life.{add_entry}
 use Rattle.xs_keys.specs.GroupAsk.{GroupAsk, create_consumer, delete_consumer, claim, auto_claim}
 use Rattle.xs_keys.specs.GroupLife.{starting_id}
 use Rattle.xs_keys.specs.Content.{Content, KeyState}
-use Rattle.xs_keys.specs.ContentAfter.{stream_with, content_after_stream_event, content_after_ask, with_group, content_after_create, key_or_new, group_in, entries_in, has_all_groups_in, content_after_reads, content_after}
-use Rattle.xs_keys.specs.ReplyParts.{array_or_null, assigned_reply, reply_of_group, reply_of_key, taken_reply, scan_reply}
+use Rattle.xs_keys.specs.ContentAfter.{stream_with, content_after_stream_event, content_after_ask, with_group}
+use Rattle.xs_keys.specs.ContentAfter.{content_after_create, key_or_new, group_in, entries_in, has_all_groups_in}
+use Rattle.xs_keys.specs.ContentAfter.{content_after_reads, content_after}
+use Rattle.xs_keys.specs.ReplyParts.{array_or_null, assigned_reply, reply_of_group, reply_of_key, taken_reply}
+use Rattle.xs_keys.specs.ReplyParts.{scan_reply}
 use Rattle.xs_keys.specs.Reply.{parts, reply}
 use Rattle.xs_keys.specs.Step.{is_error, IsUnchangedIfRefused}
 use Rattle.xs_keys.proofs.AskSteps.{asked-missing}

@@ -1,5 +1,6 @@
 -- The rows that XPENDING tells are those of what is pending.
-use Rattle.std.proofs.Common.{◌≡◌, zero, suc, ℕ, ◌≤◌, ◌-◌, Bool, true, false, cond, ◌&&◌, ◌||◌, List, [], ◌∷◌, filter, map, take, Option, Some, None, is_some, sym, ap, subst, ◌∙◌, refl, arith}
+use Rattle.std.proofs.Common.{◌≡◌, zero, suc, ℕ, ◌≤◌, ◌-◌, Bool, true, false, cond, ◌&&◌, ◌||◌, List, [], ◌∷◌, filter}
+use Rattle.std.proofs.Common.{map, take, Option, Some, None, is_some, sym, ap, subst, ◌∙◌, refl, arith}
 use Rattle.std.specs.Prelude.{nat_le}
 use Rattle.std.proofs.lemmas.Bool.{false≢true, and_from}
 use Rattle.std.proofs.lemmas.Bool.Decides.{nat_tests}

@@ -1,5 +1,7 @@
 -- The replies to reads and claims tell what is delivered and taken, each entry as it was given.
-use Rattle.std.proofs.Common.{◌≡◌, ◌∙◌, inl, inr, ℕ, ◌+◌, ◌-◌, ◌≤◌, Bool, true, false, not, cond, ◌&&◌, ◌||◌, List, [], ◌∷◌, ◌++◌, length, Option, Some, None, Result, Ok, Err, is_some, filter, map, take, bytes_eq, sym, ap, subst, refl, arith}
+use Rattle.std.proofs.Common.{◌≡◌, ◌∙◌, inl, inr, ℕ, ◌+◌, ◌-◌, ◌≤◌, Bool, true, false, not, cond, ◌&&◌, ◌||◌, List, []}
+use Rattle.std.proofs.Common.{◌∷◌, ◌++◌, length, Option, Some, None, Result, Ok, Err, is_some, filter, map, take}
+use Rattle.std.proofs.Common.{bytes_eq, sym, ap, subst, refl, arith}
 use Rattle.std.proofs.lemmas.Option.{same_Some}
 use Rattle.std.proofs.lemmas.List.{append-nil, length-map}
 use Rattle.std.proofs.lemmas.Bool.{false≢true, or_right, and_from}
@@ -7,27 +9,38 @@ use Rattle.std.specs.List.{flat_map, list_all, list_any, IsDistinct, AllByRecurs
 use Rattle.xs_stream.specs.Id.{is_below, is_same_id, has_id, zero_id, assigned}
 use Rattle.xs_stream.proofs.InOrder.{ids_of-filter, length-filter-le}
 use Rattle.xs_stream.proofs.Order.{is_same-eq, is_same-refl}
-use Rattle.xs_group.specs.State.{GroupState, RowState, is_same_name, new_ids, own_ids, owned_ids, group_after_ack, unless_acked}
+use Rattle.xs_group.specs.State.{GroupState, RowState, is_same_name, new_ids, own_ids, owned_ids, group_after_ack}
+use Rattle.xs_group.specs.State.{unless_acked}
 use Rattle.xs_group.specs.declared.claims.Scan as scans
-use Rattle.xs_group.specs.Claims.{Rule, claim_by_ids, scan_of, claim_among, without_repeats, from_start, scanned_part, is_hit, is_taken, is_idle, row_at}
+use Rattle.xs_group.specs.Claims.{Rule, claim_by_ids, scan_of, claim_among, without_repeats, from_start, scanned_part}
+use Rattle.xs_group.specs.Claims.{is_hit, is_taken, is_idle, row_at}
 use Rattle.xs_group.specs.Report.{is_selected, pending_row, summary_of}
 use Rattle.xs_group.proofs.RemovedRows.{length-change}
 use Rattle.xs_keys.specs.Event.{History}
 use Rattle.xs_command.specs.WellFormed.{IsWellFormed, keys_of}
 use Rattle.xs_command.specs.declared.command.AddCommand.{AddCommand}
-use Rattle.xs_keys.specs.Terms.{option_map, option_map_or, get, Id, Field, AddError, StreamState, Ascends, ids_of, fields_at, is_trimmed, limited, Reply, NullBulk, NullArray, Error, Int, NoGroup, Command, Ping, Quit, Add, Delete, TrimTo, Len, Scan, GroupCreate, GroupDestroy, ConsumerCreate, ConsumerDelete, ReadGroup, Ack, Pending, PendingRows, Claim, AutoClaim, DropKeys, ReadGroupCommand, ReadOne, ReadFrom, New, After}
-use Rattle.xs_keys.specs.Life.{StreamEvent, add_entry, delete_entries, trim_entries, life_or_new, key_life, entry_of, added_in, top_of, present_entries, is_present, stream_of}
+use Rattle.xs_keys.specs.Terms.{option_map, option_map_or, get, Id, Field, AddError, StreamState, Ascends, ids_of}
+use Rattle.xs_keys.specs.Terms.{fields_at, is_trimmed, limited, Reply, NullBulk, NullArray, Error, Int, NoGroup}
+use Rattle.xs_keys.specs.Terms.{Command, Ping, Quit, Add, Delete, TrimTo, Len, Scan, GroupCreate, GroupDestroy}
+use Rattle.xs_keys.specs.Terms.{ConsumerCreate, ConsumerDelete, ReadGroup, Ack, Pending, PendingRows, Claim, AutoClaim}
+use Rattle.xs_keys.specs.Terms.{DropKeys, ReadGroupCommand, ReadOne, ReadFrom, New, After}
+use Rattle.xs_keys.specs.Life.{StreamEvent, add_entry, delete_entries, trim_entries, life_or_new, key_life, entry_of}
+use Rattle.xs_keys.specs.Life.{added_in, top_of, present_entries, is_present, stream_of}
 use Rattle.xs_keys.specs.GroupEvent.{delivered_ids, cursor, pending_row_at, rows}
 use Rattle.xs_keys.specs.Owner.{owner}
 use Rattle.xs_keys.specs.GroupAsk.{claim, auto_claim, acknowledge}
-use Rattle.xs_keys.specs.GroupLife.{GroupLife, group_life, life_after_ask, present_in, is_new, reads_new_entries, has_all_groups, ids_delivered_by, ask_of_read}
+use Rattle.xs_keys.specs.GroupLife.{GroupLife, group_life, life_after_ask, present_in, is_new, reads_new_entries}
+use Rattle.xs_keys.specs.GroupLife.{has_all_groups, ids_delivered_by, ask_of_read}
 use Rattle.xs_keys.specs.Content.{Content, KeyState, IsContent, IsGroup, GroupHolds, KeyHolds}
 use Rattle.xs_keys.specs.ContentAfter.{key_or_new, stream_after, group_in, entries_in, content_after_ask}
 use Rattle.xs_keys.specs.Reply.{reply, parts_of_read, parts, removed_count}
-use Rattle.xs_keys.specs.ReplyParts.{assigned_reply, array, array_or_null, id_reply, field_replies, entry_reply, stream_part, new_part, reply_of_group, owner_reply, summary_reply, row_reply, taken_reply, scan_reply}
+use Rattle.xs_keys.specs.ReplyParts.{assigned_reply, array, array_or_null, id_reply, field_replies, entry_reply}
+use Rattle.xs_keys.specs.ReplyParts.{stream_part, new_part, reply_of_group, owner_reply, summary_reply, row_reply}
+use Rattle.xs_keys.specs.ReplyParts.{taken_reply, scan_reply}
 use Rattle.xs_keys.specs.Telling.{TellsEntry, TellsEntryOrNull, TellsEach, AreFirst}
 use Rattle.xs_keys.specs.Life.{added_at}
-use Rattle.xs_keys.specs.RepliesTell.{TellsAddition, TellsFewer, present_count, pending_count, scan_at, TellsTaken, TellsRows, IsTold}
+use Rattle.xs_keys.specs.RepliesTell.{TellsAddition, TellsFewer, present_count, pending_count, scan_at, TellsTaken}
+use Rattle.xs_keys.specs.RepliesTell.{TellsRows, IsTold}
 use Rattle.xs_keys.specs.ReadsTell.{TellsNew, IsOwnPast, TellsRead, TellsReads}
 use Rattle.xs_keys.proofs.Truths.{first_of, second_of}
 use Rattle.xs_keys.proofs.IdLists.{has_id-where, ascends-where}

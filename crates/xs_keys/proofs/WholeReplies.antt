@@ -2,11 +2,14 @@
 use Rattle.std.proofs.Common.{ℕ, decimal, Bool, true, false, List, [], ◌∷◌, map, Option, Some, None}
 use Rattle.xs_resp.specs.WholeReplies.{IsWhole, AreWhole}
 use Rattle.xs_resp.proofs.Wholeness.{items-whole, all-whole, whole-append}
-use Rattle.xs_keys.specs.Terms.{GroupState, option_map_or, get, OwnerCount, GroupSummary, PendingRow, ReadGroupCommand, ReadOne, ReadFrom, New, After, new_ids, Bulk, Int, NullBulk, NullArray, flat_map, Id, Field, fields_at, ids_of}
+use Rattle.xs_keys.specs.Terms.{GroupState, option_map_or, get, OwnerCount, GroupSummary, PendingRow, ReadGroupCommand}
+use Rattle.xs_keys.specs.Terms.{ReadOne, ReadFrom, New, After, new_ids, Bulk, Int, NullBulk, NullArray, flat_map, Id}
+use Rattle.xs_keys.specs.Terms.{Field, fields_at, ids_of}
 use Rattle.xs_keys.specs.GroupLife.{ask_of_read}
 use Rattle.xs_keys.specs.Content.{Content}
 use Rattle.xs_keys.specs.ContentAfter.{content_after_ask, group_in, entries_in}
-use Rattle.xs_keys.specs.ReplyParts.{array, array_or_null, id_reply, field_replies, entry_reply, present_reply, entries_reply, stream_part, new_part, owner_reply, row_reply, taken_reply}
+use Rattle.xs_keys.specs.ReplyParts.{array, array_or_null, id_reply, field_replies, entry_reply, present_reply}
+use Rattle.xs_keys.specs.ReplyParts.{entries_reply, stream_part, new_part, owner_reply, row_reply, taken_reply}
 use Rattle.xs_keys.specs.Reply.{parts_of_read, parts}
 
 fields-whole : (fields : List Field) → AreWhole (flat_map field_replies fields)

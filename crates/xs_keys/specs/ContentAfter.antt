@@ -1,14 +1,17 @@
 -- The content that each command leaves. (The pages of the commands.)
 use Rattle.std.specs.Prelude.{ℕ, List, Option, Some, None, Bool, [], ◌∷◌, ◌++◌, option_and_then, Result, Ok, Err}
 use Rattle.std.specs.Prelude.{is_some, if◌then◌else◌}
-use Rattle.xs_keys.specs.Terms.{list_all, option_or, option_map_or, get, Id, StreamState, ids_of, GroupState, Command, empty}
+use Rattle.xs_keys.specs.Terms.{list_all, option_or, option_map_or, get, Id, StreamState, ids_of, GroupState, Command}
+use Rattle.xs_keys.specs.Terms.{empty}
 use Rattle.xs_keys.specs.Terms.{has_key, insert, remove, Field, Trim, AddError, zero_id, assigned, trimmed, without}
-use Rattle.xs_keys.specs.Terms.{with_consumer, group_after_delivery, group_after_reread, claim_by_ids, scan_of, group_after_claim, new_group, group_after_ack}
+use Rattle.xs_keys.specs.Terms.{with_consumer, group_after_delivery, group_after_reread, claim_by_ids, scan_of}
+use Rattle.xs_keys.specs.Terms.{group_after_claim, new_group, group_after_ack}
 use Rattle.xs_keys.specs.Terms.{without_consumer, Add, Delete, TrimTo, GroupCreate, GroupDestroy, ConsumerCreate}
 use Rattle.xs_keys.specs.Terms.{ConsumerDelete, ReadGroup, Ack, Claim, AutoClaim, DropKeys, GroupCreateCommand}
 use Rattle.xs_keys.specs.Terms.{ReadGroupCommand, ReadOne}
 use Rattle.xs_keys.specs.Life.{StreamEvent, add_entry, delete_entries, trim_entries}
-use Rattle.xs_keys.specs.GroupAsk.{GroupAsk, read_new, read_own, acknowledge, create_consumer, delete_consumer, claim, auto_claim}
+use Rattle.xs_keys.specs.GroupAsk.{GroupAsk, read_new, read_own, acknowledge, create_consumer, delete_consumer, claim}
+use Rattle.xs_keys.specs.GroupAsk.{auto_claim}
 use Rattle.xs_keys.specs.GroupLife.{starting_id, ask_of_read}
 use Rattle.xs_keys.specs.Event.{Bytes, Entries}
 use Rattle.xs_keys.specs.Content.{KeyState, Content}

@@ -3,7 +3,8 @@
 use Rattle.std.specs.Prelude.{◌+◌, Bool, false, ◌&&◌, ◌||◌, List, nat_le, Option, Some, None}
 use Rattle.xs_stream.specs.StreamContent.{count_above}
 use Rattle.xs_stream.specs.declared.trim.Trim.TheVariants.{MaxLen, MinId}
-use Rattle.xs_keys.specs.Terms.{option_map_or, Id, Trim, is_below, has_id, is_trimmed, is_same_name, Command, Add, Delete}
+use Rattle.xs_keys.specs.Terms.{option_map_or, Id, Trim, is_below, has_id, is_trimmed, is_same_name, Command, Add}
+use Rattle.xs_keys.specs.Terms.{Delete}
 use Rattle.xs_keys.specs.Terms.{TrimTo, GroupCreate, GroupDestroy, ConsumerDelete, ReadGroup, Ack, Claim, AutoClaim}
 use Rattle.xs_keys.specs.Terms.{DropKeys}
 use Rattle.xs_keys.specs.Life.{is_listed}

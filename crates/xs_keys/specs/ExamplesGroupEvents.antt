@@ -8,7 +8,8 @@ use Rattle.xs_stream.specs.Examples.{at}
 use Rattle.xs_group.specs.declared.claims.ClaimTime.TheVariants as time
 use Rattle.xs_group.specs.Claims.{Rule}
 use Rattle.xs_group.specs.ExamplesRead.{pending}
-use Rattle.xs_keys.specs.GroupAsk.{GroupAsk, read_new, read_own, acknowledge, create_consumer, delete_consumer, claim, auto_claim}
+use Rattle.xs_keys.specs.GroupAsk.{GroupAsk, read_new, read_own, acknowledge, create_consumer, delete_consumer, claim}
+use Rattle.xs_keys.specs.GroupAsk.{auto_claim}
 use Rattle.xs_keys.specs.GroupEvent.{GroupEvent}
 use Rattle.xs_keys.specs.GroupEvent.{delivered_ids, cursor}
 use Rattle.xs_keys.specs.GroupEvent.{is_turn_of, is_consumer, rows}

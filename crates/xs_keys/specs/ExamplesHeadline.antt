@@ -9,7 +9,8 @@ use Rattle.xs_stream.specs.Examples.{at}
 use Rattle.xs_group.specs.State.{new_group}
 use Rattle.xs_command.specs.ExamplesStreams.{field}
 use Rattle.xs_command.specs.declared.command.AddCommand.{AddCommand}
-use Rattle.xs_keys.specs.Terms.{StreamState, Simple, Error, Int, NullBulk, Okay, Pong, Memory, NoKey, Busy, Command, Ping}
+use Rattle.xs_keys.specs.Terms.{StreamState, Simple, Error, Int, NullBulk, Okay, Pong, Memory, NoKey, Busy, Command}
+use Rattle.xs_keys.specs.Terms.{Ping}
 use Rattle.xs_keys.specs.Terms.{GroupCreateCommand, At}
 use Rattle.xs_keys.specs.GroupEvent.{GroupEvent}
 use Rattle.xs_keys.specs.GroupAsk.{read_new, acknowledge, create_consumer}

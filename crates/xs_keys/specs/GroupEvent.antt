@@ -5,7 +5,8 @@ use Rattle.xs_group.specs.declared.claims.Claim.{Claim}
 use Rattle.xs_keys.specs.Terms.{Id, RowState, with_some, is_below}
 use Rattle.xs_keys.specs.Life.{greatest}
 use Rattle.xs_keys.specs.Event.{Bytes, PendingEntries}
-use Rattle.xs_keys.specs.GroupAsk.{GroupAsk, new_ids_of_ask, claim_of_ask, scan_end_of_ask, adds_consumer, deletes_consumer}
+use Rattle.xs_keys.specs.GroupAsk.{GroupAsk, new_ids_of_ask, claim_of_ask, scan_end_of_ask, adds_consumer}
+use Rattle.xs_keys.specs.GroupAsk.{deletes_consumer}
 use Rattle.xs_keys.specs.GroupAsk.{row_after_ask}
 
 pub record GroupEvent : Type 0 where

@@ -11,7 +11,8 @@ use Rattle.xs_keys.specs.GroupLife.{present_in}
 use Rattle.xs_keys.specs.Event.{Bytes, Event, History}
 use Rattle.xs_keys.specs.JobPlace.{Place, before_start, waiting, dropped, handed_out, pending, settled, place_after}
 use Rattle.xs_keys.specs.Effect.{deletes_entry, may_trim_entry, reads_new_entries_in, with_noack, claims_by_id}
-use Rattle.xs_keys.specs.Effect.{may_claim_entry, consumer_of_command, acknowledges_entry, removes_consumer, may_begin_job}
+use Rattle.xs_keys.specs.Effect.{may_claim_entry, consumer_of_command, acknowledges_entry, removes_consumer}
+use Rattle.xs_keys.specs.Effect.{may_begin_job}
 use Rattle.xs_keys.specs.Effect.{ends_group}
 
 -- the arrows: a command that meets these ids in the stream may lead an entry from here to there

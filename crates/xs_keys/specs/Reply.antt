@@ -4,14 +4,17 @@ use Rattle.xs_keys.specs.Terms.{option_map_or, get, has_key, remove, assigned, i
 use Rattle.xs_keys.specs.Terms.{Busy, Reply, Simple, Error, Int, Bulk, NullBulk, Okay, Pong, Command, Ping, Quit, Add}
 use Rattle.xs_keys.specs.Terms.{Delete, TrimTo, Len, Scan, GroupCreate, GroupDestroy, ConsumerCreate, ConsumerDelete}
 use Rattle.xs_keys.specs.Terms.{ReadGroup, Ack, Pending, PendingRows, Claim, AutoClaim, DropKeys, ReadGroupCommand}
-use Rattle.xs_keys.specs.Terms.{ReadOne, ReadFrom, New, After, GroupState, has_name, new_ids, own_ids, claim_by_ids, scan_of}
+use Rattle.xs_keys.specs.Terms.{ReadOne, ReadFrom, New, After, GroupState, has_name, new_ids, own_ids, claim_by_ids}
+use Rattle.xs_keys.specs.Terms.{scan_of}
 use Rattle.xs_keys.specs.Terms.{group_after_ack, owned_count, summary_of, pending_of}
 use Rattle.xs_keys.specs.Life.{StreamEvent, delete_entries, trim_entries}
 use Rattle.xs_keys.specs.GroupLife.{ask_of_read}
 use Rattle.xs_keys.specs.Content.{Content, KeyState}
-use Rattle.xs_keys.specs.ContentAfter.{stream_after, key_or_new, content_after_ask, has_all_groups_in, group_in, entries_in}
+use Rattle.xs_keys.specs.ContentAfter.{stream_after, key_or_new, content_after_ask, has_all_groups_in, group_in}
+use Rattle.xs_keys.specs.ContentAfter.{entries_in}
 use Rattle.xs_keys.specs.Event.{Bytes, Entries}
-use Rattle.xs_keys.specs.ReplyParts.{array, array_or_null, entries_reply, assigned_reply, reply_of_group, reply_of_key, stream_part}
+use Rattle.xs_keys.specs.ReplyParts.{array, array_or_null, entries_reply, assigned_reply, reply_of_group, reply_of_key}
+use Rattle.xs_keys.specs.ReplyParts.{stream_part}
 use Rattle.xs_keys.specs.ReplyParts.{new_part, summary_reply, row_reply, taken_reply, scan_reply}
 
 -- XDEL and XTRIM: how many entries a change removes; a missing key has none

@@ -1,5 +1,6 @@
 -- Entries in the order of their keys.
-use Rattle.std.proofs.Common.{◌≡◌, ℕ, List, [], ◌∷◌, ◌++◌, Bool, true, false, cond, Some, is_some, slice_get, ◌||◌, Result, Ok, Err, OnOk, OnErr, Ordering, BTreeMap, refl, sym, ap, subst, ◌∙◌}
+use Rattle.std.proofs.Common.{◌≡◌, ℕ, List, [], ◌∷◌, ◌++◌, Bool, true, false, cond, Some, is_some, slice_get, ◌||◌}
+use Rattle.std.proofs.Common.{Result, Ok, Err, OnOk, OnErr, Ordering, BTreeMap, refl, sym, ap, subst, ◌∙◌}
 use Rattle.std.specs.declared.cmp.Ordering.TheVariants.{Less}
 use Rattle.std.specs.Ordering.{match_ordering}
 use Rattle.std.specs.Cmp.{IsTotalOrder}

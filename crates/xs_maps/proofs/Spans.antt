@@ -1,5 +1,6 @@
 -- The part of entries that lies in a range.
-use Rattle.std.proofs.Common.{◌≡◌, ℕ, zero, suc, ◌<◌, List, [], ◌∷◌, length, get_or, take, drop, true, false, refl, sym, ap, ◌∙◌, arith, Ordering}
+use Rattle.std.proofs.Common.{◌≡◌, ℕ, zero, suc, ◌<◌, List, [], ◌∷◌, length, get_or, take, drop, true, false, refl, sym}
+use Rattle.std.proofs.Common.{ap, ◌∙◌, arith, Ordering}
 use mathlib.Core.Bool.{true≢false}
 use Rattle.std.specs.declared.cmp.Ordering.TheVariants.{Greater}
 use Rattle.std.specs.Ordering.{is_le}

@@ -1,5 +1,6 @@
 //! A map in the order of its keys.
-ghost use Rattle.std.specs.Prelude.{◌≡◌, ◌<◌, ◌-◌, ◌^◌, ◌↔◌, length, is_some, slice_get, Some, None, IsSome, IfSome, IfNone, OnOk, OnErr};
+ghost use Rattle.std.specs.Prelude.{◌≡◌, ◌<◌, ◌-◌, ◌^◌, ◌↔◌, length, is_some, slice_get, Some, None, IsSome, IfSome};
+ghost use Rattle.std.specs.Prelude.{IfNone, OnOk, OnErr};
 ghost use Rattle.std.specs.BTreeMap.Range.{entries_between, IsLeBy, IsLtBy};
 ghost use Rattle.std.specs.Option.{option_copied, option_copied_mut};
 ghost use Rattle.std.specs.Borrow.{sem};

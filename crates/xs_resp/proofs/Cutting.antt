@@ -1,5 +1,6 @@
 -- It doesn't matter how the bytes are cut.
-use Rattle.std.proofs.Common.{◌≡◌, ℕ, List, [], ◌∷◌, ◌++◌, drop, Some, None, Ok, Err, refl, sym, ap, ◌∙◌, subst, append_assoc, ◌<◌, ◌≤◌, zero, suc, length, inl, inr, arith, length-drop}
+use Rattle.std.proofs.Common.{◌≡◌, ℕ, List, [], ◌∷◌, ◌++◌, drop, Some, None, Ok, Err, refl, sym, ap, ◌∙◌, subst}
+use Rattle.std.proofs.Common.{append_assoc, ◌<◌, ◌≤◌, zero, suc, length, inl, inr, arith, length-drop}
 use Rattle.std.proofs.lemmas.List.{length-take-le, drop-append-le, append-nil}
 use Rattle.std.specs.List.{concat}
 use Rattle.xs_resp.specs.Outcome.{Outcome, Keeps}

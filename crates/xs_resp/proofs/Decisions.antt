@@ -1,6 +1,8 @@
 -- Requests, by the grammar and as they are read.
-use Rattle.std.proofs.Common.{◌≡◌, ℕ, ◌+◌, ◌-◌, ◌≤◌, suc, List, [], ◌∷◌, ◌++◌, length, take, drop, Some, None, Ok, Err, inl, inr, lit<, refl, sym, ap, ◌∙◌, subst, arith, append_assoc, length-append}
-use Rattle.std.proofs.lemmas.List.{take_at, drop_at, take-append-drop, append-nil, drop-append-le, length-take-le, nil_from_length}
+use Rattle.std.proofs.Common.{◌≡◌, ℕ, ◌+◌, ◌-◌, ◌≤◌, suc, List, [], ◌∷◌, ◌++◌, length, take, drop, Some, None, Ok, Err}
+use Rattle.std.proofs.Common.{inl, inr, lit<, refl, sym, ap, ◌∙◌, subst, arith, append_assoc, length-append}
+use Rattle.std.proofs.lemmas.List.{take_at, drop_at, take-append-drop, append-nil, drop-append-le, length-take-le}
+use Rattle.std.proofs.lemmas.List.{nil_from_length}
 use Rattle.xs_resp.specs.declared.header.Part.TheVariants.{Count}
 use Rattle.xs_resp.specs.declared.header.Header.{Header}
 use Rattle.xs_resp.specs.declared.read_fault.Wrong.{Wrong}
@@ -10,7 +12,8 @@ use Rattle.xs_resp.specs.Outcome.{Outcome, ◌>>=◌, Keeps}
 use Rattle.xs_resp.specs.Header.{header}
 use Rattle.xs_resp.specs.declared.word.Span.{Span}
 use Rattle.xs_resp.specs.Reading.{Found, text_in, after, words, request}
-use Rattle.xs_resp.specs.Grammar.{sent_words, spelling, null_spelling, AreSizes, Spells, BeginsLine, FaultBehind, FaultIn, IsOpen}
+use Rattle.xs_resp.specs.Grammar.{sent_words, spelling, null_spelling, AreSizes, Spells, BeginsLine, FaultBehind}
+use Rattle.xs_resp.specs.Grammar.{FaultIn, IsOpen}
 use Rattle.xs_resp.proofs.Outcomes.{bind-ok, bind-err, cases-outcome, Keeps-bind, after-keeps}
 use Rattle.xs_resp.proofs.Reading.{header_ends}
 use Rattle.xs_resp.proofs.DecisionStays.{header-keeps}

@@ -1,5 +1,6 @@
 -- A token that is read at its place.
-use Rattle.std.proofs.Common.{◌≡◌, ℕ, zero, suc, ◌+◌, ◌<◌, ◌≤◌, get_or, List, [], ◌∷◌, length, take, drop, refl, sym, ap, ◌∙◌, arith, length-append, length-drop, length-take-le}
+use Rattle.std.proofs.Common.{◌≡◌, ℕ, zero, suc, ◌+◌, ◌<◌, ◌≤◌, get_or, List, [], ◌∷◌, length, take, drop, refl, sym}
+use Rattle.std.proofs.Common.{ap, ◌∙◌, arith, length-append, length-drop, length-take-le}
 use Rattle.std.proofs.lemmas.List.{drop-drop}
 use Rattle.xs_resp.specs.declared.mark.Mark.{Mark}
 use Rattle.xs_resp.specs.declared.mark.Mark.TheVariants.{Simple, Error, Int, Bulk, NullBulk, Array, NullArray}

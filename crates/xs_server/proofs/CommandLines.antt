@@ -1,14 +1,21 @@
 -- Which words the command line takes, of all that there are.
-use Rattle.std.proofs.Common.{◌≡◌, ℕ, Bool, true, false, cond, ◌||◌, List, [], ◌∷◌, length, Option, Some, None, inl, inr, ◌⊎◌, sym, ap, ◌∙◌, subst, refl, codes}
+use Rattle.std.proofs.Common.{◌≡◌, ℕ, Bool, true, false, cond, ◌||◌, List, [], ◌∷◌, length, Option, Some, None, inl}
+use Rattle.std.proofs.Common.{inr, ◌⊎◌, sym, ap, ◌∙◌, subst, refl, codes}
 use Rattle.std.specs.Prelude.{◌&&◌, not, is_some, drop, find, slice_get, encode_utf8}
 use Rattle.std.specs.Option.{option_map, option_map_or}
 use Rattle.std.specs.Str.{bytes_eq, chars}
 use Rattle.std.proofs.lemmas.Slice.Eq.{bytes_eq-Decides}
 use Rattle.clap.specs.Lexer.{long_of, short_of}
 use Rattle.clap.specs.Kinds.{Kinds, or_else}
-use Rattle.clap.specs.Walk.{Held, Names, Outcome, plain, Rule, Step, value, trailing, Text, idle, nothing_held, after_flag, answers_to, has_long, has_short, finished, settled, Walk, bundle_met, bundle_step, long_or_other, short_or_plain, short_word, subcommand_met, subcommand_or_other, walk, walk_from, walked}
-use Rattle.clap.specs.Simple.{App, Shape, built, entered, help_shape, new_rule, names_of, new_app, on_top, with_subcommand}
-use Rattle.clap.specs.Faults.{bundle_fault, bundle_step_fault, entered_fault, fault_of, flags_fault, flag_word_fault, level_fault, long_fault, other_fault, short_fault, step_fault, turn_fault, walk_fault, settle_fault, defaults_fault, check_fault}
+use Rattle.clap.specs.Walk.{Held, Names, Outcome, plain, Rule, Step, value, trailing, Text, idle, nothing_held}
+use Rattle.clap.specs.Walk.{after_flag, answers_to, has_long, has_short, finished, settled, Walk, bundle_met}
+use Rattle.clap.specs.Walk.{bundle_step, long_or_other, short_or_plain, short_word, subcommand_met, subcommand_or_other}
+use Rattle.clap.specs.Walk.{walk, walk_from, walked}
+use Rattle.clap.specs.Simple.{App, Shape, built, entered, help_shape, new_rule, names_of, new_app, on_top}
+use Rattle.clap.specs.Simple.{with_subcommand}
+use Rattle.clap.specs.Faults.{bundle_fault, bundle_step_fault, entered_fault, fault_of, flags_fault, flag_word_fault}
+use Rattle.clap.specs.Faults.{level_fault, long_fault, other_fault, short_fault, step_fault, turn_fault, walk_fault}
+use Rattle.clap.specs.Faults.{settle_fault, defaults_fault, check_fault}
 use Rattle.clap.proofs.OnLiterals.{clap_on_literals}
 use Rattle.clap.proofs.WalkLemmas.{walk_stopped}
 use Rattle.xs_server.specs.CommandLine.{AsksScript}

@@ -1,11 +1,13 @@
 -- Where a line ends.
-use Rattle.std.proofs.Common.{◌≡◌, ℕ, ◌+◌, ◌<◌, ◌≤◌, suc, Bool, true, false, ◌||◌, cond, eqb, leb, Option, Some, None, MatchOption, List, [], ◌∷◌, ◌++◌, length, take, drop, get_or, sym, ap, ◌∙◌, refl, arith}
+use Rattle.std.proofs.Common.{◌≡◌, ℕ, ◌+◌, ◌<◌, ◌≤◌, suc, Bool, true, false, ◌||◌, cond, eqb, leb, Option, Some, None}
+use Rattle.std.proofs.Common.{MatchOption, List, [], ◌∷◌, ◌++◌, length, take, drop, get_or, sym, ap, ◌∙◌, refl, arith}
 use Rattle.std.specs.List.{list_any}
 use Rattle.std.proofs.lemmas.List.{take-append-drop, drop_more, length-take-le, get_or-take}
 use borrow.Author.Tests.{eqb-true}
 use Rattle.std.proofs.lemmas.Bool.{false≢true}
 use Rattle.memchr.specs.Find.{IsFirstByte, is_byte}
-use Rattle.xs_server.specs.Line.{onto_first, parts_of, has_bytes, full_parts, line_limit, moment_of, request_of, line_of}
+use Rattle.xs_server.specs.Line.{onto_first, parts_of, has_bytes, full_parts, line_limit, moment_of, request_of}
+use Rattle.xs_server.specs.Line.{line_of}
 use Rattle.std.proofs.lemmas.Bool.Decides.{nat_tests}
 
 pub none_at : (byte : ℕ) (bs : List ℕ) → ((k : ℕ) → k < length bs → eqb (get_or bs k 0) byte ≡ true → ⊥) → list_any (λ b. eqb b byte) bs ≡ false

@@ -1,5 +1,6 @@
 -- What a machine was fed, and how it ends.
-use Rattle.std.proofs.Common.{◌≡◌, ℕ, ◌<◌, ◌==◌, Bool, true, false, List, [], ◌∷◌, ◌++◌, length, ◌+◌, take, sym, ap, ◌∙◌, subst, refl, append_assoc, arith, length-append}
+use Rattle.std.proofs.Common.{◌≡◌, ℕ, ◌<◌, ◌==◌, Bool, true, false, List, [], ◌∷◌, ◌++◌, length, ◌+◌, take, sym, ap}
+use Rattle.std.proofs.Common.{◌∙◌, subst, refl, append_assoc, arith, length-append}
 use Rattle.std.proofs.Math.Seq.{take-append-add}
 use Rattle.std.proofs.lemmas.List.{append-nil, take-append-le}
 use Rattle.xs_server.specs.Machine.{Cause, writer, EndsOncePaid}

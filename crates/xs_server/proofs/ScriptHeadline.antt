@@ -1,5 +1,6 @@
 -- Scripts: one line more, and the headline.
-use Rattle.std.proofs.Common.{◌≡◌, ℕ, ◌+◌, List, [], ◌∷◌, ◌++◌, length, Option, Some, None, Ok, sym, ap, ◌∙◌, subst, refl, append_assoc, arith, IsSomeAnd, length-append}
+use Rattle.std.proofs.Common.{◌≡◌, ℕ, ◌+◌, List, [], ◌∷◌, ◌++◌, length, Option, Some, None, Ok, sym, ap, ◌∙◌, subst}
+use Rattle.std.proofs.Common.{refl, append_assoc, arith, IsSomeAnd, length-append}
 use Rattle.std.proofs.lemmas.List.{append-nil}
 use Rattle.xs_resp.specs.declared.reply.Reply.{Reply}
 use Rattle.xs_resp.specs.ReplyText.{text}

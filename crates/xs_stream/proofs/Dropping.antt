@@ -1,5 +1,6 @@
 -- The first entries of blocks, and how they go.
-use Rattle.std.proofs.Common.{◌≡◌, ℕ, ◌-◌, ◌<◌, ◌≤◌, suc, zero, true, false, not, List, [], ◌∷◌, ◌++◌, length, filter, drop, Option, Some, None, sym, ap, ◌∙◌, refl, arith, append_assoc, subst, length-append}
+use Rattle.std.proofs.Common.{◌≡◌, ℕ, ◌-◌, ◌<◌, ◌≤◌, suc, zero, true, false, not, List, [], ◌∷◌, ◌++◌, length, filter}
+use Rattle.std.proofs.Common.{drop, Option, Some, None, sym, ap, ◌∙◌, refl, arith, append_assoc, subst, length-append}
 use Rattle.std.proofs.lemmas.List.{append-nil, drop-append-le, length-drop}
 use Rattle.std.proofs.lemmas.List.Elements.{filter-append}
 use Rattle.std.specs.List.{slice_get}

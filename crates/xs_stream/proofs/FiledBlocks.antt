@@ -1,5 +1,6 @@
 -- Lists of blocks that are filed under ids: which block has an entry, and what an addition and a removal leave.
-use Rattle.std.proofs.Common.{◌≡◌, ◌+◌, ◌<◌, Bool, true, false, not, cond, List, [], ◌∷◌, ◌++◌, length, filter, Some, None, sym, ap, ◌∙◌, refl, arith, append_assoc, subst, length-append}
+use Rattle.std.proofs.Common.{◌≡◌, ◌+◌, ◌<◌, Bool, true, false, not, cond, List, [], ◌∷◌, ◌++◌, length, filter, Some}
+use Rattle.std.proofs.Common.{None, sym, ap, ◌∙◌, refl, arith, append_assoc, subst, length-append}
 use Rattle.std.specs.Bool.{◌==◌}
 use Rattle.std.proofs.lemmas.Bool.{false≢true}
 use Rattle.std.proofs.lemmas.Bool.Decides.{nat_tests}
@@ -16,7 +17,8 @@ use Rattle.xs_stream.specs.declared.field.Field.{Field}
 use Rattle.xs_stream.specs.Id.{id_cmp, is_below, is_same_id}
 use Rattle.xs_stream.specs.StreamContent.{ids_of, AllAbove, AllUpTo, fields_at}
 use Rattle.xs_stream.specs.Blocks.{listed, AreFiled}
-use Rattle.xs_stream.proofs.Order.{is_same-eq, is_same-refl, is_same-symm, below-not_same, below-irrefl, up_to-below, above-greater, below-not_below, le-not_below}
+use Rattle.xs_stream.proofs.Order.{is_same-eq, is_same-refl, is_same-symm, below-not_same, below-irrefl, up_to-below}
+use Rattle.xs_stream.proofs.Order.{above-greater, below-not_below, le-not_below}
 use Rattle.xs_stream.proofs.InOrder.{ids_of-append, above-push, and_yes}
 use Rattle.xs_stream.proofs.PlacesInLists.{remove-none}
 

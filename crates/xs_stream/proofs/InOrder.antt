@@ -1,5 +1,7 @@
 -- Lists of entries in the order of their ids: what an addition, a deletion and a trim do to them.
-use Rattle.std.proofs.Common.{◌≡◌, ℕ, ◌+◌, ◌-◌, ◌<◌, ◌≤◌, suc, Bool, true, false, not, ◌&&◌, ◌||◌, cond, List, [], ◌∷◌, ◌++◌, length, filter, drop, take, ◌⊎◌, inl, inr, zero, leb, Option, Some, None, sym, ap, ◌∙◌, refl, arith, subst}
+use Rattle.std.proofs.Common.{◌≡◌, ℕ, ◌+◌, ◌-◌, ◌<◌, ◌≤◌, suc, Bool, true, false, not, ◌&&◌, ◌||◌, cond, List, [], ◌∷◌}
+use Rattle.std.proofs.Common.{◌++◌, length, filter, drop, take, ◌⊎◌, inl, inr, zero, leb, Option, Some, None, sym, ap}
+use Rattle.std.proofs.Common.{◌∙◌, refl, arith, subst}
 use Rattle.std.proofs.lemmas.Bool.Decides.{nat_tests}
 use Rattle.std.proofs.lemmas.List.Folds.{list_any-append}
 use Rattle.std.proofs.Math.Bool.{or-false}
@@ -11,13 +13,15 @@ use Rattle.std.specs.List.{slice_get}
 use Rattle.std.specs.BTreeMap.Range.{range_contains}
 use Rattle.std.specs.declared.ops.Bound.TheVariants.{Included}
 use Rattle.xs_stream.specs.declared.range.Range.{Range}
-use Rattle.xs_stream.specs.StreamContent.{is_within, count_above, StreamState, ids_of, AllAbove, Ascends, AllUpTo, without, trimmed, limited}
+use Rattle.xs_stream.specs.StreamContent.{is_within, count_above, StreamState, ids_of, AllAbove, Ascends, AllUpTo}
+use Rattle.xs_stream.specs.StreamContent.{without, trimmed, limited}
 use Rattle.xs_stream.specs.declared.id.Id.{Id}
 use Rattle.xs_stream.specs.declared.field.Field.{Field}
 use Rattle.xs_stream.specs.declared.trim.Trim.TheVariants.{MaxLen, MinId}
 use Rattle.xs_stream.specs.Id.{id_cmp, is_below, is_same_id, has_id}
 use Rattle.xs_stream.specs.Lawful.{IsLawful, AllIds, IsId}
-use Rattle.xs_stream.proofs.Order.{is_same-eq, is_same-refl, is_same-symm, below-not_same, below-not_back, below-irrefl, up_to-below, not_below-above, le-not_below, below-not_below}
+use Rattle.xs_stream.proofs.Order.{is_same-eq, is_same-refl, is_same-symm, below-not_same, below-not_back, below-irrefl}
+use Rattle.xs_stream.proofs.Order.{up_to-below, not_below-above, le-not_below, below-not_below}
 
 -- ---- an addition
 

@@ -1,12 +1,14 @@
 -- A block that goes in front of the next one.
-use Rattle.std.proofs.Common.{◌≡◌, ◌<◌, Bool, true, false, cond, List, [], ◌∷◌, ◌++◌, length, Some, sym, ap, ◌∙◌, refl, arith, append_assoc, subst, length-append}
+use Rattle.std.proofs.Common.{◌≡◌, ◌<◌, Bool, true, false, cond, List, [], ◌∷◌, ◌++◌, length, Some, sym, ap, ◌∙◌, refl}
+use Rattle.std.proofs.Common.{arith, append_assoc, subst, length-append}
 use Rattle.std.specs.Map.{lookup, lookup_key, remove_entry, set_value, keys_of}
 use Rattle.xs_stream.specs.declared.id.Id.{Id}
 use Rattle.xs_stream.specs.declared.field.Field.{Field}
 use Rattle.xs_stream.specs.Id.{is_below, is_same_id}
 use Rattle.xs_stream.specs.StreamContent.{ids_of, AllAbove, AllUpTo}
 use Rattle.xs_stream.specs.Blocks.{listed, AreFiled}
-use Rattle.xs_stream.proofs.Order.{is_same-eq, is_same-refl, is_same-symm, below-not_same, below-not_back, below-irrefl, below-trans, below-not_below}
+use Rattle.xs_stream.proofs.Order.{is_same-eq, is_same-refl, is_same-symm, below-not_same, below-not_back, below-irrefl}
+use Rattle.xs_stream.proofs.Order.{below-trans, below-not_below}
 use Rattle.xs_stream.proofs.InOrder.{up_to-higher}
 
 abbrev Entries : Type 0

@@ -1,5 +1,6 @@
 -- Entries that a stream lends are found by their ids.
-use Rattle.std.proofs.Common.{ℕ, ◌<◌, zero, suc, get_or, length, arith, Bool, true, false, cond, List, [], ◌∷◌, filter, take, Some, refl}
+use Rattle.std.proofs.Common.{ℕ, ◌<◌, zero, suc, get_or, length, arith, Bool, true, false, cond, List, [], ◌∷◌, filter}
+use Rattle.std.proofs.Common.{take, Some, refl}
 use Rattle.xs_stream.specs.declared.id.Id.{Id}
 use Rattle.xs_stream.specs.declared.field.Field.{Field}
 use Rattle.xs_stream.specs.declared.range.Range.{Range}

@@ -2,7 +2,8 @@
 use Rattle.std.proofs.Common.{◌≡◌, ℕ, Bool, true, false, not, Some, Ordering, sym, ap, ◌∙◌, refl}
 use Rattle.std.specs.Cmp.{eq_by_cmp_equiv, IsTotalOrder, nat_cmp_total, on_total, then_total}
 use Rattle.std.specs.declared.cmp.Ordering.TheVariants.{Less, Equal, Greater}
-use Rattle.std.specs.Ordering.{nat_cmp, is_lt, is_eq, is_le, is_some_and, ordering_reverse, ordering_then, partial_ordering_then}
+use Rattle.std.specs.Ordering.{nat_cmp, is_lt, is_eq, is_le, is_some_and, ordering_reverse, ordering_then}
+use Rattle.std.specs.Ordering.{partial_ordering_then}
 use Rattle.std.proofs.lemmas.Cmp.{ranked, tied_itself}
 use Rattle.std.proofs.lemmas.Bool.{false≢true}
 use Rattle.xs_stream.specs.declared.id.Id.{Id}

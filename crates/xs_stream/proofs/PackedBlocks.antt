@@ -1,5 +1,7 @@
 -- Entries of a block: what is left of them, and what is taken out.
-use Rattle.std.proofs.Common.{◌≡◌, ℕ, ◌+◌, ◌-◌, ◌<◌, ◌≤◌, ◌^◌, suc, zero, List, [], ◌∷◌, ◌++◌, ◌&&◌, ◌||◌, eqb, ltb, subst, Bool, true, false, cond, Some, length, filter, take, drop, sym, ap, ◌∙◌, refl, arith, append_assoc, add-one}
+use Rattle.std.proofs.Common.{◌≡◌, ℕ, ◌+◌, ◌-◌, ◌<◌, ◌≤◌, ◌^◌, suc, zero, List, [], ◌∷◌, ◌++◌, ◌&&◌, ◌||◌, eqb, ltb}
+use Rattle.std.proofs.Common.{subst, Bool, true, false, cond, Some, length, filter, take, drop, sym, ap, ◌∙◌, refl}
+use Rattle.std.proofs.Common.{arith, append_assoc, add-one}
 use Rattle.std.specs.List.{remove, remove_range, flat_map}
 use Rattle.std.specs.Map.{remove_entry}
 use Rattle.std.specs.Option.{is_some}
@@ -14,9 +16,13 @@ use Rattle.xs_stream.specs.Id.{is_same_id}
 use Rattle.xs_stream.specs.StreamContent.{fields_at, ids_of}
 use Rattle.xs_stream.specs.PackedNumber.{number_code, first_number, after_number}
 use Rattle.xs_stream.specs.PackedText.{text_code, first_text, after_text}
-use Rattle.xs_stream.specs.Packed.{names_code, has_names, body_fields, entry_code, entry_id, entry_body, entry_in, after_entry, entries_in, after_entries, entries_code, block_entries, shares_names, body_code, field_code, mark_of, ms_code, rebased_code, all_rebased, IsPacked}
+use Rattle.xs_stream.specs.Packed.{names_code, has_names, body_fields, entry_code, entry_id, entry_body, entry_in}
+use Rattle.xs_stream.specs.Packed.{after_entry, entries_in, after_entries, entries_code, block_entries, shares_names}
+use Rattle.xs_stream.specs.Packed.{body_code, field_code, mark_of, ms_code, rebased_code, all_rebased, IsPacked}
 use Rattle.xs_stream.proofs.Order.{is_same-eq, is_same-refl}
-use Rattle.xs_stream.proofs.PackedCodes.{first_number-code, entries_in-whole, entry_id-code, entry_body-code, after_entry-code, length-entries_in, first_text-code, after_text-code, has_names-own, has_names-missing}
+use Rattle.xs_stream.proofs.PackedCodes.{first_number-code, entries_in-whole, entry_id-code, entry_body-code}
+use Rattle.xs_stream.proofs.PackedCodes.{after_entry-code, length-entries_in, first_text-code, after_text-code}
+use Rattle.xs_stream.proofs.PackedCodes.{has_names-own, has_names-missing}
 
 pub after_entries-suc : (i : ℕ) (bytes : List ℕ) → after_entries (suc i) bytes ≡ after_entry (after_entries i bytes)
 after_entries-suc zero bytes = refl

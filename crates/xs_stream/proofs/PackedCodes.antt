@@ -1,5 +1,7 @@
 -- What is read of what was written.
-use Rattle.std.proofs.Common.{◌≡◌, ℕ, ◌+◌, ◌-◌, ◌%◌, ◌≤◌, ◌&&◌, get_or, suc, zero, ◌^◌, ◌<◌, List, [], ◌∷◌, ◌++◌, Bool, true, false, not, cond, ltb, eqb, length, take, drop, sym, ap, ◌∙◌, refl, arith, append_assoc, length-append}
+use Rattle.std.proofs.Common.{◌≡◌, ℕ, ◌+◌, ◌-◌, ◌%◌, ◌≤◌, ◌&&◌, get_or, suc, zero, ◌^◌, ◌<◌, List, [], ◌∷◌, ◌++◌, Bool}
+use Rattle.std.proofs.Common.{true, false, not, cond, ltb, eqb, length, take, drop, sym, ap, ◌∙◌, refl, arith}
+use Rattle.std.proofs.Common.{append_assoc, length-append}
 use Rattle.std.proofs.lemmas.Bool.Decides.{nat_tests}
 use Rattle.std.proofs.lemmas.Bool.{false≢true}
 use Rattle.std.proofs.lemmas.Nat.{from_le_bytes-to_le_bytes_2, from_le_bytes-to_le_bytes_4, from_le_bytes-to_le_bytes_8}
@@ -17,7 +19,9 @@ use Rattle.xs_stream.specs.declared.field.Field.{Field}
 use Rattle.xs_stream.specs.declared.id.Id.{Id}
 use Rattle.xs_stream.specs.PackedNumber.{number_code, first_number, after_number, head_number}
 use Rattle.xs_stream.specs.PackedText.{text_code, first_text, after_text}
-use Rattle.xs_stream.specs.Packed.{names_code, all_named, has_names, field_code, body_code, fields_in, body_fields, ms_code, first_ms, entry_code, entry_id, entry_body, after_entry, entries_in, entries_code}
+use Rattle.xs_stream.specs.Packed.{names_code, all_named, has_names, field_code, body_code, fields_in, body_fields}
+use Rattle.xs_stream.specs.Packed.{ms_code, first_ms, entry_code, entry_id, entry_body, after_entry, entries_in}
+use Rattle.xs_stream.specs.Packed.{entries_code}
 
 pub first_number-code : (n : ℕ) (rest : List ℕ) → first_number (number_code n ++ rest) ≡ n
 unfolding number_code first_number

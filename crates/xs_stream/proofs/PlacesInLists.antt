@@ -1,5 +1,6 @@
 -- Where an entry stands in a list of entries.
-use Rattle.std.proofs.Common.{◌≡◌, ℕ, ◌+◌, ◌<◌, suc, zero, Bool, true, false, List, [], ◌∷◌, length, get_or, Some, None, sym, ap, ◌∙◌, refl, arith}
+use Rattle.std.proofs.Common.{◌≡◌, ℕ, ◌+◌, ◌<◌, suc, zero, Bool, true, false, List, [], ◌∷◌, length, get_or, Some, None}
+use Rattle.std.proofs.Common.{sym, ap, ◌∙◌, refl, arith}
 use Rattle.std.specs.Map.{lookup, remove_entry}
 use Rattle.std.specs.List.{position, position_from, remove}
 use Rattle.std.proofs.lemmas.Iterator.Adapters.{position_from-zero}

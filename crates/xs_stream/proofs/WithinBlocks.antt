@@ -1,5 +1,6 @@
 -- The ids of a range, in the blocks that a walk meets: those from the low end on, up to the first that is filed under the high end or above it.
-use Rattle.std.proofs.Common.{◌≡◌, ℕ, ◌≤◌, suc, zero, Bool, true, false, not, ◌&&◌, cond, List, [], ◌∷◌, ◌++◌, length, filter, take, reverse, Option, Some, None, sym, ap, ◌∙◌, refl, append_assoc, Ordering}
+use Rattle.std.proofs.Common.{◌≡◌, ℕ, ◌≤◌, suc, zero, Bool, true, false, not, ◌&&◌, cond, List, [], ◌∷◌, ◌++◌, length}
+use Rattle.std.proofs.Common.{filter, take, reverse, Option, Some, None, sym, ap, ◌∙◌, refl, append_assoc, Ordering}
 use Rattle.std.proofs.lemmas.List.{append-nil, take-append-le, reverse-append}
 use Rattle.std.proofs.lemmas.List.Elements.{filter-append}
 use Rattle.std.specs.Bool.{⊤}
@@ -15,7 +16,8 @@ use Rattle.xs_stream.specs.declared.range.Range.{Range}
 use Rattle.xs_stream.specs.Id.{id_cmp, is_below}
 use Rattle.xs_stream.specs.StreamContent.{ids_of, AllAbove, AllUpTo, is_within}
 use Rattle.xs_stream.specs.Blocks.{listed, AreFiled, end_under, end_at}
-use Rattle.xs_stream.proofs.Order.{ids_total, below-irrefl, below-not_back, up_to-below, below-not_below, not_above-trans, le-not_below}
+use Rattle.xs_stream.proofs.Order.{ids_total, below-irrefl, below-not_back, up_to-below, below-not_below}
+use Rattle.xs_stream.proofs.Order.{not_above-trans, le-not_below}
 use Rattle.xs_stream.proofs.InOrder.{ids_of-append, and_yes}
 use Rattle.xs_stream.proofs.FiledBlocks.{entry-of_key, entry-passes}
 

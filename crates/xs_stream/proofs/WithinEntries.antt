@@ -1,5 +1,6 @@
 -- As WithinBlocks, of the entries of a range.
-use Rattle.std.proofs.Common.{◌≡◌, ℕ, Bool, true, false, not, ◌&&◌, cond, List, [], ◌∷◌, ◌++◌, filter, take, reverse, Option, Some, None, sym, ap, ◌∙◌, refl, append_assoc}
+use Rattle.std.proofs.Common.{◌≡◌, ℕ, Bool, true, false, not, ◌&&◌, cond, List, [], ◌∷◌, ◌++◌, filter, take, reverse}
+use Rattle.std.proofs.Common.{Option, Some, None, sym, ap, ◌∙◌, refl, append_assoc}
 use Rattle.std.proofs.lemmas.List.{reverse-append}
 use Rattle.std.proofs.lemmas.List.Elements.{filter-append}
 use Rattle.std.specs.Map.{lookup_key}
@@ -12,7 +13,8 @@ use Rattle.xs_stream.specs.declared.range.Range.{Range}
 use Rattle.xs_stream.specs.Id.{id_cmp, is_below}
 use Rattle.xs_stream.specs.StreamContent.{ids_of, AllAbove, AllUpTo, is_within}
 use Rattle.xs_stream.specs.Blocks.{listed, AreFiled, end_under, end_at}
-use Rattle.xs_stream.proofs.Order.{below-irrefl, below-not_back, up_to-below, below-not_below, not_above-trans, le-not_below}
+use Rattle.xs_stream.proofs.Order.{below-irrefl, below-not_back, up_to-below, below-not_below, not_above-trans}
+use Rattle.xs_stream.proofs.Order.{le-not_below}
 use Rattle.xs_stream.proofs.InOrder.{and_yes, not_within}
 use Rattle.xs_stream.proofs.FiledBlocks.{entry-of_key, entry-passes}
 use Rattle.xs_stream.proofs.WithinBlocks.{above-some, not_true, take-take_append, listed-push}

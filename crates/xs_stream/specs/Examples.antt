@@ -4,7 +4,8 @@ use Rattle.std.specs.Prelude.{◌≡◌, ℕ, ◌+◌, ◌^◌, true, false, [],
 use Rattle.xs_stream.specs.declared.id.Id.{Id}
 use Rattle.xs_stream.specs.declared.add.AddId.TheVariants.{Auto, AutoSeq, Exact}
 use Rattle.xs_stream.specs.declared.add.AddError.TheVariants.{Small, Exhausted}
-use Rattle.xs_stream.specs.Id.{is_below, is_same_id, has_id, greatest_number, zero_id, greatest_id, printed, successor, assigned}
+use Rattle.xs_stream.specs.Id.{is_below, is_same_id, has_id, greatest_number, zero_id, greatest_id, printed, successor}
+use Rattle.xs_stream.specs.Id.{assigned}
 use Rattle.xs_stream.specs.IdText.{next_id, previous_id, id_number, parse_id}
 use Rattle.xs_stream.specs.RangeText.{low_end, high_end, range_between}
 use Rattle.xs_stream.specs.Lawful.{IsId, AllIds}

@@ -13,7 +13,8 @@ use Rattle.xs_command.specs.Xtrim.{xtrim}
 use Rattle.xs_command.specs.Xlen.{xlen}
 use Rattle.xs_command.specs.Xrange.{xrange, xrevrange, scan_option}
 use Rattle.xs_command.specs.Del.{del}
-use Rattle.xs_command.specs.Xgroup.{xgroup, subcommand_of, create, destroy, create_consumer, delete_consumer, create_option, group_start}
+use Rattle.xs_command.specs.Xgroup.{xgroup, subcommand_of, create, destroy, create_consumer, delete_consumer}
+use Rattle.xs_command.specs.Xgroup.{create_option, group_start}
 use Rattle.xs_command.specs.Streams.{streams, each_from, is_distinct, read_from}
 use Rattle.xs_command.specs.Xreadgroup.{xreadgroup, read_option, reader}
 use Rattle.xs_command.specs.Xack.{xack}

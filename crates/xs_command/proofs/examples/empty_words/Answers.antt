@@ -3,7 +3,8 @@ use Rattle.xs_command.specs.Words.{is_word, word, behind_sign, integer, natural,
 use Rattle.xs_command.specs.Options.{up_to}
 use Rattle.xs_command.specs.CommandName.{name_of}
 use Rattle.xs_command.specs.Syntax.{only, leading_ids, ids}
-use Rattle.xs_command.specs.Xgroup.{xgroup, subcommand_of, create, destroy, create_consumer, delete_consumer, create_option, group_start}
+use Rattle.xs_command.specs.Xgroup.{xgroup, subcommand_of, create, destroy, create_consumer, delete_consumer}
+use Rattle.xs_command.specs.Xgroup.{create_option, group_start}
 use Rattle.xs_command.specs.Streams.{streams, each_from, is_distinct, read_from}
 use Rattle.xs_command.specs.Xreadgroup.{xreadgroup, read_option, reader}
 use Rattle.xs_command.specs.Xack.{xack}

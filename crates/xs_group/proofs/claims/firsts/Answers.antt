@@ -1,4 +1,5 @@
-use Rattle.std.proofs.Common.{◌≡◌, ◌+◌, Bool, true, false, cond, ◌||◌, get_or, take, sym, ap, ◌∙◌, ◌++◌, ◌∷◌, [], refl, Vec, Global}
+use Rattle.std.proofs.Common.{◌≡◌, ◌+◌, Bool, true, false, cond, ◌||◌, get_or, take, sym, ap, ◌∙◌, ◌++◌, ◌∷◌, [], refl}
+use Rattle.std.proofs.Common.{Vec, Global}
 use Rattle.std.specs.BTreeSet.{contains}
 use Rattle.std.proofs.lemmas.List.{take_more}
 use Rattle.xs_stream.specs.declared.id.Id.{Id}

@@ -1,4 +1,5 @@
-use Rattle.std.proofs.Common.{◌≡◌, ◌+◌, ◌*◌, ◌<◌, ◌≤◌, ◌++◌, ◌||◌, List, [], ◌∷◌, map, filter, length, drop, true, false, cond, leb, Some, sym, ap, ◌∙◌, subst, arith, append-nil}
+use Rattle.std.proofs.Common.{◌≡◌, ◌+◌, ◌*◌, ◌<◌, ◌≤◌, ◌++◌, ◌||◌, List, [], ◌∷◌, map, filter, length, drop, true}
+use Rattle.std.proofs.Common.{false, cond, leb, Some, sym, ap, ◌∙◌, subst, arith, append-nil}
 use Rattle.std.proofs.lemmas.Bool.Decides.{nat_tests}
 use Rattle.std.specs.BTreeMap.Range.{range_contains, entries_between}
 use Rattle.std.specs.declared.ops.Bound.TheVariants.{Included, Unbounded}
@@ -10,9 +11,11 @@ use Rattle.xs_group.specs.Claims.{is_taken, is_removed, is_hit, from_start, firs
 use Rattle.xs_group.specs.Verdict.{verdict_of, with_taken, with_removed, hits_of, scanned_after}
 use Rattle.xs_group.proofs.ChosenIds.{taken-verdict, removed-verdict, hits-verdict, one_most}
 use Rattle.xs_group.proofs.Ordered.{is_sorted-from}
-use Rattle.xs_group.proofs.Scanning.{AreFound, found-all, found-filter, keys-between, scanned-on, scanned-enough, taken-on, removed-on, scan-ended}
+use Rattle.xs_group.proofs.Scanning.{AreFound, found-all, found-filter, keys-between, scanned-on, scanned-enough}
+use Rattle.xs_group.proofs.Scanning.{taken-on, removed-on, scan-ended}
 use Rattle.xs_group.proofs.claims.scan_rows.Goals as goal
-use Rattle.xs_group.proofs.claims.scan_rows.Goals.{then-hits-limit-via-then-hits-limit, then-hits-limit-via-else-hits-limit+then-seen-limit}
+use Rattle.xs_group.proofs.claims.scan_rows.Goals.{then-hits-limit-via-then-hits-limit}
+use Rattle.xs_group.proofs.claims.scan_rows.Goals.{then-hits-limit-via-else-hits-limit+then-seen-limit}
 
 abbrev keys : List (Id × RowState) → List Id
 keys es = map (λ e. e.0) es

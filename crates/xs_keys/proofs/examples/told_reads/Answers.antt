@@ -1,4 +1,5 @@
-use Rattle.std.proofs.Common.{◌≡◌, ◌⊎◌, inl, inr, ℕ, Bool, true, length, is_some, List, [], ◌∷◌, ◌++◌, Some, None, refl, sym, ap, ◌∙◌, subst, T, arith, codes}
+use Rattle.std.proofs.Common.{◌≡◌, ◌⊎◌, inl, inr, ℕ, Bool, true, length, is_some, List, [], ◌∷◌, ◌++◌, Some, None, refl}
+use Rattle.std.proofs.Common.{sym, ap, ◌∙◌, subst, T, arith, codes}
 use Rattle.std.proofs.lemmas.Bool.{false≢true}
 use Rattle.xs_resp.specs.Token.{Token}
 use Rattle.xs_resp.specs.Token as token

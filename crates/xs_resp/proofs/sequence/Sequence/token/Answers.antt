@@ -1,4 +1,5 @@
-use Rattle.std.proofs.Common.{◌≡◌, ℕ, List, ◌+◌, ◌<◌, ◌≤◌, ◌∷◌, length, take, drop, get_or, sym, ap, ◌∙◌, add-one, arith, length-drop}
+use Rattle.std.proofs.Common.{◌≡◌, ℕ, List, ◌+◌, ◌<◌, ◌≤◌, ◌∷◌, length, take, drop, get_or, sym, ap, ◌∙◌, add-one}
+use Rattle.std.proofs.Common.{arith, length-drop}
 use Rattle.xs_resp.specs.declared.mark.Mark.{Mark}
 use Rattle.xs_resp.specs.Token.{Token}
 use Rattle.xs_resp.specs.LeftToWrite.{strings_of}

@@ -1,4 +1,5 @@
-use Rattle.std.proofs.Common.{rules, true, false, ◌≡◌, [], ◌++◌, length, take, ap, ◌∙◌, subst, append_assoc, inl, inr, arith, length-append}
+use Rattle.std.proofs.Common.{rules, true, false, ◌≡◌, [], ◌++◌, length, take, ap, ◌∙◌, subst, append_assoc, inl, inr}
+use Rattle.std.proofs.Common.{arith, length-append}
 use Rattle.std.proofs.lemmas.List.{append-nil}
 use Rattle.std.proofs.KnownBytes.{Appends-nil, Appends-trans}
 use Rattle.xs_server.proofs.MachineTurns.{ends-later, empty-none, empty-some}

@@ -1,7 +1,8 @@
 use Rattle.std.proofs.Common.{◌≡◌, ◌<◌, ◌∙◌, ◌++◌, ◌∷◌, [], ap, arith, Bool}
 use Rattle.xs_stream.specs.PackedText.{first_text, text_code}
 use Rattle.xs_stream.specs.Packed.{entry_code, block_entries, entries_code, has_names}
-use Rattle.xs_stream.proofs.PackedBlocks.{gap, begins, pushed-code, length-pushed, length-block_entries, repacked, repacked-packed}
+use Rattle.xs_stream.proofs.PackedBlocks.{gap, begins, pushed-code, length-pushed, length-block_entries, repacked}
+use Rattle.xs_stream.proofs.PackedBlocks.{repacked-packed}
 use Rattle.xs_stream.proofs.block.Block.append.Goals as goal
 
 pub overflow_add-self : goal.overflow_add-self

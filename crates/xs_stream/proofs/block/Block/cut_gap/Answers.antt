@@ -2,7 +2,8 @@ use Rattle.std.proofs.Common.{◌≡◌, ℕ, List, ◌<◌, ◌++◌, ◌∙◌
 use Rattle.std.specs.List.{remove_range}
 use Rattle.xs_stream.specs.PackedText.{text_code, first_text, after_text}
 use Rattle.xs_stream.specs.Packed.{block_entries, entries_code}
-use Rattle.xs_stream.proofs.PackedBlocks.{named-up_to, tidied-code, tidied-begins, length-block_entries, repacked, repacked-packed}
+use Rattle.xs_stream.proofs.PackedBlocks.{named-up_to, tidied-code, tidied-begins, length-block_entries, repacked}
+use Rattle.xs_stream.proofs.PackedBlocks.{repacked-packed}
 use Rattle.xs_stream.proofs.block.Block.cut_gap.Goals as goal
 
 end-at : (end : ℕ) (slice bytes : List ℕ) → end ≡ length slice - length (after_text slice) → slice ≡ bytes → end ≡ length bytes - length (after_text bytes)

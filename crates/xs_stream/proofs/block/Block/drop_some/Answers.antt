@@ -1,7 +1,8 @@
 use Rattle.std.proofs.Common.{◌≡◌, ℕ, List, ◌<◌, ◌≤◌, ◌∙◌, ◌-◌, ap, arith, length, drop}
 use Rattle.std.proofs.lemmas.List.{length-drop}
 use Rattle.xs_stream.specs.Packed.{after_entries}
-use Rattle.xs_stream.proofs.PackedBlocks.{length-after_entries, dropped-code, dropped-begins, length-dropped, length-block_entries, repacked, repacked-packed}
+use Rattle.xs_stream.proofs.PackedBlocks.{length-after_entries, dropped-code, dropped-begins, length-dropped}
+use Rattle.xs_stream.proofs.PackedBlocks.{length-block_entries, repacked, repacked-packed}
 use Rattle.xs_stream.proofs.block.Block.drop_some.Goals as goal
 
 pub overflow_sub-self : goal.overflow_sub-self

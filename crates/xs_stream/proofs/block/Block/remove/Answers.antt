@@ -2,7 +2,8 @@ use Rattle.std.proofs.Common.{◌≡◌, ℕ, List, ◌<◌, ◌++◌, ◌∙◌
 use Rattle.std.specs.List.{remove, remove_range}
 use Rattle.xs_stream.specs.PackedText.{text_code, first_text}
 use Rattle.xs_stream.specs.Packed.{block_entries, entries_code, after_entries}
-use Rattle.xs_stream.proofs.PackedBlocks.{remove-absent, after_entries-one_less, gap, begins, removed-code, length-removed, length-block_entries, repacked, repacked-packed}
+use Rattle.xs_stream.proofs.PackedBlocks.{remove-absent, after_entries-one_less, gap, begins, removed-code}
+use Rattle.xs_stream.proofs.PackedBlocks.{length-removed, length-block_entries, repacked, repacked-packed}
 use Rattle.xs_stream.proofs.block.Block.remove.Goals as goal
 
 pub returns-in_default-clause-entries : goal.returns-in_default-clause-entries

@@ -1,7 +1,8 @@
 use Rattle.std.proofs.Common.{◌≡◌, ◌<◌, ◌++◌, ◌∙◌, ap, arith, drop, sym, refl}
 use Rattle.xs_stream.specs.PackedText.{text_code, first_text}
 use Rattle.xs_stream.specs.Packed.{block_entries, entries_code}
-use Rattle.xs_stream.proofs.PackedBlocks.{gap, begins, taken-code, length-taken, length-block_entries, repacked, repacked-packed}
+use Rattle.xs_stream.proofs.PackedBlocks.{gap, begins, taken-code, length-taken, length-block_entries, repacked}
+use Rattle.xs_stream.proofs.PackedBlocks.{repacked-packed}
 use Rattle.xs_stream.proofs.block.Block.take_in.Goals as goal
 
 pub overflow_add-self : goal.overflow_add-self

@@ -3,7 +3,8 @@ use Rattle.std.proofs.lemmas.List.{length-drop}
 use Rattle.xs_stream.specs.declared.id.Id.{Id}
 use Rattle.xs_stream.specs.declared.field.Field.{Field}
 use Rattle.xs_stream.specs.Blocks.{listed, AreFiled}
-use Rattle.xs_stream.proofs.Dropping.{first-splits, popped, drop-popped, drop-within, filed-within, lent-first, written-first, first-counted}
+use Rattle.xs_stream.proofs.Dropping.{first-splits, popped, drop-popped, drop-within, filed-within, lent-first}
+use Rattle.xs_stream.proofs.Dropping.{written-first, first-counted}
 use Rattle.xs_stream.proofs.entries.Entries.drop_step.Goals as goal
 
 -- ---- the first block goes whole

@@ -3,7 +3,8 @@ use Rattle.std.specs.Map.{lookup, remove_entry, set_value}
 use Rattle.xs_stream.specs.declared.id.Id.{Id}
 use Rattle.xs_stream.specs.declared.field.Field.{Field}
 use Rattle.xs_stream.specs.Id.{is_same_id}
-use Rattle.xs_stream.proofs.Joining.{joined, joined-is, listed-joined, filed-joined, keys-joined, restored, found-set, found-some}
+use Rattle.xs_stream.proofs.Joining.{joined, joined-is, listed-joined, filed-joined, keys-joined, restored, found-set}
+use Rattle.xs_stream.proofs.Joining.{found-some}
 use Rattle.xs_stream.proofs.entries.Entries.join_next.Goals as goal
 
 pub join_into-requires : goal.join_into-requires

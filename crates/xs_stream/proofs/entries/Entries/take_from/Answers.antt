@@ -4,7 +4,8 @@ use Rattle.xs_stream.specs.declared.id.Id.{Id}
 use Rattle.xs_stream.specs.declared.field.Field.{Field}
 use Rattle.xs_stream.specs.Id.{is_below, is_same_id}
 use Rattle.xs_stream.specs.Blocks.{listed}
-use Rattle.xs_stream.proofs.FiledBlocks.{same-under, entry-of_key, lent-entry, blocks_without, set-left, removed-left, listed-without, length-without, filed-without, keys-without}
+use Rattle.xs_stream.proofs.FiledBlocks.{same-under, entry-of_key, lent-entry, blocks_without, set-left, removed-left}
+use Rattle.xs_stream.proofs.FiledBlocks.{listed-without, length-without, filed-without, keys-without}
 use Rattle.xs_stream.proofs.entries.Entries.take_from.Goals as goal
 
 pub returns-in_default-clause-entries : goal.returns-in_default-clause-entries

@@ -1,5 +1,6 @@
 use Rattle.std.proofs.Common.{sym, ◌∙◌}
-use Rattle.xs_stream.proofs.PackedCodes.{has_names-missing, has_names-other_count, has_names-same_count, other_name, none_left, true-not}
+use Rattle.xs_stream.proofs.PackedCodes.{has_names-missing, has_names-other_count, has_names-same_count, other_name}
+use Rattle.xs_stream.proofs.PackedCodes.{none_left, true-not}
 use Rattle.xs_stream.proofs.packed.entry.has_names.Goals as goal
 
 pub returns-then-is_empty : goal.returns-then-is_empty

@@ -6,7 +6,8 @@ use Rattle.xs_stream.specs.Id.{is_same_id}
 use Rattle.xs_stream.specs.StreamContent.{fields_at}
 use Rattle.xs_stream.specs.PackedText.{first_text}
 use Rattle.xs_stream.specs.Packed.{entries_in, after_entry, after_entries, entry_in, block_entries}
-use Rattle.xs_stream.proofs.PackedBlocks.{after_entries-more, lookup-passed, lookup-found, removed-passed, removed-found, take-passed, drop-passed, length-after_entry, joined, at-start}
+use Rattle.xs_stream.proofs.PackedBlocks.{after_entries-more, lookup-passed, lookup-found, removed-passed}
+use Rattle.xs_stream.proofs.PackedBlocks.{removed-found, take-passed, drop-passed, length-after_entry, joined, at-start}
 use Rattle.xs_stream.proofs.packed.walks.place_of.Goals as goal
 
 pub loop-index-init : goal.loop-index-init
