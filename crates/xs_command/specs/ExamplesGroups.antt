@@ -124,7 +124,8 @@ pub record Pending : Type 0 where
   pub second_is_none : HasFault (codes "XACK k g 1 x") BadId
   pub summary : Spells (codes "xpending k g") (command.Pending (codes "k") (codes "g"))
   pub rows : Spells (codes "XPENDING k g - + 10") (tells 0 zero_id greatest_id 10 None)
-  pub rows_of_a_consumer : Spells (codes "XPENDING k g 5 6 1 c") (tells 0 (at 5 0) (at 6 greatest_number) 1 (Some (codes "c")))
+  pub rows_of_a_consumer :
+      Spells (codes "XPENDING k g 5 6 1 c") (tells 0 (at 5 0) (at 6 greatest_number) 1 (Some (codes "c")))
   pub rows_left_out : Spells (codes "XPENDING k g (5-3 (6-0 1") (tells 0 (at 5 4) (at 5 greatest_number) 1 None)
   pub rows_that_are_idle : Spells (codes "XPENDING k g idle 7 - + 10") (tells 7 zero_id greatest_id 10 None)
   pub idle_below_zero_own :

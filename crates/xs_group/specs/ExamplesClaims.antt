@@ -50,7 +50,8 @@ pub record ByIds : Type 0 where
       claim_by_ids three present 150 (idle_for 50) (at 1 0 ∷ at 2 0 ∷ at 3 0 ∷ [])
       ≡ record { take = at 1 0 ∷ []; removed = at 2 0 ∷ [] }
   pub several_deleted :
-      claim_by_ids three [] 150 (idle_for 999) (at 3 0 ∷ at 1 0 ∷ []) ≡ record { take = []; removed = at 3 0 ∷ at 1 0 ∷ [] }
+      claim_by_ids three [] 150 (idle_for 999) (at 3 0 ∷ at 1 0 ∷ [])
+      ≡ record { take = []; removed = at 3 0 ∷ at 1 0 ∷ [] }
 
 -- XAUTOCLAIM; own: COUNT hits or 10 x COUNT ids
 pub record ByScan : Type 0 where
@@ -112,7 +113,8 @@ pub record TimesAndCounts : Type 0 where
 
 pub record Settled : Type 0 where
   pub taken_and_removed :
-      Is (group_after_claim (codes "d") 200 (idle_for 0) (record { take = at 3 0 ∷ at 1 0 ∷ []; removed = at 2 0 ∷ [] }) group)
+      Is (group_after_claim (codes "d") 200 (idle_for 0)
+      (record { take = at 3 0 ∷ at 1 0 ∷ []; removed = at 2 0 ∷ [] }) group)
       (at 3 0) (codes "a" ∷ codes "b" ∷ codes "c" ∷ codes "d" ∷ [])
       (pending (at 1 0) (codes "d") 200 2 ∷ pending (at 3 0) (codes "d") 200 2 ∷ [])
   pub others_stay :
@@ -121,7 +123,8 @@ pub record Settled : Type 0 where
       (pending (at 1 0) (codes "a") 100 1 ∷ pending (at 2 0) (codes "a") 200 3 ∷ pending (at 3 0) (codes "a") 120 1
       ∷ [])
   pub several_removed :
-      Is (group_after_claim (codes "a") 200 (idle_for 0) (record { take = []; removed = at 2 0 ∷ at 3 0 ∷ [] }) group) (at 3 0)
+      Is (group_after_claim (codes "a") 200 (idle_for 0)
+      (record { take = []; removed = at 2 0 ∷ at 3 0 ∷ [] }) group) (at 3 0)
       (codes "a" ∷ codes "b" ∷ codes "c" ∷ []) (pending (at 1 0) (codes "a") 100 1 ∷ [])
   pub nothing_claimed :
       Is (group_after_claim (codes "d") 200 (idle_for 0) (record { take = []; removed = [] }) group) (at 3 0)

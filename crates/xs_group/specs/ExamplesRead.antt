@@ -74,7 +74,8 @@ pub record Acknowledged : Type 0 where
       Is (group_after_ack (at 1 0 ∷ at 3 0 ∷ []) group) (at 3 0) (codes "a" ∷ codes "b" ∷ codes "c" ∷ [])
       (pending (at 2 0) (codes "b") 110 2 ∷ [])
   pub in_any_order_and_twice :
-      Is (group_after_ack (at 3 0 ∷ at 9 9 ∷ at 2 0 ∷ at 3 0 ∷ []) group) (at 3 0) (codes "a" ∷ codes "b" ∷ codes "c" ∷ [])
+      Is (group_after_ack (at 3 0 ∷ at 9 9 ∷ at 2 0 ∷ at 3 0 ∷ []) group) (at 3 0)
+      (codes "a" ∷ codes "b" ∷ codes "c" ∷ [])
       (pending (at 1 0) (codes "a") 100 1 ∷ [])
   pub none_of_them : Is (group_after_ack (at 4 0 ∷ []) group) (at 3 0) (codes "a" ∷ codes "b" ∷ codes "c" ∷ []) three
 
@@ -113,7 +114,8 @@ pub record Own : Type 0 where
   pub above_an_id : own_ids (codes "a") None (at 1 0) three ≡ at 3 0 ∷ []
   pub above_the_last : own_ids (codes "a") None (at 3 0) three ≡ []
   pub delivered_again_if_in_the_stream :
-      Is (group_after_reread (codes "a") 200 None (at 0 0) present group) (at 3 0) (codes "a" ∷ codes "b" ∷ codes "c" ∷ [])
+      Is (group_after_reread (codes "a") 200 None (at 0 0) present group) (at 3 0)
+      (codes "a" ∷ codes "b" ∷ codes "c" ∷ [])
       (pending (at 1 0) (codes "a") 100 1 ∷ pending (at 2 0) (codes "b") 110 2 ∷ pending (at 3 0) (codes "a") 200 2
       ∷ [])
   pub those_that_are_shown :
@@ -122,7 +124,8 @@ pub record Own : Type 0 where
       (pending (at 1 0) (codes "a") 200 2 ∷ pending (at 2 0) (codes "b") 110 2 ∷ pending (at 3 0) (codes "a") 120 1
       ∷ [])
   pub one_delivered_before :
-      Is (group_after_reread (codes "b") 200 None (at 1 0) present group) (at 3 0) (codes "a" ∷ codes "b" ∷ codes "c" ∷ [])
+      Is (group_after_reread (codes "b") 200 None (at 1 0) present group) (at 3 0)
+      (codes "a" ∷ codes "b" ∷ codes "c" ∷ [])
       (pending (at 1 0) (codes "a") 100 1 ∷ pending (at 2 0) (codes "b") 200 3 ∷ pending (at 3 0) (codes "a") 120 1
       ∷ [])
   pub a_new_consumer :

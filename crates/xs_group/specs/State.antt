@@ -117,7 +117,8 @@ redelivered_row now row = record { consumer = row.consumer; time = now; count = 
 
 -- what becomes of a row where these ids are shown: it is delivered once more if its entry is in the stream
 abbrev pub row_after_reread : ℕ → List Id → List Id → Id → RowState → Option RowState
-row_after_reread now ids present x row = if has_id ids x && has_id present x then Some (redelivered_row now row) else Some row
+row_after_reread now ids present x row =
+    if has_id ids x && has_id present x then Some (redelivered_row now row) else Some row
 
 -- a group after a read of a consumer's own entries
 abbrev pub group_after_reread : List ℕ → ℕ → Option ℕ → Id → List Id → GroupState → GroupState

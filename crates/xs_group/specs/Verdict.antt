@@ -75,4 +75,5 @@ AreSomeOf done ids = (x : Id) → has_id done x ≡ true → has_id ids x ≡ tr
 -- both indexes hold the same pairs, but for these ids, which the consumer has besides
 abbrev pub AreAgreedBut : List (Id × RowState) → ConsumerIndex → List ℕ → List Id → Type 0
 AreAgreedBut rows owners name ids =
-    (n : List ℕ) → (x : Id) → holds owners n x ≡ (is_owner (indexed_row rows x) n || (is_same_name n name && has_id ids x))
+    (n : List ℕ) → (x : Id) → holds owners n x
+    ≡ (is_owner (indexed_row rows x) n || (is_same_name n name && has_id ids x))

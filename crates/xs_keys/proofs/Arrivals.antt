@@ -13,7 +13,7 @@ use Rattle.xs_keys.specs.Life.{key_life_after, key_life, added_in, top, top_of}
 use Rattle.xs_keys.specs.GroupAsk.{GroupAsk, create_consumer, delete_consumer, acknowledge, claim, auto_claim}
 use Rattle.xs_keys.specs.GroupLife.{GroupLife, present_in, starting_id, new_life, life_after_ask, group_life_after}
 use Rattle.xs_keys.specs.GroupLife.{reads_of, read_group_of, group_life}
-use Rattle.xs_keys.specs.Presence.{adds_or_deletes, EntriesAreAdded, StartsBehind, MakesGroup, GroupsAreCreated}
+use Rattle.xs_keys.specs.Presence.{adds_or_deletes, EntriesAreAdded, StartsAt, MakesGroup, GroupsAreCreated}
 use Rattle.xs_keys.proofs.Lives.{no-life-read}
 use Rattle.xs_keys.proofs.JobPlaces.{life_of}
 
@@ -76,7 +76,7 @@ either-none false life e = refl
 never : (found : Option GroupLife) → found ≡ None → (life : GroupLife) → found ≡ Some life → ⊥
 never found none life e = false≢true (ap is_some (sym none ∙ e))
 
-starts-behind : (start : GroupStart) (changes : List StreamEvent) (given : List (Id × List Field)) → added_in changes ≡ given → (id : Id) → id ≡ starting_id start (top changes) → StartsBehind start given id
+starts-behind : (start : GroupStart) (changes : List StreamEvent) (given : List (Id × List Field)) → added_in changes ≡ given → (id : Id) → id ≡ starting_id start (top changes) → StartsAt start given id
 starts-behind Top changes given g id e = e ∙ ap top_of g
 starts-behind (At written) changes given g id e = e
 
@@ -86,7 +86,7 @@ opened-given false None = refl
 opened-given make (Some changes) = refl
 
 made-at : (create : GroupCreateCommand) (stream : Option (List StreamEvent)) (given : List (Id × List Field)) → option_map_or added_in stream [] ≡ given → (life : GroupLife)
-    → option_map (λ changes. life_of (starting_id create.start (top changes)) []) stream ≡ Some life → StartsBehind create.start given life.start
+    → option_map (λ changes. life_of (starting_id create.start (top changes)) []) stream ≡ Some life → StartsAt create.start given life.start
 made-at create None given g life e = absurd (false≢true (ap is_some e))
 made-at create (Some changes) given g life e = starts-behind create.start changes given g life.start (ap (λ o. option_map_or (λ l. l.start) o zero_id) (sym e))
 
@@ -100,7 +100,7 @@ makes-group now (TrimTo name trim) key group served stream life e = false≢true
 makes-group now (Len name) key group served stream life e = false≢true (ap is_some e)
 makes-group now (Scan scan) key group served stream life e = false≢true (ap is_some e)
 makes-group now (GroupCreate create) key group served stream life e = by (is_same_name key create.key && is_same_name group create.group) e where
-  by : (t : Bool) → cond t (new_life create stream) None ≡ Some life → (t ≡ true) × StartsBehind create.start (option_map_or added_in stream []) life.start
+  by : (t : Bool) → cond t (new_life create stream) None ≡ Some life → (t ≡ true) × StartsAt create.start (option_map_or added_in stream []) life.start
   by true f = (refl, made-at create (life_or_new create.make stream) (option_map_or added_in stream []) (opened-given create.make stream) life f)
   by false f = absurd (false≢true (ap is_some f))
 makes-group now (GroupDestroy name g) key group served stream life e = never _ (either-none (is_same_name key name && is_same_name group g) None refl) life e

@@ -3,13 +3,13 @@ use Rattle.std.proofs.Common.{◌≡◌, ℕ, List, Option, Some, None, ap, ◌�
 use Rattle.xs_keys.specs.Terms.{option_map_or, NameMap, get, insert, Id, Field, ids_of, GroupState, Reply}
 use Rattle.xs_keys.specs.GroupAsk.{GroupAsk}
 use Rattle.xs_keys.specs.Content.{Content, KeyState}
-use Rattle.xs_keys.specs.ContentAfter.{content_after_ask, group_after, with_group, group_in, entries_in}
+use Rattle.xs_keys.specs.ContentAfter.{after_ask, group_after, with_group, group_in, entries_in}
 use Rattle.xs_keys.specs.ReplyParts.{reply_of_group}
 use Rattle.xs_keys.proofs.Names.{insert-same}
 
 -- an ask of a group that isn't there changes nothing
 pub asked-missing : (content : Content) (now : ℕ) (name group_name : List ℕ) (ask : GroupAsk) → group_in (get content name) group_name ≡ None
-    → content_after_ask content now name group_name ask ≡ content
+    → after_ask content now name group_name ask ≡ content
 asked-missing content now name group_name ask e = by (get content name) e where
   by : (key : Option KeyState) → group_in key group_name ≡ None
       → option_map_or (λ k. option_map_or (λ group. insert content name (with_group k group_name (group_after now (ids_of k.stream.entries) ask group))) (get k.groups group_name) content) key content ≡ content
@@ -18,7 +18,7 @@ asked-missing content now name group_name ask e = by (get content name) e where
 
 -- nor does it put the key in again as it was
 pub asked_nothing : (content : Content) (now : ℕ) (name group_name : List ℕ) (ask : GroupAsk) (key : KeyState) → get content name ≡ Some key → get key.groups group_name ≡ None
-    → insert content name key ≡ content_after_ask content now name group_name ask
+    → insert content name key ≡ after_ask content now name group_name ask
 asked_nothing content now name group_name ask key found none = rw (found, none) (insert-same content name key found)
 
 -- a group that is put in again as it was

@@ -16,9 +16,9 @@ use Rattle.xs_keys.specs.GroupAsk.{GroupAsk, create_consumer, delete_consumer, a
 use Rattle.xs_keys.specs.GroupLife.{GroupLife, present_in, starting_id, new_life, life_after_ask, ask_of_read}
 use Rattle.xs_keys.specs.GroupLife.{life_after_reads, group_life}
 use Rattle.xs_keys.specs.Content.{KeyState, Content, IsGroup, GroupHolds, KeyHolds, IsContent}
-use Rattle.xs_keys.specs.ContentAfter.{new_key, key_or_new, stream_after, key_after, content_after_stream_event}
-use Rattle.xs_keys.specs.ContentAfter.{without_keys, group_after, with_group, content_after_ask, content_after_create}
-use Rattle.xs_keys.specs.ContentAfter.{group_in, has_all_groups_in, content_after_reads, content_after}
+use Rattle.xs_keys.specs.ContentAfter.{new_key, key_or_new, stream_after, key_after, after_stream_event}
+use Rattle.xs_keys.specs.ContentAfter.{without_keys, group_after, with_group, after_ask, after_create}
+use Rattle.xs_keys.specs.ContentAfter.{group_in, has_all_groups_in, after_reads, content_after}
 use Rattle.xs_keys.proofs.Names.{is_name-eq, get-insert, get-remove, same_map, same_names}
 use Rattle.xs_keys.proofs.Streams.{stream-step, ascends-live}
 use Rattle.xs_keys.proofs.GroupSteps.{group-step, group-new}
@@ -49,19 +49,19 @@ holds-new : (change : StreamEvent) (lives : List ℕ → Option GroupLife) → (
 holds-new change lives h = (sym (stream-step change []), no_groups lives h)
 
 holds-changed : (c : Content) (name : List ℕ) (change : StreamEvent) (key : Option KeyState) (life : Option (List StreamEvent)) (lives : List ℕ → Option GroupLife) (q : List ℕ)
-    → get c name ≡ key → KeyHolds key life lives → is_same_name q name ≡ true → KeyHolds (get (content_after_stream_event c name change key) q) (option_map (λ changes. change ∷ changes) life) lives
+    → get c name ≡ key → KeyHolds key life lives → is_same_name q name ≡ true → KeyHolds (get (after_stream_event c name change key) q) (option_map (λ changes. change ∷ changes) life) lives
 holds-changed c name change None None lives q e h same = rw (is_name-eq q name same, e) h
 holds-changed c name change (Some key) (Some changes) lives q e h same = rw (get-insert c name (key_after change key) q, same) (holds-change change key changes lives h)
 holds-changed c name change None (Some changes) lives q e h same = absurd h
 holds-changed c name change (Some key) None lives q e h same = absurd h
 
 -- another key stays as it is
-changed-other : (c : Content) (name : List ℕ) (change : StreamEvent) (key : Option KeyState) (q : List ℕ) → is_same_name q name ≡ false → get (content_after_stream_event c name change key) q ≡ get c q
+changed-other : (c : Content) (name : List ℕ) (change : StreamEvent) (key : Option KeyState) (q : List ℕ) → is_same_name q name ≡ false → get (after_stream_event c name change key) q ≡ get c q
 changed-other c name change None q other = refl
 changed-other c name change (Some key) q other = rw (get-insert c name (key_after change key) q, other) refl
 
 holds-addition : (c : Content) (name : List ℕ) (change : StreamEvent) (make : Bool) (key : Option KeyState) (life : Option (List StreamEvent)) (lives : List ℕ → Option GroupLife) (q : List ℕ)
-    → get c name ≡ key → KeyHolds key life lives → is_same_name q name ≡ true → KeyHolds (get (content_after_stream_event c name change (key_or_new make key)) q) (option_map (λ changes. change ∷ changes) (life_or_new make life)) lives
+    → get c name ≡ key → KeyHolds key life lives → is_same_name q name ≡ true → KeyHolds (get (after_stream_event c name change (key_or_new make key)) q) (option_map (λ changes. change ∷ changes) (life_or_new make life)) lives
 holds-addition c name change true None None lives q e h same = rw (get-insert c name (key_after change new_key) q, same) (holds-new change lives h)
 holds-addition c name change false None None lives q e h same = rw (is_name-eq q name same, e) h
 holds-addition c name change make (Some key) (Some changes) lives q e h same = rw (get-insert c name (key_after change key) q, same) (holds-change change key changes lives h)
@@ -148,14 +148,14 @@ asked-other c now name group ask (Some key) q other = by (get key.groups group) 
   by (Some s) = rw (get-insert c name (with_group key group (group_after now (ids_of key.stream.entries) ask s)) q, other) refl
 
 -- an ask of a group of one key leaves the others
-pub asked-elsewhere : (c : Content) (now : ℕ) (name group : List ℕ) (ask : GroupAsk) (q : List ℕ) → is_same_name q name ≡ false → get (content_after_ask c now name group ask) q ≡ get c q
+pub asked-elsewhere : (c : Content) (now : ℕ) (name group : List ℕ) (ask : GroupAsk) (q : List ℕ) → is_same_name q name ≡ false → get (after_ask c now name group ask) q ≡ get c q
 asked-elsewhere c now name group ask q other = asked-other c now name group ask (get c name) q other
 
 pub holds-ask : (c : Content) (streams : List ℕ → Option (List StreamEvent)) (lives : List ℕ → List ℕ → Option GroupLife) (now : ℕ) (name group : List ℕ) (ask : GroupAsk)
-    → Holds c streams lives → Holds (content_after_ask c now name group ask) streams (λ q g. cond (is_same_name q name && is_same_name g group) (life_after_ask now (present_in (streams q)) ask (lives q g)) (lives q g))
+    → Holds c streams lives → Holds (after_ask c now name group ask) streams (λ q g. cond (is_same_name q name && is_same_name g group) (life_after_ask now (present_in (streams q)) ask (lives q g)) (lives q g))
 holds-ask c streams lives now name group ask h = λ q. by q (is_same_name q name) refl where
   by : (q : List ℕ) (t : Bool) → is_same_name q name ≡ t
-      → KeyHolds (get (content_after_ask c now name group ask) q) (streams q) (λ g. cond (t && is_same_name g group) (life_after_ask now (present_in (streams q)) ask (lives q g)) (lives q g))
+      → KeyHolds (get (after_ask c now name group ask) q) (streams q) (λ g. cond (t && is_same_name g group) (life_after_ask now (present_in (streams q)) ask (lives q g)) (lives q g))
   by q true e = asks-here c now name group ask (get c name) (streams q) (lives q) q refl e (subst (λ n. KeyHolds (get c n) (streams q) (lives q)) (is_name-eq q name e) (h q))
   by q false e = subst (λ k. KeyHolds k (streams q) (lives q)) (sym (asked-other c now name group ask (get c name) q e)) (h q)
 
@@ -175,14 +175,14 @@ read-lives false now present read q more true a b = refl
 read-lives false now present read q more false a b = refl
 
 holds-reads : (reads : List ReadOne) (c : Content) (streams : List ℕ → Option (List StreamEvent)) (lives : List ℕ → List ℕ → Option GroupLife) (now : ℕ) (read : ReadGroupCommand)
-    → Holds c streams lives → Holds (content_after_reads c now read reads) streams (λ q g. cond (is_same_name g read.group) (life_after_reads now (present_in (streams q)) read q reads (lives q g)) (lives q g))
+    → Holds c streams lives → Holds (after_reads c now read reads) streams (λ q g. cond (is_same_name g read.group) (life_after_reads now (present_in (streams q)) read q reads (lives q g)) (lives q g))
 holds-reads [] c streams lives now read h = λ q. subst (KeyHolds (get c q) (streams q)) (λ i g. same (is_same_name g read.group) (lives q g) i) (h q) where
   same : (t : Bool) (a : Option GroupLife) → a ≡ cond t a a
   same true a = refl
   same false a = refl
 holds-reads (one ∷ more) c streams lives now read h =
-    let next = holds-reads more (content_after_ask c now one.key read.group (ask_of_read read one.from)) streams _ now read (holds-ask c streams lives now one.key read.group (ask_of_read read one.from) h) in
-    λ q. subst (KeyHolds (get (content_after_reads c now read (one ∷ more)) q) (streams q))
+    let next = holds-reads more (after_ask c now one.key read.group (ask_of_read read one.from)) streams _ now read (holds-ask c streams lives now one.key read.group (ask_of_read read one.from) h) in
+    λ q. subst (KeyHolds (get (after_reads c now read (one ∷ more)) q) (streams q))
     (λ i g. read-lives (is_same_name g read.group) now (present_in (streams q)) read q more (is_same_name q one.key)
     (life_after_ask now (present_in (streams q)) (ask_of_read read one.from) (lives q g)) (lives q g) i)
     (next q)
@@ -231,7 +231,7 @@ stays groups lives create stream s h is = λ g. by g (is_same_name g create.grou
   by g false e = h g
 
 makes : (c : Content) (create : GroupCreateCommand)
-    → content_after_create c create (Some new_key) ≡ insert c create.key (with_group new_key create.group (new_group (starting_id create.start new_key.stream.top)))
+    → after_create c create (Some new_key) ≡ insert c create.key (with_group new_key create.group (new_group (starting_id create.start new_key.stream.top)))
 makes c create =
     ap (λ s. cond (is_some s) c (insert c create.key (with_group new_key create.group (new_group (starting_id create.start new_key.stream.top))))) (get-empty _ create.group)
 
@@ -252,7 +252,7 @@ creates-key c create key changes lives None q none is same h =
 
 creates-here : (c : Content) (create : GroupCreateCommand) (make : Bool) → create.make ≡ make → (key : Option KeyState) (stream : Option (List StreamEvent)) (lives : List ℕ → Option GroupLife) (q : List ℕ)
     → get c create.key ≡ key → is_same_name q create.key ≡ true → KeyHolds key stream lives
-    → KeyHolds (get (content_after_create c create (key_or_new make key)) q) (life_or_new make stream) (λ g. cond (is_same_name g create.group) (option_or (lives g) (new_life create stream)) (lives g))
+    → KeyHolds (get (after_create c create (key_or_new make key)) q) (life_or_new make stream) (λ g. cond (is_same_name g create.group) (option_or (lives g) (new_life create stream)) (lives g))
 creates-here c create true m None None lives q none same h =
     subst (λ k. KeyHolds k (Some []) (λ g. cond (is_same_name g create.group) (option_or (lives g) (new_life create None)) (lives g)))
     (sym (ap (λ k. get k q) (makes c create) ∙ get-insert c create.key (with_group new_key create.group (new_group (starting_id create.start new_key.stream.top))) q
@@ -269,7 +269,7 @@ creates-here c create make m (Some key) (Some changes) lives q is same h =
 creates-here c create make m None (Some changes) lives q is same h = absurd h
 creates-here c create make m (Some key) None lives q is same h = absurd h
 
-created-other : (c : Content) (create : GroupCreateCommand) (key : Option KeyState) (q : List ℕ) → is_same_name q create.key ≡ false → get (content_after_create c create key) q ≡ get c q
+created-other : (c : Content) (create : GroupCreateCommand) (key : Option KeyState) (q : List ℕ) → is_same_name q create.key ≡ false → get (after_create c create key) q ≡ get c q
 created-other c create None q other = refl
 created-other c create (Some key) q other = by (has_key key.groups create.group) where
   by : (t : Bool) → get (cond t c (insert c create.key (with_group key create.group (new_group (starting_id create.start key.stream.top))))) q ≡ get c q
@@ -311,16 +311,16 @@ module _ (c : Content) (past : History) (h : IsContent c past) (q : List ℕ) wh
   at_name name same = subst (λ n. KeyHolds (get c n) (key_life past q) (λ g. group_life past q g)) (is_name-eq q name same) (h q)
 
   step-changed : (name : List ℕ) (change : StreamEvent)
-      → KeyHolds (get (content_after_stream_event c name change (get c name)) q) (cond (is_same_name q name) (option_map (λ changes. change ∷ changes) (key_life past q)) (key_life past q)) (λ g. group_life past q g)
+      → KeyHolds (get (after_stream_event c name change (get c name)) q) (cond (is_same_name q name) (option_map (λ changes. change ∷ changes) (key_life past q)) (key_life past q)) (λ g. group_life past q g)
   step-changed name change = by (is_same_name q name) refl where
-    by : (t : Bool) → is_same_name q name ≡ t → KeyHolds (get (content_after_stream_event c name change (get c name)) q) (cond t (option_map (λ changes. change ∷ changes) (key_life past q)) (key_life past q)) (λ g. group_life past q g)
+    by : (t : Bool) → is_same_name q name ≡ t → KeyHolds (get (after_stream_event c name change (get c name)) q) (cond t (option_map (λ changes. change ∷ changes) (key_life past q)) (key_life past q)) (λ g. group_life past q g)
     by true e = holds-changed c name change (get c name) (key_life past q) (λ g. group_life past q g) q refl (at_name name e) e
     by false e = rw (changed-other c name change (get c name) q e) (h q)
 
   step-addition : (name : List ℕ) (change : StreamEvent) (make : Bool)
-      → KeyHolds (get (content_after_stream_event c name change (key_or_new make (get c name))) q) (cond (is_same_name q name) (option_map (λ changes. change ∷ changes) (life_or_new make (key_life past q))) (key_life past q)) (λ g. group_life past q g)
+      → KeyHolds (get (after_stream_event c name change (key_or_new make (get c name))) q) (cond (is_same_name q name) (option_map (λ changes. change ∷ changes) (life_or_new make (key_life past q))) (key_life past q)) (λ g. group_life past q g)
   step-addition name change make = by (is_same_name q name) refl where
-    by : (t : Bool) → is_same_name q name ≡ t → KeyHolds (get (content_after_stream_event c name change (key_or_new make (get c name))) q) (cond t (option_map (λ changes. change ∷ changes) (life_or_new make (key_life past q))) (key_life past q)) (λ g. group_life past q g)
+    by : (t : Bool) → is_same_name q name ≡ t → KeyHolds (get (after_stream_event c name change (key_or_new make (get c name))) q) (cond t (option_map (λ changes. change ∷ changes) (life_or_new make (key_life past q))) (key_life past q)) (λ g. group_life past q g)
     by true e = holds-addition c name change make (get c name) (key_life past q) (λ g. group_life past q g) q refl (at_name name e) e
     by false e = rw (changed-other c name change (key_or_new make (get c name)) q e) (h q)
 
@@ -328,10 +328,10 @@ module _ (c : Content) (past : History) (h : IsContent c past) (q : List ℕ) wh
   step-dropped names = rw (get-without_keys names c q) (holds-dropped (is_listed names q) (get c q) (key_life past q) (λ g. group_life past q g) (h q))
 
   step-created : (create : GroupCreateCommand)
-      → KeyHolds (get (content_after_create c create (key_or_new create.make (get c create.key))) q) (cond (is_same_name q create.key) (life_or_new create.make (key_life past q)) (key_life past q))
+      → KeyHolds (get (after_create c create (key_or_new create.make (get c create.key))) q) (cond (is_same_name q create.key) (life_or_new create.make (key_life past q)) (key_life past q))
       (λ g. cond (is_same_name q create.key && is_same_name g create.group) (option_or (group_life past q g) (new_life create (key_life past q))) (group_life past q g))
   step-created create = by (is_same_name q create.key) refl where
-    by : (t : Bool) → is_same_name q create.key ≡ t → KeyHolds (get (content_after_create c create (key_or_new create.make (get c create.key))) q) (cond t (life_or_new create.make (key_life past q)) (key_life past q))
+    by : (t : Bool) → is_same_name q create.key ≡ t → KeyHolds (get (after_create c create (key_or_new create.make (get c create.key))) q) (cond t (life_or_new create.make (key_life past q)) (key_life past q))
         (λ g. cond (t && is_same_name g create.group) (option_or (group_life past q g) (new_life create (key_life past q))) (group_life past q g))
     by true e = creates-here c create create.make refl (get c create.key) (key_life past q) (λ g. group_life past q g) q refl e (at_name create.key e)
     by false e = subst (λ k. KeyHolds k (key_life past q) (λ g. group_life past q g)) (sym (created-other c create (key_or_new create.make (get c create.key)) q e)) (h q)
@@ -344,11 +344,11 @@ module _ (c : Content) (past : History) (h : IsContent c past) (q : List ℕ) wh
     by false e = subst (λ k. KeyHolds k (key_life past q) (λ g. group_life past q g)) (sym (destroyed-other c name group (get c name) q e)) (h q)
 
 step-asked : (c : Content) (past : History) (now : ℕ) (name group : List ℕ) (ask : GroupAsk) → IsContent c past
-    → Holds (content_after_ask c now name group ask) (key_life past) (λ q g. cond (is_same_name q name && is_same_name g group) (life_after_ask now (present_in (key_life past q)) ask (group_life past q g)) (group_life past q g))
+    → Holds (after_ask c now name group ask) (key_life past) (λ q g. cond (is_same_name q name && is_same_name g group) (life_after_ask now (present_in (key_life past q)) ask (group_life past q g)) (group_life past q g))
 step-asked c past now name group ask h = holds-ask c (key_life past) (λ q g. group_life past q g) now name group ask h
 
 step-read : (c : Content) (past : History) (now : ℕ) (read : ReadGroupCommand) → IsContent c past
-    → Holds (cond (has_all_groups_in c read) (content_after_reads c now read read.reads) c) (key_life past)
+    → Holds (cond (has_all_groups_in c read) (after_reads c now read read.reads) c) (key_life past)
     (λ q g. cond (is_same_name g read.group && list_all (λ one. is_some (group_life past one.key read.group)) read.reads) (life_after_reads now (present_in (key_life past q)) read q read.reads (group_life past q g)) (group_life past q g))
 step-read c past now read h = by (has_all_groups_in c read) (serves-known read.reads c past read.group h) where
   whole : (a : Bool) (x y : Option GroupLife) → cond a x y ≡ cond (a && true) x y
@@ -359,10 +359,10 @@ step-read c past now read h = by (has_all_groups_in c read) (serves-known read.r
   none true x y = refl
   none false x y = refl
 
-  by : (t : Bool) → t ≡ list_all (λ one. is_some (group_life past one.key read.group)) read.reads → Holds (cond t (content_after_reads c now read read.reads) c) (key_life past)
+  by : (t : Bool) → t ≡ list_all (λ one. is_some (group_life past one.key read.group)) read.reads → Holds (cond t (after_reads c now read read.reads) c) (key_life past)
       (λ q g. cond (is_same_name g read.group && list_all (λ one. is_some (group_life past one.key read.group)) read.reads) (life_after_reads now (present_in (key_life past q)) read q read.reads (group_life past q g)) (group_life past q g))
-  by true e = subst (λ b. Holds (content_after_reads c now read read.reads) (key_life past) (λ q g. cond (is_same_name g read.group && b) (life_after_reads now (present_in (key_life past q)) read q read.reads (group_life past q g)) (group_life past q g))) e
-      (λ q. subst (KeyHolds (get (content_after_reads c now read read.reads) q) (key_life past q))
+  by true e = subst (λ b. Holds (after_reads c now read read.reads) (key_life past) (λ q g. cond (is_same_name g read.group && b) (life_after_reads now (present_in (key_life past q)) read q read.reads (group_life past q g)) (group_life past q g))) e
+      (λ q. subst (KeyHolds (get (after_reads c now read read.reads) q) (key_life past q))
       (λ i g. whole (is_same_name g read.group) (life_after_reads now (present_in (key_life past q)) read q read.reads (group_life past q g)) (group_life past q g) i)
       (holds-reads read.reads c (key_life past) (λ q g. group_life past q g) now read h q))
   by false e = subst (λ b. Holds c (key_life past) (λ q g. cond (is_same_name g read.group && b) (life_after_reads now (present_in (key_life past q)) read q read.reads (group_life past q g)) (group_life past q g))) e

@@ -94,8 +94,8 @@ had-event start (event ∷ past) x h low high = by (is_below (cursor start past)
     event = event;
     earlier = past;
     among = refl;
-    theirs = both_turns (is_below (cursor start past) x) (is_below (cursor start (event ∷ past)) x) e high;
-    exactly = has_id-append (delivered_ids start past) new x ∙ none_or _ (has_id new x) (not_old e)
+    is_turn = both_turns (is_below (cursor start past) x) (is_below (cursor start (event ∷ past)) x) e high;
+    delivered_if_present = has_id-append (delivered_ids start past) new x ∙ none_or _ (has_id new x) (not_old e)
         ∙ exactly-at event.ask event.present (cursor start past) x h.0 e (ap (λ c. is_below c x) (sym (cursor-step start event past)) ∙ high);
   }
   by false e before =
@@ -105,6 +105,6 @@ had-event start (event ∷ past) x h low high = by (is_below (cursor start past)
         event = had.event;
         earlier = had.earlier;
         among = ap (λ ts. event ∷ ts) had.among;
-        theirs = had.theirs;
-        exactly = has_id-append (delivered_ids start past) new x ∙ or_none _ (has_id new x) (not_new e) ∙ had.exactly;
+        is_turn = had.is_turn;
+        delivered_if_present = has_id-append (delivered_ids start past) new x ∙ or_none _ (has_id new x) (not_new e) ∙ had.delivered_if_present;
       }

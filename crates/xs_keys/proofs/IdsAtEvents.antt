@@ -305,6 +305,6 @@ pub none-stranded : (start : Id) (changes : List StreamEvent) (events : List Gro
 none-stranded start changes events x asc h low high there =
     let had = had-event start events x asc low high in
     let s = saw-then changes had.later had.event had.earlier (subst (Sees changes) had.among h) in
-    let behind = passed (is_below (cursor start had.earlier) x) (is_below (cursor start (had.event ∷ had.earlier)) x) had.theirs in
+    let behind = passed (is_below (cursor start had.earlier) x) (is_below (cursor start (had.event ∷ had.earlier)) x) had.is_turn in
     let up = cursor-top start s.1 (had.event ∷ had.earlier) x s.3 low behind in
-    had.exactly ∙ ap (λ ids. has_id ids x) s.4 ∙ live-earlier s.0 s.1 x up (ap (λ cs. has_id (ids_of (present_entries cs)) x) (sym s.2) ∙ there)
+    had.delivered_if_present ∙ ap (λ ids. has_id ids x) s.4 ∙ live-earlier s.0 s.1 x up (ap (λ cs. has_id (ids_of (present_entries cs)) x) (sym s.2) ∙ there)

@@ -221,8 +221,8 @@ add-up : (above : Id → Bool) (place : Id → Place) → ((x : Id) → above x 
 add-up above place is [] = refl
 add-up above place is (x ∷ xs) = one-more x (place x) (above x) (is x) _ _ _ _ _ _ (add-up above place is xs)
 
-pub balances : (life : GroupLife) (changes : List StreamEvent) → PresentAscends life.events → Sees changes life.events → PlacesAddUp changes life
-balances life changes asc sees =
+pub places-add-up : (life : GroupLife) (changes : List StreamEvent) → PresentAscends life.events → Sees changes life.events → PlacesAddUp changes life
+places-add-up life changes asc sees =
     let all_pending = pending-are life changes asc sees is_pending (λ name. true) is-pending (λ name. refl)
     ∙ filter-same _ _ (delivered_ids life.start life.events) (λ x. held life changes asc sees (λ name. true) x ∙ by (pending_row_at life.start life.events x))
     ∙ sym (ids-among (λ x. pending_row_at life.start life.events x) (delivered_ids life.start life.events)) in
@@ -255,7 +255,7 @@ tells-pending c past now key group changes life is k g =
     number : (state : GroupState) → IsGroup state life → length state.rows.entries ≡ length (jobs_at is_pending changes life)
     number state holds =
         ap length holds.rows_are ∙ sym (length-map (rows life.start life.events) (λ e. e.0))
-        ∙ sym (ap length (balances life changes (present-in-life past key group life g) (sees-of past key group changes life k g)).pending_are)
+        ∙ sym (ap length (places-add-up life changes (present-in-life past key group life g) (sees-of past key group changes life k g)).pending_are)
 
     by : (found : Option KeyState) → get c key ≡ found → KeyHolds found (Some changes) (λ name. group_life past key name) → TellsPending c now key group (length (jobs_at is_pending changes life))
     by None e h = absurd h

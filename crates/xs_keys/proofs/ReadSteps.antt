@@ -13,7 +13,7 @@ use Rattle.xs_keys.specs.declared.xreadgroup.Served.{Served}
 use Rattle.xs_keys.specs.GroupAsk.{GroupAsk}
 use Rattle.xs_keys.specs.GroupLife.{ask_of_read}
 use Rattle.xs_keys.specs.Content.{Content, KeyState}
-use Rattle.xs_keys.specs.ContentAfter.{content_after_ask, content_after_reads, group_after, with_group, group_in}
+use Rattle.xs_keys.specs.ContentAfter.{after_ask, after_reads, group_after, with_group, group_in}
 use Rattle.xs_keys.specs.ContentAfter.{entries_in}
 use Rattle.xs_resp.specs.Token.{Token}
 use Rattle.xs_resp.specs.ReplyItems.{tokens_of}
@@ -43,7 +43,7 @@ get-inserted m name a = get-insert m name a name ∙ ap (λ t. cond t (Some a) (
 -- an ask of a group that is there
 pub asked-at : (content : Content) (now : ℕ) (name group_name : List ℕ) (ask : GroupAsk) (key : KeyState) (was : GroupState)
     → get content name ≡ Some key → get key.groups group_name ≡ Some was
-    → content_after_ask content now name group_name ask ≡ insert content name (with_group key group_name (group_after now (ids_of key.stream.entries) ask was))
+    → after_ask content now name group_name ask ≡ insert content name (with_group key group_name (group_after now (ids_of key.stream.entries) ask was))
 asked-at content now name group_name ask key was had has = rw (had, has) refl
 
 -- ---- one read
@@ -152,7 +152,7 @@ first-there test one more h = by (test one) h where
 
 -- of all these reads some are left, and lead to where all of them would
 pub record Underway (now : ℕ) (read : ReadGroupCommand) (all : List ReadOne) (first : Content) (left : List ReadOne) (here : Content) (tokens : List Token) (count : ℕ) : Type 0 where
-  pub content : content_after_reads here now read left ≡ content_after_reads first now read all
+  pub content : after_reads here now read left ≡ after_reads first now read all
   pub shown : tokens ++ flat_map tokens_of (parts here now read left) ≡ flat_map tokens_of (parts first now read all)
   pub counted : count + length (parts here now read left) ≡ length (parts first now read all)
   pub there : list_all (λ one. is_some (group_in (get here one.key) read.group)) left ≡ true
@@ -163,7 +163,7 @@ one-more now read all first one more before after tokens longer count served u s
     let this = parts_of before read one in
     let split : parts before now read (one ∷ more) ≡ this ++ parts after now read more = ap (λ c. this ++ parts c now read more) (sym s.left) in
     record {
-      content = ap (λ c. content_after_reads c now read more) s.left ∙ u.content;
+      content = ap (λ c. after_reads c now read more) s.left ∙ u.content;
       shown =
           ap (λ ts. ts ++ flat_map tokens_of (parts after now read more)) s.shows.appended
           ∙ append_assoc tokens (flat_map tokens_of this) (flat_map tokens_of (parts after now read more))
@@ -191,5 +191,5 @@ pub parts-le : (content : Content) (now : ℕ) (read : ReadGroupCommand) (reads 
 parts-le content now read [] = omega arith
 parts-le content now read (one ∷ more) =
     let this = parts_of content read one in
-    let after = content_after_ask content now one.key read.group (ask_of_read read one.from) in
+    let after = after_ask content now one.key read.group (ask_of_read read one.from) in
     omega (arith, one-part read one.key one.from (entries_in (get content one.key)) (group_in (get content one.key) read.group), parts-le after now read more, length-append this (parts after now read more))

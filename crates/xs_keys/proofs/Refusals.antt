@@ -20,9 +20,9 @@ use Rattle.xs_keys.specs.Life.{add_entry}
 use Rattle.xs_keys.specs.GroupAsk.{GroupAsk, create_consumer, delete_consumer, claim, auto_claim}
 use Rattle.xs_keys.specs.GroupLife.{starting_id}
 use Rattle.xs_keys.specs.Content.{Content, KeyState}
-use Rattle.xs_keys.specs.ContentAfter.{stream_with, content_after_stream_event, content_after_ask, with_group}
-use Rattle.xs_keys.specs.ContentAfter.{content_after_create, key_or_new, group_in, entries_in, has_all_groups_in}
-use Rattle.xs_keys.specs.ContentAfter.{content_after_reads, content_after}
+use Rattle.xs_keys.specs.ContentAfter.{stream_with, after_stream_event, after_ask, with_group}
+use Rattle.xs_keys.specs.ContentAfter.{after_create, key_or_new, group_in, entries_in, has_all_groups_in}
+use Rattle.xs_keys.specs.ContentAfter.{after_reads, content_after}
 use Rattle.xs_keys.specs.ReplyParts.{array_or_null, assigned_reply, reply_of_group, reply_of_key, taken_reply}
 use Rattle.xs_keys.specs.ReplyParts.{scan_reply}
 use Rattle.xs_keys.specs.Reply.{parts, reply}
@@ -68,7 +68,7 @@ refused-stream (Err refusal) fields trim stream e = refl
 refused-add : (content : Content) (now : ℕ) (add : AddCommand) → IsAddId add.id → is_error (reply content now (Add add)) ≡ true → content_after content now (Add add) ≡ content
 refused-add content now add formed = by (get content add.key) refl add.make where
   by : (key : Option KeyState) → get content add.key ≡ key → (make : Bool) → is_error (option_map_or (λ k. assigned_reply (assigned now k.stream.top add.id)) (key_or_new make key) NullBulk) ≡ true
-      → content_after_stream_event content add.key (add_entry now add.id add.fields add.trim) (key_or_new make key) ≡ content
+      → after_stream_event content add.key (add_entry now add.id add.fields add.trim) (key_or_new make key) ≡ content
   by (Some key) found make e =
       ap (λ stream. insert content add.key (record { stream = stream; groups = key.groups })) (refused-stream (assigned now key.stream.top add.id) add.fields add.trim key.stream e)
       ∙ insert-same content add.key key found
@@ -81,26 +81,26 @@ no_error_taken false entries ids = refl
 
 -- a group that isn't there is asked nothing
 refused-ask : (content : Content) (now : ℕ) (name group : List ℕ) (ask : GroupAsk) (said : GroupState → Reply) → ((s : GroupState) → is_error (said s) ≡ false)
-    → is_error (reply_of_group (group_in (get content name) group) said) ≡ true → content_after_ask content now name group ask ≡ content
+    → is_error (reply_of_group (group_in (get content name) group) said) ≡ true → after_ask content now name group ask ≡ content
 refused-ask content now name group ask said never = by (group_in (get content name) group) refl where
-  by : (found : Option GroupState) → group_in (get content name) group ≡ found → is_error (reply_of_group found said) ≡ true → content_after_ask content now name group ask ≡ content
+  by : (found : Option GroupState) → group_in (get content name) group ≡ found → is_error (reply_of_group found said) ≡ true → after_ask content now name group ask ≡ content
   by None missing e = asked-missing content now name group ask missing
   by (Some s) found e = absurd (false≢true (sym (never s) ∙ e))
 
 -- neither is one of a key that isn't there
 refused-within : (content : Content) (now : ℕ) (name group : List ℕ) (ask : GroupAsk) (said : GroupState → Reply) → ((s : GroupState) → is_error (said s) ≡ false)
-    → is_error (reply_of_key (get content name) (λ k. reply_of_group (get k.groups group) said)) ≡ true → content_after_ask content now name group ask ≡ content
+    → is_error (reply_of_key (get content name) (λ k. reply_of_group (get k.groups group) said)) ≡ true → after_ask content now name group ask ≡ content
 refused-within content now name group ask said never = by (get content name) refl where
-  by : (key : Option KeyState) → get content name ≡ key → is_error (reply_of_key key (λ k. reply_of_group (get k.groups group) said)) ≡ true → content_after_ask content now name group ask ≡ content
+  by : (key : Option KeyState) → get content name ≡ key → is_error (reply_of_key key (λ k. reply_of_group (get k.groups group) said)) ≡ true → after_ask content now name group ask ≡ content
   by None missing e = asked-missing content now name group ask (ap (λ k. group_in k group) missing)
   by (Some key) found e = within (get key.groups group) refl e where
-    within : (s : Option GroupState) → get key.groups group ≡ s → is_error (reply_of_group s said) ≡ true → content_after_ask content now name group ask ≡ content
+    within : (s : Option GroupState) → get key.groups group ≡ s → is_error (reply_of_group s said) ≡ true → after_ask content now name group ask ≡ content
     within None missing f = asked-missing content now name group ask (ap (λ k. group_in k group) found ∙ missing)
     within (Some s) has f = absurd (false≢true (sym (never s) ∙ f))
 
 refused-create : (content : Content) (now : ℕ) (create : GroupCreateCommand) → is_error (reply content now (GroupCreate create)) ≡ true → content_after content now (GroupCreate create) ≡ content
 refused-create content now create = by (key_or_new create.make (get content create.key)) where
-  by : (key : Option KeyState) → is_error (reply_of_key key (λ k. cond (has_key k.groups create.group) (Error Busy) (Simple Okay))) ≡ true → content_after_create content create key ≡ content
+  by : (key : Option KeyState) → is_error (reply_of_key key (λ k. cond (has_key k.groups create.group) (Error Busy) (Simple Okay))) ≡ true → after_create content create key ≡ content
   by None e = refl
   by (Some key) e = within (has_key key.groups create.group) e where
     within : (t : Bool) → is_error (cond t (Error Busy) (Simple Okay)) ≡ true
@@ -121,7 +121,7 @@ no_error (r ∷ rs) = refl
 
 refused-read : (content : Content) (now : ℕ) (read : ReadGroupCommand) → is_error (reply content now (ReadGroup read)) ≡ true → content_after content now (ReadGroup read) ≡ content
 refused-read content now read = by (has_all_groups_in content read) where
-  by : (t : Bool) → is_error (cond t (array_or_null (parts content now read read.reads)) (Error NoGroup)) ≡ true → cond t (content_after_reads content now read read.reads) content ≡ content
+  by : (t : Bool) → is_error (cond t (array_or_null (parts content now read read.reads)) (Error NoGroup)) ≡ true → cond t (after_reads content now read read.reads) content ≡ content
   by true e = absurd (false≢true (sym (no_error (parts content now read read.reads)) ∙ e))
   by false e = refl
 

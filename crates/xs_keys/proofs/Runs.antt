@@ -25,7 +25,7 @@ use Rattle.xs_keys.proofs.Contents.{content-step}
 use Rattle.xs_keys.proofs.IdsAtEvents.{sees-of}
 use Rattle.xs_keys.proofs.JobPlaces.{has-one-place}
 use Rattle.xs_keys.proofs.JobMoves.{goes-along}
-use Rattle.xs_keys.proofs.JobBooks.{balances}
+use Rattle.xs_keys.proofs.JobBooks.{places-add-up}
 use Rattle.xs_keys.specs.Life.{StreamEvent, key_life}
 use Rattle.xs_keys.specs.GroupBooks.{HasItsPlaces}
 use Rattle.xs_keys.specs.JobMove.{EachMovesAlong}
@@ -106,7 +106,7 @@ pub has-its-places : (past : History) (key group : List ℕ) (changes : List Str
 has-its-places past key group changes life k g =
     let asc = present-in-life past key group life g in
     let sees = sees-of past key group changes life k g in
-    record { one_place = λ x given. has-one-place life changes asc sees x; balances = balances life changes asc sees }
+    record { one_place = λ x given. has-one-place life changes asc sees x; places_add_up = places-add-up life changes asc sees }
 
 -- ---- at each event
 
@@ -139,18 +139,18 @@ at-each-event (first ∷ past) events replies history are Holds holds = λ later
 pub headline : (past events : History) (replies : List Reply) (history : History) → AreReplied past events replies history → Headline past events replies history
 headline past events replies history answers = record {
   replies = answers;
-  steps = λ later e earlier f content is. (content-lawful earlier content is, content-step earlier content e.0 e.1 is);
-  ids = λ later earlier f key changes g. ascends-given changes;
+  steps_are_consistent = λ later e earlier f content is. (content-lawful earlier content is, content-step earlier content e.0 e.1 is);
+  ids_ascend = λ later earlier f key changes g. ascends-given changes;
   formed = formed-after past events replies history answers;
-  apart = at-each-event past events replies history answers LivesAreApart (λ earlier e formed key group. goes-on earlier e.0 e.1 key group formed);
+  lives_are_apart = at-each-event past events replies history answers LivesAreApart (λ earlier e formed key group. goes-on earlier e.0 e.1 key group formed);
   deliveries = λ later earlier e key group life f. delivers-new earlier key group life f;
   owners = λ later earlier e key group life f. has-one-owner earlier key group life f;
   places = λ later earlier e key group changes life k g. has-its-places earlier key group changes life k g;
   moves = at-each-event past events replies history answers EachMovesAlong (λ earlier e formed key group x. goes-along earlier e.0 e.1 key group x formed);
-  additions = at-each-event past events replies history answers EntriesAreAdded (λ earlier e formed. entries-added earlier e);
-  presence = at-each-event past events replies history answers EntriesStay (λ earlier e formed. entries-stay earlier e);
-  groups = at-each-event past events replies history answers GroupsAreCreated (λ earlier e formed. groups-created earlier e);
-  open_groups = at-each-event past events replies history answers GroupsStay (λ earlier e formed. groups-stay earlier e);
+  entries_are_added = at-each-event past events replies history answers EntriesAreAdded (λ earlier e formed. entries-added earlier e);
+  entries_stay = at-each-event past events replies history answers EntriesStay (λ earlier e formed. entries-stay earlier e);
+  groups_are_created = at-each-event past events replies history answers GroupsAreCreated (λ earlier e formed. groups-created earlier e);
+  groups_stay = at-each-event past events replies history answers GroupsStay (λ earlier e formed. groups-stay earlier e);
 }
 
 pub runs-all : (old : Content) (events : History) (replies : List Reply) (new : Content) → RunsSoFar old events replies new [] → RunsOn old events replies new

@@ -32,7 +32,7 @@ use Rattle.xs_keys.specs.GroupAsk.{claim, auto_claim, acknowledge}
 use Rattle.xs_keys.specs.GroupLife.{GroupLife, group_life, life_after_ask, present_in, is_new, reads_new_entries}
 use Rattle.xs_keys.specs.GroupLife.{has_all_groups, ids_delivered_by, ask_of_read}
 use Rattle.xs_keys.specs.Content.{Content, KeyState, IsContent, IsGroup, GroupHolds, KeyHolds}
-use Rattle.xs_keys.specs.ContentAfter.{key_or_new, stream_after, group_in, entries_in, content_after_ask}
+use Rattle.xs_keys.specs.ContentAfter.{key_or_new, stream_after, group_in, entries_in, after_ask}
 use Rattle.xs_keys.specs.Reply.{reply, parts_of_read, parts, removed_count}
 use Rattle.xs_keys.specs.ReplyParts.{assigned_reply, array, array_or_null, id_reply, field_replies, entry_reply}
 use Rattle.xs_keys.specs.ReplyParts.{stream_part, new_part, reply_of_group, owner_reply, summary_reply, row_reply}
@@ -309,7 +309,7 @@ told-reads c past now read is act (one ∷ more) next distinct open_all same ask
   refl,
   told-read c next past read one (there c past one.key read.group is (first_of (is_some (group_life past one.key read.group)) (list_all (λ o. is_some (group_life past o.key read.group)) more) open_all))
       (same one.key (rw (is_name-refl one.key) refl)) act (λ new. asks one.key (rw (is_name-refl one.key, new) refl)),
-  told-reads c past now read is act more (content_after_ask next now one.key read.group (ask_of_read read one.from)) distinct.1
+  told-reads c past now read is act more (after_ask next now one.key read.group (ask_of_read read one.from)) distinct.1
       (second_of (is_some (group_life past one.key read.group)) (list_all (λ o. is_some (group_life past o.key read.group)) more) open_all)
       (λ key among. asked-elsewhere next now one.key read.group (ask_of_read read one.from) key (others key more distinct.0 among)
       ∙ same key (or_right (is_same_name key one.key) (list_any (λ o. is_same_name key o.key) more) among))
@@ -481,12 +481,12 @@ is-told past c now (Pending key group) is formed = (
       ),
   λ gone. rw (missing c past key group is gone) refl,
 )
-is-told past c now (PendingRows content_after_ask) is formed = (
+is-told past c now (PendingRows after_ask) is formed = (
   λ is_open life life_is.
-      let t = there c past content_after_ask.key content_after_ask.group is is_open in
-      rw (t.key_is, t.state_is, t.holds.rows_are) (subst (λ (l : GroupLife). TellsRows content_after_ask now life (array (map row_reply (take content_after_ask.limit (map (pending_row now) (filter (is_selected content_after_ask.range content_after_ask.min_idle now content_after_ask.consumer) (rows l.start l.events)))))))
+      let t = there c past after_ask.key after_ask.group is is_open in
+      rw (t.key_is, t.state_is, t.holds.rows_are) (subst (λ (l : GroupLife). TellsRows after_ask now life (array (map row_reply (take after_ask.limit (map (pending_row now) (filter (is_selected after_ask.range after_ask.min_idle now after_ask.consumer) (rows l.start l.events)))))))
       (ap (λ (l : Option GroupLife). option_map_or (λ a. a) l life) (sym life_is ∙ t.life_is))
-      (rows-told content_after_ask now life (ascends-rows life.start life.events (present-in-life past content_after_ask.key content_after_ask.group life life_is)))),
-  λ gone. rw (missing c past content_after_ask.key content_after_ask.group is gone) refl,
+      (rows-told after_ask now life (ascends-rows life.start life.events (present-in-life past after_ask.key after_ask.group life life_is)))),
+  λ gone. rw (missing c past after_ask.key after_ask.group is gone) refl,
 )
 is-told past c now (DropKeys keys) is formed = tt

@@ -7,7 +7,7 @@ use Rattle.xs_keys.specs.Terms.{ReadOne, ReadFrom, New, After, new_ids, Bulk, In
 use Rattle.xs_keys.specs.Terms.{Field, fields_at, ids_of}
 use Rattle.xs_keys.specs.GroupLife.{ask_of_read}
 use Rattle.xs_keys.specs.Content.{Content}
-use Rattle.xs_keys.specs.ContentAfter.{content_after_ask, group_in, entries_in}
+use Rattle.xs_keys.specs.ContentAfter.{after_ask, group_in, entries_in}
 use Rattle.xs_keys.specs.ReplyParts.{array, array_or_null, id_reply, field_replies, entry_reply, present_reply}
 use Rattle.xs_keys.specs.ReplyParts.{entries_reply, stream_part, new_part, owner_reply, row_reply, taken_reply}
 use Rattle.xs_keys.specs.Reply.{parts_of_read, parts}
@@ -56,7 +56,7 @@ pub parts-whole : (content : Content) (now : ℕ) (read : ReadGroupCommand) (rea
 parts-whole content now read [] = tt
 parts-whole content now read (one ∷ more) =
     let this = option_map_or (parts_of_read read one.key one.from (entries_in (get content one.key))) (group_in (get content one.key) read.group) [] in
-    let after = content_after_ask content now one.key read.group (ask_of_read read one.from) in
+    let after = after_ask content now one.key read.group (ask_of_read read one.from) in
     whole-append this (parts after now read more) (shown-whole read one.key one.from (entries_in (get content one.key)) (group_in (get content one.key) read.group)) (parts-whole after now read more)
 
 owner-whole : (owner : OwnerCount) → IsWhole (owner_reply owner)

@@ -15,14 +15,14 @@ use Rattle.xs_keys.specs.Event.{PendingEntries}
 abbrev pub least_idle : GroupAsk → ℕ
 least_idle ask = option_map_or (λ rule. rule.min_idle) (rule_of ask) 0
 
--- an entry that is taken has an owner, is in the stream, and the time that it was last given lies as far back as the
--- claim asks; an earlier claim with IDLE gave one that lay back already
+-- a claim may take an entry that has an owner, is in the stream, and has been idle for as long as the claim asks; the
+-- time that it got last counts, and an earlier claim with IDLE may have set that back
 pub record MayBeTaken (start : Id) (past : List GroupEvent) (event : GroupEvent) (x : Id) : Type 0 where
   pub owned : is_some (owner start past x) ≡ true
   pub present : has_id event.present x ≡ true
   pub idle : least_idle event.ask ≤ event.now - time_of start past x
 
--- an entry that is removed has an owner, and is no longer in the stream
+-- a claim may remove an entry that has an owner and is no longer in the stream
 pub record MayBeRemoved (start : Id) (past : List GroupEvent) (event : GroupEvent) (x : Id) : Type 0 where
   pub owned : is_some (owner start past x) ≡ true
   pub gone : has_id event.present x ≡ false
@@ -37,28 +37,27 @@ abbrev pub is_from_start : GroupAsk → Id → Bool
 is_from_start (auto_claim consumer rule start limit) x = not (is_below x start)
 is_from_start _ x = false
 
--- an entry is before a cursor; 0-0 is past all
+-- the cursor passes the entry; 0-0 passes all
 abbrev pub passes : Id → Id → Bool
 passes cursor x = is_same_id cursor zero_id || is_below x cursor
 
--- an XAUTOCLAIM comes to the entry, over these rows: it is at its start or past it, and before the cursor where it goes
--- on; a cursor of 0-0 is past all
+-- an XAUTOCLAIM that meets these rows scans the entry: it lies at its start or past it, and the cursor that it returns
+-- passes it
 abbrev pub is_scanned : GroupEvent → PendingEntries → Id → Bool
 is_scanned event rows x = is_from_start event.ask x && passes (scan_end_of_event event rows) x
 
--- as many entries as a scan may claim or remove
+-- the COUNT of a scan: as many entries as it may take or remove
 abbrev pub scan_limit : GroupAsk → ℕ
 scan_limit (auto_claim consumer rule start limit) = limit
 scan_limit _ = 0
 
--- over these rows a claim takes and removes as many as it may, or it comes to ten times as many rows, so that it may
--- stop
+-- a scan that meets these rows may stop: it takes and removes as many as it may, or it has scanned ten times as many
 abbrev pub MayStop : GroupEvent → PendingEntries → Type 0
 MayStop event rows =
     (scan_limit event.ask ≤ length (claim_of_event event rows).take + length (claim_of_event event rows).removed)
     ⊎ (10 * scan_limit event.ask ≤ length (filter (λ x. is_scanned event rows x) (map (λ e. e.0) rows)))
 
--- a claim is asked for this entry: an XCLAIM names it, or an XAUTOCLAIM comes to it
+-- a claim is asked for this entry: an XCLAIM names it, or an XAUTOCLAIM scans it
 abbrev pub is_asked_for : GroupEvent → PendingEntries → Id → Bool
 is_asked_for event rows x = is_named_by event.ask x || is_scanned event rows x
 
@@ -76,12 +75,13 @@ pub record ClaimsWhatIsAsked (start : Id) (past : List GroupEvent) (event : Grou
       is_asked_for event (rows start past) x ≡ true → MayBeRemoved start past event x
       → is_removed_by_claim start past event x ≡ true
 
--- so it is with each claim of a life; it takes no entry twice; and a scan comes to the end of the rows, or may stop
+-- a claim takes and removes what it is asked for, takes no entry twice, and scans to the end of the rows or may stop
 pub record ClaimIsExact (start : Id) (past : List GroupEvent) (event : GroupEvent) : Type 0 where
   pub as_asked : (x : Id) → ClaimsWhatIsAsked start past event x
   pub each_once : AreDistinct (claim_of_event event (rows start past)).take
   pub far_enough : (scan_end_of_event event (rows start past) ≡ zero_id) ⊎ MayStop event (rows start past)
 
+-- so does each claim of a life
 abbrev pub ClaimsAreExact : Id → List GroupEvent → Type 0
 ClaimsAreExact start events =
     (later : List GroupEvent) (event : GroupEvent) (earlier : List GroupEvent) → events ≡ later ++ event ∷ earlier

@@ -1,4 +1,4 @@
--- The content of the keyspace: read off a history, what holds of it, and what each command makes of it.
+-- The content of the keyspace, and which content a history leaves.
 use Rattle.std.specs.Prelude.{◌≡◌, List, Option, Some, None}
 use Rattle.xs_keys.specs.Terms.{NameMap, get, StreamState, GroupState, has_name}
 use Rattle.xs_keys.specs.Life.{StreamEvent, key_life, stream_of}
@@ -11,7 +11,7 @@ pub record KeyState : Type 0 where
   pub stream : StreamState
   pub groups : NameMap GroupState
 
--- what each key with an open life holds
+-- the content of the keyspace: the keys and what they hold
 abbrev pub Content : Type 0
 Content = NameMap KeyState
 
@@ -21,17 +21,17 @@ pub record IsGroup (group : GroupState) (life : GroupLife) : Type 0 where
   pub consumers_are : (name : Bytes) → has_name group.consumers name ≡ is_consumer life.events name
   pub rows_are : group.rows.entries ≡ rows life.start life.events
 
--- a group is there exactly where its life is open
+-- a group is there exactly if its life is open
 abbrev pub GroupHolds : Option GroupState → Option GroupLife → Type 0
 GroupHolds None None = Unit {0}
 GroupHolds (Some group) (Some life) = IsGroup group life
 GroupHolds _ _ = ⊥
 
--- so is a key; without one there are no groups
+-- a key is there exactly if its life is open; without one there are no groups
 abbrev pub KeyHolds : Option KeyState → Option (List StreamEvent) → (Bytes → Option GroupLife) → Type 0
 KeyHolds None None lives = (group : Bytes) → GroupHolds None (lives group)
-KeyHolds (Some key) (Some changes) lives =
-    (key.stream ≡ stream_of changes) × ((group : Bytes) → GroupHolds (get key.groups group) (lives group))
+KeyHolds (Some key) (Some past) lives =
+    (key.stream ≡ stream_of past) × ((group : Bytes) → GroupHolds (get key.groups group) (lives group))
 KeyHolds _ _ lives = ⊥
 
 -- the content that a history leaves

@@ -20,7 +20,7 @@ use Rattle.xs_keys.specs.Content.{KeyState, Content}
 abbrev pub new_key : KeyState
 new_key = record { stream = record { top = zero_id; entries = [] }; groups = empty }
 
--- the key, made where it is missing and may be made
+-- the key, or a new one if it is missing and may be made
 abbrev pub key_or_new : Bool → Option KeyState → Option KeyState
 key_or_new make key = option_or key (if make then Some new_key else None)
 
@@ -31,18 +31,19 @@ stream_with (Ok id) fields trim stream =
     record { top = id; entries = option_map_or (λ t. trimmed t entries) trim entries }
 stream_with (Err refusal) fields trim stream = stream
 
--- a stream after a change
+-- a stream after an event
 abbrev pub stream_after : StreamEvent → StreamState → StreamState
 stream_after (add_entry now id fields trim) stream = stream_with (assigned now stream.top id) fields trim stream
 stream_after (delete_entries ids) stream = record stream { entries = without ids stream.entries }
 stream_after (trim_entries trim) stream = record stream { entries = trimmed trim stream.entries }
 
 abbrev pub key_after : StreamEvent → KeyState → KeyState
-key_after change key = record key { stream = stream_after change key.stream }
+key_after event key = record key { stream = stream_after event key.stream }
 
--- a change of a key that is there
-abbrev pub content_after_stream_event : Content → Bytes → StreamEvent → Option KeyState → Content
-content_after_stream_event content name change key = option_map_or (λ k. insert content name (key_after change k)) key content
+-- with the stream of a key after an event, if the key is there
+abbrev pub after_stream_event : Content → Bytes → StreamEvent → Option KeyState → Content
+after_stream_event content name event key =
+    option_map_or (λ k. insert content name (key_after event k)) key content
 
 -- without these keys
 abbrev pub without_keys : List Bytes → Content → Content
@@ -51,7 +52,8 @@ without_keys (name ∷ names) content = without_keys names (remove content name)
 
 -- a group after an ask at a moment, over the ids in the stream
 abbrev pub group_after : ℕ → List Id → GroupAsk → GroupState → GroupState
-group_after now present (read_new consumer limit noack) group = group_after_delivery consumer now limit noack present group
+group_after now present (read_new consumer limit noack) group =
+    group_after_delivery consumer now limit noack present group
 group_after now present (read_own consumer limit from) group = group_after_reread consumer now limit from present group
 group_after now present (acknowledge ids) group = group_after_ack ids group
 group_after now present (create_consumer consumer) group = with_consumer consumer group
@@ -65,17 +67,17 @@ group_after now present (auto_claim consumer rule start limit) group =
 abbrev pub with_group : KeyState → Bytes → GroupState → KeyState
 with_group key name group = record key { groups = insert key.groups name group }
 
--- an ask of a group of a key, where both are there
-abbrev pub content_after_ask : Content → ℕ → Bytes → Bytes → GroupAsk → Content
-content_after_ask content now name group_name ask =
+-- with a group of a key after an ask, if both are there
+abbrev pub after_ask : Content → ℕ → Bytes → Bytes → GroupAsk → Content
+after_ask content now name group_name ask =
     let with_asked : KeyState → GroupState → Content = λ key group.
     insert content name (with_group key group_name (group_after now (ids_of key.stream.entries) ask group)) in
     option_map_or (λ key. option_map_or (with_asked key) (get key.groups group_name) content) (get content name) content
 
--- a new group, unless there is one
-abbrev pub content_after_create : Content → GroupCreateCommand → Option KeyState → Content
-content_after_create content create None = content
-content_after_create content create (Some key) =
+-- with a new group of a key, unless it is there
+abbrev pub after_create : Content → GroupCreateCommand → Option KeyState → Content
+after_create content create None = content
+after_create content create (Some key) =
     if has_key key.groups create.group then content
     else insert content create.key (with_group key create.group (new_group (starting_id create.start key.stream.top)))
 
@@ -86,30 +88,37 @@ group_in key group_name = option_and_then (λ k. get k.groups group_name) key
 abbrev pub entries_in : Option KeyState → Entries
 entries_in key = option_map_or (λ k. k.stream.entries) key []
 
--- each key and group that a read names is there
+-- each key and group that a read names is there; without one it is refused as a whole
 abbrev pub has_all_groups_in : Content → ReadGroupCommand → Bool
 has_all_groups_in content read = list_all (λ one. is_some (group_in (get content one.key) read.group)) read.reads
 
--- the reads of a command, one after the other
-abbrev pub content_after_reads : Content → ℕ → ReadGroupCommand → List ReadOne → Content
-content_after_reads content now read [] = content
-content_after_reads content now read (one ∷ more) =
-    content_after_reads (content_after_ask content now one.key read.group (ask_of_read read one.from)) now read more
+-- after the reads of a command, one after the other
+abbrev pub after_reads : Content → ℕ → ReadGroupCommand → List ReadOne → Content
+after_reads content now read [] = content
+after_reads content now read (one ∷ more) =
+    after_reads (after_ask content now one.key read.group (ask_of_read read one.from)) now read more
 
 -- the content after a command at a moment
 abbrev pub content_after : Content → ℕ → Command → Content
 content_after content now (Add add) =
-    content_after_stream_event content add.key (add_entry now add.id add.fields add.trim) (key_or_new add.make (get content add.key))
-content_after content now (Delete name ids) = content_after_stream_event content name (delete_entries ids) (get content name)
-content_after content now (TrimTo name trim) = content_after_stream_event content name (trim_entries trim) (get content name)
-content_after content now (GroupCreate create) = content_after_create content create (key_or_new create.make (get content create.key))
+    after_stream_event content add.key (add_entry now add.id add.fields add.trim) (key_or_new add.make (get content add.key))
+content_after content now (Delete name ids) =
+    after_stream_event content name (delete_entries ids) (get content name)
+content_after content now (TrimTo name trim) =
+    after_stream_event content name (trim_entries trim) (get content name)
+content_after content now (GroupCreate create) =
+    after_create content create (key_or_new create.make (get content create.key))
 content_after content now (GroupDestroy name group) =
     option_map_or (λ k. insert content name (record k { groups = remove k.groups group })) (get content name) content
-content_after content now (ConsumerCreate name group consumer) = content_after_ask content now name group (create_consumer consumer)
-content_after content now (ConsumerDelete name group consumer) = content_after_ask content now name group (delete_consumer consumer)
-content_after content now (ReadGroup read) = if has_all_groups_in content read then content_after_reads content now read read.reads else content
-content_after content now (Ack name group ids) = content_after_ask content now name group (acknowledge ids)
-content_after content now (Claim c) = content_after_ask content now c.key c.group (claim c.consumer c.rule c.ids)
-content_after content now (AutoClaim c) = content_after_ask content now c.key c.group (auto_claim c.consumer c.rule c.start c.limit)
+content_after content now (ConsumerCreate name group consumer) =
+    after_ask content now name group (create_consumer consumer)
+content_after content now (ConsumerDelete name group consumer) =
+    after_ask content now name group (delete_consumer consumer)
+content_after content now (ReadGroup read) =
+    if has_all_groups_in content read then after_reads content now read read.reads else content
+content_after content now (Ack name group ids) = after_ask content now name group (acknowledge ids)
+content_after content now (Claim c) = after_ask content now c.key c.group (claim c.consumer c.rule c.ids)
+content_after content now (AutoClaim c) =
+    after_ask content now c.key c.group (auto_claim c.consumer c.rule c.start c.limit)
 content_after content now (DropKeys keys) = without_keys keys content
 content_after content now _ = content

@@ -6,14 +6,14 @@ use Rattle.xs_keys.specs.GroupAsk.{read_new}
 use Rattle.xs_keys.specs.GroupLife.{GroupLife}
 use Rattle.xs_keys.specs.Event.{Bytes}
 
--- one of the events is their turn, and the id is delivered exactly where it is in the stream then
+-- one of the events is the turn of the id, and it was delivered exactly if it was in the stream then
 pub record HadItsTurn (start : Id) (events : List GroupEvent) (x : Id) : Type 0 where
   pub later : List GroupEvent
   pub event : GroupEvent
   pub earlier : List GroupEvent
   pub among : events ≡ later ++ event ∷ earlier
-  pub theirs : is_turn_of start earlier event x ≡ true
-  pub exactly : has_id (delivered_ids start events) x ≡ has_id event.present x
+  pub is_turn : is_turn_of start earlier event x ≡ true
+  pub delivered_if_present : has_id (delivered_ids start events) x ≡ has_id event.present x
 
 -- a read of new entries delivers as many as it asks for, or leaves no entry in the stream past the cursor
 abbrev pub DeliversInFull : Id → List GroupEvent → Type 0

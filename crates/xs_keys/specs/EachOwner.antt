@@ -25,7 +25,7 @@ OwnedUntilSettled start events =
     → is_made_pending_by start earlier event x ≡ true
     → is_some (owner start events x) ≡ not (is_settled_in start later (event ∷ earlier) x)
 
--- what one event makes of an owner: it stays, or the event settles the entry and there is none, or a claim takes it
+-- the owner after one event: the same, or none since the event settles the entry, or the consumer whose claim takes it
 abbrev pub OwnerAfter : Id → List GroupEvent → GroupEvent → Id → Bytes → Type 0
 OwnerAfter start past event x name =
     (owner start (event ∷ past) x ≡ Some name)
@@ -49,12 +49,13 @@ ChangesByClaims start events =
     × ((is_made_pending_by start earlier event x || is_taken_by_claim start earlier event x) ≡ true
     → owner start (event ∷ earlier) x ≡ consumer_of event.ask)
 
--- an entry has an owner exactly where it is pending, and the owner is the consumer of its pending row
+-- an entry has an owner exactly if it is pending, and the owner is the consumer of its pending row
 abbrev pub IsPendingWithOwner : Id → List GroupEvent → Type 0
 IsPendingWithOwner start events =
     (x : Id) → owner start events x ≡ option_map (λ row. row.consumer) (row_at (rows start events) x)
 
--- one owner until settled, and a claim takes only what has been idle for as long as it asks
+-- a pending entry has one owner until it is settled; its time and its count are those that it got last; and claims are
+-- exact
 pub record OwnersAndClaims (life : GroupLife) : Type 0 where
   pub is_pending : IsPendingWithOwner life.start life.events
   pub is_last_touched : IsLastTouched life.start life.events

@@ -6,7 +6,7 @@ use Rattle.xs_keys.specs.Content.{Content, IsContent}
 use Rattle.xs_keys.specs.Reply.{reply}
 use Rattle.xs_keys.specs.Step.{takes_memory, is_error, IsUnchangedIfRefused}
 use Rattle.xs_keys.specs.RepliesTell.{IsTold}
-use Rattle.xs_keys.specs.Event.{Event, History}
+use Rattle.xs_keys.specs.Event.{Event, History, event_moment, event_command}
 
 -- an event of the history: its command is well formed, and its reply is the model's, at the content of the events
 -- before it; what it tells a consumer of entries is what it delivers or claims; and what is refused changes nothing
@@ -32,9 +32,10 @@ Follows past now command answer next =
     (IsReplied past now command answer × (next ≡ (now, command) ∷ past))
     ⊎ (IsLeftOut past now command answer × (next ≡ past))
 
--- from a past on, these are answers to these events, one after the other, and the last history has those that joined it
+-- after a past, each of these events in turn was replied to by the answer at its place, and the last history has those
+-- events that joined it
 abbrev pub AreReplied : History → List Event → List Reply → History → Type 0
 AreReplied past [] [] last = last ≡ past
-AreReplied past (e ∷ events) (answer ∷ answers) last =
-    (next : History) × Follows past e.0 e.1 answer next × AreReplied next events answers last
+AreReplied past (e ∷ run) (answer ∷ answers) last =
+    (next : History) × Follows past (event_moment e) (event_command e) answer next × AreReplied next run answers last
 AreReplied past _ _ last = ⊥

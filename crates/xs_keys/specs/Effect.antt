@@ -21,7 +21,7 @@ abbrev pub is_trimmed_below_one : Trim → List Id → Id → Bool
 is_trimmed_below_one (MaxLen n) present x = nat_le n (count_above x present + 1)
 is_trimmed_below_one (MinId low) present x = is_below x low
 
--- it trims the entry away, by itself or behind an addition
+-- it may trim the entry away, by itself or with an addition, which may be refused and then trims nothing
 abbrev pub may_trim_entry : Command → Bytes → List Id → Id → Bool
 may_trim_entry (Add add) key present x =
     is_same_name key add.key && option_map_or (λ trim. is_trimmed_below_one trim present x) add.trim false
@@ -46,6 +46,7 @@ abbrev pub scans_group : Command → Bytes → Bytes → Bool
 scans_group (AutoClaim c) key group = is_same_name key c.key && is_same_name group c.group
 scans_group _ key group = false
 
+-- it may claim the entry in the group, if that is pending and idle for long enough
 abbrev pub may_claim_entry : Command → Bytes → Bytes → Id → Bool
 may_claim_entry command key group x = scans_group command key group || claims_by_id command key group x
 
@@ -67,7 +68,7 @@ removes_consumer (ConsumerDelete k g consumer) key group name =
     (is_same_name key k && is_same_name group g) && is_same_name name consumer
 removes_consumer _ key group name = false
 
--- it gives entries to the stream, or makes the group
+-- it may add an entry to the stream, or make the group
 abbrev pub may_begin_job : Command → Bytes → Bytes → Bool
 may_begin_job (Add add) key group = is_same_name key add.key
 may_begin_job (GroupCreate create) key group = is_same_name key create.key && is_same_name group create.group

@@ -1,4 +1,4 @@
--- The types that the model is written in: events and their histories, and what keys and groups hold.
+-- The types that the model is written in: events and histories, and what keys and groups hold.
 use Rattle.std.specs.Prelude.{ℕ, List}
 use Rattle.xs_stream.specs.declared.id.Id.{Id}
 use Rattle.xs_stream.specs.declared.field.Field.{Field}
@@ -12,6 +12,12 @@ Bytes = List ℕ
 -- a command at a moment, in milliseconds
 abbrev pub Event : Type 0
 Event = ℕ × Command
+
+abbrev pub event_moment : Event → ℕ
+event_moment event = event.0
+
+abbrev pub event_command : Event → Command
+event_command event = event.1
 
 -- what has happened so far: the events, the newest first
 abbrev pub History : Type 0

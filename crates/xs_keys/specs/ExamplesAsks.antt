@@ -98,7 +98,8 @@ pub record Touches : Type 0 where
   pub not_past_its_count :
       is_redelivered_by start (read_by_a ∷ []) (event 200 (read_own (codes "a") (Some 1) (at 0 0))) (at 3 0) ≡ false
   pub not_a_deleted_one : is_redelivered_by start (read_by_a ∷ []) (event_without 200 reread_by_a) (at 2 0) ≡ false
-  pub not_by_an_acknowledgement : is_touched_by start (read_by_a ∷ []) (event 200 (acknowledge (at 2 0 ∷ []))) (at 2 0) ≡ false
+  pub not_by_an_acknowledgement :
+      is_touched_by start (read_by_a ∷ []) (event 200 (acknowledge (at 2 0 ∷ []))) (at 2 0) ≡ false
   pub time_of_delivery : time_of start (event 200 (create_consumer (codes "c")) ∷ read_by_a ∷ []) (at 2 0) ≡ 100
   pub time_of_a_claim : time_of start (claim_by_b ∷ read_by_a ∷ []) (at 2 0) ≡ 150
   pub time_of_one_that_was_not_claimed : time_of start (claim_by_b ∷ read_by_a ∷ []) (at 3 0) ≡ 100
@@ -155,7 +156,8 @@ pub record Touches : Type 0 where
   pub turn_at_the_second :
       is_turn_of start (first_by_a ∷ []) (event 150 (read_new (codes "a") (Some 1) false)) (at 3 0) ≡ true
   pub nothing_settled_at_first : is_settled start [] (at 2 0) ≡ false
-  pub not_settled_before_its_delivery : settles_entry start [] (event 200 (delete_consumer (codes "a"))) (at 2 0) ≡ false
+  pub not_settled_before_its_delivery :
+      settles_entry start [] (event 200 (delete_consumer (codes "a"))) (at 2 0) ≡ false
   pub acknowledged_before_its_delivery :
       owner start (read_by_a ∷ event 50 (acknowledge (at 2 0 ∷ [])) ∷ []) (at 2 0) ≡ Some (codes "a")
   pub no_owner_before_its_delivery : owner start (event 200 (create_consumer (codes "c")) ∷ []) (at 2 0) ≡ None

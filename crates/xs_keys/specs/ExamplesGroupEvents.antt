@@ -81,8 +81,11 @@ pub record Consumers : Type 0 where
   pub another : is_consumer (read_by_a ∷ []) (codes "b") ≡ false
   pub removed : is_consumer (event 200 (delete_consumer (codes "a")) ∷ read_by_a ∷ []) (codes "a") ≡ false
   pub another_removed : is_consumer (event 200 (delete_consumer (codes "b")) ∷ read_by_a ∷ []) (codes "a") ≡ true
-  pub not_by_another_s_removal : is_consumer (event 200 (delete_consumer (codes "a")) ∷ read_by_a ∷ []) (codes "b") ≡ false
-  pub back_again : is_consumer (event 300 (create_consumer (codes "a")) ∷ event 200 (delete_consumer (codes "a")) ∷ []) (codes "a") ≡ true
+  pub not_by_another_s_removal :
+      is_consumer (event 200 (delete_consumer (codes "a")) ∷ read_by_a ∷ []) (codes "b") ≡ false
+  pub back_again :
+      is_consumer (event 300 (create_consumer (codes "a")) ∷ event 200 (delete_consumer (codes "a")) ∷ []) (codes "a")
+      ≡ true
   pub asks_by_a_read : consumer_of (read_new (codes "a") None true) ≡ Some (codes "a")
   pub asks_by_its_own : consumer_of (read_own (codes "a") None (at 0 0)) ≡ Some (codes "a")
   pub asks_by_a_claim : consumer_of (claim (codes "a") any_idle_time []) ≡ Some (codes "a")
@@ -104,13 +107,17 @@ pub record Owners : Type 0 where
       owner start (event 150 (auto_claim (codes "b") any_idle_time (at 3 0) 9) ∷ read_by_a ∷ []) (at 3 0)
       ≡ Some (codes "b")
   pub acknowledged : owner start (event 200 (acknowledge (at 3 0 ∷ at 2 0 ∷ [])) ∷ read_by_a ∷ []) (at 2 0) ≡ None
-  pub another_acknowledged : owner start (event 200 (acknowledge (at 3 0 ∷ [])) ∷ read_by_a ∷ []) (at 2 0) ≡ Some (codes "a")
+  pub another_acknowledged :
+      owner start (event 200 (acknowledge (at 3 0 ∷ [])) ∷ read_by_a ∷ []) (at 2 0) ≡ Some (codes "a")
   pub removed : owner start (event 200 (delete_consumer (codes "a")) ∷ read_by_a ∷ []) (at 2 0) ≡ None
-  pub another_removed : owner start (event 200 (delete_consumer (codes "b")) ∷ read_by_a ∷ []) (at 2 0) ≡ Some (codes "a")
+  pub another_removed :
+      owner start (event 200 (delete_consumer (codes "b")) ∷ read_by_a ∷ []) (at 2 0) ≡ Some (codes "a")
   pub earlier_owner_removed :
       owner start (event 200 (delete_consumer (codes "a")) ∷ claim_by_b ∷ read_by_a ∷ []) (at 2 0) ≡ Some (codes "b")
-  pub claimer_removed : owner start (event 200 (delete_consumer (codes "b")) ∷ claim_by_b ∷ read_by_a ∷ []) (at 2 0) ≡ None
-  pub deleted : owner start (event_without 200 (create_consumer (codes "c")) ∷ read_by_a ∷ []) (at 2 0) ≡ Some (codes "a")
+  pub claimer_removed :
+      owner start (event 200 (delete_consumer (codes "b")) ∷ claim_by_b ∷ read_by_a ∷ []) (at 2 0) ≡ None
+  pub deleted :
+      owner start (event_without 200 (create_consumer (codes "c")) ∷ read_by_a ∷ []) (at 2 0) ≡ Some (codes "a")
   pub claimed_when_deleted :
       owner start (event_without 200 (claim (codes "b") any_idle_time (at 2 0 ∷ [])) ∷ read_by_a ∷ []) (at 2 0) ≡ None
   pub stays_settled :
@@ -125,15 +132,19 @@ pub record Owners : Type 0 where
       owner start (event 200 (read_own (codes "b") None (at 0 0)) ∷ read_by_a ∷ []) (at 2 0) ≡ Some (codes "a")
 
 pub record Settling : Type 0 where
-  pub by_an_acknowledgement : settles_entry start (read_by_a ∷ []) (event 200 (acknowledge (at 3 0 ∷ at 2 0 ∷ []))) (at 2 0) ≡ true
+  pub by_an_acknowledgement :
+      settles_entry start (read_by_a ∷ []) (event 200 (acknowledge (at 3 0 ∷ at 2 0 ∷ []))) (at 2 0) ≡ true
   pub of_another : settles_entry start (read_by_a ∷ []) (event 200 (acknowledge (at 3 0 ∷ []))) (at 2 0) ≡ false
   pub by_a_removal : settles_entry start (read_by_a ∷ []) (event 200 (delete_consumer (codes "a"))) (at 2 0) ≡ true
   pub by_another_s : settles_entry start (read_by_a ∷ []) (event 200 (delete_consumer (codes "b"))) (at 2 0) ≡ false
-  pub by_the_claimer_s : settles_entry start (claim_by_b ∷ read_by_a ∷ []) (event 200 (delete_consumer (codes "b"))) (at 2 0) ≡ true
+  pub by_the_claimer_s :
+      settles_entry start (claim_by_b ∷ read_by_a ∷ []) (event 200 (delete_consumer (codes "b"))) (at 2 0) ≡ true
   pub by_a_claim_that_finds_it_deleted :
-      settles_entry start (read_by_a ∷ []) (event_without 200 (claim (codes "b") any_idle_time (at 2 0 ∷ []))) (at 2 0) ≡ true
+      settles_entry start (read_by_a ∷ [])
+      (event_without 200 (claim (codes "b") any_idle_time (at 2 0 ∷ []))) (at 2 0) ≡ true
   pub by_a_scan_that_finds_it_deleted :
-      settles_entry start (read_by_a ∷ []) (event_without 200 (auto_claim (codes "b") any_idle_time (at 0 0) 9)) (at 2 0)
+      settles_entry start (read_by_a ∷ [])
+      (event_without 200 (auto_claim (codes "b") any_idle_time (at 0 0) 9)) (at 2 0)
       ≡ true
   pub not_before_its_delivery : settles_entry start [] (event 200 (acknowledge (at 2 0 ∷ []))) (at 2 0) ≡ false
   pub not_with_noack : settles_entry start (noack_by_b ∷ []) (event 200 (acknowledge (at 2 0 ∷ []))) (at 2 0) ≡ false
@@ -147,16 +158,20 @@ pub record Settling : Type 0 where
   pub assigned_by_a_claim : is_assigned_by start (read_by_a ∷ []) claim_by_b (at 2 0) ≡ true
   pub not_by_noack : is_assigned_by start [] noack_by_b (at 2 0) ≡ false
   pub last_by_a_claim :
-      last_assigned start (event 200 (acknowledge (at 2 0 ∷ [])) ∷ claim_by_b ∷ read_by_a ∷ []) (at 2 0) ≡ Some (codes "b")
+      last_assigned start (event 200 (acknowledge (at 2 0 ∷ [])) ∷ claim_by_b ∷ read_by_a ∷ []) (at 2 0)
+      ≡ Some (codes "b")
   pub settled :
-      is_settled start (event 200 (create_consumer (codes "c")) ∷ event 200 (acknowledge (at 2 0 ∷ [])) ∷ read_by_a ∷ []) (at 2 0) ≡ true
+      is_settled start (event 200 (create_consumer (codes "c")) ∷ event 200 (acknowledge (at 2 0 ∷ [])) ∷ read_by_a ∷ [])
+      (at 2 0) ≡ true
   pub not_settled : is_settled start (claim_by_b ∷ read_by_a ∷ []) (at 2 0) ≡ false
   pub not_settled_too_early : is_settled start (event 200 (acknowledge (at 2 0 ∷ [])) ∷ []) (at 2 0) ≡ false
   pub settled_later :
-      is_settled_in start (event 300 (create_consumer (codes "c")) ∷ event 200 (acknowledge (at 2 0 ∷ [])) ∷ []) (read_by_a ∷ []) (at 2 0)
+      is_settled_in start (event 300 (create_consumer (codes "c")) ∷ event 200 (acknowledge (at 2 0 ∷ [])) ∷ [])
+      (read_by_a ∷ []) (at 2 0)
       ≡ true
   pub settled_by_the_last :
-      is_settled_in start (event 300 (acknowledge (at 2 0 ∷ [])) ∷ event 200 (create_consumer (codes "c")) ∷ []) (read_by_a ∷ []) (at 2 0)
+      is_settled_in start (event 300 (acknowledge (at 2 0 ∷ [])) ∷ event 200 (create_consumer (codes "c")) ∷ [])
+      (read_by_a ∷ []) (at 2 0)
       ≡ true
   pub not_settled_later : is_settled_in start (claim_by_b ∷ []) (read_by_a ∷ []) (at 2 0) ≡ false
 
@@ -188,7 +203,8 @@ pub record Rows : Type 0 where
       rows start (event 200 (create_consumer (codes "a")) ∷ read_by_a ∷ [])
       ≡ pending (at 2 0) (codes "a") 100 1 ∷ pending (at 3 0) (codes "a") 100 1 ∷ []
   pub removed :
-      rows start (event 200 (delete_consumer (codes "a")) ∷ claim_by_b ∷ read_by_a ∷ []) ≡ pending (at 2 0) (codes "b") 150 2 ∷ []
+      rows start (event 200 (delete_consumer (codes "a")) ∷ claim_by_b ∷ read_by_a ∷ [])
+      ≡ pending (at 2 0) (codes "b") 150 2 ∷ []
   pub deleted :
       rows start (event_without 200 (create_consumer (codes "c")) ∷ read_by_a ∷ [])
       ≡ pending (at 2 0) (codes "a") 100 1 ∷ pending (at 3 0) (codes "a") 100 1 ∷ []

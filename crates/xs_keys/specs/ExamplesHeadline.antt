@@ -34,7 +34,8 @@ pub record OwnersGoOn : Type 0 where
   pub is_claimed : OwnerAfter start (read_by_a ∷ []) claim_by_b (at 2 0) (codes "a")
   pub none_yet : NoOwnerAfter start (first_by_a ∷ []) (event 150 (create_consumer (codes "c"))) (at 3 0)
   pub comes_by_a_delivery : NoOwnerAfter start (first_by_a ∷ []) next_by_b (at 3 0)
-  pub none_where_there_is_one : NoOwnerAfter start (read_by_a ∷ []) (event 150 (create_consumer (codes "c"))) (at 2 0) → ⊥
+  pub none_where_there_is_one :
+      NoOwnerAfter start (read_by_a ∷ []) (event 150 (create_consumer (codes "c"))) (at 2 0) → ⊥
 
 abbrev pub life : List GroupEvent → GroupLife
 life events = record { start = start; events = events }

@@ -9,7 +9,7 @@ use Rattle.xs_stream.specs.Examples.{at}
 use Rattle.xs_group.specs.declared.claims.ClaimTime.TheVariants as time
 use Rattle.xs_group.specs.Claims.{Rule}
 use Rattle.xs_resp.specs.declared.fault.Fault.{Fault}
-use Rattle.xs_keys.specs.Event.{History}
+use Rattle.xs_keys.specs.Event.{History, event_command}
 use Rattle.xs_command.specs.declared.command.Command.{Command}
 use Rattle.xs_command.specs.Read.{reads}
 use Rattle.xs_command.specs.Examples.{line}
@@ -148,7 +148,7 @@ pub record Deliveries : Type 0 where
 -- what the event of some words delivers behind those lines
 abbrev pub new_of : History → List (List ℕ) → List ℕ → List ℕ → List Id
 new_of [] lines key group = []
-new_of (e ∷ es) lines key group = ids_delivered_by (events 5 lines) e.1 key group
+new_of (e ∷ es) lines key group = ids_delivered_by (events 5 lines) (event_command e) key group
 
 abbrev pub delivers_behind : List (List ℕ) → List ℕ → List ℕ → List ℕ → List Id
 delivers_behind lines words key group = new_of (event 5 (reads (line words))) lines key group
@@ -177,7 +177,7 @@ pub record Events : Type 0 where
 -- what the command of some words asks of memory
 abbrev pub memory_for : History → Option Bool
 memory_for [] = None
-memory_for (e ∷ es) = Some (takes_memory e.1)
+memory_for (e ∷ es) = Some (takes_memory (event_command e))
 
 abbrev pub needs : List ℕ → Option Bool
 needs words = memory_for (event 5 (reads (line words)))

@@ -4,14 +4,14 @@
 use Rattle.std.specs.Prelude.{◌≡◌, ℕ, Bool, List, [], ◌∷◌, codes, Option, Some, None}
 use Rattle.xs_stream.specs.declared.id.Id.{Id}
 use Rattle.xs_stream.specs.Examples.{at}
-use Rattle.xs_keys.specs.Event.{History}
+use Rattle.xs_keys.specs.Event.{History, event_command}
 use Rattle.xs_command.specs.declared.command.Command.{Command}
 use Rattle.xs_command.specs.Read.{reads}
 use Rattle.xs_command.specs.Examples.{line}
 use Rattle.xs_keys.specs.JobPlace.{Place, before_start, waiting, dropped, handed_out, pending, settled, StandsAt}
 use Rattle.xs_keys.specs.JobMove.{HasArrow}
 use Rattle.xs_command.specs.declared.command.GroupStart.TheVariants.{Top, At}
-use Rattle.xs_keys.specs.Presence.{StartsBehind}
+use Rattle.xs_keys.specs.Presence.{StartsAt}
 use Rattle.xs_keys.specs.JobMove.{MovesAlong, is_final, GroupStaysOpen}
 use Rattle.xs_keys.specs.JobPlace.{place_after}
 use Rattle.xs_keys.specs.GroupBooks.{is_at, is_pending, jobs_at}
@@ -142,7 +142,7 @@ pub record Standings : Type 0 where
 -- a command leads the entry 1-0 of the key s, in its group g, from here to there
 abbrev pub leads_by : History → List Id → Place → Place → Type 0
 leads_by [] present here there = ⊥
-leads_by (e ∷ es) present here there = HasArrow e.1 (codes "s") (codes "g") present (at 1 0) here there
+leads_by (e ∷ es) present here there = HasArrow (event_command e) (codes "s") (codes "g") present (at 1 0) here there
 
 -- so do these words, while it is in the stream
 abbrev pub LeadsIt : List ℕ → Place → Place → Type 0
@@ -210,7 +210,7 @@ pub record NoArrows : Type 0 where
 -- what a command of some words makes of the entry 1-0
 abbrev pub goes_by : History → List Id → Option Place → Option Place → Type 0
 goes_by [] present here there = ⊥
-goes_by (e ∷ es) present here there = MovesAlong e.1 (codes "s") (codes "g") present (at 1 0) here there
+goes_by (e ∷ es) present here there = MovesAlong (event_command e) (codes "s") (codes "g") present (at 1 0) here there
 
 abbrev pub GoesBy : List ℕ → Option Place → Option Place → Type 0
 GoesBy words here there = goes_by (event 5 (reads (line words))) (at 1 0 ∷ []) here there
@@ -233,9 +233,9 @@ pub record Comings : Type 0 where
   pub not_dropped_by_a_group : GoesBy (codes "XGROUP CREATE s g 0") None (Some dropped) → ⊥
   pub not_passed_by_a_group : GoesBy (codes "XGROUP CREATE s g 0") None (Some before_start) → ⊥
   pub not_waiting_before_the_start : GoesBy (codes "XGROUP CREATE s g 1") None (Some waiting) → ⊥
-  pub behind_the_written_id : StartsBehind (At (at 5 0)) ((at 7 0, []) ∷ []) (at 5 0)
-  pub behind_all_that_was_given : StartsBehind Top ((at 7 0, []) ∷ []) (at 7 0)
-  pub not_behind_another_id : StartsBehind (At (at 5 0)) ((at 7 0, []) ∷ []) (at 7 0) → ⊥
+  pub at_the_written_id : StartsAt (At (at 5 0)) ((at 7 0, []) ∷ []) (at 5 0)
+  pub at_the_greatest_id_added : StartsAt Top ((at 7 0, []) ∷ []) (at 7 0)
+  pub not_at_another_id : StartsAt (At (at 5 0)) ((at 7 0, []) ∷ []) (at 7 0) → ⊥
   pub goes_with_the_group : GoesBy (codes "XGROUP DESTROY s g") (Some with_c) None
   pub goes_with_the_key : GoesBy (codes "DEL t s") (Some with_c) None
   pub stays_nowhere : GoesBy (codes "PING") None None
@@ -257,7 +257,8 @@ pub record Lasting : Type 0 where
   pub at_a_command_of_no_group : GroupStaysOpen (codes "s") (codes "g") (events 5 (codes "PING" ∷ codes "QUIT" ∷ []))
   pub at_another_group_s_end : GroupStaysOpen (codes "s") (codes "g") (events 5 (codes "XGROUP DESTROY s h" ∷ []))
   pub not_past_its_end :
-      GroupStaysOpen (codes "s") (codes "g") (events 5 (codes "PING" ∷ codes "XGROUP DESTROY s g" ∷ codes "PING" ∷ [])) → ⊥
+      GroupStaysOpen (codes "s") (codes "g")
+      (events 5 (codes "PING" ∷ codes "XGROUP DESTROY s g" ∷ codes "PING" ∷ [])) → ⊥
 
 -- of five entries one is deleted, one is read and acknowledged, one is read with NOACK, one is read, and one waits
 abbrev pub five_jobs : List (List ℕ)

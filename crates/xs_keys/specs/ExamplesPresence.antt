@@ -3,7 +3,7 @@
 use Rattle.std.specs.Prelude.{◌≡◌, ℕ, Bool, true, false, List, [], ◌∷◌, codes, Option, Some, None}
 use Rattle.xs_stream.specs.declared.id.Id.{Id}
 use Rattle.xs_stream.specs.Examples.{at}
-use Rattle.xs_keys.specs.Event.{History}
+use Rattle.xs_keys.specs.Event.{History, event_command}
 use Rattle.xs_command.specs.declared.command.Command.{Command}
 use Rattle.xs_command.specs.Read.{reads}
 use Rattle.xs_command.specs.Examples.{line}
@@ -14,7 +14,7 @@ use Rattle.xs_keys.specs.Presence.{may_remove_entry, has_to_remove, has_to_creat
 -- what holds of the first command
 abbrev pub of_first : History → (Command → Bool) → Bool
 of_first [] holds = false
-of_first (e ∷ es) holds = holds e.1
+of_first (e ∷ es) holds = holds (event_command e)
 
 -- what holds of the command that these words are
 abbrev pub of_words : List ℕ → (Command → Bool) → Bool

@@ -1,7 +1,7 @@
 -- What the replies to additions, reads and claims tell, by examples: the replies that a real Redis 7.0 gives after the
 -- same lines (XADD, XREADGROUP, XCLAIM, XAUTOCLAIM), and others that it doesn't give.
 use Rattle.std.specs.Prelude.{ℕ, List, [], ◌∷◌, codes}
-use Rattle.xs_keys.specs.Event.{History}
+use Rattle.xs_keys.specs.Event.{History, event_moment, event_command}
 use Rattle.xs_command.specs.Read.{reads}
 use Rattle.xs_command.specs.Examples.{line}
 use Rattle.xs_keys.specs.Terms.{Command, Reply, Error, Int, NoGroup, SmallId, NullArray, NullBulk}
@@ -13,7 +13,7 @@ use Rattle.xs_keys.specs.ExamplesHistory.{event, events, group_and}
 -- the reply to the event of some words tells what was delivered or taken, behind those lines
 abbrev pub tells : History → List (List ℕ) → Reply → Type 0
 tells [] lines answer = ⊥
-tells (e ∷ es) lines answer = IsTold (events 5 lines) e.0 e.1 answer
+tells (e ∷ es) lines answer = IsTold (events 5 lines) (event_moment e) (event_command e) answer
 
 abbrev pub Tells : List (List ℕ) → List ℕ → Reply → Type 0
 Tells lines words answer = tells (event 9 (reads (line words))) lines answer

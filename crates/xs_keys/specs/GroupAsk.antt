@@ -1,4 +1,4 @@
--- What an event asks of a group, and what that comes to over the ids in the stream, the cursor and the rows it meets.
+-- What a command asks of a group, and what comes of it, from the ids in the stream, the cursor and the rows it meets.
 -- (Redis, XREADGROUP, XACK, XGROUP CREATECONSUMER and DELCONSUMER, XCLAIM, XAUTOCLAIM.)
 use Rattle.std.specs.Prelude.{ℕ, Bool, false, not, List, [], Option, Some, None, option_and_then, if◌then◌else◌}
 use Rattle.xs_group.specs.declared.claims.Claim.{Claim}
@@ -17,7 +17,7 @@ pub data GroupAsk : Type 0 where
   claim : Bytes → Rule → List Id → GroupAsk  -- XCLAIM
   auto_claim : Bytes → Rule → Id → ℕ → GroupAsk  -- XAUTOCLAIM: from a start, at most so many
 
--- what an ask delivers, over the ids in the stream and a cursor
+-- the new ids that an ask delivers, from the ids in the stream and the cursor
 abbrev pub new_ids_of_ask : GroupAsk → List Id → Id → List Id
 new_ids_of_ask (read_new consumer limit noack) present cursor = new_ids limit cursor present
 new_ids_of_ask _ present cursor = []
@@ -26,13 +26,13 @@ new_ids_of_ask _ present cursor = []
 abbrev pub no_claim : Claim
 no_claim = record { take = []; removed = [] }
 
--- what an ask claims, over the rows it meets
+-- what an ask claims, from the rows it meets
 abbrev pub claim_of_ask : GroupAsk → ℕ → List Id → PendingEntries → Claim
 claim_of_ask (claim consumer rule ids) now present rows = claim_by_ids rows present now rule ids
 claim_of_ask (auto_claim consumer rule start limit) now present rows = (scan_of rows present now rule start limit).claim
 claim_of_ask _ now present rows = no_claim
 
--- where a scan goes on, over the rows it meets, or 0-0 if it came to their end
+-- the cursor that a scan returns, from the rows it meets: where to go on, or 0-0 at their end
 abbrev pub scan_end_of_ask : GroupAsk → ℕ → List Id → PendingEntries → Id
 scan_end_of_ask (auto_claim consumer rule start limit) now present rows =
     (scan_of rows present now rule start limit).cursor
@@ -64,17 +64,17 @@ abbrev pub is_acknowledgement_of : GroupAsk → Id → Bool
 is_acknowledgement_of (acknowledge ids) x = has_id ids x
 is_acknowledgement_of _ x = false
 
--- it puts the consumer in
+-- the ask adds the consumer, if it isn't there yet
 abbrev pub adds_consumer : GroupAsk → Bytes → Bool
 adds_consumer (delete_consumer consumer) name = false
 adds_consumer ask name = option_map_or (is_same_name name) (consumer_of ask) false
 
--- it takes the consumer out
+-- the ask deletes the consumer
 abbrev pub deletes_consumer : GroupAsk → Bytes → Bool
 deletes_consumer (delete_consumer consumer) name = is_same_name name consumer
 deletes_consumer _ name = false
 
--- what an ask makes of the row of an id, over the rows and the cursor that it meets
+-- the row of an id after an ask, from the rows and the cursor that it meets
 abbrev pub row_after_ask : GroupAsk → ℕ → List Id → Id → PendingEntries → Id → Option RowState → Option RowState
 row_after_ask (read_new consumer limit noack) now present cursor rows x row =
     if has_id (new_ids limit cursor present) x then (if noack then None else Some (first_row consumer now)) else row

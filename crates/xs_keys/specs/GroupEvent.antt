@@ -1,5 +1,4 @@
--- Events of a group: what an event asks of it, at a moment, over the ids then in the stream; and the group by looking
--- back over the events of its life: deliveries, cursor, consumers, rows, and who has an entry.
+-- The events of a group, and the group by looking back over them: deliveries, cursor, consumers and rows.
 use Rattle.std.specs.Prelude.{ℕ, Bool, false, not, List, [], Option, None, true, ◌&&◌, ◌∷◌, ◌++◌, if◌then◌else◌}
 use Rattle.xs_group.specs.declared.claims.Claim.{Claim}
 use Rattle.xs_keys.specs.Terms.{Id, RowState, with_some, is_below}
@@ -9,24 +8,25 @@ use Rattle.xs_keys.specs.GroupAsk.{GroupAsk, new_ids_of_ask, claim_of_ask, scan_
 use Rattle.xs_keys.specs.GroupAsk.{deletes_consumer}
 use Rattle.xs_keys.specs.GroupAsk.{row_after_ask}
 
+-- what is asked of a group, at a moment, with the ids that are then in the stream
 pub record GroupEvent : Type 0 where
   pub now : ℕ
   pub present : List Id
   pub ask : GroupAsk
 
--- what an event delivers at a cursor
+-- the new ids that an event delivers at a cursor
 abbrev pub new_ids_of_event : GroupEvent → Id → List Id
 new_ids_of_event event cursor = new_ids_of_ask event.ask event.present cursor
 
--- what an event claims, over the rows it meets
+-- what an event claims, from the rows it meets
 abbrev pub claim_of_event : GroupEvent → PendingEntries → Claim
 claim_of_event event rows = claim_of_ask event.ask event.now event.present rows
 
--- where an event goes on, over the rows it meets
+-- the cursor that a scan returns, from the rows it meets
 abbrev pub scan_end_of_event : GroupEvent → PendingEntries → Id
 scan_end_of_event event rows = scan_end_of_ask event.ask event.now event.present rows
 
--- all ids delivered since the start, in the order of the reads
+-- all ids delivered as new since the start, in the order of the reads
 abbrev pub delivered_ids : Id → List GroupEvent → List Id
 delivered_ids start [] = []
 delivered_ids start (event ∷ past) =
@@ -36,11 +36,11 @@ delivered_ids start (event ∷ past) =
 abbrev pub cursor : Id → List GroupEvent → Id
 cursor start past = greatest start (delivered_ids start past)
 
--- their turn: the cursor passes from below the id to it or above
+-- the event is the turn of the id: the cursor passes from below the id to it or above it
 abbrev pub is_turn_of : Id → List GroupEvent → GroupEvent → Id → Bool
 is_turn_of start past event x = is_below (cursor start past) x && not (is_below (cursor start (event ∷ past)) x)
 
--- a name is a consumer where it was brought in and not taken out later
+-- the consumer was added, and not deleted later
 abbrev pub is_consumer : List GroupEvent → Bytes → Bool
 is_consumer [] name = false
 is_consumer (event ∷ past) name =
@@ -48,12 +48,12 @@ is_consumer (event ∷ past) name =
     then false
     else (if adds_consumer event.ask name then true else is_consumer past name)
 
--- the rows of these ids, where they have one
+-- the rows of those ids that have one
 abbrev pub rows_among : (Id → Option RowState) → List Id → PendingEntries
 rows_among row_of [] = []
 rows_among row_of (x ∷ xs) = with_some x (row_of x) (rows_among row_of xs)
 
--- the row of an id, where it has one
+-- the row of an id, if it has one
 abbrev pub pending_row_at : Id → List GroupEvent → Id → Option RowState
 pending_row_at start [] x = None
 pending_row_at start (event ∷ past) x =

@@ -10,9 +10,9 @@ use Rattle.xs_keys.specs.GroupAsk.{GroupAsk, read_new, read_own, acknowledge, cr
 use Rattle.xs_keys.specs.GroupAsk.{auto_claim}
 use Rattle.xs_keys.specs.GroupEvent.{GroupEvent}
 use Rattle.xs_keys.specs.GroupEvent.{delivered_ids, cursor}
-use Rattle.xs_keys.specs.Event.{Bytes, History}
+use Rattle.xs_keys.specs.Event.{Bytes, History, event_moment, event_command}
 
--- a life of a group: the id behind which it starts, and its events, newest first
+-- a life of a group: the id that it starts at, and its events, newest first; ids above the start are the group's
 pub record GroupLife : Type 0 where
   pub start : Id
   pub events : List GroupEvent
@@ -21,12 +21,12 @@ pub record GroupLife : Type 0 where
 abbrev pub present_in : Option (List StreamEvent) → List Id
 present_in stream = option_map_or (λ changes. ids_of (present_entries changes)) stream []
 
--- where a group starts: the written id, or the top
+-- where a group starts: at the written id, or at the top
 abbrev pub starting_id : GroupStart → Id → Id
 starting_id Top top = top
 starting_id (At id) top = id
 
--- a new life; a missing key must be made with it
+-- a new life; none if the key is missing and isn't made
 abbrev pub new_life : GroupCreateCommand → Option (List StreamEvent) → Option GroupLife
 new_life create stream =
     let begin : Id → GroupLife = λ id. record { start = starting_id create.start id; events = [] } in
@@ -51,32 +51,40 @@ life_after_reads now present read key (one ∷ more) life =
     let next = if is_same_name key one.key then life_after_ask now present (ask_of_read read one.from) life else life in
     life_after_reads now present read key more next
 
--- the life of a group after an event, from whether a read is served whole, and the lives of its key and its own before;
--- one that is open goes on where the group is to be created
+-- the life of a group after a command at a moment, from the lives of its key and its own before, and from whether all
+-- groups that a read names are there; XGROUP CREATE leaves an open life as it is
 abbrev pub group_life_after :
     ℕ → Command → Bytes → Bytes → Bool → Option (List StreamEvent) → Option GroupLife → Option GroupLife
-group_life_after now (GroupCreate create) key group served stream life =
-    if is_same_name key create.key && is_same_name group create.group then option_or life (new_life create stream) else life
-group_life_after now (GroupDestroy k g) key group served stream life =
+group_life_after now (GroupCreate create) key group all_there stream life =
+    if is_same_name key create.key && is_same_name group create.group
+    then option_or life (new_life create stream)
+    else life
+group_life_after now (GroupDestroy k g) key group all_there stream life =
     if is_same_name key k && is_same_name group g then None else life
-group_life_after now (ConsumerCreate k g consumer) key group served stream life =
-    if is_same_name key k && is_same_name group g then life_after_ask now (present_in stream) (create_consumer consumer) life else life
-group_life_after now (ConsumerDelete k g consumer) key group served stream life =
-    if is_same_name key k && is_same_name group g then life_after_ask now (present_in stream) (delete_consumer consumer) life else life
-group_life_after now (ReadGroup read) key group served stream life =
-    if is_same_name group read.group && served
+group_life_after now (ConsumerCreate k g consumer) key group all_there stream life =
+    if is_same_name key k && is_same_name group g
+    then life_after_ask now (present_in stream) (create_consumer consumer) life
+    else life
+group_life_after now (ConsumerDelete k g consumer) key group all_there stream life =
+    if is_same_name key k && is_same_name group g
+    then life_after_ask now (present_in stream) (delete_consumer consumer) life
+    else life
+group_life_after now (ReadGroup read) key group all_there stream life =
+    if is_same_name group read.group && all_there
     then life_after_reads now (present_in stream) read key read.reads life
     else life
-group_life_after now (Ack k g ids) key group served stream life =
-    if is_same_name key k && is_same_name group g then life_after_ask now (present_in stream) (acknowledge ids) life else life
-group_life_after now (Claim c) key group served stream life =
+group_life_after now (Ack k g ids) key group all_there stream life =
+    if is_same_name key k && is_same_name group g
+    then life_after_ask now (present_in stream) (acknowledge ids) life
+    else life
+group_life_after now (Claim c) key group all_there stream life =
     if is_same_name key c.key && is_same_name group c.group
     then life_after_ask now (present_in stream) (claim c.consumer c.rule c.ids) life else life
-group_life_after now (AutoClaim c) key group served stream life =
+group_life_after now (AutoClaim c) key group all_there stream life =
     if is_same_name key c.key && is_same_name group c.group
     then life_after_ask now (present_in stream) (auto_claim c.consumer c.rule c.start c.limit) life else life
-group_life_after now (DropKeys keys) key group served stream life = if is_listed keys key then None else life
-group_life_after now _ key group served stream life = life
+group_life_after now (DropKeys keys) key group all_there stream life = if is_listed keys key then None else life
+group_life_after now _ key group all_there stream life = life
 
 -- what a command reads of groups: each key, and from where on; other commands read none
 abbrev pub reads_of : Command → List ReadOne
@@ -91,26 +99,28 @@ read_group_of _ = []
 abbrev pub group_life : History → Bytes → Bytes → Option GroupLife
 group_life [] key group = None
 group_life (e ∷ past) key group =
-    let served = list_all (λ one. is_some (group_life past one.key (read_group_of e.1))) (reads_of e.1) in
-    group_life_after e.0 e.1 key group served (key_life past key) (group_life past key group)
+    let command = event_command e in
+    let all_there = list_all (λ one. is_some (group_life past one.key (read_group_of command))) (reads_of command) in
+    group_life_after (event_moment e) command key group all_there (key_life past key) (group_life past key group)
 
 abbrev pub is_new : ReadFrom → Bool
 is_new New = true
 is_new (After id) = false
 
--- the event asks for new entries of the key
+-- the command asks for new entries of the key
 abbrev pub reads_new_entries : Command → Bytes → Bool
 reads_new_entries command key = list_any (λ one. is_same_name key one.key && is_new one.from) (reads_of command)
 
--- it acts: each key and group that it reads is there
+-- each key and group that a command reads is there; without one a read is refused as a whole
 abbrev pub has_all_groups : History → Command → Bool
-has_all_groups past command = list_all (λ one. is_some (group_life past one.key (read_group_of command))) (reads_of command)
+has_all_groups past command =
+    list_all (λ one. is_some (group_life past one.key (read_group_of command))) (reads_of command)
 
 abbrev pub read_limit_of : Command → Option ℕ
 read_limit_of (ReadGroup read) = read.limit
 read_limit_of _ = None
 
--- what an event delivers in a group, meeting this past: the first of the ids in the stream that are above the cursor
+-- what a command delivers in a group, after this past: the first of the ids in the stream that are above the cursor
 abbrev pub ids_delivered_by : History → Command → Bytes → Bytes → List Id
 ids_delivered_by past command key group =
     let present = present_in (key_life past key) in
@@ -118,10 +128,11 @@ ids_delivered_by past command key group =
     if reads_new_entries command key && (is_same_name group (read_group_of command) && has_all_groups past command)
     then option_map_or new (group_life past key group) [] else []
 
--- an event and the life of a group: the life goes on, with what the event delivers of it, and nothing else;
--- or it begins, and the event delivers nothing; or there is none behind the event, and the event delivers nothing
+-- the life of a group before and after an event that delivers these new ids: it continues, with just these ids more; or
+-- it begins, and nothing is delivered; or none is open after the event, and nothing is delivered
 abbrev pub LifeContinues : Option GroupLife → List Id → Option GroupLife → Type 0
 LifeContinues (Some before) new (Some life) =
-    (life.start ≡ before.start) × (delivered_ids life.start life.events ≡ delivered_ids before.start before.events ++ new)
+    (life.start ≡ before.start)
+    × (delivered_ids life.start life.events ≡ delivered_ids before.start before.events ++ new)
 LifeContinues None new (Some life) = (life.events ≡ []) × (new ≡ [])
 LifeContinues before new None = new ≡ []

@@ -8,7 +8,7 @@ use Rattle.xs_keys.specs.Terms.{option_map_or, Id, Trim, is_below, has_id, Comma
 use Rattle.xs_keys.specs.Terms.{GroupCreate}
 use Rattle.xs_keys.specs.Life.{key_life}
 use Rattle.xs_keys.specs.GroupLife.{present_in}
-use Rattle.xs_keys.specs.Event.{Bytes, Event, History}
+use Rattle.xs_keys.specs.Event.{Bytes, Event, History, event_command}
 use Rattle.xs_keys.specs.JobPlace.{Place, before_start, waiting, dropped, handed_out, pending, settled, place_after}
 use Rattle.xs_keys.specs.Effect.{deletes_entry, may_trim_entry, reads_new_entries_in, with_noack, claims_by_id}
 use Rattle.xs_keys.specs.Effect.{may_claim_entry, consumer_of_command, acknowledges_entry, removes_consumer}
@@ -41,12 +41,12 @@ HasToMove command key group present x (pending consumer) there =
     → there ≡ settled
 HasToMove command key group present x _ there = Unit {0}
 
--- a new group with this start finds a given entry past it; at `$` none is
+-- the entry is past the start of a new group; at `$` none is
 abbrev pub is_past : GroupStart → Id → Bool
 is_past Top x = false
 is_past (At id) x = is_below id x
 
--- where a new group finds an entry that was given
+-- where a new group finds an entry that was added before
 abbrev pub found_at : GroupStart → List Id → Id → Place
 found_at start present x =
     if not (is_past start x) then before_start else (if has_id present x then waiting else dropped)
@@ -65,8 +65,8 @@ IsFirstPlace (Add add) present x dropped = option_map_or (λ trim. trims_new tri
 IsFirstPlace (GroupCreate create) present x there = there ≡ found_at create.start present x
 IsFirstPlace _ present x there = ⊥
 
--- what a command makes of an entry: it comes, as one that is given or with the group; it stays where it is, or goes
--- along an arrow; or the life of the group ends
+-- how a command moves an entry: it comes, since it is added or the group is made; it stays where it is, or moves along
+-- an arrow; or the life of the group ends
 abbrev pub MovesAlong : Command → Bytes → Bytes → List Id → Id → Option Place → Option Place → Type 0
 MovesAlong command key group present x None None = Unit {0}
 MovesAlong command key group present x None (Some there) =
@@ -82,14 +82,15 @@ is_final waiting = false
 is_final (pending consumer) = false
 is_final _ = true
 
--- while these events come, newest first, the life of the group goes on
+-- none of these events, newest first, ends the life of the group
 abbrev pub GroupStaysOpen : Bytes → Bytes → History → Type 0
 GroupStaysOpen key group [] = Unit {0}
-GroupStaysOpen key group (e ∷ later) = IsWellFormed e.1 × (ends_group e.1 key group ≡ false) × GroupStaysOpen key group later
+GroupStaysOpen key group (e ∷ later) =
+    IsWellFormed (event_command e) × (ends_group (event_command e) key group ≡ false) × GroupStaysOpen key group later
 
--- an event leaves each entry at its place, or leads it along an arrow
+-- an event leaves each entry at its place, or moves it along an arrow
 abbrev pub EachMovesAlong : History → Event → Type 0
 EachMovesAlong earlier e =
     (key group : Bytes) (x : Id)
-    → MovesAlong e.1 key group (present_in (key_life earlier key)) x (place_after earlier key group x)
+    → MovesAlong (event_command e) key group (present_in (key_life earlier key)) x (place_after earlier key group x)
     (place_after (e ∷ earlier) key group x)

@@ -35,23 +35,24 @@ abbrev pub StandsAt : GroupLife → List Id → Id → Place → Type 0
 StandsAt life present x before_start = is_below life.start x ≡ false
 StandsAt life present x waiting = (has_id present x ≡ true) × (is_below (cursor life.start life.events) x ≡ true)
 StandsAt life present x dropped =
-    (is_below life.start x ≡ true) × (has_id present x ≡ false) × (has_id (delivered_ids life.start life.events) x ≡ false)
+    (is_below life.start x ≡ true) × (has_id present x ≡ false)
+    × (has_id (delivered_ids life.start life.events) x ≡ false)
 StandsAt life present x handed_out =
     (has_id (delivered_ids life.start life.events) x ≡ true) × (last_assigned life.start life.events x ≡ None)
 StandsAt life present x (pending consumer) = owner life.start life.events x ≡ Some consumer
 StandsAt life present x settled =
     (is_some (last_assigned life.start life.events x) ≡ true) × (owner life.start life.events x ≡ None)
 
--- it stands at one place, and at no other
+-- an entry stands at one place, and at no other
 abbrev pub HasOnePlace : GroupLife → List Id → Id → Type 0
 HasOnePlace life present x =
     StandsAt life present x (place_of life present x)
     × ((other : Place) → StandsAt life present x other → other ≡ place_of life present x)
 
--- where an entry stands, by the open lives of its key and of the group; none where it was not given, or no life is open
+-- where an entry stands, by the open lives of its key and of the group; none if it wasn't added, or no life is open
 abbrev pub place_in : Option (List StreamEvent) → Option GroupLife → Id → Option Place
-place_in (Some changes) (Some life) x =
-    if has_id (ids_of (added_in changes)) x then Some (place_of life (ids_of (present_entries changes)) x) else None
+place_in (Some past) (Some life) x =
+    if has_id (ids_of (added_in past)) x then Some (place_of life (ids_of (present_entries past)) x) else None
 place_in _ _ x = None
 
 -- where it stands after a history

@@ -1,4 +1,4 @@
--- What holds of every content.
+-- What holds of each content that a history leaves: it is consistent.
 use Rattle.std.specs.Prelude.{◌≡◌, true, map, Some}
 use Rattle.xs_keys.specs.Terms.{get, Id, StreamState, Ascends, AllUpTo, ids_of, RowState, GroupState, has_name}
 use Rattle.xs_keys.specs.Event.{Bytes}
@@ -14,7 +14,8 @@ pub record IsConsistentStream (stream : StreamState) : Type 0 where
 pub record IsConsistentGroup (group : GroupState) : Type 0 where
   pub ascends : Ascends (map (λ e. e.0) group.rows.entries)
   pub up_to_cursor : AllUpTo group.cursor (map (λ e. e.0) group.rows.entries)
-  pub of_consumers : (x : Id) (row : RowState) → get group.rows x ≡ Some row → has_name group.consumers row.consumer ≡ true
+  pub of_consumers :
+      (x : Id) (row : RowState) → get group.rows x ≡ Some row → has_name group.consumers row.consumer ≡ true
 
 pub record IsConsistentKey (key : KeyState) : Type 0 where
   pub stream : IsConsistentStream key.stream

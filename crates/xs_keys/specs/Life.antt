@@ -1,95 +1,96 @@
--- Histories, the lives of keys, and the stream of a life by looking back. A list of past events has the newest first.
+-- The lives of keys, and the stream of a life by looking back. A list of past events has the newest first.
 use Rattle.std.specs.Prelude.{ℕ, Bool, List, [], ◌∷◌, Option, Some, None, if◌then◌else◌, true, false, ◌&&◌, ◌++◌}
 use Rattle.std.specs.Prelude.{filter, Result, Ok, Err, is_ok}
 use Rattle.xs_keys.specs.Terms.{option_map, option_map_or, option_or, list_any, Id, AddId, Trim, Field, is_same_name}
 use Rattle.xs_keys.specs.Terms.{Command, Add, Delete, TrimTo, GroupCreate, DropKeys, AddError, is_below, has_id}
 use Rattle.xs_keys.specs.Terms.{zero_id, is_trimmed, assigned, StreamState, ids_of}
-use Rattle.xs_keys.specs.Event.{Bytes, History, Entries}
+use Rattle.xs_keys.specs.Event.{Bytes, History, Entries, event_moment, event_command}
 
 -- the name is one of these; names of keys, groups and consumers are lists of bytes
 abbrev pub is_listed : List Bytes → Bytes → Bool
 is_listed names name = list_any (is_same_name name) names
 
--- what an event, a command at a moment, asks of the stream of a key: an addition at a moment, a deletion, a trim
+-- what happens to the stream of a key; an addition, at its moment, may still be refused
 pub data StreamEvent : Type 0 where
-  add_entry : ℕ → AddId → List Field → Option Trim → StreamEvent
-  delete_entries : List Id → StreamEvent
-  trim_entries : Trim → StreamEvent
+  add_entry : ℕ → AddId → List Field → Option Trim → StreamEvent  -- XADD
+  delete_entries : List Id → StreamEvent  -- XDEL
+  trim_entries : Trim → StreamEvent  -- XTRIM
 
--- the open life, or a new one where the command may make the key
+-- the open life of a key, or a new one if the command may make the key
 abbrev pub life_or_new : Bool → Option (List StreamEvent) → Option (List StreamEvent)
 life_or_new make life = option_or life (if make then Some [] else None)
 
--- the life of a key after an event: its changes, newest first, or none where no life is open
+-- the life of a key after a command at a moment: the events of its stream, newest first; none if no life is open
 abbrev pub key_life_after : ℕ → Command → Bytes → Option (List StreamEvent) → Option (List StreamEvent)
 key_life_after now (Add add) key life =
-    let change = add_entry now add.id add.fields add.trim in
-    if is_same_name key add.key then option_map (λ changes. change ∷ changes) (life_or_new add.make life) else life
+    let event = add_entry now add.id add.fields add.trim in
+    if is_same_name key add.key then option_map (λ past. event ∷ past) (life_or_new add.make life) else life
 key_life_after now (Delete name ids) key life =
-    if is_same_name key name then option_map (λ changes. delete_entries ids ∷ changes) life else life
+    if is_same_name key name then option_map (λ past. delete_entries ids ∷ past) life else life
 key_life_after now (TrimTo name trim) key life =
-    if is_same_name key name then option_map (λ changes. trim_entries trim ∷ changes) life else life
-key_life_after now (GroupCreate create) key life = if is_same_name key create.key then life_or_new create.make life else life
+    if is_same_name key name then option_map (λ past. trim_entries trim ∷ past) life else life
+key_life_after now (GroupCreate create) key life =
+    if is_same_name key create.key then life_or_new create.make life else life
 key_life_after now (DropKeys keys) key life = if is_listed keys key then None else life
 key_life_after now _ key life = life
 
 -- the open life of a key, looking back over all events
 abbrev pub key_life : History → Bytes → Option (List StreamEvent)
 key_life [] key = None
-key_life (e ∷ past) key = key_life_after e.0 e.1 key (key_life past key)
+key_life (e ∷ past) key = key_life_after (event_moment e) (event_command e) key (key_life past key)
 
--- the greatest of an id and these
+-- the greatest of an id and of these
 abbrev pub greatest : Id → List Id → Id
 greatest a [] = a
 greatest a (x ∷ xs) = greatest (if is_below a x then x else a) xs
 
--- the greatest id given, or 0-0
+-- the greatest id of these entries, or 0-0
 abbrev pub top_of : Entries → Id
-top_of given = greatest zero_id (ids_of given)
+top_of entries = greatest zero_id (ids_of entries)
 
 -- the entry of an assigned id
 abbrev pub entry_of : Result Id AddError → List Field → Entries
 entry_of (Ok id) fields = (id, fields) ∷ []
 entry_of (Err refusal) fields = []
 
--- what a change gives to a stream with this top: an addition its entry, unless it is refused
+-- the entries that an event adds to a stream with this top: that of an addition, unless it is refused
 abbrev pub entries_added_by : StreamEvent → Id → Entries
 entries_added_by (add_entry now id fields trim) top = entry_of (assigned now top id) fields
 entries_added_by _ top = []
 
--- all that was given in a life, in the order of the events, deleted entries included
+-- all entries that were ever added in a life, in the order of the events, the deleted ones too
 abbrev pub added_in : List StreamEvent → Entries
 added_in [] = []
-added_in (change ∷ past) = added_in past ++ entries_added_by change (top_of (added_in past))
+added_in (event ∷ past) = added_in past ++ entries_added_by event (top_of (added_in past))
 
--- the top of the stream
+-- the greatest id ever added, or 0-0
 abbrev pub top : List StreamEvent → Id
 top past = top_of (added_in past)
 
--- a change drops an id: a deletion that names it, a trim, or an addition that isn't refused and trims
+-- an event removes an id: a deletion names it, or it falls to a trim, or to that of an addition that isn't refused
 abbrev pub removes_id : StreamEvent → Id → List Id → Id → Bool
 removes_id (add_entry now id fields trim) top present x =
     is_ok (assigned now top id) && option_map_or (λ t. is_trimmed t present x) trim false
 removes_id (delete_entries ids) top present x = has_id ids x
 removes_id (trim_entries trim) top present x = is_trimmed trim present x
 
--- an id was given, and neither the change that gave it nor a later one has dropped it
+-- the id was added, and neither that event nor a later one has removed it
 abbrev pub is_present : List StreamEvent → Id → Bool
 is_present [] x = false
-is_present (change ∷ past) x =
-    let new = entries_added_by change (top past) in
+is_present (event ∷ past) x =
+    let new = entries_added_by event (top past) in
     let before = filter (λ e. is_present past e.0) (added_in past) in
-    if removes_id change (top past) (ids_of (before ++ new)) x then false
+    if removes_id event (top past) (ids_of (before ++ new)) x then false
     else (if has_id (ids_of new) x then true else is_present past x)
 
 -- the entries that are in the stream
 abbrev pub present_entries : List StreamEvent → Entries
 present_entries past = filter (λ e. is_present past e.0) (added_in past)
 
--- the stream: its top and what is live
+-- the stream: its top and the entries in it
 abbrev pub stream_of : List StreamEvent → StreamState
 stream_of past = record { top = top past; entries = present_entries past }
 
--- all entries ever given in the open life of a key, with the fields that they were given with
+-- all entries that were ever added in the open life of a key, with the fields that they were added with
 abbrev pub added_at : History → Bytes → Entries
 added_at past key = option_map_or added_in (key_life past key) []

@@ -1,5 +1,5 @@
--- The owner of an entry, by looking back: it is assigned by a delivery or a claim, and settled. (Redis Streams,
--- "Consumer groups"; XACK; XCLAIM.)
+-- The owner of an entry, by looking back: a delivery or a claim assigns the entry, and it is settled later. (Redis
+-- Streams, "Consumer groups"; XACK; XCLAIM.)
 use Rattle.std.specs.Prelude.{Bool, false, List, [], Option, None, ◌&&◌, ◌||◌, ◌∷◌, is_some, if◌then◌else◌}
 use Rattle.xs_keys.specs.Terms.{option_map_or, Id, has_id}
 use Rattle.xs_keys.specs.Event.{Bytes}
@@ -10,7 +10,7 @@ use Rattle.xs_keys.specs.GroupAsk.{consumer_of, keeps_pending, is_acknowledgemen
 abbrev pub is_made_pending_by : Id → List GroupEvent → GroupEvent → Id → Bool
 is_made_pending_by start past event x = keeps_pending event.ask && has_id (new_ids_of_event event (cursor start past)) x
 
--- a claim takes it
+-- the event is a claim that takes it
 abbrev pub is_taken_by_claim : Id → List GroupEvent → GroupEvent → Id → Bool
 is_taken_by_claim start past event x = has_id (claim_of_event event (rows start past)).take x
 
@@ -24,15 +24,16 @@ last_assigned start [] x = None
 last_assigned start (event ∷ past) x =
     if is_assigned_by start past event x then consumer_of event.ask else last_assigned start past x
 
--- this consumer is removed
+-- the event deletes this consumer
 abbrev pub is_deletion_of : GroupEvent → Option Bytes → Bool
 is_deletion_of event consumer = option_map_or (deletes_consumer event.ask) consumer false
 
--- a claim removes it from what is pending
+-- the event is a claim that removes it, since it has left the stream
 abbrev pub is_removed_by_claim : Id → List GroupEvent → GroupEvent → Id → Bool
 is_removed_by_claim start past event x = has_id (claim_of_event event (rows start past)).removed x
 
--- it was assigned, and is acknowledged; the consumer to whom it was last assigned is removed; or a claim removes it
+-- the event acknowledges an entry that was assigned, deletes the consumer to whom it was last assigned, or removes it
+-- by a claim; it may have been settled before
 abbrev pub settles_entry : Id → List GroupEvent → GroupEvent → Id → Bool
 settles_entry start past event x =
     (is_acknowledgement_of event.ask x && is_some (last_assigned start past x))

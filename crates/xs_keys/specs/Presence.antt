@@ -7,7 +7,7 @@ use Rattle.xs_keys.specs.Life.{StreamEvent, is_listed, key_life, top_of}
 use Rattle.xs_keys.specs.GroupLife.{GroupLife, group_life, present_in}
 use Rattle.xs_keys.specs.Effect.{deletes_entry, may_trim_entry, ends_group}
 use Rattle.xs_keys.specs.Life.{added_at}
-use Rattle.xs_keys.specs.Event.{Bytes, Event, History, Entries}
+use Rattle.xs_keys.specs.Event.{Bytes, Event, History, Entries, event_command}
 
 -- ---- entries
 
@@ -21,12 +21,12 @@ abbrev pub adds_or_deletes : Command → Bytes → Bool
 adds_or_deletes (Add add) key = is_same_name key add.key
 adds_or_deletes command key = deletes_key command key
 
--- entries come by additions alone: another command leaves all that was given, unless the key goes
+-- entries come by additions alone: another command leaves all that was ever added, unless it deletes the key
 abbrev pub EntriesAreAdded : History → Event → Type 0
 EntriesAreAdded earlier e =
-    (key : Bytes) → (added_at (e ∷ earlier) key ≡ added_at earlier key) ⊎ (adds_or_deletes e.1 key ≡ true)
+    (key : Bytes) → (added_at (e ∷ earlier) key ≡ added_at earlier key) ⊎ (adds_or_deletes (event_command e) key ≡ true)
 
--- the command may remove the entry from a stream of these ids: it deletes it, trims it away, or deletes the key
+-- the command may remove the entry from a stream of these ids: it deletes it, may trim it away, or deletes the key
 abbrev pub may_remove_entry : Command → Bytes → List Id → Id → Bool
 may_remove_entry command key present x =
     deletes_entry command key x || (may_trim_entry command key present x || deletes_key command key)
@@ -36,38 +36,39 @@ abbrev pub has_to_remove : Command → Bytes → List Id → Id → Bool
 has_to_remove (Add add) key present x = false
 has_to_remove command key present x = may_remove_entry command key present x
 
--- what a command makes of an entry, from the ids in the stream before and after it and those given before: what is
--- there stays unless the command removes it, and what comes is new
-pub record EntryStays (command : Command) (key : Bytes) (before after given : List Id) (x : Id) : Type 0 where
+-- an entry at a command, from the ids in the stream before and after it and those ever added before it: what is there
+-- stays unless the command may remove it, it goes if the command has to remove it, and what comes is new
+pub record EntryStays (command : Command) (key : Bytes) (before after added : List Id) (x : Id) : Type 0 where
   pub unless_removed : has_id before x ≡ true → has_id after x ≡ false → may_remove_entry command key before x ≡ true
   pub is_removed : has_to_remove command key before x ≡ true → has_id after x ≡ false
-  pub comes_new : has_id before x ≡ false → has_id after x ≡ true → has_id given x ≡ false
+  pub comes_new : has_id before x ≡ false → has_id after x ≡ true → has_id added x ≡ false
 
 -- so it is with each entry of each key
 abbrev pub EntriesStay : History → Event → Type 0
 EntriesStay earlier e =
     (key : Bytes) (x : Id)
-    → EntryStays e.1 key (present_in (key_life earlier key)) (present_in (key_life (e ∷ earlier) key))
+    → EntryStays (event_command e) key (present_in (key_life earlier key)) (present_in (key_life (e ∷ earlier) key))
     (ids_of (added_at earlier key)) x
 
 -- ---- groups
 
--- a group starts behind the written id, or for `$` behind all that was given
-abbrev pub StartsBehind : GroupStart → Entries → Id → Type 0
-StartsBehind Top given start = start ≡ top_of given
-StartsBehind (At id) given start = start ≡ id
+-- a group starts at the written id, or for `$` at the greatest id that was ever added
+abbrev pub StartsAt : GroupStart → Entries → Id → Type 0
+StartsAt Top added start = start ≡ top_of added
+StartsAt (At id) added start = start ≡ id
 
 -- a command makes this group with this start
 abbrev pub MakesGroup : Command → Bytes → Bytes → Entries → Id → Type 0
-MakesGroup (GroupCreate create) key group given start =
-    ((is_same_name key create.key && is_same_name group create.group) ≡ true) × StartsBehind create.start given start
-MakesGroup _ key group given start = ⊥
+MakesGroup (GroupCreate create) key group added start =
+    ((is_same_name key create.key && is_same_name group create.group) ≡ true) × StartsAt create.start added start
+MakesGroup _ key group added start = ⊥
 
 -- a group comes by its XGROUP CREATE alone, and starts as that asks
 abbrev pub GroupsAreCreated : History → Event → Type 0
 GroupsAreCreated earlier e =
     (key group : Bytes) (life : GroupLife) → group_life earlier key group ≡ None
-    → group_life (e ∷ earlier) key group ≡ Some life → MakesGroup e.1 key group (added_at earlier key) life.start
+    → group_life (e ∷ earlier) key group ≡ Some life
+    → MakesGroup (event_command e) key group (added_at earlier key) life.start
 
 -- an XGROUP CREATE of the group, whose key is there or may be made
 abbrev pub has_to_create : Command → Bytes → Bytes → Option (List StreamEvent) → Bool
@@ -80,5 +81,6 @@ abbrev pub GroupsStay : History → Event → Type 0
 GroupsStay earlier e =
     (key group : Bytes)
     → (is_some (group_life earlier key group) ≡ true
-    → is_some (group_life (e ∷ earlier) key group) ≡ not (ends_group e.1 key group))
-    × (has_to_create e.1 key group (key_life earlier key) ≡ true → is_some (group_life (e ∷ earlier) key group) ≡ true)
+    → is_some (group_life (e ∷ earlier) key group) ≡ not (ends_group (event_command e) key group))
+    × (has_to_create (event_command e) key group (key_life earlier key) ≡ true
+    → is_some (group_life (e ∷ earlier) key group) ≡ true)

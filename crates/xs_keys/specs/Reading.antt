@@ -11,7 +11,7 @@ use Rattle.xs_keys.specs.Terms.{ReadGroupCommand}
 use Rattle.xs_keys.specs.Terms.{ReadOne, ReadFrom, New, After}
 use Rattle.xs_keys.specs.GroupLife.{ask_of_read}
 use Rattle.xs_keys.specs.Content.{Content, KeyState}
-use Rattle.xs_keys.specs.ContentAfter.{content_after_ask, entries_in, group_after, group_in, with_group}
+use Rattle.xs_keys.specs.ContentAfter.{after_ask, entries_in, group_after, group_in, with_group}
 use Rattle.xs_keys.specs.ReplyParts.{stream_part, new_part}
 use Rattle.xs_keys.specs.Reply.{parts_of_read}
 use Rattle.xs_keys.specs.Event.{Bytes, Entries}
@@ -59,7 +59,7 @@ pub record IsMadeAt (group_name key_name : Bytes) (before after : Content) (deli
 pub record IsServedAt
     (now : ℕ) (read : ReadGroupCommand) (one : ReadOne) (before after : Content) (tokens longer : List Token)
     (served : Served) : Type 0 where
-  pub left : after ≡ content_after_ask before now one.key read.group (ask_of_read read one.from)
+  pub left : after ≡ after_ask before now one.key read.group (ask_of_read read one.from)
   pub shows : IsShown (parts_of before read one) served.parts tokens longer
   pub made : IsMadeAt read.group one.key before after served.delivery
 

@@ -11,10 +11,10 @@ use Rattle.xs_keys.specs.Event.{Bytes, History, Entries}
 
 -- the part of a reply for a stream with these new entries; without any there is none
 abbrev pub TellsNew : Bytes → Entries → List Id → List Reply → Type 0
-TellsNew key given [] told = told ≡ []
-TellsNew key given (x ∷ xs) told =
+TellsNew key added [] told = told ≡ []
+TellsNew key added (x ∷ xs) told =
     (entries : List Reply) × (told ≡ array (Bulk key ∷ array entries ∷ []) ∷ [])
-    × TellsEach (TellsEntry given) (x ∷ xs) entries
+    × TellsEach (TellsEntry added) (x ∷ xs) entries
 
 -- the owner of an entry in a group
 abbrev pub owner_in : Option GroupLife → Id → Option Bytes

@@ -1,6 +1,6 @@
--- What replies tell of entries: an addition tells the one that it gives, a read with `>` those that it delivers, one
--- with an id those that its consumer has, and a claim those that it takes, each as it was given; XPENDING tells what is
--- pending; and an acknowledgement, a deletion and a trim tell how many they take away. (Redis, XADD, XREADGROUP,
+-- What replies tell of entries: an addition tells the one that it adds, a read with `>` those that it delivers, one
+-- with an id those that its consumer has, and a claim those that it takes, each as it was added; XPENDING tells what is
+-- pending; and an acknowledgement, a deletion and a trim tell how many they remove. (Redis, XADD, XREADGROUP,
 -- XCLAIM, XAUTOCLAIM, XPENDING, XACK, XDEL, XTRIM and XLEN, "RESP2 Reply".)
 use Rattle.std.specs.Prelude.{◌≡◌, ◌⊎◌, ℕ, ◌+◌, ◌-◌, ◌≤◌, Bool, true, false, List, [], ◌∷◌, ◌++◌, map, length, Option}
 use Rattle.std.specs.Prelude.{Some, None, is_some}
@@ -23,8 +23,8 @@ use Rattle.xs_keys.specs.Step.{is_error}
 use Rattle.xs_keys.specs.Event.{Bytes, Event, History, Entries}
 use Rattle.xs_keys.specs.ReadsTell.{owner_in, TellsReads}
 
--- an addition tells the id of the one entry that it gives, with its fields, or that it gives none: by an error, or by
--- the null bulk string if it may not make the key
+-- an addition tells the id of the one entry that it adds, with its fields, or that it adds none: by an error, or by the
+-- null bulk string if it may not make the key
 abbrev pub TellsAddition : Entries → List Field → Reply → Entries → Type 0
 TellsAddition before fields answer after =
     ((id : Id) × (answer ≡ id_reply id) × (after ≡ before ++ (id, fields) ∷ []))
@@ -42,7 +42,7 @@ abbrev pub pending_count : Bytes → Bytes → History → ℕ
 pending_count key group past =
     option_map_or (λ life. length (rows life.start life.events)) (group_life past key group) 0
 
--- what a claim takes and removes in a group, and where it goes on
+-- what a claim takes and removes in a group, and the cursor that a scan returns
 abbrev pub scan_at : History → ℕ → Bytes → Bytes → GroupAsk → Scan
 scan_at past now key group ask =
     let event : GroupEvent = record { now = now; present = present_in (key_life past key); ask = ask } in
@@ -53,16 +53,16 @@ scan_at past now key group ask =
     option_map_or scan (group_life past key group) (record { cursor = zero_id; claim = no_claim })
 
 -- what is taken is the consumer's from then on, what is removed is nobody's, and all else stays with its owner
-pub record IsAssigned (consumer : Bytes) (claimed : claims.Claim) (before after : Option GroupLife) : Type 0 where
-  pub taken : (x : Id) → has_id claimed.take x ≡ true → owner_in after x ≡ Some consumer
-  pub removed : (x : Id) → has_id claimed.removed x ≡ true → owner_in after x ≡ None
+pub record IsAssigned (consumer : Bytes) (found : claims.Claim) (before after : Option GroupLife) : Type 0 where
+  pub taken : (x : Id) → has_id found.take x ≡ true → owner_in after x ≡ Some consumer
+  pub removed : (x : Id) → has_id found.removed x ≡ true → owner_in after x ≡ None
   pub others :
-      (x : Id) → has_id claimed.take x ≡ false → has_id claimed.removed x ≡ false → owner_in after x ≡ owner_in before x
+      (x : Id) → has_id found.take x ≡ false → has_id found.removed x ≡ false → owner_in after x ≡ owner_in before x
 
--- the entries that a claim takes, or their ids alone
+-- the entries that a claim takes, or under JUSTID their ids alone
 abbrev pub TellsTaken : Bool → Entries → List Id → List Reply → Type 0
-TellsTaken true given ids told = TellsEach (λ x answer. answer ≡ id_reply x) ids told
-TellsTaken false given ids told = TellsEach (TellsEntry given) ids told
+TellsTaken true added ids told = TellsEach (λ x answer. answer ≡ id_reply x) ids told
+TellsTaken false added ids told = TellsEach (TellsEntry added) ids told
 
 -- an XPENDING with a range asks for the entry: it is pending, within the range, has been for long enough, and belongs
 -- to the consumer if one is named
@@ -73,7 +73,7 @@ pub record IsAskedRow (asked : PendingRowsCommand) (now : ℕ) (life : GroupLife
   pub long_enough : asked.min_idle ≤ now - time_of life.start life.events x
   pub named : (name : Bytes) → asked.consumer ≡ Some name → consumer ≡ name
 
--- its row: the id, its owner, how long ago the time is that it was last given, and how often it was delivered
+-- its row: the id, its owner, for how long it has been idle, and how often it was delivered
 abbrev pub TellsRow : ℕ → GroupLife → Id → Reply → Type 0
 TellsRow now life x answer =
     (consumer : Bytes) × (owner life.start life.events x ≡ Some consumer)
@@ -86,12 +86,11 @@ TellsRows asked now life answer =
     (ids : List Id) × (told : List Reply) × (answer ≡ array told)
     × AreFirst (IsAskedRow asked now life) (Some asked.limit) ids × TellsEach (TellsRow now life) ids told
 
--- if its groups are there, so is this answer; or else it is an error
+-- if the groups that are named are there, the answer tells this; if not, it is an error
 abbrev pub IfThere : Bool → Reply → Type 0 → Type 0
 IfThere there answer Told = (there ≡ true → Told) × (there ≡ false → answer ≡ Error NoGroup)
 
--- an addition tells what it gives, a read what it delivers or what its consumer has, and a claim what it takes;
--- XPENDING tells what is pending; and an acknowledgement and a removal tell how many they take away
+-- the answer to a command, after this past, tells what it did
 abbrev pub IsTold : History → ℕ → Command → Reply → Type 0
 IsTold past now (Add add) answer =
     TellsAddition (added_at past add.key) add.fields answer (added_at ((now, Add add) ∷ past) add.key)
@@ -109,18 +108,18 @@ IsTold past now (PendingRows asked) answer =
     IfThere (is_some (group_life past asked.key asked.group)) answer
     ((life : GroupLife) → group_life past asked.key asked.group ≡ Some life → TellsRows asked now life answer)
 IsTold past now (Claim c) answer =
-    let claimed = scan_at past now c.key c.group (claim c.consumer c.rule c.ids) in
+    let found = scan_at past now c.key c.group (claim c.consumer c.rule c.ids) in
     IfThere (is_some (group_life past c.key c.group)) answer
     ((told : List Reply) × (answer ≡ array told)
-    × TellsTaken c.rule.just_id (added_at past c.key) claimed.claim.take told
-    × IsAssigned c.consumer claimed.claim (group_life past c.key c.group)
+    × TellsTaken c.rule.just_id (added_at past c.key) found.claim.take told
+    × IsAssigned c.consumer found.claim (group_life past c.key c.group)
     (group_life ((now, Claim c) ∷ past) c.key c.group))
 IsTold past now (AutoClaim c) answer =
-    let claimed = scan_at past now c.key c.group (auto_claim c.consumer c.rule c.start c.limit) in
+    let found = scan_at past now c.key c.group (auto_claim c.consumer c.rule c.start c.limit) in
     IfThere (is_some (group_life past c.key c.group)) answer
     ((told : List Reply)
-    × (answer ≡ array (id_reply claimed.cursor ∷ array told ∷ array (map id_reply claimed.claim.removed) ∷ []))
-    × TellsTaken c.rule.just_id (added_at past c.key) claimed.claim.take told
-    × IsAssigned c.consumer claimed.claim (group_life past c.key c.group)
+    × (answer ≡ array (id_reply found.cursor ∷ array told ∷ array (map id_reply found.claim.removed) ∷ []))
+    × TellsTaken c.rule.just_id (added_at past c.key) found.claim.take told
+    × IsAssigned c.consumer found.claim (group_life past c.key c.group)
     (group_life ((now, AutoClaim c) ∷ past) c.key c.group))
 IsTold past now _ answer = Unit {0}

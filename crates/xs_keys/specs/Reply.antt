@@ -10,24 +10,25 @@ use Rattle.xs_keys.specs.Terms.{group_after_ack, owned_count, summary_of, pendin
 use Rattle.xs_keys.specs.Life.{StreamEvent, delete_entries, trim_entries}
 use Rattle.xs_keys.specs.GroupLife.{ask_of_read}
 use Rattle.xs_keys.specs.Content.{Content, KeyState}
-use Rattle.xs_keys.specs.ContentAfter.{stream_after, key_or_new, content_after_ask, has_all_groups_in, group_in}
+use Rattle.xs_keys.specs.ContentAfter.{stream_after, key_or_new, after_ask, has_all_groups_in, group_in}
 use Rattle.xs_keys.specs.ContentAfter.{entries_in}
 use Rattle.xs_keys.specs.Event.{Bytes, Entries}
 use Rattle.xs_keys.specs.ReplyParts.{array, array_or_null, entries_reply, assigned_reply, reply_of_group, reply_of_key}
 use Rattle.xs_keys.specs.ReplyParts.{stream_part}
 use Rattle.xs_keys.specs.ReplyParts.{new_part, summary_reply, row_reply, taken_reply, scan_reply}
 
--- XDEL and XTRIM: how many entries a change removes; a missing key has none
+-- XDEL and XTRIM: how many entries are removed; a missing key has none
 abbrev pub removed_count : StreamEvent → Option KeyState → ℕ
-removed_count change key =
-    option_map_or (λ k. length k.stream.entries - length (stream_after change k.stream).entries) key 0
+removed_count event key =
+    option_map_or (λ k. length k.stream.entries - length (stream_after event k.stream).entries) key 0
 
 -- DEL: how many of these keys there are, each counted once
 abbrev pub existing_count : List Bytes → Content → ℕ
 existing_count [] content = 0
-existing_count (name ∷ names) content = (if has_key content name then 1 else 0) + existing_count names (remove content name)
+existing_count (name ∷ names) content =
+    (if has_key content name then 1 else 0) + existing_count names (remove content name)
 
--- what one read of a group shows
+-- what one read of a group contributes to the reply
 abbrev pub parts_of_read : ReadGroupCommand → Bytes → ReadFrom → Entries → GroupState → List Reply
 parts_of_read read key New entries group = new_part key entries (new_ids read.limit group.cursor (ids_of entries))
 parts_of_read read key (After id) entries group =
@@ -39,7 +40,7 @@ parts content now read [] = []
 parts content now read (one ∷ more) =
     let key = get content one.key in
     option_map_or (parts_of_read read one.key one.from (entries_in key)) (group_in key read.group) []
-    ++ parts (content_after_ask content now one.key read.group (ask_of_read read one.from)) now read more
+    ++ parts (after_ask content now one.key read.group (ask_of_read read one.from)) now read more
 
 -- the reply to a command at a moment
 abbrev pub reply : Content → ℕ → Command → Reply

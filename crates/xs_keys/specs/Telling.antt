@@ -5,16 +5,16 @@ use Rattle.xs_keys.specs.Terms.{flat_map, Id, Field, has_id, fields_at, Ascends,
 use Rattle.xs_keys.specs.ReplyParts.{array, id_reply, field_replies}
 use Rattle.xs_keys.specs.Event.{Entries}
 
--- an entry: its id, and the fields that it was given with
+-- an entry: its id, and the fields that it was added with
 abbrev pub TellsEntry : Entries → Id → Reply → Type 0
-TellsEntry given x answer =
-    (fields : List Field) × (fields_at given x ≡ Some fields)
+TellsEntry added x answer =
+    (fields : List Field) × (fields_at added x ≡ Some fields)
     × (answer ≡ array (id_reply x ∷ array (flat_map field_replies fields) ∷ []))
 
 -- an entry that may have left the stream: then it has the null array in place of fields
 abbrev pub TellsEntryOrNull : Entries → List Id → Id → Reply → Type 0
-TellsEntryOrNull given present x answer =
-    (has_id present x ≡ true → TellsEntry given x answer)
+TellsEntryOrNull added present x answer =
+    (has_id present x ≡ true → TellsEntry added x answer)
     × (has_id present x ≡ false → answer ≡ array (id_reply x ∷ NullArray ∷ []))
 
 -- each of these ids in turn, and no more

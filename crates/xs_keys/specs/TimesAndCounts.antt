@@ -9,7 +9,7 @@ use Rattle.xs_keys.specs.GroupEvent.{GroupEvent, rows}
 use Rattle.xs_keys.specs.Owner.{is_assigned_by}
 use Rattle.xs_keys.specs.Event.{PendingEntries}
 
--- the own pending entries that an ask shows once more, over the rows it meets
+-- the consumer's own pending ids that an ask shows once more, from the rows it meets
 abbrev pub own_ids_shown : GroupAsk → PendingEntries → List Id
 own_ids_shown (read_own consumer limit from) rows = own_ids consumer limit from rows
 own_ids_shown _ rows = []

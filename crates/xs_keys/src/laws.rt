@@ -150,7 +150,7 @@ pub fn the_life_of_a_job()
     ensures for_good { (later earlier : History) (key group : Bytes) (x : Id) (here : Place) →
         GroupStaysOpen key group later → is_final here ≡ true → place_after earlier key group x ≡ Some here →
         place_after (later ++ earlier) key group x ≡ Some here }
-    ensures balances { (past : History) (key group : Bytes) (changes : List StreamEvent) (life : GroupLife) →
+    ensures places_add_up { (past : History) (key group : Bytes) (changes : List StreamEvent) (life : GroupLife) →
         key_life past key ≡ Some changes → group_life past key group ≡ Some life → PlacesAddUp changes life }
     ensures told { (past : History) (content : Content) (now : ℕ) (key group : Bytes)
         (changes : List StreamEvent) (life : GroupLife) → IsContent content past → key_life past key ≡ Some changes →

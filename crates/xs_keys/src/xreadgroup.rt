@@ -6,7 +6,7 @@ ghost use Rattle.xs_stream.specs.StreamContent.{ids_of};
 ghost use Rattle.xs_group.specs.Deliveries.{IsMade, row_ids};
 ghost use Rattle.xs_keys.specs.GroupLife.{ask_of_read};
 ghost use Rattle.xs_keys.specs.Content.{Content};
-ghost use Rattle.xs_keys.specs.ContentAfter.{group_after, group_in, has_all_groups_in, content_after_reads};
+ghost use Rattle.xs_keys.specs.ContentAfter.{group_after, group_in, has_all_groups_in, after_reads};
 ghost use Rattle.xs_resp.specs.ReplyItems.{tokens_of};
 ghost use Rattle.xs_keys.specs.ReplyParts.{array_or_null, entry_reply, stream_part};
 ghost use Rattle.xs_keys.specs.Reply.{parts};
@@ -199,7 +199,7 @@ fn serve_all(
     read: &ReadGroupCommand,
 ) -> Result<Reply, AllocError>
     requires { has_all_groups_in keys.old read.now ≡ true }
-    ensures content { OnOk result (keys.new ≡ content_after_reads keys.old now read.now read.now.reads) }
+    ensures content { OnOk result (keys.new ≡ after_reads keys.old now read.now read.now.reads) }
     ensures answer { IfOk result (λ reply. reply ≡ array_or_null (parts keys.old now read.now read.now.reads)) }
     ensures err { OnErr result (keys.new ≡ keys.old) }
 {

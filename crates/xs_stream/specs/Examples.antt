@@ -145,6 +145,7 @@ pub record Ends : Type 0 where
   pub no_word_at_the_high_end : high_end [] ≡ None
   pub another_word : low_end (codes "x") ≡ None
   pub both_ends :
-      range_between (low_end (codes "1")) (high_end (codes "2")) ≡ Some (record { low = at 1 0; high = at 2 greatest_number })
+      range_between (low_end (codes "1")) (high_end (codes "2"))
+      ≡ Some (record { low = at 1 0; high = at 2 greatest_number })
   pub no_low_end : range_between None (Some (at 2 0)) ≡ None
   pub no_high_end : range_between (Some (at 1 0)) None ≡ None

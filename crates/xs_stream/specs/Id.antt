@@ -40,13 +40,16 @@ printed id = decimal id.ms ++ 45 ∷ decimal id.seq
 -- the successor of an id that isn't the greatest
 abbrev pub successor : Id → Id
 successor id =
-    if nat_lt id.seq greatest_number then record { ms = id.ms; seq = id.seq + 1 } else record { ms = id.ms + 1; seq = 0 }
+    if nat_lt id.seq greatest_number
+    then record { ms = id.ms; seq = id.seq + 1 }
+    else record { ms = id.ms + 1; seq = 0 }
 
 -- what a stream with room gives, by its top
 abbrev pub assigned_above : ℕ → Id → AddId → Result Id AddError
 assigned_above now top Auto = Ok (if nat_lt top.ms now then record { ms = now; seq = 0 } else successor top)
 assigned_above now top (AutoSeq ms) =
-    if ms == top.ms then (if nat_lt top.seq greatest_number then Ok (record { ms = ms; seq = top.seq + 1 }) else Err Small)
+    if ms == top.ms
+    then (if nat_lt top.seq greatest_number then Ok (record { ms = ms; seq = top.seq + 1 }) else Err Small)
     else (if nat_lt top.ms ms then Ok (record { ms = ms; seq = 0 }) else Err Small)
 assigned_above now top (Exact id) = if is_below top id then Ok id else Err Small
 

@@ -5,4 +5,4 @@ use Rattle.xs_desk.proofs.laws.what_is_served_has_the_headline.Goals as goal
 pub returns : goal.returns
 returns c = λ desk history is.
     let run = is.runs [] content-none in
-    (run.0, run.1, run.1.formed tt, λ later e earlier among. (run.1.apart later e earlier among, run.1.moves later e earlier among))
+    (run.0, run.1, run.1.formed tt, λ later e earlier among. (run.1.lives_are_apart later e earlier among, run.1.moves later e earlier among))

@@ -22,7 +22,7 @@ loop-name-init c =
     let is = c.into_iter-name-iterator.ensures.into_iter_gives ∙ c.iter-name-items.ensures.rest in
     record {
       held = subst (AreHeld owners.entries) (sym is) (held-all owners c.requires.ordered);
-      counts_of_owners = λ i. c.in_ok-counts.ensures.items i ++ told rows (is i);
+      counted = λ i. c.in_ok-counts.ensures.items i ++ told rows (is i);
     }
 
 pub loop-name-preserved-then-count-eq0 : goal.loop-name-preserved-then-count-eq0
@@ -36,7 +36,7 @@ loop-name-preserved-then-count-eq0 c =
     let none : ltb 0 (length (owned_ids name rows)) ≡ false = grind (arith, nat_tests) in
     record {
       held = held.1;
-      counts_of_owners = ap (λ b. c.loop-name.counts.items ++ cond b (record { consumer = name; count = length (owned_ids name rows) } ∷ told rows c.next.new.self) (told rows c.next.new.self)) (sym none)
+      counted = ap (λ b. c.loop-name.counts.items ++ cond b (record { consumer = name; count = length (owned_ids name rows) } ∷ told rows c.next.new.self) (told rows c.next.new.self)) (sym none)
           ∙ ap (λ es. c.loop-name.counts.items ++ told rows es) (sym steps) ∙ c.loop-name.invariant.counted;
     }
 
@@ -52,7 +52,7 @@ loop-name-preserved c =
     let text = c.in_ok-consumer.ensures ∙ c.as_slice.ensures in
     record {
       held = held.1;
-      counts_of_owners = ap (λ (counts : List OwnerCount). counts ++ told rows c.next.new.self) (c.in_ok-push.ensures.items
+      counted = ap (λ (counts : List OwnerCount). counts ++ told rows c.next.new.self) (c.in_ok-push.ensures.items
           ∙ (λ i. c.loop-name.counts.items ++ record { consumer = text i; count = len i } ∷ []))
           ∙ append_assoc c.loop-name.counts.items (record { consumer = name; count = length (owned_ids name rows) } ∷ []) (told rows c.next.new.self)
           ∙ ap (λ b. c.loop-name.counts.items ++ cond b (record { consumer = name; count = length (owned_ids name rows) } ∷ told rows c.next.new.self) (told rows c.next.new.self)) (sym some)

@@ -11,6 +11,6 @@ invariant-loop-name l =
     let rows = (rows_of l._rows.entries).entries in
     record {
       held : AreHeld l.owners.entries l.name-iterator;
-      counts_of_owners : l.counts.items ++ filter (λ owner. ltb 0 owner.count) (counts_of_owners (keys_of l.name-iterator) rows)
+      counted : l.counts.items ++ filter (λ owner. ltb 0 owner.count) (counts_of_owners (keys_of l.name-iterator) rows)
           ≡ filter (λ owner. ltb 0 owner.count) (counts_of_owners (keys_of l.owners.entries) rows);
     }

@@ -1,6 +1,6 @@
 use Rattle.xs_keys.proofs.Arrivals.{entries-added, groups-created}
 use Rattle.xs_keys.proofs.Histories.{present-in-life}
-use Rattle.xs_keys.proofs.JobBooks.{balances, tells-pending}
+use Rattle.xs_keys.proofs.JobBooks.{places-add-up, tells-pending}
 use Rattle.xs_keys.proofs.JobMoves.{goes-along, for-good}
 use Rattle.xs_keys.proofs.JobPlaces.{has-one-place}
 use Rattle.xs_keys.proofs.IdsAtEvents.{sees-of}
@@ -26,9 +26,9 @@ returns-clause-open_groups c = groups-stay
 pub returns-clause-groups : goal.returns-clause-groups
 returns-clause-groups c = groups-created
 
-pub returns-clause-balances : goal.returns-clause-balances
-returns-clause-balances c = λ past key group changes life k g.
-    balances life changes (present-in-life past key group life g) (sees-of past key group changes life k g)
+pub returns-clause-places_add_up : goal.returns-clause-places_add_up
+returns-clause-places_add_up c = λ past key group changes life k g.
+    places-add-up life changes (present-in-life past key group life g) (sees-of past key group changes life k g)
 
 pub returns-clause-for_good : goal.returns-clause-for_good
 returns-clause-for_good c = for-good
