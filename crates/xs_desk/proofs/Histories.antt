@@ -15,7 +15,7 @@ use Rattle.xs_keys.specs.Content.{Content}
 use Rattle.xs_keys.specs.EachReply.{Follows, AreReplied}
 use Rattle.xs_keys.specs.Headline.{RunsOn}
 use Rattle.xs_keys.specs.Step.{Step}
-use Rattle.xs_keys.proofs.Lawfulness.{content-lawful}
+use Rattle.xs_keys.proofs.ConsistentContents.{content-lawful}
 use Rattle.xs_keys.proofs.Runs.{step-follows, headline}
 use Rattle.xs_desk.specs.History.{ServedCall, LaneOf, Desk, of_lane, commands_of, answers_of, events_of, replies_of}
 use Rattle.xs_desk.specs.History.{CountUp, IsHistory}

@@ -11,7 +11,7 @@ use Rattle.xs_bytes.proofs.SortedMaps.{get-insert_by}
 use Rattle.xs_stream.specs.declared.id.Id.{Id}
 use Rattle.xs_stream.specs.Id.{id_cmp, is_same_id}
 use Rattle.xs_stream.proofs.Order.{is_same-eq, is_same-symm}
-use Rattle.xs_group.specs.State.{RowState, Rows, Names, is_same_name, with_name, has_name}
+use Rattle.xs_group.specs.GroupState.{RowState, Rows, Names, is_same_name, with_name, has_name}
 use Rattle.xs_group.specs.Indexes.{rows_of, PendingList, ConsumerIndex, names_of, ids_at, has_among, holds, is_owner}
 use Rattle.xs_group.specs.Indexes.{indexed_row, IsAgreed}
 use Rattle.xs_group.proofs.ByConsumer.{Index, is_name-eq, is_name-symm}

@@ -14,7 +14,7 @@ use Rattle.std.proofs.lemmas.Map.Lookups.{exact_bytes}
 use Rattle.xs_stream.specs.declared.id.Id.{Id}
 use Rattle.xs_stream.specs.Id.{id_cmp, is_same_id, has_id}
 use Rattle.xs_stream.proofs.Order.{equal-from, is_same-symm}
-use Rattle.xs_group.specs.State.{is_same_name}
+use Rattle.xs_group.specs.GroupState.{is_same_name}
 use Rattle.xs_group.specs.Indexes.{ids_at, has_among, holds}
 
 pub is_name-eq : (a b : List ℕ) → is_same_name a b ≡ true → a ≡ b

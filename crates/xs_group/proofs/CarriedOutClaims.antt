@@ -13,7 +13,7 @@ use Rattle.xs_stream.proofs.Order.{is_same-symm}
 use Rattle.xs_group.specs.declared.claims.Claim.{Claim}
 use Rattle.xs_group.specs.Claims.{Rule, is_taken, is_hit, without_repeats, from_start, scanned_part, row_after_claim}
 use Rattle.xs_group.specs.Claims.{claimed_row}
-use Rattle.xs_group.specs.State.{RowState, Rows, GroupState, unless_acked}
+use Rattle.xs_group.specs.GroupState.{RowState, Rows, GroupState, unless_acked}
 use Rattle.xs_group.specs.Indexes.{rows_of, indexed_row}
 use Rattle.xs_group.specs.Verdict.{moved, scanned_after, AreDistinct, IsClaimOn}
 use Rattle.xs_group.proofs.Ordered.{first, second}

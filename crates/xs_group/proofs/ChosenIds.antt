@@ -9,7 +9,7 @@ use Rattle.xs_stream.specs.Id.{is_same_id, has_id}
 use Rattle.xs_group.specs.declared.claims.Verdict.{Verdict}
 use Rattle.xs_group.specs.declared.claims.Verdict.TheVariants.{Passed, Taken, Removed}
 use Rattle.xs_group.specs.Claims.{Rule, row_at, is_idle, is_taken, is_removed, is_hit, without_repeats}
-use Rattle.xs_group.specs.State.{RowState, Rows}
+use Rattle.xs_group.specs.GroupState.{RowState, Rows}
 use Rattle.xs_group.specs.Verdict.{is_taken_by, is_removed_by, verdict_of, with_taken, with_removed, hits_of}
 
 pub has-more : (ids : List Id) (id q : Id) → has_id (ids ++ id ∷ []) q ≡ (has_id ids q || is_same_id q id)

@@ -7,9 +7,9 @@ use Rattle.xs_stream.specs.declared.id.Id.{Id}
 use Rattle.xs_stream.specs.Id.{is_same_id, is_below, has_id}
 use Rattle.xs_stream.specs.StreamContent.{AllAbove, Ascends, limited}
 use Rattle.xs_stream.proofs.Order.{is_same-eq, below-not_back, below-irrefl, not_above-trans}
-use Rattle.xs_group.specs.State.{RowState, Rows, last_of, with_rows}
+use Rattle.xs_group.specs.GroupState.{RowState, Rows, last_of, with_rows}
 use Rattle.xs_group.specs.Indexes.{AreFree}
-use Rattle.xs_group.specs.Lawful.{IsUpTo}
+use Rattle.xs_group.specs.ConsistentGroup.{IsUpTo}
 use Rattle.xs_group.proofs.NewRows.{get-with_rows}
 
 pub above-has : (c : Id) (ids : List Id) → AllAbove c ids → (x : Id) → has_id ids x ≡ true → is_below c x ≡ true

@@ -7,7 +7,7 @@ use Rattle.xs_stream.specs.declared.id.Id.{Id}
 use Rattle.xs_stream.specs.Id.{id_cmp, is_same_id, has_id}
 use Rattle.xs_stream.proofs.Order.{is_same-eq, is_same-symm}
 use Rattle.xs_group.specs.Claims.{Rule, claimed_row}
-use Rattle.xs_group.specs.State.{RowState, is_same_name}
+use Rattle.xs_group.specs.GroupState.{RowState, is_same_name}
 use Rattle.xs_group.specs.Indexes.{ConsumerIndex, holds, is_owner, indexed_row, IsAgreed}
 use Rattle.xs_group.specs.Verdict.{moved, AreAgreedBut, AreSomeOf}
 use Rattle.xs_group.proofs.ByConsumer.{is_name-eq, is_name-symm}

@@ -10,8 +10,8 @@ use Rattle.xs_bytes.proofs.SortedMaps.{get-insert_by, get-remove}
 use Rattle.xs_stream.specs.declared.id.Id.{Id}
 use Rattle.xs_stream.specs.Id.{id_cmp, is_same_id, has_id}
 use Rattle.xs_stream.proofs.Order.{is_same-symm}
-use Rattle.xs_group.specs.State.{RowState, Rows, Names, ids_total, is_same_name, has_name, with_name, with_rows}
-use Rattle.xs_group.specs.State.{unless_acked, unless_owned}
+use Rattle.xs_group.specs.GroupState.{RowState, Rows, Names, ids_total, is_same_name, has_name, with_name, with_rows}
+use Rattle.xs_group.specs.GroupState.{unless_acked, unless_owned}
 use Rattle.xs_group.specs.Indexes.{rows_of, indexed_row, ConsumerIndex, is_owner, AreFree, IsAgreed, IsNamed}
 use Rattle.xs_group.specs.Indexes.{PendingList}
 use Rattle.xs_group.specs.Verdict.{AreAgreedBut}

@@ -1,5 +1,6 @@
 -- Lists and maps in the order of their keys.
-use Rattle.std.proofs.Common.{◌≡◌, ℕ, Bool, true, false, cond, ◌&&◌, ◌||◌, List, [], ◌∷◌, filter, Option, Some, None}
+use Rattle.std.proofs.Common.{◌≡◌, ℕ, Bool, true, false, cond, ◌&&◌, ◌||◌, List, [], ◌∷◌, map, filter, Option, Some}
+use Rattle.std.proofs.Common.{None}
 use Rattle.std.proofs.Common.{is_some, sym, ap, subst, ◌∙◌, refl, Ordering}
 use Rattle.std.proofs.Math.Dec.{T}
 use Rattle.std.specs.FinMap.Entries.{find, below_all, is_sorted, same_entries}
@@ -13,9 +14,10 @@ use Rattle.std.proofs.lemmas.Map.Keys.{sorted_head, sorted_tail}
 use Rattle.xs_bytes.specs.SortedMap.{get}
 use Rattle.xs_bytes.proofs.SortedMaps.{get-of_entries}
 use Rattle.xs_stream.specs.declared.id.Id.{Id}
-use Rattle.xs_stream.specs.Id.{id_cmp, is_same_id, has_id}
+use Rattle.xs_stream.specs.Id.{id_cmp, is_same_id, is_below, has_id}
+use Rattle.xs_stream.specs.StreamContent.{AllAbove, Ascends}
 use Rattle.xs_stream.proofs.Order.{same_id, is_same-eq}
-use Rattle.xs_group.specs.State.{RowState, Rows, ids_total, is_same_name, owned_ids}
+use Rattle.xs_group.specs.GroupState.{RowState, Rows, ids_total, is_same_name, owned_ids}
 use Rattle.xs_group.specs.Indexes.{rows_of, is_owner}
 use Rattle.xs_group.proofs.Views.{RowMap}
 
@@ -130,3 +132,17 @@ ids-owned ids rows name s is = same_ids ids (filter (λ e. is_same_name e.1.cons
 pub sorted-none : IsStrictlySortedBy id_cmp []
 unfolding IsStrictlySortedBy
 sorted-none = tt
+
+-- ---- the ids of rows ascend
+
+is-true : (b : Bool) → T b → b ≡ true
+is-true true p = refl
+is-true false p = absurd p
+
+above-ids : (x : Id) (es : List (Id × RowState)) → T (below_all id_cmp x es) → AllAbove x (map (λ e. e.0) es)
+above-ids x [] h = tt
+above-ids x (e ∷ es) h = (is-true (is_below x e.0) (first _ _ h), above-ids x es (second _ _ h))
+
+pub ascends-ids : (es : List (Id × RowState)) → T (is_sorted id_cmp es) → Ascends (map (λ e. e.0) es)
+ascends-ids [] h = tt
+ascends-ids (e ∷ es) h = (above-ids e.0 es (first _ _ h), ascends-ids es (second _ _ h))

@@ -4,7 +4,7 @@ use Rattle.std.specs.BTreeSet.{BTreeSet}
 use Rattle.std.specs.List.Sorted.{IsStrictlySortedBy}
 use Rattle.xs_stream.specs.declared.id.Id.{Id}
 use Rattle.xs_stream.specs.Id.{id_cmp}
-use Rattle.xs_group.specs.State.{RowState, owned_ids}
+use Rattle.xs_group.specs.GroupState.{RowState, owned_ids}
 use Rattle.xs_group.specs.Indexes.{rows_of, ConsumerIndex, ids_at, has_among, is_owner, IsAgreed}
 use Rattle.xs_group.proofs.Views.{get-rows_of}
 use Rattle.xs_group.proofs.Ordered.{ids-owned, sorted-none}

@@ -12,10 +12,10 @@ use Rattle.xs_bytes.proofs.SortedMaps.{get-change, get-remove, get-empty}
 use Rattle.xs_stream.specs.declared.id.Id.{Id}
 use Rattle.xs_stream.specs.Id.{id_cmp, is_same_id, has_id}
 use Rattle.xs_stream.proofs.Order.{same_id, is_same-symm}
-use Rattle.xs_group.specs.State.{RowState, Rows, ids_total, is_same_name, unless_acked, unless_owned}
+use Rattle.xs_group.specs.GroupState.{RowState, Rows, ids_total, is_same_name, unless_acked, unless_owned}
 use Rattle.xs_group.specs.Indexes.{rows_of, ConsumerIndex, names_of, ids_at, has_among, holds, is_owner, indexed_row}
 use Rattle.xs_group.specs.Indexes.{IsAgreed, IsNamed}
-use Rattle.xs_group.specs.Lawful.{IsUpTo}
+use Rattle.xs_group.specs.ConsistentGroup.{IsUpTo}
 use Rattle.xs_group.proofs.ByConsumer.{is_name-eq, is_name-symm}
 use Rattle.xs_group.proofs.Views.{same_rows, same_names, get-rows_of, has_name-names_of}
 

@@ -25,7 +25,7 @@ use Rattle.xs_stream.specs.Id.{id_cmp, is_below}
 use Rattle.xs_stream.specs.StreamContent.{is_within}
 use Rattle.xs_stream.proofs.InOrder.{between-within, filter-filter}
 use Rattle.xs_group.specs.declared.reports.PendingRow.{PendingRow}
-use Rattle.xs_group.specs.State.{RowState, Rows, is_same_name, idle, owned_ids}
+use Rattle.xs_group.specs.GroupState.{RowState, Rows, is_same_name, idle, owned_ids}
 use Rattle.xs_group.specs.Indexes.{ConsumerIndex, names_of, ids_at, indexed_row}
 use Rattle.xs_group.specs.Report.{first_id, last_id, pending_row, is_of, is_selected}
 use Rattle.xs_group.specs.Listing.{is_told, with_row, rows_among}

@@ -15,7 +15,7 @@ use Rattle.xs_group.specs.declared.claims.Scan.{Scan}
 use Rattle.xs_group.specs.declared.claims.Verdict.{Verdict}
 use Rattle.xs_group.specs.Claims.{Rule, row_at, is_taken, is_removed, is_hit, from_start, prefixes, first_where}
 use Rattle.xs_group.specs.Claims.{scanned_part, first_or_zero, scan_of}
-use Rattle.xs_group.specs.State.{RowState}
+use Rattle.xs_group.specs.GroupState.{RowState}
 use Rattle.xs_group.specs.Verdict.{is_taken_by, is_removed_by, with_taken, with_removed, scanned_after}
 use Rattle.xs_group.proofs.Ordered.{first, second}
 

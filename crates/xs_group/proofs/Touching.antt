@@ -8,7 +8,7 @@ use Rattle.xs_stream.specs.Id.{id_cmp, is_same_id, has_id}
 use Rattle.xs_stream.proofs.Order.{is_same-eq, is_same-symm}
 use Rattle.xs_group.specs.declared.delivery.Touch.{Touch}
 use Rattle.xs_group.specs.declared.delivery.DeliveryRow.{DeliveryRow}
-use Rattle.xs_group.specs.State.{RowState, Rows, redelivered_row, row_after_reread}
+use Rattle.xs_group.specs.GroupState.{RowState, Rows, redelivered_row, row_after_reread}
 use Rattle.xs_group.specs.Indexes.{rows_of, ConsumerIndex, is_owner, indexed_row, IsAgreed}
 use Rattle.xs_group.specs.Deliveries.{touch_of, shown_row, shown_rows, touch_set, with_touch, touched_at, set_one}
 use Rattle.xs_group.specs.Deliveries.{set_rows, row_ids}

@@ -3,10 +3,10 @@ use Rattle.std.proofs.Common.{Option, ◌≡◌, ℕ, Bool, true, false, cond, n
 use Rattle.xs_bytes.specs.SortedMap.{change}
 use Rattle.xs_stream.specs.declared.id.Id.{Id}
 use Rattle.xs_group.specs.declared.delivery.Delivery.{Delivery}
-use Rattle.xs_group.specs.State.{Rows, GroupState, has_name, with_name, new_ids, first_row, with_rows, own_ids}
-use Rattle.xs_group.specs.State.{group_after_delivery, group_after_reread, unless_acked}
+use Rattle.xs_group.specs.GroupState.{Rows, GroupState, has_name, with_name, new_ids, first_row, with_rows, own_ids}
+use Rattle.xs_group.specs.GroupState.{group_after_delivery, group_after_reread, unless_acked}
 use Rattle.xs_group.specs.Indexes.{PendingList, IsNamed, AreFree}
-use Rattle.xs_group.specs.Lawful.{IsLawful}
+use Rattle.xs_group.specs.ConsistentGroup.{IsConsistentGroup}
 use Rattle.xs_group.specs.Deliveries.{delivery_of, history_of, new_rows, kind_of, taken_back, without_made, unmade}
 use Rattle.xs_group.specs.Deliveries.{row_ids, IsDelivered, IsReread, IsMade}
 use Rattle.xs_group.proofs.Agreeing.{name-again}
@@ -35,19 +35,19 @@ undone d group =
 abbrev state_of : Id → PendingList → GroupState
 state_of cursor held = record { cursor = cursor; consumers = held.consumers; rows = held.rows }
 
-module _ (before : GroupState) (law : IsLawful before) where
+module _ (before : GroupState) (law : IsConsistentGroup before) where
   back : (d : Delivery) (after : GroupState) (rows : Rows) → d.created ≡ not (has_name before.consumers d.consumer) → d.cursor_before ≡ before.cursor
       → after.consumers ≡ with_name before.consumers d.consumer → taken_back d.kind d.rows after.rows ≡ before.rows → undone d after ≡ before
   back d after rows made cursor names back_rows =
       let h : unmade d (record { consumers = after.consumers; rows = after.rows }) ≡ record { consumers = before.consumers; rows = before.rows } =
       (λ i. without_made (made i) d.consumer (record { consumers = names i; rows = back_rows i }))
-      ∙ without-made (record { consumers = before.consumers; rows = before.rows }) d.consumer law.named in
+      ∙ without-made (record { consumers = before.consumers; rows = before.rows }) d.consumer law.of_consumers in
       λ i. state_of (cursor i) (h i)
 
   undelivered : (after : GroupState) (d : Delivery) → IsDelivered before after d → undone d after ≡ before
   undelivered after d w =
       let ids = new_ids w.limit before.cursor w.ids in
-      let free = free-above before.cursor before.rows ids law.up_to (delivers-above w.limit before.cursor w.ids) in
+      let free = free-above before.cursor before.rows ids law.up_to_cursor (delivers-above w.limit before.cursor w.ids) in
       back d after before.rows (ap (λ (k : Delivery). k.created) w.answered) (ap (λ (k : Delivery). k.cursor_before) w.answered) (ap (λ (g : GroupState). g.consumers) w.left)
       ((λ i. taken_back (w.answered i).kind (w.answered i).rows (w.left i).rows) ∙ by ids free w.noack) where
         by : (ids : List Id) → AreFree before.rows ids → (noack : Bool)
@@ -68,7 +68,7 @@ undone-before before after d (law, inr w) = unreread before law after d w
 
 -- ---- what a read ensures is what its undoing asks for
 
-pub made-delivery : (before after : GroupState) (d : Delivery) (consumer : List ℕ) (now : ℕ) (limit : Option ℕ) (noack : Bool) (ids : List Id) → IsLawful before
+pub made-delivery : (before after : GroupState) (d : Delivery) (consumer : List ℕ) (now : ℕ) (limit : Option ℕ) (noack : Bool) (ids : List Id) → IsConsistentGroup before
     → after ≡ group_after_delivery consumer now limit noack ids before → d ≡ delivery_of consumer limit noack ids before → IsMade before after d
 made-delivery before after d consumer now limit noack ids law left answered =
     let own : consumer ≡ d.consumer = sym (ap (λ (k : Delivery). k.consumer) answered) in (
@@ -83,7 +83,7 @@ made-delivery before after d consumer now limit noack ids law left answered =
       }),
     )
 
-pub made-history : (before after : GroupState) (d : Delivery) (consumer : List ℕ) (now : ℕ) (limit : Option ℕ) (from : Id) (ids : List Id) → IsLawful before
+pub made-history : (before after : GroupState) (d : Delivery) (consumer : List ℕ) (now : ℕ) (limit : Option ℕ) (from : Id) (ids : List Id) → IsConsistentGroup before
     → after ≡ group_after_reread consumer now limit from ids before → d ≡ history_of consumer limit from ids before → IsMade before after d
 made-history before after d consumer now limit from ids law left answered =
     let own : consumer ≡ d.consumer = sym (ap (λ (k : Delivery). k.consumer) answered) in (

@@ -12,7 +12,7 @@ use Rattle.xs_bytes.proofs.SortedMaps.{get-of_entries, get-remove, same_map}
 use Rattle.xs_stream.specs.declared.id.Id.{Id}
 use Rattle.xs_stream.specs.Id.{id_cmp, is_same_id}
 use Rattle.xs_stream.proofs.Order.{same_id, is_same-symm}
-use Rattle.xs_group.specs.State.{RowState, Rows, Names, is_same_name, has_name, ids_total}
+use Rattle.xs_group.specs.GroupState.{RowState, Rows, Names, is_same_name, has_name, ids_total}
 use Rattle.xs_group.specs.Indexes.{rows_of, ConsumerIndex, names_of, ids_at, indexed_row}
 
 pub find-lookup : {K X : Type 0} (R : K → K → Ordering) (q : K) (es : List (K × X)) → find R q es ≡ lookup (is_at (R q)) es

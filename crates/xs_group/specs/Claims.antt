@@ -9,7 +9,7 @@ use Rattle.xs_group.specs.declared.claims.ClaimTime.{ClaimTime}
 use Rattle.xs_group.specs.declared.claims.ClaimTime.TheVariants.{Now, Idle, At}
 use Rattle.xs_group.specs.declared.claims.Claim.{Claim}
 use Rattle.xs_group.specs.declared.claims.Scan.{Scan}
-use Rattle.xs_group.specs.State.{RowState, GroupState, with_name, idle, next_count}
+use Rattle.xs_group.specs.GroupState.{RowState, GroupState, with_name, idle, next_count}
 
 -- what a claim asks for: the least idle time, the time and the count that its rows get, and JUSTID
 pub record Rule : Type 0 where

@@ -9,12 +9,12 @@ use Rattle.xs_group.specs.declared.delivery.DeliveryRow.{DeliveryRow}
 use Rattle.xs_group.specs.declared.delivery.DeliveryKind.{DeliveryKind}
 use Rattle.xs_group.specs.declared.delivery.DeliveryKind.TheVariants.{New, NoAck, History}
 use Rattle.xs_group.specs.declared.delivery.Delivery.{Delivery}
-use Rattle.xs_group.specs.State.{RowState, Rows, GroupState, has_name, with_name, next_count}
-use Rattle.xs_group.specs.State.{new_ids, group_after_delivery, own_ids, group_after_reread, last_of, with_rows}
-use Rattle.xs_group.specs.State.{first_row}
-use Rattle.xs_group.specs.State.{unless_acked, unless_owned}
+use Rattle.xs_group.specs.GroupState.{RowState, Rows, GroupState, has_name, with_name, next_count}
+use Rattle.xs_group.specs.GroupState.{new_ids, group_after_delivery, own_ids, group_after_reread, last_of, with_rows}
+use Rattle.xs_group.specs.GroupState.{first_row}
+use Rattle.xs_group.specs.GroupState.{unless_acked, unless_owned}
 use Rattle.xs_group.specs.Indexes.{PendingList}
-use Rattle.xs_group.specs.Lawful.{IsLawful}
+use Rattle.xs_group.specs.ConsistentGroup.{IsConsistentGroup}
 
 -- an entry that is delivered for the first time
 abbrev pub new_row : Id → DeliveryRow
@@ -87,7 +87,7 @@ pub record IsReread (before after : GroupState) (delivery : Delivery) : Type 0 w
 
 -- a read of a lawful group left this one, and answered this delivery
 abbrev pub IsMade : GroupState → GroupState → Delivery → Type 0
-IsMade before after delivery = IsLawful before × (IsDelivered before after delivery ⊎ IsReread before after delivery)
+IsMade before after delivery = IsConsistentGroup before × (IsDelivered before after delivery ⊎ IsReread before after delivery)
 
 -- ---- times and counts that are set
 

@@ -5,7 +5,7 @@ use Rattle.xs_stream.specs.declared.id.Id.{Id}
 use Rattle.xs_stream.specs.Id.{is_same_id}
 use Rattle.xs_stream.specs.Examples.{at}
 use Rattle.xs_group.specs.declared.claims.ClaimTime.TheVariants as time
-use Rattle.xs_group.specs.State.{RowState}
+use Rattle.xs_group.specs.GroupState.{RowState}
 use Rattle.xs_group.specs.Claims.{Rule, is_idle, is_removed, is_taken, without_repeats, claim_by_ids, from_start}
 use Rattle.xs_group.specs.Claims.{is_hit, prefixes}
 use Rattle.xs_group.specs.Claims.{scanned_part, first_or_zero, scan_of, claim_time, claim_count, claimed_row}

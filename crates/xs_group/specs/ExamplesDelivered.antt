@@ -8,9 +8,9 @@ use Rattle.xs_stream.specs.Examples.{at}
 use Rattle.xs_group.specs.declared.delivery.DeliveryRow.{DeliveryRow}
 use Rattle.xs_group.specs.declared.delivery.DeliveryKind.TheVariants as kind
 use Rattle.xs_group.specs.declared.claims.Verdict.TheVariants.{Passed, Taken, Removed}
-use Rattle.xs_group.specs.State.{GroupState, group_after_delivery, group_after_reread}
+use Rattle.xs_group.specs.GroupState.{GroupState, group_after_delivery, group_after_reread}
 use Rattle.xs_group.specs.Indexes.{PendingList, rows_of, is_owner, indexed_row, IsNamed}
-use Rattle.xs_group.specs.Lawful.{IsUpTo}
+use Rattle.xs_group.specs.ConsistentGroup.{IsUpTo}
 use Rattle.xs_group.specs.Count.{IsCount}
 use Rattle.xs_group.specs.Deliveries.{delivery_of, history_of, set_rows, unmade}
 use Rattle.xs_group.specs.Verdict.{verdict_of, hits_of, with_taken, with_removed, scanned_after, moved, AreDistinct}

@@ -6,10 +6,11 @@ use Rattle.xs_bytes.specs.MapOf.{from_entries}
 use Rattle.xs_bytes.specs.SortedMap.{keys}
 use Rattle.xs_stream.specs.declared.id.Id.{Id}
 use Rattle.xs_stream.specs.Examples.{at}
-use Rattle.xs_group.specs.State.{RowState, Names, GroupState, has_name, is_same_name, idle, greatest_count, next_count}
-use Rattle.xs_group.specs.State.{new_group}
-use Rattle.xs_group.specs.State.{with_consumer, group_after_ack, without_consumer, new_ids}
-use Rattle.xs_group.specs.State.{last_of, group_after_delivery, owned_ids, own_ids, group_after_reread}
+use Rattle.xs_group.specs.GroupState.{RowState, Names, GroupState, has_name, is_same_name, idle, greatest_count}
+use Rattle.xs_group.specs.GroupState.{next_count}
+use Rattle.xs_group.specs.GroupState.{new_group}
+use Rattle.xs_group.specs.GroupState.{with_consumer, group_after_ack, without_consumer, new_ids}
+use Rattle.xs_group.specs.GroupState.{last_of, group_after_delivery, owned_ids, own_ids, group_after_reread}
 use Rattle.xs_group.specs.Indexes.{rows_of}
 
 abbrev pub pending : Id → List ℕ → ℕ → ℕ → Id × RowState

@@ -7,7 +7,7 @@ use Rattle.xs_stream.specs.Id.{zero_id, greatest_id}
 use Rattle.xs_stream.specs.Examples.{at}
 use Rattle.xs_group.specs.declared.reports.OwnerCount.{OwnerCount}
 use Rattle.xs_group.specs.declared.reports.PendingRow.{PendingRow}
-use Rattle.xs_group.specs.State.{GroupState, new_group}
+use Rattle.xs_group.specs.GroupState.{GroupState, new_group}
 use Rattle.xs_group.specs.Report.{owned_count, summary_of, pending_of}
 use Rattle.xs_group.specs.Indexes.{rows_of}
 use Rattle.xs_group.specs.ExamplesRead.{group, names_in, pending}

@@ -11,7 +11,7 @@ use Rattle.xs_bytes.specs.MapOf.{of_entries, from_entries}
 use Rattle.xs_bytes.specs.SortedMap.{get, has_key}
 use Rattle.xs_stream.specs.declared.id.Id.{Id}
 use Rattle.xs_stream.specs.Id.{id_cmp, has_id}
-use Rattle.xs_group.specs.State.{RowState, Rows, Names, GroupState, ids_total, is_same_name, has_name}
+use Rattle.xs_group.specs.GroupState.{RowState, Rows, Names, GroupState, ids_total, is_same_name, has_name}
 
 abbrev pub rows_of : List (Id × RowState) → Rows
 rows_of entries = of_entries ids_total entries

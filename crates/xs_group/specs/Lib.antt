@@ -1,8 +1,8 @@
-pub mod State
+pub mod GroupState
 pub mod Claims
 pub mod Report
 pub mod Indexes
-pub mod Lawful
+pub mod ConsistentGroup
 pub mod Deliveries
 pub mod Verdict
 pub mod Listing

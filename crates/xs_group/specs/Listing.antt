@@ -6,7 +6,7 @@ use Rattle.xs_stream.specs.declared.range.Range.{Range}
 use Rattle.xs_stream.specs.StreamContent.{is_within}
 use Rattle.xs_group.specs.declared.reports.OwnerCount.{OwnerCount}
 use Rattle.xs_group.specs.declared.reports.PendingRow.{PendingRow}
-use Rattle.xs_group.specs.State.{RowState, Rows, Names, idle}
+use Rattle.xs_group.specs.GroupState.{RowState, Rows, Names, idle}
 use Rattle.xs_group.specs.Report.{counts_of_owners, pending_row, is_selected}
 use Rattle.xs_group.specs.Indexes.{indexed_row}
 

@@ -8,7 +8,7 @@ use Rattle.xs_stream.specs.StreamContent.{is_within}
 use Rattle.xs_group.specs.declared.reports.OwnerCount.{OwnerCount}
 use Rattle.xs_group.specs.declared.reports.GroupSummary.{GroupSummary}
 use Rattle.xs_group.specs.declared.reports.PendingRow.{PendingRow}
-use Rattle.xs_group.specs.State.{RowState, GroupState, is_same_name, idle, owned_ids}
+use Rattle.xs_group.specs.GroupState.{RowState, GroupState, is_same_name, idle, owned_ids}
 
 abbrev pub first_id : List (Id × RowState) → Option Id
 first_id [] = None

@@ -7,7 +7,7 @@ use Rattle.xs_group.specs.declared.claims.Claim.{Claim}
 use Rattle.xs_group.specs.declared.claims.Verdict.{Verdict}
 use Rattle.xs_group.specs.declared.claims.Verdict.TheVariants.{Passed, Taken, Removed}
 use Rattle.xs_group.specs.Claims.{Rule, is_idle, claim_by_ids, scan_of, claimed_row}
-use Rattle.xs_group.specs.State.{RowState, GroupState, is_same_name}
+use Rattle.xs_group.specs.GroupState.{RowState, GroupState, is_same_name}
 use Rattle.xs_group.specs.Indexes.{ConsumerIndex, holds, is_owner, indexed_row}
 
 abbrev pub is_taken_by : Verdict → Bool

@@ -3,7 +3,7 @@ ghost use Rattle.std.specs.Prelude.{◌≡◌, ◌&&◌, ◌||◌, ℕ, List, no
 ghost use Rattle.std.specs.BTreeSet.{contains};
 ghost use Rattle.xs_stream.specs.declared.id.Id.{Id};
 ghost use Rattle.xs_stream.specs.Id.{id_cmp, is_same_id, has_id};
-ghost use Rattle.xs_group.specs.State.{is_same_name};
+ghost use Rattle.xs_group.specs.GroupState.{is_same_name};
 ghost use Rattle.xs_group.specs.Indexes.{holds, ids_at, indexed_row};
 ghost use Rattle.xs_group.specs.Verdict.{AreSomeOf};
 

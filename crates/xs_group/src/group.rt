@@ -1,10 +1,10 @@
 //! A consumer group: its cursor, its consumers, and what is pending.
 ghost use Rattle.std.specs.Prelude.{◌≡◌, ◌+◌, not, length, IfOk, OnOk, OnErr};
-ghost use Rattle.xs_group.specs.State.{GroupState, has_name, with_consumer, new_group, group_after_ack};
-ghost use Rattle.xs_group.specs.State.{without_consumer, group_after_delivery};
-ghost use Rattle.xs_group.specs.State.{group_after_reread};
+ghost use Rattle.xs_group.specs.GroupState.{GroupState, has_name, with_consumer, new_group, group_after_ack};
+ghost use Rattle.xs_group.specs.GroupState.{without_consumer, group_after_delivery};
+ghost use Rattle.xs_group.specs.GroupState.{group_after_reread};
 ghost use Rattle.xs_group.specs.Report.{owned_count, summary_of, pending_of};
-ghost use Rattle.xs_group.specs.Lawful.{IsLawful};
+ghost use Rattle.xs_group.specs.ConsistentGroup.{IsConsistentGroup};
 ghost use Rattle.xs_group.specs.Claims.{claim_by_ids, scan_of, group_after_claim};
 ghost use Rattle.xs_group.specs.Verdict.{IsClaimOn};
 ghost use Rattle.std.specs.Option.{option_map};
@@ -30,9 +30,9 @@ pub struct Group {
 }
 
 impl Model for Group {
-    ghost use Rattle.xs_group.specs.State.{GroupState};
+    ghost use Rattle.xs_group.specs.GroupState.{GroupState};
     ghost use Rattle.xs_group.specs.Indexes.{coded_state};
-    ghost use Rattle.xs_group.specs.Lawful.{IsUpTo};
+    ghost use Rattle.xs_group.specs.ConsistentGroup.{IsUpTo};
 
     ghost Value = { GroupState };
 
@@ -56,7 +56,7 @@ impl Group {
 
     /// What holds of every group: no row is above the cursor, and each row's consumer is there.
     pub fn lawful(&self)
-        ensures { IsLawful self.now }
+        ensures { IsConsistentGroup self.now }
     {
         self.pending.lawful();
     }

@@ -2,7 +2,7 @@
 ghost use Rattle.std.specs.Prelude.{◌≡◌, Some, None, OnOk, OnErr, if◌then◌else◌};
 ghost use Rattle.xs_stream.specs.declared.id.Id.{Id};
 ghost use Rattle.xs_stream.specs.Id.{is_same_id, has_id};
-ghost use Rattle.xs_group.specs.State.{first_row};
+ghost use Rattle.xs_group.specs.GroupState.{first_row};
 ghost use Rattle.xs_group.specs.Indexes.{rows_of, indexed_row, AreFree};
 
 use crate::name::Name;

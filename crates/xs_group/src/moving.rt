@@ -3,7 +3,7 @@ ghost use Rattle.std.specs.Prelude.{◌≡◌, ◌∷◌, [], ◌&&◌, ℕ, Lis
 ghost use Rattle.std.specs.Prelude.{option_and_then, IfOk, IfSome, if◌then◌else◌, OnOk, OnErr, IsSome};
 ghost use Rattle.xs_stream.specs.declared.id.Id.{Id};
 ghost use Rattle.xs_stream.specs.Id.{is_same_id, has_id};
-ghost use Rattle.xs_group.specs.State.{is_same_name};
+ghost use Rattle.xs_group.specs.GroupState.{is_same_name};
 ghost use Rattle.xs_group.specs.Indexes.{holds, ids_at, is_owner, indexed_row, IsAgreed};
 ghost use Rattle.xs_group.specs.Verdict.{moved, AreDistinct, AreAgreedBut, AreSomeOf};
 

@@ -1,6 +1,6 @@
 //! A pending entry.
 ghost use Rattle.std.specs.Prelude.{◌≡◌, IfOk};
-ghost use Rattle.xs_group.specs.State.{next_count, idle};
+ghost use Rattle.xs_group.specs.GroupState.{next_count, idle};
 ghost use Rattle.xs_group.specs.Claims.{claimed_row, claim_time, claim_count};
 
 use crate::claims::{ClaimRule, ClaimTime};
@@ -33,7 +33,7 @@ pub(crate) struct PendingEntry {
 }
 
 impl Model for PendingEntry {
-    ghost use Rattle.xs_group.specs.State.{RowState};
+    ghost use Rattle.xs_group.specs.GroupState.{RowState};
     ghost use Rattle.xs_group.specs.Indexes.{coded_row};
 
     ghost Value = { RowState };

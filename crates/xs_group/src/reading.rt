@@ -2,7 +2,7 @@
 ghost use Rattle.std.specs.Prelude.{◌≡◌, IfOk, take, filter};
 ghost use Rattle.xs_stream.specs.Id.{has_id, is_below};
 ghost use Rattle.xs_stream.specs.StreamContent.{ids_of, limited, AreEntriesOf};
-ghost use Rattle.xs_group.specs.State.{last_of};
+ghost use Rattle.xs_group.specs.GroupState.{last_of};
 ghost use Rattle.xs_group.specs.Deliveries.{new_rows, touch_set};
 
 use crate::delivery::{DeliveryRow, Touch};

@@ -7,7 +7,7 @@ use Rattle.xs_keys.specs.Content.{Content, KeyState}
 use Rattle.xs_keys.specs.ReplyParts.{assigned_reply}
 use Rattle.xs_keys.specs.Step.{Step, is_error}
 use Rattle.xs_keys.specs.Adding.{Adds}
-use Rattle.xs_keys.proofs.Names.{insert-same}
+use Rattle.xs_keys.proofs.NameMaps.{insert-same}
 
 no_error : (r : Result Id AddError) → is_ok r ≡ true → is_error (assigned_reply r) ≡ false
 no_error (Ok id) e = refl

@@ -5,7 +5,7 @@ use Rattle.xs_keys.specs.GroupAsk.{GroupAsk}
 use Rattle.xs_keys.specs.Content.{Content, KeyState}
 use Rattle.xs_keys.specs.ContentAfter.{after_ask, group_after, with_group, group_in, entries_in}
 use Rattle.xs_keys.specs.ReplyParts.{reply_of_group}
-use Rattle.xs_keys.proofs.Names.{insert-same}
+use Rattle.xs_keys.proofs.NameMaps.{insert-same}
 
 -- an ask of a group that isn't there changes nothing
 pub asked-missing : (content : Content) (now : ℕ) (name group_name : List ℕ) (ask : GroupAsk) → group_in (get content name) group_name ≡ None

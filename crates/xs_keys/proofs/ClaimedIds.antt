@@ -10,7 +10,7 @@ use Rattle.std.proofs.lemmas.Bool.Decides.{nat_tests}
 use Rattle.xs_stream.specs.Id.{is_below, is_same_id, has_id, zero_id}
 use Rattle.xs_group.specs.declared.claims.Claim.{Claim}
 use Rattle.xs_group.specs.declared.claims.ClaimTime.TheVariants as claim_time
-use Rattle.xs_group.specs.State.{RowState, idle, new_ids}
+use Rattle.xs_group.specs.GroupState.{RowState, idle, new_ids}
 use Rattle.xs_group.specs.Claims.{Rule, row_at, is_idle, is_taken, is_removed, is_hit, is_enough, prefixes, first_where}
 use Rattle.xs_group.specs.Claims.{without_repeats, scanned_part, from_start, first_or_zero, claim_among}
 use Rattle.xs_group.specs.Verdict.{AreDistinct}
@@ -32,7 +32,7 @@ use Rattle.xs_keys.proofs.GroupSteps.{cursor-step}
 use Rattle.xs_keys.proofs.Deliveries.{PresentAscends, past-start}
 use Rattle.xs_keys.proofs.IdsAtEvents.{above-has}
 use Rattle.xs_keys.proofs.Owners.{owner-row, row-found, of_row}
-use Rattle.xs_keys.proofs.JobBooks.{ids-among, ascends-rows, ascends-same, same_truth, not_itself}
+use Rattle.xs_keys.proofs.JobCounts.{ids-among, ascends-rows, ascends-same, same_truth, not_itself}
 use Rattle.xs_keys.proofs.ScanParts.{Begins, scanned-begins, AreNotZero, above-not_zero, before-part, part-before}
 use Rattle.xs_keys.proofs.TimesOfRows.{is-last-touched}
 
@@ -221,7 +221,7 @@ goes-far (auto_claim consumer rule from limit) now present all are = far-enough 
 -- ---- one claim
 
 -- an id with a row is among theirs
-row-listed : (es : List (Id × RowState)) (x : Id) → is_some (row_at es x) ≡ true → has_id (map (λ e. e.0) es) x ≡ true
+pub row-listed : (es : List (Id × RowState)) (x : Id) → is_some (row_at es x) ≡ true → has_id (map (λ e. e.0) es) x ≡ true
 row-listed [] x e = absurd (false≢true e)
 row-listed (e ∷ es) x found = by (is_same_id x e.0) found (row-listed es x) where
   by : (t : Bool) → is_some (cond t (Some e.1) (row_at es x)) ≡ true → (is_some (row_at es x) ≡ true → has_id (map (λ e. e.0) es) x ≡ true) → (t || has_id (map (λ e. e.0) es) x) ≡ true

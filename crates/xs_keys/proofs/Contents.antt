@@ -19,7 +19,7 @@ use Rattle.xs_keys.specs.Content.{KeyState, Content, IsGroup, GroupHolds, KeyHol
 use Rattle.xs_keys.specs.ContentAfter.{new_key, key_or_new, stream_after, key_after, after_stream_event}
 use Rattle.xs_keys.specs.ContentAfter.{without_keys, group_after, with_group, after_ask, after_create}
 use Rattle.xs_keys.specs.ContentAfter.{group_in, has_all_groups_in, after_reads, content_after}
-use Rattle.xs_keys.proofs.Names.{is_name-eq, get-insert, get-remove, same_map, same_names}
+use Rattle.xs_keys.proofs.NameMaps.{is_name-eq, get-insert, get-remove, same_map, same_names}
 use Rattle.xs_keys.proofs.Streams.{stream-step, ascends-live}
 use Rattle.xs_keys.proofs.GroupSteps.{group-step, group-new}
 

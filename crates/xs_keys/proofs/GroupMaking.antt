@@ -10,7 +10,7 @@ use Rattle.xs_keys.specs.Content.{Content, KeyState}
 use Rattle.xs_keys.specs.ContentAfter.{new_key, with_group}
 use Rattle.xs_keys.specs.Grouping.{Creates}
 use Rattle.xs_keys.specs.Step.{Step}
-use Rattle.xs_keys.proofs.Names.{insert-same}
+use Rattle.xs_keys.proofs.NameMaps.{insert-same}
 
 -- a creation in a key that is there is a step
 pub creates_step : (content : Content) (now : ℕ) (create : GroupCreateCommand) (answer : Reply) (key : KeyState) (groups : NameMap GroupState) → get content create.key ≡ Some key

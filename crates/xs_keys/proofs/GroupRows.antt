@@ -7,7 +7,7 @@ use Rattle.xs_bytes.specs.Each.{with_some, each}
 use Rattle.xs_bytes.specs.SortedMap.{insert_by}
 use Rattle.xs_stream.specs.Id.{id_cmp, is_below, is_same_id, has_id}
 use Rattle.xs_stream.proofs.Order.{above-greater, up_to-below, below-not_back, below-irrefl, is_same-refl}
-use Rattle.xs_group.specs.State.{RowState, Rows, ids_total, with_rows}
+use Rattle.xs_group.specs.GroupState.{RowState, Rows, ids_total, with_rows}
 use Rattle.xs_keys.specs.Terms.{Id, Ascends, AllAbove, AllUpTo}
 use Rattle.xs_keys.specs.GroupEvent.{rows_among}
 use Rattle.xs_keys.proofs.IdLists.{up_to-append, up_to-raise}

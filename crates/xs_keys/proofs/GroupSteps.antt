@@ -5,10 +5,11 @@ use Rattle.std.proofs.lemmas.List.{append-nil}
 use Rattle.xs_bytes.specs.Each.{each}
 use Rattle.xs_bytes.specs.SortedMap.{empty, get, change, remove}
 use Rattle.xs_bytes.proofs.SortedMaps.{get-empty}
-use Rattle.xs_group.specs.State.{RowState, Rows, GroupState, Names, is_same_name, has_name, with_name, new_ids, last_of}
-use Rattle.xs_group.specs.State.{first_row, with_rows, group_after_delivery, own_ids, row_after_reread}
-use Rattle.xs_group.specs.State.{group_after_reread, new_group, group_after_ack, unless_acked, unless_owned}
-use Rattle.xs_group.specs.State.{without_consumer}
+use Rattle.xs_group.specs.GroupState.{RowState, Rows, GroupState, Names, is_same_name, has_name, with_name, new_ids}
+use Rattle.xs_group.specs.GroupState.{last_of}
+use Rattle.xs_group.specs.GroupState.{first_row, with_rows, group_after_delivery, own_ids, row_after_reread}
+use Rattle.xs_group.specs.GroupState.{group_after_reread, new_group, group_after_ack, unless_acked, unless_owned}
+use Rattle.xs_group.specs.GroupState.{without_consumer}
 use Rattle.xs_keys.specs.Terms.{Id, has_id, Ascends, AllAbove, AllUpTo, Rule, row_after_claim, claim_by_ids, scan_of}
 use Rattle.xs_keys.specs.Life.{greatest}
 use Rattle.xs_keys.specs.GroupAsk.{GroupAsk, read_new, read_own, acknowledge, create_consumer, delete_consumer, claim}
@@ -18,7 +19,7 @@ use Rattle.xs_keys.specs.GroupEvent.{pending_row_at, rows}
 use Rattle.xs_keys.specs.GroupLife.{GroupLife}
 use Rattle.xs_keys.specs.Content.{IsGroup}
 use Rattle.xs_keys.specs.ContentAfter.{group_after}
-use Rattle.xs_keys.proofs.Names.{get-insert, get-remove}
+use Rattle.xs_keys.proofs.NameMaps.{get-insert, get-remove}
 use Rattle.xs_keys.proofs.Streams.{greatest-append, up_to-greatest}
 use Rattle.xs_keys.proofs.IdLists.{above-delivers, ascends-delivers, greatest-last, not_above}
 use Rattle.xs_keys.proofs.GroupRows.{row_ids, each_row, each-among, among-append, among-alike, among-known, among-none}

@@ -4,7 +4,7 @@ use Rattle.std.proofs.Common.{Option, Some, None, sym, ap, ◌∙◌, refl}
 use Rattle.std.proofs.lemmas.Bool.{false≢true, and_right}
 use Rattle.xs_stream.specs.Id.{is_below, is_same_id, has_id}
 use Rattle.xs_stream.proofs.Order.{is_same-eq, is_same-symm, below-not_same, up_to-below, not_above-trans}
-use Rattle.xs_group.specs.State.{new_ids, last_of}
+use Rattle.xs_group.specs.GroupState.{new_ids, last_of}
 use Rattle.xs_keys.specs.Terms.{Id, Ascends, AllAbove, AllUpTo, limited}
 use Rattle.xs_keys.specs.Life.{greatest}
 

@@ -88,7 +88,7 @@ live-earlier (change ∷ later) earlier x up e =
 
 -- ---- lists up to an id
 
-up_to-has : (a : Id) (xs : List Id) (x : Id) → AllUpTo a xs → has_id xs x ≡ true → is_below a x ≡ false
+pub up_to-has : (a : Id) (xs : List Id) (x : Id) → AllUpTo a xs → has_id xs x ≡ true → is_below a x ≡ false
 up_to-has a xs x up e = by (is_below a x) refl where
   by : (t : Bool) → is_below a x ≡ t → t ≡ false
   by false h = refl

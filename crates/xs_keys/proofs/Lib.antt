@@ -11,13 +11,13 @@ pub mod GroupRows
 pub mod GroupSteps
 pub mod Histories
 pub mod IdLists
-pub mod JobBooks
+pub mod JobCounts
 pub mod JobMoves
 pub mod JobPlaces
-pub mod Lawfulness
+pub mod ConsistentContents
 pub mod Lives
-pub mod Maps
-pub mod Names
+pub mod CodeMaps
+pub mod NameMaps
 pub mod Owners
 pub mod PresentEntries
 pub mod ReadSteps

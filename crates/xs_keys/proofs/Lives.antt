@@ -18,7 +18,7 @@ use Rattle.xs_keys.specs.GroupEvent.{delivered_ids, cursor}
 use Rattle.xs_keys.specs.GroupLife.{GroupLife, read_limit_of, present_in, new_life, life_after_ask, ask_of_read}
 use Rattle.xs_keys.specs.GroupLife.{life_after_reads, read_group_of, group_life, is_new, reads_new_entries}
 use Rattle.xs_keys.specs.GroupLife.{has_all_groups, ids_delivered_by, LifeContinues}
-use Rattle.xs_keys.proofs.Names.{is_name-eq}
+use Rattle.xs_keys.proofs.NameMaps.{is_name-eq}
 
 -- ---- events that deliver nothing
 

@@ -8,8 +8,9 @@ use Rattle.xs_stream.proofs.Order.{is_same-eq}
 use Rattle.xs_group.specs.declared.claims.Claim.{Claim}
 use Rattle.xs_group.specs.Claims.{Rule, row_at, is_idle, is_removed, is_taken, claim_among, without_repeats}
 use Rattle.xs_group.specs.Claims.{claim_by_ids, from_start, is_hit, scanned_part, scan_of, row_after_claim, claimed_row}
-use Rattle.xs_group.specs.State.{RowState, is_same_name, new_ids, first_row, own_ids, redelivered_row, row_after_reread}
-use Rattle.xs_group.specs.State.{unless_acked, unless_owned}
+use Rattle.xs_group.specs.GroupState.{RowState, is_same_name, new_ids, first_row, own_ids, redelivered_row}
+use Rattle.xs_group.specs.GroupState.{row_after_reread}
+use Rattle.xs_group.specs.GroupState.{unless_acked, unless_owned}
 use Rattle.xs_keys.specs.Terms.{with_some, Id}
 use Rattle.xs_keys.specs.GroupAsk.{GroupAsk, read_new, read_own, acknowledge, create_consumer, delete_consumer, claim}
 use Rattle.xs_keys.specs.GroupAsk.{auto_claim, new_ids_of_ask, claim_of_ask, consumer_of, keeps_pending}

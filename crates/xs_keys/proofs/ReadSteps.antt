@@ -5,7 +5,7 @@ use Rattle.std.proofs.Common.{arith}
 use Rattle.std.proofs.lemmas.List.Concat.{flat_map-append}
 use Rattle.std.proofs.lemmas.Bool.{false≢true}
 use Rattle.xs_group.specs.declared.delivery.Delivery.{Delivery}
-use Rattle.xs_group.specs.State.{GroupState, Rows, is_same_name, new_ids}
+use Rattle.xs_group.specs.GroupState.{GroupState, Rows, is_same_name, new_ids}
 use Rattle.xs_group.specs.Deliveries.{row_ids, new_rows, shown_rows, IsMade}
 use Rattle.xs_keys.specs.Terms.{flat_map, list_all, option_map_or, NameMap, get, insert, Id, Field, ids_of}
 use Rattle.xs_keys.specs.Terms.{ReadGroupCommand, ReadOne, ReadFrom, New, After}
@@ -20,7 +20,7 @@ use Rattle.xs_resp.specs.ReplyItems.{tokens_of}
 use Rattle.xs_keys.specs.Reply.{parts_of_read, parts}
 use Rattle.xs_keys.specs.ReplyParts.{new_part}
 use Rattle.xs_keys.specs.Reading.{parts_of, IsServed, IsServedAt, IsMadeAt, AreMade}
-use Rattle.xs_keys.proofs.Names.{get-insert, is_name-eq, is_name-refl, same_map}
+use Rattle.xs_keys.proofs.NameMaps.{get-insert, is_name-eq, is_name-refl, same_map}
 
 pub ids-new : (ids : List Id) → row_ids (new_rows ids) ≡ ids
 ids-new [] = refl

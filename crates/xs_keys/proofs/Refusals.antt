@@ -28,7 +28,7 @@ use Rattle.xs_keys.specs.ReplyParts.{scan_reply}
 use Rattle.xs_keys.specs.Reply.{parts, reply}
 use Rattle.xs_keys.specs.Step.{is_error, IsUnchangedIfRefused}
 use Rattle.xs_keys.proofs.AskSteps.{asked-missing}
-use Rattle.xs_keys.proofs.Names.{insert-same}
+use Rattle.xs_keys.proofs.NameMaps.{insert-same}
 
 -- ---- ids
 

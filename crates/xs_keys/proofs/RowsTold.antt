@@ -8,7 +8,7 @@ use Rattle.std.proofs.lemmas.List.{take-map}
 use Rattle.xs_stream.specs.Id.{is_below, is_same_id, has_id}
 use Rattle.xs_stream.specs.StreamContent.{Ascends, AllAbove, is_within}
 use Rattle.xs_stream.proofs.Order.{is_same-eq, is_same-refl, is_same-symm, below-not_same}
-use Rattle.xs_group.specs.State.{RowState, idle, is_same_name}
+use Rattle.xs_group.specs.GroupState.{RowState, idle, is_same_name}
 use Rattle.xs_group.specs.Claims.{row_at}
 use Rattle.xs_group.specs.Report.{is_of, is_selected, pending_row}
 use Rattle.xs_command.specs.declared.command.PendingRowsCommand.{PendingRowsCommand}
@@ -20,10 +20,10 @@ use Rattle.xs_keys.specs.ReplyParts.{array, row_reply}
 use Rattle.xs_keys.specs.Telling.{TellsEach}
 use Rattle.xs_keys.specs.RepliesTell.{IsAskedRow, TellsRow, TellsRows}
 use Rattle.xs_keys.proofs.Truths.{first_of, second_of}
-use Rattle.xs_keys.proofs.Names.{is_name-eq, is_name-refl}
+use Rattle.xs_keys.proofs.NameMaps.{is_name-eq, is_name-refl}
 use Rattle.xs_keys.proofs.Owners.{owner-row, row-found, of_row}
 use Rattle.xs_keys.proofs.TimesOfRows.{is-last-touched}
-use Rattle.xs_keys.proofs.JobBooks.{not_itself}
+use Rattle.xs_keys.proofs.JobCounts.{not_itself}
 use Rattle.xs_keys.proofs.FirstIds.{limited-first, first-as}
 
 -- ---- rows that pass a test

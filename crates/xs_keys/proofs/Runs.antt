@@ -12,7 +12,7 @@ use Rattle.xs_keys.specs.EachDelivery.{DeliversNew}
 use Rattle.xs_keys.specs.EachOwner.{OwnersAndClaims}
 use Rattle.xs_keys.specs.Step.{Step}
 use Rattle.xs_keys.specs.GroupLife.{GroupLife, group_life}
-use Rattle.xs_keys.proofs.Lawfulness.{content-lawful}
+use Rattle.xs_keys.proofs.ConsistentContents.{content-consistent}
 use Rattle.xs_keys.proofs.Deliveries.{ascends-delivered, past-start, had-event}
 use Rattle.xs_keys.proofs.Histories.{present-in-life}
 use Rattle.xs_keys.proofs.ClaimedIds.{in-full, claims-idle}
@@ -25,9 +25,9 @@ use Rattle.xs_keys.proofs.Contents.{content-step}
 use Rattle.xs_keys.proofs.IdsAtEvents.{sees-of}
 use Rattle.xs_keys.proofs.JobPlaces.{has-one-place}
 use Rattle.xs_keys.proofs.JobMoves.{goes-along}
-use Rattle.xs_keys.proofs.JobBooks.{places-add-up}
+use Rattle.xs_keys.proofs.JobCounts.{places-add-up}
 use Rattle.xs_keys.specs.Life.{StreamEvent, key_life}
-use Rattle.xs_keys.specs.GroupBooks.{HasItsPlaces}
+use Rattle.xs_keys.specs.PlacesAddUp.{HasItsPlaces}
 use Rattle.xs_keys.specs.JobMove.{EachMovesAlong}
 use Rattle.xs_keys.specs.Presence.{EntriesAreAdded, EntriesStay, GroupsAreCreated, GroupsStay}
 use Rattle.xs_keys.proofs.Arrivals.{entries-added, groups-created}
@@ -139,7 +139,7 @@ at-each-event (first ∷ past) events replies history are Holds holds = λ later
 pub headline : (past events : History) (replies : List Reply) (history : History) → AreReplied past events replies history → Headline past events replies history
 headline past events replies history answers = record {
   replies = answers;
-  steps_are_consistent = λ later e earlier f content is. (content-lawful earlier content is, content-step earlier content e.0 e.1 is);
+  steps_are_consistent = λ later e earlier f content is. (content-consistent earlier content is, content-step earlier content e.0 e.1 is);
   ids_ascend = λ later earlier f key changes g. ascends-given changes;
   formed = formed-after past events replies history answers;
   lives_are_apart = at-each-event past events replies history answers LivesAreApart (λ earlier e formed key group. goes-on earlier e.0 e.1 key group formed);
@@ -156,4 +156,4 @@ headline past events replies history answers = record {
 pub runs-all : (old : Content) (events : History) (replies : List Reply) (new : Content) → RunsSoFar old events replies new [] → RunsOn old events replies new
 runs-all old events replies new so_far = λ past is.
     let here = so_far past is in
-    (here.0, headline past events replies here.0 (rw append-nil at (here.2 [] here.0 refl)), here.1, content-lawful here.0 new here.1)
+    (here.0, headline past events replies here.0 (rw append-nil at (here.2 [] here.0 refl)), here.1, content-consistent here.0 new here.1)

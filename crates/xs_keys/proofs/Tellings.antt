@@ -9,8 +9,8 @@ use Rattle.std.specs.List.{flat_map, list_all, list_any, IsDistinct, AllByRecurs
 use Rattle.xs_stream.specs.Id.{is_below, is_same_id, has_id, zero_id, assigned}
 use Rattle.xs_stream.proofs.InOrder.{ids_of-filter, length-filter-le}
 use Rattle.xs_stream.proofs.Order.{is_same-eq, is_same-refl}
-use Rattle.xs_group.specs.State.{GroupState, RowState, is_same_name, new_ids, own_ids, owned_ids, group_after_ack}
-use Rattle.xs_group.specs.State.{unless_acked}
+use Rattle.xs_group.specs.GroupState.{GroupState, RowState, is_same_name, new_ids, own_ids, owned_ids, group_after_ack}
+use Rattle.xs_group.specs.GroupState.{unless_acked}
 use Rattle.xs_group.specs.declared.claims.Scan as scans
 use Rattle.xs_group.specs.Claims.{Rule, claim_by_ids, scan_of, claim_among, without_repeats, from_start, scanned_part}
 use Rattle.xs_group.specs.Claims.{is_hit, is_taken, is_idle, row_at}
@@ -44,7 +44,7 @@ use Rattle.xs_keys.specs.RepliesTell.{TellsRows, IsTold}
 use Rattle.xs_keys.specs.ReadsTell.{TellsNew, IsOwnPast, TellsRead, TellsReads}
 use Rattle.xs_keys.proofs.Truths.{first_of, second_of}
 use Rattle.xs_keys.proofs.IdLists.{has_id-where, ascends-where}
-use Rattle.xs_keys.proofs.Names.{is_name-eq, is_name-refl}
+use Rattle.xs_keys.proofs.NameMaps.{is_name-eq, is_name-refl}
 use Rattle.xs_keys.proofs.Streams.{ascends-live, stream-step}
 use Rattle.xs_keys.proofs.GroupSteps.{group-step}
 use Rattle.xs_keys.proofs.Deliveries.{ascends-delivered}
@@ -53,7 +53,7 @@ use Rattle.xs_keys.proofs.Contents.{no_life, asked-elsewhere, serves-known}
 use Rattle.xs_keys.proofs.Lives.{others-absent}
 use Rattle.xs_keys.proofs.Owners.{owner-row, of_row, held-delivered}
 use Rattle.xs_keys.proofs.IdsAtEvents.{limited-has}
-use Rattle.xs_keys.proofs.JobBooks.{owned-among, ascends-rows}
+use Rattle.xs_keys.proofs.JobCounts.{owned-among, ascends-rows}
 use Rattle.xs_keys.proofs.Assigning.{assigned-claim, assigned-scan}
 use Rattle.xs_keys.proofs.RowsTold.{rows-told}
 use Rattle.xs_keys.proofs.FirstIds.{limited-first, first-as}

@@ -3,8 +3,8 @@ use Rattle.std.proofs.Common.{◌≡◌, ℕ, Bool, true, false, not, cond, ◌&
 use Rattle.std.proofs.Common.{option_and_then, is_some, ◌⊎◌, inl, inr, sym, ap, subst, ◌∙◌, refl}
 use Rattle.xs_group.specs.declared.claims.Claim.{Claim}
 use Rattle.xs_group.specs.Claims.{Rule, claim_by_ids, scan_of, row_after_claim, claimed_row, claim_time, claim_count}
-use Rattle.xs_group.specs.State.{RowState, is_same_name, new_ids, first_row, own_ids, redelivered_row, next_count}
-use Rattle.xs_group.specs.State.{unless_acked, unless_owned}
+use Rattle.xs_group.specs.GroupState.{RowState, is_same_name, new_ids, first_row, own_ids, redelivered_row, next_count}
+use Rattle.xs_group.specs.GroupState.{unless_acked, unless_owned}
 use Rattle.xs_keys.specs.Terms.{Id, has_id}
 use Rattle.xs_keys.specs.GroupAsk.{GroupAsk, read_new, read_own, acknowledge, create_consumer, delete_consumer, claim}
 use Rattle.xs_keys.specs.GroupAsk.{auto_claim, row_after_ask, new_ids_of_ask, claim_of_ask, keeps_pending}

@@ -3,7 +3,7 @@ use Rattle.std.specs.Prelude.{ℕ, List, refl}
 use Rattle.xs_bytes.specs.SortedMap.{NameMap}
 use Rattle.xs_bytes.specs.MapCode.{coded_map}
 use Rattle.std.specs.Coded.{Coded, code_by, coded×, coded_list, coded_ℕ}
-use Rattle.xs_group.specs.State.{GroupState}
+use Rattle.xs_group.specs.GroupState.{GroupState}
 use Rattle.xs_group.specs.Indexes.{coded_id, coded_state}
 use Rattle.xs_stream.specs.declared.id.Id.{Id}
 use Rattle.xs_stream.specs.declared.field.Field.{Field}

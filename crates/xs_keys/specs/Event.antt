@@ -2,7 +2,7 @@
 use Rattle.std.specs.Prelude.{ℕ, List}
 use Rattle.xs_stream.specs.declared.id.Id.{Id}
 use Rattle.xs_stream.specs.declared.field.Field.{Field}
-use Rattle.xs_group.specs.State.{RowState}
+use Rattle.xs_group.specs.GroupState.{RowState}
 use Rattle.xs_command.specs.declared.command.Command.{Command}
 
 -- a byte string: the name of a key, a group or a consumer

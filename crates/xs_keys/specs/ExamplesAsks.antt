@@ -7,7 +7,7 @@ use Rattle.xs_stream.specs.declared.id.Id.{Id}
 use Rattle.xs_stream.specs.Examples.{at}
 use Rattle.xs_group.specs.declared.claims.ClaimTime.TheVariants as time
 use Rattle.xs_group.specs.Claims.{Rule}
-use Rattle.xs_group.specs.State.{RowState}
+use Rattle.xs_group.specs.GroupState.{RowState}
 use Rattle.xs_group.specs.ExamplesRead.{pending}
 use Rattle.xs_keys.specs.GroupAsk.{GroupAsk, read_new, read_own, acknowledge, create_consumer, claim, auto_claim}
 use Rattle.xs_keys.specs.GroupEvent.{rows, is_consumer}

@@ -5,7 +5,7 @@ use Rattle.std.specs.Prelude.{ℕ, false, List, [], ◌∷◌, codes, Option, So
 use Rattle.xs_bytes.specs.SortedMap.{empty}
 use Rattle.xs_stream.specs.declared.id.Id.{Id}
 use Rattle.xs_stream.specs.Examples.{at}
-use Rattle.xs_group.specs.State.{GroupState, with_consumer, new_group, group_after_delivery}
+use Rattle.xs_group.specs.GroupState.{GroupState, with_consumer, new_group, group_after_delivery}
 use Rattle.xs_command.specs.ExamplesStreams.{field}
 use Rattle.xs_keys.specs.Life.{StreamEvent, add_entry}
 use Rattle.xs_stream.specs.declared.add.AddId.TheVariants as add

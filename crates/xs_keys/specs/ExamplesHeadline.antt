@@ -6,7 +6,7 @@ use Rattle.xs_bytes.specs.SortedMap.{empty, insert}
 use Rattle.xs_stream.specs.declared.add.AddId.TheVariants as add
 use Rattle.xs_stream.specs.declared.add.AddError.TheVariants as add_error
 use Rattle.xs_stream.specs.Examples.{at}
-use Rattle.xs_group.specs.State.{new_group}
+use Rattle.xs_group.specs.GroupState.{new_group}
 use Rattle.xs_command.specs.ExamplesStreams.{field}
 use Rattle.xs_command.specs.declared.command.AddCommand.{AddCommand}
 use Rattle.xs_keys.specs.Terms.{StreamState, Simple, Error, Int, NullBulk, Okay, Pong, Memory, NoKey, Busy, Command}

@@ -14,7 +14,7 @@ use Rattle.xs_command.specs.declared.command.GroupStart.TheVariants.{Top, At}
 use Rattle.xs_keys.specs.Presence.{StartsAt}
 use Rattle.xs_keys.specs.JobMove.{MovesAlong, is_final, GroupStaysOpen}
 use Rattle.xs_keys.specs.JobPlace.{place_after}
-use Rattle.xs_keys.specs.GroupBooks.{is_at, is_pending, jobs_at}
+use Rattle.xs_keys.specs.PlacesAddUp.{is_at, is_pending, jobs_at}
 use Rattle.xs_keys.specs.ExamplesHistory.{event, events}
 use Rattle.xs_keys.specs.ExamplesGroupEvents.{event_over, read_by_a, noack_by_b}
 use Rattle.xs_keys.specs.ExamplesHeadline.{life}

@@ -4,10 +4,10 @@ use Rattle.xs_keys.specs.Terms.{Reply, Ascends, ids_of}
 use Rattle.xs_command.specs.WellFormed.{IsWellFormed}
 use Rattle.xs_keys.specs.Life.{StreamEvent, key_life, added_in}
 use Rattle.xs_keys.specs.Content.{Content, IsContent}
-use Rattle.xs_keys.specs.LawfulContent.{IsConsistentContent}
+use Rattle.xs_keys.specs.ConsistentContent.{IsConsistentContent}
 use Rattle.xs_keys.specs.ContentAfter.{content_after}
 use Rattle.xs_keys.specs.GroupLife.{GroupLife, group_life, ids_delivered_by, LifeContinues}
-use Rattle.xs_keys.specs.GroupBooks.{EachHasAPlace}
+use Rattle.xs_keys.specs.PlacesAddUp.{EachHasAPlace}
 use Rattle.xs_keys.specs.JobMove.{EachMovesAlong}
 use Rattle.xs_keys.specs.Presence.{EntriesAreAdded, EntriesStay, GroupsAreCreated, GroupsStay}
 use Rattle.xs_keys.specs.Event.{Bytes, Event, History, event_moment, event_command}

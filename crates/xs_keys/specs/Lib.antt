@@ -8,7 +8,7 @@ pub mod TimesAndCounts
 pub mod ClaimsTake
 pub mod GroupLife
 pub mod Content
-pub mod LawfulContent
+pub mod ConsistentContent
 pub mod ContentAfter
 pub mod ReplyParts
 pub mod Reply
@@ -19,7 +19,7 @@ pub mod RepliesTell
 pub mod JobPlace
 pub mod Effect
 pub mod JobMove
-pub mod GroupBooks
+pub mod PlacesAddUp
 pub mod Presence
 pub mod EachReply
 pub mod EachDelivery

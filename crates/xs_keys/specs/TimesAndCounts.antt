@@ -2,7 +2,7 @@
 -- Streams, "Consumer groups": the pending entries list; XPENDING; XCLAIM.)
 use Rattle.std.specs.Prelude.{◌≡◌, ℕ, Bool, List, [], ◌∷◌, Some, ◌&&◌, ◌||◌, if◌then◌else◌}
 use Rattle.xs_group.specs.Claims.{row_at, claim_time, claim_count}
-use Rattle.xs_group.specs.State.{next_count}
+use Rattle.xs_group.specs.GroupState.{next_count}
 use Rattle.xs_keys.specs.Terms.{option_map_or, Id, RowState, has_id, own_ids}
 use Rattle.xs_keys.specs.GroupAsk.{GroupAsk, read_new, read_own, rule_of}
 use Rattle.xs_keys.specs.GroupEvent.{GroupEvent, rows}

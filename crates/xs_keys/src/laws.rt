@@ -6,7 +6,7 @@ ghost use Rattle.xs_bytes.specs.SortedMap as map;
 ghost use Rattle.xs_stream.specs.declared.id.Id.{Id};
 ghost use Rattle.xs_stream.specs.Id.{has_id, is_below};
 ghost use Rattle.xs_stream.specs.StreamContent.{Ascends, AllAbove, ids_of};
-ghost use Rattle.xs_group.specs.State.{is_same_name};
+ghost use Rattle.xs_group.specs.GroupState.{is_same_name};
 ghost use Rattle.xs_command.specs.declared.command.Command.{Command};
 ghost use Rattle.xs_command.specs.WellFormed.{IsWellFormed};
 ghost use Rattle.xs_keys.specs.Life.{StreamEvent, key_life, added_in, present_entries};
@@ -16,7 +16,7 @@ ghost use Rattle.xs_keys.specs.GroupLife.{GroupLife, group_life, read_group_of, 
 ghost use Rattle.xs_keys.specs.GroupLife.{ids_delivered_by, LifeContinues};
 ghost use Rattle.xs_keys.specs.Content.{Content, IsContent};
 ghost use Rattle.xs_keys.specs.ContentAfter.{content_after};
-ghost use Rattle.xs_keys.specs.LawfulContent.{IsConsistentContent};
+ghost use Rattle.xs_keys.specs.ConsistentContent.{IsConsistentContent};
 ghost use Rattle.xs_keys.specs.Reply.{reply};
 ghost use Rattle.xs_keys.specs.Step.{IsUnchangedIfRefused};
 ghost use Rattle.xs_keys.specs.RepliesTell.{IsTold};
@@ -24,7 +24,7 @@ ghost use Rattle.xs_keys.specs.ClaimsTake.{ClaimsAreExact};
 ghost use Rattle.xs_keys.specs.TimesAndCounts.{IsLastTouched};
 ghost use Rattle.xs_keys.specs.JobPlace.{Place, HasOnePlace, place_after};
 ghost use Rattle.xs_keys.specs.JobMove.{MovesAlong, is_final, GroupStaysOpen};
-ghost use Rattle.xs_keys.specs.GroupBooks.{is_pending, jobs_at, PlacesAddUp, TellsPending};
+ghost use Rattle.xs_keys.specs.PlacesAddUp.{is_pending, jobs_at, PlacesAddUp, TellsPending};
 ghost use Rattle.xs_keys.specs.Presence.{EntriesAreAdded, EntriesStay, GroupsAreCreated, GroupsStay};
 ghost use Rattle.xs_keys.specs.EachDelivery.{HadItsTurn, DeliversInFull};
 ghost use Rattle.xs_keys.specs.EachOwner.{OwnedUntilSettled, ChangesByClaims};
@@ -33,14 +33,14 @@ ghost use Rattle.xs_keys.specs.Headline.{OfEachLife};
 ghost use Rattle.xs_keys.specs.Event.{Bytes, Event, History};
 
 /// The empty history leaves the empty content; an event leads from the content of a history to the
-/// content of the history followed by it; a history has one content; and that is lawful.
+/// content of the history followed by it; a history has one content; and that is consistent.
 pub fn step_law()
     ensures empty { IsContent map.empty [] }
     ensures step { (past : History) (content : Content) (now : ℕ) (command : Command) →
         IsContent content past → IsContent (content_after content now command) ((now, command) ∷ past) }
     ensures unique { (past : History) (one other : Content) →
         IsContent one past → IsContent other past → one ≡ other }
-    ensures lawful { (past : History) (content : Content) →
+    ensures consistent { (past : History) (content : Content) →
         IsContent content past → IsConsistentContent content }
 {}
 
@@ -64,7 +64,7 @@ pub fn deliveries_ascend()
 
 /// An id above the start and not above the cursor has had its turn, and was delivered exactly where it
 /// was in the stream then.
-pub fn delivered_exactly_where_live_at_its_turn()
+pub fn delivered_exactly_if_present_at_its_turn()
     ensures { OfEachLife (λ life. (x : Id) →
         is_below life.start x ≡ true → is_below (cursor life.start life.events) x ≡ false
         → HadItsTurn life.start life.events x) }

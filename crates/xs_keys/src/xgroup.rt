@@ -1,7 +1,7 @@
 //! XGROUP: groups and their consumers.
 ghost use Rattle.std.specs.Prelude.{◌≡◌, None, OnOk, OnErr, if◌then◌else◌};
 ghost use Rattle.xs_bytes.specs.SortedMap.{get, insert};
-ghost use Rattle.xs_group.specs.State.{new_group};
+ghost use Rattle.xs_group.specs.GroupState.{new_group};
 ghost use Rattle.xs_keys.specs.ContentAfter.{new_key, with_group};
 ghost use Rattle.xs_keys.specs.GroupLife.{starting_id};
 ghost use Rattle.xs_keys.specs.Grouping.{Creates};

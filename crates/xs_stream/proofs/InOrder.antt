@@ -19,7 +19,7 @@ use Rattle.xs_stream.specs.declared.id.Id.{Id}
 use Rattle.xs_stream.specs.declared.field.Field.{Field}
 use Rattle.xs_stream.specs.declared.trim.Trim.TheVariants.{MaxLen, MinId}
 use Rattle.xs_stream.specs.Id.{id_cmp, is_below, is_same_id, has_id}
-use Rattle.xs_stream.specs.Lawful.{IsLawful, AllIds, IsId}
+use Rattle.xs_stream.specs.ConsistentStream.{IsValidStream, AllIds, IsId}
 use Rattle.xs_stream.proofs.Order.{is_same-eq, is_same-refl, is_same-symm, below-not_same, below-not_back, below-irrefl}
 use Rattle.xs_stream.proofs.Order.{up_to-below, not_below-above, le-not_below, below-not_below}
 
@@ -196,24 +196,28 @@ length-filter-le p (e ∷ es) = by (length-filter-le p es) (p e) where
   by rest true = omega arith
   by rest false = omega arith
 
--- ---- a stream stays lawful
+-- ---- a stream stays valid
 
-pub lawful-filter : (kept : StreamState) (p : Id × List Field → Bool) → IsLawful kept → IsLawful (record { top = kept.top; entries = filter p kept.entries })
-lawful-filter kept p law = record {
-  ascends = ascends-filter p kept.entries law.ascends;
-  up_to_top = up_to-filter p kept.top kept.entries law.up_to_top;
+pub valid-filter : (kept : StreamState) (p : Id × List Field → Bool) → IsValidStream kept → IsValidStream (record { top = kept.top; entries = filter p kept.entries })
+valid-filter kept p law = record {
+  consistent = record {
+    ascends = ascends-filter p kept.entries law.consistent.ascends;
+    up_to_top = up_to-filter p kept.top kept.entries law.consistent.up_to_top;
+  };
   top_is_id = law.top_is_id;
-  ids = ids-filter p kept.entries law.ids;
+  are_ids = ids-filter p kept.entries law.are_ids;
 }
 
-pub lawful-push : (kept : StreamState) (id : Id) (fields : List Field) → IsLawful kept → is_below kept.top id ≡ true → IsId id → IsLawful (record { top = id; entries = kept.entries ++ (id, fields) ∷ [] })
-lawful-push kept id fields law above fits =
+pub valid-push : (kept : StreamState) (id : Id) (fields : List Field) → IsValidStream kept → is_below kept.top id ≡ true → IsId id → IsValidStream (record { top = id; entries = kept.entries ++ (id, fields) ∷ [] })
+valid-push kept id fields law above fits =
     let ids = ids_of-append kept.entries ((id, fields) ∷ []) in
     record {
-      ascends = rw ids (ascends-push (ids_of kept.entries) kept.top id law.ascends law.up_to_top above);
-      up_to_top = rw ids (up_to-push (ids_of kept.entries) kept.top id law.up_to_top above);
+      consistent = record {
+        ascends = rw ids (ascends-push (ids_of kept.entries) kept.top id law.consistent.ascends law.consistent.up_to_top above);
+        up_to_top = rw ids (up_to-push (ids_of kept.entries) kept.top id law.consistent.up_to_top above);
+      };
       top_is_id = fits;
-      ids = rw ids (ids-push (ids_of kept.entries) id law.ids fits);
+      are_ids = rw ids (ids-push (ids_of kept.entries) id law.are_ids fits);
     }
 
 -- ---- the first entry

@@ -7,7 +7,7 @@ use Rattle.xs_stream.specs.declared.id.Id.{Id}
 use Rattle.xs_stream.specs.Id.{is_below, greatest_number, greatest_id}
 use Rattle.xs_stream.specs.IdText.{next_id}
 use Rattle.xs_stream.specs.StreamContent.{is_within}
-use Rattle.xs_stream.specs.Lawful.{IsId, AllIds}
+use Rattle.xs_stream.specs.ConsistentStream.{IsId, AllIds}
 use Rattle.xs_stream.proofs.InOrder.{and_yes}
 
 lt-ltb : (s t : ℕ) → is_lt (nat_cmp s t) ≡ ltb s t

@@ -9,7 +9,7 @@ use Rattle.xs_stream.specs.declared.field.Field.{Field}
 use Rattle.xs_stream.specs.declared.entries.Entries.{Entries}
 use Rattle.xs_stream.specs.Id.{is_below, is_same_id}
 use Rattle.xs_stream.specs.StreamContent.{ids_of, AllAbove, AllUpTo}
-use Rattle.xs_stream.specs.Lawful.{IsLawful}
+use Rattle.xs_stream.specs.ConsistentStream.{IsValidStream}
 
 -- the entries of blocks, one block after the other
 abbrev pub listed : List (Id × List (Id × List Field)) → List (Id × List Field)
@@ -50,9 +50,9 @@ BeginsFrom low (b ∷ bs) = is_below b.0 low ≡ false
 abbrev pub filed_under : Entries → List Id
 filed_under entries = keys_of entries.older.entries
 
--- what holds inside of a stream: it is lawful, its entries are laid down, and none of those ids is above the top
+-- what holds inside of a stream: it is valid, its entries are laid down, and none of those ids is above the top
 pub record IsSound (top : Id) (entries : Entries) : Type 0 where
-  pub lawful : IsLawful (record { top = top; entries = all_of entries })
+  pub valid : IsValidStream (record { top = top; entries = all_of entries })
   pub laid_down : IsLaidDown entries
   pub filed_up_to_top : AllUpTo top (filed_under entries)
 

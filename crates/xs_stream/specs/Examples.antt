@@ -8,7 +8,7 @@ use Rattle.xs_stream.specs.Id.{is_below, is_same_id, has_id, greatest_number, ze
 use Rattle.xs_stream.specs.Id.{assigned}
 use Rattle.xs_stream.specs.IdText.{next_id, previous_id, id_number, parse_id}
 use Rattle.xs_stream.specs.RangeText.{low_end, high_end, range_between}
-use Rattle.xs_stream.specs.Lawful.{IsId, AllIds}
+use Rattle.xs_stream.specs.ConsistentStream.{IsId, AllIds}
 
 abbrev pub at : ℕ → ℕ → Id
 at ms seq = record { ms = ms; seq = seq }

@@ -2,7 +2,7 @@ pub mod Id
 pub mod IdText
 pub mod RangeText
 pub mod StreamContent
-pub mod Lawful
+pub mod ConsistentStream
 pub mod Examples
 pub mod ExamplesKept
 pub mod Blocks

@@ -7,7 +7,7 @@ ghost use Rattle.xs_stream.specs.declared.id.Id.{Id};
 ghost use Rattle.xs_stream.specs.declared.trim.Trim.TheVariants.{MinId};
 ghost use Rattle.xs_stream.specs.Id.{is_below, is_same_id};
 ghost use Rattle.xs_stream.specs.StreamContent.{is_within, ids_of, fields_at, without, trimmed, Ascends, AllUpTo};
-ghost use Rattle.xs_stream.specs.Lawful.{AllIds};
+ghost use Rattle.xs_stream.specs.ConsistentStream.{AllIds};
 ghost use Rattle.xs_stream.specs.Blocks.{all_of, AreFiled, BeginsFrom, IsLaidDown, filed_under, end_at, HasJoined};
 
 use crate::block::Block;

@@ -5,7 +5,7 @@ ghost use Rattle.std.specs.Prelude.{filter};
 ghost use Rattle.xs_stream.specs.Id.{zero_id, is_below, assigned};
 ghost use Rattle.xs_stream.specs.StreamContent.{ids_of, fields_at, without, trimmed};
 ghost use Rattle.xs_stream.specs.StreamContent.{ids_within, entries_within, limited, AreEntriesOf};
-ghost use Rattle.xs_stream.specs.Lawful.{IsLawful};
+ghost use Rattle.xs_stream.specs.ConsistentStream.{IsValidStream};
 
 use crate::add::{AddError, AddId};
 use crate::entries::Entries;
@@ -51,7 +51,7 @@ impl Stream {
 
     /// What holds of every stream: the ids ascend, and none is above the top.
     pub fn lawful(&self)
-        ensures { IsLawful self.now }
+        ensures { IsValidStream self.now }
     {
         // A look at a field brings in what holds of the whole stream.
         let _ = &self.top;

@@ -6,7 +6,7 @@ use Rattle.std.specs.declared.ops.Bound.TheVariants.{Included, Unbounded}
 use Rattle.xs_stream.specs.declared.id.Id.{Id}
 use Rattle.xs_stream.specs.Id.{id_cmp, has_id}
 use Rattle.xs_stream.specs.StreamContent.{ids_of}
-use Rattle.xs_group.specs.State.{RowState}
+use Rattle.xs_group.specs.GroupState.{RowState}
 use Rattle.xs_group.specs.Claims.{is_taken, is_removed, is_hit, from_start, first_or_zero}
 use Rattle.xs_group.specs.Verdict.{verdict_of, with_taken, with_removed, hits_of, scanned_after}
 use Rattle.xs_group.proofs.ChosenIds.{taken-verdict, removed-verdict, hits-verdict, one_most}

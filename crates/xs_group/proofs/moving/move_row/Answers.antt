@@ -1,7 +1,7 @@
 use Rattle.std.proofs.Common.{◌&&◌, cond, Some, sym, ap, ◌∙◌, not, subst, rules}
 use Rattle.std.specs.BTreeMap.{UpdatesBy}
 use Rattle.xs_stream.specs.Id.{id_cmp, is_same_id}
-use Rattle.xs_group.specs.State.{RowState, is_same_name}
+use Rattle.xs_group.specs.GroupState.{RowState, is_same_name}
 use Rattle.xs_group.specs.Claims.{claimed_row}
 use Rattle.xs_group.specs.Indexes.{holds}
 use Rattle.xs_group.proofs.MovedRows.{moved-some, row-moved}

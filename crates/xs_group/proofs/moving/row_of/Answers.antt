@@ -1,6 +1,6 @@
 use Rattle.std.proofs.Common.{sym, ap, ◌∙◌}
 use Rattle.std.proofs.lemmas.Bool.{false≢true}
-use Rattle.xs_group.specs.State.{is_same_name}
+use Rattle.xs_group.specs.GroupState.{is_same_name}
 use Rattle.xs_group.specs.Indexes.{has_among, is_owner}
 use Rattle.xs_group.proofs.ByConsumer.{is_name-eq}
 use Rattle.xs_group.proofs.moving.row_of.Goals as goal

@@ -5,7 +5,7 @@ use Rattle.std.specs.BTreeSet.{BTreeSet}
 use Rattle.std.specs.Map.{keys_of}
 use Rattle.xs_stream.specs.declared.id.Id.{Id}
 use Rattle.xs_group.specs.declared.reports.OwnerCount.{OwnerCount}
-use Rattle.xs_group.specs.State.{RowState, owned_ids}
+use Rattle.xs_group.specs.GroupState.{RowState, owned_ids}
 use Rattle.xs_group.specs.Indexes.{rows_of}
 use Rattle.xs_group.specs.Report.{counts_of_owners}
 use Rattle.xs_group.proofs.OwnIds.{owned-some}

@@ -1,5 +1,5 @@
 use Rattle.std.proofs.Common.{◌≡◌, ◌≤◌, ◌++◌, map, filter, length, leb}
-use Rattle.xs_group.specs.State.{idle}
+use Rattle.xs_group.specs.GroupState.{idle}
 use Rattle.xs_group.specs.Report.{pending_row}
 use Rattle.xs_group.specs.Listing.{is_told, rows_among}
 use Rattle.xs_group.proofs.reports.rows_of_ids.Given as goal

@@ -1,5 +1,5 @@
 use Rattle.std.proofs.Common.{leb, map, filter, ap, ◌∙◌, arith}
-use Rattle.xs_group.specs.State.{idle}
+use Rattle.xs_group.specs.GroupState.{idle}
 use Rattle.xs_group.specs.Report.{pending_row}
 use Rattle.xs_group.proofs.ReportRows.{rows-between}
 use Rattle.xs_group.proofs.reports.rows_within.Goals as goal

@@ -1,5 +1,5 @@
 use Rattle.xs_keys.proofs.Contents.{content-none, content-step, content-unique}
-use Rattle.xs_keys.proofs.Lawfulness.{content-lawful}
+use Rattle.xs_keys.proofs.ConsistentContents.{content-consistent}
 use Rattle.xs_keys.proofs.laws.step_law.Goals as goal
 
 pub returns-clause-empty : goal.returns-clause-empty
@@ -11,5 +11,5 @@ returns-clause-step c = content-step
 pub returns-clause-unique : goal.returns-clause-unique
 returns-clause-unique c = content-unique
 
-pub returns-clause-lawful : goal.returns-clause-lawful
-returns-clause-lawful c = content-lawful
+pub returns-clause-consistent : goal.returns-clause-consistent
+returns-clause-consistent c = content-consistent

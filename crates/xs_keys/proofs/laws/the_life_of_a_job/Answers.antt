@@ -1,6 +1,6 @@
 use Rattle.xs_keys.proofs.Arrivals.{entries-added, groups-created}
 use Rattle.xs_keys.proofs.Histories.{present-in-life}
-use Rattle.xs_keys.proofs.JobBooks.{places-add-up, tells-pending}
+use Rattle.xs_keys.proofs.JobCounts.{places-add-up, tells-pending}
 use Rattle.xs_keys.proofs.JobMoves.{goes-along, for-good}
 use Rattle.xs_keys.proofs.JobPlaces.{has-one-place}
 use Rattle.xs_keys.proofs.IdsAtEvents.{sees-of}

@@ -7,5 +7,5 @@ use Rattle.xs_keys.proofs.xrange.range_shown.Goals as goal
 pub returns : goal.returns
 returns c =
     let command = c.args.command.now in
-    let lent = ap (map present_reply) (c.as_slice.ensures ∙ c.in_ok-entries.ensures) ∙ lent-within command.range command.reversed command.limit c.args.stream.now.entries c.lawful.ensures.ascends in
+    let lent = ap (map present_reply) (c.as_slice.ensures ∙ c.in_ok-entries.ensures) ∙ lent-within command.range command.reversed command.limit c.args.stream.now.entries c.lawful.ensures.consistent.ascends in
     subst (λ (replies : List Reply). IfOk c.lent_entries.result (λ reply. reply ≡ array replies)) lent c.lent_entries.ensures

@@ -1,7 +1,7 @@
 use Rattle.std.proofs.Common.{◌≡◌, ◌∙◌, Some, sym, ap}
 use Rattle.std.proofs.lemmas.Result.{IfOk-weaker, on_err_weaker}
 use Rattle.xs_bytes.specs.SortedMap.{get, insert}
-use Rattle.xs_group.specs.State.{GroupState}
+use Rattle.xs_group.specs.GroupState.{GroupState}
 use Rattle.xs_keys.specs.Content.{KeyState}
 use Rattle.xs_keys.specs.ContentAfter.{with_group}
 use Rattle.xs_keys.specs.Reading.{IsServed, IsServedAt}

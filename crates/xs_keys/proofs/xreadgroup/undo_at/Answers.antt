@@ -1,7 +1,7 @@
 use Rattle.std.proofs.Common.{◌≡◌, ◌∙◌, Some, is_some, sym, ap}
 use Rattle.std.proofs.lemmas.Bool.{false≢true}
 use Rattle.xs_bytes.specs.SortedMap.{get, insert}
-use Rattle.xs_group.specs.State.{GroupState}
+use Rattle.xs_group.specs.GroupState.{GroupState}
 use Rattle.xs_keys.specs.Content.{KeyState}
 use Rattle.xs_keys.specs.ContentAfter.{group_in, with_group}
 use Rattle.xs_keys.proofs.ReadSteps.{made-there, made-state, taken-back}

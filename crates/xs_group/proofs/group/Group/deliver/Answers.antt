@@ -11,4 +11,4 @@ receive-requires-clause-above c =
 pub receive-requires-clause-ascends : goal.receive-requires-clause-ascends
 receive-requires-clause-ascends c =
     subst Ascends (sym (c.as_slice-3.ensures ∙ c.in_ok-ids.ensures))
-    (delivers-ascend c.args.limit c.self.inside.cursor (ids_of c.args.stream.now.entries) c.lawful.ensures.ascends)
+    (delivers-ascend c.args.limit c.self.inside.cursor (ids_of c.args.stream.now.entries) c.lawful.ensures.consistent.ascends)

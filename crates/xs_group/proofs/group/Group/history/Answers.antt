@@ -1,6 +1,6 @@
 use Rattle.std.proofs.Common.{Some, ap, ◌∙◌}
 use Rattle.xs_stream.specs.StreamContent.{ids_of}
-use Rattle.xs_group.specs.State.{with_name, own_ids, row_after_reread}
+use Rattle.xs_group.specs.GroupState.{with_name, own_ids, row_after_reread}
 use Rattle.xs_group.specs.Deliveries.{set_rows, shown_rows}
 use Rattle.xs_group.proofs.group.Group.history.Goals as goal
 use Rattle.xs_group.proofs.RemovedRows.{up_to-change}

@@ -1,6 +1,6 @@
 use Rattle.std.proofs.Common.{◌≡◌, sym, ap, ◌∙◌, subst}
-use Rattle.xs_group.specs.State.{GroupState}
-use Rattle.xs_group.specs.Lawful.{IsUpTo}
+use Rattle.xs_group.specs.GroupState.{GroupState}
+use Rattle.xs_group.specs.ConsistentGroup.{IsUpTo}
 use Rattle.xs_group.proofs.group.Group.undo.Goals as goal
 use Rattle.xs_group.proofs.UndoneReads.{undone, undone-before}
 
@@ -16,4 +16,4 @@ invariant_of-self c =
     let is : record { cursor = c.args.delivery.cursor_before; consumers = c.undo.new.self.consumers; rows = c.undo.new.self.rows } ≡ before =
     ap (λ held. record { cursor = c.args.delivery.cursor_before; consumers = held.consumers; rows = held.rows }) c.undo.ensures
     ∙ ap (undone c.args.delivery) c.self.view_is ∙ undone-before before c.args.self.now c.args.delivery made in
-    subst (λ (g : GroupState). IsUpTo g.cursor g.rows) (sym is) made.0.up_to
+    subst (λ (g : GroupState). IsUpTo g.cursor g.rows) (sym is) made.0.up_to_cursor

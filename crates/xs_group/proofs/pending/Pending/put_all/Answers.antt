@@ -2,7 +2,7 @@ use Rattle.std.proofs.Common.{◌≡◌, cond, Some, sym, ap, ◌∙◌}
 use Rattle.xs_bytes.specs.SortedMap.{has_key}
 use Rattle.xs_stream.specs.Id.{has_id}
 use Rattle.xs_stream.specs.declared.id.Id.{Id}
-use Rattle.xs_group.specs.State.{has_name, first_row, with_rows}
+use Rattle.xs_group.specs.GroupState.{has_name, first_row, with_rows}
 use Rattle.xs_group.specs.Indexes.{rows_of, names_of, indexed_row, AreFree}
 use Rattle.xs_group.proofs.pending.Pending.put_all.Goals as goal
 use Rattle.xs_group.proofs.pending.Pending.put_all.Goals.{In-Ok}

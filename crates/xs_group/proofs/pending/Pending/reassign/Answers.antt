@@ -1,5 +1,5 @@
 use Rattle.std.proofs.Common.{sym, ap, ◌∙◌}
-use Rattle.xs_group.specs.State.{has_name}
+use Rattle.xs_group.specs.GroupState.{has_name}
 use Rattle.xs_group.specs.Indexes.{rows_of, names_of}
 use Rattle.xs_group.proofs.pending.Pending.reassign.Goals as goal
 use Rattle.xs_group.proofs.Views.{has_name-names_of, names-same}

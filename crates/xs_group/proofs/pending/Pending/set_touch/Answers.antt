@@ -1,7 +1,7 @@
 use Rattle.std.proofs.Common.{Some, sym, ap, ◌∙◌, subst, rules}
 use Rattle.std.specs.BTreeMap.{UpdatesBy}
 use Rattle.xs_stream.specs.Id.{id_cmp}
-use Rattle.xs_group.specs.State.{RowState}
+use Rattle.xs_group.specs.GroupState.{RowState}
 use Rattle.xs_group.specs.Indexes.{rows_of, names_of, IsAgreed}
 use Rattle.xs_group.proofs.pending.Pending.set_touch.Goals as goal
 use Rattle.xs_group.proofs.Touching.{rows-touched, untouched, agreed-touched}

@@ -1,6 +1,6 @@
 use Rattle.std.proofs.Common.{sym, ap, ◌∙◌}
 use Rattle.xs_bytes.specs.SortedMap.{change, remove}
-use Rattle.xs_group.specs.State.{has_name, with_name, unless_acked, unless_owned}
+use Rattle.xs_group.specs.GroupState.{has_name, with_name, unless_acked, unless_owned}
 use Rattle.xs_group.specs.Verdict.{moved}
 use Rattle.xs_group.proofs.pending.Pending.settle.Goals as goal
 use Rattle.xs_group.proofs.Agreeing.{held-again}

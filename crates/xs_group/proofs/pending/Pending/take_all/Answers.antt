@@ -1,7 +1,7 @@
 use Rattle.std.proofs.Common.{get_or, take, sym, ap, ◌∙◌}
 use Rattle.std.proofs.lemmas.List.{take_more}
 use Rattle.xs_bytes.specs.SortedMap.{change, remove}
-use Rattle.xs_group.specs.State.{unless_acked}
+use Rattle.xs_group.specs.GroupState.{unless_acked}
 use Rattle.xs_group.proofs.pending.Pending.take_all.Goals as goal
 use Rattle.xs_group.proofs.RemovedRows.{acked-none, acked-more}
 

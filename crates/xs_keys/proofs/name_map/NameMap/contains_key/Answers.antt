@@ -1,5 +1,5 @@
 use Rattle.std.proofs.Common.{is_some, sym, ap, ◌∙◌}
-use Rattle.xs_keys.proofs.Maps.{get-entries}
+use Rattle.xs_keys.proofs.CodeMaps.{get-entries}
 use Rattle.xs_keys.proofs.name_map.NameMap.contains_key.Goals as goal
 
 pub returns : goal.returns

@@ -1,5 +1,5 @@
 use Rattle.std.proofs.Common.{sym, ◌∙◌}
-use Rattle.xs_keys.proofs.Maps.{get-entries}
+use Rattle.xs_keys.proofs.CodeMaps.{get-entries}
 use Rattle.xs_keys.proofs.name_map.NameMap.get.Goals as goal
 
 pub returns : goal.returns

@@ -1,6 +1,6 @@
 use Rattle.std.proofs.Common.{ℕ, List, sym, ap, ◌∙◌, BTreeMap}
 use Rattle.xs_bytes.specs.MapOf.{from_entries}
-use Rattle.xs_keys.proofs.Maps.{get-entries, insert-entries, same-loan}
+use Rattle.xs_keys.proofs.CodeMaps.{get-entries, insert-entries, same-loan}
 use Rattle.xs_keys.proofs.name_map.NameMap.get_mut.Goals as goal
 
 pub returns : goal.returns

@@ -1,4 +1,4 @@
-use Rattle.xs_keys.proofs.Maps.{insert-entries}
+use Rattle.xs_keys.proofs.CodeMaps.{insert-entries}
 use Rattle.xs_keys.proofs.name_map.NameMap.insert.Goals as goal
 
 pub returns-in-Ok-clause-ok : goal.returns-in-Ok-clause-ok

@@ -1,5 +1,5 @@
 use Rattle.std.proofs.Common.{sym, ◌∙◌}
-use Rattle.xs_keys.proofs.Maps.{get-entries, remove-entries}
+use Rattle.xs_keys.proofs.CodeMaps.{get-entries, remove-entries}
 use Rattle.xs_keys.proofs.name_map.NameMap.remove.Goals as goal
 
 pub returns-clause-value : goal.returns-clause-value

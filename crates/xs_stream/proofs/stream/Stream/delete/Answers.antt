@@ -1,7 +1,7 @@
 use Rattle.std.proofs.Common.{length, not, ap, arith}
 use Rattle.xs_stream.specs.Id.{has_id}
 use Rattle.xs_stream.specs.Blocks.{all_of}
-use Rattle.xs_stream.proofs.InOrder.{length-filter-le, lawful-filter}
+use Rattle.xs_stream.proofs.InOrder.{length-filter-le, valid-filter}
 use Rattle.xs_stream.proofs.stream.Stream.delete.Goals as goal
 
 pub overflow_sub-result : goal.overflow_sub-result
@@ -14,7 +14,7 @@ pub invariant_of-self : goal.invariant_of-self
 invariant_of-self c =
     let inside = c.self.inside in
     record {
-      lawful = rw c.remove_all.ensures.entries (lawful-filter (record { top = inside.top; entries = all_of inside.entries }) (λ e. not (has_id c.args.ids.now e.0)) c.self.invariant.lawful);
+      valid = rw c.remove_all.ensures.entries (valid-filter (record { top = inside.top; entries = all_of inside.entries }) (λ e. not (has_id c.args.ids.now e.0)) c.self.invariant.valid);
       laid_down = c.remove_all.ensures.laid_down;
       filed_up_to_top = c.remove_all.ensures.filed_up_to_top inside.top c.self.invariant.filed_up_to_top;
     }

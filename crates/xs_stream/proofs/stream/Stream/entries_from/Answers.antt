@@ -10,4 +10,4 @@ if-ok (Err e) P Q f h = tt
 pub returns : goal.returns
 returns c =
     let entries = c.args.self.now.entries in
-    if-ok c.entries.result _ (AreEntriesOf entries) (λ lent is. subst (AreEntriesOf entries) (sym is) (first-found _ c.args.most entries c.lawful.ensures.ascends)) c.entries.ensures
+    if-ok c.entries.result _ (AreEntriesOf entries) (λ lent is. subst (AreEntriesOf entries) (sym is) (first-found _ c.args.most entries c.lawful.ensures.consistent.ascends)) c.entries.ensures

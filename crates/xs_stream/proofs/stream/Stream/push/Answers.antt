@@ -1,8 +1,8 @@
 use Rattle.std.proofs.Common.{◌≡◌, true, arith}
 use Rattle.xs_stream.specs.Id.{is_below}
-use Rattle.xs_stream.specs.Lawful.{IsId}
+use Rattle.xs_stream.specs.ConsistentStream.{IsId}
 use Rattle.xs_stream.specs.Blocks.{all_of, filed_under}
-use Rattle.xs_stream.proofs.InOrder.{lawful-push, up_to-higher}
+use Rattle.xs_stream.proofs.InOrder.{valid-push, up_to-higher}
 use Rattle.xs_stream.proofs.stream.Stream.push.Goals as goal
 
 pub invariant_of-self : goal.invariant_of-self
@@ -11,7 +11,7 @@ invariant_of-self c =
     let above : is_below inside.top c.args.id ≡ true = rw (← c.self.view_is) at c.requires in
     let fits : IsId c.args.id = (omega arith, omega arith) in
     record {
-      lawful = rw c.in-Ok.ensures.ok (lawful-push (record { top = inside.top; entries = all_of inside.entries }) c.args.id c.args.fields.now c.self.invariant.lawful above fits);
+      valid = rw c.in-Ok.ensures.ok (valid-push (record { top = inside.top; entries = all_of inside.entries }) c.args.id c.args.fields.now c.self.invariant.valid above fits);
       laid_down = c.push.ensures.laid_down;
       filed_up_to_top = up_to-higher (filed_under c.push.new.self) inside.top c.args.id c.push.ensures.filed_up_to_top above;
     }

@@ -1,7 +1,7 @@
 use Rattle.std.proofs.Common.{length, not, ap, arith}
 use Rattle.xs_stream.specs.StreamContent.{is_trimmed, ids_of}
 use Rattle.xs_stream.specs.Blocks.{all_of}
-use Rattle.xs_stream.proofs.InOrder.{length-filter-le, lawful-filter}
+use Rattle.xs_stream.proofs.InOrder.{length-filter-le, valid-filter}
 use Rattle.xs_stream.proofs.stream.Stream.trim.Goals as goal
 
 pub overflow_sub-result : goal.overflow_sub-result
@@ -16,7 +16,7 @@ invariant_of-self c =
     let inside = c.self.inside in
     let all = all_of inside.entries in
     record {
-      lawful = rw c.trim.ensures.entries (lawful-filter (record { top = inside.top; entries = all }) (λ e. not (is_trimmed c.args.trim (ids_of all) e.0)) c.self.invariant.lawful);
+      valid = rw c.trim.ensures.entries (valid-filter (record { top = inside.top; entries = all }) (λ e. not (is_trimmed c.args.trim (ids_of all) e.0)) c.self.invariant.valid);
       laid_down = c.trim.ensures.laid_down;
       filed_up_to_top = c.trim.ensures.filed_up_to_top inside.top c.self.invariant.filed_up_to_top;
     }

@@ -10,7 +10,7 @@ use Rattle.std.specs.Cmp.Lexicographic.{slice_cmp, nat_list_cmp_total}
 use Rattle.xs_bytes.specs.SortedMap.{NameMap, get, insert, remove}
 use Rattle.xs_bytes.proofs.SortedMaps.{get-insert_by}
 use Rattle.xs_bytes.proofs.SortedMaps as sorted
-use Rattle.xs_group.specs.State.{Names, is_same_name, has_name}
+use Rattle.xs_group.specs.GroupState.{Names, is_same_name, has_name}
 
 pub name_exact : IsAntisymmetric (slice_cmp nat_cmp)
 name_exact = slice_cmp-IsAntisymmetric nat_cmp-IsAntisymmetric

@@ -1,11 +1,12 @@
--- Every content of a history is lawful.
+-- Every content of a history is consistent.
 use Rattle.std.proofs.Common.{◌≡◌, ℕ, Bool, true, false, cond, List, [], ◌∷◌, Option, Some, None, is_some}
 use Rattle.std.proofs.Common.{option_and_then, ◌&&◌, sym, ap, subst, ◌∙◌, refl}
 use Rattle.std.proofs.lemmas.Option.{same_Some}
 use Rattle.std.proofs.lemmas.Bool.{false≢true}
 use Rattle.xs_bytes.specs.SortedMap.{get}
-use Rattle.xs_group.specs.State.{RowState, GroupState, is_same_name, new_ids, first_row, own_ids, redelivered_row}
-use Rattle.xs_group.specs.State.{unless_owned}
+use Rattle.xs_group.specs.GroupState.{RowState, GroupState, is_same_name, has_name, new_ids, first_row, own_ids}
+use Rattle.xs_group.specs.GroupState.{redelivered_row}
+use Rattle.xs_group.specs.GroupState.{unless_owned}
 use Rattle.xs_keys.specs.Event.{History}
 use Rattle.xs_keys.specs.Terms.{with_some, Id, has_id, Ascends, AllAbove, AllUpTo, Command}
 use Rattle.xs_keys.specs.Life.{StreamEvent, key_life, stream_of}
@@ -14,14 +15,19 @@ use Rattle.xs_keys.specs.GroupAsk.{auto_claim, row_after_ask}
 use Rattle.xs_keys.specs.GroupEvent.{GroupEvent, delivered_ids, cursor, is_consumer, rows_among, pending_row_at, rows}
 use Rattle.xs_keys.specs.GroupLife.{GroupLife, group_life}
 use Rattle.xs_keys.specs.Content.{KeyState, Content, IsGroup, GroupHolds, KeyHolds, IsContent}
-use Rattle.xs_keys.specs.LawfulContent.{IsConsistentStream, IsConsistentGroup, IsConsistentKey, IsConsistentContent}
+use Rattle.xs_stream.specs.ConsistentStream.{IsConsistentStream}
+use Rattle.xs_group.specs.ConsistentGroup.{IsConsistentGroup}
+use Rattle.xs_group.specs.Indexes.{is_owner}
+use Rattle.xs_keys.specs.ConsistentContent.{IsConsistentKey, IsConsistentContent}
 use Rattle.xs_keys.proofs.Streams.{ascends-live, up_to-live}
 use Rattle.xs_keys.proofs.GroupRows.{row_ids}
 use Rattle.xs_keys.proofs.GroupSteps.{up_to-rows}
 use Rattle.xs_keys.proofs.Deliveries.{PresentAscends, ascends-delivered}
 use Rattle.xs_keys.proofs.Histories.{MeetsAscending, meets-life}
 use Rattle.xs_keys.proofs.Owners.{row-found}
-use Rattle.xs_keys.proofs.Names.{is_name-refl}
+use Rattle.xs_keys.proofs.NameMaps.{is_name-refl, is_name-eq}
+use Rattle.xs_keys.proofs.IdsAtEvents.{up_to-has}
+use Rattle.xs_keys.proofs.ClaimedIds.{row-listed}
 use Rattle.xs_group.specs.Claims.{Rule, row_at, claim_by_ids, scan_of, claimed_row}
 
 above-among : (a : Id) (row_of : Id → Option RowState) (xs : List Id) → AllAbove a xs → AllAbove a (row_ids (rows_among row_of xs))
@@ -104,30 +110,38 @@ of-consumers start (event ∷ past) x =
 
 -- ---- groups, keys, contents
 
-lawful-group : (g : GroupState) (life : GroupLife) → IsGroup g life → PresentAscends life.events → IsConsistentGroup g
+consistent-group : (g : GroupState) (life : GroupLife) → IsGroup g life → PresentAscends life.events → IsConsistentGroup g
 unfolding get
-lawful-group g life h asc = record {
+consistent-group g life h asc = record {
   ascends = subst (λ es. Ascends (row_ids es)) (sym h.rows_are) (ascends-among (λ x. pending_row_at life.start life.events x) (delivered_ids life.start life.events) (ascends-delivered life.start life.events asc));
-  up_to_cursor = subst (λ es. AllUpTo g.cursor (row_ids es)) (sym h.rows_are) (subst (λ c. AllUpTo c (row_ids (rows life.start life.events))) (sym h.cursor_is) (up_to-rows life.start life.events));
-  of_consumers = λ x row e.
-      h.consumers_are row.consumer ∙ of-consumers life.start life.events x row (sym (row-found life.start life.events x) ∙ ap (λ es. row_at es x) (sym h.rows_are) ∙ e);
-}
+  up_to_cursor = λ x there. up_to-has g.cursor (row_ids g.rows.entries) x up (row-listed g.rows.entries x there);
+  of_consumers = λ name x owned. named name x owned (get g.rows x) refl;
+} where
+  up : AllUpTo g.cursor (row_ids g.rows.entries)
+  up = subst (λ es. AllUpTo g.cursor (row_ids es)) (sym h.rows_are) (subst (λ c. AllUpTo c (row_ids (rows life.start life.events))) (sym h.cursor_is) (up_to-rows life.start life.events))
 
-lawful-held : (s : Option GroupState) (life : Option GroupLife) → GroupHolds s life → MeetsAscending life → (g : GroupState) → s ≡ Some g → IsConsistentGroup g
-lawful-held (Some s) (Some life) h asc g e = subst IsConsistentGroup (same_Some s g e) (lawful-group s life h asc)
-lawful-held None life h asc g e = absurd (false≢true (ap is_some e))
-lawful-held (Some s) None h asc g e = absurd h
+  named : (name : List ℕ) (x : Id) → is_owner (get g.rows x) name ≡ true → (r : Option RowState) → get g.rows x ≡ r → has_name g.consumers name ≡ true
+  named name x owned None e = absurd (false≢true (sym (ap (λ r. is_owner r name) e) ∙ owned))
+  named name x owned (Some row) e =
+      ap (has_name g.consumers) (sym (is_name-eq row.consumer name (sym (ap (λ r. is_owner r name) e) ∙ owned)))
+      ∙ h.consumers_are row.consumer
+      ∙ of-consumers life.start life.events x row (sym (row-found life.start life.events x) ∙ ap (λ es. row_at es x) (sym h.rows_are) ∙ e)
 
-lawful-stream : (changes : List StreamEvent) → IsConsistentStream (stream_of changes)
-lawful-stream changes = record { ascends = ascends-live changes; up_to_top = up_to-live changes }
+consistent-held : (s : Option GroupState) (life : Option GroupLife) → GroupHolds s life → MeetsAscending life → (g : GroupState) → s ≡ Some g → IsConsistentGroup g
+consistent-held (Some s) (Some life) h asc g e = subst IsConsistentGroup (same_Some s g e) (consistent-group s life h asc)
+consistent-held None life h asc g e = absurd (false≢true (ap is_some e))
+consistent-held (Some s) None h asc g e = absurd h
 
-lawful-key : (k : Option KeyState) (stream : Option (List StreamEvent)) (lives : List ℕ → Option GroupLife) → KeyHolds k stream lives → ((g : List ℕ) → MeetsAscending (lives g)) → (key : KeyState) → k ≡ Some key → IsConsistentKey key
-lawful-key None stream lives h asc key e = absurd (false≢true (ap is_some e))
-lawful-key (Some k) None lives h asc key e = absurd h
-lawful-key (Some k) (Some changes) lives h asc key e = subst IsConsistentKey (same_Some k key e) (record {
-  stream = subst IsConsistentStream (sym h.0) (lawful-stream changes);
-  groups = λ name g f. lawful-held (get k.groups name) (lives name) (h.1 name) (asc name) g f;
+consistent-stream : (changes : List StreamEvent) → IsConsistentStream (stream_of changes)
+consistent-stream changes = record { ascends = ascends-live changes; up_to_top = up_to-live changes }
+
+consistent-key : (k : Option KeyState) (stream : Option (List StreamEvent)) (lives : List ℕ → Option GroupLife) → KeyHolds k stream lives → ((g : List ℕ) → MeetsAscending (lives g)) → (key : KeyState) → k ≡ Some key → IsConsistentKey key
+consistent-key None stream lives h asc key e = absurd (false≢true (ap is_some e))
+consistent-key (Some k) None lives h asc key e = absurd h
+consistent-key (Some k) (Some changes) lives h asc key e = subst IsConsistentKey (same_Some k key e) (record {
+  stream = subst IsConsistentStream (sym h.0) (consistent-stream changes);
+  groups = λ name g f. consistent-held (get k.groups name) (lives name) (h.1 name) (asc name) g f;
 })
 
-pub content-lawful : (past : History) (content : Content) → IsContent content past → IsConsistentContent content
-content-lawful past content h = λ name key e. lawful-key (get content name) (key_life past name) (λ g. group_life past name g) (h name) (λ g. meets-life past name g) key e
+pub content-consistent : (past : History) (content : Content) → IsContent content past → IsConsistentContent content
+content-consistent past content h = λ name key e. consistent-key (get content name) (key_life past name) (λ g. group_life past name g) (h name) (λ g. meets-life past name g) key e

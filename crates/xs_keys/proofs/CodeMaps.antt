@@ -12,7 +12,7 @@ use Rattle.std.specs.Cmp.{eq_by_cmp_equiv}
 use Rattle.std.specs.Cmp.Lexicographic.{slice_cmp, nat_list_cmp_total}
 use Rattle.xs_bytes.specs.MapOf.{from_entries}
 use Rattle.xs_keys.specs.Terms.{get, insert, remove, is_same_name}
-use Rattle.xs_keys.proofs.Names.{same_map, get-insert, get-remove}
+use Rattle.xs_keys.proofs.NameMaps.{same_map, get-insert, get-remove}
 use borrow.Follows.Closed.{read_of}
 
 module _ {X : Type 0} where

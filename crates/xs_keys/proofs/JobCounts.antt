@@ -5,7 +5,7 @@ use Rattle.std.proofs.lemmas.Bool.{false≢true, or_left}
 use Rattle.std.proofs.lemmas.List.{length-map}
 use Rattle.xs_stream.specs.Id.{is_below, is_same_id, has_id}
 use Rattle.xs_stream.proofs.Order.{is_same-eq, is_same-refl, is_same-symm, below-not_back}
-use Rattle.xs_group.specs.State.{RowState, is_same_name, new_ids, owned_ids}
+use Rattle.xs_group.specs.GroupState.{RowState, is_same_name, new_ids, owned_ids}
 use Rattle.xs_keys.specs.Event.{History}
 use Rattle.xs_keys.specs.Terms.{Command, GroupState, Reply, Int, NullBulk, get, summary_of, option_map_or, with_some}
 use Rattle.xs_keys.specs.Terms.{Id, ids_of, Ascends, AllAbove}
@@ -17,7 +17,7 @@ use Rattle.xs_keys.specs.Content.{Content, KeyState, IsGroup, GroupHolds, KeyHol
 use Rattle.xs_keys.specs.ReplyParts.{array, array_or_null, id_reply, reply_of_group, owner_reply, summary_reply}
 use Rattle.xs_keys.specs.JobPlace.{Place, before_start, waiting, dropped, handed_out, pending, settled, place_of}
 use Rattle.xs_keys.specs.JobPlace.{StandsAt, HasOnePlace}
-use Rattle.xs_keys.specs.GroupBooks.{is_at, is_pending, jobs_at, PlacesAddUp, TellsPending}
+use Rattle.xs_keys.specs.PlacesAddUp.{is_at, is_pending, jobs_at, PlacesAddUp, TellsPending}
 use Rattle.xs_keys.proofs.Truths.{first_of, second_of, none_or}
 use Rattle.xs_keys.proofs.IdLists.{ascends-where, has_id-where, not_above}
 use Rattle.xs_keys.proofs.Streams.{ascends-given, ascends-live}

@@ -1,7 +1,7 @@
 -- Each entry has one place in a group, and the numbers of entries at the places add up. (Redis Streams, "Consumer
 -- groups"; XPENDING.)
 use Rattle.std.specs.Prelude.{◌≡◌, ℕ, ◌+◌, Bool, true, false, List, ◌∷◌, ◌++◌, filter, map, length, Some, None}
-use Rattle.xs_group.specs.State.{owned_ids}
+use Rattle.xs_group.specs.GroupState.{owned_ids}
 use Rattle.xs_keys.specs.Terms.{Id, is_below, has_id, ids_of, is_same_name, new_ids, Pending, Reply, Int}
 use Rattle.xs_keys.specs.Life.{StreamEvent, key_life, added_in, present_entries}
 use Rattle.xs_keys.specs.GroupEvent.{cursor, rows}
