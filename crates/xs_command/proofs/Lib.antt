@@ -10,3 +10,4 @@ pub mod DistinctKeys
 pub mod NameSteps
 pub mod StreamSteps
 pub mod SmallIntegers
+pub mod Computing

