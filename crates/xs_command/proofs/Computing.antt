@@ -1,5 +1,5 @@
 -- What examples compute: how words are read as a command.
-use Rattle.xs_command.specs.Words.{is_word, word, behind_sign, integer, natural, id, low, high}
+use Rattle.xs_command.specs.Words.{is_word, word, behind_sign, integer, natural, id_of_word, low, high}
 use Rattle.xs_command.specs.Options.{up_to}
 use Rattle.xs_command.specs.CommandName.{name_of}
 use Rattle.xs_command.specs.Syntax.{only, leading_ids, ids}
@@ -25,5 +25,5 @@ use Rattle.xs_command.specs.Read.{reads}
 
 -- its line is what an example names
 unfoldable pub example_functions : Type 0
-unfolding is_word word behind_sign integer natural id low high up_to name_of only leading_ids ids xgroup subcommand_of create destroy create_consumer delete_consumer create_option group_start streams each_from is_distinct read_from xreadgroup read_option reader xack xpending form idle_rows pending_rows optional xclaim claim_option xautoclaim auto_claim_option xadd add_option add_id field pairs fields xdel xlen xtrim trim_option max_len min_id xrange xrevrange scan_option ping quit del reads
+unfolding is_word word behind_sign integer natural id_of_word low high up_to name_of only leading_ids ids xgroup subcommand_of create destroy create_consumer delete_consumer create_option group_start streams each_from is_distinct read_from xreadgroup read_option reader xack xpending form idle_rows pending_rows optional xclaim claim_option xautoclaim auto_claim_option xadd add_option add_id field pairs fields xdel xlen xtrim trim_option max_len min_id xrange xrevrange scan_option ping quit del reads
 example_functions = Unit {0}

@@ -14,12 +14,13 @@ use Rattle.xs_command.specs.Words.{Reading, is_word, word, low, high, integer}
 use Rattle.xs_command.specs.Options.{many}
 use Rattle.xs_command.specs.CommandName.{fits}
 use Rattle.xs_command.specs.Syntax.{ids}
-use Rattle.xs_command.specs.Xgroup.{xgroup, group_named, group_syntax, counts, create, destroy, create_consumer}
+use Rattle.xs_command.specs.Xgroup.{xgroup, group_named, group_syntax, subcommand_word_counts, create, destroy}
+use Rattle.xs_command.specs.Xgroup.{create_consumer}
 use Rattle.xs_command.specs.Xgroup.{delete_consumer, create_option, group_start, subcommand_of}
 use Rattle.xs_command.specs.Xack.{xack}
 use Rattle.xs_command.specs.Xpending.{xpending, form, counted, idle_rows, pending_rows, optional}
 use Rattle.xs_command.specs.Xclaim.{xclaim, claim_option, plain_rule}
-use Rattle.xs_command.specs.Xautoclaim.{xautoclaim, auto_claim_option, no_options}
+use Rattle.xs_command.specs.Xautoclaim.{xautoclaim, auto_claim_option, no_claim_options}
 use Rattle.xs_command.proofs.Formed.{Always, after_any, after_sure, only_is, ids_some}
 
 -- ---- XGROUP
@@ -53,7 +54,7 @@ group_counted sub false words y e = absurd cc
 
 group_named_formed : (sub : Option Subcommand) → Always IsWellFormed (group_named sub)
 group_named_formed None words y e = absurd cc
-group_named_formed (Some sub) words y e = group_counted sub (fits (counts sub) (length words + 2)) words y e
+group_named_formed (Some sub) words y e = group_counted sub (fits (subcommand_word_counts sub) (length words + 2)) words y e
 
 pub xgroup_formed : Always IsWellFormed xgroup
 unfolding xgroup
@@ -71,7 +72,7 @@ xclaim_formed = after_any IsWellFormed word _ (λ key. after_any IsWellFormed wo
 
 pub xautoclaim_formed : Always IsWellFormed xautoclaim
 unfolding xautoclaim
-xautoclaim_formed = after_any IsWellFormed word _ (λ key. after_any IsWellFormed word _ (λ group. after_any IsWellFormed word _ (λ consumer. after_any IsWellFormed integer _ (λ idle. after_any IsWellFormed low _ (λ start. after_any IsWellFormed (many auto_claim_option no_options) _ (λ options. only_is IsWellFormed _ Syntax tt))))))
+xautoclaim_formed = after_any IsWellFormed word _ (λ key. after_any IsWellFormed word _ (λ group. after_any IsWellFormed word _ (λ consumer. after_any IsWellFormed integer _ (λ idle. after_any IsWellFormed low _ (λ start. after_any IsWellFormed (many auto_claim_option no_claim_options) _ (λ options. only_is IsWellFormed _ Syntax tt))))))
 
 -- ---- XPENDING
 

@@ -17,7 +17,7 @@ use Rattle.xs_command.specs.WellFormed.{IsWellFormed, keys_of}
 use Rattle.xs_command.specs.Words.{is_word, word}
 use Rattle.xs_command.specs.Options.{many}
 use Rattle.xs_command.specs.Streams.{is_distinct, read_from, before, read_before, each_from, keys_and_starts, streams}
-use Rattle.xs_command.specs.Xreadgroup.{xreadgroup, read_option, no_options, read_group, behind_streams}
+use Rattle.xs_command.specs.Xreadgroup.{xreadgroup, read_option, no_read_options, read_group, behind_streams}
 use Rattle.xs_command.proofs.Formed.{Always, after_any}
 
 keys_first : (key : List ℕ) (keys : List (List ℕ)) (from : ReadFrom) (more : Result (List ReadOne) Fault) → ((reads : List ReadOne) → more ≡ Ok reads → keys_of reads ≡ keys) → (reads : List ReadOne) → before (record { key = key; from = from }) more ≡ Ok reads → keys_of reads ≡ key ∷ keys
@@ -107,4 +107,4 @@ named_formed false options words y e = absurd cc
 
 pub xreadgroup_formed : Always IsWellFormed xreadgroup
 unfolding xreadgroup
-xreadgroup_formed = after_any IsWellFormed (many read_option no_options) _ (λ options. after_any IsWellFormed word _ (λ name words y e. named_formed (is_word (codes "streams") name) options words y e))
+xreadgroup_formed = after_any IsWellFormed (many read_option no_read_options) _ (λ options. after_any IsWellFormed word _ (λ name words y e. named_formed (is_word (codes "streams") name) options words y e))

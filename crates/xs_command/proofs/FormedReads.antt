@@ -10,7 +10,7 @@ use Rattle.xs_command.specs.declared.command_name.CommandName.TheVariants.{Xrevr
 use Rattle.xs_command.specs.declared.command_name.CommandName.TheVariants.{Xpending, Xclaim, Xautoclaim, Del}
 use Rattle.xs_command.specs.Words.{Gives, word}
 use Rattle.xs_command.specs.WellFormed.{IsWellFormed}
-use Rattle.xs_command.specs.CommandName.{name_of, counts, fits}
+use Rattle.xs_command.specs.CommandName.{name_of, word_counts, fits}
 use Rattle.xs_command.specs.Read.{syntax, named, reads}
 use Rattle.xs_command.proofs.Formed.{Always, after_any, ping_formed, quit_formed, xadd_formed, xdel_formed}
 use Rattle.xs_command.proofs.Formed.{xtrim_formed, xlen_formed, xrange_formed, xrevrange_formed, del_formed}
@@ -41,7 +41,7 @@ counted name false words y e = absurd cc
 
 named_formed : (name : Option CommandName) → Always IsWellFormed (named name)
 named_formed None words y e = absurd cc
-named_formed (Some name) words y e = counted name (fits (counts name) (length words + 1)) words y e
+named_formed (Some name) words y e = counted name (fits (word_counts name) (length words + 1)) words y e
 
 reads_formed : Always IsWellFormed reads
 unfolding reads

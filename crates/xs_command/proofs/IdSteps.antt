@@ -6,7 +6,7 @@ use Rattle.xs_stream.specs.declared.id.Id.{Id}
 use Rattle.xs_stream.specs.IdText.{parse_id}
 use Rattle.xs_resp.specs.declared.fault.Fault.{Fault}
 use Rattle.xs_resp.specs.declared.fault.Fault.TheVariants.{BadId}
-use Rattle.xs_command.specs.Words.{or_fault, word, id}
+use Rattle.xs_command.specs.Words.{or_fault, word, id_of_word}
 use Rattle.xs_command.specs.Syntax.{id_before, leading_ids}
 
 -- the ids that were read before those that are still read
@@ -29,18 +29,18 @@ step_at w words (Some x) e = record {
   stops = λ fault h. absurd cc;
 }
 
-pub step : (words : List (List ℕ)) → Step words (id words)
-unfolding leading_ids id word
+pub step : (words : List (List ℕ)) → Step words (id_of_word words)
+unfolding leading_ids id_of_word word
 step [] = record { reads = λ first behind h. absurd cc; stops = λ fault h. refl }
 step (w ∷ words) = step_at w words (parse_id w 0) refl
 
 -- one more id
-pub goes_on : (front : List Id) (words : List (List ℕ)) (first : Id) (behind : List (List ℕ)) → id words ≡ Ok (first, behind) → with_front (front ++ first ∷ []) (leading_ids behind) ≡ with_front front (leading_ids words)
+pub goes_on : (front : List Id) (words : List (List ℕ)) (first : Id) (behind : List (List ℕ)) → id_of_word words ≡ Ok (first, behind) → with_front (front ++ first ∷ []) (leading_ids behind) ≡ with_front front (leading_ids words)
 goes_on front words first behind h =
     rw ((step words).reads first behind h).0 (ap (λ (l : List Id). (l, (leading_ids behind).1)) (append_assoc front (first ∷ []) (leading_ids behind).0))
 
 -- a word that is no id
-pub stops_at : (front : List Id) (words : List (List ℕ)) (fault : Fault) → id words ≡ Err fault → with_front front (leading_ids words) ≡ (front, words)
+pub stops_at : (front : List Id) (words : List (List ℕ)) (fault : Fault) → id_of_word words ≡ Err fault → with_front front (leading_ids words) ≡ (front, words)
 stops_at front words fault h = rw ((step words).stops fault h) (ap (λ (l : List Id). (l, words)) (append-nil front))
 
 -- no word is left
@@ -49,5 +49,5 @@ unfolding leading_ids
 ends front [] h = ap (λ (l : List Id). (l, [])) (append-nil front)
 ends front (w ∷ words) h = absurd (omega arith)
 
-pub fewer : (words : List (List ℕ)) (first : Id) (behind : List (List ℕ)) → id words ≡ Ok (first, behind) → length words ≡ length behind + 1
+pub fewer : (words : List (List ℕ)) (first : Id) (behind : List (List ℕ)) → id_of_word words ≡ Ok (first, behind) → length words ≡ length behind + 1
 fewer words first behind h = ((step words).reads first behind h).1

@@ -29,22 +29,22 @@ abbrev pub has_another_length : ℕ → Bool
 has_another_length n = not (n == 4 || n == 6 || n == 10)
 
 -- how many words a command has, its name included: at least the first number, at most the second where there is one
-abbrev pub counts : CommandName → ℕ × Option ℕ
-counts Ping = (1, Some 2)
-counts Quit = (1, None)
-counts Xadd = (5, None)
-counts Xdel = (3, None)
-counts Xtrim = (4, None)
-counts Xlen = (2, Some 2)
-counts Xrange = (4, None)
-counts Xrevrange = (4, None)
-counts Xgroup = (2, None)
-counts Xreadgroup = (7, None)
-counts Xack = (4, None)
-counts Xpending = (3, None)
-counts Xclaim = (6, None)
-counts Xautoclaim = (6, None)
-counts Del = (2, None)
+abbrev pub word_counts : CommandName → ℕ × Option ℕ
+word_counts Ping = (1, Some 2)
+word_counts Quit = (1, None)
+word_counts Xadd = (5, None)
+word_counts Xdel = (3, None)
+word_counts Xtrim = (4, None)
+word_counts Xlen = (2, Some 2)
+word_counts Xrange = (4, None)
+word_counts Xrevrange = (4, None)
+word_counts Xgroup = (2, None)
+word_counts Xreadgroup = (7, None)
+word_counts Xack = (4, None)
+word_counts Xpending = (3, None)
+word_counts Xclaim = (6, None)
+word_counts Xautoclaim = (6, None)
+word_counts Del = (2, None)
 
 -- at most so many
 abbrev pub is_at_most : Option ℕ → ℕ → Bool

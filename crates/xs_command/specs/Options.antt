@@ -18,18 +18,19 @@ abbrev pub taking : {S : Type 0} → Part S → Reading (S × Option (List (List
 taking part words = taken (part words)
 
 -- what comes after a name was read as an option, or as none
-abbrev pub after :
+abbrev pub option_after :
     {S : Type 0} → Result (S × Option (List (List ℕ))) Fault → List (List ℕ) → (S → Part S)
     → Result (S × List (List ℕ)) Fault
-after (Err fault) words more = Err fault
-after (Ok (s, None)) words more = Ok (s, words)
-after (Ok (s, Some left)) words more = more s left
+option_after (Err fault) words more = Err fault
+option_after (Ok (s, None)) words more = Ok (s, words)
+option_after (Ok (s, Some left)) words more = more s left
 
 -- as many options as there are, at most n
 unfoldable pub up_to : {S : Type 0} → ℕ → OptionOf S → S → Part S
 up_to zero option s words = Ok (s, words)
 up_to (suc n) option s [] = Ok (s, [])
-up_to (suc n) option s (name ∷ words) = after (option s name words) (name ∷ words) (λ t left. up_to n option t left)
+up_to (suc n) option s (name ∷ words) =
+    option_after (option s name words) (name ∷ words) (λ t left. up_to n option t left)
 
 -- as many options as there are
 abbrev pub many : {S : Type 0} → OptionOf S → S → Part S

@@ -3,7 +3,7 @@ use Rattle.std.specs.Prelude.{ℕ, List, [], ◌∷◌, Option, Some, None, Ok, 
 use Rattle.xs_stream.specs.declared.id.Id.{Id}
 use Rattle.xs_stream.specs.IdText.{parse_id}
 use Rattle.xs_resp.specs.declared.fault.Fault.{Fault}
-use Rattle.xs_command.specs.Words.{Reading, Part, ◌>>=◌, id}
+use Rattle.xs_command.specs.Words.{Reading, Part, ◌>>=◌, id_of_word}
 
 -- the value, where no word is left, and the fault otherwise
 unfoldable pub only : {A : Type 0} → A → Fault → Reading A
@@ -23,5 +23,5 @@ leading_ids (w ∷ words) = id_before (parse_id w 0) (w ∷ words) (leading_ids 
 -- one id or more, as long as words are ids
 unfoldable pub ids : Part (List Id)
 ids = do
-  first ← id
+  first ← id_of_word
   λ words. Ok (first ∷ (leading_ids words).0, (leading_ids words).1)

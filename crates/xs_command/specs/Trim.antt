@@ -4,7 +4,7 @@ use Rattle.xs_stream.specs.declared.trim.Trim.{Trim}
 use Rattle.xs_stream.specs.declared.trim.Trim.TheVariants as trim
 use Rattle.xs_resp.specs.declared.fault.Fault.{Fault}
 use Rattle.xs_resp.specs.declared.fault.Fault.TheVariants.{Syntax, Unsupported}
-use Rattle.xs_command.specs.Words.{Part, ◌>>=◌, value, is_word, natural, id, behind_sign}
+use Rattle.xs_command.specs.Words.{Part, ◌>>=◌, value, is_word, natural, id_of_word, behind_sign}
 use Rattle.xs_command.specs.Options.{OptionOf}
 
 -- behind MAXLEN: [=|~] count
@@ -13,7 +13,7 @@ max_len words = (natural >>= λ count. value (trim.MaxLen count)) (behind_sign w
 
 -- behind MINID: [=|~] id
 unfoldable pub min_id : Part Trim
-min_id words = (id >>= λ low. value (trim.MinId low)) (behind_sign words)
+min_id words = (id_of_word >>= λ low. value (trim.MinId low)) (behind_sign words)
 
 -- a trim that was read, where none stands before it
 abbrev pub first_trim :

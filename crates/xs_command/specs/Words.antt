@@ -81,8 +81,8 @@ natural = do
   or_fault (not_negative n) NotInteger
 
 -- the next word, an id; a missing sequence is 0
-unfoldable pub id : Part Id
-id = do
+unfoldable pub id_of_word : Part Id
+id_of_word = do
   w ← word
   or_fault (parse_id w 0) BadId
 

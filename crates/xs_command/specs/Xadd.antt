@@ -14,8 +14,8 @@ use Rattle.xs_command.specs.AddId.{add_id}
 use Rattle.xs_command.specs.Fields.{fields}
 
 -- a missing key is made, and nothing is trimmed
-abbrev pub no_options : AddOptions
-no_options = record { make = true; trim = None }
+abbrev pub no_add_options : AddOptions
+no_add_options = record { make = true; trim = None }
 
 -- what a trim's option leaves
 abbrev pub with_trim :
@@ -40,6 +40,6 @@ addition key options id (Err fault) = Err fault
 unfoldable pub xadd : Reading Command
 xadd = do
   key ← word
-  options ← many add_option no_options
+  options ← many add_option no_add_options
   id ← add_id
   λ words. addition key options id (fields words)

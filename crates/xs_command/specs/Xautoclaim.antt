@@ -15,8 +15,8 @@ abbrev pub positive : ℕ → Option ℕ
 positive n = if nat_lt 0 n then Some n else None
 
 -- without COUNT it is 100
-abbrev pub no_options : AutoClaimOptions
-no_options = record { limit = 100; just_id = false }
+abbrev pub no_claim_options : AutoClaimOptions
+no_claim_options = record { limit = 100; just_id = false }
 
 -- { COUNT n, JUSTID }; the number is at least 1
 unfoldable pub auto_claim_option : OptionOf AutoClaimOptions
@@ -37,7 +37,7 @@ xautoclaim = do
   consumer ← word
   idle ← integer
   start ← low
-  options ← many auto_claim_option no_options
+  options ← many auto_claim_option no_claim_options
   only (command.AutoClaim (record {
     key = key;
     group = group;

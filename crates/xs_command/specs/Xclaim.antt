@@ -18,9 +18,9 @@ abbrev pub plain_rule : ℕ → Rule
 plain_rule min_idle = record { min_idle = min_idle; when = time.Now; retry = None; just_id = false }
 
 -- a moment that was written; one below 0 is that of the claim
-abbrev pub time_of : Integer → ClaimTime
-time_of Negative = time.Now
-time_of (Natural millis) = time.At millis
+abbrev pub claim_time_of : Integer → ClaimTime
+claim_time_of Negative = time.Now
+claim_time_of (Natural millis) = time.At millis
 
 abbrev pub with_time : Rule → ClaimTime → Rule
 with_time rule when = record { min_idle = rule.min_idle; when = when; retry = rule.retry; just_id = rule.just_id }
@@ -38,7 +38,7 @@ claim_option rule name words =
     if is_word (codes "idle") name
     then taking (integer >>= λ idle. value (with_time rule (time.Idle (at_least_zero idle)))) words
     else (if is_word (codes "time") name
-    then taking (integer >>= λ millis. value (with_time rule (time_of millis))) words
+    then taking (integer >>= λ millis. value (with_time rule (claim_time_of millis))) words
     else (if is_word (codes "retrycount") name then taking (natural >>= λ count. value (with_retry rule count)) words
     else (if is_word (codes "justid") name then Ok (with_just_id rule, Some words)
     else (if is_word (codes "force") name then Err Unsupported

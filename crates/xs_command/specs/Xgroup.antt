@@ -75,12 +75,12 @@ unfoldable pub subcommand_of : List ℕ → Option Subcommand
 subcommand_of text = option_map (λ entry. entry.1) (find (λ entry. is_word entry.0 text) subcommands)
 
 -- how many words each has, XGROUP and the subcommand included
-abbrev pub counts : Subcommand → ℕ × Option ℕ
-counts Create = (5, None)
-counts Destroy = (4, Some 4)
-counts CreateConsumer = (5, Some 5)
-counts DelConsumer = (5, Some 5)
-counts SetId = (2, None)
+abbrev pub subcommand_word_counts : Subcommand → ℕ × Option ℕ
+subcommand_word_counts Create = (5, None)
+subcommand_word_counts Destroy = (4, Some 4)
+subcommand_word_counts CreateConsumer = (5, Some 5)
+subcommand_word_counts DelConsumer = (5, Some 5)
+subcommand_word_counts SetId = (2, None)
 
 -- the syntax behind each subcommand; SETID isn't supported
 abbrev pub group_syntax : Subcommand → Reading Command
@@ -93,7 +93,8 @@ group_syntax SetId = λ words. Err Unsupported
 -- the words behind a subcommand; their number comes first
 abbrev pub group_named : Option Subcommand → Reading Command
 group_named None words = Err UnknownCommand
-group_named (Some sub) words = if fits (counts sub) (length words + 2) then group_syntax sub words else Err Arity
+group_named (Some sub) words =
+    if fits (subcommand_word_counts sub) (length words + 2) then group_syntax sub words else Err Arity
 
 -- XGROUP subcommand ..
 unfoldable pub xgroup : Reading Command

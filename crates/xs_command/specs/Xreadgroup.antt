@@ -18,8 +18,8 @@ abbrev pub limit_of : Integer → Option ℕ
 limit_of Negative = None
 limit_of (Natural n) = if n == 0 then None else Some n
 
-abbrev pub no_options : ReadOptions
-no_options = record { reader = None; limit = None; noack = false }
+abbrev pub no_read_options : ReadOptions
+no_read_options = record { reader = None; limit = None; noack = false }
 
 -- GROUP group consumer
 unfoldable pub reader : Part Reader
@@ -70,6 +70,6 @@ streams_of options name words =
 -- XREADGROUP { GROUP group consumer, COUNT n, BLOCK ms, NOACK } STREAMS key [key ..] from [from ..]
 unfoldable pub xreadgroup : Reading Command
 xreadgroup = do
-  options ← many read_option no_options
+  options ← many read_option no_read_options
   name ← word
   streams_of options name

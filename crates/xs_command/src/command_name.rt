@@ -25,7 +25,7 @@ pub(crate) enum CommandName {
 }
 
 impl CommandName {
-    ghost use Rattle.xs_command.specs.CommandName.{names, among, name_of, has_another_length, counts};
+    ghost use Rattle.xs_command.specs.CommandName.{names, among, name_of, has_another_length, word_counts};
 
     /// The command that a word names, in upper or lower case.
     pub(crate) fn of(word: &Word<'_>) -> Option<Self>
@@ -105,7 +105,7 @@ impl CommandName {
     /// How many words the command has, its name included: at least, and at most where there is a
     /// limit.
     pub(crate) fn counts(self) -> (usize, Option<usize>)
-        ensures { result ≡ counts self }
+        ensures { result ≡ word_counts self }
     {
         match self {
             Self::Ping => (1, Some(2)),
@@ -130,7 +130,7 @@ impl CommandName {
 /// Whether so many words are neither too few nor too many: at least the first number, and at most
 /// the second where there is one.
 pub(crate) fn allows(counts: (usize, Option<usize>), count: usize) -> bool
-    ensures { result ≡ fits counts count }
+    ensures { result ≡ fits word_counts count }
 {
     match counts.1 {
         Some(most) => counts.0 <= count && count <= most,

@@ -1,6 +1,6 @@
 //! The words of a request, read one after the other.
 ghost use Rattle.std.specs.Prelude.{◌≡◌, ◌∷◌, [], ◌<◌, ◌≤◌, ◌^◌, IfOk, MatchOption, length, take, drop};
-ghost use Rattle.xs_command.specs.Words.{Gives, word, behind_sign, integer, natural, id, low, high};
+ghost use Rattle.xs_command.specs.Words.{Gives, word, behind_sign, integer, natural, id_of_word, low, high};
 ghost use Rattle.xs_command.specs.Syntax.{only, leading_ids, ids};
 
 use crate::command::Command;
@@ -159,7 +159,7 @@ impl<'a> Words<'a> {
     /// The next word, an id. A missing sequence is 0.
     #[tactic(auto, unfolding(crate::specs::Words::id))]
     pub(crate) fn id(&self) -> Result<(Id, Words<'a>), Fault>
-        ensures { result ≡ id self.now }
+        ensures { result ≡ id_of_word self.now }
     {
         let (word, words) = self.word()?;
         let id = Id::parse(word.as_slice(), 0).ok_or(Fault::BadId)?;

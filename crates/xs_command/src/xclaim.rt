@@ -1,7 +1,7 @@
 //! XCLAIM.
 ghost use Rattle.std.specs.Prelude.{◌≡◌};
 ghost use Rattle.xs_command.specs.Words.{Gives};
-ghost use Rattle.xs_command.specs.Xclaim.{time_of, claim_option, xclaim};
+ghost use Rattle.xs_command.specs.Xclaim.{claim_time_of, claim_option, xclaim};
 
 use crate::command::{ClaimCommand, Command};
 use crate::integer::Integer;
@@ -53,7 +53,7 @@ impl Options for ClaimRule {
 
 /// A moment that was written; one below 0 is that of the claim.
 fn time_of(time: Integer) -> ClaimTime
-    ensures { result ≡ time_of time }
+    ensures { result ≡ claim_time_of time }
 {
     match time {
         Integer::Negative => ClaimTime::Now,

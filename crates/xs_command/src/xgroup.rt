@@ -25,7 +25,7 @@ pub(crate) enum Subcommand {
 }
 
 impl Subcommand {
-    ghost use Rattle.xs_command.specs.Xgroup.{counts};
+    ghost use Rattle.xs_command.specs.Xgroup.{subcommand_word_counts};
 
     /// The subcommand that a word names, in upper or lower case.
     #[tactic(auto, unfolding(crate::specs::Xgroup::subcommand_of))]
@@ -48,7 +48,7 @@ impl Subcommand {
     /// How many words there are, XGROUP and the subcommand included: at least, and at most where
     /// there is a limit.
     fn counts(self) -> (usize, Option<usize>)
-        ensures { result ≡ counts self }
+        ensures { result ≡ subcommand_word_counts self }
     {
         match self {
             Self::Create => (5, None),

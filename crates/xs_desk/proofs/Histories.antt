@@ -19,7 +19,7 @@ use Rattle.xs_keys.proofs.ConsistentContents.{content-lawful}
 use Rattle.xs_keys.proofs.Runs.{step-follows, headline}
 use Rattle.xs_desk.specs.History.{ServedCall, LaneOf, Desk, of_lane, commands_of, answers_of, events_of, replies_of}
 use Rattle.xs_desk.specs.History.{CountUp, IsHistory}
-use Rattle.xs_desk.specs.KeeperTurns.{with_call, Serves, ServesAll, HasPlaces}
+use Rattle.xs_desk.specs.KeeperTurns.{with_call, ServesCall, ServesAll, HasPlaces}
 use Rattle.xs_desk.proofs.Lists.{snoc-cases, set-cases, length-slice_set}
 
 -- ---- runs
@@ -69,7 +69,7 @@ count-more : (f : ServedCall → ℕ) (calls : List ServedCall) (call : ServedCa
 count-more f calls call up is =
     subst CountUp (sym (map-append f calls (call ∷ []))) (count-snoc (map f calls) (f call) up (is ∙ sym (length-map calls f)))
 
-lanes-more : (history : List ServedCall) (old : Desk) (call : ServedCall) (new : Desk) → IsHistory history old → Serves old call new
+lanes-more : (history : List ServedCall) (old : Desk) (call : ServedCall) (new : Desk) → IsHistory history old → ServesCall old call new
     → (k : ℕ) (lane : LaneOf) → slice_get new.lanes k ≡ Some lane
     → (lane.popped ≡ commands_of (of_lane k (history ++ call ∷ []))) × (lane.sent ≡ answers_of (of_lane k (history ++ call ∷ [])))
 lanes-more history old call new is serves k lane at =
@@ -88,7 +88,7 @@ lanes-more history old call new is serves k lane at =
           (there.0 ∙ sym (ap commands_of other), there.1 ∙ sym (ap answers_of other))
     ]
 
-tickets-more : (history : List ServedCall) (old : Desk) (call : ServedCall) (new : Desk) → IsHistory history old → Serves old call new
+tickets-more : (history : List ServedCall) (old : Desk) (call : ServedCall) (new : Desk) → IsHistory history old → ServesCall old call new
     → (k : ℕ) → CountUp (map (λ c. c.answer.ticket) (of_lane k (history ++ call ∷ [])))
 tickets-more history old call new is serves k =
     let here = is.lanes call.lane serves.lane serves.here in
@@ -103,7 +103,7 @@ tickets-more history old call new is serves k =
           subst (λ cs. CountUp (map (λ c. c.answer.ticket) cs)) (sym (of_lane-other k history call j)) (is.tickets k)
     ] refl
 
-pub history-more : (history : List ServedCall) (old : Desk) (call : ServedCall) (new : Desk) → IsHistory history old → Serves old call new → IsHistory (history ++ call ∷ []) new
+pub history-more : (history : List ServedCall) (old : Desk) (call : ServedCall) (new : Desk) → IsHistory history old → ServesCall old call new → IsHistory (history ++ call ∷ []) new
 history-more history old call new is serves =
     let n : length new.lanes ≡ length old.lanes = ap length serves.lanes_are ∙ length-slice_set old.lanes call.lane (with_call serves.lane call) in
     let e : ℕ × Command = (call.answer.moment, call.command) in

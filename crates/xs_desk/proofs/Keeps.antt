@@ -7,14 +7,14 @@ use Rattle.std.proofs.lemmas.Option.{get_or_from_slice_get, slice_get-map, slice
 use Rattle.std.proofs.lemmas.List.{length-map}
 use Rattle.std.specs.Option.{option_map}
 use Rattle.xs_desk.specs.History.{Ring, LaneOf, Desk, ServedCall}
-use Rattle.xs_desk.specs.KeeperTurns.{with_call, Serves, ServesAll, Turns}
+use Rattle.xs_desk.specs.KeeperTurns.{with_call, ServesCall, ServesAll, Turns}
 use Rattle.xs_desk.specs.Callers.{Caller, IsEndOf, AreEnds, IsSide}
 use Rattle.xs_desk.specs.Opening.{AreNew}
 use Rattle.xs_desk.specs.KeptRings.{rings_of, KeepsRings, KeepsSide, KeepSides}
 use Rattle.xs_desk.proofs.Lists.{some-at, some-of-map, snoc-cases, still-at, last-at}
 use Rattle.xs_desk.proofs.Turning.{turns-anyhow}
 
-serves-keeps : (old : Desk) (call : ServedCall) (new : Desk) → Serves old call new → KeepsRings old new
+serves-keeps : (old : Desk) (call : ServedCall) (new : Desk) → ServesCall old call new → KeepsRings old new
 serves-keeps old call new s =
     ap (map rings_of) s.lanes_are ∙ map-set_same rings_of old.lanes call.lane (with_call s.lane call) s.lane (ap rings_of (sym (get_or_from_slice_get old.lanes call.lane s.lane s.lane s.here)))
 

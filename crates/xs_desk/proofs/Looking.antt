@@ -8,7 +8,7 @@ use Rattle.std.specs.Option.{option_map}
 use Rattle.xs_keys.specs.Content.{Content}
 use Rattle.xs_desk.specs.declared.lane_end.LaneEnd.{LaneEnd}
 use Rattle.xs_desk.specs.History.{Desk, ServedCall}
-use Rattle.xs_desk.specs.KeeperTurns.{Serves, Turns, HasPlaces}
+use Rattle.xs_desk.specs.KeeperTurns.{ServesCall, Turns, HasPlaces}
 use Rattle.xs_desk.specs.LaneEnds.{lane_of, desk_of, scene, Answers}
 use Rattle.xs_desk.proofs.Turning.{turns-more, places-stay}
 
@@ -39,7 +39,7 @@ module _ {C : Type 0} (gives : C → ℕ → C → Type 0) (old : Desk) (clock :
   call_of : Answers gives (scene s c p k) (scene s' c' p' k') → ServedCall
   call_of a = record { lane = i; command = a.command; answer = a.answer }
 
-  serves-desk : (a : Answers gives (scene s c p k) (scene s' c' p' k')) → Serves (desk_of all c p) (call_of a) (desk_of (slice_set all i s') c' p')
+  serves-desk : (a : Answers gives (scene s c p k) (scene s' c' p' k')) → ServesCall (desk_of all c p) (call_of a) (desk_of (slice_set all i s') c' p')
   unfolding call_of
   serves-desk a = record {
     lane = lane_of s;

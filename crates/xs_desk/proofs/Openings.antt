@@ -7,20 +7,20 @@ use Rattle.xs_desk.specs.declared.lane_end.LaneEnd.{LaneEnd}
 use Rattle.xs_desk.specs.History.{LaneOf, IsHistory}
 use Rattle.xs_desk.specs.LaneEnds.{lane_of, desk_of}
 use Rattle.xs_desk.specs.Callers.{Caller}
-use Rattle.xs_desk.specs.Opening.{IsNew, AreNew}
+use Rattle.xs_desk.specs.Opening.{IsNewLane, AreNew}
 use Rattle.xs_desk.proofs.Histories.{runs-none}
 
-new-snoc : (k depth : ℕ) (ls : List LaneOf) (cs : List Caller) (l : LaneOf) (c : Caller) → AreNew k depth ls cs → IsNew (k + length ls) depth l c → AreNew k depth (ls ++ l ∷ []) (cs ++ c ∷ [])
-new-snoc k depth [] [] l c a n = (subst (λ j. IsNew j depth l c) (omega arith) n, tt)
+new-snoc : (k depth : ℕ) (ls : List LaneOf) (cs : List Caller) (l : LaneOf) (c : Caller) → AreNew k depth ls cs → IsNewLane (k + length ls) depth l c → AreNew k depth (ls ++ l ∷ []) (cs ++ c ∷ [])
+new-snoc k depth [] [] l c a n = (subst (λ j. IsNewLane j depth l c) (omega arith) n, tt)
 new-snoc k depth (x ∷ xs) [] l c a n = absurd a
 new-snoc k depth [] (y ∷ ys) l c a n = absurd a
-new-snoc k depth (x ∷ xs) (y ∷ ys) l c a n = (a.0, new-snoc (k + 1) depth xs ys l c a.1 (subst (λ j. IsNew j depth l c) (omega arith) n))
+new-snoc k depth (x ∷ xs) (y ∷ ys) l c a n = (a.0, new-snoc (k + 1) depth xs ys l c a.1 (subst (λ j. IsNewLane j depth l c) (omega arith) n))
 
-pub lane_ends_grow : (depth : ℕ) (all : List LaneEnd) (cs : List Caller) (s : LaneEnd) (c : Caller) → AreNew 0 depth (map lane_of all) cs → IsNew (length all) depth (lane_of s) c
+pub lane_ends_grow : (depth : ℕ) (all : List LaneEnd) (cs : List Caller) (s : LaneEnd) (c : Caller) → AreNew 0 depth (map lane_of all) cs → IsNewLane (length all) depth (lane_of s) c
     → AreNew 0 depth (map lane_of (all ++ s ∷ [])) (cs ++ c ∷ [])
 lane_ends_grow depth all cs s c a n =
     subst (λ ls. AreNew 0 depth ls (cs ++ c ∷ [])) (sym (map-append lane_of all (s ∷ [])))
-    (new-snoc 0 depth (map lane_of all) cs (lane_of s) c a (subst (λ j. IsNew j depth (lane_of s) c) (omega (arith, length-map all lane_of)) n))
+    (new-snoc 0 depth (map lane_of all) cs (lane_of s) c a (subst (λ j. IsNewLane j depth (lane_of s) c) (omega (arith, length-map all lane_of)) n))
 
 new-lane : (k depth : ℕ) (ls : List LaneOf) (cs : List Caller) → AreNew k depth ls cs → (j : ℕ) (l : LaneOf) → slice_get ls j ≡ Some l → (l.popped ≡ []) × (l.sent ≡ [])
 new-lane k depth [] [] a j l e = absurd (cc)

@@ -3,12 +3,12 @@ use Rattle.std.specs.Prelude.{◌≡◌, ℕ, ◌+◌, ◌≤◌, List, [], ◌�
 use Rattle.std.specs.Prelude.{MatchResult, refl}
 use Rattle.std.proofs.Common.{subst, ap, inl, inr, arith, length-append}
 use Rattle.xs_desk.specs.History.{ServedCall, Desk, IsHistory}
-use Rattle.xs_desk.specs.KeeperTurns.{with_call, Serves, ServesAll, TellsMoments, LanesAscend, Turns, HasPlaces}
+use Rattle.xs_desk.specs.KeeperTurns.{with_call, ServesCall, ServesAll, TellsMoments, LanesAscend, Turns, HasPlaces}
 use Rattle.xs_desk.proofs.Lists.{set-cases}
 use Rattle.xs_desk.proofs.Histories.{history-runs}
 
-serves-snoc : (old : Desk) (calls : List ServedCall) (mid : Desk) (call : ServedCall) (new : Desk) → ServesAll old calls mid → Serves mid call new → ServesAll old (calls ++ call ∷ []) new
-serves-snoc old [] mid call new s t = (new, subst (λ x. Serves x call new) s t, refl)
+serves-snoc : (old : Desk) (calls : List ServedCall) (mid : Desk) (call : ServedCall) (new : Desk) → ServesAll old calls mid → ServesCall mid call new → ServesAll old (calls ++ call ∷ []) new
+serves-snoc old [] mid call new s t = (new, subst (λ x. ServesCall x call new) s t, refl)
 serves-snoc old (x ∷ xs) mid call new s t = (s.0, s.1, serves-snoc s.0 xs mid call new s.2 t)
 
 moments-snoc : {C : Type 0} (gives : C → ℕ → C → Type 0) (old : C) (calls : List ServedCall) (mid : C) (call : ServedCall) (new : C)
@@ -37,7 +37,7 @@ module _ {C : Type 0} (gives : C → ℕ → C → Type 0) (old : Desk) (clock :
   turns-on n high new later more t le = record { calls = t.calls; served = t.served; in_order = ascend-more 0 t.calls high more t.in_order le; moments = t.moments; counted = t.counted }
 
   pub turns-more : (n : ℕ) (mid : Desk) (between : C) (call : ServedCall) (new : Desk) (later : C)
-      → Turns gives old clock n call.lane mid between → Serves mid call new → gives between call.answer.moment later → Turns gives old clock (n + 1) (call.lane + 1) new later
+      → Turns gives old clock n call.lane mid between → ServesCall mid call new → gives between call.answer.moment later → Turns gives old clock (n + 1) (call.lane + 1) new later
   turns-more n mid between call new later t s g = record {
     calls = t.calls ++ call ∷ [];
     served = serves-snoc old t.calls mid call new t.served s;
@@ -62,7 +62,7 @@ module _ {C : Type 0} (gives : C → ℕ → C → Type 0) (old : Desk) (clock :
       let t = (turns-anyhow high new later Z r m).1 in
       (h.0 ++ t.calls, history-runs h.0 old t.calls new h.1 t.served)
 
-pub places-stay : (old : Desk) (call : ServedCall) (new : Desk) → HasPlaces old → Serves old call new → HasPlaces new
+pub places-stay : (old : Desk) (call : ServedCall) (new : Desk) → HasPlaces old → ServesCall old call new → HasPlaces new
 places-stay old call new has s k lane at =
     elim (set-cases old.lanes call.lane k (with_call s.lane call) lane (subst (λ ls. slice_get ls k ≡ Some lane) s.lanes_are at)) [
       | inl p ↦ omega (arith, ap (λ x. length x.sent) p.1, length-append s.lane.sent (call.answer ∷ []), has call.lane s.lane s.here, s.next_is)

@@ -30,5 +30,5 @@ abbrev pub Asks : Caller → Command → Reply → Caller → Type 0
 Asks old command reply new = (mid : Caller) × Submits old command mid × Receives mid (length old.submitted) reply new
 
 -- the command was submitted once, or not at all
-abbrev pub Fails : Caller → Command → Caller → Type 0
-Fails old command new = Takes old new ⊎ Submits old command new
+abbrev pub AskFails : Caller → Command → Caller → Type 0
+AskFails old command new = Takes old new ⊎ Submits old command new

@@ -12,7 +12,7 @@ with_call lane call =
 -- Its command is well formed, is taken from its lane and applied to the keyspace at the moment told, and the answer is
 -- sent to the same lane: with the reply, the number of the answers sent there before as ticket, and the next place of
 -- the desk
-pub record Serves (old : Desk) (call : ServedCall) (new : Desk) : Type 0 where
+pub record ServesCall (old : Desk) (call : ServedCall) (new : Desk) : Type 0 where
   pub lane : LaneOf
   pub here : slice_get old.lanes call.lane ≡ Some lane
   pub lanes_are : new.lanes ≡ slice_set old.lanes call.lane (with_call lane call)
@@ -25,7 +25,7 @@ pub record Serves (old : Desk) (call : ServedCall) (new : Desk) : Type 0 where
 -- one call after the other
 abbrev pub ServesAll : Desk → List ServedCall → Desk → Type 0
 ServesAll old [] new = new ≡ old
-ServesAll old (call ∷ calls) new = (mid : Desk) × Serves old call mid × ServesAll mid calls new
+ServesAll old (call ∷ calls) new = (mid : Desk) × ServesCall old call mid × ServesAll mid calls new
 
 -- the clock gave the moments of these calls, and no others
 abbrev pub TellsMoments : {C : Type 0} → (C → ℕ → C → Type 0) → C → List ServedCall → C → Type 0

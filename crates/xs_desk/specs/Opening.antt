@@ -6,7 +6,7 @@ use Rattle.xs_desk.specs.History.{LaneOf}
 use Rattle.xs_desk.specs.Callers.{Caller, IsSide}
 
 -- lane k, which nobody has used yet
-pub record IsNew (k depth : ℕ) (lane : LaneOf) (client : Caller) : Type 0 where
+pub record IsNewLane (k depth : ℕ) (lane : LaneOf) (client : Caller) : Type 0 where
   pub popped : lane.popped ≡ []
   pub sent : lane.sent ≡ []
   pub submitted : client.submitted ≡ []
@@ -19,7 +19,7 @@ pub record IsNew (k depth : ℕ) (lane : LaneOf) (client : Caller) : Type 0 wher
 -- lanes from number k on, which nobody has used yet, and their clients
 abbrev pub AreNew : ℕ → ℕ → List LaneOf → List Caller → Type 0
 AreNew k depth [] [] = Unit {0}
-AreNew k depth (lane ∷ lanes) (client ∷ clients) = IsNew k depth lane client × AreNew (k + 1) depth lanes clients
+AreNew k depth (lane ∷ lanes) (client ∷ clients) = IsNewLane k depth lane client × AreNew (k + 1) depth lanes clients
 AreNew k depth _ _ = ⊥
 
 -- the numbers of lanes and of places that a desk may have

@@ -94,8 +94,8 @@ fn serve_each<C: Clock>(
 ) -> Result<u64, KeeperError>
     requires { HasPlaces (desk_of lane_ends.old.items keyspace.old place.old) }
     ensures { MatchResult result
-        (λ n. Turns C.gives (desk_of lane_ends.old.items keyspace.old place.old) clock.old n (length lane_ends.old.items)
-        (desk_of lane_ends.new.items keyspace.new place.new) clock.new)
+        (λ n. Turns C.gives (desk_of lane_ends.old.items keyspace.old place.old) clock.old n
+        (length lane_ends.old.items) (desk_of lane_ends.new.items keyspace.new place.new) clock.new)
         (λ _. (n : ℕ)
         × Turns C.gives (desk_of lane_ends.old.items keyspace.old place.old) clock.old n (length lane_ends.old.items)
         (desk_of lane_ends.new.items keyspace.new place.new) clock.new × (place.new + 1 ≡ 2 ^ 64)) }

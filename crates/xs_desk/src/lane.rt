@@ -1,7 +1,7 @@
 //! A client that waits for each answer.
 ghost use Rattle.std.specs.Prelude.{◌≡◌, ◌++◌, ◌∷◌, [], length, MatchResult};
 ghost use Rattle.xs_command.specs.WellFormed.{IsWellFormed};
-ghost use Rattle.xs_desk.specs.Asking.{Submits, Takes, Receives, Asks, Fails};
+ghost use Rattle.xs_desk.specs.Asking.{Submits, Takes, Receives, Asks, AskFails};
 
 use crate::answer::Answer;
 use crate::client::{Client, Full};
@@ -104,18 +104,18 @@ fn receive<R: Wait>(rt: &R, client: &mut Client, ticket: u64) -> Result<Reply, P
 fn ask_of<R: Wait>(rt: &R, client: &mut Client, command: Command) -> Result<Reply, PortFault>
     requires { IsWellFormed command }
     ensures { MatchResult result (λ reply. Asks client.old command reply client.new)
-        (λ _. Fails client.old command client.new) }
+        (λ _. AskFails client.old command client.new) }
 {
     let ticket = submit(rt, client, command)?;
     receive(rt, client, ticket)
 }
 
 impl Port for Lane {
-    ghost use Rattle.xs_desk.specs.Asking.{Asks, Fails};
+    ghost use Rattle.xs_desk.specs.Asking.{Asks, AskFails};
 
     ghost replies = { λ old command reply new. Asks old.client command reply new.client };
 
-    ghost fails = { λ old command new. Fails old.client command new.client };
+    ghost fails = { λ old command new. AskFails old.client command new.client };
 
     ghost gone = { λ lane. lane.gone };
 

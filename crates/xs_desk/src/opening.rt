@@ -2,7 +2,7 @@
 ghost use Rattle.std.specs.Prelude.{◌≡◌, ℕ, length, map, IfOk, MatchResult};
 ghost use Rattle.xs_bytes.specs.SortedMap.{empty};
 ghost use Rattle.xs_desk.specs.LaneEnds.{lane_of};
-ghost use Rattle.xs_desk.specs.Opening.{AreNew, IsNew, IsDeskError, IsLaneCount, IsDepth};
+ghost use Rattle.xs_desk.specs.Opening.{AreNew, IsNewLane, IsDeskError, IsLaneCount, IsDepth};
 
 use crate::answer::{Answer, Formed};
 use crate::client::Client;
@@ -47,7 +47,7 @@ fn open_lane(
     keeper: &Backoff,
     gone: &Arc<AtomicBool>,
 ) -> Result<(LaneEnd, Client), AllocError>
-    ensures { IfOk result (λ r. IsNew lane depth (lane_of r.0) r.1) }
+    ensures { IfOk result (λ r. IsNewLane lane depth (lane_of r.0) r.1) }
 {
     let (to_keeper, calls) = RingBuffer::<Command>::with_protocol::<Global, Formed>(alloc, depth)?;
     let (answers, from_keeper) = RingBuffer::<Answer>::new(alloc, depth)?;

@@ -10,11 +10,11 @@ use Rattle.xs_bytes.specs.SortedMap.{get, has_key}
 use Rattle.xs_bytes.proofs.SortedMaps.{get-insert_by}
 use Rattle.xs_stream.specs.declared.id.Id.{Id}
 use Rattle.xs_stream.specs.Id.{id_cmp, is_same_id}
-use Rattle.xs_stream.proofs.Order.{is_same-eq, is_same-symm}
+use Rattle.xs_stream.proofs.Order.{is_same_id-eq, is_same_id-symm}
 use Rattle.xs_group.specs.GroupState.{RowState, Rows, Names, is_same_name, with_name, has_name}
 use Rattle.xs_group.specs.Indexes.{rows_of, PendingList, ConsumerIndex, names_of, ids_at, has_among, holds, is_owner}
 use Rattle.xs_group.specs.Indexes.{indexed_row, IsAgreed}
-use Rattle.xs_group.proofs.ByConsumer.{Index, is_name-eq, is_name-symm}
+use Rattle.xs_group.proofs.ByConsumer.{Index, is_same_name-eq, is_same_name-symm}
 use Rattle.xs_group.proofs.Views.{RowMap, has_name-names_of, same_names, names-same, get-rows_of}
 
 -- ---- a consumer more
@@ -28,7 +28,7 @@ agreed-joined rows m n name s agreed none nothing u q x = by (is_same_name name 
 
   by : (t : Bool) → is_same_name name q ≡ t → holds n.entries q x ≡ is_owner (indexed_row rows x) q
   by true t = ap (λ o. has_among o x) (u.0 q ∙ ap (λ b. cond b (Some s) (ids_at m.entries q)) t) ∙ ap (λ ks. list_any (is_same_id x) ks) nothing
-      ∙ sym (gone (ids_at m.entries q) (ap (λ k. is_some (ids_at m.entries k)) (sym (is_name-eq name q t)) ∙ none)) ∙ agreed q x
+      ∙ sym (gone (ids_at m.entries q) (ap (λ k. is_some (ids_at m.entries k)) (sym (is_same_name-eq name q t)) ∙ none)) ∙ agreed q x
   by false t = ap (λ o. has_among o x) (u.2 q t) ∙ agreed q x
 
 is_some-cond : {X : Type 0} (b : Bool) (x : X) (o : Option X) → is_some (cond b (Some x) o) ≡ (b || is_some o)
@@ -42,14 +42,14 @@ pub names-joined : (m n : Index) (name : List ℕ) (s : BTreeSet Id) → Updates
     → names_of n.entries ≡ with_name (names_of m.entries) name
 names-joined m n name s u = same_names _ _ (λ q.
     has_name-names_of n.entries q ∙ ap is_some (u.0 q) ∙ is_some-cond (is_same_name name q) s (ids_at m.entries q)
-    ∙ ap (λ b. b || is_some (ids_at m.entries q)) (is_name-symm name q) ∙ ap (λ b. is_same_name q name || b) (sym (has_name-names_of m.entries q))
+    ∙ ap (λ b. b || is_some (ids_at m.entries q)) (is_same_name-symm name q) ∙ ap (λ b. is_same_name q name || b) (sym (has_name-names_of m.entries q))
     ∙ sym (has_name-with_name (names_of m.entries) name q))
 
 -- a consumer that is there already
 pub name-again : (names : Names) (name : List ℕ) → has_name names name ≡ true → with_name names name ≡ names
 name-again names name there = same_names _ _ (λ q. has_name-with_name names name q ∙ by q (is_same_name q name) refl) where
   by : (q : List ℕ) (t : Bool) → is_same_name q name ≡ t → (t || has_name names q) ≡ has_name names q
-  by q true t = sym (ap (has_name names) (is_name-eq q name t) ∙ there)
+  by q true t = sym (ap (has_name names) (is_same_name-eq q name t) ∙ there)
   by q false t = refl
 
 -- ---- a row less
@@ -69,10 +69,10 @@ agreed-taken m n a b id row agreed found h u q x = h q x ∙ by (is_same_id id x
 
   by : (t : Bool) → is_same_id id x ≡ t → (holds a q x && not (is_same_name q row.consumer && is_same_id x id)) ≡ is_owner (indexed_row n.entries x) q
   by true t =
-      let mine : holds a q x ≡ is_same_name q row.consumer = agreed q x ∙ ap (λ o. is_owner o q) (ap (indexed_row m.entries) (sym (is_same-eq id x t)) ∙ found) ∙ is_name-symm row.consumer q in
-      ap (λ c. c && not (is_same_name q row.consumer && is_same_id x id)) mine ∙ ap (λ c. is_same_name q row.consumer && not (is_same_name q row.consumer && c)) (is_same-symm x id ∙ t)
+      let mine : holds a q x ≡ is_same_name q row.consumer = agreed q x ∙ ap (λ o. is_owner o q) (ap (indexed_row m.entries) (sym (is_same_id-eq id x t)) ∙ found) ∙ is_same_name-symm row.consumer q in
+      ap (λ c. c && not (is_same_name q row.consumer && is_same_id x id)) mine ∙ ap (λ c. is_same_name q row.consumer && not (is_same_name q row.consumer && c)) (is_same_id-symm x id ∙ t)
       ∙ nothing (is_same_name q row.consumer) ∙ sym (ap (λ o. is_owner o q) (u.0 x ∙ ap (λ c. cond c None (indexed_row m.entries x)) t))
-  by false t = ap (λ c. holds a q x && not (is_same_name q row.consumer && c)) (is_same-symm x id ∙ t) ∙ undone (holds a q x) (is_same_name q row.consumer) ∙ agreed q x ∙ sym (ap (λ o. is_owner o q) (u.2 x t))
+  by false t = ap (λ c. holds a q x && not (is_same_name q row.consumer && c)) (is_same_id-symm x id ∙ t) ∙ undone (holds a q x) (is_same_name q row.consumer) ∙ agreed q x ∙ sym (ap (λ o. is_owner o q) (u.2 x t))
 
 -- ---- what callers know of a row
 

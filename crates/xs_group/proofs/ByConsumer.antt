@@ -13,18 +13,18 @@ use Rattle.std.proofs.lemmas.Cmp.{tied_itself}
 use Rattle.std.proofs.lemmas.Map.Lookups.{exact_bytes}
 use Rattle.xs_stream.specs.declared.id.Id.{Id}
 use Rattle.xs_stream.specs.Id.{id_cmp, is_same_id, has_id}
-use Rattle.xs_stream.proofs.Order.{equal-from, is_same-symm}
+use Rattle.xs_stream.proofs.Order.{equal-from, is_same_id-symm}
 use Rattle.xs_group.specs.GroupState.{is_same_name}
 use Rattle.xs_group.specs.Indexes.{ids_at, has_among, holds}
 
-pub is_name-eq : (a b : List ℕ) → is_same_name a b ≡ true → a ≡ b
-is_name-eq a b e = exact_bytes a b (equal-from _ e)
+pub is_same_name-eq : (a b : List ℕ) → is_same_name a b ≡ true → a ≡ b
+is_same_name-eq a b e = exact_bytes a b (equal-from _ e)
 
-pub is_name-refl : (a : List ℕ) → is_same_name a a ≡ true
-is_name-refl a = ap is_eq (tied_itself nat_list_cmp_total a)
+pub is_same_name-refl : (a : List ℕ) → is_same_name a a ≡ true
+is_same_name-refl a = ap is_eq (tied_itself nat_list_cmp_total a)
 
-pub is_name-symm : (a b : List ℕ) → is_same_name a b ≡ is_same_name b a
-is_name-symm a b = (eq_by_cmp_equiv nat_list_cmp_total).symm a b
+pub is_same_name-symm : (a b : List ℕ) → is_same_name a b ≡ is_same_name b a
+is_same_name-symm a b = (eq_by_cmp_equiv nat_list_cmp_total).symm a b
 
 abbrev pub Index : Type 0
 Index = BTreeMap (List ℕ) (BTreeSet Id)
@@ -45,7 +45,7 @@ and_turned false false = refl
 pub contains-more : (s w : BTreeSet Id) (id : Id) (a h : Bool) (x : Id) → set.Updates id_cmp s w id true → set.contains id_cmp s x ≡ (a || h)
     → set.contains id_cmp w x ≡ (a || (h || is_same_id x id))
 contains-more s w id a h x v e = v.0 x ∙ or_turned (is_same_id id x) (set.contains id_cmp s x) ∙ ap (λ b. b || is_same_id id x) e
-    ∙ ap (λ b. (a || h) || b) (is_same-symm id x) ∙ or_assoc a h (is_same_id x id)
+    ∙ ap (λ b. (a || h) || b) (is_same_id-symm id x) ∙ or_assoc a h (is_same_id x id)
 
 or_no : (b : Bool) → b ≡ (b || false)
 or_no true = refl
@@ -58,7 +58,7 @@ and_yes false = refl
 module _ (m n : Index) (name : List ℕ) (s w : BTreeSet Id) (e : tree.get (slice_cmp nat_cmp) m name ≡ Some s)
     (u : UpdatesBy (slice_cmp nat_cmp) (slice_cmp nat_cmp name) m n (Some w)) where
   found : (q : List ℕ) → is_same_name name q ≡ true → ids_at m.entries q ≡ Some s
-  found q t = ap (λ k. ids_at m.entries k) (sym (is_name-eq name q t)) ∙ e
+  found q t = ap (λ k. ids_at m.entries k) (sym (is_same_name-eq name q t)) ∙ e
 
   pub names-written : (q : List ℕ) → is_some (ids_at n.entries q) ≡ is_some (ids_at m.entries q)
   names-written q = by (is_same_name name q) refl where
@@ -73,22 +73,22 @@ module _ (m n : Index) (name : List ℕ) (s w : BTreeSet Id) (e : tree.get (slic
     by : (t : Bool) → is_same_name name q ≡ t → holds n.entries q x ≡ (holds m.entries q x || (is_same_name q name && has_id ids x))
     by true t = ap (λ o. has_among o x) (u.0 q ∙ ap (λ b. cond b (Some w) (ids_at m.entries q)) t) ∙ v x
         ∙ ap (λ b. b || has_id ids x) (sym (ap (λ o. has_among o x) (found q t)))
-        ∙ ap (λ b. holds m.entries q x || (b && has_id ids x)) (sym t ∙ is_name-symm name q)
-    by false t = ap (λ o. has_among o x) (u.2 q t) ∙ or_no (holds m.entries q x) ∙ ap (λ b. holds m.entries q x || (b && has_id ids x)) (sym t ∙ is_name-symm name q)
+        ∙ ap (λ b. holds m.entries q x || (b && has_id ids x)) (sym t ∙ is_same_name-symm name q)
+    by false t = ap (λ o. has_among o x) (u.2 q t) ∙ or_no (holds m.entries q x) ∙ ap (λ b. holds m.entries q x || (b && has_id ids x)) (sym t ∙ is_same_name-symm name q)
 
   -- an id less
   pub holds-removed : (id : Id) → set.UpdatesBy id_cmp (id_cmp id) s w false → (q : List ℕ) (x : Id) → holds n.entries q x ≡ (holds m.entries q x && not (is_same_name q name && is_same_id x id))
   holds-removed id v q x = by (is_same_name name q) refl where
     by : (t : Bool) → is_same_name name q ≡ t → holds n.entries q x ≡ (holds m.entries q x && not (is_same_name q name && is_same_id x id))
     by true t = ap (λ o. has_among o x) (u.0 q ∙ ap (λ b. cond b (Some w) (ids_at m.entries q)) t) ∙ v.0 x ∙ and_turned (is_same_id id x) (set.contains id_cmp s x)
-        ∙ ap (λ b. b && not (is_same_id id x)) (sym (ap (λ o. has_among o x) (found q t))) ∙ ap (λ b. holds m.entries q x && not b) (is_same-symm id x)
-        ∙ ap (λ b. holds m.entries q x && not (b && is_same_id x id)) (sym t ∙ is_name-symm name q)
-    by false t = ap (λ o. has_among o x) (u.2 q t) ∙ and_yes (holds m.entries q x) ∙ ap (λ b. holds m.entries q x && not (b && is_same_id x id)) (sym t ∙ is_name-symm name q)
+        ∙ ap (λ b. b && not (is_same_id id x)) (sym (ap (λ o. has_among o x) (found q t))) ∙ ap (λ b. holds m.entries q x && not b) (is_same_id-symm id x)
+        ∙ ap (λ b. holds m.entries q x && not (b && is_same_id x id)) (sym t ∙ is_same_name-symm name q)
+    by false t = ap (λ o. has_among o x) (u.2 q t) ∙ and_yes (holds m.entries q x) ∙ ap (λ b. holds m.entries q x && not (b && is_same_id x id)) (sym t ∙ is_same_name-symm name q)
 
 -- a consumer that isn't there has nothing to lose
 pub holds-absent : (m n : Index) (name : List ℕ) → n ≡ m → tree.get (slice_cmp nat_cmp) m name ≡ None → (id : Id) (q : List ℕ) (x : Id)
     → holds n.entries q x ≡ (holds m.entries q x && not (is_same_name q name && is_same_id x id))
 holds-absent m n name e none id q x = ap (λ (k : Index). holds k.entries q x) e ∙ by (is_same_name q name) refl where
   by : (t : Bool) → is_same_name q name ≡ t → holds m.entries q x ≡ (holds m.entries q x && not (t && is_same_id x id))
-  by true t = let gone : holds m.entries q x ≡ false = ap (λ k. holds m.entries k x) (is_name-eq q name t) ∙ ap (λ o. has_among o x) none in rw gone refl
+  by true t = let gone : holds m.entries q x ≡ false = ap (λ k. holds m.entries k x) (is_same_name-eq q name t) ∙ ap (λ o. has_among o x) none in rw gone refl
   by false t = and_yes (holds m.entries q x)

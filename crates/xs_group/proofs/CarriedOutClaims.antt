@@ -9,7 +9,7 @@ use Rattle.std.specs.declared.cmp.Ordering.TheVariants.{Less, Equal, Greater}
 use Rattle.xs_bytes.specs.SortedMap.{get, change}
 use Rattle.xs_stream.specs.declared.id.Id.{Id}
 use Rattle.xs_stream.specs.Id.{id_cmp, is_same_id, is_below, has_id}
-use Rattle.xs_stream.proofs.Order.{is_same-symm}
+use Rattle.xs_stream.proofs.Order.{is_same_id-symm}
 use Rattle.xs_group.specs.declared.claims.Claim.{Claim}
 use Rattle.xs_group.specs.Claims.{Rule, is_taken, is_hit, without_repeats, from_start, scanned_part, row_after_claim}
 use Rattle.xs_group.specs.Claims.{claimed_row}
@@ -44,11 +44,11 @@ not_kept x (y ∷ ys) = by (is_same_id y x) refl (not_kept x ys) where
   by : (t : Bool) → is_same_id y x ≡ t → has_id (filter (λ y. not (is_same_id y x)) ys) x ≡ false
       → has_id (cond (not t) (y ∷ filter (λ y. not (is_same_id y x)) ys) (filter (λ y. not (is_same_id y x)) ys)) x ≡ false
   by true e rest = rest
-  by false e rest = ap (λ b. b || has_id (filter (λ y. not (is_same_id y x)) ys) x) (is_same-symm x y ∙ e) ∙ rest
+  by false e rest = ap (λ b. b || has_id (filter (λ y. not (is_same_id y x)) ys) x) (is_same_id-symm x y ∙ e) ∙ rest
 
-pub apart-firsts : (ids : List Id) → AreDistinct (without_repeats ids)
-apart-firsts [] = tt
-apart-firsts (x ∷ xs) = (not_kept x (without_repeats xs), apart-filter (λ y. not (is_same_id y x)) (without_repeats xs) (apart-firsts xs))
+pub apart-without_repeats : (ids : List Id) → AreDistinct (without_repeats ids)
+apart-without_repeats [] = tt
+apart-without_repeats (x ∷ xs) = (not_kept x (without_repeats xs), apart-filter (λ y. not (is_same_id y x)) (without_repeats xs) (apart-without_repeats xs))
 
 above-keys : (x : Id) (es : List (Id × RowState)) → T (below_all id_cmp x es) → has_id (map (λ e. e.0) es) x ≡ false
 above-keys x [] h = refl
@@ -80,7 +80,7 @@ module _ (hit : Id → Bool) (limit : ℕ) where
     by false rest = (has-scanned (hits + cond (hit y) 1 0) (seen + 1) y ys a.0, rest)
 
 pub apart-claim : (group : GroupState) (now : ℕ) (rule : Rule) (claim : Claim) → IsClaimOn group now rule claim → AreDistinct claim.take
-apart-claim group now rule claim (inl w) = subst (λ (c : Claim). AreDistinct c.take) (sym w.is) (apart-filter (is_taken group.rows.entries w.present now rule) (without_repeats w.ids) (apart-firsts w.ids))
+apart-claim group now rule claim (inl w) = subst (λ (c : Claim). AreDistinct c.take) (sym w.is) (apart-filter (is_taken group.rows.entries w.present now rule) (without_repeats w.ids) (apart-without_repeats w.ids))
 apart-claim group now rule claim (inr w) =
     let rows = group.rows.entries in
     let hit = is_hit rows w.present now rule in

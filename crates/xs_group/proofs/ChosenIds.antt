@@ -29,9 +29,9 @@ filter-more p (x ∷ xs) id = ap (λ rest. cond (p x) (x ∷ rest) rest) (filter
 
 -- ---- each id at its first place
 
-pub firsts-more : (ids : List Id) (id : Id) → without_repeats (ids ++ id ∷ []) ≡ cond (has_id ids id) (without_repeats ids) (without_repeats ids ++ id ∷ [])
-firsts-more [] id = refl
-firsts-more (x ∷ xs) id = ap (λ rest. x ∷ filter (λ y. not (is_same_id y x)) rest) (firsts-more xs id) ∙ by (has_id xs id) (is_same_id id x) refl where
+pub without_repeats-more : (ids : List Id) (id : Id) → without_repeats (ids ++ id ∷ []) ≡ cond (has_id ids id) (without_repeats ids) (without_repeats ids ++ id ∷ [])
+without_repeats-more [] id = refl
+without_repeats-more (x ∷ xs) id = ap (λ rest. x ∷ filter (λ y. not (is_same_id y x)) rest) (without_repeats-more xs id) ∙ by (has_id xs id) (is_same_id id x) refl where
   by : (h t : Bool) → is_same_id id x ≡ t → x ∷ filter (λ y. not (is_same_id y x)) (cond h (without_repeats xs) (without_repeats xs ++ id ∷ []))
       ≡ cond (t || h) (x ∷ filter (λ y. not (is_same_id y x)) (without_repeats xs)) (x ∷ filter (λ y. not (is_same_id y x)) (without_repeats xs) ++ id ∷ [])
   by true true e = refl

@@ -6,7 +6,7 @@ use Rattle.xs_bytes.specs.SortedMap.{get, has_key}
 use Rattle.xs_stream.specs.declared.id.Id.{Id}
 use Rattle.xs_stream.specs.Id.{is_same_id, is_below, has_id}
 use Rattle.xs_stream.specs.StreamContent.{AllAbove, Ascends, limited}
-use Rattle.xs_stream.proofs.Order.{is_same-eq, below-not_back, below-irrefl, not_above-trans}
+use Rattle.xs_stream.proofs.Order.{is_same_id-eq, below-not_back, below-irrefl, not_above-trans}
 use Rattle.xs_group.specs.GroupState.{RowState, Rows, last_of, with_rows}
 use Rattle.xs_group.specs.Indexes.{AreFree}
 use Rattle.xs_group.specs.ConsistentGroup.{IsUpTo}
@@ -16,7 +16,7 @@ pub above-has : (c : Id) (ids : List Id) → AllAbove c ids → (x : Id) → has
 above-has c [] a x e = absurd (false≢true e)
 above-has c (y ∷ ys) a x e = by (is_same_id x y) refl e (above-has c ys a.1 x) where
   by : (t : Bool) → is_same_id x y ≡ t → (t || has_id ys x) ≡ true → (has_id ys x ≡ true → is_below c x ≡ true) → is_below c x ≡ true
-  by true f e rest = ap (is_below c) (is_same-eq x y f) ∙ a.0
+  by true f e rest = ap (is_below c) (is_same_id-eq x y f) ∙ a.0
   by false f e rest = rest e
 
 pub free-above : (c : Id) (rows : Rows) (ids : List Id) → IsUpTo c rows → AllAbove c ids → AreFree rows ids
@@ -33,7 +33,7 @@ last-up_to : (c : Id) (ids : List Id) → AllAbove c ids → Ascends ids → (x 
 last-up_to c [] a s x e = absurd (false≢true e)
 last-up_to c (y ∷ ys) a s x e = by (is_same_id x y) refl e (last-up_to y ys s.0 s.1 x) where
   by : (t : Bool) → is_same_id x y ≡ t → (t || has_id ys x) ≡ true → (has_id ys x ≡ true → is_below (last_of y ys) x ≡ false) → is_below (last_of y ys) x ≡ false
-  by true f e rest = ap (is_below (last_of y ys)) (is_same-eq x y f) ∙ last-not_below y ys s.0 s.1
+  by true f e rest = ap (is_below (last_of y ys)) (is_same_id-eq x y f) ∙ last-not_below y ys s.0 s.1
   by false f e rest = rest e
 
 pub up_to-later : (c : Id) (ids : List Id) (rows : Rows) → IsUpTo c rows → AllAbove c ids → Ascends ids → IsUpTo (last_of c ids) rows
@@ -82,10 +82,10 @@ ascends-take zero ids a = tt
 ascends-take (suc n) [] a = tt
 ascends-take (suc n) (y ∷ ys) a = (above-take y n ys a.0, ascends-take n ys a.1)
 
-pub delivers-above : (limit : Option ℕ) (c : Id) (ids : List Id) → AllAbove c (limited limit (filter (λ y. is_below c y) ids))
-delivers-above None c ids = filter-above c ids
-delivers-above (Some n) c ids = above-take c n (filter (λ y. is_below c y) ids) (filter-above c ids)
+pub new_ids-above : (limit : Option ℕ) (c : Id) (ids : List Id) → AllAbove c (limited limit (filter (λ y. is_below c y) ids))
+new_ids-above None c ids = filter-above c ids
+new_ids-above (Some n) c ids = above-take c n (filter (λ y. is_below c y) ids) (filter-above c ids)
 
-pub delivers-ascend : (limit : Option ℕ) (c : Id) (ids : List Id) → Ascends ids → Ascends (limited limit (filter (λ y. is_below c y) ids))
-delivers-ascend None c ids a = ascends-filter c ids a
-delivers-ascend (Some n) c ids a = ascends-take n (filter (λ y. is_below c y) ids) (ascends-filter c ids a)
+pub new_ids-ascend : (limit : Option ℕ) (c : Id) (ids : List Id) → Ascends ids → Ascends (limited limit (filter (λ y. is_below c y) ids))
+new_ids-ascend None c ids a = ascends-filter c ids a
+new_ids-ascend (Some n) c ids a = ascends-take n (filter (λ y. is_below c y) ids) (ascends-filter c ids a)

@@ -5,12 +5,12 @@ use Rattle.std.proofs.lemmas.Bool.{false≢true}
 use Rattle.std.specs.BTreeMap.{UpdatesBy}
 use Rattle.xs_stream.specs.declared.id.Id.{Id}
 use Rattle.xs_stream.specs.Id.{id_cmp, is_same_id, has_id}
-use Rattle.xs_stream.proofs.Order.{is_same-eq, is_same-symm}
+use Rattle.xs_stream.proofs.Order.{is_same_id-eq, is_same_id-symm}
 use Rattle.xs_group.specs.Claims.{Rule, claimed_row}
 use Rattle.xs_group.specs.GroupState.{RowState, is_same_name}
 use Rattle.xs_group.specs.Indexes.{ConsumerIndex, holds, is_owner, indexed_row, IsAgreed}
 use Rattle.xs_group.specs.Verdict.{moved, AreAgreedBut, AreSomeOf}
-use Rattle.xs_group.proofs.ByConsumer.{is_name-eq, is_name-symm}
+use Rattle.xs_group.proofs.ByConsumer.{is_same_name-eq, is_same_name-symm}
 use Rattle.xs_group.proofs.Views.{RowMap}
 use Rattle.xs_group.proofs.NewRows.{among-take}
 
@@ -57,7 +57,7 @@ pub one-back : (rows : List (Id × RowState)) (name : List ℕ) (id : Id) (a s :
     → a ≡ (a && not (s && (is_same_id x id && not (is_owner (indexed_row rows x) name))))
 one-back rows name id a s x e = by (is_same_id x id) refl where
   by : (t : Bool) → is_same_id x id ≡ t → a ≡ (a && not (s && (t && not (is_owner (indexed_row rows x) name))))
-  by true f = kept-owner a s true (is_owner (indexed_row rows x) name) (ap (λ k. is_owner (indexed_row rows k) name) (is_same-eq x id f) ∙ e)
+  by true f = kept-owner a s true (is_owner (indexed_row rows x) name) (ap (λ k. is_owner (indexed_row rows k) name) (is_same_id-eq x id f) ∙ e)
   by false f = and-none a s (is_owner (indexed_row rows x) name)
 
 pub one-gone : (rows : List (Id × RowState)) (name : List ℕ) (id : Id) (a s : Bool) (x : Id) → is_owner (indexed_row rows id) name ≡ false
@@ -67,7 +67,7 @@ one-gone rows name id a s x e = by (is_same_id x id) refl where
   none a s o = refl
 
   by : (t : Bool) → is_same_id x id ≡ t → (a && not (s && t)) ≡ (a && not (s && (t && not (is_owner (indexed_row rows x) name))))
-  by true f = lost-owner a s true (is_owner (indexed_row rows x) name) (ap (λ k. is_owner (indexed_row rows k) name) (is_same-eq x id f) ∙ e)
+  by true f = lost-owner a s true (is_owner (indexed_row rows x) name) (ap (λ k. is_owner (indexed_row rows k) name) (is_same_id-eq x id f) ∙ e)
   by false f = none a s (is_owner (indexed_row rows x) name)
 
 -- once all are taken back, the indexes agree
@@ -76,7 +76,7 @@ pub agreed-again : (rows : List (Id × RowState)) (a b : ConsumerIndex) (name : 
 agreed-again rows a b name done ids some but h q x = h q x ∙ ap (λ c. c && not (is_same_name q name && (has_id ids x && not (is_owner (indexed_row rows x) name)))) (but q x)
     ∙ by (is_same_name q name) (has_id done x) (has_id ids x) refl (some x) where
       own : is_same_name q name ≡ true → is_owner (indexed_row rows x) name ≡ is_owner (indexed_row rows x) q
-      own e = ap (is_owner (indexed_row rows x)) (sym (is_name-eq q name e))
+      own e = ap (is_owner (indexed_row rows x)) (sym (is_same_name-eq q name e))
 
       mine : (o p d i : Bool) → p ≡ o → (d ≡ true → i ≡ true) → ((o || d) && not (i && not p)) ≡ o
       mine true true d true e f = refl
@@ -105,10 +105,10 @@ module _ (m n : RowMap) (a b : ConsumerIndex) (name : List ℕ) (id : Id) (rest 
   moved-some row new found whose u h q x =
       h q x ∙ ap (λ c. cond (is_same_name row.consumer name) c (c && not (is_same_name q row.consumer && is_same_id x id))) (but q x) ∙ by (is_same_id x id) refl where
         there : is_same_id x id ≡ true → indexed_row m.entries x ≡ Some row
-        there e = ap (indexed_row m.entries) (is_same-eq x id e) ∙ found
+        there e = ap (indexed_row m.entries) (is_same_id-eq x id e) ∙ found
 
         after : is_same_id x id ≡ true → indexed_row n.entries x ≡ Some new
-        after e = u.0 x ∙ ap (λ t. cond t (Some new) (indexed_row m.entries x)) (is_same-symm id x ∙ e)
+        after e = u.0 x ∙ ap (λ t. cond t (Some new) (indexed_row m.entries x)) (is_same_id-symm id x ∙ e)
 
         aside : (e o s h : Bool) (r : Bool) → cond e (o || (s && h)) ((o || (s && h)) && not (r && false)) ≡ (o || (s && h))
         aside true o s h r = refl
@@ -125,9 +125,9 @@ module _ (m n : RowMap) (a b : ConsumerIndex) (name : List ℕ) (id : Id) (rest 
           by_or : (r : Bool) → (r || true) ≡ true
           by_or true = refl
           by_or false = refl
-        here true true false e f g h = absurd (false≢true (sym g ∙ ap (λ k. is_same_name k name) (sym (is_name-eq row.consumer q f)) ∙ e))
+        here true true false e f g h = absurd (false≢true (sym g ∙ ap (λ k. is_same_name k name) (sym (is_same_name-eq row.consumer q f)) ∙ e))
         here true false false e f g h = refl
-        here false true true e f g h = absurd (false≢true (sym e ∙ ap (λ k. is_same_name k name) (is_name-eq row.consumer q f) ∙ g))
+        here false true true e f g h = absurd (false≢true (sym e ∙ ap (λ k. is_same_name k name) (is_same_name-eq row.consumer q f) ∙ g))
         here false true false e f g h = refl
         here false false true e f g h = refl
         here false false false e f g h = refl
@@ -137,21 +137,21 @@ module _ (m n : RowMap) (a b : ConsumerIndex) (name : List ℕ) (id : Id) (rest 
             ((is_owner (indexed_row m.entries x) q || (is_same_name q name && (t || has_id rest x))) && not (is_same_name q row.consumer && t))
             ≡ (is_owner (indexed_row n.entries x) q || (is_same_name q name && has_id rest x))
         by true e =
-            (λ i. cond (is_same_name row.consumer name) (is_owner (there e i) q || (is_same_name q name && true)) ((is_owner (there e i) q || (is_same_name q name && true)) && not (is_name-symm q row.consumer i && true)))
+            (λ i. cond (is_same_name row.consumer name) (is_owner (there e i) q || (is_same_name q name && true)) ((is_owner (there e i) q || (is_same_name q name && true)) && not (is_same_name-symm q row.consumer i && true)))
             ∙ here (is_same_name row.consumer name) (is_same_name row.consumer q) (is_same_name q name) refl refl refl (has_id rest x)
-            ∙ ap (λ s. s || (is_same_name q name && has_id rest x)) (sym (ap (λ o. is_owner o q) (after e) ∙ ap (λ k. is_same_name k q) whose ∙ is_name-symm name q))
+            ∙ ap (λ s. s || (is_same_name q name && has_id rest x)) (sym (ap (λ o. is_owner o q) (after e) ∙ ap (λ k. is_same_name k q) whose ∙ is_same_name-symm name q))
         by false e = aside (is_same_name row.consumer name) (is_owner (indexed_row m.entries x) q) (is_same_name q name) (has_id rest x) (is_same_name q row.consumer)
-            ∙ ap (λ o. is_owner o q || (is_same_name q name && has_id rest x)) (sym (u.2 x (is_same-symm id x ∙ e)))
+            ∙ ap (λ o. is_owner o q || (is_same_name q name && has_id rest x)) (sym (u.2 x (is_same_id-symm id x ∙ e)))
 
   pub moved-none : indexed_row m.entries id ≡ None → has_id rest id ≡ false
       → ((q : List ℕ) → (x : Id) → holds b q x ≡ (holds a q x && not (is_same_name q name && is_same_id x id)))
       → AreAgreedBut m.entries b name rest
   moved-none none apart h q x = h q x ∙ ap (λ c. c && not (is_same_name q name && is_same_id x id)) (but q x) ∙ by (is_same_id x id) refl where
     gone : is_same_id x id ≡ true → indexed_row m.entries x ≡ None
-    gone e = ap (indexed_row m.entries) (is_same-eq x id e) ∙ none
+    gone e = ap (indexed_row m.entries) (is_same_id-eq x id e) ∙ none
 
     far : is_same_id x id ≡ true → has_id rest x ≡ false
-    far e = ap (has_id rest) (is_same-eq x id e) ∙ apart
+    far e = ap (has_id rest) (is_same_id-eq x id e) ∙ apart
 
     nothing : (s : Bool) → ((false || (s && true)) && not (s && true)) ≡ (false || (s && false))
     nothing true = refl
@@ -180,9 +180,9 @@ pub row-moved : (m n : RowMap) (id : Id) (row : RowState) (name : List ℕ) (now
     → indexed_row n.entries x ≡ cond (is_same_id x id) (option_and_then (moved name now rule (id ∷ []) x) (indexed_row m.entries x)) (indexed_row m.entries x)
 row-moved m n id row name now rule found u x = by (is_same_id x id) refl where
   by : (t : Bool) → is_same_id x id ≡ t → indexed_row n.entries x ≡ cond t (option_and_then (λ r. cond (t || false) (Some (claimed_row name now rule r)) (Some r)) (indexed_row m.entries x)) (indexed_row m.entries x)
-  by true e = u.0 x ∙ ap (λ t. cond t (Some (claimed_row name now rule row)) (indexed_row m.entries x)) (is_same-symm id x ∙ e)
-      ∙ sym (ap (option_and_then (λ r. Some (claimed_row name now rule r))) (ap (indexed_row m.entries) (is_same-eq x id e) ∙ found))
-  by false e = u.2 x (is_same-symm id x ∙ e)
+  by true e = u.0 x ∙ ap (λ t. cond t (Some (claimed_row name now rule row)) (indexed_row m.entries x)) (is_same_id-symm id x ∙ e)
+      ∙ sym (ap (option_and_then (λ r. Some (claimed_row name now rule r))) (ap (indexed_row m.entries) (is_same_id-eq x id e) ∙ found))
+  by false e = u.2 x (is_same_id-symm id x ∙ e)
 
 -- what the rest will still do to the rows is what all do
 pub rows-left : (name : List ℕ) (now : ℕ) (rule : Rule) (id : Id) (rest : List Id) (x : Id) (o p : Option RowState) → has_id rest id ≡ false
@@ -193,7 +193,7 @@ rows-left name now rule id rest x o p apart e = ap (option_and_then (moved name 
       → option_and_then (λ row. cond (has_id rest x) (Some (claimed_row name now rule row)) (Some row)) (cond t (option_and_then (λ row. cond (t || false) (Some (claimed_row name now rule row)) (Some row)) r) r)
       ≡ option_and_then (λ row. cond (t || has_id rest x) (Some (claimed_row name now rule row)) (Some row)) r
   by true f None = refl
-  by true f (Some row) = ap (λ b. cond b (Some (claimed_row name now rule (claimed_row name now rule row))) (Some (claimed_row name now rule row))) (ap (has_id rest) (is_same-eq x id f) ∙ apart)
+  by true f (Some row) = ap (λ b. cond b (Some (claimed_row name now rule (claimed_row name now rule row))) (Some (claimed_row name now rule row))) (ap (has_id rest) (is_same_id-eq x id f) ∙ apart)
   by false f r = refl
 
 pub none-left : (name : List ℕ) (now : ℕ) (rule : Rule) (x : Id) (o : Option RowState) → option_and_then (moved name now rule [] x) o ≡ o

@@ -9,13 +9,13 @@ use Rattle.xs_bytes.specs.SortedMap.{get, remove, change, insert_by}
 use Rattle.xs_bytes.proofs.SortedMaps.{get-insert_by, get-remove}
 use Rattle.xs_stream.specs.declared.id.Id.{Id}
 use Rattle.xs_stream.specs.Id.{id_cmp, is_same_id, has_id}
-use Rattle.xs_stream.proofs.Order.{is_same-symm}
+use Rattle.xs_stream.proofs.Order.{is_same_id-symm}
 use Rattle.xs_group.specs.GroupState.{RowState, Rows, Names, ids_total, is_same_name, has_name, with_name, with_rows}
 use Rattle.xs_group.specs.GroupState.{unless_acked, unless_owned}
 use Rattle.xs_group.specs.Indexes.{rows_of, indexed_row, ConsumerIndex, is_owner, AreFree, IsAgreed, IsNamed}
 use Rattle.xs_group.specs.Indexes.{PendingList}
 use Rattle.xs_group.specs.Verdict.{AreAgreedBut}
-use Rattle.xs_group.proofs.ByConsumer.{is_name-eq, is_name-refl, is_name-symm}
+use Rattle.xs_group.proofs.ByConsumer.{is_same_name-eq, is_same_name-refl, is_same_name-symm}
 use Rattle.xs_group.proofs.ChosenIds.{has-more}
 use Rattle.xs_group.proofs.Views.{RowMap, same_rows, same_names, get-rows_of}
 use Rattle.xs_group.proofs.Agreeing.{has_name-with_name, none-from_free}
@@ -35,7 +35,7 @@ get-with_rows (x ∷ xs) row rows q = get-with_rows xs row (insert_by ids_total 
 -- ---- one id after the other
 
 pub row-put : (m n : RowMap) (id : Id) (v : Option RowState) → UpdatesBy id_cmp (id_cmp id) m n v → (x : Id) → indexed_row n.entries x ≡ cond (is_same_id x id) v (indexed_row m.entries x)
-row-put m n id v u x = u.0 x ∙ ap (λ b. cond b v (indexed_row m.entries x)) (is_same-symm id x)
+row-put m n id v u x = u.0 x ∙ ap (λ b. cond b v (indexed_row m.entries x)) (is_same_id-symm id x)
 
 pub rows-more : (done : List Id) (id x : Id) (v o p : Option RowState) → p ≡ cond (has_id done x) v o → cond (is_same_id x id) v p ≡ cond (has_id (done ++ id ∷ []) x) v o
 rows-more done id x v o p e = ap (cond (is_same_id x id) v) e ∙ cond_or (is_same_id x id) (has_id done x) v o ∙ ap (λ b. cond b v o) (sym (has-more done id x))
@@ -58,7 +58,7 @@ pub agreed-all : (m n : List (Id × RowState)) (b : ConsumerIndex) (name : List 
 agreed-all m n b name ids row whose free but is q x = but q x
     ∙ by (has_id ids x) (λ e. none-from_free m x (free x e)) ∙ sym (ap (λ o. is_owner o q) (is x)) where
       by : (t : Bool) → (t ≡ true → indexed_row m x ≡ None) → (is_owner (indexed_row m x) q || (is_same_name q name && t)) ≡ is_owner (cond t (Some row) (indexed_row m x)) q
-      by true e = ap (λ o. is_owner o q || (is_same_name q name && true)) (e refl) ∙ and-true (is_same_name q name) ∙ is_name-symm q name ∙ ap (λ k. is_same_name k q) (sym whose)
+      by true e = ap (λ o. is_owner o q || (is_same_name q name && true)) (e refl) ∙ and-true (is_same_name q name) ∙ is_same_name-symm q name ∙ ap (λ k. is_same_name k q) (sym whose)
       by false e = ap (λ b. is_owner (indexed_row m x) q || b) (and-false (is_same_name q name)) ∙ or-false (is_owner (indexed_row m x) q)
 
 -- rows that are what they were
@@ -97,7 +97,7 @@ pub out-names : (names : Names) (name : List ℕ) → has_name names name ≡ fa
 out-names names name none = same_names _ _ (λ q. ap is_some (get-remove nat_list_cmp_total (with_name names name) name q)
     ∙ by q (is_same_name q name) refl) where
       by : (q : List ℕ) (t : Bool) → is_same_name q name ≡ t → is_some (cond t None (get (with_name names name) q)) ≡ has_name names q
-      by q true e = sym (ap (has_name names) (is_name-eq q name e) ∙ none)
+      by q true e = sym (ap (has_name names) (is_same_name-eq q name e) ∙ none)
       by q false e = has_name-with_name names name q ∙ ap (λ b. b || has_name names q) e
 
 -- a consumer that isn't there has no rows
@@ -122,7 +122,7 @@ held-back held name named new =
       by false e = refl
 
 pub name-there : (names : Names) (name : List ℕ) → has_name (with_name names name) name ≡ true
-name-there names name = has_name-with_name names name name ∙ ap (λ b. b || has_name names name) (is_name-refl name)
+name-there names name = has_name-with_name names name name ∙ ap (λ b. b || has_name names name) (is_same_name-refl name)
 
 pub was_there : (b : Bool) → false ≡ not b → b ≡ true
 was_there true e = refl

@@ -16,7 +16,7 @@ use Rattle.xs_bytes.proofs.SortedMaps.{get-of_entries}
 use Rattle.xs_stream.specs.declared.id.Id.{Id}
 use Rattle.xs_stream.specs.Id.{id_cmp, is_same_id, is_below, has_id}
 use Rattle.xs_stream.specs.StreamContent.{AllAbove, Ascends}
-use Rattle.xs_stream.proofs.Order.{same_id, is_same-eq}
+use Rattle.xs_stream.proofs.Order.{same_id, is_same_id-eq}
 use Rattle.xs_group.specs.GroupState.{RowState, Rows, ids_total, is_same_name, owned_ids}
 use Rattle.xs_group.specs.Indexes.{rows_of, is_owner}
 use Rattle.xs_group.proofs.Views.{RowMap}
@@ -119,7 +119,7 @@ has_owned name q (e ∷ es) h = by (is_same_id q e.0) (is_same_name e.1.consumer
   by : (t u : Bool) → is_same_id q e.0 ≡ t → is_same_name e.1.consumer name ≡ u → has_id (owned_ids name es) q ≡ is_owner (find id_cmp q es) name
       → has_id (keys_of (cond u (e ∷ filter (λ e. is_same_name e.1.consumer name) es) (filter (λ e. is_same_name e.1.consumer name) es))) q ≡ is_owner (cond t (Some e.1) (find id_cmp q es)) name
   by true true f g rest = ap (λ b. b || has_id (owned_ids name es) q) f ∙ sym g
-  by true false f g rest = ap (has_id (owned_ids name es)) (is_same-eq q e.0 f) ∙ find-below e.0 name es (first _ _ h) ∙ sym g
+  by true false f g rest = ap (has_id (owned_ids name es)) (is_same_id-eq q e.0 f) ∙ find-below e.0 name es (first _ _ h) ∙ sym g
   by false true f g rest = ap (λ b. b || has_id (owned_ids name es) q) f ∙ rest
   by false false f g rest = rest
 

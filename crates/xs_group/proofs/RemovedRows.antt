@@ -11,12 +11,12 @@ use Rattle.xs_bytes.specs.SortedMap.{get, has_key, remove, change, empty}
 use Rattle.xs_bytes.proofs.SortedMaps.{get-change, get-remove, get-empty}
 use Rattle.xs_stream.specs.declared.id.Id.{Id}
 use Rattle.xs_stream.specs.Id.{id_cmp, is_same_id, has_id}
-use Rattle.xs_stream.proofs.Order.{same_id, is_same-symm}
+use Rattle.xs_stream.proofs.Order.{same_id, is_same_id-symm}
 use Rattle.xs_group.specs.GroupState.{RowState, Rows, ids_total, is_same_name, unless_acked, unless_owned}
 use Rattle.xs_group.specs.Indexes.{rows_of, ConsumerIndex, names_of, ids_at, has_among, holds, is_owner, indexed_row}
 use Rattle.xs_group.specs.Indexes.{IsAgreed, IsNamed}
 use Rattle.xs_group.specs.ConsistentGroup.{IsUpTo}
-use Rattle.xs_group.proofs.ByConsumer.{is_name-eq, is_name-symm}
+use Rattle.xs_group.proofs.ByConsumer.{is_same_name-eq, is_same_name-symm}
 use Rattle.xs_group.proofs.Views.{same_rows, same_names, get-rows_of, has_name-names_of}
 
 -- a row as it changes
@@ -85,7 +85,7 @@ module _ (rows new : List (Id × RowState)) (a b : ConsumerIndex) (name : List �
     other : (t : Bool) → is_same_name name q ≡ false → (o : Option RowState) → is_owner o name ≡ t → is_owner o q ≡ is_owner (cond t None o) q
     other false apart o e = refl
     other true apart None e = refl
-    other true apart (Some row) e = ap (λ k. is_same_name k q) (is_name-eq row.consumer name e) ∙ apart
+    other true apart (Some row) e = ap (λ k. is_same_name k q) (is_same_name-eq row.consumer name e) ∙ apart
 
     mine : (t : Bool) → (o : Option RowState) → is_owner o name ≡ t → false ≡ is_owner (cond t None o) name
     mine true o e = refl
@@ -93,12 +93,12 @@ module _ (rows new : List (Id × RowState)) (a b : ConsumerIndex) (name : List �
     mine false (Some row) e = sym e
 
     by : (t : Bool) → is_same_name name q ≡ t → has_among (cond t None (ids_at a q)) x ≡ is_owner (cond (holds a name x) None (indexed_row rows x)) q
-    by true t = mine (holds a name x) (indexed_row rows x) (sym (agreed name x)) ∙ ap (is_owner (cond (holds a name x) None (indexed_row rows x))) (is_name-eq name q t)
+    by true t = mine (holds a name x) (indexed_row rows x) (sym (agreed name x)) ∙ ap (is_owner (cond (holds a name x) None (indexed_row rows x))) (is_same_name-eq name q t)
     by false t = agreed q x ∙ other (holds a name x) t (indexed_row rows x) (sym (agreed name x))
 
 pub names-without : (a b : ConsumerIndex) (name : List ℕ) → ((q : List ℕ) → ids_at b q ≡ cond (is_same_name name q) None (ids_at a q)) → names_of b ≡ remove (names_of a) name
 names-without a b name u = same_names _ _ (λ q. has_name-names_of b q ∙ ap is_some (u q) ∙ some-cond (is_same_name name q) (ids_at a q)
-    ∙ ap (λ t. cond t false (is_some (ids_at a q))) (is_name-symm name q) ∙ ap (cond (is_same_name q name) false) (sym (has_name-names_of a q))
+    ∙ ap (λ t. cond t false (is_some (ids_at a q))) (is_same_name-symm name q) ∙ ap (cond (is_same_name q name) false) (sym (has_name-names_of a q))
     ∙ sym (some-cond (is_same_name q name) (get (names_of a) q)) ∙ sym (ap is_some (get-remove nat_list_cmp_total (names_of a) name q))) where
       some-cond : {X : Type 0} (t : Bool) (o : Option X) → is_some (cond t None o) ≡ cond t false (is_some o)
       some-cond true o = refl
@@ -135,7 +135,7 @@ named-agreed rows a agreed name x e = has_name-names_of a name ∙ by (ids_at a 
 
 -- one row more is out
 pub out-more : (id x : Id) (ids : List Id) (o p : Option RowState) → p ≡ cond (is_same_id id x) None o → cond (has_id ids x) None p ≡ cond (has_id (id ∷ ids) x) None o
-out-more id x ids o p e = ap (cond (has_id ids x) None) e ∙ ap (λ s. cond (has_id ids x) None (cond s None o)) (is_same-symm id x) ∙ by (has_id ids x) (is_same_id x id) where
+out-more id x ids o p e = ap (cond (has_id ids x) None) e ∙ ap (λ s. cond (has_id ids x) None (cond s None o)) (is_same_id-symm id x) ∙ by (has_id ids x) (is_same_id x id) where
   by : (h s : Bool) → cond h None (cond s None o) ≡ cond (s || h) None o
   by true true = refl
   by true false = refl

@@ -28,8 +28,8 @@ use Rattle.xs_group.specs.declared.reports.PendingRow.{PendingRow}
 use Rattle.xs_group.specs.GroupState.{RowState, Rows, is_same_name, idle, owned_ids}
 use Rattle.xs_group.specs.Indexes.{ConsumerIndex, names_of, ids_at, indexed_row}
 use Rattle.xs_group.specs.Report.{first_id, last_id, pending_row, is_of, is_selected}
-use Rattle.xs_group.specs.Listing.{is_told, with_row, rows_among}
-use Rattle.xs_group.proofs.ByConsumer.{Index, is_name-symm, is_name-refl}
+use Rattle.xs_group.specs.Listing.{is_told, with_row, listed_rows}
+use Rattle.xs_group.proofs.ByConsumer.{Index, is_same_name-symm, is_same_name-refl}
 use Rattle.xs_group.proofs.Ordered.{is_sorted-from, first, second}
 use Rattle.xs_group.proofs.Views.{find-lookup}
 use Rattle.xs_group.proofs.Scanning.{AreFound, found-all, found-filter}
@@ -64,7 +64,7 @@ AreHeld owners es = AllByRecursion (λ e. Some e.1 ≡ ids_at owners e.0) es
 
 held-later : (e : List ℕ × BTreeSet Id) (owners es : ConsumerIndex) → T (below_all (slice_cmp nat_cmp) e.0 es) → AreHeld owners es → AreHeld (e ∷ owners) es
 held-later e owners [] b a = tt
-held-later e owners (f ∷ fs) b a = (a.0 ∙ ap (λ t. cond t (Some e.1) (ids_at owners f.0)) (sym (is_name-symm f.0 e.0 ∙ less _ (first _ _ b))), held-later e owners fs (second _ _ b) a.1) where
+held-later e owners (f ∷ fs) b a = (a.0 ∙ ap (λ t. cond t (Some e.1) (ids_at owners f.0)) (sym (is_same_name-symm f.0 e.0 ∙ less _ (first _ _ b))), held-later e owners fs (second _ _ b) a.1) where
   less : (o : Ordering) → T (is_lt o) → is_eq o ≡ false
   less Less p = refl
   less Equal p = absurd p
@@ -72,7 +72,7 @@ held-later e owners (f ∷ fs) b a = (a.0 ∙ ap (λ t. cond t (Some e.1) (ids_a
 
 held-sorted : (owners : ConsumerIndex) → T (is_sorted (slice_cmp nat_cmp) owners) → AreHeld owners owners
 held-sorted [] s = tt
-held-sorted (e ∷ es) s = (ap (λ t. cond t (Some e.1) (ids_at es e.0)) (sym (is_name-refl e.0)), held-later e es es (first _ _ s) (held-sorted es (second _ _ s)))
+held-sorted (e ∷ es) s = (ap (λ t. cond t (Some e.1) (ids_at es e.0)) (sym (is_same_name-refl e.0)), held-later e es es (first _ _ s) (held-sorted es (second _ _ s)))
 
 pub held-all : (m : Index) → IsOrdered (slice_cmp nat_cmp) m → AreHeld m.entries m.entries
 held-all m o = held-sorted m.entries (is_sorted-from (slice_cmp nat_cmp) m.entries o)
@@ -113,14 +113,14 @@ rows-between range min now rows =
 
 -- the rows of the ids in a range
 pub among-between : (range : Range) (rows : List (Id × RowState)) (ids : List Id)
-    → rows_among rows (filter (range_contains id_cmp (Included range.low) (Included range.high)) ids) ≡ filter (λ e. is_within range e.0) (rows_among rows ids)
+    → listed_rows rows (filter (range_contains id_cmp (Included range.low) (Included range.high)) ids) ≡ filter (λ e. is_within range e.0) (listed_rows rows ids)
 among-between range rows [] = refl
 among-between range rows (x ∷ xs) =
     split (range_contains id_cmp (Included range.low) (Included range.high) x)
-    ∙ ap (λ t. cond t (with_row x (indexed_row rows x) (rows_among rows (filter (range_contains id_cmp (Included range.low) (Included range.high)) xs))) (rows_among rows (filter (range_contains id_cmp (Included range.low) (Included range.high)) xs))) (between-within range x)
-    ∙ one (is_within range x) refl (indexed_row rows x) (rows_among rows (filter (range_contains id_cmp (Included range.low) (Included range.high)) xs)) (rows_among rows xs) (among-between range rows xs) where
-      split : (t : Bool) → rows_among rows (cond t (x ∷ filter (range_contains id_cmp (Included range.low) (Included range.high)) xs) (filter (range_contains id_cmp (Included range.low) (Included range.high)) xs))
-          ≡ cond t (with_row x (indexed_row rows x) (rows_among rows (filter (range_contains id_cmp (Included range.low) (Included range.high)) xs))) (rows_among rows (filter (range_contains id_cmp (Included range.low) (Included range.high)) xs))
+    ∙ ap (λ t. cond t (with_row x (indexed_row rows x) (listed_rows rows (filter (range_contains id_cmp (Included range.low) (Included range.high)) xs))) (listed_rows rows (filter (range_contains id_cmp (Included range.low) (Included range.high)) xs))) (between-within range x)
+    ∙ one (is_within range x) refl (indexed_row rows x) (listed_rows rows (filter (range_contains id_cmp (Included range.low) (Included range.high)) xs)) (listed_rows rows xs) (among-between range rows xs) where
+      split : (t : Bool) → listed_rows rows (cond t (x ∷ filter (range_contains id_cmp (Included range.low) (Included range.high)) xs) (filter (range_contains id_cmp (Included range.low) (Included range.high)) xs))
+          ≡ cond t (with_row x (indexed_row rows x) (listed_rows rows (filter (range_contains id_cmp (Included range.low) (Included range.high)) xs))) (listed_rows rows (filter (range_contains id_cmp (Included range.low) (Included range.high)) xs))
       split true = refl
       split false = refl
 
@@ -132,14 +132,14 @@ among-between range rows (x ∷ xs) =
       one false e (Some row) a b r = r ∙ ap (λ t. cond t ((x, row) ∷ filter (λ e. is_within range e.0) b) (filter (λ e. is_within range e.0) b)) (sym e)
 
 pub among-told : (range : Range) (min now : ℕ) (rows : List (Id × RowState)) (ids : List Id)
-    → filter (λ e. leb min (idle now e.1.time)) (rows_among rows (filter (range_contains id_cmp (Included range.low) (Included range.high)) ids))
-    ≡ filter (is_told range min now) (rows_among rows ids)
+    → filter (λ e. leb min (idle now e.1.time)) (listed_rows rows (filter (range_contains id_cmp (Included range.low) (Included range.high)) ids))
+    ≡ filter (is_told range min now) (listed_rows rows ids)
 among-told range min now rows ids = ap (filter (λ e. leb min (idle now e.1.time))) (among-between range rows ids)
-    ∙ filter-filter (λ (e : Id × RowState). is_within range e.0) (λ e. leb min (idle now e.1.time)) (is_told range min now) (λ e. refl) (rows_among rows ids)
+    ∙ filter-filter (λ (e : Id × RowState). is_within range e.0) (λ e. leb min (idle now e.1.time)) (is_told range min now) (λ e. refl) (listed_rows rows ids)
 
-among-found : (rows es : List (Id × RowState)) → AreFound rows es → rows_among rows (keys_of es) ≡ es
+among-found : (rows es : List (Id × RowState)) → AreFound rows es → listed_rows rows (keys_of es) ≡ es
 among-found rows [] a = refl
-among-found rows (e ∷ es) a = (λ i. with_row e.0 (sym (a.0 ∙ find-lookup id_cmp e.0 rows) i) (rows_among rows (keys_of es))) ∙ ap (λ rest. e ∷ rest) (among-found rows es a.1)
+among-found rows (e ∷ es) a = (λ i. with_row e.0 (sym (a.0 ∙ find-lookup id_cmp e.0 rows) i) (listed_rows rows (keys_of es))) ∙ ap (λ rest. e ∷ rest) (among-found rows es a.1)
 
 -- ---- what is asked
 
@@ -150,9 +150,9 @@ asked-all range min now rows = filter-same (is_told range min now) (is_selected 
   yes false = refl
 
 pub asked-owned : (range : Range) (min now : ℕ) (name : List ℕ) (rows : Rows) (ids : List Id) → ids ≡ owned_ids name rows.entries
-    → filter (is_told range min now) (rows_among rows.entries ids) ≡ filter (is_selected range min now (Some name)) rows.entries
+    → filter (is_told range min now) (listed_rows rows.entries ids) ≡ filter (is_selected range min now (Some name)) rows.entries
 asked-owned range min now name rows ids is =
-    ap (λ k. filter (is_told range min now) (rows_among rows.entries k)) is
+    ap (λ k. filter (is_told range min now) (listed_rows rows.entries k)) is
     ∙ ap (filter (is_told range min now)) (among-found rows.entries (filter (λ e. is_same_name e.1.consumer name) rows.entries)
     (found-filter rows.entries rows.entries (λ e. is_same_name e.1.consumer name) (found-all rows.entries rows.sorted)))
     ∙ filter-filter (λ (e : Id × RowState). is_same_name e.1.consumer name) (is_told range min now) (is_selected range min now (Some name))

@@ -10,7 +10,7 @@ use Rattle.std.specs.Ordering.{is_lt, is_eq}
 use Rattle.std.specs.declared.cmp.Ordering.TheVariants.{Less, Equal, Greater}
 use Rattle.xs_stream.specs.declared.id.Id.{Id}
 use Rattle.xs_stream.specs.Id.{id_cmp, is_below}
-use Rattle.xs_stream.proofs.Order.{is_same-symm, is_same-refl, le-not_below}
+use Rattle.xs_stream.proofs.Order.{is_same_id-symm, is_same_id-refl, le-not_below}
 use Rattle.xs_group.specs.declared.claims.Scan.{Scan}
 use Rattle.xs_group.specs.declared.claims.Verdict.{Verdict}
 use Rattle.xs_group.specs.Claims.{Rule, row_at, is_taken, is_removed, is_hit, from_start, prefixes, first_where}
@@ -76,7 +76,7 @@ AreFound rows es = AllByRecursion (λ e. Some e.1 ≡ row_at rows e.0) es
 
 found-later : (e : Id × RowState) (rows es : List (Id × RowState)) → T (below_all id_cmp e.0 es) → AreFound rows es → AreFound (e ∷ rows) es
 found-later e rows [] b a = tt
-found-later e rows (f ∷ fs) b a = (a.0 ∙ ap (λ t. cond t (Some e.1) (row_at rows f.0)) (sym (is_same-symm f.0 e.0 ∙ less _ (first _ _ b))), found-later e rows fs (second _ _ b) a.1) where
+found-later e rows (f ∷ fs) b a = (a.0 ∙ ap (λ t. cond t (Some e.1) (row_at rows f.0)) (sym (is_same_id-symm f.0 e.0 ∙ less _ (first _ _ b))), found-later e rows fs (second _ _ b) a.1) where
   less : (o : Ordering) → T (is_lt o) → is_eq o ≡ false
   less Less p = refl
   less Equal p = absurd p
@@ -84,7 +84,7 @@ found-later e rows (f ∷ fs) b a = (a.0 ∙ ap (λ t. cond t (Some e.1) (row_at
 
 pub found-all : (rows : List (Id × RowState)) → T (is_sorted id_cmp rows) → AreFound rows rows
 found-all [] s = tt
-found-all (e ∷ es) s = (ap (λ t. cond t (Some e.1) (row_at es e.0)) (sym (is_same-refl e.0)), found-later e es es (first _ _ s) (found-all es (second _ _ s)))
+found-all (e ∷ es) s = (ap (λ t. cond t (Some e.1) (row_at es e.0)) (sym (is_same_id-refl e.0)), found-later e es es (first _ _ s) (found-all es (second _ _ s)))
 
 pub found-filter : (rows es : List (Id × RowState)) (p : Id × RowState → Bool) → AreFound rows es → AreFound rows (filter p es)
 found-filter rows [] p a = tt

@@ -5,7 +5,7 @@ use Rattle.std.specs.BTreeMap.{UpdatesBy}
 use Rattle.xs_bytes.specs.SortedMap.{get, change}
 use Rattle.xs_stream.specs.declared.id.Id.{Id}
 use Rattle.xs_stream.specs.Id.{id_cmp, is_same_id, has_id}
-use Rattle.xs_stream.proofs.Order.{is_same-eq, is_same-symm}
+use Rattle.xs_stream.proofs.Order.{is_same_id-eq, is_same_id-symm}
 use Rattle.xs_group.specs.declared.delivery.Touch.{Touch}
 use Rattle.xs_group.specs.declared.delivery.DeliveryRow.{DeliveryRow}
 use Rattle.xs_group.specs.GroupState.{RowState, Rows, redelivered_row, row_after_reread}
@@ -26,30 +26,30 @@ pub rows-touched : (m n : RowMap) (id : Id) (touch : Touch) (row : RowState) →
     → rows_of n.entries ≡ set_one id (Some touch) (rows_of m.entries)
 rows-touched m n id touch row found u = same_rows _ _ (λ q. get-rows_of n.entries q ∙ by q (is_same_id q id) refl ∙ sym (get-changed (touched_at id touch) (rows_of m.entries) q)) where
   there : (q : Id) → is_same_id q id ≡ true → get (rows_of m.entries) q ≡ Some row
-  there q e = get-rows_of m.entries q ∙ ap (indexed_row m.entries) (is_same-eq q id e) ∙ found
+  there q e = get-rows_of m.entries q ∙ ap (indexed_row m.entries) (is_same_id-eq q id e) ∙ found
 
   same : (o : Option RowState) → o ≡ option_and_then (λ r. Some r) o
   same None = refl
   same (Some r) = refl
 
   by : (q : Id) (t : Bool) → is_same_id q id ≡ t → indexed_row n.entries q ≡ option_and_then (touched_at id touch q) (get (rows_of m.entries) q)
-  by q true e = u.0 q ∙ ap (λ b. cond b (Some (with_touch touch row)) (indexed_row m.entries q)) (is_same-symm id q ∙ e)
+  by q true e = u.0 q ∙ ap (λ b. cond b (Some (with_touch touch row)) (indexed_row m.entries q)) (is_same_id-symm id q ∙ e)
       ∙ sym (ap (option_and_then (touched_at id touch q)) (there q e) ∙ ap (λ b. cond b (Some (with_touch touch row)) (Some row)) e)
-  by q false e = u.2 q (is_same-symm id q ∙ e) ∙ sym (get-rows_of m.entries q) ∙ same (get (rows_of m.entries) q)
+  by q false e = u.2 q (is_same_id-symm id q ∙ e) ∙ sym (get-rows_of m.entries q) ∙ same (get (rows_of m.entries) q)
       ∙ ap (λ b. option_and_then (λ r. cond b (Some (with_touch touch r)) (Some r)) (get (rows_of m.entries) q)) (sym e)
 
 pub untouched : (rows : Rows) (id : Id) (touch : Touch) → get rows id ≡ None → rows ≡ set_one id (Some touch) rows
 untouched rows id touch none = sym (change-nothing (touched_at id touch) rows (λ q. by q (is_same_id q id) refl (get rows q) refl)) where
   by : (q : Id) (t : Bool) → is_same_id q id ≡ t → (o : Option RowState) → get rows q ≡ o → option_and_then (touched_at id touch q) o ≡ o
   by q t e None f = refl
-  by q true e (Some row) f = cc (sym f ∙ ap (get rows) (is_same-eq q id e) ∙ none)
+  by q true e (Some row) f = cc (sym f ∙ ap (get rows) (is_same_id-eq q id e) ∙ none)
   by q false e (Some row) f = ap (λ b. cond b (Some (with_touch touch row)) (Some row)) e
 
 pub agreed-touched : (m n : RowMap) (a : ConsumerIndex) (id : Id) (touch : Touch) (row : RowState) → IsAgreed m.entries a → indexed_row m.entries id ≡ Some row
     → UpdatesBy id_cmp (id_cmp id) m n (Some (with_touch touch row)) → IsAgreed n.entries a
 agreed-touched m n a id touch row agreed found u name x = agreed name x ∙ by (is_same_id id x) refl where
   by : (t : Bool) → is_same_id id x ≡ t → is_owner (indexed_row m.entries x) name ≡ is_owner (indexed_row n.entries x) name
-  by true e = ap (λ o. is_owner o name) (ap (indexed_row m.entries) (sym (is_same-eq id x e)) ∙ found)
+  by true e = ap (λ o. is_owner o name) (ap (indexed_row m.entries) (sym (is_same_id-eq id x e)) ∙ found)
       ∙ sym (ap (λ o. is_owner o name) (u.0 x ∙ ap (λ b. cond b (Some (with_touch touch row)) (indexed_row m.entries x)) e))
   by false e = sym (ap (λ o. is_owner o name) (u.2 x e))
 
@@ -82,7 +82,7 @@ get-set_rows now make is (x ∷ xs) rows q =
     get-set_rows now make is xs (set_one (make x).id (touch_set now (make x)) rows) q
     ∙ ap (λ o. cond (has_id xs q) (touched (touch_set now (make q)) o) o) one ∙ by (has_id xs q) (is_same_id q x) where
       same : (t : Bool) → is_same_id q x ≡ t → cond t (touched (touch_set now (make x)) (get rows q)) (get rows q) ≡ cond t (touched (touch_set now (make q)) (get rows q)) (get rows q)
-      same true e = ap (λ k. touched (touch_set now (make k)) (get rows q)) (sym (is_same-eq q x e))
+      same true e = ap (λ k. touched (touch_set now (make k)) (get rows q)) (sym (is_same_id-eq q x e))
       same false e = refl
 
       by : (h t : Bool) → cond h (touched (touch_set now (make q)) (cond t (touched (touch_set now (make q)) (get rows q)) (get rows q))) (cond t (touched (touch_set now (make q)) (get rows q)) (get rows q))

@@ -11,7 +11,7 @@ use Rattle.xs_group.specs.Deliveries.{delivery_of, history_of, new_rows, kind_of
 use Rattle.xs_group.specs.Deliveries.{row_ids, IsDelivered, IsReread, IsMade}
 use Rattle.xs_group.proofs.Agreeing.{name-again}
 use Rattle.xs_group.proofs.NewRows.{held-back, out-again}
-use Rattle.xs_group.proofs.Cursors.{free-above, delivers-above}
+use Rattle.xs_group.proofs.Cursors.{free-above, new_ids-above}
 use Rattle.xs_group.proofs.Touching.{rows-unread}
 
 ids-new_rows : (ids : List Id) → row_ids (new_rows ids) ≡ ids
@@ -47,7 +47,7 @@ module _ (before : GroupState) (law : IsConsistentGroup before) where
   undelivered : (after : GroupState) (d : Delivery) → IsDelivered before after d → undone d after ≡ before
   undelivered after d w =
       let ids = new_ids w.limit before.cursor w.ids in
-      let free = free-above before.cursor before.rows ids law.up_to_cursor (delivers-above w.limit before.cursor w.ids) in
+      let free = free-above before.cursor before.rows ids law.up_to_cursor (new_ids-above w.limit before.cursor w.ids) in
       back d after before.rows (ap (λ (k : Delivery). k.created) w.answered) (ap (λ (k : Delivery). k.cursor_before) w.answered) (ap (λ (g : GroupState). g.consumers) w.left)
       ((λ i. taken_back (w.answered i).kind (w.answered i).rows (w.left i).rows) ∙ by ids free w.noack) where
         by : (ids : List Id) → AreFree before.rows ids → (noack : Bool)

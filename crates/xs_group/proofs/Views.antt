@@ -11,7 +11,7 @@ use Rattle.xs_bytes.specs.SortedMap.{get, remove}
 use Rattle.xs_bytes.proofs.SortedMaps.{get-of_entries, get-remove, same_map}
 use Rattle.xs_stream.specs.declared.id.Id.{Id}
 use Rattle.xs_stream.specs.Id.{id_cmp, is_same_id}
-use Rattle.xs_stream.proofs.Order.{same_id, is_same-symm}
+use Rattle.xs_stream.proofs.Order.{same_id, is_same_id-symm}
 use Rattle.xs_group.specs.GroupState.{RowState, Rows, Names, is_same_name, has_name, ids_total}
 use Rattle.xs_group.specs.Indexes.{rows_of, ConsumerIndex, names_of, ids_at, indexed_row}
 
@@ -68,5 +68,5 @@ abbrev pub RowMap : Type 0
 RowMap = BTreeMap Id RowState
 
 pub rows-remove : (m n : RowMap) (id : Id) → UpdatesBy id_cmp (id_cmp id) m n None → rows_of n.entries ≡ remove (rows_of m.entries) id
-rows-remove m n id u = same_rows _ _ (λ q. get-rows_of n.entries q ∙ u.0 q ∙ ap (λ b. cond b None (indexed_row m.entries q)) (is_same-symm id q)
+rows-remove m n id u = same_rows _ _ (λ q. get-rows_of n.entries q ∙ u.0 q ∙ ap (λ b. cond b None (indexed_row m.entries q)) (is_same_id-symm id q)
     ∙ ap (cond (is_same_id q id) None) (sym (get-rows_of m.entries q)) ∙ sym (get-remove ids_total (rows_of m.entries) id q))

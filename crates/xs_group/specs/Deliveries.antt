@@ -87,7 +87,8 @@ pub record IsReread (before after : GroupState) (delivery : Delivery) : Type 0 w
 
 -- a read of a lawful group left this one, and answered this delivery
 abbrev pub IsMade : GroupState → GroupState → Delivery → Type 0
-IsMade before after delivery = IsConsistentGroup before × (IsDelivered before after delivery ⊎ IsReread before after delivery)
+IsMade before after delivery =
+    IsConsistentGroup before × (IsDelivered before after delivery ⊎ IsReread before after delivery)
 
 -- ---- times and counts that are set
 

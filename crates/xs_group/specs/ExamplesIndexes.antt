@@ -7,7 +7,7 @@ use Rattle.xs_stream.specs.Examples.{at}
 use Rattle.xs_group.specs.declared.delivery.DeliveryKind.TheVariants as kind
 use Rattle.xs_group.specs.Indexes.{ConsumerIndex, rows_of, names_of, has_among, holds, AreFree}
 use Rattle.xs_group.specs.Deliveries.{received, taken_back}
-use Rattle.xs_group.specs.Listing.{owners_told, is_told, rows_told, with_row, rows_among, rows_asked}
+use Rattle.xs_group.specs.Listing.{owners_told, is_told, rows_told, with_row, listed_rows, rows_asked}
 use Rattle.xs_group.specs.Verdict.{AreSomeOf, AreAgreedBut}
 use Rattle.xs_group.specs.ExamplesRead.{pending, three, group, Is}
 use Rattle.xs_group.specs.ExamplesClaims.{row}
@@ -42,7 +42,7 @@ pub record Listed : Type 0 where
   pub no_row :
       with_row (at 9 0) None (pending (at 2 0) (codes "b") 110 2 ∷ []) ≡ pending (at 2 0) (codes "b") 110 2 ∷ []
   pub rows_of_ids :
-      rows_among three (at 3 0 ∷ at 9 0 ∷ at 1 0 ∷ [])
+      listed_rows three (at 3 0 ∷ at 9 0 ∷ at 1 0 ∷ [])
       ≡ pending (at 3 0) (codes "a") 120 1 ∷ pending (at 1 0) (codes "a") 100 1 ∷ []
   pub of_one_consumer :
       rows_asked everything 0 150 9 (Some (codes "a")) three

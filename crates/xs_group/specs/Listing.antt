@@ -27,9 +27,9 @@ with_row x None rest = rest
 with_row x (Some row) rest = (x, row) ∷ rest
 
 -- the rows of these ids
-abbrev pub rows_among : List (Id × RowState) → List Id → List (Id × RowState)
-rows_among rows [] = []
-rows_among rows (x ∷ xs) = with_row x (indexed_row rows x) (rows_among rows xs)
+abbrev pub listed_rows : List (Id × RowState) → List Id → List (Id × RowState)
+listed_rows rows [] = []
+listed_rows rows (x ∷ xs) = with_row x (indexed_row rows x) (listed_rows rows xs)
 
 -- the first of the rows that are asked for
 abbrev pub rows_asked : Range → ℕ → ℕ → ℕ → Option (List ℕ) → List (Id × RowState) → List PendingRow

@@ -162,7 +162,7 @@ pub(crate) fn judge(
 }
 
 /// Each id at its first place.
-pub(crate) fn firsts(alloc: Global, ids: &[Id]) -> Result<Vec<Id>, AllocError>
+pub(crate) fn without_repeats(alloc: Global, ids: &[Id]) -> Result<Vec<Id>, AllocError>
     ensures { IfOk result (λ kept. kept.items ≡ without_repeats ids.now) }
 {
     let mut seen = BTreeSet::new(alloc);

@@ -153,7 +153,7 @@ impl Group {
         ensures err { OnErr result (self.new ≡ self.old) }
     {
         let cursor_before = self.cursor;
-        let ids = self.pending.shown(alloc, consumer, from, limit)?;
+        let ids = self.pending.own_ids(alloc, consumer, from, limit)?;
         let rows = self.pending.shown_rows(alloc, stream, ids.as_slice())?;
         let text = Bytes::from_slice(alloc, consumer.as_slice())?;
         let created = self.pending.add_consumer(alloc, consumer)?;
@@ -189,9 +189,9 @@ impl Group {
         ensures { IfOk result (λ claim. claim
             ≡ claim_by_ids self.now.rows.entries (ids_of stream.now.entries) now rule.now ids.now) }
     {
-        let firsts = claims::firsts(alloc, ids)?;
+        let distinct = claims::without_repeats(alloc, ids)?;
         self.pending
-            .claim_among(alloc, stream, now, rule, firsts.as_slice())
+            .claim_among(alloc, stream, now, rule, distinct.as_slice())
     }
 
     /// What a claim of the pending entries from a start upwards takes and removes, and where the next

@@ -68,7 +68,8 @@ fn take_back_one(rows: &IdIndex, owners: &mut ConsumerIndex, name: &Bytes, id: I
     ensures names { (n : List ℕ) → is_some (ids_at owners.new.entries n) ≡ is_some (ids_at owners.old.entries n) }
     ensures ids { (n : List ℕ) → (x : Id) → holds owners.new.entries n x
         ≡ (holds owners.old.entries n x
-        && not (is_same_name n name.now && (is_same_id x id && not (is_owner (indexed_row rows.now.entries x) name.now)))) }
+        && not (is_same_name n name.now
+        && (is_same_id x id && not (is_owner (indexed_row rows.now.entries x) name.now)))) }
 {
     if is_row_of(rows, name, id) {
         return;

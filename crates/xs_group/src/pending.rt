@@ -148,7 +148,7 @@ impl Pending {
     }
 
     /// The consumer's ids above this one, at most `limit` of them.
-    pub(crate) fn shown(
+    pub(crate) fn own_ids(
         &self,
         alloc: Global,
         name: &Bytes,

@@ -15,7 +15,7 @@ use xs_stream::Moment;
 const GREATEST_COUNT: u64 = 9_223_372_036_854_775_807;
 
 /// One delivery more.
-pub(crate) fn raised(count: u64) -> u64
+pub(crate) fn next_count(count: u64) -> u64
     ensures { result ≡ next_count count }
 {
     if count < GREATEST_COUNT {
@@ -126,5 +126,5 @@ fn claim_count(retry: Option<u64>, just_id: bool, count: u64) -> u64
     if just_id {
         return count;
     }
-    raised(count)
+    next_count(count)
 }

@@ -6,7 +6,7 @@ ghost use Rattle.xs_group.specs.GroupState.{last_of};
 ghost use Rattle.xs_group.specs.Deliveries.{new_rows, touch_set};
 
 use crate::delivery::{DeliveryRow, Touch};
-use crate::pending_entry::raised;
+use crate::pending_entry::next_count;
 use std::alloc::{AllocError, Global};
 use std::ops::Bound;
 use xs_bytes::List;
@@ -101,7 +101,7 @@ pub(crate) fn touch_set(now: &Option<Moment>, row: &DeliveryRow) -> Option<Touch
     match row.before {
         Some(touch) => Some(Touch {
             time: *now,
-            count: raised(touch.count),
+            count: next_count(touch.count),
         }),
         None => None,
     }

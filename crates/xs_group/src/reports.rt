@@ -4,7 +4,7 @@ ghost use Rattle.std.specs.Cmp.Lexicographic.{slice_cmp};
 ghost use Rattle.std.specs.Ordering.{nat_cmp};
 ghost use Rattle.std.specs.Prelude.{IfOk, false, ◌≡◌};
 ghost use Rattle.xs_group.specs.Indexes.{IsAgreed, names_of, rows_of};
-ghost use Rattle.xs_group.specs.Listing.{owners_told, rows_among, rows_told};
+ghost use Rattle.xs_group.specs.Listing.{owners_told, listed_rows, rows_told};
 ghost use Rattle.xs_group.specs.Report.{first_id, last_id, pending_row};
 ghost use Rattle.xs_stream.specs.Id.{is_below};
 
@@ -150,7 +150,7 @@ pub(crate) fn rows_of_ids(
 ) -> Result<Vec<PendingRow>, AllocError>
     requires { is_below range.high range.low ≡ false }
     ensures { IfOk result (λ found. found.items
-        ≡ rows_told range min_idle now limit (rows_among rows.now.entries ids.now.keys)) }
+        ≡ rows_told range min_idle now limit (listed_rows rows.now.entries ids.now.keys)) }
 {
     let mut found = Vec::with_capacity(alloc, FIRST_ROOM.min(limit) as usize)?;
     let within = ids.range((Bound::Included(range.low), Bound::Included(range.high)));

@@ -19,48 +19,48 @@ use Rattle.xs_keys.proofs.JobPlaces.{life_of}
 
 -- ---- entries
 
-given-stays : (now : ℕ) (command : Command) (key : List ℕ) (life : Option (List StreamEvent))
+added-stays : (now : ℕ) (command : Command) (key : List ℕ) (life : Option (List StreamEvent))
     → (option_map_or added_in (key_life_after now command key life) [] ≡ option_map_or added_in life []) ⊎ (adds_or_deletes command key ≡ true)
-given-stays now (Ping message) key life = inl refl
-given-stays now Quit key life = inl refl
-given-stays now (Add add) key life = by (is_same_name key add.key) where
+added-stays now (Ping message) key life = inl refl
+added-stays now Quit key life = inl refl
+added-stays now (Add add) key life = by (is_same_name key add.key) where
   by : (t : Bool) → (option_map_or added_in (cond t (option_map (λ changes. add_entry now add.id add.fields add.trim ∷ changes) (life_or_new add.make life)) life) [] ≡ option_map_or added_in life []) ⊎ (t ≡ true)
   by true = inr refl
   by false = inl refl
-given-stays now (Delete name ids) key life = inl (by (is_same_name key name) life) where
+added-stays now (Delete name ids) key life = inl (by (is_same_name key name) life) where
   by : (t : Bool) (life : Option (List StreamEvent)) → option_map_or added_in (cond t (option_map (λ changes. delete_entries ids ∷ changes) life) life) [] ≡ option_map_or added_in life []
   by true None = refl
   by true (Some changes) = append-nil (added_in changes)
   by false life = refl
-given-stays now (TrimTo name trim) key life = inl (by (is_same_name key name) life) where
+added-stays now (TrimTo name trim) key life = inl (by (is_same_name key name) life) where
   by : (t : Bool) (life : Option (List StreamEvent)) → option_map_or added_in (cond t (option_map (λ changes. trim_entries trim ∷ changes) life) life) [] ≡ option_map_or added_in life []
   by true None = refl
   by true (Some changes) = append-nil (added_in changes)
   by false life = refl
-given-stays now (Len name) key life = inl refl
-given-stays now (Scan scan) key life = inl refl
-given-stays now (GroupCreate create) key life = inl (by (is_same_name key create.key) create.make life) where
+added-stays now (Len name) key life = inl refl
+added-stays now (Scan scan) key life = inl refl
+added-stays now (GroupCreate create) key life = inl (by (is_same_name key create.key) create.make life) where
   by : (t make : Bool) (life : Option (List StreamEvent)) → option_map_or added_in (cond t (life_or_new make life) life) [] ≡ option_map_or added_in life []
   by true true None = refl
   by true false None = refl
   by true make (Some changes) = refl
   by false make life = refl
-given-stays now (GroupDestroy name group) key life = inl refl
-given-stays now (ConsumerCreate name group consumer) key life = inl refl
-given-stays now (ConsumerDelete name group consumer) key life = inl refl
-given-stays now (ReadGroup read) key life = inl refl
-given-stays now (Ack name group ids) key life = inl refl
-given-stays now (Pending name group) key life = inl refl
-given-stays now (PendingRows rows) key life = inl refl
-given-stays now (Claim c) key life = inl refl
-given-stays now (AutoClaim c) key life = inl refl
-given-stays now (DropKeys keys) key life = by (is_listed keys key) where
+added-stays now (GroupDestroy name group) key life = inl refl
+added-stays now (ConsumerCreate name group consumer) key life = inl refl
+added-stays now (ConsumerDelete name group consumer) key life = inl refl
+added-stays now (ReadGroup read) key life = inl refl
+added-stays now (Ack name group ids) key life = inl refl
+added-stays now (Pending name group) key life = inl refl
+added-stays now (PendingRows rows) key life = inl refl
+added-stays now (Claim c) key life = inl refl
+added-stays now (AutoClaim c) key life = inl refl
+added-stays now (DropKeys keys) key life = by (is_listed keys key) where
   by : (t : Bool) → (option_map_or added_in (cond t None life) [] ≡ option_map_or added_in life []) ⊎ (t ≡ true)
   by true = inr refl
   by false = inl refl
 
 pub entries-added : (earlier : History) (e : Event) → EntriesAreAdded earlier e
-entries-added earlier e = λ key. given-stays e.0 e.1 key (key_life earlier key)
+entries-added earlier e = λ key. added-stays e.0 e.1 key (key_life earlier key)
 
 -- ---- groups
 
@@ -80,10 +80,10 @@ starts-behind : (start : GroupStart) (changes : List StreamEvent) (given : List 
 starts-behind Top changes given g id e = e ∙ ap top_of g
 starts-behind (At written) changes given g id e = e
 
-opened-given : (make : Bool) (stream : Option (List StreamEvent)) → option_map_or added_in (life_or_new make stream) [] ≡ option_map_or added_in stream []
-opened-given true None = refl
-opened-given false None = refl
-opened-given make (Some changes) = refl
+opened-added : (make : Bool) (stream : Option (List StreamEvent)) → option_map_or added_in (life_or_new make stream) [] ≡ option_map_or added_in stream []
+opened-added true None = refl
+opened-added false None = refl
+opened-added make (Some changes) = refl
 
 made-at : (create : GroupCreateCommand) (stream : Option (List StreamEvent)) (given : List (Id × List Field)) → option_map_or added_in stream [] ≡ given → (life : GroupLife)
     → option_map (λ changes. life_of (starting_id create.start (top changes)) []) stream ≡ Some life → StartsAt create.start given life.start
@@ -101,7 +101,7 @@ makes-group now (Len name) key group served stream life e = false≢true (ap is_
 makes-group now (Scan scan) key group served stream life e = false≢true (ap is_some e)
 makes-group now (GroupCreate create) key group served stream life e = by (is_same_name key create.key && is_same_name group create.group) e where
   by : (t : Bool) → cond t (new_life create stream) None ≡ Some life → (t ≡ true) × StartsAt create.start (option_map_or added_in stream []) life.start
-  by true f = (refl, made-at create (life_or_new create.make stream) (option_map_or added_in stream []) (opened-given create.make stream) life f)
+  by true f = (refl, made-at create (life_or_new create.make stream) (option_map_or added_in stream []) (opened-added create.make stream) life f)
   by false f = absurd (false≢true (ap is_some f))
 makes-group now (GroupDestroy name g) key group served stream life e = never _ (either-none (is_same_name key name && is_same_name group g) None refl) life e
 makes-group now (ConsumerCreate name g consumer) key group served stream life e = never _ (asked-none now (present_in stream) (create_consumer consumer) (is_same_name key name && is_same_name group g)) life e

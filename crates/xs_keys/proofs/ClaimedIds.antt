@@ -14,7 +14,7 @@ use Rattle.xs_group.specs.GroupState.{RowState, idle, new_ids}
 use Rattle.xs_group.specs.Claims.{Rule, row_at, is_idle, is_taken, is_removed, is_hit, is_enough, prefixes, first_where}
 use Rattle.xs_group.specs.Claims.{without_repeats, scanned_part, from_start, first_or_zero, claim_among}
 use Rattle.xs_group.specs.Verdict.{AreDistinct}
-use Rattle.xs_group.proofs.CarriedOutClaims.{apart-filter, apart-firsts}
+use Rattle.xs_group.proofs.CarriedOutClaims.{apart-filter, apart-without_repeats}
 use Rattle.xs_keys.specs.Terms.{option_map_or, Id, Ascends, AllAbove}
 use Rattle.xs_keys.specs.Life.{greatest}
 use Rattle.xs_keys.specs.GroupAsk.{GroupAsk, read_new, read_own, acknowledge, create_consumer, delete_consumer, claim}
@@ -60,9 +60,9 @@ looks (claim consumer rule ids) now present all = (refl, refl)
 looks (auto_claim consumer rule from limit) now present all = (refl, refl)
 
 -- each id stays once
-pub firsts-has : (ids : List Id) (x : Id) → has_id (without_repeats ids) x ≡ has_id ids x
-firsts-has [] x = refl
-firsts-has (y ∷ ys) x = by (is_same_id x y) refl (firsts-has ys x) where
+pub without_repeats-has : (ids : List Id) (x : Id) → has_id (without_repeats ids) x ≡ has_id ids x
+without_repeats-has [] x = refl
+without_repeats-has (y ∷ ys) x = by (is_same_id x y) refl (without_repeats-has ys x) where
   by : (t : Bool) → is_same_id x y ≡ t → has_id (without_repeats ys) x ≡ has_id ys x → (t || has_id (filter (λ z. not (is_same_id z y)) (without_repeats ys)) x) ≡ (t || has_id ys x)
   by true f rest = refl
   by false f rest = has_id-where (λ z. not (is_same_id z y)) (without_repeats ys) x ∙ (λ i. not (f i) && rest i)
@@ -177,7 +177,7 @@ looked-asked (read_own consumer limit from) now present all are x h = absurd (fa
 looked-asked (acknowledge ids) now present all are x h = absurd (false≢true h)
 looked-asked (create_consumer consumer) now present all are x h = absurd (false≢true h)
 looked-asked (delete_consumer consumer) now present all are x h = absurd (false≢true h)
-looked-asked (claim consumer rule ids) now present all are x h = or_left (has_id ids x) false (sym (firsts-has ids x) ∙ h)
+looked-asked (claim consumer rule ids) now present all are x h = or_left (has_id ids x) false (sym (without_repeats-has ids x) ∙ h)
 looked-asked (auto_claim consumer rule from limit) now present all are x h = part-come all are now present consumer rule from limit x h
 
 asked-looked : (ask : GroupAsk) (now : ℕ) (present : List Id) (all : List (Id × RowState)) → AreRows all → (x : Id) → has_id (map (λ e. e.0) all) x ≡ true
@@ -188,7 +188,7 @@ asked-looked (read_own consumer limit from) now present all are x row h = h
 asked-looked (acknowledge ids) now present all are x row h = h
 asked-looked (create_consumer consumer) now present all are x row h = h
 asked-looked (delete_consumer consumer) now present all are x row h = h
-asked-looked (claim consumer rule ids) now present all are x row h = firsts-has ids x ∙ or_false (has_id ids x) h
+asked-looked (claim consumer rule ids) now present all are x row h = without_repeats-has ids x ∙ or_false (has_id ids x) h
 asked-looked (auto_claim consumer rule from limit) now present all are x row h = come-part all are now present consumer rule from limit x row h
 
 ascends-apart : (ids : List Id) → Ascends ids → AreDistinct ids
@@ -202,7 +202,7 @@ looked-apart (read_own consumer limit from) now present all are = tt
 looked-apart (acknowledge ids) now present all are = tt
 looked-apart (create_consumer consumer) now present all are = tt
 looked-apart (delete_consumer consumer) now present all are = tt
-looked-apart (claim consumer rule ids) now present all are = apart-firsts ids
+looked-apart (claim consumer rule ids) now present all are = apart-without_repeats ids
 looked-apart (auto_claim consumer rule from limit) now present all are =
     ascends-apart (part all are now present consumer rule from limit)
     (ascends-first (part all are now present consumer rule from limit) (begins all are now present consumer rule from limit).0 (ascend all are now present consumer rule from limit))

@@ -19,13 +19,13 @@ use Rattle.xs_stream.specs.ConsistentStream.{IsConsistentStream}
 use Rattle.xs_group.specs.ConsistentGroup.{IsConsistentGroup}
 use Rattle.xs_group.specs.Indexes.{is_owner}
 use Rattle.xs_keys.specs.ConsistentContent.{IsConsistentKey, IsConsistentContent}
-use Rattle.xs_keys.proofs.Streams.{ascends-live, up_to-live}
+use Rattle.xs_keys.proofs.Streams.{ascends-present, up_to-present}
 use Rattle.xs_keys.proofs.GroupRows.{row_ids}
 use Rattle.xs_keys.proofs.GroupSteps.{up_to-rows}
 use Rattle.xs_keys.proofs.Deliveries.{PresentAscends, ascends-delivered}
 use Rattle.xs_keys.proofs.Histories.{MeetsAscending, meets-life}
 use Rattle.xs_keys.proofs.Owners.{row-found}
-use Rattle.xs_keys.proofs.NameMaps.{is_name-refl, is_name-eq}
+use Rattle.xs_keys.proofs.NameMaps.{is_same_name-refl, is_same_name-eq}
 use Rattle.xs_keys.proofs.IdsAtEvents.{up_to-has}
 use Rattle.xs_keys.proofs.ClaimedIds.{row-listed}
 use Rattle.xs_group.specs.Claims.{Rule, row_at, claim_by_ids, scan_of, claimed_row}
@@ -59,7 +59,7 @@ module _ (past : List GroupEvent) (now : ℕ) (present : List Id) (a : Id) (es :
       → (row : RowState) → cond d (cond noack None (Some (first_row consumer now))) r ≡ Some row
       → cond (is_same_name row.consumer consumer) true (is_consumer past row.consumer) ≡ true
   of-new consumer limit true true r h row e = absurd (false≢true (ap is_some e))
-  of-new consumer limit false true r h row e = ap (λ n. cond (is_same_name n consumer) true (is_consumer past n)) (sym (ap (λ o. o.consumer) (same_Some (first_row consumer now) row e))) ∙ ap (λ b. cond b true (is_consumer past consumer)) (is_name-refl consumer)
+  of-new consumer limit false true r h row e = ap (λ n. cond (is_same_name n consumer) true (is_consumer past n)) (sym (ap (λ o. o.consumer) (same_Some (first_row consumer now) row e))) ∙ ap (λ b. cond b true (is_consumer past consumer)) (is_same_name-refl consumer)
   of-new consumer limit noack false r h row e = still false (is_same_name row.consumer consumer) (is_consumer past row.consumer) refl (h row e)
 
   of-own : (consumer : List ℕ) (b : Bool) (r : Option RowState) → IsOfConsumers past r → (row : RowState)
@@ -89,7 +89,7 @@ module _ (past : List GroupEvent) (now : ℕ) (present : List Id) (a : Id) (es :
       → cond (is_same_name row.consumer consumer) true (is_consumer past row.consumer) ≡ true
   of-claim consumer rule gone taken None h row e = absurd (false≢true (ap is_some e))
   of-claim consumer rule true taken (Some o) h row e = absurd (false≢true (ap is_some e))
-  of-claim consumer rule false true (Some o) h row e = ap (λ n. cond (is_same_name n consumer) true (is_consumer past n)) (sym (ap (λ p. p.consumer) (same_Some (claimed_row consumer now rule o) row e))) ∙ ap (λ b. cond b true (is_consumer past consumer)) (is_name-refl consumer)
+  of-claim consumer rule false true (Some o) h row e = ap (λ n. cond (is_same_name n consumer) true (is_consumer past n)) (sym (ap (λ p. p.consumer) (same_Some (claimed_row consumer now rule o) row e))) ∙ ap (λ b. cond b true (is_consumer past consumer)) (is_same_name-refl consumer)
   of-claim consumer rule false false (Some o) h row e = still false (is_same_name row.consumer consumer) (is_consumer past row.consumer) refl (h row e)
 
   of-asked : (ask : GroupAsk) (r : Option RowState) → IsOfConsumers past r → IsOfConsumers (record { now = now; present = present; ask = ask } ∷ past) (row_after_ask ask now present a es x r)
@@ -123,7 +123,7 @@ consistent-group g life h asc = record {
   named : (name : List ℕ) (x : Id) → is_owner (get g.rows x) name ≡ true → (r : Option RowState) → get g.rows x ≡ r → has_name g.consumers name ≡ true
   named name x owned None e = absurd (false≢true (sym (ap (λ r. is_owner r name) e) ∙ owned))
   named name x owned (Some row) e =
-      ap (has_name g.consumers) (sym (is_name-eq row.consumer name (sym (ap (λ r. is_owner r name) e) ∙ owned)))
+      ap (has_name g.consumers) (sym (is_same_name-eq row.consumer name (sym (ap (λ r. is_owner r name) e) ∙ owned)))
       ∙ h.consumers_are row.consumer
       ∙ of-consumers life.start life.events x row (sym (row-found life.start life.events x) ∙ ap (λ es. row_at es x) (sym h.rows_are) ∙ e)
 
@@ -133,7 +133,7 @@ consistent-held None life h asc g e = absurd (false≢true (ap is_some e))
 consistent-held (Some s) None h asc g e = absurd h
 
 consistent-stream : (changes : List StreamEvent) → IsConsistentStream (stream_of changes)
-consistent-stream changes = record { ascends = ascends-live changes; up_to_top = up_to-live changes }
+consistent-stream changes = record { ascends = ascends-present changes; up_to_top = up_to-present changes }
 
 consistent-key : (k : Option KeyState) (stream : Option (List StreamEvent)) (lives : List ℕ → Option GroupLife) → KeyHolds k stream lives → ((g : List ℕ) → MeetsAscending (lives g)) → (key : KeyState) → k ≡ Some key → IsConsistentKey key
 consistent-key None stream lives h asc key e = absurd (false≢true (ap is_some e))

@@ -19,8 +19,8 @@ use Rattle.xs_keys.specs.Content.{KeyState, Content, IsGroup, GroupHolds, KeyHol
 use Rattle.xs_keys.specs.ContentAfter.{new_key, key_or_new, stream_after, key_after, after_stream_event}
 use Rattle.xs_keys.specs.ContentAfter.{without_keys, group_after, with_group, after_ask, after_create}
 use Rattle.xs_keys.specs.ContentAfter.{group_in, has_all_groups_in, after_reads, content_after}
-use Rattle.xs_keys.proofs.NameMaps.{is_name-eq, get-insert, get-remove, same_map, same_names}
-use Rattle.xs_keys.proofs.Streams.{stream-step, ascends-live}
+use Rattle.xs_keys.proofs.NameMaps.{is_same_name-eq, get-insert, get-remove, same_map, same_names}
+use Rattle.xs_keys.proofs.Streams.{stream-step, ascends-present}
 use Rattle.xs_keys.proofs.GroupSteps.{group-step, group-new}
 
 -- groups by name, and their lives
@@ -50,7 +50,7 @@ holds-new change lives h = (sym (stream-step change []), no_groups lives h)
 
 holds-changed : (c : Content) (name : List ℕ) (change : StreamEvent) (key : Option KeyState) (life : Option (List StreamEvent)) (lives : List ℕ → Option GroupLife) (q : List ℕ)
     → get c name ≡ key → KeyHolds key life lives → is_same_name q name ≡ true → KeyHolds (get (after_stream_event c name change key) q) (option_map (λ changes. change ∷ changes) life) lives
-holds-changed c name change None None lives q e h same = rw (is_name-eq q name same, e) h
+holds-changed c name change None None lives q e h same = rw (is_same_name-eq q name same, e) h
 holds-changed c name change (Some key) (Some changes) lives q e h same = rw (get-insert c name (key_after change key) q, same) (holds-change change key changes lives h)
 holds-changed c name change None (Some changes) lives q e h same = absurd h
 holds-changed c name change (Some key) None lives q e h same = absurd h
@@ -63,7 +63,7 @@ changed-other c name change (Some key) q other = rw (get-insert c name (key_afte
 holds-addition : (c : Content) (name : List ℕ) (change : StreamEvent) (make : Bool) (key : Option KeyState) (life : Option (List StreamEvent)) (lives : List ℕ → Option GroupLife) (q : List ℕ)
     → get c name ≡ key → KeyHolds key life lives → is_same_name q name ≡ true → KeyHolds (get (after_stream_event c name change (key_or_new make key)) q) (option_map (λ changes. change ∷ changes) (life_or_new make life)) lives
 holds-addition c name change true None None lives q e h same = rw (get-insert c name (key_after change new_key) q, same) (holds-new change lives h)
-holds-addition c name change false None None lives q e h same = rw (is_name-eq q name same, e) h
+holds-addition c name change false None None lives q e h same = rw (is_same_name-eq q name same, e) h
 holds-addition c name change make (Some key) (Some changes) lives q e h same = rw (get-insert c name (key_after change key) q, same) (holds-change change key changes lives h)
 holds-addition c name change make None (Some changes) lives q e h same = absurd h
 holds-addition c name change make (Some key) None lives q e h same = absurd h
@@ -98,7 +98,7 @@ unasked : (groups : NameMap GroupState) (lives : List ℕ → Option GroupLife) 
 unasked groups lives group now present ask h none = λ g. by g (is_same_name g group) refl where
   by : (g : List ℕ) (t : Bool) → is_same_name g group ≡ t → GroupHolds (get groups g) (cond t (life_after_ask now present ask (lives g)) (lives g))
   by g true e =
-      let gone : get groups g ≡ None = ap (get groups) (is_name-eq g group e) ∙ none in
+      let gone : get groups g ≡ None = ap (get groups) (is_same_name-eq g group e) ∙ none in
       subst (λ s. GroupHolds s (life_after_ask now present ask (lives g))) (sym gone) (no_ask (lives g) now present ask (subst (λ s. GroupHolds s (lives g)) gone (h g)))
   by g false e = h g
 
@@ -106,7 +106,7 @@ asks-groups : (groups : NameMap GroupState) (lives : List ℕ → Option GroupLi
     → get groups group ≡ Some s → GroupsHold (insert groups group (group_after now present ask s)) (λ g. cond (is_same_name g group) (life_after_ask now present ask (lives g)) (lives g))
 asks-groups groups lives group s now present asc ask h is = λ g. subst (λ x. GroupHolds x (cond (is_same_name g group) (life_after_ask now present ask (lives g)) (lives g))) (sym (get-insert groups group (group_after now present ask s) g)) (by g (is_same_name g group) refl) where
   by : (g : List ℕ) (t : Bool) → is_same_name g group ≡ t → GroupHolds (cond t (Some (group_after now present ask s)) (get groups g)) (cond t (life_after_ask now present ask (lives g)) (lives g))
-  by g true e = holds-asked s (lives g) now present asc ask (subst (λ x. GroupHolds x (lives g)) (ap (get groups) (is_name-eq g group e) ∙ is) (h g))
+  by g true e = holds-asked s (lives g) now present asc ask (subst (λ x. GroupHolds x (lives g)) (ap (get groups) (is_same_name-eq g group e) ∙ is) (h g))
   by g false e = h g
 
 abbrev asked_group : Content → ℕ → List ℕ → List ℕ → GroupAsk → KeyState → Option GroupState → Content
@@ -121,16 +121,16 @@ asks-key : (c : Content) (now : ℕ) (name group : List ℕ) (ask : GroupAsk) (k
     → get key.groups group ≡ s → get c name ≡ Some key → is_same_name q name ≡ true → KeyHolds (Some key) (Some changes) lives
     → KeyHolds (get (asked_group c now name group ask key s) q) (Some changes) (λ g. cond (is_same_name g group) (life_after_ask now (ids_of key.stream.entries) ask (lives g)) (lives g))
 asks-key c now name group ask key changes lives None q none is same h =
-    rw (is_name-eq q name same, is) (h.0, unasked key.groups lives group now (ids_of key.stream.entries) ask h.1 none)
+    rw (is_same_name-eq q name same, is) (h.0, unasked key.groups lives group now (ids_of key.stream.entries) ask h.1 none)
 asks-key c now name group ask key changes lives (Some s) q found is same h =
-    let asc : Ascends (ids_of key.stream.entries) = subst (λ k. Ascends (ids_of k.entries)) (sym h.0) (ascends-live changes) in
+    let asc : Ascends (ids_of key.stream.entries) = subst (λ k. Ascends (ids_of k.entries)) (sym h.0) (ascends-present changes) in
     rw (get-insert c name (with_group key group (group_after now (ids_of key.stream.entries) ask s)) q, same)
     (h.0, asks-groups key.groups lives group s now (ids_of key.stream.entries) asc ask h.1 found)
 
 asks-here : (c : Content) (now : ℕ) (name group : List ℕ) (ask : GroupAsk) (key : Option KeyState) (stream : Option (List StreamEvent)) (lives : List ℕ → Option GroupLife) (q : List ℕ)
     → get c name ≡ key → is_same_name q name ≡ true → KeyHolds key stream lives
     → KeyHolds (get (asked_key c now name group ask key) q) stream (λ g. cond (is_same_name g group) (life_after_ask now (present_in stream) ask (lives g)) (lives g))
-asks-here c now name group ask None None lives q none same h = rw (is_name-eq q name same, none) (λ g. by g (is_same_name g group)) where
+asks-here c now name group ask None None lives q none same h = rw (is_same_name-eq q name same, none) (λ g. by g (is_same_name g group)) where
   by : (g : List ℕ) (t : Bool) → GroupHolds None (cond t (life_after_ask now [] ask (lives g)) (lives g))
   by g true = no_ask (lives g) now [] ask (h g)
   by g false = h g
@@ -156,7 +156,7 @@ pub holds-ask : (c : Content) (streams : List ℕ → Option (List StreamEvent))
 holds-ask c streams lives now name group ask h = λ q. by q (is_same_name q name) refl where
   by : (q : List ℕ) (t : Bool) → is_same_name q name ≡ t
       → KeyHolds (get (after_ask c now name group ask) q) (streams q) (λ g. cond (t && is_same_name g group) (life_after_ask now (present_in (streams q)) ask (lives q g)) (lives q g))
-  by q true e = asks-here c now name group ask (get c name) (streams q) (lives q) q refl e (subst (λ n. KeyHolds (get c n) (streams q) (lives q)) (is_name-eq q name e) (h q))
+  by q true e = asks-here c now name group ask (get c name) (streams q) (lives q) q refl e (subst (λ n. KeyHolds (get c n) (streams q) (lives q)) (is_same_name-eq q name e) (h q))
   by q false e = subst (λ k. KeyHolds k (streams q) (lives q)) (sym (asked-other c now name group ask (get c name) q e)) (h q)
 
 -- ---- reads
@@ -213,7 +213,7 @@ begins : (groups : NameMap GroupState) (lives : List ℕ → Option GroupLife) (
 begins groups lives create stream start h none opens = λ g. subst (λ x. GroupHolds x (cond (is_same_name g create.group) (option_or (lives g) (new_life create stream)) (lives g))) (sym (get-insert groups create.group (new_group start) g)) (by g (is_same_name g create.group) refl) where
   by : (g : List ℕ) (t : Bool) → is_same_name g create.group ≡ t → GroupHolds (cond t (Some (new_group start)) (get groups g)) (cond t (option_or (lives g) (new_life create stream)) (lives g))
   by g true e =
-      let gone : lives g ≡ None = no_life (lives g) (subst (λ s. GroupHolds s (lives g)) (ap (get groups) (is_name-eq g create.group e) ∙ none) (h g)) in
+      let gone : lives g ≡ None = no_life (lives g) (subst (λ s. GroupHolds s (lives g)) (ap (get groups) (is_same_name-eq g create.group e) ∙ none) (h g)) in
       subst (GroupHolds (Some (new_group start))) (sym (ap (λ l. option_or l (new_life create stream)) gone ∙ opens)) (group-new start)
   by g false e = h g
 
@@ -227,7 +227,7 @@ stays groups lives create stream s h is = λ g. by g (is_same_name g create.grou
   open_life None l e h = absurd (false≢true e)
 
   by : (g : List ℕ) (t : Bool) → is_same_name g create.group ≡ t → GroupHolds (get groups g) (cond t (option_or (lives g) (new_life create stream)) (lives g))
-  by g true e = open_life (get groups g) (lives g) (ap (λ n. is_some (get groups n)) (is_name-eq g create.group e) ∙ ap is_some is) (h g)
+  by g true e = open_life (get groups g) (lives g) (ap (λ n. is_some (get groups n)) (is_same_name-eq g create.group e) ∙ ap is_some is) (h g)
   by g false e = h g
 
 makes : (c : Content) (create : GroupCreateCommand)
@@ -245,7 +245,7 @@ creates-key : (c : Content) (create : GroupCreateCommand) (key : KeyState) (chan
     → get key.groups create.group ≡ s → get c create.key ≡ Some key → is_same_name q create.key ≡ true → KeyHolds (Some key) (Some changes) lives
     → KeyHolds (get (cond (is_some s) c (insert c create.key (with_group key create.group (new_group (starting_id create.start key.stream.top))))) q)
     (Some changes) (λ g. cond (is_same_name g create.group) (option_or (lives g) (new_life create (Some changes))) (lives g))
-creates-key c create key changes lives (Some s) q found is same h = rw (is_name-eq q create.key same, is) (h.0, stays key.groups lives create (Some changes) s h.1 found)
+creates-key c create key changes lives (Some s) q found is same h = rw (is_same_name-eq q create.key same, is) (h.0, stays key.groups lives create (Some changes) s h.1 found)
 creates-key c create key changes lives None q none is same h =
     rw (get-insert c create.key (with_group key create.group (new_group (starting_id create.start key.stream.top))) q, same)
     (h.0, begins key.groups lives create (Some changes) (starting_id create.start key.stream.top) h.1 none (ap (λ k. Some (record { start = starting_id create.start k.top; events = [] })) (sym h.0)))
@@ -260,7 +260,7 @@ creates-here c create true m None None lives q none same h =
     (refl, begins empty lives create None (starting_id create.start new_key.stream.top) (no_groups lives h) (get-empty _ create.group) (opens_new create m))
 creates-here c create false m None None lives q none same h =
     subst (λ k. KeyHolds k None (λ g. cond (is_same_name g create.group) (option_or (lives g) (new_life create None)) (lives g)))
-    (sym (ap (get c) (is_name-eq q create.key same) ∙ none)) (λ g. by g (is_same_name g create.group)) where
+    (sym (ap (get c) (is_same_name-eq q create.key same) ∙ none)) (λ g. by g (is_same_name g create.group)) where
       by : (g : List ℕ) (t : Bool) → GroupHolds None (cond t (option_or (lives g) (new_life create None)) (lives g))
       by g true = subst (GroupHolds None) (sym (ap (λ l. option_or l (new_life create None)) (no_life (lives g) (h g)) ∙ opens_none create m)) tt
       by g false = h g
@@ -287,7 +287,7 @@ ends groups lives group h = λ g. subst (λ x. GroupHolds x (cond (is_same_name 
 
 destroys-here : (c : Content) (name group : List ℕ) (key : Option KeyState) (stream : Option (List StreamEvent)) (lives : List ℕ → Option GroupLife) (q : List ℕ)
     → get c name ≡ key → is_same_name q name ≡ true → KeyHolds key stream lives → KeyHolds (get (without_group c name group key) q) stream (λ g. cond (is_same_name g group) None (lives g))
-destroys-here c name group None None lives q none same h = rw (is_name-eq q name same, none) (λ g. by g (is_same_name g group)) where
+destroys-here c name group None None lives q none same h = rw (is_same_name-eq q name same, none) (λ g. by g (is_same_name g group)) where
   by : (g : List ℕ) (t : Bool) → GroupHolds None (cond t None (lives g))
   by g true = tt
   by g false = h g
@@ -308,7 +308,7 @@ module _ (c : Content) (past : History) (h : IsContent c past) (q : List ℕ) wh
 
   -- what holds of a key holds of it under another name
   at_name : (name : List ℕ) → is_same_name q name ≡ true → KeyHolds (get c name) (key_life past q) (λ g. group_life past q g)
-  at_name name same = subst (λ n. KeyHolds (get c n) (key_life past q) (λ g. group_life past q g)) (is_name-eq q name same) (h q)
+  at_name name same = subst (λ n. KeyHolds (get c n) (key_life past q) (λ g. group_life past q g)) (is_same_name-eq q name same) (h q)
 
   step-changed : (name : List ℕ) (change : StreamEvent)
       → KeyHolds (get (after_stream_event c name change (get c name)) q) (cond (is_same_name q name) (option_map (λ changes. change ∷ changes) (key_life past q)) (key_life past q)) (λ g. group_life past q g)

@@ -8,8 +8,8 @@ use Rattle.xs_keys.specs.GroupAsk.{auto_claim, new_ids_of_ask}
 use Rattle.xs_keys.specs.GroupEvent.{GroupEvent, delivered_ids, cursor, new_ids_of_event}
 use Rattle.xs_keys.specs.EachDelivery.{HadItsTurn}
 use Rattle.xs_keys.proofs.Truths.{none_or, or_none}
-use Rattle.xs_keys.proofs.IdLists.{above-delivers, ascends-delivers, ascends-append, above-lower, not_above}
-use Rattle.xs_keys.proofs.IdLists.{has_id-append, delivers-up_to, above-append, not_among}
+use Rattle.xs_keys.proofs.IdLists.{above-new_ids, ascends-new_ids, ascends-append, above-lower, not_above}
+use Rattle.xs_keys.proofs.IdLists.{has_id-append, new_ids-up_to, above-append, not_among}
 use Rattle.xs_keys.proofs.Streams.{greatest-up}
 use Rattle.xs_keys.proofs.GroupSteps.{up_to-delivered, cursor-step}
 
@@ -19,7 +19,7 @@ PresentAscends [] = Unit {0}
 PresentAscends (event ∷ past) = Ascends event.present × PresentAscends past
 
 above-asked : (ask : GroupAsk) (present : List Id) (a : Id) → AllAbove a (new_ids_of_ask ask present a)
-above-asked (read_new consumer limit noack) present a = above-delivers limit a present
+above-asked (read_new consumer limit noack) present a = above-new_ids limit a present
 above-asked (read_own consumer limit from) present a = tt
 above-asked (acknowledge ids) present a = tt
 above-asked (create_consumer consumer) present a = tt
@@ -28,7 +28,7 @@ above-asked (claim consumer rule ids) present a = tt
 above-asked (auto_claim consumer rule start limit) present a = tt
 
 ascends-asked : (ask : GroupAsk) (present : List Id) (a : Id) → Ascends present → Ascends (new_ids_of_ask ask present a)
-ascends-asked (read_new consumer limit noack) present a h = ascends-delivers limit a present h
+ascends-asked (read_new consumer limit noack) present a h = ascends-new_ids limit a present h
 ascends-asked (read_own consumer limit from) present a h = tt
 ascends-asked (acknowledge ids) present a h = tt
 ascends-asked (create_consumer consumer) present a h = tt
@@ -62,7 +62,7 @@ past-start start (event ∷ past) =
 -- an id that the cursor passes at an event is delivered exactly where it is in the stream
 exactly-at : (ask : GroupAsk) (present : List Id) (a x : Id) → Ascends present → is_below a x ≡ true → is_below (greatest a (new_ids_of_ask ask present a)) x ≡ false
     → has_id (new_ids_of_ask ask present a) x ≡ has_id present x
-exactly-at (read_new consumer limit noack) present a x asc low high = delivers-up_to limit present a x asc low high
+exactly-at (read_new consumer limit noack) present a x asc low high = new_ids-up_to limit present a x asc low high
 exactly-at (read_own consumer limit from) present a x asc low high = absurd (false≢true (sym high ∙ low))
 exactly-at (acknowledge ids) present a x asc low high = absurd (false≢true (sym high ∙ low))
 exactly-at (create_consumer consumer) present a x asc low high = absurd (false≢true (sym high ∙ low))

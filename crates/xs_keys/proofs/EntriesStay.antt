@@ -17,8 +17,8 @@ use Rattle.xs_keys.specs.GroupLife.{life_after_reads, group_life_after, reads_of
 use Rattle.xs_keys.specs.Effect.{ends_group}
 use Rattle.xs_keys.specs.Presence.{may_remove_entry, has_to_remove, EntryStays, EntriesStay, has_to_create, GroupsStay}
 use Rattle.xs_keys.proofs.Truths.{first_of, second_of, or_false}
-use Rattle.xs_keys.proofs.IdsAtEvents.{live-given, live-before, given-up_to}
-use Rattle.xs_keys.proofs.JobMoves.{was-dropped, not-live, trimmed-below}
+use Rattle.xs_keys.proofs.IdsAtEvents.{present-added, present-before, added-up_to}
+use Rattle.xs_keys.proofs.JobMoves.{was-dropped, not-present, trimmed-below}
 
 -- ---- entries
 
@@ -45,13 +45,13 @@ record Changes (command : Command) (key : List ℕ) (x : Id) (change : StreamEve
 changed : (command : Command) (key : List ℕ) (x : Id) (change : StreamEvent) (past : List StreamEvent) → Changes command key x change past
     → EntryStays command key (ids_of (present_entries past)) (ids_of (present_entries (change ∷ past))) (ids_of (added_in past)) x
 changed command key x change past does = record {
-  unless_removed = λ b a. does.may (was-dropped zero_id [] change past x (live-given past x b) b a);
-  is_removed = λ r. not-live change past x (does.must r);
+  unless_removed = λ b a. does.may (was-dropped zero_id [] change past x (present-added past x b) b a);
+  is_removed = λ r. not-present change past x (does.must r);
   comes_new = λ b a. by b a (has_id (ids_of (added_in past)) x) refl;
 } where
   by : has_id (ids_of (present_entries past)) x ≡ false → has_id (ids_of (present_entries (change ∷ past))) x ≡ true → (g : Bool) → has_id (ids_of (added_in past)) x ≡ g → g ≡ false
   by b a false e = refl
-  by b a true e = absurd (false≢true (sym b ∙ live-before change past x (given-up_to past x e) a))
+  by b a true e = absurd (false≢true (sym b ∙ present-before change past x (added-up_to past x e) a))
 
 -- a command that changes the stream, where it is this one
 changes-stream : (command : Command) (key : List ℕ) (x : Id) (change : StreamEvent) (stream : Option (List StreamEvent)) (t : Bool)

@@ -6,7 +6,7 @@ use Rattle.std.specs.FinMap.Entries.{put, by_order}
 use Rattle.xs_bytes.specs.Each.{with_some, each}
 use Rattle.xs_bytes.specs.SortedMap.{insert_by}
 use Rattle.xs_stream.specs.Id.{id_cmp, is_below, is_same_id, has_id}
-use Rattle.xs_stream.proofs.Order.{above-greater, up_to-below, below-not_back, below-irrefl, is_same-refl}
+use Rattle.xs_stream.proofs.Order.{above-greater, up_to-below, below-not_back, below-irrefl, is_same_id-refl}
 use Rattle.xs_group.specs.GroupState.{RowState, Rows, ids_total, with_rows}
 use Rattle.xs_keys.specs.Terms.{Id, Ascends, AllAbove, AllUpTo}
 use Rattle.xs_keys.specs.GroupEvent.{rows_among}
@@ -45,7 +45,7 @@ pub among-known : (all : List Id) (one other : Id → Option RowState) → ((x :
     → (xs : List Id) → ((x : Id) → has_id xs x ≡ true → has_id all x ≡ true) → rows_among one xs ≡ rows_among other xs
 among-known all one other same [] sub = refl
 among-known all one other same (x ∷ xs) sub =
-    let here = same x (sub x (rw (is_same-refl x) refl)) in
+    let here = same x (sub x (rw (is_same_id-refl x) refl)) in
     let rest = among-known all one other same xs (λ y e. sub y (rw e (or-true (is_same_id y x)))) in
     λ i. with_some x (here i) (rest i)
 

@@ -21,7 +21,7 @@ use Rattle.xs_keys.specs.Content.{IsGroup}
 use Rattle.xs_keys.specs.ContentAfter.{group_after}
 use Rattle.xs_keys.proofs.NameMaps.{get-insert, get-remove}
 use Rattle.xs_keys.proofs.Streams.{greatest-append, up_to-greatest}
-use Rattle.xs_keys.proofs.IdLists.{above-delivers, ascends-delivers, greatest-last, not_above}
+use Rattle.xs_keys.proofs.IdLists.{above-new_ids, ascends-new_ids, greatest-last, not_above}
 use Rattle.xs_keys.proofs.GroupRows.{row_ids, each_row, each-among, among-append, among-alike, among-known, among-none}
 use Rattle.xs_keys.proofs.GroupRows.{among-all, up_to-among, entries-with_rows}
 
@@ -119,8 +119,8 @@ module _ (life : GroupLife) (g : GroupState) (h : IsGroup g life) (now : ℕ) (p
   unfolding event lived row_after
   step-read_new consumer limit noack =
       let at_cursor = cursor life.start life.events in
-      let above = above-delivers limit at_cursor present in
-      let ascends = ascends-delivers limit at_cursor present asc in
+      let above = above-new_ids limit at_cursor present in
+      let ascends = ascends-new_ids limit at_cursor present asc in
       let new_cursor = ap (λ c. last_of c (new_ids limit c present)) h.cursor_is
       ∙ sym (greatest-last at_cursor (new_ids limit at_cursor present) above ascends)
       ∙ sym (cursor-step life.start (event (read_new consumer limit noack)) life.events) in

@@ -10,7 +10,7 @@ use Rattle.xs_keys.specs.Life.{StreamEvent, is_listed, key_life}
 use Rattle.xs_keys.specs.GroupAsk.{GroupAsk, create_consumer, delete_consumer, acknowledge, claim, auto_claim}
 use Rattle.xs_keys.specs.GroupLife.{GroupLife, present_in, new_life, life_after_ask, ask_of_read, life_after_reads}
 use Rattle.xs_keys.specs.GroupLife.{group_life_after, reads_of, read_group_of, group_life}
-use Rattle.xs_keys.proofs.Streams.{ascends-live}
+use Rattle.xs_keys.proofs.Streams.{ascends-present}
 use Rattle.xs_keys.proofs.Deliveries.{PresentAscends}
 
 -- a life whose turns meet ids that ascend, or none
@@ -20,7 +20,7 @@ MeetsAscending (Some life) = PresentAscends life.events
 
 present-ascends : (stream : Option (List StreamEvent)) → Ascends (present_in stream)
 present-ascends None = tt
-present-ascends (Some changes) = ascends-live changes
+present-ascends (Some changes) = ascends-present changes
 
 meets-asked : (now : ℕ) (present : List Id) (ask : GroupAsk) (life : Option GroupLife) → Ascends present → MeetsAscending life → MeetsAscending (life_after_ask now present ask life)
 meets-asked now present ask None asc h = tt

@@ -3,7 +3,7 @@ use Rattle.std.proofs.Common.{◌≡◌, ℕ, zero, suc, Bool, true, false, cond
 use Rattle.std.proofs.Common.{Option, Some, None, sym, ap, ◌∙◌, refl}
 use Rattle.std.proofs.lemmas.Bool.{false≢true, and_right}
 use Rattle.xs_stream.specs.Id.{is_below, is_same_id, has_id}
-use Rattle.xs_stream.proofs.Order.{is_same-eq, is_same-symm, below-not_same, up_to-below, not_above-trans}
+use Rattle.xs_stream.proofs.Order.{is_same_id-eq, is_same_id-symm, below-not_same, up_to-below, not_above-trans}
 use Rattle.xs_group.specs.GroupState.{new_ids, last_of}
 use Rattle.xs_keys.specs.Terms.{Id, Ascends, AllAbove, AllUpTo, limited}
 use Rattle.xs_keys.specs.Life.{greatest}
@@ -48,11 +48,11 @@ ascends-limited None xs h = h
 ascends-limited (Some n) xs h = ascends-take n xs h
 
 -- what is delivered is above the cursor, and ascends
-pub above-delivers : (limit : Option ℕ) (a : Id) (present : List Id) → AllAbove a (new_ids limit a present)
-above-delivers limit a present = above-limited limit a _ (above-where a present)
+pub above-new_ids : (limit : Option ℕ) (a : Id) (present : List Id) → AllAbove a (new_ids limit a present)
+above-new_ids limit a present = above-limited limit a _ (above-where a present)
 
-pub ascends-delivers : (limit : Option ℕ) (a : Id) (present : List Id) → Ascends present → Ascends (new_ids limit a present)
-ascends-delivers limit a present h = ascends-limited limit _ (ascends-where (λ x. is_below a x) present h)
+pub ascends-new_ids : (limit : Option ℕ) (a : Id) (present : List Id) → Ascends present → Ascends (new_ids limit a present)
+ascends-new_ids limit a present h = ascends-limited limit _ (ascends-where (λ x. is_below a x) present h)
 
 -- ---- the greatest of an id and those above it
 
@@ -102,7 +102,7 @@ above-append a (x ∷ xs) ys h k = (h.0, above-append a xs ys h.1 k)
 pub not_among : (a : Id) (xs : List Id) (x : Id) → is_below a x ≡ true → AllUpTo a xs → has_id xs x ≡ false
 not_among a [] x e up = refl
 not_among a (y ∷ ys) x e up =
-    rw (is_same-symm x y, below-not_same y x (up_to-below a y x up.0 e)) (not_among a ys x e up.1)
+    rw (is_same_id-symm x y, below-not_same y x (up_to-below a y x up.0 e)) (not_among a ys x e up.1)
 
 -- what a test passes
 pub has_id-where : (p : Id → Bool) (xs : List Id) (x : Id) → has_id (filter p xs) x ≡ (p x && has_id xs x)
@@ -110,10 +110,10 @@ has_id-where p [] x = sym (and_right (p x) false refl)
 has_id-where p (y ∷ ys) x = by (p y) refl (is_same_id x y) refl (has_id-where p ys x) where
   by : (t : Bool) → p y ≡ t → (s : Bool) → is_same_id x y ≡ s → has_id (filter p ys) x ≡ (p x && has_id ys x)
       → has_id (cond t (y ∷ filter p ys) (filter p ys)) x ≡ (p x && (is_same_id x y || has_id ys x))
-  by true e true s rest = rw (s, is_same-eq x y s, e) refl
+  by true e true s rest = rw (s, is_same_id-eq x y s, e) refl
   by true e false s rest = rw s rest
   by false e true s rest =
-      let not_it : p x ≡ false = ap p (is_same-eq x y s) ∙ e in
+      let not_it : p x ≡ false = ap p (is_same_id-eq x y s) ∙ e in
       rest ∙ ap (λ b. b && has_id ys x) not_it ∙ sym (ap (λ b. b && (is_same_id x y || has_id ys x)) not_it)
   by false e false s rest = rw s rest
 
@@ -134,8 +134,8 @@ pub limited-up_to : (limit : Option ℕ) (xs : List Id) (a x : Id) → AllAbove 
 limited-up_to None xs a x above asc low high = refl
 limited-up_to (Some n) xs a x above asc low high = take-up_to n xs a x above asc low high
 
-pub delivers-up_to : (limit : Option ℕ) (present : List Id) (a x : Id) → Ascends present → is_below a x ≡ true → is_below (greatest a (new_ids limit a present)) x ≡ false
+pub new_ids-up_to : (limit : Option ℕ) (present : List Id) (a x : Id) → Ascends present → is_below a x ≡ true → is_below (greatest a (new_ids limit a present)) x ≡ false
     → has_id (new_ids limit a present) x ≡ has_id present x
-delivers-up_to limit present a x asc low high =
+new_ids-up_to limit present a x asc low high =
     limited-up_to limit _ a x (above-where a present) (ascends-where (λ y. is_below a y) present asc) low high
     ∙ has_id-where (λ y. is_below a y) present x ∙ ap (λ b. b && has_id present x) low

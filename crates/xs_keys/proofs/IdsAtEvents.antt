@@ -4,7 +4,7 @@ use Rattle.std.proofs.Common.{◌≡◌, ℕ, Bool, true, false, cond, not, ◌&
 use Rattle.std.proofs.Common.{is_some, filter, take, zero, suc, sym, ap, subst, ◌∙◌, refl}
 use Rattle.std.proofs.lemmas.Bool.{false≢true, and_from, or_left, or_right}
 use Rattle.xs_stream.specs.Id.{is_below, is_same_id, has_id, zero_id}
-use Rattle.xs_stream.proofs.Order.{is_same-refl, up_to-below, not_above-trans}
+use Rattle.xs_stream.proofs.Order.{is_same_id-refl, up_to-below, not_above-trans}
 use Rattle.xs_stream.proofs.InOrder.{ids_of-append, ids_of-filter}
 use Rattle.xs_keys.specs.Event.{History}
 use Rattle.xs_keys.specs.Terms.{list_all, option_map, option_or, Id, ids_of, AllAbove, AllUpTo, limited, is_same_name}
@@ -21,7 +21,7 @@ use Rattle.xs_keys.specs.GroupLife.{GroupLife, present_in, new_life, life_after_
 use Rattle.xs_keys.specs.GroupLife.{group_life_after, reads_of, read_group_of, group_life}
 use Rattle.xs_keys.proofs.Truths.{first_of, second_of}
 use Rattle.xs_keys.proofs.IdLists.{has_id-append, has_id-where, not_above, not_among}
-use Rattle.xs_keys.proofs.Streams.{greatest-append, greatest-up, up_to-top, gives-not_new}
+use Rattle.xs_keys.proofs.Streams.{greatest-append, greatest-up, up_to-top, adds-not_new}
 use Rattle.xs_keys.proofs.Deliveries.{PresentAscends, had-event}
 
 -- ---- what a stream keeps of its past
@@ -33,15 +33,15 @@ new_or_old xs ys x none e = by (has_id xs x) (has_id ys x) none (sym (has_id-app
   by false b n f = absurd (false≢true (sym n ∙ f))
 
 -- what was given stays given
-pub given-more : (change : StreamEvent) (past : List StreamEvent) (x : Id) → has_id (ids_of (added_in past)) x ≡ true → has_id (ids_of (added_in (change ∷ past))) x ≡ true
-given-more change past x e =
+pub added-more : (change : StreamEvent) (past : List StreamEvent) (x : Id) → has_id (ids_of (added_in past)) x ≡ true → has_id (ids_of (added_in (change ∷ past))) x ≡ true
+added-more change past x e =
     ap (λ ids. has_id ids x) (ids_of-append (added_in past) (entries_added_by change (top past)))
     ∙ has_id-append (ids_of (added_in past)) (ids_of (entries_added_by change (top past))) x ∙ or_left _ _ e
 
 -- an id up to the top isn't given anew
-pub given-before : (change : StreamEvent) (past : List StreamEvent) (x : Id) → is_below (top past) x ≡ false → has_id (ids_of (added_in (change ∷ past))) x ≡ true → has_id (ids_of (added_in past)) x ≡ true
-given-before change past x up e =
-    new_or_old (ids_of (added_in past)) (ids_of (entries_added_by change (top past))) x (gives-not_new change (top past) x up)
+pub added-before : (change : StreamEvent) (past : List StreamEvent) (x : Id) → is_below (top past) x ≡ false → has_id (ids_of (added_in (change ∷ past))) x ≡ true → has_id (ids_of (added_in past)) x ≡ true
+added-before change past x up e =
+    new_or_old (ids_of (added_in past)) (ids_of (entries_added_by change (top past))) x (adds-not_new change (top past) x up)
     (ap (λ ids. has_id ids x) (sym (ids_of-append (added_in past) (entries_added_by change (top past)))) ∙ e)
 
 -- the top never goes down
@@ -55,27 +55,27 @@ pub up_to-more : (change : StreamEvent) (past : List StreamEvent) (x : Id) → i
 up_to-more change past x up = not_above-trans (top (change ∷ past)) (top past) x (top-up change past) up
 
 -- what is live stands, and was given
-pub has_id-live : (changes : List StreamEvent) (x : Id) → has_id (ids_of (present_entries changes)) x ≡ (is_present changes x && has_id (ids_of (added_in changes)) x)
-has_id-live changes x = ap (λ ids. has_id ids x) (ids_of-filter (is_present changes) (added_in changes)) ∙ has_id-where (is_present changes) (ids_of (added_in changes)) x
+pub has_id-present : (changes : List StreamEvent) (x : Id) → has_id (ids_of (present_entries changes)) x ≡ (is_present changes x && has_id (ids_of (added_in changes)) x)
+has_id-present changes x = ap (λ ids. has_id ids x) (ids_of-filter (is_present changes) (added_in changes)) ∙ has_id-where (is_present changes) (ids_of (added_in changes)) x
 
-pub live-given : (changes : List StreamEvent) (x : Id) → has_id (ids_of (present_entries changes)) x ≡ true → has_id (ids_of (added_in changes)) x ≡ true
-live-given changes x e = second_of (is_present changes x) _ (sym (has_id-live changes x) ∙ e)
+pub present-added : (changes : List StreamEvent) (x : Id) → has_id (ids_of (present_entries changes)) x ≡ true → has_id (ids_of (added_in changes)) x ≡ true
+present-added changes x e = second_of (is_present changes x) _ (sym (has_id-present changes x) ∙ e)
 
 -- what is live and isn't new was live before
-pub live-before : (change : StreamEvent) (past : List StreamEvent) (x : Id) → is_below (top past) x ≡ false → has_id (ids_of (present_entries (change ∷ past))) x ≡ true → has_id (ids_of (present_entries past)) x ≡ true
-live-before change past x up e =
-    let both = sym (has_id-live (change ∷ past) x) ∙ e in
-    has_id-live past x
-    ∙ and_from (is_present past x) _ (by _ _ _ (gives-not_new change (top past) x up) (first_of (is_present (change ∷ past) x) _ both)) (given-before change past x up (second_of (is_present (change ∷ past) x) _ both))
+pub present-before : (change : StreamEvent) (past : List StreamEvent) (x : Id) → is_below (top past) x ≡ false → has_id (ids_of (present_entries (change ∷ past))) x ≡ true → has_id (ids_of (present_entries past)) x ≡ true
+present-before change past x up e =
+    let both = sym (has_id-present (change ∷ past) x) ∙ e in
+    has_id-present past x
+    ∙ and_from (is_present past x) _ (by _ _ _ (adds-not_new change (top past) x up) (first_of (is_present (change ∷ past) x) _ both)) (added-before change past x up (second_of (is_present (change ∷ past) x) _ both))
   where
     by : (d n s : Bool) → n ≡ false → cond d false (cond n true s) ≡ true → s ≡ true
     by true n s e f = absurd (false≢true f)
     by false true s e f = absurd (false≢true (sym e))
     by false false s e f = f
 
-given-still : (later earlier : List StreamEvent) (x : Id) → has_id (ids_of (added_in earlier)) x ≡ true → has_id (ids_of (added_in (later ++ earlier))) x ≡ true
-given-still [] earlier x e = e
-given-still (change ∷ later) earlier x e = given-more change (later ++ earlier) x (given-still later earlier x e)
+added-still : (later earlier : List StreamEvent) (x : Id) → has_id (ids_of (added_in earlier)) x ≡ true → has_id (ids_of (added_in (later ++ earlier))) x ≡ true
+added-still [] earlier x e = e
+added-still (change ∷ later) earlier x e = added-more change (later ++ earlier) x (added-still later earlier x e)
 
 up_to-still : (later earlier : List StreamEvent) (x : Id) → is_below (top earlier) x ≡ false → is_below (top (later ++ earlier)) x ≡ false
 up_to-still [] earlier x e = e
@@ -84,7 +84,7 @@ up_to-still (change ∷ later) earlier x e = up_to-more change (later ++ earlier
 live-earlier : (later earlier : List StreamEvent) (x : Id) → is_below (top earlier) x ≡ false → has_id (ids_of (present_entries (later ++ earlier))) x ≡ true → has_id (ids_of (present_entries earlier)) x ≡ true
 live-earlier [] earlier x up e = e
 live-earlier (change ∷ later) earlier x up e =
-    live-earlier later earlier x up (live-before change (later ++ earlier) x (up_to-still later earlier x up) e)
+    live-earlier later earlier x up (present-before change (later ++ earlier) x (up_to-still later earlier x up) e)
 
 -- ---- lists up to an id
 
@@ -94,8 +94,8 @@ up_to-has a xs x up e = by (is_below a x) refl where
   by false h = refl
   by true h = absurd (false≢true (sym (not_among a xs x h up) ∙ e))
 
-pub given-up_to : (changes : List StreamEvent) (x : Id) → has_id (ids_of (added_in changes)) x ≡ true → is_below (top changes) x ≡ false
-given-up_to changes x e = up_to-has (top changes) (ids_of (added_in changes)) x (up_to-top changes) e
+pub added-up_to : (changes : List StreamEvent) (x : Id) → has_id (ids_of (added_in changes)) x ≡ true → is_below (top changes) x ≡ false
+added-up_to changes x e = up_to-has (top changes) (ids_of (added_in changes)) x (up_to-top changes) e
 
 -- what is among ids above a is above a
 pub above-has : (a : Id) (xs : List Id) (x : Id) → AllAbove a xs → has_id xs x ≡ true → is_below a x ≡ true
@@ -106,7 +106,7 @@ above-has a xs x above e = by (is_below a x) refl where
 
 all-up_to : (a : Id) (xs : List Id) → ((x : Id) → has_id xs x ≡ true → is_below a x ≡ false) → AllUpTo a xs
 all-up_to a [] h = tt
-all-up_to a (x ∷ xs) h = (h x (or_left _ _ (is_same-refl x)), all-up_to a xs (λ y e. h y (or_right (is_same_id y x) _ e)))
+all-up_to a (x ∷ xs) h = (h x (or_left _ _ (is_same_id-refl x)), all-up_to a xs (λ y e. h y (or_right (is_same_id y x) _ e)))
 
 -- the greatest of ids below x is below x
 greatest-below : (a t x : Id) (xs : List Id) → is_below a x ≡ true → is_below t x ≡ true → AllUpTo t xs → is_below (greatest a xs) x ≡ true
@@ -255,17 +255,17 @@ asked-present (delete_consumer consumer) present a x e = absurd (false≢true e)
 asked-present (claim consumer rule ids) present a x e = absurd (false≢true e)
 asked-present (auto_claim consumer rule start limit) present a x e = absurd (false≢true e)
 
-pub delivered-given : (start : Id) (changes : List StreamEvent) (events : List GroupEvent) (x : Id) → Sees changes events → has_id (delivered_ids start events) x ≡ true → has_id (ids_of (added_in changes)) x ≡ true
-delivered-given start changes [] x h e = absurd (false≢true e)
-delivered-given start changes (event ∷ past) x h e =
+pub delivered-added : (start : Id) (changes : List StreamEvent) (events : List GroupEvent) (x : Id) → Sees changes events → has_id (delivered_ids start events) x ≡ true → has_id (ids_of (added_in changes)) x ≡ true
+delivered-added start changes [] x h e = absurd (false≢true e)
+delivered-added start changes (event ∷ past) x h e =
     ap (λ cs. has_id (ids_of (added_in cs)) x) h.2
-    ∙ given-still h.0 h.1 x (by (has_id (delivered_ids start past) x) refl (sym (has_id-append (delivered_ids start past) (new_ids_of_event event (cursor start past)) x) ∙ e) (delivered-given start h.1 past x h.4))
+    ∙ added-still h.0 h.1 x (by (has_id (delivered_ids start past) x) refl (sym (has_id-append (delivered_ids start past) (new_ids_of_event event (cursor start past)) x) ∙ e) (delivered-added start h.1 past x h.4))
   where
     by : (t : Bool) → has_id (delivered_ids start past) x ≡ t → (t || has_id (new_ids_of_event event (cursor start past)) x) ≡ true
         → (has_id (delivered_ids start past) x ≡ true → has_id (ids_of (added_in h.1)) x ≡ true) → has_id (ids_of (added_in h.1)) x ≡ true
     by true d f before = before d
     by false d f before =
-        live-given h.1 x (ap (λ ids. has_id ids x) (sym h.3) ∙ asked-present event.ask event.present (cursor start past) x f)
+        present-added h.1 x (ap (λ ids. has_id ids x) (sym h.3) ∙ asked-present event.ask event.present (cursor start past) x f)
 
 -- ---- no entry stays behind the cursor
 
@@ -275,7 +275,7 @@ cursor-top start changes events x h low high = by (is_below (top changes) x) ref
   by : (t : Bool) → is_below (top changes) x ≡ t → t ≡ false
   by false e = refl
   by true e =
-      let up = all-up_to (top changes) (delivered_ids start events) (λ y d. given-up_to changes y (delivered-given start changes events y h d)) in
+      let up = all-up_to (top changes) (delivered_ids start events) (λ y d. added-up_to changes y (delivered-added start changes events y h d)) in
       absurd (false≢true (sym high ∙ greatest-below start (top changes) x (delivered_ids start events) low e up))
 
 -- what a group saw at one of its events

@@ -4,7 +4,7 @@ use Rattle.std.proofs.Common.{Some, None, is_some, option_and_then, sym, ap, sub
 use Rattle.std.proofs.lemmas.Bool.{false≢true, or_left}
 use Rattle.std.proofs.lemmas.List.{length-map}
 use Rattle.xs_stream.specs.Id.{is_below, is_same_id, has_id}
-use Rattle.xs_stream.proofs.Order.{is_same-eq, is_same-refl, is_same-symm, below-not_back}
+use Rattle.xs_stream.proofs.Order.{is_same_id-eq, is_same_id-refl, is_same_id-symm, below-not_back}
 use Rattle.xs_group.specs.GroupState.{RowState, is_same_name, new_ids, owned_ids}
 use Rattle.xs_keys.specs.Event.{History}
 use Rattle.xs_keys.specs.Terms.{Command, GroupState, Reply, Int, NullBulk, get, summary_of, option_map_or, with_some}
@@ -20,11 +20,11 @@ use Rattle.xs_keys.specs.JobPlace.{StandsAt, HasOnePlace}
 use Rattle.xs_keys.specs.PlacesAddUp.{is_at, is_pending, jobs_at, PlacesAddUp, TellsPending}
 use Rattle.xs_keys.proofs.Truths.{first_of, second_of, none_or}
 use Rattle.xs_keys.proofs.IdLists.{ascends-where, has_id-where, not_above}
-use Rattle.xs_keys.proofs.Streams.{ascends-given, ascends-live}
+use Rattle.xs_keys.proofs.Streams.{ascends-added, ascends-present}
 use Rattle.xs_keys.proofs.Deliveries.{PresentAscends, ascends-delivered}
 use Rattle.xs_keys.proofs.Histories.{present-in-life}
 use Rattle.xs_keys.proofs.Owners.{owner-row, of_row, owned-delivered}
-use Rattle.xs_keys.proofs.IdsAtEvents.{Sees, sees-of, above-has, delivered-given, live-given}
+use Rattle.xs_keys.proofs.IdsAtEvents.{Sees, sees-of, above-has, delivered-added, present-added}
 use Rattle.xs_keys.proofs.JobPlaces.{place_by, has-one-place}
 
 -- ---- lists that ascend, and have the same ids, are one
@@ -40,16 +40,16 @@ not_itself x xs h = not_above x x xs (irrefl (is_below x x) refl) h where
 first-same : (x y : Id) (xs ys : List Id) → AllAbove x xs → AllAbove y ys → ((z : Id) → has_id (x ∷ xs) z ≡ has_id (y ∷ ys) z) → x ≡ y
 first-same x y xs ys h k e = by (is_same_id x y) refl where
   by : (t : Bool) → is_same_id x y ≡ t → x ≡ y
-  by true f = is_same-eq x y f
+  by true f = is_same_id-eq x y f
   by false f =
-      let in_ys = sym (none_or (is_same_id x y) (has_id ys x) f) ∙ sym (e x) ∙ or_left _ _ (is_same-refl x) in
-      let in_xs = sym (none_or (is_same_id y x) (has_id xs y) (is_same-symm y x ∙ f)) ∙ e y ∙ or_left _ _ (is_same-refl y) in
+      let in_ys = sym (none_or (is_same_id x y) (has_id ys x) f) ∙ sym (e x) ∙ or_left _ _ (is_same_id-refl x) in
+      let in_xs = sym (none_or (is_same_id y x) (has_id xs y) (is_same_id-symm y x ∙ f)) ∙ e y ∙ or_left _ _ (is_same_id-refl y) in
       absurd (false≢true (sym (below-not_back x y (above-has x xs y h in_xs)) ∙ above-has y ys x k in_ys))
 
 pub ascends-same : (xs ys : List Id) → Ascends xs → Ascends ys → ((z : Id) → has_id xs z ≡ has_id ys z) → xs ≡ ys
 ascends-same [] [] h k e = refl
-ascends-same [] (y ∷ ys) h k e = absurd (false≢true (e y ∙ or_left _ _ (is_same-refl y)))
-ascends-same (x ∷ xs) [] h k e = absurd (false≢true (sym (e x) ∙ or_left _ _ (is_same-refl x)))
+ascends-same [] (y ∷ ys) h k e = absurd (false≢true (e y ∙ or_left _ _ (is_same_id-refl y)))
+ascends-same (x ∷ xs) [] h k e = absurd (false≢true (sym (e x) ∙ or_left _ _ (is_same_id-refl x)))
 ascends-same (x ∷ xs) (y ∷ ys) h k e =
     let first = first-same x y xs ys h.0 k.0 e in
     let rest = ascends-same xs ys h.1 k.1 (λ z. by first z (is_same_id z x) refl) in
@@ -57,7 +57,7 @@ ascends-same (x ∷ xs) (y ∷ ys) h k e =
   where
     by : x ≡ y → (z : Id) → (t : Bool) → is_same_id z x ≡ t → has_id xs z ≡ has_id ys z
     by f z true g =
-        let is = is_same-eq z x g in
+        let is = is_same_id-eq z x g in
         ap (has_id xs) is ∙ not_itself x xs h.0 ∙ sym (not_itself y ys k.0) ∙ sym (ap (has_id ys) (is ∙ f))
     by f z false g = sym (none_or (is_same_id z x) (has_id xs z) g) ∙ e z ∙ none_or (is_same_id z y) (has_id ys z) (ap (is_same_id z) (sym f) ∙ g)
 
@@ -122,8 +122,8 @@ module _ (life : GroupLife) (changes : List StreamEvent) (asc : PresentAscends l
   waiting-are : jobs_at (is_at waiting) changes life ≡ new_ids None (cursor life.start life.events) (ids_of (present_entries changes))
   waiting-are =
       ascends-same (jobs_at (is_at waiting) changes life) (new_ids None (cursor life.start life.events) (ids_of (present_entries changes)))
-      (ascends-where (λ x. is_at waiting (place_of life (ids_of (present_entries changes)) x)) (ids_of (added_in changes)) (ascends-given changes))
-      (ascends-where (λ x. is_below (cursor life.start life.events) x) (ids_of (present_entries changes)) (ascends-live changes))
+      (ascends-where (λ x. is_at waiting (place_of life (ids_of (present_entries changes)) x)) (ids_of (added_in changes)) (ascends-added changes))
+      (ascends-where (λ x. is_below (cursor life.start life.events) x) (ids_of (present_entries changes)) (ascends-present changes))
       (λ x.
       has_id-where (λ y. is_at waiting (place_of life (ids_of (present_entries changes)) y)) (ids_of (added_in changes)) x
       ∙ same_truth _ _ (to x) (from x)
@@ -139,7 +139,7 @@ module _ (life : GroupLife) (changes : List StreamEvent) (asc : PresentAscends l
       from x e =
           let there = second_of (is_below (cursor life.start life.events) x) _ e in
           let at = (has-one-place life changes asc sees x).1 waiting (there, first_of _ _ e) in
-          let given = live-given changes x there in
+          let given = present-added changes x there in
           λ i. is_at waiting (sym at i) && given i
 
   -- ---- what is pending, where a test asks for the consumer
@@ -147,7 +147,7 @@ module _ (life : GroupLife) (changes : List StreamEvent) (asc : PresentAscends l
       → jobs_at at changes life ≡ filter (λ x. option_map_or test (owner life.start life.events x) false) (delivered_ids life.start life.events)
   pending-are at test only with =
       ascends-same (jobs_at at changes life) (filter (λ x. option_map_or test (owner life.start life.events x) false) (delivered_ids life.start life.events))
-      (ascends-where (λ x. at (place_of life (ids_of (present_entries changes)) x)) (ids_of (added_in changes)) (ascends-given changes))
+      (ascends-where (λ x. at (place_of life (ids_of (present_entries changes)) x)) (ids_of (added_in changes)) (ascends-added changes))
       (ascends-where (λ x. option_map_or test (owner life.start life.events x) false) (delivered_ids life.start life.events) (ascends-delivered life.start life.events asc))
       (λ x.
       has_id-where (λ y. at (place_of life (ids_of (present_entries changes)) y)) (ids_of (added_in changes)) x
@@ -159,7 +159,7 @@ module _ (life : GroupLife) (changes : List StreamEvent) (asc : PresentAscends l
       by x (Some name) o =
           let stands = (has-one-place life changes asc sees x).1 (pending name) o in
           let was_delivered = owned-delivered life.start life.events x (ap is_some o) in
-          let given = delivered-given life.start changes life.events x sees was_delivered in
+          let given = delivered-added life.start changes life.events x sees was_delivered in
           (λ i. at (sym stands i) && given i) ∙ ap (λ b. b && true) (with name) ∙ sym (λ i. option_map_or test (o i) false && was_delivered i)
       by x None o = (λ i. nowhere (at (place_of life (ids_of (present_entries changes)) x)) refl i && has_id (ids_of (added_in changes)) x) ∙ sym (λ i. option_map_or test (o i) false && has_id (delivered_ids life.start life.events) x) where
         nowhere : (t : Bool) → at (place_of life (ids_of (present_entries changes)) x) ≡ t → at (place_of life (ids_of (present_entries changes)) x) ≡ false

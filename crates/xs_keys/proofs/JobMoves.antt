@@ -37,22 +37,22 @@ use Rattle.xs_keys.specs.GroupLife.{life_after_reads, group_life_after, reads_of
 use Rattle.xs_keys.specs.GroupLife.{reads_new_entries}
 use Rattle.xs_keys.specs.JobPlace.{Place, before_start, waiting, dropped, handed_out, pending, settled, place_of}
 use Rattle.xs_keys.specs.JobPlace.{place_in, place_after}
-use Rattle.xs_keys.specs.Effect.{deletes_entry, is_trimmed_below_one, may_trim_entry, reads_new_entries_in, with_noack}
+use Rattle.xs_keys.specs.Effect.{deletes_entry, is_trimmed_below_one, may_trim_entry, reads_new_entries_in, has_noack}
 use Rattle.xs_keys.specs.Effect.{claims_by_id, may_claim_entry, consumer_of_command, acknowledges_entry}
 use Rattle.xs_keys.specs.Effect.{removes_consumer, may_begin_job, ends_group}
 use Rattle.xs_keys.specs.JobMove.{found_at, HasArrow, HasToMove, trims_new, IsFirstPlace, MovesAlong, is_final}
 use Rattle.xs_keys.specs.JobMove.{GroupStaysOpen}
 use Rattle.xs_keys.proofs.Truths.{first_of, second_of, or_false}
 use Rattle.xs_keys.proofs.IdLists.{has_id-append, has_id-where}
-use Rattle.xs_keys.proofs.Streams.{gives-not_new, up_to-live}
-use Rattle.xs_stream.proofs.Order.{below-irrefl, is_same-eq, below-not_back, not_above-trans}
+use Rattle.xs_keys.proofs.Streams.{adds-not_new, up_to-present}
+use Rattle.xs_stream.proofs.Order.{below-irrefl, is_same_id-eq, below-not_back, not_above-trans}
 use Rattle.xs_stream.proofs.Assigning.{assigned-above}
 use Rattle.xs_stream.proofs.InOrder.{ids_of-append}
 use Rattle.xs_keys.proofs.Lives.{others-absent, not-read}
 use Rattle.xs_keys.proofs.Owners.{owner-row, row-found, of_row}
-use Rattle.xs_keys.proofs.ClaimedIds.{firsts-has}
-use Rattle.xs_keys.proofs.IdsAtEvents.{SeesItsKey, sees-life, given-more, given-up_to, live-before, has_id-live}
-use Rattle.xs_keys.proofs.IdsAtEvents.{delivered-given}
+use Rattle.xs_keys.proofs.ClaimedIds.{without_repeats-has}
+use Rattle.xs_keys.proofs.IdsAtEvents.{SeesItsKey, sees-life, added-more, added-up_to, present-before, has_id-present}
+use Rattle.xs_keys.proofs.IdsAtEvents.{delivered-added}
 use Rattle.xs_keys.proofs.JobPlaces.{place_by, life_of, Went, stayed, was_handed_out, was_delivered, was_taken}
 use Rattle.xs_keys.proofs.JobPlaces.{was_settled, went, settled-now, pending-owner, waiting-asked, owner-last}
 
@@ -68,9 +68,9 @@ module _ (start : Id) (events : List GroupEvent) (change : StreamEvent) (past : 
   pub was-dropped : has_id (ids_of (present_entries past)) x ≡ true → has_id (ids_of (present_entries (change ∷ past))) x ≡ false → removes_id change (top past) (ids_of (filter (λ e. is_present past e.0) (added_in past) ++ entries_added_by change (top past))) x ≡ true
   was-dropped v w =
       by (removes_id change (top past) (ids_of (filter (λ e. is_present past e.0) (added_in past) ++ entries_added_by change (top past))) x) refl
-      (has_id (ids_of (entries_added_by change (top past))) x) (gives-not_new change (top past) x (given-up_to past x given))
-      (is_present past x) (first_of (is_present past x) _ (sym (has_id-live past x) ∙ v))
-      (sym w ∙ has_id-live (change ∷ past) x ∙ ap (λ b. is_present (change ∷ past) x && b) (given-more change past x given))
+      (has_id (ids_of (entries_added_by change (top past))) x) (adds-not_new change (top past) x (added-up_to past x given))
+      (is_present past x) (first_of (is_present past x) _ (sym (has_id-present past x) ∙ v))
+      (sym w ∙ has_id-present (change ∷ past) x ∙ ap (λ b. is_present (change ∷ past) x && b) (added-more change past x given))
     where
       by : (d : Bool) → removes_id change (top past) (ids_of (filter (λ e. is_present past e.0) (added_in past) ++ entries_added_by change (top past))) x ≡ d → (n : Bool) → n ≡ false → (s : Bool) → s ≡ true
           → false ≡ (cond d false (cond n true s) && true) → d ≡ true
@@ -88,7 +88,7 @@ module _ (start : Id) (events : List GroupEvent) (change : StreamEvent) (past : 
         → Altered change past x (place_of (life_of start events) (ids_of (present_entries past)) x) (place_of (life_of start events) (ids_of (present_entries (change ∷ past))) x)
     by true v true w a e d f = kept (ap (λ there. at (is_below start x) (has_id (delivered_ids start events) x) there) (w ∙ sym v))
     by false v false w a e d f = kept (ap (λ there. at (is_below start x) (has_id (delivered_ids start events) x) there) (w ∙ sym v))
-    by false v true w a e d f = absurd (false≢true (sym v ∙ live-before change past x (given-up_to past x given) w))
+    by false v true w a e d f = absurd (false≢true (sym v ∙ present-before change past x (added-up_to past x given) w))
     by true v false w false e d f = kept ((λ i. at (e i) (has_id (delivered_ids start events) x) (has_id (ids_of (present_entries (change ∷ past))) x)) ∙ sym (λ i. at (e i) (has_id (delivered_ids start events) x) (has_id (ids_of (present_entries past)) x)))
     by true v false w true e true f = kept ((λ i. at (e i) (f i) (has_id (ids_of (present_entries (change ∷ past))) x)) ∙ sym (λ i. at (e i) (f i) (has_id (ids_of (present_entries past)) x)))
     by true v false w true e false f =
@@ -99,10 +99,10 @@ none-life None x = refl
 none-life (Some changes) x = refl
 
 -- what is dropped now isn't live
-pub not-live : (change : StreamEvent) (past : List StreamEvent) (x : Id) → removes_id change (top past) (ids_of (filter (λ e. is_present past e.0) (added_in past) ++ entries_added_by change (top past))) x ≡ true
+pub not-present : (change : StreamEvent) (past : List StreamEvent) (x : Id) → removes_id change (top past) (ids_of (filter (λ e. is_present past e.0) (added_in past) ++ entries_added_by change (top past))) x ≡ true
     → has_id (ids_of (present_entries (change ∷ past))) x ≡ false
-not-live change past x d =
-    has_id-live (change ∷ past) x
+not-present change past x d =
+    has_id-present (change ∷ past) x
     ∙ ap (λ b. cond b false (cond (has_id (ids_of (entries_added_by change (top past))) x) true (is_present past x)) && has_id (ids_of (added_in (change ∷ past))) x) d
 
 -- what is given now is new
@@ -156,12 +156,12 @@ module _ (command : Command) (key group : List ℕ) (x : Id) where
   goes-changed change past (Some life) sees does = by (has_id (ids_of (added_in past)) x) refl (has_id (ids_of (added_in (change ∷ past))) x) refl where
     by : (g : Bool) → has_id (ids_of (added_in past)) x ≡ g → (h : Bool) → has_id (ids_of (added_in (change ∷ past))) x ≡ h
         → MovesAlong command key group (ids_of (present_entries past)) x (cond g (Some (place_of life (ids_of (present_entries past)) x)) None) (cond h (Some (place_of life (ids_of (present_entries (change ∷ past))) x)) None)
-    by true g false h = absurd (false≢true (sym h ∙ given-more change past x g))
+    by true g false h = absurd (false≢true (sym h ∙ added-more change past x g))
     by false g false h = tt
     by false g true h = let c = does.comes (new-now change past x g h) in (c.0, c.1 life (ids_of (present_entries past)) (not_yet (has_id (delivered_ids life.start life.events) x) refl)) where
       not_yet : (d : Bool) → has_id (delivered_ids life.start life.events) x ≡ d → d ≡ false
       not_yet false e = refl
-      not_yet true e = absurd (false≢true (sym g ∙ delivered-given life.start past life.events x sees e))
+      not_yet true e = absurd (false≢true (sym g ∙ delivered-added life.start past life.events x sees e))
     by true g true h = (how (altered life.start life.events change past x g), owes (place_of life (ids_of (present_entries past)) x) refl) where
       how : Altered change past x (place_of life (ids_of (present_entries past)) x) (place_of life (ids_of (present_entries (change ∷ past))) x)
           → (place_of life (ids_of (present_entries (change ∷ past))) x ≡ place_of life (ids_of (present_entries past)) x)
@@ -174,7 +174,7 @@ module _ (command : Command) (key group : List ℕ) (x : Id) where
       owes before_start e = tt
       owes waiting e = λ d.
           let asked = waiting-asked (is_below life.start x) (has_id (delivered_ids life.start life.events) x) (has_id (ids_of (present_entries past)) x) (last_assigned life.start life.events x) (owner life.start life.events x) e in
-          let gone = not-live change past x (does.must d (ids_of (filter (λ e. is_present past e.0) (added_in past) ++ entries_added_by change (top past)))) in
+          let gone = not-present change past x (does.must d (ids_of (filter (λ e. is_present past e.0) (added_in past) ++ entries_added_by change (top past)))) in
           λ i. place_by (asked.0 i) (asked.1 i) (gone i) (last_assigned life.start life.events x) (owner life.start life.events x)
       owes dropped e = tt
       owes handed_out e = tt
@@ -185,8 +185,8 @@ module _ (command : Command) (key group : List ℕ) (x : Id) where
 
 -- what an ask does to an entry the command is told to do
 record Causes (command : Command) (key group : List ℕ) (ids : List Id) (x : Id) (now : ℕ) (ask : GroupAsk) : Type 0 where
-  hands_out : (a : Id) → has_id (new_ids_of_ask ask ids a) x ≡ true → keeps_pending ask ≡ false → (reads_new_entries_in command key group && with_noack command) ≡ true
-  delivers : (a : Id) → has_id (new_ids_of_ask ask ids a) x ≡ true → keeps_pending ask ≡ true → ((reads_new_entries_in command key group && not (with_noack command)) ≡ true) × (consumer_of_command command ≡ consumer_of ask)
+  hands_out : (a : Id) → has_id (new_ids_of_ask ask ids a) x ≡ true → keeps_pending ask ≡ false → (reads_new_entries_in command key group && has_noack command) ≡ true
+  delivers : (a : Id) → has_id (new_ids_of_ask ask ids a) x ≡ true → keeps_pending ask ≡ true → ((reads_new_entries_in command key group && not (has_noack command)) ≡ true) × (consumer_of_command command ≡ consumer_of ask)
   takes : (es : List (Id × RowState)) → has_id (claim_of_ask ask now ids es).take x ≡ true → ((may_claim_entry command key group x && has_id ids x) ≡ true) × (consumer_of_command command ≡ consumer_of ask)
   settles : (es : List (Id × RowState)) (name : List ℕ) → (is_acknowledgement_of ask x || (deletes_consumer ask name || has_id (claim_of_ask ask now ids es).removed x)) ≡ true
       → (acknowledges_entry command key group x || (removes_consumer command key group name || (may_claim_entry command key group x && not (has_id ids x)))) ≡ true
@@ -305,17 +305,17 @@ claim-causes c key group here ids x now = record {
   delivers = λ a e f. absurd (false≢true e);
   takes = λ es e.
       let t = among-taken es ids now c.rule (without_repeats c.ids) x e in
-      (and_from _ (has_id ids x) (and_from (is_same_name key c.key && is_same_name group c.group) (has_id c.ids x) here (sym (firsts-has c.ids x) ∙ t.0)) t.1, refl);
+      (and_from _ (has_id ids x) (and_from (is_same_name key c.key && is_same_name group c.group) (has_id c.ids x) here (sym (without_repeats-has c.ids x) ∙ t.0)) t.1, refl);
   settles = λ es name e.
       let t = among-removed es ids now c.rule (without_repeats c.ids) x e in
-      and_from _ (not (has_id ids x)) (and_from (is_same_name key c.key && is_same_name group c.group) (has_id c.ids x) here (sym (firsts-has c.ids x) ∙ t.0)) t.1;
+      and_from _ (not (has_id ids x)) (and_from (is_same_name key c.key && is_same_name group c.group) (has_id c.ids x) here (sym (without_repeats-has c.ids x) ∙ t.0)) t.1;
   no_deletion = refl;
   must = λ es found name e.
       let named = second_of (is_same_name key c.key && is_same_name group c.group) (has_id c.ids x) (first_of ((is_same_name key c.key && is_same_name group c.group) && has_id c.ids x) (not (has_id ids x)) e) in
       has_id-where (is_removed es ids) (without_repeats c.ids) x
       ∙ and_from (is_removed es ids x) (has_id (without_repeats c.ids) x)
       (and_from (is_some (row_at es x)) (not (has_id ids x)) found (second_of ((is_same_name key c.key && is_same_name group c.group) && has_id c.ids x) (not (has_id ids x)) e))
-      (firsts-has c.ids x ∙ named);
+      (without_repeats-has c.ids x ∙ named);
 }
 
 auto_claim-causes : (c : AutoClaimCommand) (key group : List ℕ) → (is_same_name key c.key && is_same_name group c.group) ≡ true → (ids : List Id) (x : Id) (now : ℕ)
@@ -420,14 +420,14 @@ none-above x [] up = refl
 none-above x (y ∷ ys) up = rw up.0 (none-above x ys up.1)
 
 -- what is up to an id is up to a greater one
-up_to-raised : (t x : Id) (ids : List Id) → is_below t x ≡ true → AllUpTo t ids → AllUpTo x ids
-up_to-raised t x [] above up = tt
-up_to-raised t x (y ∷ ys) above up = (not_above-trans x t y (below-not_back t x above) up.0, up_to-raised t x ys above up.1)
+up_to-next_count : (t x : Id) (ids : List Id) → is_below t x ≡ true → AllUpTo t ids → AllUpTo x ids
+up_to-next_count t x [] above up = tt
+up_to-next_count t x (y ∷ ys) above up = (not_above-trans x t y (below-not_back t x above) up.0, up_to-next_count t x ys above up.1)
 
 -- what is given is above the top
-given-above : (given : Result Id AddError) (fields : List Field) (t x : Id) → ((y : Id) → given ≡ Ok y → is_below t y ≡ true) → has_id (ids_of (entry_of given fields)) x ≡ true → is_below t x ≡ true
-given-above (Err refusal) fields t x above new = absurd (false≢true new)
-given-above (Ok id) fields t x above new = subst (λ y. is_below t y ≡ true) (sym (is_same-eq x id (or_false (is_same_id x id) new))) (above id refl)
+added-above : (given : Result Id AddError) (fields : List Field) (t x : Id) → ((y : Id) → given ≡ Ok y → is_below t y ≡ true) → has_id (ids_of (entry_of given fields)) x ≡ true → is_below t x ≡ true
+added-above (Err refusal) fields t x above new = absurd (false≢true new)
+added-above (Ok id) fields t x above new = subst (λ y. is_below t y ≡ true) (sym (is_same_id-eq x id (or_false (is_same_id x id) new))) (above id refl)
 
 -- a trim drops what was added with it only by itself
 trims-own : (given : Result Id AddError) (fields : List Field) (trim : Trim) (es : List (Id × List Field)) (x : Id) → AllUpTo x (ids_of es) → has_id (ids_of (entry_of given fields)) x ≡ true
@@ -436,7 +436,7 @@ trims-own (Err refusal) fields trim es x up new e = absurd (false≢true new)
 trims-own (Ok id) fields (MinId low) es x up new e = e
 trims-own (Ok id) fields (MaxLen n) es x up new e = ap (nat_le n) (sym count) ∙ e where
   itself : is_below x id ≡ false
-  itself = ap (λ y. is_below y id) (is_same-eq x id (or_false (is_same_id x id) new)) ∙ below-irrefl id
+  itself = ap (λ y. is_below y id) (is_same_id-eq x id (or_false (is_same_id x id) new)) ∙ below-irrefl id
 
   count : count_above x (ids_of (es ++ (id, fields) ∷ [])) ≡ 0
   count =
@@ -449,7 +449,7 @@ trim-needed : (now : ℕ) (id : AddId) (fields : List Field) (trim : Option Trim
     → has_id (ids_of (present_entries (add_entry now id fields trim ∷ past))) x ≡ false → option_map_or (λ t. trims_new t x) trim false ≡ true
 trim-needed now id fields trim past x new gone =
     own trim (second_of (is_ok (assigned now (top past) id)) _ (by (removes_id (add_entry now id fields trim) (top past) (ids_of (present_entries past ++ entry_of (assigned now (top past) id) fields)) x) refl
-    (sym gone ∙ has_id-live (add_entry now id fields trim ∷ past) x
+    (sym gone ∙ has_id-present (add_entry now id fields trim ∷ past) x
     ∙ (λ i. cond (removes_id (add_entry now id fields trim) (top past) (ids_of (present_entries past ++ entry_of (assigned now (top past) id) fields)) x) false (cond (new i) true (is_present past x)) && given i))))
   where
     given : has_id (ids_of (added_in (add_entry now id fields trim ∷ past))) x ≡ true
@@ -465,7 +465,7 @@ trim-needed now id fields trim past x new gone =
     own None h = h
     own (Some t) h =
         trims-own (assigned now (top past) id) fields t (present_entries past) x
-        (up_to-raised (top past) x (ids_of (present_entries past)) (given-above (assigned now (top past) id) fields (top past) x (λ y e. assigned-above now (top past) id y e) new) (up_to-live past)) new h
+        (up_to-next_count (top past) x (ids_of (present_entries past)) (added-above (assigned now (top past) id) fields (top past) x (λ y e. assigned-above now (top past) id y e) new) (up_to-present past)) new h
 
 added-first : (now : ℕ) (add : AddCommand) (past : List StreamEvent) (x : Id) → has_id (ids_of (entries_added_by (add_entry now add.id add.fields add.trim) (top past))) x ≡ true
     → (life : GroupLife) (ids : List Id) → has_id (delivered_ids life.start life.events) x ≡ false → IsFirstPlace (Add add) ids x (place_of life (ids_of (present_entries (add_entry now add.id add.fields add.trim ∷ past))) x)
@@ -483,7 +483,7 @@ added-first now add past x new life ids d =
 new-group : (start : GroupStart) (changes : List StreamEvent) (x : Id) → has_id (ids_of (added_in changes)) x ≡ true
     → place_of (life_of (starting_id start (top changes)) []) (ids_of (present_entries changes)) x ≡ found_at start (ids_of (present_entries changes)) x
 new-group (At id) changes x given = refl
-new-group Top changes x given = ap (λ b. place_by b false (has_id (ids_of (present_entries changes)) x) None None) (given-up_to changes x given)
+new-group Top changes x given = ap (λ b. place_by b false (has_id (ids_of (present_entries changes)) x) None None) (added-up_to changes x given)
 
 opens : (create : GroupCreateCommand) (key group : List ℕ) (x : Id) → may_begin_job (GroupCreate create) key group ≡ true → (stream : Option (List StreamEvent))
     → MovesAlong (GroupCreate create) key group (present_in stream) x (place_in stream None x) (place_in (life_or_new create.make stream) (new_life create stream) x)

@@ -67,40 +67,40 @@ nobody None e = absurd (false≢true e)
 nobody (Some last) e = refl
 
 module _ (start : Id) (events : List GroupEvent) (changes : List StreamEvent) (asc : PresentAscends events) (sees : Sees changes events) (x : Id) where
-  stands-there : (above : Bool) → is_below start x ≡ above → (went : Bool) → has_id (delivered_ids start events) x ≡ went → (there : Bool) → has_id (ids_of (present_entries changes)) x ≡ there
+  is_present-there : (above : Bool) → is_below start x ≡ above → (went : Bool) → has_id (delivered_ids start events) x ≡ went → (there : Bool) → has_id (ids_of (present_entries changes)) x ≡ there
       → (last : Option (List ℕ)) → last_assigned start events x ≡ last → (has : Option (List ℕ)) → owner start events x ≡ has
       → StandsAt (life_of start events) (ids_of (present_entries changes)) x (place_by above went there last has)
-  stands-there false a went d there v last l has o = a
-  stands-there true a true d there v None l has o = (d, l)
-  stands-there true a true d there v (Some last) l None o = (ap is_some l, o)
-  stands-there true a true d there v (Some last) l (Some name) o = o
-  stands-there true a false d false v last l has o = (a, v, d)
-  stands-there true a false d true v last l has o = (v, by (is_below (cursor start events) x) refl) where
+  is_present-there false a went d there v last l has o = a
+  is_present-there true a true d there v None l has o = (d, l)
+  is_present-there true a true d there v (Some last) l None o = (ap is_some l, o)
+  is_present-there true a true d there v (Some last) l (Some name) o = o
+  is_present-there true a false d false v last l has o = (a, v, d)
+  is_present-there true a false d true v last l has o = (v, by (is_below (cursor start events) x) refl) where
     by : (t : Bool) → is_below (cursor start events) x ≡ t → t ≡ true
     by true e = refl
     by false e = absurd (false≢true (sym d ∙ none-stranded start changes events x asc sees a e v))
 
-  stands-only : (other : Place) → StandsAt (life_of start events) (ids_of (present_entries changes)) x other → other ≡ place_of (life_of start events) (ids_of (present_entries changes)) x
-  stands-only before_start a = λ i. place_by (sym a i) (has_id (delivered_ids start events) x) (has_id (ids_of (present_entries changes)) x) (last_assigned start events x) (owner start events x)
-  stands-only waiting h =
+  is_present-only : (other : Place) → StandsAt (life_of start events) (ids_of (present_entries changes)) x other → other ≡ place_of (life_of start events) (ids_of (present_entries changes)) x
+  is_present-only before_start a = λ i. place_by (sym a i) (has_id (delivered_ids start events) x) (has_id (ids_of (present_entries changes)) x) (last_assigned start events x) (owner start events x)
+  is_present-only waiting h =
       let above = up_to-below (cursor start events) start x (start-up start events) h.1 in
       let not_yet = not_among (cursor start events) (delivered_ids start events) x h.1 (up_to-delivered start events) in
       λ i. place_by (sym above i) (sym not_yet i) (sym h.0 i) (last_assigned start events x) (owner start events x)
-  stands-only dropped h = λ i. place_by (sym h.0 i) (sym h.2 i) (sym h.1 i) (last_assigned start events x) (owner start events x)
-  stands-only handed_out h = sym (at-delivered start events (ids_of (present_entries changes)) x h.0 ∙ ap (λ last. place_of_delivered last (owner start events x)) h.1)
-  stands-only (pending name) o =
+  is_present-only dropped h = λ i. place_by (sym h.0 i) (sym h.2 i) (sym h.1 i) (last_assigned start events x) (owner start events x)
+  is_present-only handed_out h = sym (at-delivered start events (ids_of (present_entries changes)) x h.0 ∙ ap (λ last. place_of_delivered last (owner start events x)) h.1)
+  is_present-only (pending name) o =
       let last = owner-last start events x name o in
       sym (at-delivered start events (ids_of (present_entries changes)) x (owned-delivered start events x (ap is_some o)) ∙ (λ i. place_of_delivered (last i) (o i)))
-  stands-only settled h =
+  is_present-only settled h =
       nobody (last_assigned start events x) h.0
       ∙ ap (place_of_delivered (last_assigned start events x)) (sym h.1)
       ∙ sym (at-delivered start events (ids_of (present_entries changes)) x (assigned-delivered start events x h.0))
 
 pub has-one-place : (life : GroupLife) (changes : List StreamEvent) → PresentAscends life.events → Sees changes life.events → (x : Id) → HasOnePlace life (ids_of (present_entries changes)) x
 has-one-place life changes asc sees x = (
-  stands-there life.start life.events changes asc sees x (is_below life.start x) refl (has_id (delivered_ids life.start life.events) x) refl (has_id (ids_of (present_entries changes)) x) refl
+  is_present-there life.start life.events changes asc sees x (is_below life.start x) refl (has_id (delivered_ids life.start life.events) x) refl (has_id (ids_of (present_entries changes)) x) refl
       (last_assigned life.start life.events x) refl (owner life.start life.events x) refl,
-  stands-only life.start life.events changes asc sees x,
+  is_present-only life.start life.events changes asc sees x,
 )
 
 -- ---- an event of the group

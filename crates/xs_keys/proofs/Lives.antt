@@ -18,7 +18,7 @@ use Rattle.xs_keys.specs.GroupEvent.{delivered_ids, cursor}
 use Rattle.xs_keys.specs.GroupLife.{GroupLife, read_limit_of, present_in, new_life, life_after_ask, ask_of_read}
 use Rattle.xs_keys.specs.GroupLife.{life_after_reads, read_group_of, group_life, is_new, reads_new_entries}
 use Rattle.xs_keys.specs.GroupLife.{has_all_groups, ids_delivered_by, LifeContinues}
-use Rattle.xs_keys.proofs.NameMaps.{is_name-eq}
+use Rattle.xs_keys.proofs.NameMaps.{is_same_name-eq}
 
 -- ---- events that deliver nothing
 
@@ -84,7 +84,7 @@ other-name : (key a k : List ℕ) → is_same_name key a ≡ true → bytes_eq a
 other-name key a k same differs = by (is_same_name key k) refl where
   by : (t : Bool) → is_same_name key k ≡ t → t ≡ false
   by false e = refl
-  by true e = absurd (false≢true (sym differs ∙ (bytes_eq-Decides a k).1 (sym (is_name-eq key a same) ∙ is_name-eq key k e)))
+  by true e = absurd (false≢true (sym differs ∙ (bytes_eq-Decides a k).1 (sym (is_same_name-eq key a same) ∙ is_same_name-eq key k e)))
 
 pub others-absent : (key a : List ℕ) (more : List ReadOne) → is_same_name key a ≡ true → AllByRecursion (λ y. bytes_eq a y ≡ false) (keys_of more) → absent key more ≡ false
 others-absent key a [] same h = refl

@@ -20,11 +20,11 @@ equal_from Less e = absurd (false≢true e)
 equal_from Equal e = refl
 equal_from Greater e = absurd (false≢true e)
 
-pub is_name-eq : (a b : List ℕ) → is_same_name a b ≡ true → a ≡ b
-is_name-eq a b e = name_exact a b (equal_from _ e)
+pub is_same_name-eq : (a b : List ℕ) → is_same_name a b ≡ true → a ≡ b
+is_same_name-eq a b e = name_exact a b (equal_from _ e)
 
-pub is_name-refl : (a : List ℕ) → is_same_name a a ≡ true
-is_name-refl a = ap is_eq (tied_itself nat_list_cmp_total a)
+pub is_same_name-refl : (a : List ℕ) → is_same_name a a ≡ true
+is_same_name-refl a = ap is_eq (tied_itself nat_list_cmp_total a)
 
 module _ {X : Type 0} where
   pub get-insert : (m : NameMap X) (name : List ℕ) (x : X) (q : List ℕ) → get (insert m name x) q ≡ cond (is_same_name q name) (Some x) (get m q)
@@ -41,7 +41,7 @@ module _ {X : Type 0} where
   pub insert-same : (m : NameMap X) (name : List ℕ) (x : X) → get m name ≡ Some x → insert m name x ≡ m
   insert-same m name x e = same_map _ m (λ q. get-insert m name x q ∙ by q (is_same_name q name) refl) where
     by : (q : List ℕ) (t : Bool) → is_same_name q name ≡ t → cond t (Some x) (get m q) ≡ get m q
-    by q true h = rw (is_name-eq q name h) (sym e)
+    by q true h = rw (is_same_name-eq q name h) (sym e)
     by q false h = refl
 
 something : (a b : Option (Unit {0})) → is_some a ≡ is_some b → a ≡ b

@@ -4,7 +4,7 @@ use Rattle.std.proofs.Common.{Option, Some, None, option_and_then, option_map, i
 use Rattle.std.proofs.lemmas.Option.{same_Some}
 use Rattle.std.proofs.lemmas.Bool.{false≢true, or_left, or_right}
 use Rattle.xs_stream.specs.Id.{is_below, is_same_id, has_id}
-use Rattle.xs_stream.proofs.Order.{is_same-eq}
+use Rattle.xs_stream.proofs.Order.{is_same_id-eq}
 use Rattle.xs_group.specs.declared.claims.Claim.{Claim}
 use Rattle.xs_group.specs.Claims.{Rule, row_at, is_idle, is_removed, is_taken, claim_among, without_repeats}
 use Rattle.xs_group.specs.Claims.{claim_by_ids, from_start, is_hit, scanned_part, scan_of, row_after_claim, claimed_row}
@@ -41,9 +41,9 @@ find-among row_of (x ∷ xs) q = by (is_same_id q x) refl (row_of x) refl (find-
   by : (t : Bool) → is_same_id q x ≡ t → (r : Option RowState) → row_of x ≡ r → row_at (rows_among row_of xs) q ≡ cond (has_id xs q) (row_of q) None
       → row_at (with_some x r (rows_among row_of xs)) q ≡ cond (t || has_id xs q) (row_of q) None
   by true e None f rest =
-      let none : row_of q ≡ None = ap row_of (is_same-eq q x e) ∙ f in
+      let none : row_of q ≡ None = ap row_of (is_same_id-eq q x e) ∙ f in
       rest ∙ redelivered_row (has_id xs q) (row_of q) none ∙ sym none
-  by true e (Some row) f rest = rw e (sym (ap row_of (is_same-eq q x e) ∙ f))
+  by true e (Some row) f rest = rw e (sym (ap row_of (is_same_id-eq q x e) ∙ f))
   by false e r f rest = find-kept q x r (rows_among row_of xs) e ∙ rest
 
 -- ---- what has a row was delivered

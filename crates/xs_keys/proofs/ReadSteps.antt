@@ -19,8 +19,8 @@ use Rattle.xs_resp.specs.Token.{Token}
 use Rattle.xs_resp.specs.ReplyItems.{tokens_of}
 use Rattle.xs_keys.specs.Reply.{parts_of_read, parts}
 use Rattle.xs_keys.specs.ReplyParts.{new_part}
-use Rattle.xs_keys.specs.Reading.{parts_of, IsServed, IsServedAt, IsMadeAt, AreMade}
-use Rattle.xs_keys.proofs.NameMaps.{get-insert, is_name-eq, is_name-refl, same_map}
+use Rattle.xs_keys.specs.Reading.{parts_of_one, IsServedRead, IsServedAt, IsMadeAt, AreMade}
+use Rattle.xs_keys.proofs.NameMaps.{get-insert, is_same_name-eq, is_same_name-refl, same_map}
 
 pub ids-new : (ids : List Id) → row_ids (new_rows ids) ≡ ids
 ids-new [] = refl
@@ -34,11 +34,11 @@ ids-shown rows present (x ∷ xs) = ap (λ rest. x ∷ rest) (ids-shown rows pre
 pub insert-back : {X : Type 0} (m : NameMap X) (name : List ℕ) (a b : X) → get m name ≡ Some b → insert (insert m name a) name b ≡ m
 insert-back m name a b e = same_map _ m (λ q. get-insert (insert m name a) name b q ∙ by q (is_same_name q name) refl) where
   by : (q : List ℕ) (t : Bool) → is_same_name q name ≡ t → cond t (Some b) (get (insert m name a) q) ≡ get m q
-  by q true h = rw (is_name-eq q name h) (sym e)
+  by q true h = rw (is_same_name-eq q name h) (sym e)
   by q false h = get-insert m name a q ∙ ap (λ t. cond t (Some a) (get m q)) h
 
 pub get-inserted : {X : Type 0} (m : NameMap X) (name : List ℕ) (a : X) → get (insert m name a) name ≡ Some a
-get-inserted m name a = get-insert m name a name ∙ ap (λ t. cond t (Some a) (get m name)) (is_name-refl name)
+get-inserted m name a = get-insert m name a name ∙ ap (λ t. cond t (Some a) (get m name)) (is_same_name-refl name)
 
 -- an ask of a group that is there
 pub asked-at : (content : Content) (now : ℕ) (name group_name : List ℕ) (ask : GroupAsk) (key : KeyState) (was : GroupState)
@@ -50,7 +50,7 @@ asked-at content now name group_name ask key was had has = rw (had, has) refl
 
 -- a read of a group that is there is one among the keys
 pub served-at : (now : ℕ) (read : ReadGroupCommand) (one : ReadOne) (before : Content) (key : KeyState) (was is : GroupState) (tokens longer : List Token) (served : Served)
-    → get before one.key ≡ Some key → get key.groups read.group ≡ Some was → IsServed key.stream.entries now read one was is tokens longer served
+    → get before one.key ≡ Some key → get key.groups read.group ≡ Some was → IsServedRead key.stream.entries now read one was is tokens longer served
     → IsServedAt now read one before (insert before one.key (with_group key read.group is)) tokens longer served
 served-at now read one before key was is tokens longer served had has s = record {
   left = ap (λ (g : GroupState). insert before one.key (with_group key read.group g)) s.left ∙ sym (asked-at before now one.key read.group (ask_of_read read one.from) key was had has);
@@ -160,7 +160,7 @@ pub record Underway (now : ℕ) (read : ReadGroupCommand) (all : List ReadOne) (
 pub one-more : (now : ℕ) (read : ReadGroupCommand) (all : List ReadOne) (first : Content) (one : ReadOne) (more : List ReadOne) (before after : Content) (tokens longer : List Token) (count : ℕ) (served : Served)
     → Underway now read all first (one ∷ more) before tokens count → IsServedAt now read one before after tokens longer served → Underway now read all first more after longer (count + served.parts)
 one-more now read all first one more before after tokens longer count served u s =
-    let this = parts_of before read one in
+    let this = parts_of_one before read one in
     let split : parts before now read (one ∷ more) ≡ this ++ parts after now read more = ap (λ c. this ++ parts c now read more) (sym s.left) in
     record {
       content = ap (λ c. after_reads c now read more) s.left ∙ u.content;
@@ -190,6 +190,6 @@ one-part read key New entries (Some group) = by (new_ids read.limit group.cursor
 pub parts-le : (content : Content) (now : ℕ) (read : ReadGroupCommand) (reads : List ReadOne) → length (parts content now read reads) ≤ length reads
 parts-le content now read [] = omega arith
 parts-le content now read (one ∷ more) =
-    let this = parts_of content read one in
+    let this = parts_of_one content read one in
     let after = after_ask content now one.key read.group (ask_of_read read one.from) in
     omega (arith, one-part read one.key one.from (entries_in (get content one.key)) (group_in (get content one.key) read.group), parts-le after now read more, length-append this (parts after now read more))

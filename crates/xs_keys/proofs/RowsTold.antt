@@ -7,7 +7,7 @@ use Rattle.std.proofs.lemmas.Bool.Decides.{nat_tests}
 use Rattle.std.proofs.lemmas.List.{take-map}
 use Rattle.xs_stream.specs.Id.{is_below, is_same_id, has_id}
 use Rattle.xs_stream.specs.StreamContent.{Ascends, AllAbove, is_within}
-use Rattle.xs_stream.proofs.Order.{is_same-eq, is_same-refl, is_same-symm, below-not_same}
+use Rattle.xs_stream.proofs.Order.{is_same_id-eq, is_same_id-refl, is_same_id-symm, below-not_same}
 use Rattle.xs_group.specs.GroupState.{RowState, idle, is_same_name}
 use Rattle.xs_group.specs.Claims.{row_at}
 use Rattle.xs_group.specs.Report.{is_of, is_selected, pending_row}
@@ -20,7 +20,7 @@ use Rattle.xs_keys.specs.ReplyParts.{array, row_reply}
 use Rattle.xs_keys.specs.Telling.{TellsEach}
 use Rattle.xs_keys.specs.RepliesTell.{IsAskedRow, TellsRow, TellsRows}
 use Rattle.xs_keys.proofs.Truths.{first_of, second_of}
-use Rattle.xs_keys.proofs.NameMaps.{is_name-eq, is_name-refl}
+use Rattle.xs_keys.proofs.NameMaps.{is_same_name-eq, is_same_name-refl}
 use Rattle.xs_keys.proofs.Owners.{owner-row, row-found, of_row}
 use Rattle.xs_keys.proofs.TimesOfRows.{is-last-touched}
 use Rattle.xs_keys.proofs.JobCounts.{not_itself}
@@ -49,11 +49,11 @@ has-passed test [] asc x = refl
 has-passed test (e ∷ es) asc x = by (test e) (is_same_id x e.0) refl refl (has-passed test es asc.1 x) where
   by : (t s : Bool) → test e ≡ t → is_same_id x e.0 ≡ s → has_id (map (λ f. f.0) (filter test es)) x ≡ option_map_or (λ row. test (x, row)) (row_at es x) false
       → has_id (map (λ f. f.0) (cond t (e ∷ filter test es) (filter test es))) x ≡ option_map_or (λ row. test (x, row)) (cond s (Some e.1) (row_at es x)) false
-  by true true f g rest = ap (λ s. s || has_id (map (λ f. f.0) (filter test es)) x) g ∙ sym (ap (λ y. test (y, e.1)) (is_same-eq x e.0 g) ∙ f)
+  by true true f g rest = ap (λ s. s || has_id (map (λ f. f.0) (filter test es)) x) g ∙ sym (ap (λ y. test (y, e.1)) (is_same_id-eq x e.0 g) ∙ f)
   by true false f g rest = ap (λ s. s || has_id (map (λ f. f.0) (filter test es)) x) g ∙ rest
   by false true f g rest =
-      ap (has_id (map (λ f. f.0) (filter test es))) (is_same-eq x e.0 g) ∙ not_itself e.0 (map (λ f. f.0) (filter test es)) (above-passed test e.0 es asc.0)
-      ∙ sym (ap (λ y. test (y, e.1)) (is_same-eq x e.0 g) ∙ f)
+      ap (has_id (map (λ f. f.0) (filter test es))) (is_same_id-eq x e.0 g) ∙ not_itself e.0 (map (λ f. f.0) (filter test es)) (above-passed test e.0 es asc.0)
+      ∙ sym (ap (λ y. test (y, e.1)) (is_same_id-eq x e.0 g) ∙ f)
   by false false f g rest = rest
 
 -- each of these is the row of its id
@@ -65,11 +65,11 @@ rows-more : (first : Id × RowState) (all es : List (Id × RowState)) → AllAbo
 rows-more first all [] above are = tt
 rows-more first all (e ∷ es) above are = (ap (λ t. cond t (Some first.1) (row_at all e.0)) (other e.0 above.0) ∙ are.0, rows-more first all es above.1 are.1) where
   other : (x : Id) → is_below first.0 x ≡ true → is_same_id x first.0 ≡ false
-  other x low = is_same-symm x first.0 ∙ below-not_same first.0 x low
+  other x low = is_same_id-symm x first.0 ∙ below-not_same first.0 x low
 
 are-rows-of : (all : List (Id × RowState)) → Ascends (map (λ e. e.0) all) → AreRowsOf all all
 are-rows-of [] asc = tt
-are-rows-of (e ∷ es) asc = (ap (λ t. cond t (Some e.1) (row_at es e.0)) (is_same-refl e.0), rows-more e es es asc.0 (are-rows-of es asc.1))
+are-rows-of (e ∷ es) asc = (ap (λ t. cond t (Some e.1) (row_at es e.0)) (is_same_id-refl e.0), rows-more e es es asc.0 (are-rows-of es asc.1))
 
 rows-passed : (test : Id × RowState → Bool) (all es : List (Id × RowState)) → AreRowsOf all es → AreRowsOf all (filter test es)
 rows-passed test all [] are = tt
@@ -113,7 +113,7 @@ module _ (asked : PendingRowsCommand) (now : ℕ) (life : GroupLife) (asc : Asce
           owned = owner-of x row e;
           within = first_of (is_within asked.range x) (nat_le asked.min_idle (idle now row.time) && is_of asked.consumer row) t;
           long_enough = subst (λ (time : ℕ). asked.min_idle ≤ now - time) (is-last-touched life.start life.events x row e).0 old;
-          named = λ name f. is_name-eq row.consumer name (ap (λ o. is_of o row) (sym f) ∙ second_of (nat_le asked.min_idle (idle now row.time)) (is_of asked.consumer row) rest);
+          named = λ name f. is_same_name-eq row.consumer name (ap (λ o. is_of o row) (sym f) ∙ second_of (nat_le asked.min_idle (idle now row.time)) (is_of asked.consumer row) rest);
         }
 
   row-asked : (x : Id) → IsAskedRow asked now life x → option_map_or (λ row. test (x, row)) (row_at all x) false ≡ true
@@ -124,7 +124,7 @@ module _ (asked : PendingRowsCommand) (now : ℕ) (life : GroupLife) (asc : Asce
 
     named : (row : RowState) (wanted : Option (List ℕ)) → asked.consumer ≡ wanted → row.consumer ≡ is.consumer → is_of wanted row ≡ true
     named row None f same = refl
-    named row (Some name) f same = ap (λ n. is_same_name n name) (same ∙ is.named name f) ∙ is_name-refl name
+    named row (Some name) f same = ap (λ n. is_same_name n name) (same ∙ is.named name f) ∙ is_same_name-refl name
 
     by : (r : Option RowState) → row_at (rows life.start life.events) x ≡ r → option_map_or (λ row. is_selected asked.range asked.min_idle now asked.consumer (x, row)) (row_at (rows life.start life.events) x) false ≡ true
     by None e = absurd (false≢true (has None (ap of_row (sym e ∙ row-found life.start life.events x) ∙ sym (owner-row life.start life.events x) ∙ is.owned)))

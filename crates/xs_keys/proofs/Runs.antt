@@ -18,7 +18,7 @@ use Rattle.xs_keys.proofs.Histories.{present-in-life}
 use Rattle.xs_keys.proofs.ClaimedIds.{in-full, claims-idle}
 use Rattle.xs_keys.proofs.TimesOfRows.{is-last-touched}
 use Rattle.xs_keys.proofs.Owners.{owned-until-settled, changes-by-claims, owner-row, row-found, of_row}
-use Rattle.xs_keys.proofs.Streams.{ascends-given}
+use Rattle.xs_keys.proofs.Streams.{ascends-added}
 use Rattle.xs_keys.proofs.Lives.{goes-on}
 use Rattle.xs_keys.proofs.Tellings.{is-told}
 use Rattle.xs_keys.proofs.Contents.{content-step}
@@ -83,8 +83,8 @@ runs-more old events replies now next e rest reply so_far formed step = λ past 
     let more = one_more here.0 e reply now next formed here.1 step in
     (more.0, more.1, λ answers last done. rw append_assoc (here.2 (reply ∷ answers) last (more.2 rest answers last done)))
 
-pub delivers-new : (past : History) (key group : List ℕ) (life : GroupLife) → group_life past key group ≡ Some life → DeliversNew life
-delivers-new past key group life e =
+pub new_ids-new : (past : History) (key group : List ℕ) (life : GroupLife) → group_life past key group ≡ Some life → DeliversNew life
+new_ids-new past key group life e =
     let asc = present-in-life past key group life e in
     record {
       ascend = ascends-delivered life.start life.events asc;
@@ -140,10 +140,10 @@ pub headline : (past events : History) (replies : List Reply) (history : History
 headline past events replies history answers = record {
   replies = answers;
   steps_are_consistent = λ later e earlier f content is. (content-consistent earlier content is, content-step earlier content e.0 e.1 is);
-  ids_ascend = λ later earlier f key changes g. ascends-given changes;
+  ids_ascend = λ later earlier f key changes g. ascends-added changes;
   formed = formed-after past events replies history answers;
   lives_are_apart = at-each-event past events replies history answers LivesAreApart (λ earlier e formed key group. goes-on earlier e.0 e.1 key group formed);
-  deliveries = λ later earlier e key group life f. delivers-new earlier key group life f;
+  deliveries = λ later earlier e key group life f. new_ids-new earlier key group life f;
   owners = λ later earlier e key group life f. has-one-owner earlier key group life f;
   places = λ later earlier e key group changes life k g. has-its-places earlier key group changes life k g;
   moves = at-each-event past events replies history answers EachMovesAlong (λ earlier e formed key group x. goes-along earlier e.0 e.1 key group x formed);

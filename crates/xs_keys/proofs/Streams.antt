@@ -2,7 +2,7 @@
 use Rattle.std.proofs.Common.{◌≡◌, Bool, true, false, not, cond, ◌&&◌, List, [], ◌∷◌, ◌++◌, filter, Option, Some, None}
 use Rattle.std.proofs.Common.{Result, Ok, Err, is_ok, sym, ap, ◌∙◌, refl}
 use Rattle.std.proofs.lemmas.List.{append-nil}
-use Rattle.xs_stream.proofs.Order.{is_same-refl, below-irrefl, below-not_same, below-not_back, up_to-below}
+use Rattle.xs_stream.proofs.Order.{is_same_id-refl, below-irrefl, below-not_same, below-not_back, up_to-below}
 use Rattle.xs_stream.proofs.Order.{not_above-trans}
 use Rattle.xs_stream.proofs.Assigning.{assigned-above}
 use Rattle.xs_stream.proofs.InOrder.{ids_of-append, ascends-push, ascends-filter, up_to-filter, filter-filter}
@@ -43,20 +43,20 @@ ascends-entry : (given : List (Id × List Field)) (t : Id) (r : Result Id AddErr
 ascends-entry given t (Ok id) fields above a up = rw (ids_of-append given ((id, fields) ∷ [])) (ascends-push (ids_of given) t id a up (above id refl))
 ascends-entry given t (Err e) fields above a up = rw (append-nil given) a
 
-ascends-gives : (given : List (Id × List Field)) (t : Id) (change : StreamEvent) → Ascends (ids_of given) → AllUpTo t (ids_of given) → Ascends (ids_of (given ++ entries_added_by change t))
-ascends-gives given t (add_entry now id fields trim) a up = ascends-entry given t (assigned now t id) fields (λ x e. assigned-above now t id x e) a up
-ascends-gives given t (delete_entries ids) a up = rw (append-nil given) a
-ascends-gives given t (trim_entries trim) a up = rw (append-nil given) a
+ascends-adds : (given : List (Id × List Field)) (t : Id) (change : StreamEvent) → Ascends (ids_of given) → AllUpTo t (ids_of given) → Ascends (ids_of (given ++ entries_added_by change t))
+ascends-adds given t (add_entry now id fields trim) a up = ascends-entry given t (assigned now t id) fields (λ x e. assigned-above now t id x e) a up
+ascends-adds given t (delete_entries ids) a up = rw (append-nil given) a
+ascends-adds given t (trim_entries trim) a up = rw (append-nil given) a
 
-pub ascends-given : (changes : List StreamEvent) → Ascends (ids_of (added_in changes))
-ascends-given [] = tt
-ascends-given (change ∷ past) = ascends-gives (added_in past) (top past) change (ascends-given past) (up_to-top past)
+pub ascends-added : (changes : List StreamEvent) → Ascends (ids_of (added_in changes))
+ascends-added [] = tt
+ascends-added (change ∷ past) = ascends-adds (added_in past) (top past) change (ascends-added past) (up_to-top past)
 
-pub ascends-live : (changes : List StreamEvent) → Ascends (ids_of (present_entries changes))
-ascends-live changes = ascends-filter (λ e. is_present changes e.0) (added_in changes) (ascends-given changes)
+pub ascends-present : (changes : List StreamEvent) → Ascends (ids_of (present_entries changes))
+ascends-present changes = ascends-filter (λ e. is_present changes e.0) (added_in changes) (ascends-added changes)
 
-pub up_to-live : (changes : List StreamEvent) → AllUpTo (top changes) (ids_of (present_entries changes))
-up_to-live changes = up_to-filter (λ e. is_present changes e.0) (top changes) (added_in changes) (up_to-top changes)
+pub up_to-present : (changes : List StreamEvent) → AllUpTo (top changes) (ids_of (present_entries changes))
+up_to-present changes = up_to-filter (λ e. is_present changes e.0) (top changes) (added_in changes) (up_to-top changes)
 
 -- ---- the step of the top
 
@@ -74,10 +74,10 @@ not_new : (t : Id) (r : Result Id AddError) (fields : List Field) (x : Id) → (
 not_new t (Ok id) fields x above up = rw (below-not_same x id (up_to-below t x id up (above id refl))) refl
 not_new t (Err e) fields x above up = refl
 
-pub gives-not_new : (change : StreamEvent) (t x : Id) → is_below t x ≡ false → has_id (ids_of (entries_added_by change t)) x ≡ false
-gives-not_new (add_entry now id fields trim) t x up = not_new t (assigned now t id) fields x (λ y e. assigned-above now t id y e) up
-gives-not_new (delete_entries ids) t x up = refl
-gives-not_new (trim_entries trim) t x up = refl
+pub adds-not_new : (change : StreamEvent) (t x : Id) → is_below t x ≡ false → has_id (ids_of (entries_added_by change t)) x ≡ false
+adds-not_new (add_entry now id fields trim) t x up = not_new t (assigned now t id) fields x (λ y e. assigned-above now t id y e) up
+adds-not_new (delete_entries ids) t x up = refl
+adds-not_new (trim_entries trim) t x up = refl
 
 -- a filter of entries up to t, by a test that differs at ids above t alone
 filter-up_to : (t : Id) (p q : Id → Bool) → ((x : Id) → is_below t x ≡ false → p x ≡ q x) → (es : List (Id × List Field)) → AllUpTo t (ids_of es) → filter (λ e. p e.0) es ≡ filter (λ e. q e.0) es
@@ -92,19 +92,19 @@ filter-append p (x ∷ xs) ys = by (filter-append p xs ys) (p x) where
   by rest false = rest
 
 -- the new entry stands unless it is dropped at once
-entry-stands : (d : Id → Bool) (was : Id → Bool) (r : Result Id AddError) (fields : List Field)
+entry-is_present : (d : Id → Bool) (was : Id → Bool) (r : Result Id AddError) (fields : List Field)
     → filter (λ e. cond (d e.0) false (cond (has_id (ids_of (entry_of r fields)) e.0) true (was e.0))) (entry_of r fields) ≡ filter (λ e. not (d e.0)) (entry_of r fields)
-entry-stands d was (Ok id) fields = rw (is_same-refl id) (by (d id)) where
+entry-is_present d was (Ok id) fields = rw (is_same_id-refl id) (by (d id)) where
   by : (t : Bool) → cond {A = List (Id × List Field)} (cond t false true) ((id, fields) ∷ []) [] ≡ cond (not t) ((id, fields) ∷ []) []
   by true = refl
   by false = refl
-entry-stands d was (Err e) fields = refl
+entry-is_present d was (Err e) fields = refl
 
-gives-stands : (change : StreamEvent) (t : Id) (d was : Id → Bool)
+adds-is_present : (change : StreamEvent) (t : Id) (d was : Id → Bool)
     → filter (λ e. cond (d e.0) false (cond (has_id (ids_of (entries_added_by change t)) e.0) true (was e.0))) (entries_added_by change t) ≡ filter (λ e. not (d e.0)) (entries_added_by change t)
-gives-stands (add_entry now id fields trim) t d was = entry-stands d was (assigned now t id) fields
-gives-stands (delete_entries ids) t d was = refl
-gives-stands (trim_entries trim) t d was = refl
+adds-is_present (add_entry now id fields trim) t d was = entry-is_present d was (assigned now t id) fields
+adds-is_present (delete_entries ids) t d was = refl
+adds-is_present (trim_entries trim) t d was = refl
 
 both_pass : (d s : Bool) → cond d false s ≡ (s && not d)
 both_pass true true = refl
@@ -113,12 +113,12 @@ both_pass false true = refl
 both_pass false false = refl
 
 -- after a change those live are what was live and what is new, without what the change drops
-pub live-step : (change : StreamEvent) (past : List StreamEvent)
+pub present-step : (change : StreamEvent) (past : List StreamEvent)
     → present_entries (change ∷ past) ≡ filter (λ e. not (removes_id change (top past) (ids_of (present_entries past ++ entries_added_by change (top past))) e.0)) (present_entries past ++ entries_added_by change (top past))
-live-step change past =
+present-step change past =
     filter-append (λ e. is_present (change ∷ past) e.0) (added_in past) new
     ∙ ap (λ old. old ++ filter (λ e. is_present (change ∷ past) e.0) new) old_ones
-    ∙ ap (λ rest. filter kept (present_entries past) ++ rest) (gives-stands change (top past) d (is_present past))
+    ∙ ap (λ rest. filter kept (present_entries past) ++ rest) (adds-is_present change (top past) d (is_present past))
     ∙ sym (filter-append kept (present_entries past) new)
   where
     new : List (Id × List Field)
@@ -132,7 +132,7 @@ live-step change past =
 
     old_ones : filter (λ e. is_present (change ∷ past) e.0) (added_in past) ≡ filter kept (present_entries past)
     old_ones =
-        filter-up_to (top past) (is_present (change ∷ past)) (λ x. is_present past x && not (d x)) (λ x up. rw (gives-not_new change (top past) x up) (both_pass (d x) (is_present past x)))
+        filter-up_to (top past) (is_present (change ∷ past)) (λ x. is_present past x && not (d x)) (λ x up. rw (adds-not_new change (top past) x up) (both_pass (d x) (is_present past x)))
         (added_in past) (up_to-top past)
         ∙ sym (filter-filter (λ (e : Id × List Field). is_present past e.0) kept (λ e. is_present past e.0 && not (d e.0)) (λ e. refl) (added_in past))
 
@@ -142,17 +142,17 @@ filter-all (e ∷ es) = ap (λ rest. e ∷ rest) (filter-all es)
 
 -- ---- the step of the stream
 
-added-live : (r : Result Id AddError) (fields : List Field) (trim : Option Trim) (kept : StreamState)
+added-present : (r : Result Id AddError) (fields : List Field) (trim : Option Trim) (kept : StreamState)
     → filter (λ e. not (is_ok r && option_map_or (λ t. is_trimmed t (ids_of (kept.entries ++ entry_of r fields)) e.0) trim false)) (kept.entries ++ entry_of r fields) ≡ (stream_with r fields trim kept).entries
-added-live (Ok id) fields None kept = filter-all (kept.entries ++ (id, fields) ∷ [])
-added-live (Ok id) fields (Some trim) kept = refl
-added-live (Err e) fields trim kept = filter-all (kept.entries ++ []) ∙ append-nil kept.entries
+added-present (Ok id) fields None kept = filter-all (kept.entries ++ (id, fields) ∷ [])
+added-present (Ok id) fields (Some trim) kept = refl
+added-present (Err e) fields trim kept = filter-all (kept.entries ++ []) ∙ append-nil kept.entries
 
-live-after : (change : StreamEvent) (past : List StreamEvent)
+present-after : (change : StreamEvent) (past : List StreamEvent)
     → filter (λ e. not (removes_id change (top past) (ids_of (present_entries past ++ entries_added_by change (top past))) e.0)) (present_entries past ++ entries_added_by change (top past)) ≡ (stream_after change (stream_of past)).entries
-live-after (add_entry now id fields trim) past = added-live (assigned now (top past) id) fields trim (stream_of past)
-live-after (delete_entries ids) past = rw (append-nil (present_entries past)) refl
-live-after (trim_entries trim) past = rw (append-nil (present_entries past)) refl
+present-after (add_entry now id fields trim) past = added-present (assigned now (top past) id) fields trim (stream_of past)
+present-after (delete_entries ids) past = rw (append-nil (present_entries past)) refl
+present-after (trim_entries trim) past = rw (append-nil (present_entries past)) refl
 
 top-after : (change : StreamEvent) (past : List StreamEvent) → top (change ∷ past) ≡ (stream_after change (stream_of past)).top
 top-after (add_entry now id fields trim) past = top-entry (added_in past) (assigned now (top past) id) fields trim (present_entries past) (λ x e. assigned-above now (top past) id x e)
@@ -163,5 +163,5 @@ top-after (trim_entries trim) past = ap top_of (append-nil (added_in past))
 pub stream-step : (change : StreamEvent) (past : List StreamEvent) → stream_of (change ∷ past) ≡ stream_after change (stream_of past)
 stream-step change past =
     let t = top-after change past in
-    let l = live-step change past ∙ live-after change past in
+    let l = present-step change past ∙ present-after change past in
     λ i. record { top = t i; entries = l i }

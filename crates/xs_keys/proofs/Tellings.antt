@@ -8,7 +8,7 @@ use Rattle.std.proofs.lemmas.Bool.{false≢true, or_right, and_from}
 use Rattle.std.specs.List.{flat_map, list_all, list_any, IsDistinct, AllByRecursion}
 use Rattle.xs_stream.specs.Id.{is_below, is_same_id, has_id, zero_id, assigned}
 use Rattle.xs_stream.proofs.InOrder.{ids_of-filter, length-filter-le}
-use Rattle.xs_stream.proofs.Order.{is_same-eq, is_same-refl}
+use Rattle.xs_stream.proofs.Order.{is_same_id-eq, is_same_id-refl}
 use Rattle.xs_group.specs.GroupState.{GroupState, RowState, is_same_name, new_ids, own_ids, owned_ids, group_after_ack}
 use Rattle.xs_group.specs.GroupState.{unless_acked}
 use Rattle.xs_group.specs.declared.claims.Scan as scans
@@ -44,8 +44,8 @@ use Rattle.xs_keys.specs.RepliesTell.{TellsRows, IsTold}
 use Rattle.xs_keys.specs.ReadsTell.{TellsNew, IsOwnPast, TellsRead, TellsReads}
 use Rattle.xs_keys.proofs.Truths.{first_of, second_of}
 use Rattle.xs_keys.proofs.IdLists.{has_id-where, ascends-where}
-use Rattle.xs_keys.proofs.NameMaps.{is_name-eq, is_name-refl}
-use Rattle.xs_keys.proofs.Streams.{ascends-live, stream-step}
+use Rattle.xs_keys.proofs.NameMaps.{is_same_name-eq, is_same_name-refl}
+use Rattle.xs_keys.proofs.Streams.{ascends-present, stream-step}
 use Rattle.xs_keys.proofs.GroupSteps.{group-step}
 use Rattle.xs_keys.proofs.Deliveries.{ascends-delivered}
 use Rattle.xs_keys.proofs.Histories.{present-in-life}
@@ -72,7 +72,7 @@ fields-kept p (e ∷ es) x h = by (p e.0) (is_same_id x e.0) refl refl (fields-k
   by : (kept same : Bool) → p e.0 ≡ kept → is_same_id x e.0 ≡ same → fields_at (filter (λ f. p f.0) es) x ≡ fields_at es x
       → fields_at (cond kept (e ∷ filter (λ f. p f.0) es) (filter (λ f. p f.0) es)) x ≡ cond same (Some e.1) (fields_at es x)
   by true same k s rest = ap (λ t. cond t (Some e.1) (fields_at (filter (λ f. p f.0) es) x)) s ∙ ap (cond same (Some e.1)) rest
-  by false true k s rest = absurd (false≢true (sym k ∙ ap p (sym (is_same-eq x e.0 s)) ∙ h))
+  by false true k s rest = absurd (false≢true (sym k ∙ ap p (sym (is_same_id-eq x e.0 s)) ∙ h))
   by false false k s rest = rest
 
 -- an entry has fields exactly if it is there
@@ -106,7 +106,7 @@ tells-null changes x h = by (fields_at (present_entries changes) x) refl where
 
 tells-each : (Tells : Id → Reply → Type 0) (f : Id → Reply) (xs : List Id) → ((x : Id) → has_id xs x ≡ true → Tells x (f x)) → TellsEach Tells xs (map f xs)
 tells-each Tells f [] tells = tt
-tells-each Tells f (x ∷ xs) tells = (tells x (rw is_same-refl refl), tells-each Tells f xs (λ y h. tells y (or_right (is_same_id y x) (has_id xs y) h)))
+tells-each Tells f (x ∷ xs) tells = (tells x (rw is_same_id-refl refl), tells-each Tells f xs (λ y h. tells y (or_right (is_same_id y x) (has_id xs y) h)))
 
 tells-entries : (changes : List StreamEvent) (xs : List Id) → AreAmong xs (ids_of (present_entries changes)) → TellsEach (TellsEntry (added_in changes)) xs (map (entry_reply (present_entries changes)) xs)
 tells-entries changes xs among = tells-each (TellsEntry (added_in changes)) (entry_reply (present_entries changes)) xs (λ x h. tells-entry changes x (among x h))
@@ -128,8 +128,8 @@ tells-taken false changes xs among = (map (entry_reply (present_entries changes)
 
 -- ---- what is delivered and taken is in the stream
 
-delivers-among : (limit : Option ℕ) (a : Id) (present : List Id) → AreAmong (new_ids limit a present) present
-delivers-among limit a present x h =
+new_ids-among : (limit : Option ℕ) (a : Id) (present : List Id) → AreAmong (new_ids limit a present) present
+new_ids-among limit a present x h =
     let above = limited-has limit (filter (λ y. is_below a y) present) x h in
     second_of (is_below a x) (has_id present x) (sym (has_id-where (λ y. is_below a y) present x) ∙ above)
 
@@ -223,10 +223,10 @@ scan-is c past now name group consumer rule start limit t = rw (t.changes_are, t
 -- ---- reads
 
 -- what a read with `>` delivers in a group that is there
-delivers-there : (c : Content) (past : History) (read : ReadGroupCommand) (name : List ℕ) (t : IsThere c past name read.group)
+new_ids-there : (c : Content) (past : History) (read : ReadGroupCommand) (name : List ℕ) (t : IsThere c past name read.group)
     → has_all_groups past (ReadGroup read) ≡ true → reads_new_entries (ReadGroup read) name ≡ true
     → ids_delivered_by past (ReadGroup read) name read.group ≡ new_ids read.limit (cursor t.life.start t.life.events) (ids_of (present_entries t.changes))
-delivers-there c past read name t act new = rw (new, act, is_name-refl read.group, t.life_is, t.changes_are) refl
+new_ids-there c past read name t act new = rw (new, act, is_same_name-refl read.group, t.life_is, t.changes_are) refl
 
 -- the entries that a consumer has
 module _ (past : History) (key group : List ℕ) (life : GroupLife) (is : group_life past key group ≡ Some life) (consumer : List ℕ) where
@@ -251,14 +251,14 @@ module _ (past : History) (key group : List ℕ) (life : GroupLife) (is : group_
   own-owner x h = owner-row life.start life.events x ∙ by (pending_row_at life.start life.events x) (first_of (mine x) (has_id (delivered_ids life.start life.events) x) (sym (has-own x) ∙ h)) where
     by : (r : Option RowState) → option_map_or (λ row. is_same_name row.consumer consumer) r false ≡ true → of_row r ≡ Some consumer
     by None e = absurd (false≢true e)
-    by (Some row) e = ap Some (is_name-eq row.consumer consumer e)
+    by (Some row) e = ap Some (is_same_name-eq row.consumer consumer e)
 
   owner-own : (x : Id) → owner life.start life.events x ≡ Some consumer → has_id own x ≡ true
   unfolding mine held
   owner-own x h = has-own x ∙ by (pending_row_at life.start life.events x) refl (sym (owner-row life.start life.events x) ∙ h) where
     by : (r : Option RowState) → pending_row_at life.start life.events x ≡ r → of_row r ≡ Some consumer → (option_map_or (λ row. is_same_name row.consumer consumer) (pending_row_at life.start life.events x) false && has_id (delivered_ids life.start life.events) x) ≡ true
     by None e f = absurd (subst (λ o. cond (is_some o) (Unit {0}) ⊥) (sym f) tt)
-    by (Some row) e f = rw (e, held-delivered life.start life.events x (ap is_some e)) (and_from (is_same_name row.consumer consumer) true (ap (λ name. is_same_name name consumer) (same_Some row.consumer consumer f) ∙ is_name-refl consumer) refl)
+    by (Some row) e f = rw (e, held-delivered life.start life.events x (ap is_some e)) (and_from (is_same_name row.consumer consumer) true (ap (λ name. is_same_name name consumer) (same_Some row.consumer consumer f) ∙ is_same_name-refl consumer) refl)
 
   -- those that a read shows are the first of them past an id
   pub shows-first : (from : Id) (limit : Option ℕ) → AreFirst (IsOwnPast (Some life) consumer from) limit (own_ids consumer limit from (rows life.start life.events))
@@ -280,8 +280,8 @@ told-read c next past read one t same act asks = by one.from asks where
   by : (from : ReadFrom) → (is_new from ≡ true → reads_new_entries (ReadGroup read) one.key ≡ true)
       → TellsRead past read one.key from (option_map_or (parts_of_read read one.key from (entries_in (get next one.key))) (group_in (get next one.key) read.group) [])
   by New new =
-      rw (same, t.key_is, t.state_is, t.stream_is, t.holds.cursor_is, delivers-there c past read one.key t act (new refl), t.changes_are)
-      (tells-new one.key t.changes (new_ids read.limit (cursor t.life.start t.life.events) (ids_of (present_entries t.changes))) (delivers-among read.limit (cursor t.life.start t.life.events) (ids_of (present_entries t.changes))))
+      rw (same, t.key_is, t.state_is, t.stream_is, t.holds.cursor_is, new_ids-there c past read one.key t act (new refl), t.changes_are)
+      (tells-new one.key t.changes (new_ids read.limit (cursor t.life.start t.life.events) (ids_of (present_entries t.changes))) (new_ids-among read.limit (cursor t.life.start t.life.events) (ids_of (present_entries t.changes))))
   by (After id) new =
       let ids = own_ids read.consumer read.limit id (rows t.life.start t.life.events) in
       let here : get next one.key ≡ Some t.key = same ∙ t.key_is in (
@@ -308,7 +308,7 @@ told-reads c past now read is act (one ∷ more) next distinct open_all same ask
   _,
   refl,
   told-read c next past read one (there c past one.key read.group is (first_of (is_some (group_life past one.key read.group)) (list_all (λ o. is_some (group_life past o.key read.group)) more) open_all))
-      (same one.key (rw (is_name-refl one.key) refl)) act (λ new. asks one.key (rw (is_name-refl one.key, new) refl)),
+      (same one.key (rw (is_same_name-refl one.key) refl)) act (λ new. asks one.key (rw (is_same_name-refl one.key, new) refl)),
   told-reads c past now read is act more (after_ask next now one.key read.group (ask_of_read read one.from)) distinct.1
       (second_of (is_some (group_life past one.key read.group)) (list_all (λ o. is_some (group_life past o.key read.group)) more) open_all)
       (λ key among. asked-elsewhere next now one.key read.group (ask_of_read read one.from) key (others key more distinct.0 among)
@@ -332,7 +332,7 @@ told-add : (past : History) (c : Content) (now : ℕ) (add : AddCommand) → IsC
 told-add past c now add is =
     subst (λ t. TellsAddition (option_map_or added_in (key_life past add.key) []) add.fields (reply c now (Add add))
     (option_map_or added_in (cond t (option_map (λ changes. add_entry now add.id add.fields add.trim ∷ changes) (life_or_new add.make (key_life past add.key))) (key_life past add.key)) []))
-    (sym (is_name-refl add.key)) (by add.make (get c add.key) (key_life past add.key) (is add.key))
+    (sym (is_same_name-refl add.key)) (by add.make (get c add.key) (key_life past add.key) (is add.key))
   where
     by : (make : Bool) (key : Option KeyState) (life : Option (List StreamEvent)) → KeyHolds key life (λ group. group_life past add.key group)
         → TellsAddition (option_map_or added_in life []) add.fields (option_map_or (λ k. assigned_reply (assigned now k.stream.top add.id)) (key_or_new make key) NullBulk)
@@ -360,7 +360,7 @@ told-removal : (past : History) (c : Content) (name : List ℕ) (change : Stream
     → removed_count change (get c name) + length (present_in (cond (is_same_name name name) (option_map (λ changes. change ∷ changes) (key_life past name)) (key_life past name))) ≡ present_count name past
 told-removal past c name change is fewer =
     subst (λ t. removed_count change (get c name) + length (present_in (cond t (option_map (λ changes. change ∷ changes) (key_life past name)) (key_life past name))) ≡ present_count name past)
-    (sym (is_name-refl name)) (by (get c name) (key_life past name) (is name))
+    (sym (is_same_name-refl name)) (by (get c name) (key_life past name) (is name))
   where
     by : (key : Option KeyState) (life : Option (List StreamEvent)) → KeyHolds key life (λ group. group_life past name group)
         → removed_count change key + length (present_in (option_map (λ changes. change ∷ changes) life)) ≡ length (present_in life)
@@ -396,7 +396,7 @@ told-ack past c now name group ids is = (_, refl, by (is_some (group_life past n
   lived life = life_after_ask now (present_in (key_life past name)) (acknowledge ids) life
 
   own : count (group_life ((now, Ack name group ids) ∷ past) name group) ≡ count (lived (group_life past name group))
-  own = λ i. count (cond (is_name-refl name i && is_name-refl group i) (life_after_ask now (present_in (key_life past name)) (acknowledge ids) (group_life past name group)) (group_life past name group))
+  own = λ i. count (cond (is_same_name-refl name i && is_same_name-refl group i) (life_after_ask now (present_in (key_life past name)) (acknowledge ids) (group_life past name group)) (group_life past name group))
 
   nothing : (life : Option GroupLife) → is_some life ≡ false → 0 + count (lived life) ≡ count life
   nothing None e = refl
@@ -406,7 +406,7 @@ told-ack past c now name group ids is = (_, refl, by (is_some (group_life past n
   by false e = (λ i. gone (missing c past name group is e i) + own i) ∙ nothing (group_life past name group) e
   by true e =
       let t = there c past name group is e in
-      let ascend : Ascends (present_in (key_life past name)) = rw t.changes_are (ascends-live t.changes) in
+      let ascend : Ascends (present_in (key_life past name)) = rw t.changes_are (ascends-present t.changes) in
       let step = group-step t.life t.state t.holds now (present_in (key_life past name)) ascend (acknowledge ids) in
       let number : gone (group_in (get c name) group) ≡ length t.state.rows.entries - length (group_after_ack ids t.state).rows.entries =
       (λ i. gone (group_in (t.key_is i) group)) ∙ ap gone t.state_is in
@@ -434,7 +434,7 @@ is-told past c now (Claim command) is formed = (
         said-of c command.key command.group t.key t.state t.key_is t.state_is
             (λ entries g. taken_reply command.rule.just_id entries (claim_by_ids g.rows.entries (ids_of entries) now command.rule command.ids).take) ∙ told.1,
         told.2,
-        rw (is_name-refl command.key, is_name-refl command.group, t.life_is, t.changes_are)
+        rw (is_same_name-refl command.key, is_same_name-refl command.group, t.life_is, t.changes_are)
             (assigned-claim t.life.start t.life.events now (ids_of (present_entries t.changes)) command.consumer command.rule command.ids),
       ),
   λ gone. rw (missing c past command.key command.group is gone) refl,
@@ -451,7 +451,7 @@ is-told past c now (AutoClaim command) is formed = (
             ∙ ap (λ (s : scans.Scan). array (id_reply s.cursor ∷ array told.0 ∷ array (map id_reply s.claim.removed) ∷ []))
             (scan-is c past now command.key command.group command.consumer command.rule command.start command.limit t),
         told.2,
-        rw (is_name-refl command.key, is_name-refl command.group, t.life_is, t.changes_are)
+        rw (is_same_name-refl command.key, is_same_name-refl command.group, t.life_is, t.changes_are)
             (assigned-scan t.life.start t.life.events now (ids_of (present_entries t.changes)) command.consumer command.rule command.start command.limit),
       ),
   λ gone. rw (missing c past command.key command.group is gone) refl,

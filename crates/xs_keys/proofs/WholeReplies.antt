@@ -1,6 +1,6 @@
 -- The replies to commands are whole: no array says that it has more or fewer items than it has.
 use Rattle.std.proofs.Common.{ℕ, decimal, Bool, true, false, List, [], ◌∷◌, map, Option, Some, None}
-use Rattle.xs_resp.specs.WholeReplies.{IsWhole, AreWhole}
+use Rattle.xs_resp.specs.WholeReplies.{IsWholeReply, AreWhole}
 use Rattle.xs_resp.proofs.Wholeness.{items-whole, all-whole, whole-append}
 use Rattle.xs_keys.specs.Terms.{GroupState, option_map_or, get, OwnerCount, GroupSummary, PendingRow, ReadGroupCommand}
 use Rattle.xs_keys.specs.Terms.{ReadOne, ReadFrom, New, After, new_ids, Bulk, Int, NullBulk, NullArray, flat_map, Id}
@@ -16,31 +16,31 @@ fields-whole : (fields : List Field) → AreWhole (flat_map field_replies fields
 fields-whole [] = tt
 fields-whole (f ∷ fs) = (tt, (tt, fields-whole fs))
 
-pub present-whole : (entry : Id × List Field) → IsWhole (present_reply entry)
+pub present-whole : (entry : Id × List Field) → IsWholeReply (present_reply entry)
 present-whole entry =
     items-whole (id_reply entry.0 ∷ array (flat_map field_replies entry.1) ∷ []) (tt, (items-whole (flat_map field_replies entry.1) (fields-whole entry.1), tt))
 
-pub entry-whole : (entries : List (Id × List Field)) (id : Id) → IsWhole (entry_reply entries id)
+pub entry-whole : (entries : List (Id × List Field)) (id : Id) → IsWholeReply (entry_reply entries id)
 entry-whole entries id = by (fields_at entries id) where
-  by : (found : Option (List Field)) → IsWhole (array (id_reply id ∷ option_map_or (λ fs. array (flat_map field_replies fs)) found NullArray ∷ []))
+  by : (found : Option (List Field)) → IsWholeReply (array (id_reply id ∷ option_map_or (λ fs. array (flat_map field_replies fs)) found NullArray ∷ []))
   by None = items-whole (id_reply id ∷ NullArray ∷ []) (tt, (tt, tt))
   by (Some fields) =
       items-whole (id_reply id ∷ array (flat_map field_replies fields) ∷ []) (tt, (items-whole (flat_map field_replies fields) (fields-whole fields), tt))
 
-pub entries-whole : (entries : List (Id × List Field)) (ids : List Id) → IsWhole (entries_reply entries ids)
+pub entries-whole : (entries : List (Id × List Field)) (ids : List Id) → IsWholeReply (entries_reply entries ids)
 entries-whole entries ids = items-whole (map (entry_reply entries) ids) (all-whole (entry_reply entries) (entry-whole entries) ids)
 
-pub id-whole : (id : Id) → IsWhole (id_reply id)
+pub id-whole : (id : Id) → IsWholeReply (id_reply id)
 id-whole id = tt
 
-pub ids-whole : (ids : List Id) → IsWhole (array (map id_reply ids))
+pub ids-whole : (ids : List Id) → IsWholeReply (array (map id_reply ids))
 ids-whole ids = items-whole (map id_reply ids) (all-whole id_reply id-whole ids)
 
-pub taken-whole : (just_id : Bool) (entries : List (Id × List Field)) (ids : List Id) → IsWhole (taken_reply just_id entries ids)
+pub taken-whole : (just_id : Bool) (entries : List (Id × List Field)) (ids : List Id) → IsWholeReply (taken_reply just_id entries ids)
 taken-whole true entries ids = ids-whole ids
 taken-whole false entries ids = entries-whole entries ids
 
-part-whole : (key : List ℕ) (entries : List (Id × List Field)) (ids : List Id) → IsWhole (stream_part key entries ids)
+part-whole : (key : List ℕ) (entries : List (Id × List Field)) (ids : List Id) → IsWholeReply (stream_part key entries ids)
 part-whole key entries ids = items-whole (Bulk key ∷ entries_reply entries ids ∷ []) (tt, (entries-whole entries ids, tt))
 
 shown-whole : (read : ReadGroupCommand) (key : List ℕ) (from : ReadFrom) (entries : List (Id × List Field)) (group : Option GroupState)
@@ -59,19 +59,19 @@ parts-whole content now read (one ∷ more) =
     let after = after_ask content now one.key read.group (ask_of_read read one.from) in
     whole-append this (parts after now read more) (shown-whole read one.key one.from (entries_in (get content one.key)) (group_in (get content one.key) read.group)) (parts-whole after now read more)
 
-owner-whole : (owner : OwnerCount) → IsWhole (owner_reply owner)
+owner-whole : (owner : OwnerCount) → IsWholeReply (owner_reply owner)
 owner-whole owner = items-whole (Bulk owner.consumer ∷ Bulk (decimal owner.count) ∷ []) (tt, (tt, tt))
 
-owners-whole : (owners : List OwnerCount) → IsWhole (array_or_null (map owner_reply owners))
+owners-whole : (owners : List OwnerCount) → IsWholeReply (array_or_null (map owner_reply owners))
 owners-whole [] = tt
 owners-whole (o ∷ os) = items-whole (map owner_reply (o ∷ os)) (all-whole owner_reply owner-whole (o ∷ os))
 
-pub row-whole : (row : PendingRow) → IsWhole (row_reply row)
+pub row-whole : (row : PendingRow) → IsWholeReply (row_reply row)
 row-whole row = items-whole (id_reply row.id ∷ Bulk row.consumer ∷ Int row.idle ∷ Int row.count ∷ []) (tt, (tt, (tt, (tt, tt))))
 
 -- the four items of the short form of XPENDING
 module _ (summary : GroupSummary) where
-  id-or-null : (id : Option Id) → IsWhole (option_map_or id_reply id NullBulk)
+  id-or-null : (id : Option Id) → IsWholeReply (option_map_or id_reply id NullBulk)
   id-or-null None = tt
   id-or-null (Some id) = tt
 

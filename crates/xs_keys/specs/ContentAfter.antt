@@ -101,7 +101,8 @@ after_reads content now read (one ∷ more) =
 -- the content after a command at a moment
 abbrev pub content_after : Content → ℕ → Command → Content
 content_after content now (Add add) =
-    after_stream_event content add.key (add_entry now add.id add.fields add.trim) (key_or_new add.make (get content add.key))
+    let event = add_entry now add.id add.fields add.trim in
+    after_stream_event content add.key event (key_or_new add.make (get content add.key))
 content_after content now (Delete name ids) =
     after_stream_event content name (delete_entries ids) (get content name)
 content_after content now (TrimTo name trim) =

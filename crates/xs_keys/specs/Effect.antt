@@ -32,9 +32,9 @@ may_trim_entry _ key present x = false
 abbrev pub reads_new_entries_in : Command → Bytes → Bytes → Bool
 reads_new_entries_in command key group = is_same_name group (read_group_of command) && reads_new_entries command key
 
-abbrev pub with_noack : Command → Bool
-with_noack (ReadGroup read) = read.noack
-with_noack _ = false
+abbrev pub has_noack : Command → Bool
+has_noack (ReadGroup read) = read.noack
+has_noack _ = false
 
 -- it claims the entry in the group by its id
 abbrev pub claims_by_id : Command → Bytes → Bytes → Id → Bool

@@ -161,7 +161,8 @@ pub record Settling : Type 0 where
       last_assigned start (event 200 (acknowledge (at 2 0 ∷ [])) ∷ claim_by_b ∷ read_by_a ∷ []) (at 2 0)
       ≡ Some (codes "b")
   pub settled :
-      is_settled start (event 200 (create_consumer (codes "c")) ∷ event 200 (acknowledge (at 2 0 ∷ [])) ∷ read_by_a ∷ [])
+      is_settled start (event 200 (create_consumer (codes "c")) ∷ event 200 (acknowledge (at 2 0 ∷ []))
+      ∷ read_by_a ∷ [])
       (at 2 0) ≡ true
   pub not_settled : is_settled start (claim_by_b ∷ read_by_a ∷ []) (at 2 0) ≡ false
   pub not_settled_too_early : is_settled start (event 200 (acknowledge (at 2 0 ∷ [])) ∷ []) (at 2 0) ≡ false

@@ -20,7 +20,7 @@ use Rattle.xs_keys.specs.EachReply.{Follows, AreReplied}
 use Rattle.xs_keys.specs.Step.{is_error}
 use Rattle.xs_keys.specs.Adding.{Adds}
 use Rattle.xs_keys.specs.Grouping.{Creates}
-use Rattle.xs_keys.specs.ReplyParts.{fault_of}
+use Rattle.xs_keys.specs.ReplyParts.{fault_of_addition}
 use Rattle.xs_keys.specs.PlayedLines.{id}
 use Rattle.xs_keys.specs.ExamplesGroupEvents.{start, event, read_by_a, noack_by_b, first_by_a, claim_by_b}
 
@@ -94,4 +94,4 @@ pub record Endings : Type 0 where
       Creates creation (at 3 0) (insert empty (codes "g") (new_group (at 2 0))) (Error Busy)
       (insert empty (codes "g") (new_group (at 2 0)))
   pub not_created_without_memory : Creates creation (at 3 0) empty (Error Memory) empty
-  pub memory_told_own : fault_of add_error.Memory ≡ Memory
+  pub memory_told_own : fault_of_addition add_error.Memory ≡ Memory

@@ -10,7 +10,7 @@ use Rattle.xs_keys.specs.Life.{key_life}
 use Rattle.xs_keys.specs.GroupLife.{present_in}
 use Rattle.xs_keys.specs.Event.{Bytes, Event, History, event_command}
 use Rattle.xs_keys.specs.JobPlace.{Place, before_start, waiting, dropped, handed_out, pending, settled, place_after}
-use Rattle.xs_keys.specs.Effect.{deletes_entry, may_trim_entry, reads_new_entries_in, with_noack, claims_by_id}
+use Rattle.xs_keys.specs.Effect.{deletes_entry, may_trim_entry, reads_new_entries_in, has_noack, claims_by_id}
 use Rattle.xs_keys.specs.Effect.{may_claim_entry, consumer_of_command, acknowledges_entry, removes_consumer}
 use Rattle.xs_keys.specs.Effect.{may_begin_job}
 use Rattle.xs_keys.specs.Effect.{ends_group}
@@ -20,9 +20,9 @@ abbrev pub HasArrow : Command → Bytes → Bytes → List Id → Id → Place �
 HasArrow command key group present x waiting dropped =
     (deletes_entry command key x || may_trim_entry command key present x) ≡ true
 HasArrow command key group present x waiting handed_out =
-    (reads_new_entries_in command key group && with_noack command) ≡ true
+    (reads_new_entries_in command key group && has_noack command) ≡ true
 HasArrow command key group present x waiting (pending consumer) =
-    ((reads_new_entries_in command key group && not (with_noack command)) ≡ true)
+    ((reads_new_entries_in command key group && not (has_noack command)) ≡ true)
     × (consumer_of_command command ≡ Some consumer)
 HasArrow command key group present x (pending one) (pending other) =
     ((may_claim_entry command key group x && has_id present x) ≡ true) × (consumer_of_command command ≡ Some other)

@@ -7,5 +7,5 @@ use Rattle.xs_keys.specs.Event.{Bytes}
 
 module _ (V : RattleType) where
   -- the last value behind r is put at the name; the map stays if r is `None`
-  abbrev pub lends_value : MutBor (NameMap V.Denot) → Bytes → Option (MutBor V.Denot) → Fml
-  lends_value map name r = LendsIf (name_map.the_row V) V map r (λ w. insert map.now name w) map.now
+  abbrev pub lends_named_value : MutBor (NameMap V.Denot) → Bytes → Option (MutBor V.Denot) → Fml
+  lends_named_value map name r = LendsIf (name_map.the_row V) V map r (λ w. insert map.now name w) map.now

@@ -11,12 +11,12 @@ use Rattle.xs_keys.specs.Reply.{reply}
 use Rattle.xs_keys.specs.Event.{Bytes}
 
 -- a line of words at a moment, with its reply
-pub record Exchange : Type 0 where
+pub record PlayedLine : Type 0 where
   pub now : ℕ
   pub words : Bytes
   pub answer : Reply
 
-abbrev pub at : ℕ → Bytes → Reply → Exchange
+abbrev pub at : ℕ → Bytes → Reply → PlayedLine
 at now words answer = record { now = now; words = words; answer = answer }
 
 -- the reply to what the words say, and the content after it
@@ -25,13 +25,13 @@ answered content now (Ok command) = (reply content now command, content_after co
 answered content now (Err fault) = (Error fault, content)
 
 -- the replies from a content on
-abbrev pub replies_to : Content → List Exchange → List Reply
+abbrev pub replies_to : Content → List PlayedLine → List Reply
 replies_to content [] = []
 replies_to content (x ∷ xs) =
     let one = answered content x.now (reads (line x.words)) in one.0 ∷ replies_to one.1 xs
 
 -- each line is answered so
-abbrev pub IsPlayed : List Exchange → Type 0
+abbrev pub IsPlayed : List PlayedLine → Type 0
 IsPlayed exchanges = replies_to empty exchanges ≡ map (λ x. x.answer) exchanges
 
 -- ---- replies in short

@@ -32,13 +32,13 @@ part_of New key entries ids = new_part key entries ids
 part_of (After id) key entries ids = stream_part key entries ids ∷ []
 
 -- what one of these reads shows
-abbrev pub parts_of : Content → ReadGroupCommand → ReadOne → List Reply
-parts_of content read one =
+abbrev pub parts_of_one : Content → ReadGroupCommand → ReadOne → List Reply
+parts_of_one content read one =
     let key = get content one.key in
     option_map_or (parts_of_read read one.key one.from (entries_in key)) (group_in key read.group) []
 
 -- a read of a group was served: what it left, what it shows, and what takes it back
-pub record IsServed
+pub record IsServedRead
     (entries : Entries) (now : ℕ) (read : ReadGroupCommand) (one : ReadOne) (before after : GroupState)
     (tokens longer : List Token) (served : Served) : Type 0 where
   pub left : after ≡ group_after now (ids_of entries) (ask_of_read read one.from) before
@@ -60,7 +60,7 @@ pub record IsServedAt
     (now : ℕ) (read : ReadGroupCommand) (one : ReadOne) (before after : Content) (tokens longer : List Token)
     (served : Served) : Type 0 where
   pub left : after ≡ after_ask before now one.key read.group (ask_of_read read one.from)
-  pub shows : IsShown (parts_of before read one) served.parts tokens longer
+  pub shows : IsShown (parts_of_one before read one) served.parts tokens longer
   pub made : IsMadeAt read.group one.key before after served.delivery
 
 -- the first of these reads made the one content of the other, and answered these deliveries, one after the other

@@ -37,15 +37,15 @@ abbrev pub entries_reply : Entries → List Id → Reply
 entries_reply entries ids = array (map (entry_reply entries) ids)
 
 -- the error of a refused addition
-abbrev pub fault_of : AddError → Fault
-fault_of add_error.Small = SmallId
-fault_of add_error.Exhausted = Exhausted
-fault_of add_error.Memory = Memory
+abbrev pub fault_of_addition : AddError → Fault
+fault_of_addition add_error.Small = SmallId
+fault_of_addition add_error.Exhausted = Exhausted
+fault_of_addition add_error.Memory = Memory
 
 -- XADD: the id, or the error
 abbrev pub assigned_reply : Result Id AddError → Reply
 assigned_reply (Ok id) = id_reply id
-assigned_reply (Err refusal) = Error (fault_of refusal)
+assigned_reply (Err refusal) = Error (fault_of_addition refusal)
 
 -- what is said of a group; a missing one is an error
 abbrev pub reply_of_group : Option GroupState → (GroupState → Reply) → Reply

@@ -29,7 +29,7 @@ impl<V> Model for NameMap<V> {
 }
 
 impl<V> NameMap<V> {
-    ghost use Rattle.xs_keys.specs.LentValue.{lends_value};
+    ghost use Rattle.xs_keys.specs.LentValue.{lends_named_value};
 
     /// The empty map. It takes no memory.
     pub fn new(alloc: Global) -> Self
@@ -49,7 +49,7 @@ impl<V> NameMap<V> {
 
     /// The value at a name, to be changed.
     pub fn get_mut(&mut self, name: &Bytes) -> Option<&mut V>
-        ensures* writes_back { sem 𝓛 (lends_value V.row self.entry name.now result) }
+        ensures* writes_back { sem 𝓛 (lends_named_value V.row self.entry name.now result) }
         ensures value { option_copied_mut result ≡ get self.old name.now }
     {
         self.entries.get_mut(name)

@@ -6,7 +6,7 @@ ghost use Rattle.xs_command.specs.WellFormed.{IsAddId};
 ghost use Rattle.xs_keys.specs.Life.{add_entry};
 ghost use Rattle.xs_keys.specs.ContentAfter.{stream_after};
 ghost use Rattle.xs_keys.specs.Adding.{text_of, Adds};
-ghost use Rattle.xs_keys.specs.ReplyParts.{fault_of};
+ghost use Rattle.xs_keys.specs.ReplyParts.{fault_of_addition};
 ghost use Rattle.xs_keys.specs.Step.{Step};
 
 use crate::keys::{Keys, Slot};
@@ -56,7 +56,7 @@ fn try_add(
 
 /// The error of a refused addition.
 fn fault_of_refusal(refusal: AddError) -> Fault
-    ensures { result ≡ fault_of refusal }
+    ensures { result ≡ fault_of_addition refusal }
 {
     match refusal {
         AddError::Small => Fault::SmallId,

@@ -10,7 +10,7 @@ ghost use Rattle.xs_keys.specs.ContentAfter.{group_after, group_in, has_all_grou
 ghost use Rattle.xs_resp.specs.ReplyItems.{tokens_of};
 ghost use Rattle.xs_keys.specs.ReplyParts.{array_or_null, entry_reply, stream_part};
 ghost use Rattle.xs_keys.specs.Reply.{parts};
-ghost use Rattle.xs_keys.specs.Reading.{ids_shown, part_of, IsShown, IsServed, IsServedAt, IsMadeAt, AreMade};
+ghost use Rattle.xs_keys.specs.Reading.{ids_shown, part_of, IsShown, IsServedRead, IsServedAt, IsMadeAt, AreMade};
 ghost use Rattle.xs_keys.specs.Step.{Step};
 
 use crate::keys::{Keys, group_at};
@@ -124,7 +124,7 @@ fn serve(
     tokens: &mut Tokens,
 ) -> Result<Served, AllocError>
     ensures ok { IfOk result
-        (IsServed stream.now.entries now read.now one.now group.old group.new tokens.old tokens.new) }
+        (IsServedRead stream.now.entries now read.now one.now group.old group.new tokens.old tokens.new) }
     ensures err { OnErr result (group.new ≡ group.old) }
 {
     let delivery = read_group(group, alloc, stream, now, read, one.from)?;

@@ -4,6 +4,6 @@ use Rattle.xs_maps.specs.declared.entries.Left.{Left}
 use Rattle.xs_maps.specs.declared.entries.Left.TheVariants.{Few, Many}
 
 module _ {K X : Type 0} where
-  abbrev pub left : Left K X → List (K × X)
-  left (Few few) = few.now
-  left (Many many) = many
+  abbrev pub items_left : Left K X → List (K × X)
+  items_left (Few few) = few.now
+  items_left (Many many) = many

@@ -3,7 +3,7 @@ ghost use Rattle.std.specs.Prelude.{◌≡◌, length};
 ghost use Rattle.std.specs.Iterator.{at_most};
 ghost use Rattle.std.specs.Map.{keys_of};
 ghost use Rattle.std.specs.Map.Iter.{TakesFirst, deref, deref_pair};
-ghost use Rattle.xs_maps.specs.Left.{left};
+ghost use Rattle.xs_maps.specs.Left.{items_left};
 
 use std::collections::btree_map::Range;
 use std::marker::Model;
@@ -23,16 +23,16 @@ pub struct Entries<'a, K, V> {
 
 impl<'a, K, V> Model for Entries<'a, K, V> {
     ghost use Rattle.std.specs.Prelude.{List};
-    ghost use Rattle.xs_maps.specs.Left.{left};
+    ghost use Rattle.xs_maps.specs.Left.{items_left};
 
     ghost Value = { List (K × V) };
 
-    ghost view = { λ e. left e.rest };
+    ghost view = { λ e. items_left e.rest };
 }
 
 impl<'a, K, V> Entries<'a, K, V> {
     pub(crate) fn new(entries: Left<'a, K, V>) -> Self
-        ensures { result ≡ left entries.entry }
+        ensures { result ≡ items_left entries.entry }
     {
         Self { rest: entries }
     }
@@ -40,7 +40,7 @@ impl<'a, K, V> Entries<'a, K, V> {
 
 impl<'a, K, V> Left<'a, K, V> {
     fn next(&mut self) -> Option<(&'a K, &'a V)>
-        ensures { TakesFirst deref_pair (left self.old) result (left self.new) }
+        ensures { TakesFirst deref_pair (items_left self.old) result (items_left self.new) }
     {
         match self {
             Left::Few(few) => {

@@ -4,7 +4,7 @@ ghost use Rattle.std.specs.Option.{option_copied, option_copied_mut};
 ghost use Rattle.std.specs.Borrow.{sem};
 ghost use Rattle.std.specs.BTreeMap.{get, IsOrdered, IsUnchanged, Updates, UpdatesBy};
 ghost use Rattle.std.specs.BTreeMap.Range.{entries_between, IsLeBy, IsLtBy};
-ghost use Rattle.xs_maps.specs.Left.{left};
+ghost use Rattle.xs_maps.specs.Left.{items_left};
 ghost use Rattle.xs_maps.specs.Seen.{seen};
 
 use crate::entries::Left;
@@ -57,8 +57,8 @@ impl<K: Ord, V> Form<K, V> {
     pub(crate) fn range<R: RangeBounds<K> + Drop>(&self, range: R) -> Left<'_, K, V>
         requires forward { R.is_forward range (IsLeBy K.cmp) (IsLtBy K.cmp) }
         requires ordered { IsOrdered K.cmp (seen self.now) }
-        ensures fits { length (left result) < 2 ^ 64 }
-        ensures between { R.has_bounds range → left result
+        ensures fits { length (items_left result) < 2 ^ 64 }
+        ensures between { R.has_bounds range → items_left result
             ≡ entries_between K.cmp (R.start_bound range) (R.end_bound range) (seen self.now).entries }
     {
         match self {

@@ -9,8 +9,8 @@ use Rattle.xs_resp.specs.declared.header.Part.TheVariants.{Size}
 use Rattle.xs_resp.specs.declared.read_fault.Wrong.TheVariants.{Shape}
 use Rattle.xs_resp.specs.Outcome.{Keeps}
 use Rattle.xs_resp.specs.HeaderPart.{marker, number_in}
-use Rattle.xs_resp.specs.Header.{is_not_cr, text_len, limited, line_at, header}
-use Rattle.xs_resp.specs.Reading.{closed, word}
+use Rattle.xs_resp.specs.Header.{is_not_cr, text_len, within_limit, line_at, header}
+use Rattle.xs_resp.specs.Reading.{closed, bulk_string}
 use Rattle.xs_resp.proofs.Outcomes.{Keeps-same, Keeps-bind}
 
 -- the text before the first CR doesn't get shorter
@@ -32,7 +32,7 @@ text_len-append (byte ∷ line) more h =
     ]) h
 
 -- a line that is whole
-pub line_at-whole : (part : Part) (line : List ℕ) (cr : ℕ) → cr < 30 → cr + 2 ≤ length line → line_at part line cr ≡ cond (eqb (get_or line (cr + 1) 0) 10) (limited part (cr + 3) (number_in part (take cr line))) (Err Shape)
+pub line_at-whole : (part : Part) (line : List ℕ) (cr : ℕ) → cr < 30 → cr + 2 ≤ length line → line_at part line cr ≡ cond (eqb (get_or line (cr + 1) 0) 10) (within_limit part (cr + 3) (number_in part (take cr line))) (Err Shape)
 unfolding line_at
 line_at-whole part line cr short whole =
     cond-false (leb 30 cr) _ _ (lt-leb 30 cr short) ∙ cond-false (ltb (length line) (cr + 2)) _ _ (le-ltb (length line) (cr + 2) whole)
@@ -40,8 +40,8 @@ line_at-whole part line cr short whole =
 pub line_at-append : (part : Part) (line more : List ℕ) (cr : ℕ) → cr < 30 → cr + 2 ≤ length line → line_at part (line ++ more) cr ≡ line_at part line cr
 line_at-append part line more cr short whole =
     line_at-whole part (line ++ more) cr short (omega (arith, length-append line more))
-    ∙ ap (λ b. cond (eqb b 10) (limited part (cr + 3) (number_in part (take cr (line ++ more)))) (Err Shape)) (get_or_append_left line more 0 (cr + 1) (omega arith))
-    ∙ ap (λ t. cond (eqb (get_or line (cr + 1) 0) 10) (limited part (cr + 3) (number_in part t)) (Err Shape)) (take-append-le cr line more (omega arith))
+    ∙ ap (λ b. cond (eqb b 10) (within_limit part (cr + 3) (number_in part (take cr (line ++ more)))) (Err Shape)) (get_or_append_left line more 0 (cr + 1) (omega arith))
+    ∙ ap (λ t. cond (eqb (get_or line (cr + 1) 0) 10) (within_limit part (cr + 3) (number_in part t)) (Err Shape)) (take-append-le cr line more (omega arith))
     ∙ sym (line_at-whole part line cr short whole)
 
 line-keeps : (part : Part) (line more : List ℕ) → Keeps (line_at part line (text_len line)) (line_at part (line ++ more) (text_len (line ++ more)))
@@ -72,8 +72,8 @@ closed-keeps start end (cr ∷ []) (lf ∷ more) =
     elim (eqb cr 13) as (λ b. Keeps (cond b (Ok None) (Err Shape)) (cond b (closed start end (13 ∷ lf ∷ more)) (Err Shape))) [ true ↦ tt | false ↦ refl ]
 closed-keeps start end (cr ∷ lf ∷ rest) more = Keeps-same (closed start end (cr ∷ lf ∷ rest)) _ refl
 
-pub word-keeps : (bytes more : List ℕ) → Keeps (word bytes) (word (bytes ++ more))
-unfolding word
+pub word-keeps : (bytes more : List ℕ) → Keeps (bulk_string bytes) (bulk_string (bytes ++ more))
+unfolding bulk_string
 word-keeps bytes more =
     Keeps-bind _ _ _ _ (header-keeps Size bytes more) (λ h e.
     let end = h.end + h.number in

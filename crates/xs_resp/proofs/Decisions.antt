@@ -11,7 +11,7 @@ use Rattle.xs_resp.specs.HeaderPart.{limit, number_in}
 use Rattle.xs_resp.specs.Outcome.{Outcome, ◌>>=◌, Keeps}
 use Rattle.xs_resp.specs.Header.{header}
 use Rattle.xs_resp.specs.declared.word.Span.{Span}
-use Rattle.xs_resp.specs.Reading.{Found, text_in, after, words, request}
+use Rattle.xs_resp.specs.Reading.{Found, text_in, behind_words, words, request}
 use Rattle.xs_resp.specs.Grammar.{sent_words, spelling, null_spelling, AreSizes, Spells, BeginsLine, FaultBehind}
 use Rattle.xs_resp.specs.Grammar.{FaultIn, IsOpen}
 use Rattle.xs_resp.proofs.Outcomes.{bind-ok, bind-err, cases-outcome, Keeps-bind, after-keeps}
@@ -24,7 +24,7 @@ use Rattle.xs_resp.proofs.Sequences.{words-read, words-fault, words-sent, words-
 
 -- what a request reads behind its header
 behind-header : List ℕ → Header → Outcome Found
-behind-header bytes h = after [] h.end (words h.number (drop h.end bytes))
+behind-header bytes h = behind_words [] h.end (words h.number (drop h.end bytes))
 
 -- the front of bytes that begin with a text
 front-is : (bytes text rest : List ℕ) (n : ℕ) → bytes ≡ text ++ rest → n ≡ length text → take n bytes ≡ text
@@ -87,10 +87,10 @@ spelling-read texts rest number sizes =
     let sent = sent_words texts in
     let all = head ++ (sent ++ rest) in
     ap request (append_assoc head sent rest)
-    ∙ ap (λ o. o >>= λ (h : Header). after [] h.end (words h.number (drop h.end all))) (header-line Count n (sent ++ rest) number (omega arith))
-    ∙ ap (λ b. after [] (length head) (words n b)) (drop_at head (sent ++ rest) (length head) refl)
-    ∙ ap (λ k. after [] (length head) (words k (sent ++ rest))) (omega arith)
-    ∙ ap (after [] (length head)) (words-sent texts 0 rest sizes)
+    ∙ ap (λ o. o >>= λ (h : Header). behind_words [] h.end (words h.number (drop h.end all))) (header-line Count n (sent ++ rest) number (omega arith))
+    ∙ ap (λ b. behind_words [] (length head) (words n b)) (drop_at head (sent ++ rest) (length head) refl)
+    ∙ ap (λ k. behind_words [] (length head) (words k (sent ++ rest))) (omega arith)
+    ∙ ap (behind_words [] (length head)) (words-sent texts 0 rest sizes)
     ∙ ap (λ ws. Ok (Some (record { words = ws; end = length head + (length sent + 0) }))) (append-nil texts)
     ∙ ap (λ k. Ok (Some (record { words = texts; end = k }))) (omega (arith, length-append head sent))
 
@@ -99,7 +99,7 @@ unfolding request words number_in
 null-read rest =
     let all = null_spelling ++ rest in
     let begins : BeginsLine Count all (45 ∷ 49 ∷ []) 10 = record { rest = rest; whole = refl; short = lit< tt; no_cr = (λ e. absurd (omega arith), (λ e. absurd (omega arith), tt)) } in
-    ap (λ o. o >>= λ (h : Header). after [] h.end (words h.number (drop h.end all))) (begins-header Count all (45 ∷ 49 ∷ []) 10 begins)
+    ap (λ o. o >>= λ (h : Header). behind_words [] h.end (words h.number (drop h.end all))) (begins-header Count all (45 ∷ 49 ∷ []) 10 begins)
 
 pub spelled-read : (bytes : List ℕ) (texts : List (List ℕ)) (rest : List ℕ) → Spells bytes texts → request (bytes ++ rest) ≡ Ok (Some (record { words = texts; end = length bytes }))
 spelled-read bytes texts rest s =
@@ -150,11 +150,11 @@ behind-fault bytes wrong f =
     let left : f.number ≡ length f.words + suc (f.number - (length f.words + 1)) = omega (arith, f.some_left) in
     let k = f.number - (length f.words + 1) in
     ap request f.whole
-    ∙ ap (λ o. o >>= λ (h : Header). after [] h.end (words h.number (drop h.end all))) (header-line Count f.number (sent ++ f.rest) f.within (omega (arith, f.within)))
-    ∙ ap (λ b. after [] (length head) (words f.number b)) (drop_at head (sent ++ f.rest) (length head) refl)
-    ∙ ap (λ n. after [] (length head) (words n (sent ++ f.rest))) left
-    ∙ ap (after [] (length head)) (words-sent f.words (suc k) f.rest f.sizes)
-    ∙ ap (λ o. after [] (length head) (after f.words (length sent) (o >>= λ (s : Span). after (text_in f.rest s ∷ []) (s.end + 2) (words k (drop (s.end + 2) f.rest))))) (word-err f.rest wrong f.fault)
+    ∙ ap (λ o. o >>= λ (h : Header). behind_words [] h.end (words h.number (drop h.end all))) (header-line Count f.number (sent ++ f.rest) f.within (omega (arith, f.within)))
+    ∙ ap (λ b. behind_words [] (length head) (words f.number b)) (drop_at head (sent ++ f.rest) (length head) refl)
+    ∙ ap (λ n. behind_words [] (length head) (words n (sent ++ f.rest))) left
+    ∙ ap (behind_words [] (length head)) (words-sent f.words (suc k) f.rest f.sizes)
+    ∙ ap (λ o. behind_words [] (length head) (behind_words f.words (length sent) (o >>= λ (s : Span). behind_words (text_in f.rest s ∷ []) (s.end + 2) (words k (drop (s.end + 2) f.rest))))) (word-err f.rest wrong f.fault)
 
 pub fault-request : (bytes : List ℕ) (wrong : Wrong) → FaultIn bytes wrong → request bytes ≡ Err wrong
 fault-request bytes wrong (inl f) = request-err bytes wrong (header-err Count bytes wrong f)
@@ -186,8 +186,8 @@ unfolding request
 request-keeps bytes more =
     Keeps-bind _ _ _ _ (header-keeps Count bytes more) (λ h e.
     let ends = header_ends Count bytes h e in
-    let first = after [] h.end (words h.number (drop h.end bytes)) in
-    subst (λ b. Keeps first (after [] h.end (words h.number b))) (sym (drop-append-le h.end bytes more ends.1))
+    let first = behind_words [] h.end (words h.number (drop h.end bytes)) in
+    subst (λ b. Keeps first (behind_words [] h.end (words h.number b))) (sym (drop-append-le h.end bytes more ends.1))
     (after-keeps [] h.end _ _ (words-keep h.number (drop h.end bytes) more)))
 
 -- no spelling is a proper prefix of another

@@ -5,9 +5,9 @@ use Rattle.std.proofs.lemmas.List.{append-nil}
 use Rattle.std.specs.List.{flat_map}
 use Rattle.xs_resp.specs.Token.{Token}
 use Rattle.xs_resp.specs.ReplyText.{token_text}
-use Rattle.xs_resp.specs.LeftToWrite.{left, left_of, pieces, string_of, strings_of}
+use Rattle.xs_resp.specs.LeftToWrite.{bytes_left, left_of, pieces, string_of, strings_of}
 
-pub left-pieces : (gathered : List ℕ) (lent : Bool) (tokens : List Token) → left (pieces gathered lent tokens) ≡ gathered ++ left_of lent tokens
+pub left-pieces : (gathered : List ℕ) (lent : Bool) (tokens : List Token) → bytes_left (pieces gathered lent tokens) ≡ gathered ++ left_of lent tokens
 left-pieces [] true [] = refl
 left-pieces [] true (t ∷ ts) = simp append_assoc
 left-pieces [] false ts = refl

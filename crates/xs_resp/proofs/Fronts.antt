@@ -6,12 +6,12 @@ use Rattle.xs_resp.specs.declared.header.Header.{Header}
 use Rattle.xs_resp.specs.declared.word.Span.{Span}
 use Rattle.xs_resp.specs.Outcome.{Outcome, ◌>>=◌}
 use Rattle.xs_resp.specs.Header.{header}
-use Rattle.xs_resp.specs.Reading.{Found, word, text_in, after, words, words_in, request, IsWhole}
+use Rattle.xs_resp.specs.Reading.{Found, bulk_string, text_in, behind_words, words, words_in, request, IsWhole}
 use Rattle.xs_resp.proofs.Outcomes.{bind-ok}
 use Rattle.xs_resp.proofs.Sequences.{words-read}
 
 -- words behind words
-in-after : (first : List (List ℕ)) (at : ℕ) (rest : Outcome Found) → IsWhole rest → words_in (after first at rest) ≡ first ++ words_in rest
+in-after : (first : List (List ℕ)) (at : ℕ) (rest : Outcome Found) → IsWhole rest → words_in (behind_words first at rest) ≡ first ++ words_in rest
 in-after first at (Ok (Some found)) whole = refl
 in-after first at (Ok None) whole = absurd (let read = whole.1 in cc)
 in-after first at (Err wrong) whole = absurd (let read = whole.1 in cc)
@@ -28,19 +28,19 @@ no-words count bytes e = ap (λ n. words_in (words n bytes)) e
 -- the first word, which is whole, and those behind it, which are
 pub record IsFirst (left : ℕ) (bytes : List ℕ) : Type 0 where
   pub span : Span
-  pub read : word bytes ≡ Ok (Some span)
+  pub read : bulk_string bytes ≡ Ok (Some span)
   pub whole : IsWhole (words left (drop (span.end + 2) bytes))
   pub words_are : words_in (words (suc left) bytes) ≡ text_in bytes span ∷ words_in (words left (drop (span.end + 2) bytes))
 
 first-of : (left : ℕ) (bytes : List ℕ) → IsWhole (words (suc left) bytes) → IsFirst left bytes
 unfolding words
 first-of left bytes whole =
-    let first = bind-ok (word bytes) _ whole.0 whole.1 in
+    let first = bind-ok (bulk_string bytes) _ whole.0 whole.1 in
     let span = first.0 in
     let rest = words left (drop (span.end + 2) bytes) in
     let further = bind-ok rest _ whole.0 first.2 in
     let behind : IsWhole rest = (further.0, further.1) in
-    let is : words (suc left) bytes ≡ after (text_in bytes span ∷ []) (span.end + 2) rest = ap (λ o. o >>= λ (s : Span). after (text_in bytes s ∷ []) (s.end + 2) (words left (drop (s.end + 2) bytes))) first.1 in
+    let is : words (suc left) bytes ≡ behind_words (text_in bytes span ∷ []) (span.end + 2) rest = ap (λ o. o >>= λ (s : Span). behind_words (text_in bytes s ∷ []) (s.end + 2) (words left (drop (s.end + 2) bytes))) first.1 in
     record {
       span = span;
       read = first.1;
@@ -66,7 +66,7 @@ pub behind-header : (bytes : List ℕ) (h : Header) → header Count bytes ≡ O
 unfolding request
 behind-header bytes h e whole =
     let rest = words h.number (drop h.end bytes) in
-    let is = ap (λ o. o >>= λ (k : Header). after [] k.end (words k.number (drop k.end bytes))) e in
+    let is = ap (λ o. o >>= λ (k : Header). behind_words [] k.end (words k.number (drop k.end bytes))) e in
     let some = bind-ok rest _ whole.0 (sym is ∙ whole.1) in
     let behind : IsWhole rest = (some.0, some.1) in
     (behind, sym (ap words_in is ∙ in-after [] h.end rest behind))

@@ -14,7 +14,7 @@ use Rattle.xs_resp.specs.declared.read_fault.Wrong.{Wrong}
 use Rattle.xs_resp.specs.declared.read_fault.Wrong.TheVariants.{Length, Shape, Limit}
 use Rattle.xs_resp.specs.Line.{line, crlf}
 use Rattle.xs_resp.specs.HeaderPart.{marker, limit, number_in}
-use Rattle.xs_resp.specs.Header.{is_not_cr, text_len, limited, line_at, header}
+use Rattle.xs_resp.specs.Header.{is_not_cr, text_len, within_limit, line_at, header}
 use Rattle.xs_resp.specs.Grammar.{HasNoCr, BeginsLine, HeaderFault, null_spelling}
 use Rattle.xs_resp.proofs.Reading.{chosen, line_at-ok}
 use Rattle.xs_resp.proofs.DecisionStays.{line_at-whole}
@@ -96,7 +96,7 @@ line-begins part bytes short whole =
     }
 
 -- a header whose line is whole, as it is read
-pub begins-header : (part : Part) (bytes text : List ℕ) (byte : ℕ) → BeginsLine part bytes text byte → header part bytes ≡ cond (eqb byte 10) (limited part (length text + 3) (number_in part text)) (Err Shape)
+pub begins-header : (part : Part) (bytes text : List ℕ) (byte : ℕ) → BeginsLine part bytes text byte → header part bytes ≡ cond (eqb byte 10) (within_limit part (length text + 3) (number_in part text)) (Err Shape)
 unfolding header
 begins-header part bytes text byte begins =
     let behind = text ++ (13 ∷ byte ∷ begins.rest) in
@@ -105,8 +105,8 @@ begins-header part bytes text byte begins =
     ∙ cond-true (eqb (marker part) (marker part)) _ _ (eq-eqb (marker part) (marker part) refl)
     ∙ ap (line_at part behind) (text_len-text text (byte ∷ begins.rest) begins.no_cr)
     ∙ line_at-whole part behind len begins.short (omega (arith, length-append text (13 ∷ byte ∷ begins.rest)))
-    ∙ ap (λ b. cond (eqb b 10) (limited part (len + 3) (number_in part (take len behind))) (Err Shape)) (get_or-append-add text (13 ∷ byte ∷ begins.rest) 1 0)
-    ∙ ap (λ t. cond (eqb byte 10) (limited part (len + 3) (number_in part t)) (Err Shape)) (take_at text (13 ∷ byte ∷ begins.rest) len refl)
+    ∙ ap (λ b. cond (eqb b 10) (within_limit part (len + 3) (number_in part (take len behind))) (Err Shape)) (get_or-append-add text (13 ∷ byte ∷ begins.rest) 1 0)
+    ∙ ap (λ t. cond (eqb byte 10) (within_limit part (len + 3) (number_in part t)) (Err Shape)) (take_at text (13 ∷ byte ∷ begins.rest) len refl)
 
 -- a header that was read
 pub record HeaderRead (part : Part) (bytes : List ℕ) (h : Header) : Type 0 where
@@ -135,7 +135,7 @@ header-read part (byte ∷ bytes) h e =
     ]
 
 -- a number that isn't within its limit
-limited-err : (part : Part) (end : ℕ) (number : Option ℕ) (wrong : Wrong) → limited part end number ≡ Err wrong → ((number ≡ None) × (Length ≡ wrong)) ⊎ ((n : ℕ) × (number ≡ Some n) × (limit part < n) × (Limit ≡ wrong))
+limited-err : (part : Part) (end : ℕ) (number : Option ℕ) (wrong : Wrong) → within_limit part end number ≡ Err wrong → ((number ≡ None) × (Length ≡ wrong)) ⊎ ((n : ℕ) × (number ≡ Some n) × (limit part < n) × (Limit ≡ wrong))
 limited-err part end None wrong e = inl (refl, cc)
 limited-err part end (Some n) wrong e =
     elim (chosen (ltb (limit part) n) _ _ _ e) [
@@ -189,7 +189,7 @@ header-fault part (byte ∷ bytes) wrong e =
 -- and the other way
 pub header-err : (part : Part) (bytes : List ℕ) (wrong : Wrong) → HeaderFault part bytes wrong → header part bytes ≡ Err wrong
 unfolding header line_at
-header-err part bytes Length f = begins-header part bytes f.text 10 f.begins ∙ ap (limited part (length f.text + 3)) f.none
+header-err part bytes Length f = begins-header part bytes f.text 10 f.begins ∙ ap (within_limit part (length f.text + 3)) f.none
 header-err part bytes Shape (inl f) = ap (header part) f.whole ∙ cond-false (eqb f.byte (marker part)) _ _ (ne_eqb f.byte (marker part) f.other)
 header-err part bytes Shape (inr f) = begins-header part bytes f.text f.byte f.begins ∙ cond-false (eqb f.byte 10) _ _ (ne_eqb f.byte 10 f.other)
 header-err part bytes Limit (inl f) =
@@ -198,7 +198,7 @@ header-err part bytes Limit (inl f) =
     ∙ cond-true (eqb (marker part) (marker part)) _ _ (eq-eqb (marker part) (marker part) refl)
     ∙ cond-true (leb 30 (text_len (f.text ++ f.rest))) _ _ (le-leb 30 (text_len (f.text ++ f.rest)) long)
 header-err part bytes Limit (inr f) =
-    begins-header part bytes f.text 10 f.begins ∙ ap (limited part (length f.text + 3)) f.is ∙ cond-true (ltb (limit part) f.number) _ _ (lt-ltb (limit part) f.number f.great)
+    begins-header part bytes f.text 10 f.begins ∙ ap (within_limit part (length f.text + 3)) f.is ∙ cond-true (ltb (limit part) f.number) _ _ (lt-ltb (limit part) f.number f.great)
 
 -- a line of a number within its limit
 pub header-line : (part : Part) (n : ℕ) (rest : List ℕ) → n ≤ limit part → n < 2 ^ 32 → header part (line (marker part) n ++ rest) ≡ Ok (Some (record { number = n; end = length (line (marker part) n) }))
@@ -210,7 +210,7 @@ header-line part n rest h small =
       no_cr = decimal-no-cr n (omega arith);
     } in
     begins-header part _ (decimal n) 10 begins
-    ∙ ap (limited part (length (decimal n) + 3)) (number-decimal part n h)
+    ∙ ap (within_limit part (length (decimal n) + 3)) (number-decimal part n h)
     ∙ cond-false (ltb (limit part) n) _ _ (le-ltb (limit part) n h)
     ∙ ap (λ end. Ok (Some (record { number = n; end = end }))) (omega (arith, length-append (decimal n) crlf))
 

@@ -11,7 +11,7 @@ use Rattle.xs_resp.specs.Outcome.{Outcome}
 use Rattle.xs_resp.specs.Reading.{Found, request}
 use Rattle.xs_resp.specs.declared.read_fault.ReadFault.{ReadFault}
 use Rattle.xs_resp.specs.HeldBytes.{Held, fed, Ready, ReadyOf}
-use Rattle.xs_resp.specs.Progress.{Follows}
+use Rattle.xs_resp.specs.Progress.{IsProgressOf}
 use Rattle.xs_resp.specs.State.{held_in, IsState}
 use Rattle.xs_resp.specs.declared.progress.Progress.{Progress}
 use Rattle.xs_resp.proofs.Progressing.{follows-all, follows-fed}
@@ -58,7 +58,7 @@ Ready-by held bytes outcome result new is e ready =
     subst (λ h. Ready h result new) (sym is) (subst (λ o. ReadyOf bytes o result new) (sym e) ready)
 
 -- a request is whole once no word is left
-pub ready-reached : (held : Held) (bytes : List ℕ) (progress : Progress) → held ≡ Ok bytes → Follows bytes progress → (0 < progress.left → request bytes ≡ Ok None)
+pub ready-reached : (held : Held) (bytes : List ℕ) (progress : Progress) → held ≡ Ok bytes → IsProgressOf bytes progress → (0 < progress.left → request bytes ≡ Ok None)
     → Ready held (Ok (progress.left == 0)) (Ok bytes)
 ready-reached held bytes progress is f none = by-left (progress.left == 0) refl
   where

@@ -9,8 +9,8 @@ use Rattle.xs_resp.specs.declared.progress.Progress.{Progress}
 use Rattle.xs_resp.specs.declared.read_fault.Wrong.{Wrong}
 use Rattle.xs_resp.specs.Outcome.{◌>>=◌, Keeps}
 use Rattle.xs_resp.specs.Header.{header}
-use Rattle.xs_resp.specs.Reading.{word, text_in, after, words, request}
-use Rattle.xs_resp.specs.Progress.{Follows}
+use Rattle.xs_resp.specs.Reading.{bulk_string, text_in, behind_words, words, request}
+use Rattle.xs_resp.specs.Progress.{IsProgressOf}
 use Rattle.xs_resp.proofs.Outcomes.{after-after}
 use Rattle.xs_resp.proofs.Reading.{header_ends, word-ok}
 use Rattle.xs_resp.proofs.DecisionStays.{header-keeps, word-keeps}
@@ -18,20 +18,20 @@ use Rattle.xs_resp.proofs.DecisionStays.{header-keeps, word-keeps}
 -- without its header a request isn't whole
 pub request-none : (bytes : List ℕ) → header Count bytes ≡ Ok None → request bytes ≡ Ok None
 unfolding request
-request-none bytes e = ap (λ o. o >>= λ (h : Header). after [] h.end (words h.number (drop h.end bytes))) e
+request-none bytes e = ap (λ o. o >>= λ (h : Header). behind_words [] h.end (words h.number (drop h.end bytes))) e
 
 -- a fault of its header is a fault of the request
 pub request-err : (bytes : List ℕ) (wrong : Wrong) → header Count bytes ≡ Err wrong → request bytes ≡ Err wrong
 unfolding request
-request-err bytes wrong e = ap (λ o. o >>= λ (h : Header). after [] h.end (words h.number (drop h.end bytes))) e
+request-err bytes wrong e = ap (λ o. o >>= λ (h : Header). behind_words [] h.end (words h.number (drop h.end bytes))) e
 
 -- a header that was read stays read
 pub header-later : (bytes more : List ℕ) (h : Header) → header Count bytes ≡ Ok (Some h) → header Count (bytes ++ more) ≡ Ok (Some h)
 header-later bytes more h e = subst (λ o. Keeps o (header Count (bytes ++ more))) e (header-keeps Count bytes more)
 
 -- a word that was read stays read
-pub word-later : (bytes more : List ℕ) (span : Span) → word bytes ≡ Ok (Some span) → word (bytes ++ more) ≡ Ok (Some span)
-word-later bytes more span e = subst (λ o. Keeps o (word (bytes ++ more))) e (word-keeps bytes more)
+pub word-later : (bytes more : List ℕ) (span : Span) → bulk_string bytes ≡ Ok (Some span) → bulk_string (bytes ++ more) ≡ Ok (Some span)
+word-later bytes more span e = subst (λ o. Keeps o (bulk_string (bytes ++ more))) e (word-keeps bytes more)
 
 -- its bytes stay the same
 pub text-later : (bytes more : List ℕ) (span : Span) → span.start ≤ span.end → span.end ≤ length bytes → text_in (bytes ++ more) span ≡ text_in bytes span
@@ -40,7 +40,7 @@ text-later bytes more span order within =
     ∙ take-append-le (span.end - span.start) (drop span.start bytes) more (omega (arith, length-drop span.start bytes))
 
 -- behind its header a request follows
-pub follows-header : (bytes : List ℕ) (h : Header) → header Count bytes ≡ Ok (Some h) → Follows bytes (record { at = h.end; left = h.number })
+pub follows-header : (bytes : List ℕ) (h : Header) → header Count bytes ≡ Ok (Some h) → IsProgressOf bytes (record { at = h.end; left = h.number })
 unfolding request
 follows-header bytes h e =
     let ends = header_ends Count bytes h e in
@@ -48,12 +48,12 @@ follows-header bytes h e =
       within = ends.1;
       passed = [];
       passes = λ more.
-          ap (λ o. o >>= λ (k : Header). after [] k.end (words k.number (drop k.end (bytes ++ more)))) (header-later bytes more h e)
-          ∙ ap (λ b. after [] h.end (words h.number b)) (drop-append-le h.end bytes more ends.1);
+          ap (λ o. o >>= λ (k : Header). behind_words [] k.end (words k.number (drop k.end (bytes ++ more)))) (header-later bytes more h e)
+          ∙ ap (λ b. behind_words [] h.end (words h.number b)) (drop-append-le h.end bytes more ends.1);
     }
 
 -- one word on
-pub follows-word : (bytes : List ℕ) (progress : Progress) (left : ℕ) (span : Span) → Follows bytes progress → progress.left ≡ suc left → word (drop progress.at bytes) ≡ Ok (Some span) → Follows bytes (record { at = progress.at + (span.end + 2); left = left })
+pub follows-word : (bytes : List ℕ) (progress : Progress) (left : ℕ) (span : Span) → IsProgressOf bytes progress → progress.left ≡ suc left → bulk_string (drop progress.at bytes) ≡ Ok (Some span) → IsProgressOf bytes (record { at = progress.at + (span.end + 2); left = left })
 unfolding words
 follows-word bytes progress left span f some w =
     let rest = drop progress.at bytes in
@@ -67,48 +67,48 @@ follows-word bytes progress left span f some w =
       passed = f.passed ++ text_in rest span ∷ [];
       passes = λ more.
           f.passes more
-          ∙ ap (λ k. after f.passed at (words k (rest ++ more))) some
-          ∙ ap (λ o. after f.passed at (o >>= λ (s : Span). after (text_in (rest ++ more) s ∷ []) (s.end + 2) (words left (drop (s.end + 2) (rest ++ more))))) (word-later rest more span w)
-          ∙ ap (λ t. after f.passed at (after (t ∷ []) next (words left (drop next (rest ++ more))))) (text-later rest more span order (omega arith))
-          ∙ ap (λ b. after f.passed at (after (text_in rest span ∷ []) next (words left b))) (drop-append-le next rest more inside ∙ ap (λ b. b ++ more) (drop-drop next at bytes))
+          ∙ ap (λ k. behind_words f.passed at (words k (rest ++ more))) some
+          ∙ ap (λ o. behind_words f.passed at (o >>= λ (s : Span). behind_words (text_in (rest ++ more) s ∷ []) (s.end + 2) (words left (drop (s.end + 2) (rest ++ more))))) (word-later rest more span w)
+          ∙ ap (λ t. behind_words f.passed at (behind_words (t ∷ []) next (words left (drop next (rest ++ more))))) (text-later rest more span order (omega arith))
+          ∙ ap (λ b. behind_words f.passed at (behind_words (text_in rest span ∷ []) next (words left b))) (drop-append-le next rest more inside ∙ ap (λ b. b ++ more) (drop-drop next at bytes))
           ∙ after-after f.passed (text_in rest span ∷ []) at next (words left (drop (at + next) bytes ++ more));
     }
 
 -- the request, by how far it is read
-pub follows-here : (bytes : List ℕ) (progress : Progress) → (f : Follows bytes progress) → request bytes ≡ after f.passed progress.at (words progress.left (drop progress.at bytes))
+pub follows-here : (bytes : List ℕ) (progress : Progress) → (f : IsProgressOf bytes progress) → request bytes ≡ behind_words f.passed progress.at (words progress.left (drop progress.at bytes))
 follows-here bytes progress f =
-    ap request (sym (append-nil bytes)) ∙ f.passes [] ∙ ap (λ b. after f.passed progress.at (words progress.left b)) (append-nil (drop progress.at bytes))
+    ap request (sym (append-nil bytes)) ∙ f.passes [] ∙ ap (λ b. behind_words f.passed progress.at (words progress.left b)) (append-nil (drop progress.at bytes))
 
 -- a word that isn't whole
-pub follows-none : (bytes : List ℕ) (progress : Progress) (left : ℕ) → Follows bytes progress → progress.left ≡ suc left → word (drop progress.at bytes) ≡ Ok None → request bytes ≡ Ok None
+pub follows-none : (bytes : List ℕ) (progress : Progress) (left : ℕ) → IsProgressOf bytes progress → progress.left ≡ suc left → bulk_string (drop progress.at bytes) ≡ Ok None → request bytes ≡ Ok None
 unfolding words
 follows-none bytes progress left f some w =
     let rest = drop progress.at bytes in
     follows-here bytes progress f
-    ∙ ap (λ k. after f.passed progress.at (words k rest)) some
-    ∙ ap (λ o. after f.passed progress.at (o >>= λ (s : Span). after (text_in rest s ∷ []) (s.end + 2) (words left (drop (s.end + 2) rest)))) w
+    ∙ ap (λ k. behind_words f.passed progress.at (words k rest)) some
+    ∙ ap (λ o. behind_words f.passed progress.at (o >>= λ (s : Span). behind_words (text_in rest s ∷ []) (s.end + 2) (words left (drop (s.end + 2) rest)))) w
 
 -- a word with a fault
-pub follows-err : (bytes : List ℕ) (progress : Progress) (left : ℕ) (wrong : Wrong) → Follows bytes progress → progress.left ≡ suc left → word (drop progress.at bytes) ≡ Err wrong → request bytes ≡ Err wrong
+pub follows-err : (bytes : List ℕ) (progress : Progress) (left : ℕ) (wrong : Wrong) → IsProgressOf bytes progress → progress.left ≡ suc left → bulk_string (drop progress.at bytes) ≡ Err wrong → request bytes ≡ Err wrong
 unfolding words
 follows-err bytes progress left wrong f some w =
     let rest = drop progress.at bytes in
     follows-here bytes progress f
-    ∙ ap (λ k. after f.passed progress.at (words k rest)) some
-    ∙ ap (λ o. after f.passed progress.at (o >>= λ (s : Span). after (text_in rest s ∷ []) (s.end + 2) (words left (drop (s.end + 2) rest)))) w
+    ∙ ap (λ k. behind_words f.passed progress.at (words k rest)) some
+    ∙ ap (λ o. behind_words f.passed progress.at (o >>= λ (s : Span). behind_words (text_in rest s ∷ []) (s.end + 2) (words left (drop (s.end + 2) rest)))) w
 
 -- no word is left
-pub follows-all : (bytes : List ℕ) (progress : Progress) → (f : Follows bytes progress) → progress.left ≡ 0 → request bytes ≡ Ok (Some (record { words = f.passed; end = progress.at }))
+pub follows-all : (bytes : List ℕ) (progress : Progress) → (f : IsProgressOf bytes progress) → progress.left ≡ 0 → request bytes ≡ Ok (Some (record { words = f.passed; end = progress.at }))
 unfolding words
 follows-all bytes progress f none =
     let rest = drop progress.at bytes in
     follows-here bytes progress f
-    ∙ ap (λ k. after f.passed progress.at (words k rest)) none
+    ∙ ap (λ k. behind_words f.passed progress.at (words k rest)) none
     ∙ ap (λ ws. Ok (Some (record { words = ws; end = progress.at + 0 }))) (append-nil f.passed)
     ∙ ap (λ n. Ok (Some (record { words = f.passed; end = n }))) (omega arith)
 
 -- more bytes
-pub follows-fed : (bytes piece : List ℕ) (progress : Progress) → Follows bytes progress → Follows (bytes ++ piece) progress
+pub follows-fed : (bytes piece : List ℕ) (progress : Progress) → IsProgressOf bytes progress → IsProgressOf (bytes ++ piece) progress
 follows-fed bytes piece progress f =
     record {
       within = omega (arith, f.within, length-append bytes piece);
@@ -116,5 +116,5 @@ follows-fed bytes piece progress f =
       passes = λ more.
           ap request (append_assoc bytes piece more)
           ∙ f.passes (piece ++ more)
-          ∙ ap (λ b. after f.passed progress.at (words progress.left b)) (sym (append_assoc (drop progress.at bytes) piece more) ∙ ap (λ b. b ++ more) (sym (drop-append-le progress.at bytes piece f.within)));
+          ∙ ap (λ b. behind_words f.passed progress.at (words progress.left b)) (sym (append_assoc (drop progress.at bytes) piece more) ∙ ap (λ b. b ++ more) (sym (drop-append-le progress.at bytes piece f.within)));
     }

@@ -7,9 +7,9 @@ use Rattle.xs_resp.specs.declared.header.Part.{Part}
 use Rattle.xs_resp.specs.declared.header.Part.TheVariants.{Size}
 use Rattle.xs_resp.specs.declared.header.Header.{Header}
 use Rattle.xs_resp.specs.HeaderPart.{marker, limit, number_in}
-use Rattle.xs_resp.specs.Header.{text_len, limited, line_at, header}
+use Rattle.xs_resp.specs.Header.{text_len, within_limit, line_at, header}
 use Rattle.xs_resp.specs.declared.word.Span.{Span}
-use Rattle.xs_resp.specs.Reading.{closed, word}
+use Rattle.xs_resp.specs.Reading.{closed, bulk_string}
 use Rattle.xs_resp.proofs.Outcomes.{bind-ok}
 
 -- a test that chose this outcome
@@ -18,7 +18,7 @@ chosen true x y z e = inl (refl, e)
 chosen false x y z e = inr (refl, e)
 
 -- a header that was read has a number within the limit, and this end
-pub limited-ok : (part : Part) (end : ℕ) (number : Option ℕ) (h : Header) → limited part end number ≡ Ok (Some h) → (number ≡ Some h.number) × (h.number ≤ limit part) × (h.end ≡ end)
+pub limited-ok : (part : Part) (end : ℕ) (number : Option ℕ) (h : Header) → within_limit part end number ≡ Ok (Some h) → (number ≡ Some h.number) × (h.number ≤ limit part) × (h.end ≡ end)
 limited-ok part end None h e = absurd (cc)
 limited-ok part end (Some n) h e =
     elim (chosen (ltb (limit part) n) _ _ _ e) as (λ _. (Some n ≡ Some h.number) × (h.number ≤ limit part) × (h.end ≡ end)) [
@@ -100,8 +100,8 @@ pub record IsRead (bytes : List ℕ) (span : Span) : Type 0 where
   pub short : head.end ≤ 32
   pub whole : span.end + 2 ≤ length bytes
 
-pub word-ok : (bytes : List ℕ) (span : Span) → word bytes ≡ Ok (Some span) → IsRead bytes span
-unfolding word
+pub word-ok : (bytes : List ℕ) (span : Span) → bulk_string bytes ≡ Ok (Some span) → IsRead bytes span
+unfolding bulk_string
 word-ok bytes span e =
     let read = bind-ok (header Size bytes) _ span e in
     let head = read.0 in

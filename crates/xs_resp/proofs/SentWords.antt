@@ -12,7 +12,7 @@ use Rattle.xs_resp.specs.Line.{line, crlf}
 use Rattle.xs_resp.specs.HeaderPart.{limit}
 use Rattle.xs_resp.specs.Outcome.{◌>>=◌}
 use Rattle.xs_resp.specs.Header.{header}
-use Rattle.xs_resp.specs.Reading.{closed, word, text_in}
+use Rattle.xs_resp.specs.Reading.{closed, bulk_string, text_in}
 use Rattle.xs_resp.specs.Grammar.{sent_word, LacksCrlf, WordFault}
 use Rattle.xs_resp.proofs.Outcomes.{bind-err}
 use Rattle.xs_resp.proofs.Reading.{chosen, header_ends, word-ok}
@@ -28,7 +28,7 @@ pub record WordRead (bytes : List ℕ) (span : Span) : Type 0 where
   pub size : length (text_in bytes span) ≤ limit Size
   pub end : span.end + 2 ≡ length (sent_word (text_in bytes span))
 
-pub word-read : (bytes : List ℕ) (span : Span) → word bytes ≡ Ok (Some span) → WordRead bytes span
+pub word-read : (bytes : List ℕ) (span : Span) → bulk_string bytes ≡ Ok (Some span) → WordRead bytes span
 word-read bytes span e =
     let read = word-ok bytes span e in
     let n = read.head.number in
@@ -80,8 +80,8 @@ some-missing [] missing = absurd missing
 some-missing (byte ∷ rest) missing = omega arith
 
 -- a fault that was met in a word stands in it
-pub word-fault : (bytes : List ℕ) (wrong : Wrong) → word bytes ≡ Err wrong → WordFault bytes wrong
-unfolding word
+pub word-fault : (bytes : List ℕ) (wrong : Wrong) → bulk_string bytes ≡ Err wrong → WordFault bytes wrong
+unfolding bulk_string
 word-fault bytes wrong e =
     elim (bind-err (header Size bytes) _ wrong e) [
       | inl f ↦ inl (header-fault Size bytes wrong f)
@@ -107,8 +107,8 @@ word-fault bytes wrong e =
     ]
 
 -- a line of a size, and what stands behind that many bytes
-behind-line : (text rest : List ℕ) → length text ≤ limit Size → word (line 36 (length text) ++ (text ++ rest)) ≡ closed (length (line 36 (length text))) (length (line 36 (length text)) + length text) rest
-unfolding word
+behind-line : (text rest : List ℕ) → length text ≤ limit Size → bulk_string (line 36 (length text) ++ (text ++ rest)) ≡ closed (length (line 36 (length text))) (length (line 36 (length text)) + length text) rest
+unfolding bulk_string
 behind-line text rest h =
     let n = length text in
     let head = line 36 n in
@@ -117,19 +117,19 @@ behind-line text rest h =
     ∙ ap (closed end (end + n)) (ap (drop (end + n)) (sym (append_assoc head text rest)) ∙ drop_at (head ++ text) rest (end + n) (length-append head text))
 
 -- and the other way
-pub word-err : (bytes : List ℕ) (wrong : Wrong) → WordFault bytes wrong → word bytes ≡ Err wrong
-unfolding word
+pub word-err : (bytes : List ℕ) (wrong : Wrong) → WordFault bytes wrong → bulk_string bytes ≡ Err wrong
+unfolding bulk_string
 word-err bytes wrong (inl f) = ap (λ o. o >>= λ (h : Header). closed h.end (h.end + h.number) (drop (h.end + h.number) bytes)) (header-err Size bytes wrong f)
 word-err bytes wrong (inr f) =
-    ap word (f.1).whole ∙ behind-line (f.1).text (f.1).rest (f.1).size ∙ closed-err _ _ (f.1).rest (f.1).missing ∙ ap (λ w. Err w) (sym f.0)
+    ap bulk_string (f.1).whole ∙ behind-line (f.1).text (f.1).rest (f.1).size ∙ closed-err _ _ (f.1).rest (f.1).missing ∙ ap (λ w. Err w) (sym f.0)
 
 -- a word that was sent is read
 pub sent-span : List ℕ → Span
 sent-span text = record { start = length (line 36 (length text)); end = length (line 36 (length text)) + length text }
 
-pub word-sent : (text rest : List ℕ) → length text ≤ limit Size → word (sent_word text ++ rest) ≡ Ok (Some (sent-span text))
+pub word-sent : (text rest : List ℕ) → length text ≤ limit Size → bulk_string (sent_word text ++ rest) ≡ Ok (Some (sent-span text))
 unfolding sent-span
-word-sent text rest h = ap word (sent-split text rest) ∙ behind-line text (13 ∷ 10 ∷ rest) h
+word-sent text rest h = ap bulk_string (sent-split text rest) ∙ behind-line text (13 ∷ 10 ∷ rest) h
 
 pub text-sent : (text rest : List ℕ) → text_in (sent_word text ++ rest) (sent-span text) ≡ text
 unfolding sent-span

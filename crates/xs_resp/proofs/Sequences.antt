@@ -5,7 +5,7 @@ use Rattle.std.proofs.lemmas.List.{drop_at, drop-drop, drop-append-le}
 use Rattle.xs_resp.specs.declared.word.Span.{Span}
 use Rattle.xs_resp.specs.declared.read_fault.Wrong.{Wrong}
 use Rattle.xs_resp.specs.Outcome.{◌>>=◌, Keeps}
-use Rattle.xs_resp.specs.Reading.{Found, word, text_in, after, words}
+use Rattle.xs_resp.specs.Reading.{Found, bulk_string, text_in, behind_words, words}
 use Rattle.xs_resp.specs.Grammar.{sent_word, sent_words, AreSizes, WordFault}
 use Rattle.xs_resp.proofs.Outcomes.{bind-ok, bind-err, after-after, after-none, after-keeps, Keeps-bind}
 use Rattle.xs_resp.proofs.Reading.{word-ok}
@@ -27,7 +27,7 @@ words-read zero bytes found e =
     let is : none ≡ found = cc in
     subst (λ f. WordsRead zero bytes f) is (record { count = refl; sizes = tt; whole = refl; end = refl })
 words-read (suc number) bytes found e =
-    let first = bind-ok (word bytes) _ found e in
+    let first = bind-ok (bulk_string bytes) _ found e in
     let span = first.0 in
     let behind = drop (span.end + 2) bytes in
     let further = bind-ok (words number behind) _ found first.2 in
@@ -60,7 +60,7 @@ pub words-fault : (number : ℕ) (bytes : List ℕ) (wrong : Wrong) → words nu
 unfolding words
 words-fault zero bytes wrong e = absurd (cc)
 words-fault (suc number) bytes wrong e =
-    elim (bind-err (word bytes) _ wrong e) [
+    elim (bind-err (bulk_string bytes) _ wrong e) [
       | inl here ↦ record { passed = []; rest = bytes; whole = refl; some_left = omega arith; sizes = tt; fault = word-fault bytes wrong here }
       | inr first ↦ (let span = first.0 in
           let behind = drop (span.end + 2) bytes in
@@ -81,7 +81,7 @@ words-fault (suc number) bytes wrong e =
     ]
 
 -- words that were sent are read
-pub words-sent : (texts : List (List ℕ)) (left : ℕ) (rest : List ℕ) → AreSizes texts → words (length texts + left) (sent_words texts ++ rest) ≡ after texts (length (sent_words texts)) (words left rest)
+pub words-sent : (texts : List (List ℕ)) (left : ℕ) (rest : List ℕ) → AreSizes texts → words (length texts + left) (sent_words texts ++ rest) ≡ behind_words texts (length (sent_words texts)) (words left rest)
 unfolding words
 words-sent [] left rest sizes = ap (λ n. words n rest) (omega arith) ∙ sym (after-none (words left rest))
 words-sent (text ∷ texts) left rest sizes =
@@ -92,12 +92,12 @@ words-sent (text ∷ texts) left rest sizes =
     let number : length (text ∷ texts) + left ≡ suc more = omega arith in
     ap (λ n. words n (sent_words (text ∷ texts) ++ rest)) number
     ∙ ap (words (suc more)) (append_assoc (sent_word text) (sent_words texts) rest)
-    ∙ ap (λ o. o >>= λ (s : Span). after (text_in all s ∷ []) (s.end + 2) (words more (drop (s.end + 2) all))) (word-sent text others sizes.0)
-    ∙ ap (λ t. after (t ∷ []) (span.end + 2) (words more (drop (span.end + 2) all))) (text-sent text others)
-    ∙ ap (λ b. after (text ∷ []) (span.end + 2) (words more b)) (drop_at (sent_word text) others (span.end + 2) (sym (end-sent text)))
-    ∙ ap (after (text ∷ []) (span.end + 2)) (words-sent texts left rest sizes.1)
+    ∙ ap (λ o. o >>= λ (s : Span). behind_words (text_in all s ∷ []) (s.end + 2) (words more (drop (s.end + 2) all))) (word-sent text others sizes.0)
+    ∙ ap (λ t. behind_words (t ∷ []) (span.end + 2) (words more (drop (span.end + 2) all))) (text-sent text others)
+    ∙ ap (λ b. behind_words (text ∷ []) (span.end + 2) (words more b)) (drop_at (sent_word text) others (span.end + 2) (sym (end-sent text)))
+    ∙ ap (behind_words (text ∷ []) (span.end + 2)) (words-sent texts left rest sizes.1)
     ∙ after-after (text ∷ []) texts (span.end + 2) (length (sent_words texts)) (words left rest)
-    ∙ ap (λ n. after (text ∷ texts) n (words left rest)) (omega (arith, end-sent text, length-append (sent_word text) (sent_words texts)))
+    ∙ ap (λ n. behind_words (text ∷ texts) n (words left rest)) (omega (arith, end-sent text, length-append (sent_word text) (sent_words texts)))
 
 -- what is decided of words stays so
 pub words-keep : (number : ℕ) (bytes more : List ℕ) → Keeps (words number bytes) (words number (bytes ++ more))
@@ -109,7 +109,7 @@ words-keep (suc number) bytes more =
     let next = span.end + 2 in
     let text = text-later bytes more span (omega (arith, read.start_is, read.end_is)) (omega (arith, read.whole)) in
     let rest = drop-append-le next bytes more read.whole in
-    let first = after (text_in bytes span ∷ []) next (words number (drop next bytes)) in
-    subst (λ t. Keeps first (after (t ∷ []) next (words number (drop next (bytes ++ more))))) (sym text)
-    (subst (λ b. Keeps first (after (text_in bytes span ∷ []) next (words number b))) (sym rest)
+    let first = behind_words (text_in bytes span ∷ []) next (words number (drop next bytes)) in
+    subst (λ t. Keeps first (behind_words (t ∷ []) next (words number (drop next (bytes ++ more))))) (sym text)
+    (subst (λ b. Keeps first (behind_words (text_in bytes span ∷ []) next (words number b))) (sym rest)
     (after-keeps (text_in bytes span ∷ []) next _ _ (words-keep number (drop next bytes) more))))

@@ -5,7 +5,7 @@ use Rattle.xs_resp.specs.declared.progress.Progress.{Progress}
 use Rattle.xs_resp.specs.declared.requests.State.{State}
 use Rattle.xs_resp.specs.declared.requests.State.TheVariants.{Between, Within, Failed}
 use Rattle.xs_resp.specs.HeldBytes.{Held, HasNext, Skips}
-use Rattle.xs_resp.specs.Progress.{Follows}
+use Rattle.xs_resp.specs.Progress.{IsProgressOf}
 use Rattle.xs_resp.specs.Reading.{Found, request, IsWhole}
 use Rattle.xs_resp.specs.State.{held_in}
 use Rattle.xs_resp.proofs.Progressing.{follows-all}
@@ -17,7 +17,7 @@ held-bytes (Within progress) bytes other e = cc
 held-bytes (Failed wrong) bytes other e = absurd (cc)
 
 -- a whole request is read to its end
-pub reached-end : (bytes : List ℕ) (progress : Progress) → (f : Follows bytes progress) → (0 < progress.left → request bytes ≡ Ok None) → IsWhole (request bytes)
+pub reached-end : (bytes : List ℕ) (progress : Progress) → (f : IsProgressOf bytes progress) → (0 < progress.left → request bytes ≡ Ok None) → IsWhole (request bytes)
     → request bytes ≡ Ok (Some (record { words = f.passed; end = progress.at }))
 reached-end bytes progress f open' whole =
     elim (cases_lt 0 progress.left) [

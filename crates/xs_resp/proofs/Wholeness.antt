@@ -10,7 +10,7 @@ use Rattle.xs_resp.specs.Token as token
 use Rattle.xs_resp.specs.Items.{Items}
 use Rattle.xs_resp.specs.ReplyItems.{tokens_of, items_of}
 use Rattle.xs_resp.specs.Whole.{AreItems, own_items}
-use Rattle.xs_resp.specs.WholeReplies.{IsWhole, AreWhole}
+use Rattle.xs_resp.specs.WholeReplies.{IsWholeReply, AreWhole}
 
 -- as many items, told by another number
 so-many : (n m : ℕ) (ts : List token.Token) → n ≡ m → AreItems n ts → AreItems m ts
@@ -27,7 +27,7 @@ items-append (suc n) m (t ∷ ts) us first second =
     so-many (suc (n + m)) (suc n + m) (t ∷ (ts ++ us)) (omega arith) more
 
 -- the tokens of a whole reply are one item
-one-item : (r : Reply) → IsWhole r → AreItems 1 (tokens_of r)
+one-item : (r : Reply) → IsWholeReply r → AreItems 1 (tokens_of r)
 unfolding AreItems
 one-item (Simple s) whole = tt
 one-item (Error f) whole = tt
@@ -44,7 +44,7 @@ items-whole (r ∷ rs) whole =
     so-many (1 + length rs) (suc (length rs)) (flat_map tokens_of (r ∷ rs)) (omega arith)
     (items-append 1 (length rs) (tokens_of r) (flat_map tokens_of rs) (one-item r whole.0) (items-whole rs whole.1))
 
-pub all-whole : {A : Type 0} (f : A → Reply) → ((x : A) → IsWhole (f x)) → (xs : List A) → AreWhole (map f xs)
+pub all-whole : {A : Type 0} (f : A → Reply) → ((x : A) → IsWholeReply (f x)) → (xs : List A) → AreWhole (map f xs)
 all-whole f each [] = tt
 all-whole f each (x ∷ xs) = (each x, all-whole f each xs)
 
@@ -74,7 +74,7 @@ record Found (n : ℕ) (ts : List token.Token) : Type 0 where
 
 -- the first of them, where those behind it are found
 module _ (n : ℕ) (further : (back : List token.Token) → AreItems n back → Found n back) where
-  behind : (r : Reply) (back : List token.Token) → IsWhole r → AreItems n back → Found (suc n) (tokens_of r ++ back)
+  behind : (r : Reply) (back : List token.Token) → IsWholeReply r → AreItems n back → Found (suc n) (tokens_of r ++ back)
   behind r back one rest =
       let more = further back rest in
       record {
@@ -119,7 +119,7 @@ filled rs count before tokens whole counted empty appended =
     rw (appended, empty, counted) (items-whole rs whole)
 
 -- so are those of replies of one kind
-pub filled-each : {A : Type 0} (f : A → Reply) → ((x : A) → IsWhole (f x)) → (xs : List A) (count : ℕ) (before tokens : List token.Token) → count ≡ length xs → before ≡ []
+pub filled-each : {A : Type 0} (f : A → Reply) → ((x : A) → IsWholeReply (f x)) → (xs : List A) (count : ℕ) (before tokens : List token.Token) → count ≡ length xs → before ≡ []
     → tokens ≡ before ++ flat_map tokens_of (map f xs) → AreItems count tokens
 filled-each f each xs count before tokens counted empty appended =
     filled (map f xs) count before tokens (all-whole f each xs) (counted ∙ sym (length-map xs f)) empty appended

@@ -16,16 +16,17 @@ abbrev pub text_len : List ℕ → ℕ
 text_len line = prefix_len is_not_cr line
 
 -- a header with this number, which ends at this index
-abbrev pub limited : Part → ℕ → Option ℕ → Outcome Header
-limited part end None = Err Length
-limited part end (Some n) = if nat_lt (limit part) n then Err Limit else Ok (Some (record { number = n; end = end }))
+abbrev pub within_limit : Part → ℕ → Option ℕ → Outcome Header
+within_limit part end None = Err Length
+within_limit part end (Some n) =
+    if nat_lt (limit part) n then Err Limit else Ok (Some (record { number = n; end = end }))
 
 -- a header whose marker is read, and whose first CR stands at this index
 unfoldable pub line_at : Part → List ℕ → ℕ → Outcome Header
 line_at part line cr =
     if nat_le 30 cr then Err Limit
     else (if nat_lt (length line) (cr + 2) then Ok None
-    else (if slice_index line (cr + 1) == 10 then limited part (cr + 3) (number_in part (take cr line))
+    else (if slice_index line (cr + 1) == 10 then within_limit part (cr + 3) (number_in part (take cr line))
     else Err Shape))
 
 unfoldable pub header : Part → List ℕ → Outcome Header

@@ -6,7 +6,7 @@ use Rattle.xs_resp.specs.declared.read_fault.Wrong.{Wrong}
 use Rattle.xs_resp.specs.declared.read_fault.ReadFault.{ReadFault}
 use Rattle.xs_resp.specs.declared.read_fault.ReadFault.TheVariants.{Memory}
 use Rattle.xs_resp.specs.Outcome.{Outcome}
-use Rattle.xs_resp.specs.ReadFaults.{fault_of}
+use Rattle.xs_resp.specs.ReadFaults.{read_fault_of}
 use Rattle.xs_resp.specs.Reading.{Found, request, words_in, IsWhole}
 
 -- the bytes that a reader holds, or the fault with which it has failed
@@ -34,12 +34,12 @@ abbrev pub NextOf : List ℕ → Outcome Found → Result (Option (List (List �
 NextOf bytes (Ok (Some found)) result new =
     ((result ≡ Ok (Some found.words)) × (new ≡ Ok (drop found.end bytes))) ⊎ ((result ≡ Err Memory) × (new ≡ Ok bytes))
 NextOf bytes (Ok None) result new = (result ≡ Ok None) × (new ≡ Ok bytes)
-NextOf bytes (Err wrong) result new = (result ≡ Err (fault_of wrong)) × (new ≡ Err wrong)
+NextOf bytes (Err wrong) result new = (result ≡ Err (read_fault_of wrong)) × (new ≡ Err wrong)
 
 -- the next request of what is held: a failed reader answers its fault for good
 abbrev pub Next : Held → Result (Option (List (List ℕ))) ReadFault → Held → Type 0
 Next (Ok bytes) result new = NextOf bytes (request bytes) result new
-Next (Err wrong) result new = (result ≡ Err (fault_of wrong)) × (new ≡ Err wrong)
+Next (Err wrong) result new = (result ≡ Err (read_fault_of wrong)) × (new ≡ Err wrong)
 
 -- a whole request stands at the front of what is held
 pub record HasNext (held : Held) : Type 0 where
@@ -64,9 +64,9 @@ pub record Skips (old new : Held) : Type 0 where
 abbrev pub ReadyOf : List ℕ → Outcome Found → Result Bool ReadFault → Held → Type 0
 ReadyOf bytes (Ok (Some found)) result new = (result ≡ Ok true) × (new ≡ Ok bytes)
 ReadyOf bytes (Ok None) result new = (result ≡ Ok false) × (new ≡ Ok bytes)
-ReadyOf bytes (Err wrong) result new = (result ≡ Err (fault_of wrong)) × (new ≡ Err wrong)
+ReadyOf bytes (Err wrong) result new = (result ≡ Err (read_fault_of wrong)) × (new ≡ Err wrong)
 
 -- whether a whole request stands at the front of what is held
 abbrev pub Ready : Held → Result Bool ReadFault → Held → Type 0
 Ready (Ok bytes) result new = ReadyOf bytes (request bytes) result new
-Ready (Err wrong) result new = (result ≡ Err (fault_of wrong)) × (new ≡ Err wrong)
+Ready (Err wrong) result new = (result ≡ Err (read_fault_of wrong)) × (new ≡ Err wrong)

@@ -11,8 +11,8 @@ pub record Left : Type 0 where
   pub behind : List ℕ
 
 -- all bytes that are left
-abbrev pub left : Left → List ℕ
-left bytes = bytes.piece ++ bytes.behind
+abbrev pub bytes_left : Left → List ℕ
+bytes_left bytes = bytes.piece ++ bytes.behind
 
 -- the string of a token
 abbrev pub string_of : Token → List ℕ

@@ -4,7 +4,7 @@ use Rattle.xs_resp.specs.declared.read_fault.Wrong.TheVariants as wrong
 use Rattle.xs_resp.specs.declared.read_fault.ReadFault.{ReadFault}
 use Rattle.xs_resp.specs.declared.read_fault.ReadFault.TheVariants as fault
 
-abbrev pub fault_of : Wrong → ReadFault
-fault_of wrong.Length = fault.Length
-fault_of wrong.Shape = fault.Shape
-fault_of wrong.Limit = fault.Limit
+abbrev pub read_fault_of : Wrong → ReadFault
+read_fault_of wrong.Length = fault.Length
+read_fault_of wrong.Shape = fault.Shape
+read_fault_of wrong.Limit = fault.Limit

@@ -20,26 +20,28 @@ closed start end (cr ∷ lf ∷ rest) =
     if cr == 13 then (if lf == 10 then Ok (Some (record { start = start; end = end })) else Err Shape) else Err Shape
 
 -- a header, that many bytes, and CR LF
-unfoldable pub word : List ℕ → Outcome Span
-word bytes = header Size bytes >>= λ h. closed h.end (h.end + h.number) (drop (h.end + h.number) bytes)
+unfoldable pub bulk_string : List ℕ → Outcome Span
+bulk_string bytes = header Size bytes >>= λ h. closed h.end (h.end + h.number) (drop (h.end + h.number) bytes)
 
 -- the bytes of a word
 abbrev pub text_in : List ℕ → Span → List ℕ
 text_in bytes span = take (span.end - span.start) (drop span.start bytes)
 
 -- what is read behind these words, which end at this index
-abbrev pub after : List (List ℕ) → ℕ → Outcome Found → Outcome Found
-after words end rest = rest >>= λ found. Ok (Some (record { words = words ++ found.words; end = end + found.end }))
+abbrev pub behind_words : List (List ℕ) → ℕ → Outcome Found → Outcome Found
+behind_words words end rest =
+    rest >>= λ found. Ok (Some (record { words = words ++ found.words; end = end + found.end }))
 
 -- this many words
 unfoldable pub words : ℕ → List ℕ → Outcome Found
 words zero bytes = Ok (Some (record { words = []; end = 0 }))
 words (suc n) bytes =
-    word bytes >>= λ span. after (text_in bytes span ∷ []) (span.end + 2) (words n (drop (span.end + 2) bytes))
+    bulk_string bytes >>= λ span.
+    behind_words (text_in bytes span ∷ []) (span.end + 2) (words n (drop (span.end + 2) bytes))
 
 -- a request: a header, and that many words
 unfoldable pub request : List ℕ → Outcome Found
-request bytes = header Count bytes >>= λ h. after [] h.end (words h.number (drop h.end bytes))
+request bytes = header Count bytes >>= λ h. behind_words [] h.end (words h.number (drop h.end bytes))
 
 -- something was read
 abbrev pub IsWhole : Outcome Found → Type 0

@@ -3,7 +3,7 @@ use Rattle.std.specs.Prelude.{ℕ, List, Ok, Err}
 use Rattle.xs_resp.specs.declared.requests.State.{State}
 use Rattle.xs_resp.specs.declared.requests.State.TheVariants.{Between, Within, Failed}
 use Rattle.xs_resp.specs.HeldBytes.{Held}
-use Rattle.xs_resp.specs.Progress.{Follows}
+use Rattle.xs_resp.specs.Progress.{IsProgressOf}
 
 -- what is held, of these bytes in this state
 abbrev pub held_in : State → List ℕ → Held
@@ -14,5 +14,5 @@ held_in (Failed wrong) bytes = Err wrong
 -- what is known of the bytes
 abbrev pub IsState : State → List ℕ → Type 0
 IsState Between bytes = Unit {0}
-IsState (Within progress) bytes = Follows bytes progress
+IsState (Within progress) bytes = IsProgressOf bytes progress
 IsState (Failed wrong) bytes = Unit {0}

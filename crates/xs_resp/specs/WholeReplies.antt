@@ -4,10 +4,10 @@ use Rattle.xs_resp.specs.declared.reply.Reply.{Reply}
 use Rattle.xs_resp.specs.declared.reply.Reply.TheVariants.{Array}
 use Rattle.xs_resp.specs.Whole.{AreItems}
 
-abbrev pub IsWhole : Reply → Type 0
-IsWhole (Array items) = AreItems items.count items.tokens
-IsWhole other = Unit {0}
+abbrev pub IsWholeReply : Reply → Type 0
+IsWholeReply (Array items) = AreItems items.count items.tokens
+IsWholeReply other = Unit {0}
 
 abbrev pub AreWhole : List Reply → Type 0
 AreWhole [] = Unit {0}
-AreWhole (r ∷ rs) = IsWhole r × AreWhole rs
+AreWhole (r ∷ rs) = IsWholeReply r × AreWhole rs

@@ -3,7 +3,7 @@ ghost use Rattle.std.specs.Prelude.{◌≡◌, ◌+◌, ◌<◌, ◌≤◌, [], 
 ghost use Rattle.std.specs.List.{flat_map};
 ghost use Rattle.xs_resp.specs.ReplyText.{text, token_text};
 ghost use Rattle.xs_resp.specs.Marks.{token_in};
-ghost use Rattle.xs_resp.specs.LeftToWrite.{left, left_of, string_of, strings_of};
+ghost use Rattle.xs_resp.specs.LeftToWrite.{bytes_left, left_of, string_of, strings_of};
 ghost use Rattle.xs_resp.specs.Position.{IsEncoding};
 ghost use Rattle.xs_resp.specs.TokenFit.{Appends};
 
@@ -72,7 +72,7 @@ impl Model for Encoder {
 impl Encoder {
     /// Nothing is left. This is the only call that takes memory.
     pub fn new(alloc: Global) -> Result<Self, AllocError>
-        ensures { IfOk result (λ encoder. left encoder ≡ []) }
+        ensures { IfOk result (λ encoder. bytes_left encoder ≡ []) }
     {
         Ok(Self {
             gathered: Vec::with_capacity(alloc, GATHERED)?,
@@ -83,8 +83,8 @@ impl Encoder {
 
     /// The text of this reply is left.
     pub fn begin(&mut self, reply: Reply)
-        requires { left self.old ≡ [] }
-        ensures { left self.new ≡ text reply }
+        requires { bytes_left self.old ≡ [] }
+        ensures { bytes_left self.new ≡ text reply }
     {
         self.reply = reply;
         self.gathered.clear();
@@ -106,7 +106,7 @@ impl Encoder {
 
     /// The piece is written. The reply is let go once all of it is.
     pub fn advance(&mut self)
-        ensures { left self.new ≡ self.old.behind }
+        ensures { bytes_left self.new ≡ self.old.behind }
     {
         let Position { taken, at, is_lent } = self.position;
         let was_lent = is_lent && self.gathered.is_empty();
@@ -126,7 +126,7 @@ impl Encoder {
 
     /// Nothing is left.
     pub fn clear(&mut self)
-        ensures { left self.new ≡ [] }
+        ensures { bytes_left self.new ≡ [] }
     {
         self.gathered.clear();
         self.reply = Reply::NullArray;

@@ -4,7 +4,7 @@ ghost use Rattle.std.specs.Prelude.{length};
 ghost use Rattle.std.specs.List.{list_all};
 ghost use Rattle.xs_bytes.specs.Number.{is_digit, value_of};
 ghost use Rattle.xs_resp.specs.HeaderPart.{marker, limit, is_natural, number_in};
-ghost use Rattle.xs_resp.specs.Header.{text_len, limited, line_at, header};
+ghost use Rattle.xs_resp.specs.Header.{text_len, within_limit, line_at, header};
 
 use crate::read_fault::Wrong;
 
@@ -95,7 +95,7 @@ fn find_cr(line: &[u8]) -> usize
 
 /// A header with this number, if it is one and within the limit. The number is saturated.
 fn limited(part: Part, end: usize, number: Option<u64>) -> Result<Option<Header>, Wrong>
-    ensures { result ≡ limited part end number }
+    ensures { result ≡ within_limit part end number }
 {
     let number = number.ok_or(Wrong::Length)?;
     if number > limit(part) {

@@ -1,6 +1,6 @@
 //! How far the request at the front of some bytes is read.
 ghost use Rattle.std.specs.Prelude.{◌≡◌, ◌<◌, ◌≤◌, IfSome, Ok, None, Some};
-ghost use Rattle.xs_resp.specs.Progress.{Follows, Begins, Goes, Reaches};
+ghost use Rattle.xs_resp.specs.Progress.{IsProgressOf, Begins, Goes, Reaches};
 
 use crate::header::{Part, read_header};
 use crate::read_fault::Wrong;
@@ -17,7 +17,7 @@ pub struct Progress {
 
 /// Reads on as far as the bytes go. None where the header isn't whole.
 pub fn read_on(bytes: &[u8], progress: Option<Progress>) -> Result<Option<Progress>, Wrong>
-    requires { IfSome progress (Follows bytes.now) }
+    requires { IfSome progress (IsProgressOf bytes.now) }
     ensures { Reaches bytes.now result }
 {
     let begun = match progress {
@@ -45,7 +45,7 @@ fn begin(bytes: &[u8]) -> Result<Option<Progress>, Wrong>
 
 /// Reads words as far as the bytes go.
 fn advance(bytes: &[u8], mut progress: Progress) -> Result<Progress, Wrong>
-    requires { Follows bytes.now progress }
+    requires { IsProgressOf bytes.now progress }
     ensures { Goes bytes.now result }
 {
     while progress.left > 0 {

@@ -31,9 +31,9 @@ pub enum ReadFault {
 
 impl From<Wrong> for ReadFault {
     ghost use Rattle.std.specs.Prelude.{◌≡◌};
-    ghost use Rattle.xs_resp.specs.ReadFaults.{fault_of};
+    ghost use Rattle.xs_resp.specs.ReadFaults.{read_fault_of};
 
-    ghost from_gives = { λ wrong fault. fault ≡ fault_of wrong };
+    ghost from_gives = { λ wrong fault. fault ≡ read_fault_of wrong };
 
     fn from(wrong: Wrong) -> Self {
         match wrong {

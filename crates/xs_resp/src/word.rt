@@ -1,6 +1,6 @@
 //! The words of a request (RESP protocol specification, version 2).
 ghost use Rattle.std.specs.Prelude.{◌≡◌, ◌≤◌, ◌+◌, length, drop, IfOk, IfSome};
-ghost use Rattle.xs_resp.specs.Reading.{closed, word};
+ghost use Rattle.xs_resp.specs.Reading.{closed, bulk_string};
 
 use crate::header::{Part, read_header};
 use crate::read_fault::Wrong;
@@ -25,7 +25,7 @@ pub fn rest_of(bytes: &[u8], at: usize) -> &[u8]
 /// Reads the word at the front, with its header and its line end. None where more bytes decide.
 #[tactic(auto, using(crate::proofs::Reading::header_ends), unfolding(crate::specs::Reading::word))]
 pub fn read_word(bytes: &[u8]) -> Result<Option<Span>, Wrong>
-    ensures value { result ≡ word bytes.now }
+    ensures value { result ≡ bulk_string bytes.now }
     ensures ends { IfOk result (λ found. IfSome found (λ span. (span.start ≤ span.end)
         × (span.end + 2 ≤ length bytes.now))) }
 {

@@ -15,7 +15,7 @@ use Rattle.xs_server.specs.declared.connections.ending.ServeFault.{ServeFault}
 use Rattle.xs_server.specs.declared.connections.ending.ServeFault.TheVariants as fault
 use Rattle.xs_server.specs.Answering.{Answered}
 use Rattle.xs_server.specs.Exchange.{Exchange, Run}
-use Rattle.xs_server.specs.Serve.{Serves, Ends}
+use Rattle.xs_server.specs.Serve.{ServesConnection, Ends}
 use Rattle.xs_server.specs.Alone.{onto_asked, asked_in, GivesMoments, RunsAlone}
 
 -- a port each of whose replies is a step of its content, at a moment that its clock gives
@@ -74,7 +74,7 @@ last-is Fails never (Err (fault.Port told)) last new rest exchanges sent ends = 
 -- a connection that is served by a keyspace alone
 pub serves-alone : {P C : Type 0} (Replies : P → Command → Reply → P → Type 0) (Fails : P → Command → P → Type 0) (gives : C → ℕ → C → Type 0) (content : P → Content) (clock : P → C)
     → IsOfKeyspace Replies gives content clock → ((old : P) (command : Command) (new : P) → Fails old command new → ⊥)
-    → (result : Result Ending ServeFault) (old new : P) (read sent : List ℕ) (served : Serves Replies Fails result old new read sent)
+    → (result : Result Ending ServeFault) (old new : P) (read sent : List ℕ) (served : ServesConnection Replies Fails result old new read sent)
     → RunsAlone gives served.exchanges (content old) (clock old) (content new) (clock new)
 unfolding Goes_on
 serves-alone Replies Fails gives content clock of never result old new read sent served =

@@ -10,7 +10,7 @@ use Rattle.xs_resp.specs.declared.reply.Reply.TheVariants.{Simple, Error, Int, B
 use Rattle.xs_resp.specs.declared.fault.Fault.TheVariants.{Protocol}
 use Rattle.xs_resp.specs.declared.read_fault.Wrong.{Wrong}
 use Rattle.xs_resp.specs.ReplyText.{text}
-use Rattle.xs_resp.specs.LeftToWrite.{left}
+use Rattle.xs_resp.specs.LeftToWrite.{bytes_left}
 use Rattle.xs_resp.specs.Grammar.{FaultIn, IsOpen}
 use Rattle.xs_command.specs.declared.command.Command.{Command}
 use Rattle.xs_server.specs.declared.connections.connection.Connection.{Connection}
@@ -21,8 +21,8 @@ use Rattle.xs_server.specs.declared.connections.ending.ServeFault.TheVariants as
 use Rattle.xs_server.specs.Device.{capped}
 use Rattle.xs_server.specs.Machine.{itself, reader, writer, EndsOncePaid}
 use Rattle.xs_server.specs.Exchange.{Exchange, AreAnswered, texts, is_quit}
-use Rattle.xs_server.specs.Serve.{WrittenTo, IsPart, PortFails, Ends, Serves}
-use Rattle.xs_server.specs.Connection.{Owes, Stands, ServesBy}
+use Rattle.xs_server.specs.Serve.{WrittenTo, IsPart, PortFails, Ends, ServesConnection}
+use Rattle.xs_server.specs.Connection.{Owes, ConnectionStands, ServesBy}
 use Rattle.xs_server.proofs.AnsweredRequests.{answered-again}
 
 -- ---- what is written
@@ -88,18 +88,18 @@ module _ {P : Type 0} (Replies : P → Command → Reply → P → Type 0) where
   all-answered old new read exchanges (one ∷ []) rest part owed a owes few = absurd (omega (arith, owes.1, few))
   all-answered old new read exchanges (one ∷ two ∷ more) rest part owed a owes few = absurd owes
 
-  pub settled : (old new : P) (read sent : List ℕ) (connection : Connection) → Stands Replies old new read sent connection → length (left connection.owed) < 1 → Settled old new read sent connection
+  pub settled : (old new : P) (read sent : List ℕ) (connection : Connection) → ConnectionStands Replies old new read sent connection → length (bytes_left connection.owed) < 1 → Settled old new read sent connection
   settled old new read sent connection s few = record {
     exchanges = s.exchanges;
     rest = s.rest;
-    answered = all-answered old new read s.exchanges s.last s.rest s.part (left connection.owed) s.answered s.owes few;
+    answered = all-answered old new read s.exchanges s.last s.rest s.part (bytes_left connection.owed) s.answered s.owes few;
     holds = s.holds;
-    written = subst (λ (p : List ℕ). WrittenTo s.exchanges p sent connection.replies) (part-none s.last s.part (left connection.owed) s.owes few) s.written;
+    written = subst (λ (p : List ℕ). WrittenTo s.exchanges p sent connection.replies) (part-none s.last s.part (bytes_left connection.owed) s.owes few) s.written;
   }
 
   -- a part of what is owed is written
-  pub stands-on : (old new : P) (read sent front : List ℕ) (connection later : Connection) → Stands Replies old new read sent connection → left connection.owed ≡ front ++ left later.owed → 0 < length (left later.owed)
-      → later.requests ≡ connection.requests → later.replies ≡ connection.replies → Stands Replies old new read (sent ++ front) later
+  pub stands-on : (old new : P) (read sent front : List ℕ) (connection later : Connection) → ConnectionStands Replies old new read sent connection → bytes_left connection.owed ≡ front ++ bytes_left later.owed → 0 < length (bytes_left later.owed)
+      → later.requests ≡ connection.requests → later.replies ≡ connection.replies → ConnectionStands Replies old new read (sent ++ front) later
   stands-on old new read sent front connection later s is some same counted = record {
     exchanges = s.exchanges;
     last = s.last;
@@ -110,14 +110,14 @@ module _ {P : Type 0} (Replies : P → Command → Reply → P → Type 0) where
     written = subst (λ (n : ℕ). WrittenTo s.exchanges (s.part ++ front) (sent ++ front) n) (sym counted) (written-longer s.exchanges sent s.part front connection.replies s.written);
     owes = by s.last s.owes;
   } where
-    by : (last : List Exchange) → Owes last s.part (left connection.owed) → Owes last (s.part ++ front) (left later.owed)
-    by [] owes = absurd (omega (arith, some, ap length owes.1, ap length is, length-append front (left later.owed)))
-    by (one ∷ []) owes = (owes.0 ∙ ap (λ o. s.part ++ o) is ∙ sym (append_assoc s.part front (left later.owed)), some, owes.2)
+    by : (last : List Exchange) → Owes last s.part (bytes_left connection.owed) → Owes last (s.part ++ front) (bytes_left later.owed)
+    by [] owes = absurd (omega (arith, some, ap length owes.1, ap length is, length-append front (bytes_left later.owed)))
+    by (one ∷ []) owes = (owes.0 ∙ ap (λ o. s.part ++ o) is ∙ sym (append_assoc s.part front (bytes_left later.owed)), some, owes.2)
     by (one ∷ two ∷ more) owes = absurd owes
 
   -- all that is owed is written
-  pub stands-paid : (old new : P) (read sent front : List ℕ) (connection later : Connection) → Stands Replies old new read sent connection → left connection.owed ≡ front → 0 < length front
-      → later.requests ≡ connection.requests → left later.owed ≡ [] → later.replies ≡ capped (connection.replies + 1) → Stands Replies old new read (sent ++ front) later
+  pub stands-paid : (old new : P) (read sent front : List ℕ) (connection later : Connection) → ConnectionStands Replies old new read sent connection → bytes_left connection.owed ≡ front → 0 < length front
+      → later.requests ≡ connection.requests → bytes_left later.owed ≡ [] → later.replies ≡ capped (connection.replies + 1) → ConnectionStands Replies old new read (sent ++ front) later
   stands-paid old new read sent front connection later s is some same none counted = record {
     exchanges = s.exchanges ++ s.last;
     last = [];
@@ -128,7 +128,7 @@ module _ {P : Type 0} (Replies : P → Command → Reply → P → Type 0) where
     written = by s.last s.owes;
     owes = (refl, none);
   } where
-    by : (last : List Exchange) → Owes last s.part (left connection.owed) → WrittenTo (s.exchanges ++ last) [] (sent ++ front) later.replies
+    by : (last : List Exchange) → Owes last s.part (bytes_left connection.owed) → WrittenTo (s.exchanges ++ last) [] (sent ++ front) later.replies
     by [] owes = absurd (omega (arith, some, ap length owes.1, ap length is))
     by (one ∷ []) owes = written-more s.exchanges one sent s.part front connection.replies later.replies s.written (owes.0 ∙ ap (λ o. s.part ++ o) is) owes.2 counted
     by (one ∷ two ∷ more) owes = absurd owes
@@ -143,7 +143,7 @@ module _ {P : Type 0} (Replies : P → Command → Reply → P → Type 0) where
 
 module _ {P : Type 0} (Replies : P → Command → Reply → P → Type 0) (Fails : P → Command → P → Type 0) (gone : P → Bool) where
   serves-so : (result : Result Ending ServeFault) (old last new : P) (read sent rest : List ℕ) (exchanges : List Exchange) → AreAnswered Replies old last read exchanges rest → Ends Fails result last new rest exchanges sent
-      → Serves Replies Fails result old new read sent
+      → ServesConnection Replies Fails result old new read sent
   serves-so result old last new read sent rest exchanges a ends = record { exchanges = exchanges; rest = rest; last = last; answered = a; ends = ends }
 
   abbrev Broken : P → P → List ℕ → List ℕ → List ℕ → ℕ → Type 0
@@ -161,11 +161,11 @@ module _ {P : Type 0} (Replies : P → Command → Reply → P → Type 0) (Fail
       let written = written-longer exchanges sent part more replies w in
       (serves-so (Err (serve_fault.Write replies)) old new new read (sent ++ more) rest (exchanges ++ one ∷ []) a (refl, inl (exchanges, one, part ++ more, refl, written, lacks)), refl, λ told e. cc)
 
-  pub stands-broken : (old new : P) (read sent : List ℕ) (connection : Connection) → Stands Replies old new read sent connection → Broken old new read sent (left connection.owed) connection.replies
+  pub stands-broken : (old new : P) (read sent : List ℕ) (connection : Connection) → ConnectionStands Replies old new read sent connection → Broken old new read sent (bytes_left connection.owed) connection.replies
   stands-broken old new read sent connection s = by s.last s.answered s.owes where
-    by : (last : List Exchange) → AreAnswered Replies old new read (s.exchanges ++ last) s.rest → Owes last s.part (left connection.owed) → Broken old new read sent (left connection.owed) connection.replies
+    by : (last : List Exchange) → AreAnswered Replies old new read (s.exchanges ++ last) s.rest → Owes last s.part (bytes_left connection.owed) → Broken old new read sent (bytes_left connection.owed) connection.replies
     by [] a owes = λ count few. absurd (omega (arith, few, ap length owes.1))
-    by (one ∷ []) a owes = answer-broken old new read sent s.part (left connection.owed) s.rest s.exchanges one connection.replies a s.written owes.0
+    by (one ∷ []) a owes = answer-broken old new read sent s.part (bytes_left connection.owed) s.rest s.exchanges one connection.replies a s.written owes.0
     by (one ∷ two ∷ more) a owes = absurd owes
 
   -- a QUIT is answered

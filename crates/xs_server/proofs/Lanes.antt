@@ -2,7 +2,7 @@
 use Rattle.std.proofs.Common.{◌≡◌, ℕ, List, [], ◌∷◌, Option, Some, None, Result, Ok, Err, sym, subst, refl}
 use Rattle.xs_resp.specs.declared.reply.Reply.{Reply}
 use Rattle.xs_command.specs.declared.command.Command.{Command}
-use Rattle.xs_desk.specs.Asking.{Asker, Asks, Fails}
+use Rattle.xs_desk.specs.Asking.{Asker, Asks, AskFails}
 use Rattle.xs_desk.specs.KeptRings.{KeepsSide}
 use Rattle.xs_desk.proofs.Sides.{side_again, ask_keeps_side}
 use Rattle.xs_server.specs.declared.connections.ending.Ending.{Ending}
@@ -10,7 +10,7 @@ use Rattle.xs_server.specs.declared.connections.ending.ServeFault.{ServeFault}
 use Rattle.xs_server.specs.declared.connections.ending.ServeFault.TheVariants as fault
 use Rattle.xs_server.specs.Answering.{Answered}
 use Rattle.xs_server.specs.Exchange.{Exchange, Run}
-use Rattle.xs_server.specs.Serve.{Serves, Ends}
+use Rattle.xs_server.specs.Serve.{ServesConnection, Ends}
 
 abbrev Same : Asker → Asker → Type 0
 Same old new = KeepsSide old.client new.client
@@ -19,7 +19,7 @@ abbrev LaneReplies : Asker → Command → Reply → Asker → Type 0
 LaneReplies old command reply new = Asks old.client command reply new.client
 
 abbrev LaneFails : Asker → Command → Asker → Type 0
-LaneFails old command new = Fails old.client command new.client
+LaneFails old command new = AskFails old.client command new.client
 
 same-self : (old new : Asker) → new ≡ old → Same old new
 same-self old new is = subst (λ (x : Asker). Same old x) (sym is) (refl, refl, refl)
@@ -45,6 +45,6 @@ ends-keep (Err (fault.Memory told)) last new rest exchanges sent ends = same-sel
 ends-keep (Err (fault.Port told)) last new rest exchanges sent ends =
     ask_keeps_side {E = ServeFault} last.client (ends.0).command new.client (Err (fault.Port told)) (ends.0).fails
 
-pub serve-keeps : (result : Result Ending ServeFault) (old new : Asker) (read sent : List ℕ) → Serves LaneReplies LaneFails result old new read sent → KeepsSide old.client new.client
+pub serve-keeps : (result : Result Ending ServeFault) (old new : Asker) (read sent : List ℕ) → ServesConnection LaneReplies LaneFails result old new read sent → KeepsSide old.client new.client
 serve-keeps result old new read sent s =
     same-again old s.last new (run-keeps old s.answered.requests s.exchanges s.last s.answered.run) (ends-keep result s.last new s.rest s.exchanges sent s.ends)

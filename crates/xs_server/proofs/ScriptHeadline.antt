@@ -13,7 +13,7 @@ use Rattle.xs_server.specs.Line.{line_of}
 use Rattle.xs_server.specs.Answering.{Answered, IsAnswer}
 use Rattle.xs_keys.specs.EachReply.{Follows, AreReplied}
 use Rattle.xs_keys.proofs.Runs.{step-follows, headline}
-use Rattle.xs_server.specs.Script.{Script, Served, AreServed, events_of, answers_of, IsScript}
+use Rattle.xs_server.specs.Script.{Script, Served, AreServed, events_of_lines, answers_of_lines, IsScript}
 use Rattle.xs_server.specs.Serving.{StepAt}
 use Rattle.std.specs.List.{flat_map}
 
@@ -61,7 +61,7 @@ served-line lines line out past old new answer is so_far serves =
 pub record ServesFrom (past : History) (lines : List (List ℕ)) (out : List ℕ) (last : History) : Type 0 where
   pub served : List Served
   pub are_served : AreServed lines served
-  pub answers : AreReplied past (events_of served) (answers_of served) last
+  pub answers : AreReplied past (events_of_lines served) (answers_of_lines served) last
   pub out_is : out ≡ flat_map (λ one. text one.answer) served
 
 serves-more : (past : History) (line : List ℕ) (lines : List (List ℕ)) (out more : List ℕ) (next last : History) (answer : Reply)
@@ -77,7 +77,7 @@ serves-more past line lines out more next last answer (Some request) e (Some com
 serves-more past line lines out more next last answer (Some request) e (None, said) is rest = record {
   served = record { now = request.0; asked = None; answer = answer } ∷ rest.served;
   are_served = ((request.1, e, (refl, said.1)), rest.are_served);
-  answers = subst (λ p. AreReplied p (events_of rest.served) (answers_of rest.served) last) said.0 rest.answers;
+  answers = subst (λ p. AreReplied p (events_of_lines rest.served) (answers_of_lines rest.served) last) said.0 rest.answers;
   out_is = is ∙ ap (λ o. text answer ++ o) rest.out_is;
 }
 
@@ -93,7 +93,7 @@ is-script lines out past script =
       served = all.served;
       are_served = all.are_served;
       history = past;
-      headline = headline [] (events_of all.served) (answers_of all.served) past all.answers;
+      headline = headline [] (events_of_lines all.served) (answers_of_lines all.served) past all.answers;
       out_is = all.out_is;
     }
 

@@ -19,7 +19,7 @@ use Rattle.xs_server.specs.Line.{is_line_end, script_lines, line_of, line_limit}
 use Rattle.xs_server.specs.Machine.{Cause, input, reader, writer}
 use Rattle.xs_server.specs.Script.{Script, IsScript, with_end}
 use Rattle.xs_server.specs.Serving.{StepAt}
-use Rattle.xs_server.specs.ScriptMachine.{piece, IsFew, IsRead, IsInHand, IsReadOut, Stands, RunsBy}
+use Rattle.xs_server.specs.ScriptMachine.{piece, IsFew, IsRead, IsInHand, IsReadOut, ScriptStands, RunsBy}
 use Rattle.xs_server.proofs.ScriptLines.{read-more, read-line, read-lines, lines-last}
 use Rattle.xs_server.proofs.ScriptHeadline.{served-line, is-script, capped-more, capped-sent}
 
@@ -52,9 +52,9 @@ few-fed held got none small = λ line rest e other. omega (arith, few-behind hel
 -- ---- how a script goes on
 
 -- one line more is answered
-pub stands-more : (read sent : List ℕ) (script later : Machine) (old new : Content) (line : List ℕ) (answer : Reply) → Stands read sent script old → script.held ≡ line ++ 10 ∷ later.held → list_any is_line_end line ≡ false
+pub stands-more : (read sent : List ℕ) (script later : Machine) (old new : Content) (line : List ℕ) (answer : Reply) → ScriptStands read sent script old → script.held ≡ line ++ 10 ∷ later.held → list_any is_line_end line ≡ false
     → IsSomeAnd (line_of line) (λ request. IsAnswer (StepAt request.0) old request.1 answer new) → later.owed.items ≡ script.owed.items ++ text answer → later.number ≡ capped (script.number + 1)
-    → later.written ≡ script.written → Stands read sent later new
+    → later.written ≡ script.written → ScriptStands read sent later new
 stands-more read sent script later old new line answer s is none serves owes numbered same =
     let next = served-line s.lines line (sent ++ script.owed.items) s.past old new answer s.content s.said serves in
     let out : sent ++ later.owed.items ≡ (sent ++ script.owed.items) ++ text answer = ap (λ o. sent ++ o) owes ∙ sym (append_assoc sent script.owed.items (text answer)) in
@@ -70,8 +70,8 @@ stands-more read sent script later old new line answer s is none serves owes num
     }
 
 -- more is read
-pub stands-fed : (read sent got : List ℕ) (script later : Machine) (keyspace : Content) → Stands read sent script keyspace → list_any is_line_end script.held ≡ false → length got ≤ piece → later.held ≡ script.held ++ got
-    → later.owed.items ≡ script.owed.items → later.number ≡ script.number → later.written ≡ script.written → Stands (read ++ got) sent later keyspace
+pub stands-fed : (read sent got : List ℕ) (script later : Machine) (keyspace : Content) → ScriptStands read sent script keyspace → list_any is_line_end script.held ≡ false → length got ≤ piece → later.held ≡ script.held ++ got
+    → later.owed.items ≡ script.owed.items → later.number ≡ script.number → later.written ≡ script.written → ScriptStands (read ++ got) sent later keyspace
 stands-fed read sent got script later keyspace s none small is same numbered counted = record {
   lines = s.lines;
   past = s.past;
@@ -84,8 +84,8 @@ stands-fed read sent got script later keyspace s none small is same numbered cou
 }
 
 -- what is owed is written
-pub stands-paid : (read sent : List ℕ) (script later : Machine) (keyspace : Content) → Stands read sent script keyspace → later.held ≡ script.held → later.owed.items ≡ [] → later.number ≡ script.number
-    → later.written ≡ capped (script.written + length script.owed.items) → Stands read (sent ++ script.owed.items) later keyspace
+pub stands-paid : (read sent : List ℕ) (script later : Machine) (keyspace : Content) → ScriptStands read sent script keyspace → later.held ≡ script.held → later.owed.items ≡ [] → later.number ≡ script.number
+    → later.written ≡ capped (script.written + length script.owed.items) → ScriptStands read (sent ++ script.owed.items) later keyspace
 stands-paid read sent script later keyspace s same none numbered counted = record {
   lines = s.lines;
   past = s.past;
@@ -108,7 +108,7 @@ line-long line long =
     let past : leb (length line) line_limit ≡ false = grind (arith, nat_tests) in
     rw (past) refl
 
-pub all-said : (read sent : List ℕ) (script : Machine) (keyspace : Content) (s : Stands read sent script keyspace) → IsScript s.lines (sent ++ script.owed.items)
+pub all-said : (read sent : List ℕ) (script : Machine) (keyspace : Content) (s : ScriptStands read sent script keyspace) → IsScript s.lines (sent ++ script.owed.items)
 all-said read sent script keyspace s = is-script s.lines (sent ++ script.owed.items) s.past s.said
 
 -- the writer fails within the replies to these lines
@@ -131,7 +131,7 @@ replies-broken read sent owed written lines after said are counted count few =
       inr refl,
     )
 
-pub stands-broken : (read sent : List ℕ) (script : Machine) (keyspace : Content) → Stands read sent script keyspace
+pub stands-broken : (read sent : List ℕ) (script : Machine) (keyspace : Content) → ScriptStands read sent script keyspace
     → (count : ℕ) → count < length script.owed.items → RunsBy writer (Err (fault.Write (capped (script.written + count)))) read (sent ++ take count script.owed.items)
 stands-broken read sent script keyspace s =
     replies-broken read sent script.owed.items script.written s.lines (script_lines script.held) (all-said read sent script keyspace s) (read-lines read s.lines script.held s.is_read) s.written
@@ -175,7 +175,7 @@ module _ (read sent owed : List ℕ) (lines : List (List ℕ)) (written : ℕ) (
   )
 
 -- the last line, which lacks its end, is answered
-pub last-answered : (read sent : List ℕ) (script : Machine) (old new : Content) (owes : List ℕ) (answer : Reply) (s : Stands read sent script old) → list_any is_line_end script.held ≡ false → 0 < length script.held
+pub last-answered : (read sent : List ℕ) (script : Machine) (old new : Content) (owes : List ℕ) (answer : Reply) (s : ScriptStands read sent script old) → list_any is_line_end script.held ≡ false → 0 < length script.held
     → IsSomeAnd (line_of script.held) (λ request. IsAnswer (StepAt request.0) old request.1 answer new) → owes ≡ script.owed.items ++ text answer
     → IsScript (s.lines ++ script.held ∷ []) (sent ++ owes) × (script_lines read ≡ s.lines ++ script.held ∷ [])
 last-answered read sent script old new owes answer s none some serves is =
@@ -186,6 +186,6 @@ last-answered read sent script old new owes answer s none some serves is =
     )
 
 -- no line is left
-pub none-left : (read sent : List ℕ) (script : Machine) (keyspace : Content) (s : Stands read sent script keyspace) → script.held ≡ [] → script_lines read ≡ s.lines
+pub none-left : (read sent : List ℕ) (script : Machine) (keyspace : Content) (s : ScriptStands read sent script keyspace) → script.held ≡ [] → script_lines read ≡ s.lines
 none-left read sent script keyspace s none =
     read-lines read s.lines script.held s.is_read ∙ ap (λ h. s.lines ++ script_lines h) none ∙ append-nil s.lines

@@ -2,7 +2,7 @@
 use Rattle.std.specs.Prelude.{◌≡◌, ℕ, ◌<◌, Bool, true, false, List, [], ◌∷◌, ◌++◌, length, Result, Ok, Err}
 use Rattle.xs_resp.specs.declared.reply.Reply.{Reply}
 use Rattle.xs_resp.specs.ReplyText.{text}
-use Rattle.xs_resp.specs.LeftToWrite.{left}
+use Rattle.xs_resp.specs.LeftToWrite.{bytes_left}
 use Rattle.xs_command.specs.declared.command.Command.{Command}
 use Rattle.xs_server.specs.declared.connections.connection.Connection.{Connection}
 use Rattle.xs_server.specs.declared.connections.ending.Ending.{Ending}
@@ -10,12 +10,12 @@ use Rattle.xs_server.specs.declared.connections.ending.ServeFault.{ServeFault}
 use Rattle.xs_server.specs.declared.connections.ending.ServeFault.TheVariants as fault
 use Rattle.xs_server.specs.Exchange.{Exchange, AreAnswered, is_quit}
 use Rattle.xs_server.specs.Machine.{Cause}
-use Rattle.xs_server.specs.Serve.{WrittenTo, Serves, cause_of}
+use Rattle.xs_server.specs.Serve.{WrittenTo, ServesConnection, cause_of_connection}
 
 -- nothing is held, owed or written
-pub record IsNew (connection : Connection) : Type 0 where
+pub record IsNewConnection (connection : Connection) : Type 0 where
   pub requests : connection.requests ≡ Ok []
-  pub owed : left connection.owed ≡ []
+  pub owed : bytes_left connection.owed ≡ []
   pub replies : connection.replies ≡ 0
 
 -- what is owed is what this part of a text lacks: of the text of the answer to the last request, which is no QUIT; or
@@ -27,7 +27,7 @@ Owes (exchange ∷ []) part owed =
 Owes _ part owed = ⊥
 
 -- all requests that were taken are answered; the answers are written, but for the last, of which a part may be owed
-pub record Stands
+pub record ConnectionStands
     {P : Type 0} (Replies : P → Command → Reply → P → Type 0) (old new : P) (read sent : List ℕ)
     (connection : Connection) : Type 0 where
   pub exchanges : List Exchange
@@ -37,12 +37,12 @@ pub record Stands
   pub answered : AreAnswered Replies old new read (exchanges ++ last) rest
   pub holds : connection.requests ≡ Ok rest
   pub written : WrittenTo exchanges part sent connection.replies
-  pub owes : Owes last part (left connection.owed)
+  pub owes : Owes last part (bytes_left connection.owed)
 
 -- the connection was served so, by this cause; a port that gave no answer is gone
 abbrev pub ServesBy :
     {P : Type 0} → (P → Command → Reply → P → Type 0) → (P → Command → P → Type 0) → (P → Bool) → Cause
     → Result Ending ServeFault → P → List ℕ → List ℕ → P → Type 0
 ServesBy Replies Fails gone cause result old read sent new =
-    Serves Replies Fails result old new read sent × (cause ≡ cause_of result)
+    ServesConnection Replies Fails result old new read sent × (cause ≡ cause_of_connection result)
     × ((replies : ℕ) → result ≡ Err (fault.Port replies) → gone new ≡ true)

@@ -25,9 +25,9 @@ HasCause reader rest ended broken before calls unwritten =
 HasCause writer rest ended broken before calls unwritten = unwritten ≡ true
 
 -- after a turn a machine stands, or it has ended
-abbrev pub Turns : {End : Type 0} → Turn End → Type 0 → (End → Type 0) → Type 0
-Turns (Ends end) Stands HasEnded = HasEnded end
-Turns _ Stands HasEnded = Stands
+abbrev pub AfterTurn : {End : Type 0} → Turn End → Type 0 → (End → Type 0) → Type 0
+AfterTurn (Ends end) Stands HasEnded = HasEnded end
+AfterTurn _ Stands HasEnded = Stands
 
 -- a machine that has sent some bytes and owes others ends so once all of them are written; or as a machine whose writer
 -- failed, where a part of them was written

@@ -47,11 +47,11 @@ abbrev pub IsServeCause : List ℕ → Type 0
 IsServeCause line = (line ≡ memory_text) ⊎ (line ≡ listening_text) ⊎ (line ≡ serving_text)
 
 -- the line of a script's fault
-abbrev pub fault_text : ScriptFault → List ℕ
-fault_text (Line number _) = line_text number
-fault_text (Read _) = codes "xs_server: reading failed\n"
-fault_text (Write _) = codes "xs_server: writing failed\n"
-fault_text (Memory _) = memory_text
+abbrev pub script_fault_text : ScriptFault → List ℕ
+script_fault_text (Line number _) = line_text number
+script_fault_text (Read _) = codes "xs_server: reading failed\n"
+script_fault_text (Write _) = codes "xs_server: writing failed\n"
+script_fault_text (Memory _) = memory_text
 
 -- the status of the program and what it says where a script has run
 abbrev pub status_of_run : Result ℕ ScriptFault → ℕ
@@ -60,7 +60,7 @@ status_of_run (Err fault) = status_of fault
 
 abbrev pub text_of_run : Result ℕ ScriptFault → List ℕ
 text_of_run (Ok written) = []
-text_of_run (Err fault) = fault_text fault
+text_of_run (Err fault) = script_fault_text fault
 
 -- a writer takes this text, or a part of it if it fails
 abbrev pub Says : List ℕ → Option (List ℕ) → Option (List ℕ) → Bool → Type 0

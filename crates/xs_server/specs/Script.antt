@@ -26,14 +26,14 @@ pub record Served : Type 0 where
 
 -- the line has that moment, and its words are that command; or nothing was asked, since they have a fault or memory
 -- ran out
-abbrev pub IsServed : List ℕ → Served → Type 0
-IsServed line served =
+abbrev pub IsServedLine : List ℕ → Served → Type 0
+IsServedLine line served =
     (words : List (List ℕ)) × (line_of line ≡ Some (served.now, words))
     × Answered {P = Unit {0}} (λ old command answer new. Unit {0}) tt words served.asked served.answer tt
 
 abbrev pub AreServed : List (List ℕ) → List Served → Type 0
 AreServed [] [] = Unit {0}
-AreServed (line ∷ lines) (one ∷ more) = IsServed line one × AreServed lines more
+AreServed (line ∷ lines) (one ∷ more) = IsServedLine line one × AreServed lines more
 AreServed _ _ = ⊥
 
 -- the commands that were asked, at their moments, and the answers to them
@@ -41,17 +41,17 @@ abbrev pub onto_event : ℕ → Option Command → History → History
 onto_event now None events = events
 onto_event now (Some command) events = (now, command) ∷ events
 
-abbrev pub events_of : List Served → History
-events_of [] = []
-events_of (one ∷ more) = onto_event one.now one.asked (events_of more)
+abbrev pub events_of_lines : List Served → History
+events_of_lines [] = []
+events_of_lines (one ∷ more) = onto_event one.now one.asked (events_of_lines more)
 
 abbrev pub onto_answer : Option Command → Reply → List Reply → List Reply
 onto_answer None answer answers = answers
 onto_answer (Some command) answer answers = answer ∷ answers
 
-abbrev pub answers_of : List Served → List Reply
-answers_of [] = []
-answers_of (one ∷ more) = onto_answer one.asked one.answer (answers_of more)
+abbrev pub answers_of_lines : List Served → List Reply
+answers_of_lines [] = []
+answers_of_lines (one ∷ more) = onto_answer one.asked one.answer (answers_of_lines more)
 
 -- a whole script: each line is answered, of the commands that were asked the headline holds, and the text is that of
 -- all the answers
@@ -59,7 +59,7 @@ pub record IsScript (lines : List (List ℕ)) (out : List ℕ) : Type 0 where
   pub served : List Served
   pub are_served : AreServed lines served
   pub history : History
-  pub headline : Headline [] (events_of served) (answers_of served) history
+  pub headline : Headline [] (events_of_lines served) (answers_of_lines served) history
   pub out_is : out ≡ flat_map (λ one. text one.answer) served
 
 -- a line with its end

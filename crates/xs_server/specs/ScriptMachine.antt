@@ -39,23 +39,23 @@ abbrev pub piece : ℕ
 piece = 65536
 
 -- how a script ends that has read and sent these bytes, and whose reader has these left
-abbrev pub EndsBy : ScriptFault → List ℕ → List ℕ → Option (List ℕ) → Bool → Type 0
-EndsBy (Line number written) read sent rest ended =
+abbrev pub ScriptEndsBy : ScriptFault → List ℕ → List ℕ → Option (List ℕ) → Bool → Type 0
+ScriptEndsBy (Line number written) read sent rest ended =
     (lines : List (List ℕ)) × (line behind : List ℕ) × IsInHand read lines line behind
     × IsReadOut line behind rest ended
     × (line_of line ≡ None) × (number ≡ capped (length lines + 1)) × Sent lines sent written
-EndsBy (Read written) read sent rest ended =
+ScriptEndsBy (Read written) read sent rest ended =
     (lines : List (List ℕ)) × (line : List ℕ) × IsInHand read lines line [] × Sent lines sent written
-EndsBy (Write written) read sent rest ended =
+ScriptEndsBy (Write written) read sent rest ended =
     (lines after : List (List ℕ)) × (script_lines read ≡ lines ++ after) × PartSent lines sent written
-EndsBy (Memory written) read sent rest ended =
+ScriptEndsBy (Memory written) read sent rest ended =
     (lines : List (List ℕ)) × (line behind : List ℕ) × IsInHand read lines line behind × (length behind ≤ piece + 1)
     × Sent lines sent written
 
 -- the whole script is answered, or it ended by a fault
 abbrev pub Runs : Result ℕ ScriptFault → List ℕ → List ℕ → Option (List ℕ) → Bool → Type 0
 Runs (Ok n) read sent rest ended = Sent (script_lines read) sent n
-Runs (Err fault) read sent rest ended = EndsBy fault read sent rest ended
+Runs (Err fault) read sent rest ended = ScriptEndsBy fault read sent rest ended
 
 -- what is read is these lines, and then what isn't used yet
 abbrev pub IsRead : List ℕ → List (List ℕ) → List ℕ → Type 0
@@ -66,7 +66,7 @@ abbrev pub IsFew : List ℕ → Type 0
 IsFew held = (line rest : List ℕ) → held ≡ line ++ 10 ∷ rest → list_any is_line_end line ≡ false → length rest ≤ piece
 
 -- these lines are read and answered; some of the replies are written, and the others are owed
-pub record Stands (read sent : List ℕ) (script : Machine) (keyspace : Content) : Type 0 where
+pub record ScriptStands (read sent : List ℕ) (script : Machine) (keyspace : Content) : Type 0 where
   pub lines : List (List ℕ)
   pub past : History
   pub said : Script [] lines (sent ++ script.owed.items) past
@@ -77,21 +77,21 @@ pub record Stands (read sent : List ℕ) (script : Machine) (keyspace : Content)
   pub written : script.written ≡ capped (length sent)
 
 -- nothing is read, answered or owed
-pub record IsNew (script : Machine) : Type 0 where
+pub record IsNewScript (script : Machine) : Type 0 where
   pub held : script.held ≡ []
   pub owed : script.owed.items ≡ []
   pub number : script.number ≡ 0
   pub written : script.written ≡ 0
 
 -- why a script ended so
-abbrev pub cause_of : Result ℕ ScriptFault → Cause
-cause_of (Ok n) = input
-cause_of (Err (Read written)) = reader
-cause_of (Err (Write written)) = writer
-cause_of _ = itself
+abbrev pub cause_of_script : Result ℕ ScriptFault → Cause
+cause_of_script (Ok n) = input
+cause_of_script (Err (Read written)) = reader
+cause_of_script (Err (Write written)) = writer
+cause_of_script _ = itself
 
 -- the script ran so, by this cause, whatever is left of the input: the end of the input was met, if that is the cause
 abbrev pub RunsBy : Cause → Result ℕ ScriptFault → List ℕ → List ℕ → Type 0
 RunsBy cause result read sent =
     ((rest : Option (List ℕ)) (ended : Bool) → (cause ≡ input → IsAtEnd rest × (ended ≡ true))
-    → Runs result read sent rest ended) × ((cause_of result ≡ itself) ⊎ (cause ≡ cause_of result))
+    → Runs result read sent rest ended) × ((cause_of_script result ≡ itself) ⊎ (cause ≡ cause_of_script result))

@@ -31,13 +31,13 @@ abbrev pub IsPart : List ℕ → List ℕ → Type 0
 IsPart part whole = (more : List ℕ) × (whole ≡ part ++ more) × (0 < length more)
 
 -- how a connection ends, where `rest` was read behind the requests
-abbrev pub EndsBy : Ending → List ℕ → List Exchange → List ℕ → Type 0
-EndsBy ending.Closed rest exchanges sent = (rest ≡ []) × Written exchanges sent
-EndsBy ending.Cut rest exchanges sent = (rest ≢ []) × IsOpen rest × Written exchanges sent
-EndsBy ending.Quit rest exchanges sent =
+abbrev pub ConnectionEndsBy : Ending → List ℕ → List Exchange → List ℕ → Type 0
+ConnectionEndsBy ending.Closed rest exchanges sent = (rest ≡ []) × Written exchanges sent
+ConnectionEndsBy ending.Cut rest exchanges sent = (rest ≢ []) × IsOpen rest × Written exchanges sent
+ConnectionEndsBy ending.Quit rest exchanges sent =
     (before : List Exchange) × (last : Exchange) × (exchanges ≡ before ++ last ∷ [])
     × (quits before ≡ false) × (is_quit last.asked ≡ true) × (sent ≡ texts exchanges)
-EndsBy ending.Protocol rest exchanges sent =
+ConnectionEndsBy ending.Protocol rest exchanges sent =
     (wrong : Wrong) × FaultIn rest wrong × (quits exchanges ≡ false) × (sent ≡ texts exchanges ++ text (Error Protocol))
 
 -- a writer failed within the text of the last answer, or within that of the protocol error
@@ -67,7 +67,7 @@ pub record PortFails {P : Type 0} (Fails : P → Command → P → Type 0) (last
 abbrev pub Ends :
     {P : Type 0} → (P → Command → P → Type 0) → Result Ending ServeFault → P → P
     → List ℕ → List Exchange → List ℕ → Type 0
-Ends Fails (Ok ending) last new rest exchanges sent = (new ≡ last) × EndsBy ending rest exchanges sent
+Ends Fails (Ok ending) last new rest exchanges sent = (new ≡ last) × ConnectionEndsBy ending rest exchanges sent
 Ends Fails (Err (fault.Read replies)) last new rest exchanges sent =
     (new ≡ last) × IsOpen rest × WrittenTo exchanges [] sent replies
 Ends Fails (Err (fault.Write replies)) last new rest exchanges sent =
@@ -79,7 +79,7 @@ Ends Fails (Err (fault.Port replies)) last new rest exchanges sent =
 
 -- a whole connection: what is read begins with requests, which were answered in order by the port; what is written is
 -- the texts of the answers; and how it ended
-pub record Serves
+pub record ServesConnection
     {P : Type 0} (Replies : P → Command → Reply → P → Type 0) (Fails : P → Command → P → Type 0)
     (result : Result Ending ServeFault) (old new : P) (read sent : List ℕ) : Type 0 where
   pub exchanges : List Exchange
@@ -89,9 +89,9 @@ pub record Serves
   pub ends : Ends Fails result last new rest exchanges sent
 
 -- why a connection ended so
-abbrev pub cause_of : Result Ending ServeFault → Cause
-cause_of (Ok ending.Closed) = input
-cause_of (Ok ending.Cut) = input
-cause_of (Err (fault.Read replies)) = reader
-cause_of (Err (fault.Write replies)) = writer
-cause_of _ = itself
+abbrev pub cause_of_connection : Result Ending ServeFault → Cause
+cause_of_connection (Ok ending.Closed) = input
+cause_of_connection (Ok ending.Cut) = input
+cause_of_connection (Err (fault.Read replies)) = reader
+cause_of_connection (Err (fault.Write replies)) = writer
+cause_of_connection _ = itself

@@ -1,7 +1,8 @@
 //! What the program says on standard error, and its status.
 ghost use Rattle.std.specs.Prelude.{◌≡◌, ◌++◌, true, false, decimal};
 ghost use Rattle.std.specs.Io.KnownBytes.{Appends};
-ghost use Rattle.xs_server.specs.Report.{status_of, fault_text, memory_text, line_text, listening_text, work_text};
+ghost use Rattle.xs_server.specs.Report.{status_of, script_fault_text, memory_text, line_text, listening_text};
+ghost use Rattle.xs_server.specs.Report.{work_text};
 ghost use Rattle.xs_server.specs.Report.{Says, ready_text, ReportsWork};
 
 use crate::devices::device::Sink;
@@ -26,7 +27,7 @@ fn say<W: Sink>(errors: &mut W, text: &[u8]) -> bool
 /// Writes the line of a script's fault, passes over a fault of the writer, and gives the status of the program.
 pub fn report_script<W: Sink>(errors: &mut W, fault: &ScriptFault) -> u8
     ensures status { result ≡ status_of fault.now }
-    ensures said { Says (fault_text fault.now) (W.held errors.old) (W.held errors.new) (W.broken errors.new) }
+    ensures said { Says (script_fault_text fault.now) (W.held errors.old) (W.held errors.new) (W.broken errors.new) }
 {
     match fault {
         ScriptFault::Line { number, .. } => {

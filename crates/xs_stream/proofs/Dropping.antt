@@ -13,7 +13,7 @@ use Rattle.xs_stream.specs.declared.trim.Trim.TheVariants.{MinId}
 use Rattle.xs_stream.specs.Id.{is_below, is_same_id}
 use Rattle.xs_stream.specs.StreamContent.{ids_of, AllAbove, AllUpTo, Ascends, trimmed}
 use Rattle.xs_stream.specs.Blocks.{listed, AreFiled}
-use Rattle.xs_stream.proofs.Order.{is_same-refl, up_to-below, not_below-above}
+use Rattle.xs_stream.proofs.Order.{is_same_id-refl, up_to-below, not_below-above}
 
 abbrev Entries : Type 0
 Entries = List (Id × List Field)
@@ -66,11 +66,11 @@ filed-within count under es bs newest h filed = (
 )
 
 pub set-first : (under : Id) (es fs : Entries) (bs : Blocks) → set_value (is_same_id under) ((under, es) ∷ bs) fs ≡ (under, fs) ∷ bs
-set-first under es fs bs = rw (is_same-refl under) refl
+set-first under es fs bs = rw (is_same_id-refl under) refl
 
 module _ (older : Blocks) (under : Id) (es : Entries) (bs : Blocks) (is : older ≡ (under, es) ∷ bs) where
   found-first : lookup (is_same_id under) older ≡ Some es
-  found-first = ap (lookup (is_same_id under)) is ∙ rw (is_same-refl under) refl
+  found-first = ap (lookup (is_same_id under)) is ∙ rw (is_same_id-refl under) refl
 
   pub lent-first : (fs : Entries) → Some fs ≡ lookup (is_same_id under) older → fs ≡ es
   lent-first fs e = let same : ◌≡◌ {A = Option Entries} (Some fs) (Some es) = e ∙ found-first in cc

@@ -17,7 +17,8 @@ use Rattle.xs_stream.specs.declared.field.Field.{Field}
 use Rattle.xs_stream.specs.Id.{id_cmp, is_below, is_same_id}
 use Rattle.xs_stream.specs.StreamContent.{ids_of, AllAbove, AllUpTo, fields_at}
 use Rattle.xs_stream.specs.Blocks.{listed, AreFiled}
-use Rattle.xs_stream.proofs.Order.{is_same-eq, is_same-refl, is_same-symm, below-not_same, below-irrefl, up_to-below}
+use Rattle.xs_stream.proofs.Order.{is_same_id-eq, is_same_id-refl, is_same_id-symm, below-not_same, below-irrefl}
+use Rattle.xs_stream.proofs.Order.{up_to-below}
 use Rattle.xs_stream.proofs.Order.{above-greater, below-not_below, le-not_below}
 use Rattle.xs_stream.proofs.InOrder.{ids_of-append, above-push, and_yes}
 use Rattle.xs_stream.proofs.PlacesInLists.{remove-none}
@@ -31,7 +32,7 @@ Blocks = List (Id × List (Id × List Field))
 -- ---- entries that aren't among others
 
 not_same : (a b : Id) → is_below b a ≡ true → is_same_id a b ≡ false
-not_same a b h = is_same-symm a b ∙ below-not_same b a h
+not_same a b h = is_same_id-symm a b ∙ below-not_same b a h
 
 -- none of those up to an id is one above it
 pub none_up_to : (id under : Id) (es : Entries) → AllUpTo under (ids_of es) → is_below under id ≡ true → lookup (is_same_id id) es ≡ None
@@ -90,7 +91,7 @@ other_id : (id under other : Id) → is_below other id ≡ true → not (is_belo
 other_id id under other h k = by (is_same_id under other) refl where
   by : (t : Bool) → is_same_id under other ≡ t → is_same_id under other ≡ false
   by false e = e
-  by true e = absurd (false≢true (sym (ap not h) ∙ ap (λ x. not (is_below x id)) (sym (is_same-eq under other e)) ∙ k))
+  by true e = absurd (false≢true (sym (ap not h) ∙ ap (λ x. not (is_below x id)) (sym (is_same_id-eq under other e)) ∙ k))
 
 -- ---- the block of an id
 
@@ -211,7 +212,7 @@ module _ (id : Id) where
     by rest passes false is =
         let first : Some b ≡ Some (under, es) = rw is at h in
         let same : b ≡ (under, es) = cc in
-        rw (same, is_same-refl under) refl
+        rw (same, is_same_id-refl under) refl
 
   -- an entry's block with one entry less, where it has others
   pub set-without : (bs : Blocks) (under : Id) (es : Entries) (f : Id × List Field) (fs : Entries) → lookup_entry (λ k. not (is_below k id)) bs ≡ Some (under, es) → remove_entry (is_same_id id) es ≡ f ∷ fs
@@ -229,7 +230,7 @@ module _ (id : Id) where
         let same : b ≡ (under, es) = cc in
         let own : remove_entry (is_same_id id) b.1 ≡ f ∷ fs = ap (λ (c : Id × Entries). remove_entry (is_same_id id) c.1) same ∙ left in
         let key : b.0 ≡ under = ap (λ (c : Id × Entries). c.0) same in
-        rw (is, own, key, is_same-refl under) refl
+        rw (is, own, key, is_same_id-refl under) refl
 
   -- or no block, where it has no others
   pub removed-without : (bs : Blocks) (under : Id) (es : Entries) → lookup_entry (λ k. not (is_below k id)) bs ≡ Some (under, es) → remove_entry (is_same_id id) es ≡ []
@@ -248,7 +249,7 @@ module _ (id : Id) where
         let same : b ≡ (under, es) = cc in
         let own : remove_entry (is_same_id id) b.1 ≡ [] = ap (λ (c : Id × Entries). remove_entry (is_same_id id) c.1) same ∙ left in
         let key : b.0 ≡ under = ap (λ (c : Id × Entries). c.0) same in
-        rw (is, own, key, is_same-refl under, is_same-refl under) refl
+        rw (is, own, key, is_same_id-refl under, is_same_id-refl under) refl
 
   -- the block that is lent under the key is that one
   pub lent-entry : (bs : Blocks) (under : Id) (es : Entries) → lookup_key (λ k. not (is_below k id)) bs ≡ Some under → Some es ≡ lookup (is_same_id under) bs → lookup_entry (λ k. not (is_below k id)) bs ≡ Some (under, es)

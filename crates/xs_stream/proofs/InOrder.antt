@@ -20,7 +20,8 @@ use Rattle.xs_stream.specs.declared.field.Field.{Field}
 use Rattle.xs_stream.specs.declared.trim.Trim.TheVariants.{MaxLen, MinId}
 use Rattle.xs_stream.specs.Id.{id_cmp, is_below, is_same_id, has_id}
 use Rattle.xs_stream.specs.ConsistentStream.{IsValidStream, AllIds, IsId}
-use Rattle.xs_stream.proofs.Order.{is_same-eq, is_same-refl, is_same-symm, below-not_same, below-not_back, below-irrefl}
+use Rattle.xs_stream.proofs.Order.{is_same_id-eq, is_same_id-refl, is_same_id-symm, below-not_same, below-not_back}
+use Rattle.xs_stream.proofs.Order.{below-irrefl}
 use Rattle.xs_stream.proofs.Order.{up_to-below, not_below-above, le-not_below, below-not_below}
 
 -- ---- an addition
@@ -98,7 +99,7 @@ pub remove-filter : (id : Id) (es : List (Id × List Field)) → Ascends (ids_of
 remove-filter id [] a = refl
 remove-filter id (e ∷ es) a = by (remove-filter id es a.1) (is_same_id id e.0) refl where
   by : remove_entry (is_same_id id) es ≡ filter (λ f. not (is_same_id id f.0)) es → (t : Bool) → is_same_id id e.0 ≡ t → cond t es (e ∷ remove_entry (is_same_id id) es) ≡ cond (not t) (e ∷ filter (λ f. not (is_same_id id f.0)) es) (filter (λ f. not (is_same_id id f.0)) es)
-  by rest true h = sym (filter-same_above id es (subst (λ x. AllAbove x (ids_of es)) (sym (is_same-eq id e.0 h)) a.0))
+  by rest true h = sym (filter-same_above id es (subst (λ x. AllAbove x (ids_of es)) (sym (is_same_id-eq id e.0 h)) a.0))
   by rest false h = ap (λ left. e ∷ left) rest
 
 or_not : (b c : Bool) → not (b || c) ≡ (not b && not c)
@@ -130,7 +131,7 @@ without-more ids id es a =
     ∙ filter-filter (λ (e : Id × List Field). not (has_id ids e.0)) (λ e. not (is_same_id id e.0)) (λ e. not (has_id (ids ++ id ∷ []) e.0))
     (λ e. one_more e.0) es where
       one_more : (x : Id) → not (has_id (ids ++ id ∷ []) x) ≡ (not (has_id ids x) && not (is_same_id id x))
-      one_more x = ap not (list_any-append (is_same_id x) ids (id ∷ [])) ∙ ap (λ b. not (has_id ids x || b)) (or-false (is_same_id x id) ∙ is_same-symm x id) ∙ or_not (has_id ids x) (is_same_id id x)
+      one_more x = ap not (list_any-append (is_same_id x) ids (id ∷ [])) ∙ ap (λ b. not (has_id ids x || b)) (or-false (is_same_id x id) ∙ is_same_id-symm x id) ∙ or_not (has_id ids x) (is_same_id id x)
 
 -- ---- a trim
 
@@ -226,7 +227,7 @@ pub first-removed : (es : List (Id × List Field)) (id : Id) → option_map (λ 
 first-removed [] id h = let no = h in cc
 first-removed (e ∷ es) id h =
     let same : e.0 ≡ id = cc in
-    rw (same, is_same-refl id) refl
+    rw (same, is_same_id-refl id) refl
 
 pub none-first : (es : List (Id × List Field)) → option_map (λ e. e.0) (slice_get es 0) ≡ None → es ≡ []
 none-first [] h = refl

@@ -7,7 +7,8 @@ use Rattle.xs_stream.specs.declared.field.Field.{Field}
 use Rattle.xs_stream.specs.Id.{is_below, is_same_id}
 use Rattle.xs_stream.specs.StreamContent.{ids_of, AllAbove, AllUpTo}
 use Rattle.xs_stream.specs.Blocks.{listed, AreFiled}
-use Rattle.xs_stream.proofs.Order.{is_same-eq, is_same-refl, is_same-symm, below-not_same, below-not_back, below-irrefl}
+use Rattle.xs_stream.proofs.Order.{is_same_id-eq, is_same_id-refl, is_same_id-symm, below-not_same, below-not_back}
+use Rattle.xs_stream.proofs.Order.{below-irrefl}
 use Rattle.xs_stream.proofs.Order.{below-trans, below-not_below}
 use Rattle.xs_stream.proofs.InOrder.{up_to-higher}
 
@@ -105,7 +106,7 @@ found-above : (x k : Id) (bs : Blocks) (es : Entries) → AllAbove x (keys_of bs
 found-above x k [] es a h = let no = h in cc
 found-above x k (b ∷ bs) es a h = by (found-above x k bs es a.1) (is_same_id k b.0) refl where
   by : (lookup (is_same_id k) bs ≡ Some es → is_below x k ≡ true) → (t : Bool) → is_same_id k b.0 ≡ t → is_below x k ≡ true
-  by rest true is = subst (λ y. is_below x y ≡ true) (sym (is_same-eq k b.0 is)) a.0
+  by rest true is = subst (λ y. is_below x y ≡ true) (sym (is_same_id-eq k b.0 is)) a.0
   by rest false is = rest (rw is at h)
 
 key-above : (x k : Id) (test : Id → Bool) (bs : Blocks) → AllAbove x (keys_of bs) → lookup_key test bs ≡ Some k → is_below x k ≡ true
@@ -125,10 +126,10 @@ front-joined under next own es (c ∷ cs) newest filed after second =
     let below = below-next (under, own) c cs newest filed in
     let first : Some c.0 ≡ Some next = rw below at after in
     let key : next ≡ c.0 = cc in
-    let other : is_same_id c.0 under ≡ false = is_same-symm c.0 under ∙ below-not_same under c.0 below in
-    let own_next : Some c.1 ≡ Some es = rw (key, other, is_same-refl c.0) at second in
+    let other : is_same_id c.0 under ≡ false = is_same_id-symm c.0 under ∙ below-not_same under c.0 below in
+    let own_next : Some c.1 ≡ Some es = rw (key, other, is_same_id-refl c.0) at second in
     let same : es ≡ c.1 = cc in
-    rw (key, other, is_same-refl c.0, is_same-refl under, same) refl
+    rw (key, other, is_same_id-refl c.0, is_same_id-refl under, same) refl
 
 -- the next one has the entries of both, and the first one goes
 pub joined-is : (under next : Id) (bs : Blocks) (newest own es : Entries) → AreFiled bs newest → lookup (is_same_id under) bs ≡ Some own → lookup_key (λ k. is_below under k) bs ≡ Some next
@@ -139,7 +140,7 @@ joined-is under next (b ∷ bs) newest own es filed first after second = by (joi
       → remove_entry (is_same_id under) (set_value (is_same_id next) (set_value (is_same_id under) bs []) (own ++ es)) ≡ joined under bs)
       → (t : Bool) → is_same_id under b.0 ≡ t → remove_entry (is_same_id under) (set_value (is_same_id next) (set_value (is_same_id under) (b ∷ bs) []) (own ++ es)) ≡ joined under (b ∷ bs)
   by rest true is =
-      let key : b.0 ≡ under = sym (is_same-eq under b.0 is) in
+      let key : b.0 ≡ under = sym (is_same_id-eq under b.0 is) in
       let found : Some b.1 ≡ Some own = rw is at first in
       let same : b.1 ≡ own = cc in
       let pair : b ≡ (under, own) = λ i. (key i, same i) in
@@ -152,7 +153,7 @@ joined-is under next (b ∷ bs) newest own es filed first after second = by (joi
       let keys = above-keys b bs newest filed in
       let passed : is_below under b.0 ≡ false = below-not_back b.0 under (found-above b.0 under bs own keys here) in
       let later : lookup_key (λ k. is_below under k) bs ≡ Some next = rw passed at after in
-      let other : is_same_id next b.0 ≡ false = is_same-symm next b.0 ∙ below-not_same b.0 next (key-above b.0 next (λ k. is_below under k) bs keys later) in
+      let other : is_same_id next b.0 ≡ false = is_same_id-symm next b.0 ∙ below-not_same b.0 next (key-above b.0 next (λ k. is_below under k) bs keys later) in
       rw (is, other, is) (ap (λ left. b ∷ left) (rest here later (rw (is, other) at second)))
 
 -- what was taken out is put back

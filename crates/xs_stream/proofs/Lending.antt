@@ -5,7 +5,7 @@ use Rattle.xs_stream.specs.declared.id.Id.{Id}
 use Rattle.xs_stream.specs.declared.field.Field.{Field}
 use Rattle.xs_stream.specs.declared.range.Range.{Range}
 use Rattle.xs_stream.specs.StreamContent.{ids_of, AllAbove, Ascends, is_within, entries_within, IsEntryOf, AreEntriesOf}
-use Rattle.xs_stream.proofs.Order.{below-not_same, is_same-refl, is_same-symm}
+use Rattle.xs_stream.proofs.Order.{below-not_same, is_same_id-refl, is_same_id-symm}
 
 abbrev Entries : Type 0
 Entries = List (Id × List Field)
@@ -13,12 +13,12 @@ Entries = List (Id × List Field)
 found-later : (e : Id × List Field) (es fs : Entries) → AllAbove e.0 (ids_of fs) → AreEntriesOf es fs → AreEntriesOf (e ∷ es) fs
 found-later e es [] above found = tt
 found-later e es (f ∷ fs) above found =
-    (rw (is_same-symm f.0 e.0, below-not_same e.0 f.0 above.0) found.0, found-later e es fs above.1 found.1)
+    (rw (is_same_id-symm f.0 e.0, below-not_same e.0 f.0 above.0) found.0, found-later e es fs above.1 found.1)
 
 -- where the ids ascend, each entry is found by its id
 all-found : (es : Entries) → Ascends (ids_of es) → AreEntriesOf es es
 all-found [] a = tt
-all-found (e ∷ es) a = (rw (is_same-refl e.0) refl, found-later e es es a.0 (all-found es a.1))
+all-found (e ∷ es) a = (rw (is_same_id-refl e.0) refl, found-later e es es a.0 (all-found es a.1))
 
 found-filter : (test : Id × List Field → Bool) (entries fs : Entries) → AreEntriesOf entries fs → AreEntriesOf entries (filter test fs)
 found-filter test entries [] found = tt

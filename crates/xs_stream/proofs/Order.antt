@@ -42,11 +42,11 @@ same_id a b e =
     let seq = nat_same a.seq b.seq (then_second _ _ e) in
     λ i. record { ms = ms i; seq = seq i }
 
-pub is_same-eq : (a b : Id) → is_same_id a b ≡ true → a ≡ b
-is_same-eq a b e = same_id a b (equal-from _ e)
+pub is_same_id-eq : (a b : Id) → is_same_id a b ≡ true → a ≡ b
+is_same_id-eq a b e = same_id a b (equal-from _ e)
 
-pub is_same-refl : (a : Id) → is_same_id a a ≡ true
-is_same-refl a = ap is_eq (tied_itself ids_total a)
+pub is_same_id-refl : (a : Id) → is_same_id a a ≡ true
+is_same_id-refl a = ap is_eq (tied_itself ids_total a)
 
 pub below-not_same : (a b : Id) → is_below a b ≡ true → is_same_id a b ≡ false
 below-not_same a b e = ap is_eq (less-from _ e)
@@ -82,8 +82,8 @@ not_above-trans a b c h k = by (is_below a c) refl where
   by false e = e
   by true e = absurd (false≢true (sym k ∙ up_to-below a b c h e))
 
-pub is_same-symm : (a b : Id) → is_same_id a b ≡ is_same_id b a
-is_same-symm a b = (eq_by_cmp_equiv ids_total).symm a b
+pub is_same_id-symm : (a b : Id) → is_same_id a b ≡ is_same_id b a
+is_same_id-symm a b = (eq_by_cmp_equiv ids_total).symm a b
 
 -- what is above something not below low isn't below low either
 pub not_below-above : (x low y : Id) → is_below x low ≡ false → is_below x y ≡ true → is_below y low ≡ false

@@ -17,9 +17,10 @@ use Rattle.xs_stream.specs.StreamContent.{fields_at, ids_of}
 use Rattle.xs_stream.specs.PackedNumber.{number_code, first_number, after_number}
 use Rattle.xs_stream.specs.PackedText.{text_code, first_text, after_text}
 use Rattle.xs_stream.specs.Packed.{names_code, has_names, body_fields, entry_code, entry_id, entry_body, entry_in}
-use Rattle.xs_stream.specs.Packed.{after_entry, entries_in, after_entries, entries_code, block_entries, shares_names}
+use Rattle.xs_stream.specs.Packed.{after_entry, packed_entries, after_entries, entries_code, block_entries}
+use Rattle.xs_stream.specs.Packed.{shares_names}
 use Rattle.xs_stream.specs.Packed.{body_code, field_code, mark_of, ms_code, rebased_code, all_rebased, IsPacked}
-use Rattle.xs_stream.proofs.Order.{is_same-eq, is_same-refl}
+use Rattle.xs_stream.proofs.Order.{is_same_id-eq, is_same_id-refl}
 use Rattle.xs_stream.proofs.PackedCodes.{first_number-code, entries_in-whole, entry_id-code, entry_body-code}
 use Rattle.xs_stream.proofs.PackedCodes.{after_entry-code, length-entries_in, first_text-code, after_text-code}
 use Rattle.xs_stream.proofs.PackedCodes.{has_names-own, has_names-missing}
@@ -33,12 +34,12 @@ pub after_entries-more : (i : ℕ) (bytes : List ℕ) → after_entries (i + 1) 
 after_entries-more i bytes = rw add-one (after_entries-suc i bytes)
 
 module _ (base : ℕ) (names : List ℕ) where
-  entries_in-step : (count : ℕ) (bytes : List ℕ) → 0 < count → entries_in base names count bytes ≡ entry_in base names bytes ∷ entries_in base names (count - 1) (after_entry bytes)
+  entries_in-step : (count : ℕ) (bytes : List ℕ) → 0 < count → packed_entries base names count bytes ≡ entry_in base names bytes ∷ packed_entries base names (count - 1) (after_entry bytes)
   entries_in-step zero bytes h = absurd (omega arith)
   entries_in-step (suc count) bytes h = let e : suc count - 1 ≡ count = omega arith in rw e refl
 
   -- the entries left
-  pub drop-entries_in : (count i : ℕ) (bytes : List ℕ) → i ≤ count → drop i (entries_in base names count bytes) ≡ entries_in base names (count - i) (after_entries i bytes)
+  pub drop-entries_in : (count i : ℕ) (bytes : List ℕ) → i ≤ count → drop i (packed_entries base names count bytes) ≡ packed_entries base names (count - i) (after_entries i bytes)
   drop-entries_in count zero bytes h = let e : count - 0 ≡ count = omega arith in rw e refl
   drop-entries_in zero (suc i) bytes h = absurd (omega arith)
   drop-entries_in (suc count) (suc i) bytes h =
@@ -46,7 +47,7 @@ module _ (base : ℕ) (names : List ℕ) where
       rw e (drop-entries_in count i (after_entry bytes) (omega arith))
 
   -- the one at the head of those left
-  pub left-step : (count i : ℕ) (bytes : List ℕ) → i < count → entries_in base names (count - i) bytes ≡ entry_in base names bytes ∷ entries_in base names (count - (i + 1)) (after_entry bytes)
+  pub left-step : (count i : ℕ) (bytes : List ℕ) → i < count → packed_entries base names (count - i) bytes ≡ entry_in base names bytes ∷ packed_entries base names (count - (i + 1)) (after_entry bytes)
   left-step count i bytes h =
       let e : count - (i + 1) ≡ count - i - 1 = omega arith in
       rw e (entries_in-step (count - i) bytes (omega arith))
@@ -58,33 +59,33 @@ same-reads a b true e =
     let ms : a.ms ≡ b.ms = grind (arith, nat_tests) in
     let seq : a.seq ≡ b.seq = grind (arith, nat_tests) in
     let same : a ≡ b = λ i. record { ms = ms i; seq = seq i } in
-    rw same (is_same-refl b)
+    rw same (is_same_id-refl b)
 same-reads a b false e = by (is_same_id b a) refl where
   by : (t : Bool) → is_same_id b a ≡ t → t ≡ false
   by true h =
-      let same : b ≡ a = is_same-eq b a h in
+      let same : b ≡ a = is_same_id-eq b a h in
       let ms : eqb a.ms b.ms ≡ true = grind (arith, nat_tests, ap (λ x. x.ms) same) in
       let seq : eqb a.seq b.seq ≡ true = grind (arith, nat_tests, ap (λ x. x.seq) same) in
       absurd (false≢true (sym e ∙ ap (λ x. x && eqb a.seq b.seq) ms ∙ seq))
   by false h = refl
 
 module _ (base : ℕ) (names : List ℕ) (count i : ℕ) (id x : Id) (rest : List ℕ) (h : i < count) (is : x ≡ entry_id base rest) where
-  pub lookup-passed : (eqb x.ms id.ms && eqb x.seq id.seq) ≡ false → fields_at (entries_in base names (count - i) rest) id ≡ fields_at (entries_in base names (count - (i + 1)) (after_entry rest)) id
+  pub lookup-passed : (eqb x.ms id.ms && eqb x.seq id.seq) ≡ false → fields_at (packed_entries base names (count - i) rest) id ≡ fields_at (packed_entries base names (count - (i + 1)) (after_entry rest)) id
   lookup-passed e =
       let other : is_same_id id (entry_id base rest) ≡ false = subst (λ y. is_same_id id y ≡ false) is (same-reads x id false e) in
       rw (left-step base names count i rest h, other) refl
 
-  pub lookup-found : (eqb x.ms id.ms && eqb x.seq id.seq) ≡ true → fields_at (entries_in base names (count - i) rest) id ≡ Some (body_fields names (entry_body rest))
+  pub lookup-found : (eqb x.ms id.ms && eqb x.seq id.seq) ≡ true → fields_at (packed_entries base names (count - i) rest) id ≡ Some (body_fields names (entry_body rest))
   lookup-found e =
       let same : is_same_id id (entry_id base rest) ≡ true = subst (λ y. is_same_id id y ≡ true) is (same-reads x id true e) in
       rw (left-step base names count i rest h, same) refl
 
-  pub removed-passed : (eqb x.ms id.ms && eqb x.seq id.seq) ≡ false → remove_entry (is_same_id id) (entries_in base names (count - i) rest) ≡ entry_in base names rest ∷ remove_entry (is_same_id id) (entries_in base names (count - (i + 1)) (after_entry rest))
+  pub removed-passed : (eqb x.ms id.ms && eqb x.seq id.seq) ≡ false → remove_entry (is_same_id id) (packed_entries base names (count - i) rest) ≡ entry_in base names rest ∷ remove_entry (is_same_id id) (packed_entries base names (count - (i + 1)) (after_entry rest))
   removed-passed e =
       let other : is_same_id id (entry_id base rest) ≡ false = subst (λ y. is_same_id id y ≡ false) is (same-reads x id false e) in
       rw (left-step base names count i rest h, other) refl
 
-  pub removed-found : (eqb x.ms id.ms && eqb x.seq id.seq) ≡ true → remove_entry (is_same_id id) (entries_in base names (count - i) rest) ≡ entries_in base names (count - (i + 1)) (after_entry rest)
+  pub removed-found : (eqb x.ms id.ms && eqb x.seq id.seq) ≡ true → remove_entry (is_same_id id) (packed_entries base names (count - i) rest) ≡ packed_entries base names (count - (i + 1)) (after_entry rest)
   removed-found e =
       let same : is_same_id id (entry_id base rest) ≡ true = subst (λ y. is_same_id id y ≡ true) is (same-reads x id true e) in
       rw (left-step base names count i rest h, same) refl
@@ -97,14 +98,14 @@ take-cons (z ∷ zs) (suc i) x ys e = ap (λ left. z ∷ left) (take-cons zs i x
 
 -- one more entry was passed
 module _ (base : ℕ) (names : List ℕ) (count i : ℕ) (bytes : List ℕ) (h : i < count) where
-  pub take-passed : take (i + 1) (entries_in base names count bytes) ≡ take i (entries_in base names count bytes) ++ entry_in base names (after_entries i bytes) ∷ []
+  pub take-passed : take (i + 1) (packed_entries base names count bytes) ≡ take i (packed_entries base names count bytes) ++ entry_in base names (after_entries i bytes) ∷ []
   take-passed =
-      rw add-one (take-cons (entries_in base names count bytes) i (entry_in base names (after_entries i bytes)) (entries_in base names (count - (i + 1)) (after_entry (after_entries i bytes)))
+      rw add-one (take-cons (packed_entries base names count bytes) i (entry_in base names (after_entries i bytes)) (packed_entries base names (count - (i + 1)) (after_entry (after_entries i bytes)))
       (drop-entries_in base names count i bytes (omega arith) ∙ left-step base names count i (after_entries i bytes) h))
 
-  pub drop-passed : drop (suc i) (entries_in base names count bytes) ≡ entries_in base names (count - (i + 1)) (after_entry (after_entries i bytes))
+  pub drop-passed : drop (suc i) (packed_entries base names count bytes) ≡ packed_entries base names (count - (i + 1)) (after_entry (after_entries i bytes))
   drop-passed =
-      drop-entries_in base names count (suc i) bytes (omega arith) ∙ rw (after_entries-suc i bytes) (ap (λ n. entries_in base names n (after_entry (after_entries i bytes))) (omega arith))
+      drop-entries_in base names count (suc i) bytes (omega arith) ∙ rw (after_entries-suc i bytes) (ap (λ n. packed_entries base names n (after_entry (after_entries i bytes))) (omega arith))
 
 -- ---- a filter of ids
 
@@ -113,96 +114,96 @@ joined t u x xs e = rw (e, append_assoc) refl
 
 module _ (test : Id → Bool) (base : ℕ) (names : List ℕ) (count i : ℕ) (x : Id) (rest next : List ℕ) (h : i < count) (is : x ≡ entry_id base rest) (on : next ≡ after_entry rest) where
   filter-taken : test x ≡ true
-      → filter test (ids_of (entries_in base names (count - i) rest)) ≡ x ∷ filter test (ids_of (entries_in base names (count - (i + 1)) next))
+      → filter test (ids_of (packed_entries base names (count - i) rest)) ≡ x ∷ filter test (ids_of (packed_entries base names (count - (i + 1)) next))
   filter-taken e =
       let passes : test (entry_id base rest) ≡ true = subst (λ y. test y ≡ true) is e in
-      rw (left-step base names count i rest h, passes) (ap (λ y. y ∷ filter test (ids_of (entries_in base names (count - (i + 1)) (after_entry rest)))) (sym is)
-      ∙ ap (λ r. x ∷ filter test (ids_of (entries_in base names (count - (i + 1)) r))) (sym on))
+      rw (left-step base names count i rest h, passes) (ap (λ y. y ∷ filter test (ids_of (packed_entries base names (count - (i + 1)) (after_entry rest)))) (sym is)
+      ∙ ap (λ r. x ∷ filter test (ids_of (packed_entries base names (count - (i + 1)) r))) (sym on))
 
   filter-left : test x ≡ false
-      → filter test (ids_of (entries_in base names (count - i) rest)) ≡ filter test (ids_of (entries_in base names (count - (i + 1)) next))
+      → filter test (ids_of (packed_entries base names (count - i) rest)) ≡ filter test (ids_of (packed_entries base names (count - (i + 1)) next))
   filter-left e =
       let fails : test (entry_id base rest) ≡ false = subst (λ y. test y ≡ false) is e in
-      rw (left-step base names count i rest h, fails) (ap (λ r. filter test (ids_of (entries_in base names (count - (i + 1)) r))) (sym on))
+      rw (left-step base names count i rest h, fails) (ap (λ r. filter test (ids_of (packed_entries base names (count - (i + 1)) r))) (sym on))
 
   pub all-taken : (most : ℕ) (all ids ids2 : List Id) → test x ≡ true → ids2 ≡ ids ++ x ∷ []
-      → all ≡ take most (ids ++ filter test (ids_of (entries_in base names (count - i) rest)))
-      → all ≡ take most (ids2 ++ filter test (ids_of (entries_in base names (count - (i + 1)) next)))
+      → all ≡ take most (ids ++ filter test (ids_of (packed_entries base names (count - i) rest)))
+      → all ≡ take most (ids2 ++ filter test (ids_of (packed_entries base names (count - (i + 1)) next)))
   all-taken most all ids ids2 e f was = was ∙ ap (λ r. take most (ids ++ r)) (filter-taken e) ∙ ap (take most) (joined ids ids2 x _ f)
 
   pub all-left : (most : ℕ) (all ids ids2 : List Id) → test x ≡ false → ids2 ≡ ids
-      → all ≡ take most (ids ++ filter test (ids_of (entries_in base names (count - i) rest)))
-      → all ≡ take most (ids2 ++ filter test (ids_of (entries_in base names (count - (i + 1)) next)))
+      → all ≡ take most (ids ++ filter test (ids_of (packed_entries base names (count - i) rest)))
+      → all ≡ take most (ids2 ++ filter test (ids_of (packed_entries base names (count - (i + 1)) next)))
   all-left most all ids ids2 e f was =
-      was ∙ ap (λ r. take most (ids ++ r)) (filter-left e) ∙ ap (λ r. take most (r ++ filter test (ids_of (entries_in base names (count - (i + 1)) next)))) (sym f)
+      was ∙ ap (λ r. take most (ids ++ r)) (filter-left e) ∙ ap (λ r. take most (r ++ filter test (ids_of (packed_entries base names (count - (i + 1)) next)))) (sym f)
 
   pub each-taken : (all ids ids2 : List Id) → test x ≡ true → ids2 ≡ ids ++ x ∷ []
-      → all ≡ ids ++ filter test (ids_of (entries_in base names (count - i) rest))
-      → all ≡ ids2 ++ filter test (ids_of (entries_in base names (count - (i + 1)) next))
+      → all ≡ ids ++ filter test (ids_of (packed_entries base names (count - i) rest))
+      → all ≡ ids2 ++ filter test (ids_of (packed_entries base names (count - (i + 1)) next))
   each-taken all ids ids2 e f was = was ∙ ap (λ r. ids ++ r) (filter-taken e) ∙ joined ids ids2 x _ f
 
   pub each-left : (all ids ids2 : List Id) → test x ≡ false → ids2 ≡ ids
-      → all ≡ ids ++ filter test (ids_of (entries_in base names (count - i) rest))
-      → all ≡ ids2 ++ filter test (ids_of (entries_in base names (count - (i + 1)) next))
+      → all ≡ ids ++ filter test (ids_of (packed_entries base names (count - i) rest))
+      → all ≡ ids2 ++ filter test (ids_of (packed_entries base names (count - (i + 1)) next))
   each-left all ids ids2 e f was =
-      was ∙ ap (λ r. ids ++ r) (filter-left e) ∙ ap (λ r. r ++ filter test (ids_of (entries_in base names (count - (i + 1)) next))) (sym f)
+      was ∙ ap (λ r. ids ++ r) (filter-left e) ∙ ap (λ r. r ++ filter test (ids_of (packed_entries base names (count - (i + 1)) next))) (sym f)
 
   entry-is : (fields : List Field) → fields ≡ body_fields names (entry_body rest) → entry_in base names rest ≡ (x, fields)
   entry-is fields f = ap (λ (y : Id). (y, body_fields names (entry_body rest))) (sym is) ∙ ap (λ (fs : List Field). (x, fs)) (sym f)
 
   shown-filter_taken : (fields : List Field) → test x ≡ true → fields ≡ body_fields names (entry_body rest)
-      → filter (λ e. test e.0) (entries_in base names (count - i) rest) ≡ (x, fields) ∷ filter (λ e. test e.0) (entries_in base names (count - (i + 1)) next)
+      → filter (λ e. test e.0) (packed_entries base names (count - i) rest) ≡ (x, fields) ∷ filter (λ e. test e.0) (packed_entries base names (count - (i + 1)) next)
   shown-filter_taken fields e f =
       let passes : test (entry_id base rest) ≡ true = subst (λ y. test y ≡ true) is e in
-      rw (left-step base names count i rest h, passes) (ap (λ (y : Id × List Field). y ∷ filter (λ e. test e.0) (entries_in base names (count - (i + 1)) (after_entry rest))) (entry-is fields f)
-      ∙ ap (λ r. (x, fields) ∷ filter (λ e. test e.0) (entries_in base names (count - (i + 1)) r)) (sym on))
+      rw (left-step base names count i rest h, passes) (ap (λ (y : Id × List Field). y ∷ filter (λ e. test e.0) (packed_entries base names (count - (i + 1)) (after_entry rest))) (entry-is fields f)
+      ∙ ap (λ r. (x, fields) ∷ filter (λ e. test e.0) (packed_entries base names (count - (i + 1)) r)) (sym on))
 
   shown-filter_left : test x ≡ false
-      → filter (λ e. test e.0) (entries_in base names (count - i) rest) ≡ filter (λ e. test e.0) (entries_in base names (count - (i + 1)) next)
+      → filter (λ e. test e.0) (packed_entries base names (count - i) rest) ≡ filter (λ e. test e.0) (packed_entries base names (count - (i + 1)) next)
   shown-filter_left e =
       let fails : test (entry_id base rest) ≡ false = subst (λ y. test y ≡ false) is e in
-      rw (left-step base names count i rest h, fails) (ap (λ r. filter (λ (e : Id × List Field). test e.0) (entries_in base names (count - (i + 1)) r)) (sym on))
+      rw (left-step base names count i rest h, fails) (ap (λ r. filter (λ (e : Id × List Field). test e.0) (packed_entries base names (count - (i + 1)) r)) (sym on))
 
   pub shown-taken : (most : ℕ) (fields : List Field) (all es es2 : List (Id × List Field)) → test x ≡ true → fields ≡ body_fields names (entry_body rest) → es2 ≡ es ++ (x, fields) ∷ []
-      → all ≡ take most (es ++ filter (λ e. test e.0) (entries_in base names (count - i) rest))
-      → all ≡ take most (es2 ++ filter (λ e. test e.0) (entries_in base names (count - (i + 1)) next))
+      → all ≡ take most (es ++ filter (λ e. test e.0) (packed_entries base names (count - i) rest))
+      → all ≡ take most (es2 ++ filter (λ e. test e.0) (packed_entries base names (count - (i + 1)) next))
   shown-taken most fields all es es2 e f g was = was ∙ ap (λ r. take most (es ++ r)) (shown-filter_taken fields e f) ∙ ap (take most) (joined es es2 (x, fields) _ g)
 
   pub shown-left : (most : ℕ) (all es es2 : List (Id × List Field)) → test x ≡ false → es2 ≡ es
-      → all ≡ take most (es ++ filter (λ e. test e.0) (entries_in base names (count - i) rest))
-      → all ≡ take most (es2 ++ filter (λ e. test e.0) (entries_in base names (count - (i + 1)) next))
+      → all ≡ take most (es ++ filter (λ e. test e.0) (packed_entries base names (count - i) rest))
+      → all ≡ take most (es2 ++ filter (λ e. test e.0) (packed_entries base names (count - (i + 1)) next))
   shown-left most all es es2 e f was =
-      was ∙ ap (λ r. take most (es ++ r)) (shown-filter_left e) ∙ ap (λ r. take most (r ++ filter (λ e. test e.0) (entries_in base names (count - (i + 1)) next))) (sym f)
+      was ∙ ap (λ r. take most (es ++ r)) (shown-filter_left e) ∙ ap (λ r. take most (r ++ filter (λ e. test e.0) (packed_entries base names (count - (i + 1)) next))) (sym f)
 
   pub each_shown-taken : (fields : List Field) (all es es2 : List (Id × List Field)) → test x ≡ true → fields ≡ body_fields names (entry_body rest) → es2 ≡ es ++ (x, fields) ∷ []
-      → all ≡ es ++ filter (λ e. test e.0) (entries_in base names (count - i) rest)
-      → all ≡ es2 ++ filter (λ e. test e.0) (entries_in base names (count - (i + 1)) next)
+      → all ≡ es ++ filter (λ e. test e.0) (packed_entries base names (count - i) rest)
+      → all ≡ es2 ++ filter (λ e. test e.0) (packed_entries base names (count - (i + 1)) next)
   each_shown-taken fields all es es2 e f g was = was ∙ ap (λ r. es ++ r) (shown-filter_taken fields e f) ∙ joined es es2 (x, fields) _ g
 
   pub each_shown-left : (all es es2 : List (Id × List Field)) → test x ≡ false → es2 ≡ es
-      → all ≡ es ++ filter (λ e. test e.0) (entries_in base names (count - i) rest)
-      → all ≡ es2 ++ filter (λ e. test e.0) (entries_in base names (count - (i + 1)) next)
+      → all ≡ es ++ filter (λ e. test e.0) (packed_entries base names (count - i) rest)
+      → all ≡ es2 ++ filter (λ e. test e.0) (packed_entries base names (count - (i + 1)) next)
   each_shown-left all es es2 e f was =
-      was ∙ ap (λ r. es ++ r) (shown-filter_left e) ∙ ap (λ r. r ++ filter (λ e. test e.0) (entries_in base names (count - (i + 1)) next)) (sym f)
+      was ∙ ap (λ r. es ++ r) (shown-filter_left e) ∙ ap (λ r. r ++ filter (λ e. test e.0) (packed_entries base names (count - (i + 1)) next)) (sym f)
 
   pub count-taken : test x ≡ true
-      → length (filter (λ e. test e.0) (entries_in base names (count - i) rest)) ≡ suc (length (filter (λ e. test e.0) (entries_in base names (count - (i + 1)) next)))
+      → length (filter (λ e. test e.0) (packed_entries base names (count - i) rest)) ≡ suc (length (filter (λ e. test e.0) (packed_entries base names (count - (i + 1)) next)))
   count-taken e =
       let passes : test (entry_id base rest) ≡ true = subst (λ y. test y ≡ true) is e in
-      rw (left-step base names count i rest h, passes) (ap (λ r. suc (length (filter (λ e. test e.0) (entries_in base names (count - (i + 1)) r)))) (sym on))
+      rw (left-step base names count i rest h, passes) (ap (λ r. suc (length (filter (λ e. test e.0) (packed_entries base names (count - (i + 1)) r)))) (sym on))
 
   pub count-left : test x ≡ false
-      → length (filter (λ e. test e.0) (entries_in base names (count - i) rest)) ≡ length (filter (λ e. test e.0) (entries_in base names (count - (i + 1)) next))
+      → length (filter (λ e. test e.0) (packed_entries base names (count - i) rest)) ≡ length (filter (λ e. test e.0) (packed_entries base names (count - (i + 1)) next))
   count-left e =
       let fails : test (entry_id base rest) ≡ false = subst (λ y. test y ≡ false) is e in
-      rw (left-step base names count i rest h, fails) (ap (λ r. length (filter (λ e. test e.0) (entries_in base names (count - (i + 1)) r))) (sym on))
+      rw (left-step base names count i rest h, fails) (ap (λ r. length (filter (λ e. test e.0) (packed_entries base names (count - (i + 1)) r))) (sym on))
 
 -- before the first one all are left
-pub at-start : (base count start : ℕ) (bytes names rest : List ℕ) → names ≡ first_text bytes → rest ≡ drop start bytes → block_entries base count start bytes ≡ entries_in base names (count - 0) rest
+pub at-start : (base count start : ℕ) (bytes names rest : List ℕ) → names ≡ first_text bytes → rest ≡ drop start bytes → block_entries base count start bytes ≡ packed_entries base names (count - 0) rest
 at-start base count start bytes names rest e f = let all : count - 0 ≡ count = omega arith in rw (e, f, all) refl
 
 -- none is left of those that are passed
-pub none-left : (base : ℕ) (names : List ℕ) (count i : ℕ) (rest : List ℕ) → count ≤ i → entries_in base names (count - i) rest ≡ []
+pub none-left : (base : ℕ) (names : List ℕ) (count i : ℕ) (rest : List ℕ) → count ≤ i → packed_entries base names (count - i) rest ≡ []
 none-left base names count i rest h = let e : count - i ≡ 0 = omega arith in rw e refl
 
 -- ---- shared names

@@ -20,7 +20,7 @@ use Rattle.xs_stream.specs.declared.id.Id.{Id}
 use Rattle.xs_stream.specs.PackedNumber.{number_code, first_number, after_number, head_number}
 use Rattle.xs_stream.specs.PackedText.{text_code, first_text, after_text}
 use Rattle.xs_stream.specs.Packed.{names_code, all_named, has_names, field_code, body_code, fields_in, body_fields}
-use Rattle.xs_stream.specs.Packed.{ms_code, first_ms, entry_code, entry_id, entry_body, after_entry, entries_in}
+use Rattle.xs_stream.specs.Packed.{ms_code, first_ms, entry_code, entry_id, entry_body, after_entry, packed_entries}
 use Rattle.xs_stream.specs.Packed.{entries_code}
 
 pub first_number-code : (n : ℕ) (rest : List ℕ) → first_number (number_code n ++ rest) ≡ n
@@ -196,7 +196,7 @@ module _ (base : ℕ) (shared : Bool) (e : Id × List Field) (rest : List ℕ) w
   after_entry-code =
       rw (parted, after_number-ms_code base e.0.ms (number_code e.0.seq ++ (text_code (body_code shared e.1) ++ rest)), after_number-code e.0.seq (text_code (body_code shared e.1) ++ rest), after_text-code (body_code shared e.1) rest) refl
 
-pub entries_in-code : (base : ℕ) (names : List ℕ) (es : List (Id × List Field)) (rest : List ℕ) → base < 2 ^ 64 → entries_in base names (length es) (entries_code base names es ++ rest) ≡ es
+pub entries_in-code : (base : ℕ) (names : List ℕ) (es : List (Id × List Field)) (rest : List ℕ) → base < 2 ^ 64 → packed_entries base names (length es) (entries_code base names es ++ rest) ≡ es
 entries_in-code base names [] rest fits = refl
 entries_in-code base names (e ∷ es) rest fits =
     let shared = has_names names e.1 in
@@ -205,15 +205,15 @@ entries_in-code base names (e ∷ es) rest fits =
     (ap (λ left. e ∷ left) (entries_in-code base names es rest fits))
 
 -- entries are read of their own code
-pub entries_in-whole : (base : ℕ) (names : List ℕ) (es : List (Id × List Field)) → base < 2 ^ 64 → entries_in base names (length es) (entries_code base names es) ≡ es
-entries_in-whole base names es fits = ap (entries_in base names (length es)) (sym (append-nil (entries_code base names es))) ∙ entries_in-code base names es [] fits
+pub entries_in-whole : (base : ℕ) (names : List ℕ) (es : List (Id × List Field)) → base < 2 ^ 64 → packed_entries base names (length es) (entries_code base names es) ≡ es
+entries_in-whole base names es fits = ap (packed_entries base names (length es)) (sym (append-nil (entries_code base names es))) ∙ entries_in-code base names es [] fits
 
 pub length-fields_in : (shared : Bool) (count : ℕ) (names bytes : List ℕ) → length (fields_in shared count names bytes) ≡ count
 length-fields_in shared zero names bytes = refl
 length-fields_in true (suc count) names bytes = ap suc (length-fields_in true count (after_text names) (after_text bytes))
 length-fields_in false (suc count) names bytes = ap suc (length-fields_in false count names (after_text (after_text bytes)))
 
-pub length-entries_in : (base : ℕ) (names : List ℕ) (count : ℕ) (bytes : List ℕ) → length (entries_in base names count bytes) ≡ count
+pub length-entries_in : (base : ℕ) (names : List ℕ) (count : ℕ) (bytes : List ℕ) → length (packed_entries base names count bytes) ≡ count
 length-entries_in base names zero bytes = refl
 length-entries_in base names (suc count) bytes = ap suc (length-entries_in base names count (after_entry bytes))
 

@@ -81,10 +81,10 @@ abbrev pub entry_in : ℕ → List ℕ → List ℕ → Id × List Field
 entry_in base names bytes = (entry_id base bytes, body_fields names (entry_body bytes))
 
 -- this many entries
-abbrev pub entries_in : ℕ → List ℕ → ℕ → List ℕ → List (Id × List Field)
-entries_in base names zero bytes = []
-entries_in base names (suc count) bytes =
-    entry_in base names bytes ∷ entries_in base names count (after_entry bytes)
+abbrev pub packed_entries : ℕ → List ℕ → ℕ → List ℕ → List (Id × List Field)
+packed_entries base names zero bytes = []
+packed_entries base names (suc count) bytes =
+    entry_in base names bytes ∷ packed_entries base names count (after_entry bytes)
 
 abbrev pub entries_code : ℕ → List ℕ → List (Id × List Field) → List ℕ
 entries_code base names entries = flat_map (λ e. entry_code base (has_names names e.1) e) entries
@@ -114,7 +114,7 @@ after_entries (suc count) bytes = after_entries count (after_entry bytes)
 
 -- this many entries from a place on, behind the names that they share
 abbrev pub block_entries : ℕ → ℕ → ℕ → List ℕ → List (Id × List Field)
-block_entries base count start bytes = entries_in base (first_text bytes) count (drop start bytes)
+block_entries base count start bytes = packed_entries base (first_text bytes) count (drop start bytes)
 
 -- the bytes begin with a text
 abbrev pub BeginsWithText : List ℕ → List ℕ → Type 0

@@ -2,8 +2,8 @@
 ghost use Rattle.std.specs.Prelude.{◌≡◌, ℕ, List, [], Ok, Err, IfOk};
 ghost use Rattle.xs_resp.specs.Grammar.{IsOpen};
 ghost use Rattle.xs_resp.specs.HeldBytes.{held_length};
-ghost use Rattle.xs_resp.specs.LeftToWrite.{left};
-ghost use Rattle.xs_server.specs.Connection.{IsNew, ServesBy, Stands};
+ghost use Rattle.xs_resp.specs.LeftToWrite.{bytes_left};
+ghost use Rattle.xs_server.specs.Connection.{IsNewConnection, ServesBy, ConnectionStands};
 
 use crate::connections::answering::{Said, answer};
 use crate::connections::ending::{Ending, ServeFault};
@@ -32,7 +32,7 @@ const ROOM: usize = 131_072;
 impl Connection {
     /// A connection before its first byte, with all the memory that small requests need.
     pub fn new(alloc: Global) -> Result<Self, AllocError>
-        ensures { IfOk result IsNew }
+        ensures { IfOk result IsNewConnection }
     {
         Ok(Self {
             alloc,
@@ -45,7 +45,7 @@ impl Connection {
 
     /// Begins the next connection, with the memory of this one.
     pub fn clear(&mut self)
-        ensures { IsNew self.new }
+        ensures { IsNewConnection self.new }
     {
         self.requests.clear();
         self.owed.clear();
@@ -63,16 +63,16 @@ impl<P: Port, T: Wait> Machine<P, T> for Connection {
 
     ghost ENOUGH = { 1 };
 
-    ghost owes = { λ connection. left connection.owed };
+    ghost owes = { λ connection. bytes_left connection.owed };
 
     ghost front = { λ connection. connection.owed.piece };
 
     ghost held = { λ connection. held_length connection.requests };
 
-    ghost is_waiting = { λ connection. (left connection.owed ≡ [])
+    ghost is_waiting = { λ connection. (bytes_left connection.owed ≡ [])
         × ((bytes : List ℕ) → connection.requests ≡ Ok bytes → IsOpen bytes) };
 
-    ghost stands = { λ first read sent connection port. Stands P.replies first port read sent connection };
+    ghost stands = { λ first read sent connection port. ConnectionStands P.replies first port read sent connection };
 
     ghost has_ended = { λ cause end first read sent port.
         ServesBy P.replies P.fails P.gone cause end first read sent port };

@@ -3,7 +3,7 @@ ghost use Rattle.std.specs.Prelude.{◌≡◌, ◌+◌, ◌≤◌, List, ℕ, Er
 ghost use Rattle.std.specs.Io.KnownBytes.{Appends, Consumes};
 ghost use Rattle.xs_server.specs.Device.{capped};
 ghost use Rattle.xs_server.specs.Machine.{HasCause, reads_limit};
-ghost use Rattle.xs_server.specs.Serve.{Serves, cause_of};
+ghost use Rattle.xs_server.specs.Serve.{ServesConnection, cause_of_connection};
 
 use crate::connections::buffers::Buffers;
 use crate::connections::ending::{Ending, ServeFault};
@@ -28,9 +28,9 @@ pub fn serve<R: Source, W: Sink, P: Port, T: Wait>(
 ) -> Result<Ending, ServeFault>
     ensures serves { (read sent : List ℕ)
         × Consumes (R.rest reader.old) (R.rest reader.new) read × Appends (W.held writer.old) (W.held writer.new) sent
-        × Serves P.replies P.fails result port.old port.new read sent }
+        × ServesConnection P.replies P.fails result port.old port.new read sent }
     ensures reads { capped (R.calls reader.new) ≤ R.calls reader.old + reads_limit }
-    ensures cause { HasCause (cause_of result) (R.rest reader.new) (R.ended reader.new) (R.broken reader.new)
+    ensures cause { HasCause (cause_of_connection result) (R.rest reader.new) (R.ended reader.new) (R.broken reader.new)
         (R.calls reader.old) (R.calls reader.new) (W.broken writer.new) }
     ensures gone { (replies : ℕ) → result ≡ Err (ServeFault.Port replies) → P.gone port.new ≡ true }
 {
@@ -50,9 +50,9 @@ pub fn serve_with<R: Source, W: Sink, P: Port, T: Wait>(
 ) -> Result<Ending, ServeFault>
     ensures serves { (read sent : List ℕ)
         × Consumes (R.rest reader.old) (R.rest reader.new) read × Appends (W.held writer.old) (W.held writer.new) sent
-        × Serves P.replies P.fails result port.old port.new read sent }
+        × ServesConnection P.replies P.fails result port.old port.new read sent }
     ensures reads { capped (R.calls reader.new) ≤ R.calls reader.old + reads_limit }
-    ensures cause { HasCause (cause_of result) (R.rest reader.new) (R.ended reader.new) (R.broken reader.new)
+    ensures cause { HasCause (cause_of_connection result) (R.rest reader.new) (R.ended reader.new) (R.broken reader.new)
         (R.calls reader.old) (R.calls reader.new) (W.broken writer.new) }
     ensures gone { (replies : ℕ) → result ≡ Err (ServeFault.Port replies) → P.gone port.new ≡ true }
 {

@@ -1,7 +1,7 @@
 //! A whole connection over a keyspace alone.
 ghost use Rattle.std.specs.Prelude.{◌≢◌, List, ℕ, Err};
 ghost use Rattle.std.specs.Io.KnownBytes.{Appends, Consumes};
-ghost use Rattle.xs_server.specs.Serve.{Serves, cause_of};
+ghost use Rattle.xs_server.specs.Serve.{ServesConnection, cause_of_connection};
 ghost use Rattle.xs_server.specs.Machine.{HasCause};
 ghost use Rattle.xs_server.specs.Alone.{RunsAlone};
 
@@ -24,10 +24,10 @@ pub fn serve_alone<R: Source, W: Sink, C: Clock + Drop, T: Wait>(
 ) -> Result<Ending, ServeFault>
     ensures serves { (read sent : List ℕ)
         × Consumes (R.rest reader.old) (R.rest reader.new) read × Appends (W.held writer.old) (W.held writer.new) sent
-        × ((served : Serves ⟦<Alone<C> as Port>⟧.replies ⟦<Alone<C> as Port>⟧.fails result
+        × ((served : ServesConnection ⟦<Alone<C> as Port>⟧.replies ⟦<Alone<C> as Port>⟧.fails result
         alone.old alone.new read sent)
         × RunsAlone C.gives served.exchanges alone.old.keyspace alone.old.clock alone.new.keyspace alone.new.clock) }
-    ensures cause { HasCause (cause_of result) (R.rest reader.new) (R.ended reader.new) (R.broken reader.new)
+    ensures cause { HasCause (cause_of_connection result) (R.rest reader.new) (R.ended reader.new) (R.broken reader.new)
         (R.calls reader.old) (R.calls reader.new) (W.broken writer.new) }
     ensures answered { (replies : ℕ) → result ≢ Err (ServeFault.Port replies) }
 {

@@ -16,7 +16,7 @@ pub enum Turn<E> {
 /// last bytes, and has no further turn.
 pub trait Machine<S, T> {
     ghost use Rattle.std.specs.Prelude.{◌≡◌, ◌+◌, ◌<◌, ◌≤◌, ◌++◌, [], ℕ, List, length, take, OnOk, IfErr};
-    ghost use Rattle.xs_server.specs.Machine.{Cause, EndsOncePaid, Turns};
+    ghost use Rattle.xs_server.specs.Machine.{Cause, EndsOncePaid, AfterTurn};
     ghost use Rattle.xs_server.specs.declared.machines.machine.Turn.TheVariants.{Goes, Waits};
 
     /// How it ends.
@@ -53,7 +53,7 @@ pub trait Machine<S, T> {
     fn advance(&mut self, rt: &T, service: &mut S) -> Turn<Self::End>
         requires { length (owes self.old) < ENOUGH }
         ensures turns { (first : S) (read sent : List ℕ) → stands first read sent self.old service.old →
-            Turns result (stands first read sent self.new service.new) (λ end. EndsOncePaid has_ended
+            AfterTurn result (stands first read sent self.new service.new) (λ end. EndsOncePaid has_ended
             (breaks self.new) Cause.itself end first read sent (owes self.new) service.new) }
         ensures waits { result ≡ Waits → is_waiting self.new }
         ensures less { result ≡ Goes → held self.new < held self.old }

@@ -3,7 +3,7 @@ ghost use Rattle.std.specs.Prelude.{◌≡◌, ◌≤◌, ◌+◌, ℕ, [], fals
 ghost use Rattle.std.specs.List.{list_any};
 ghost use Rattle.xs_server.specs.Device.{capped};
 ghost use Rattle.xs_server.specs.Line.{is_line_end, line_limit};
-ghost use Rattle.xs_server.specs.ScriptMachine.{IsNew, RunsBy, Stands};
+ghost use Rattle.xs_server.specs.ScriptMachine.{IsNewScript, RunsBy, ScriptStands};
 
 use crate::lines::held::HeldBytes;
 use crate::machines::machine::{Machine, Turn};
@@ -30,7 +30,7 @@ pub struct Script {
 impl Script {
     /// A script before its first byte. It takes no memory.
     pub fn new(alloc: Global) -> Self
-        ensures { IsNew result }
+        ensures { IsNewScript result }
     {
         Self {
             alloc,
@@ -87,7 +87,7 @@ impl Machine<Keyspace, ()> for Script {
 
     ghost is_waiting = { λ script. (list_any is_line_end script.held ≡ false) × (length script.held ≤ line_limit) };
 
-    ghost stands = { λ first read sent script keyspace. Stands read sent script keyspace };
+    ghost stands = { λ first read sent script keyspace. ScriptStands read sent script keyspace };
 
     ghost has_ended = { λ cause end first read sent keyspace. RunsBy cause end read sent };
 

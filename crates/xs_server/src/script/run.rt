@@ -3,7 +3,7 @@ ghost use Rattle.std.specs.Prelude.{◌+◌, ◌≤◌, List, ℕ};
 ghost use Rattle.std.specs.Io.KnownBytes.{Appends, Consumes};
 ghost use Rattle.xs_server.specs.Device.{capped};
 ghost use Rattle.xs_server.specs.Machine.{HasCause, reads_limit};
-ghost use Rattle.xs_server.specs.ScriptMachine.{Runs, cause_of};
+ghost use Rattle.xs_server.specs.ScriptMachine.{Runs, cause_of_script};
 
 use crate::devices::chunk::Chunk;
 use crate::devices::device::{Sink, Source};
@@ -24,7 +24,7 @@ pub fn run_script<R: Source, W: Sink>(
         × Appends (W.held writer.old) (W.held writer.new) sent
         × Runs result read sent (R.rest reader.new) (R.ended reader.new) }
     ensures reads { capped (R.calls reader.new) ≤ R.calls reader.old + reads_limit }
-    ensures cause { HasCause (cause_of result) (R.rest reader.new) (R.ended reader.new) (R.broken reader.new)
+    ensures cause { HasCause (cause_of_script result) (R.rest reader.new) (R.ended reader.new) (R.broken reader.new)
         (R.calls reader.old) (R.calls reader.new) (W.broken writer.new) }
 {
     let Ok(mut chunk) = Chunk::new(alloc) else {

@@ -2,7 +2,7 @@ use Rattle.std.proofs.Common.{sym, ap, ◌∙◌}
 use Rattle.std.proofs.lemmas.Bool.{false≢true}
 use Rattle.xs_group.specs.GroupState.{is_same_name}
 use Rattle.xs_group.specs.Indexes.{has_among, is_owner}
-use Rattle.xs_group.proofs.ByConsumer.{is_name-eq}
+use Rattle.xs_group.proofs.ByConsumer.{is_same_name-eq}
 use Rattle.xs_group.proofs.moving.row_of.Goals as goal
 
 pub returns-in_err-entry-clause-found : goal.returns-in_err-entry-clause-found
@@ -19,4 +19,4 @@ returns-then-not-are_equal_names-clause-found c = λ agreed x e.
     ∙ ap (λ o. is_owner o c.args.name.now) c.in_ok-entry.ensures.value ∙ found
 
 pub returns-clause-whose : goal.returns-clause-whose
-returns-clause-whose c = sym c.consumer.ensures ∙ is_name-eq c.consumer.result.now c.args.name.now (sym c.if-not-are_equal_names.ensures)
+returns-clause-whose c = sym c.consumer.ensures ∙ is_same_name-eq c.consumer.result.now c.args.name.now (sym c.if-not-are_equal_names.ensures)

@@ -4,7 +4,7 @@ use Rattle.xs_bytes.specs.SortedMap.{get, insert}
 use Rattle.xs_group.specs.GroupState.{GroupState}
 use Rattle.xs_keys.specs.Content.{KeyState}
 use Rattle.xs_keys.specs.ContentAfter.{with_group}
-use Rattle.xs_keys.specs.Reading.{IsServed, IsServedAt}
+use Rattle.xs_keys.specs.Reading.{IsServedRead, IsServedAt}
 use Rattle.xs_keys.proofs.AskSteps.{put_same}
 use Rattle.xs_keys.proofs.ReadSteps.{served-at}
 use Rattle.xs_keys.proofs.xreadgroup.serve_at.Goals as goal
@@ -24,7 +24,7 @@ returns-clause-ok c =
     let tokens = c.args.tokens.now in
     let longer = c.serve.new.tokens in
     let group = c.serve.new.group in
-    IfOk-weaker c.serve.result (IsServed c.slot.inside.stream.entries c.args.now read one c.in-Some-get_mut.group.now group tokens longer)
+    IfOk-weaker c.serve.result (IsServedRead c.slot.inside.stream.entries c.args.now read one c.in-Some-get_mut.group.now group tokens longer)
     (IsServedAt c.args.now read one c.args.keys.now (insert c.args.keys.now one.key (with_group (key at) read.group group)) tokens longer)
     (λ served. served-at c.args.now read one c.args.keys.now (key at) c.in-Some-get_mut.group.now group tokens longer served (found at) (sym c.in-Some-get_mut.ensures.value)) c.serve.ensures.ok
 

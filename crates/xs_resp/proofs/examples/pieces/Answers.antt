@@ -2,11 +2,11 @@ use Rattle.std.specs.Prelude.{codes, [], ◌∷◌, Ok, Err}
 use Rattle.std.proofs.Common.{refl}
 use Rattle.xs_resp.specs.Header.{header, line_at}
 use Rattle.xs_resp.specs.HeaderPart.{number_in, is_natural}
-use Rattle.xs_resp.specs.Reading.{word, words, request}
+use Rattle.xs_resp.specs.Reading.{bulk_string, words, request}
 use Rattle.xs_resp.proofs.examples.pieces.Goals as goal
 
 pub returns : goal.returns
-unfolding header line_at number_in is_natural word words request
+unfolding header line_at number_in is_natural bulk_string words request
 returns c =
     record {
       two_and_a_part = (14, (refl, (4, (refl, refl))));

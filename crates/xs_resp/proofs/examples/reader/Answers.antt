@@ -1,12 +1,12 @@
 use Rattle.std.proofs.Common.{refl, inl, inr, rules}
 use Rattle.xs_resp.specs.HeaderPart.{number_in, is_natural}
 use Rattle.xs_resp.specs.Header.{header, line_at}
-use Rattle.xs_resp.specs.Reading.{word, words, request}
+use Rattle.xs_resp.specs.Reading.{bulk_string, words, request}
 use Rattle.xs_resp.proofs.Skipping.{not-whole, skip-left}
 use Rattle.xs_resp.proofs.examples.reader.Goals as goal
 
 pub returns : goal.returns
-unfolding number_in is_natural header line_at word words request
+unfolding number_in is_natural header line_at bulk_string words request
 returns c = record {
   a_piece_more = refl;
   a_failed_reader = refl;

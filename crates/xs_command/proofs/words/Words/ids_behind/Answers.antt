@@ -1,16 +1,16 @@
 use Rattle.std.proofs.Common.{◌≡◌, ◌≤◌, length, Ok, Err, sym, ◌∙◌, arith}
-use Rattle.xs_command.specs.Words.{id}
+use Rattle.xs_command.specs.Words.{id_of_word}
 use Rattle.xs_command.proofs.IdSteps.{goes_on, stops_at, ends, fewer}
 use Rattle.xs_command.proofs.words.Words.ids_behind.Goals as goal
 
 pub returns-in_default : goal.returns-in_default
 returns-in_default c =
-    let none : id c.loop-turn.left ≡ Err c.in_default.field-0 = cc in
+    let none : id_of_word c.loop-turn.left ≡ Err c.in_default.field-0 = cc in
     rw (c.new.ensures, c.shrink_to_fit.ensures.items) (sym (stops_at c.loop-turn.items.items c.loop-turn.left c.in_default.field-0 none) ∙ c.loop-turn.invariant.0)
 
 pub loop-turn-preserved : goal.loop-turn-preserved
 loop-turn-preserved c =
-    let one : id c.loop-turn.left ≡ Ok (c.in-Ok.id, c.in-Ok.behind) = cc in
+    let one : id_of_word c.loop-turn.left ≡ Ok (c.in-Ok.id, c.in-Ok.behind) = cc in
     let shorter = fewer c.loop-turn.left c.in-Ok.id c.in-Ok.behind one in
     (rw c.in_ok-push-2.ensures.items (goes_on c.loop-turn.items.items c.loop-turn.left c.in-Ok.id c.in-Ok.behind one ∙ c.loop-turn.invariant.0), omega (arith, c.loop-turn.invariant.1))
 

@@ -1,14 +1,14 @@
 use Rattle.std.proofs.Common.{sym, ◌∙◌, subst}
 use Rattle.xs_stream.specs.StreamContent.{AllAbove, Ascends, ids_of}
 use Rattle.xs_group.proofs.group.Group.deliver.Goals as goal
-use Rattle.xs_group.proofs.Cursors.{delivers-above, delivers-ascend}
+use Rattle.xs_group.proofs.Cursors.{new_ids-above, new_ids-ascend}
 
 pub receive-requires-clause-above : goal.receive-requires-clause-above
 receive-requires-clause-above c =
     rw (← c.self.view_is) (subst (AllAbove c.self.inside.cursor) (sym (c.as_slice-3.ensures ∙ c.in_ok-ids.ensures))
-    (delivers-above c.args.limit c.self.inside.cursor (ids_of c.args.stream.now.entries)))
+    (new_ids-above c.args.limit c.self.inside.cursor (ids_of c.args.stream.now.entries)))
 
 pub receive-requires-clause-ascends : goal.receive-requires-clause-ascends
 receive-requires-clause-ascends c =
     subst Ascends (sym (c.as_slice-3.ensures ∙ c.in_ok-ids.ensures))
-    (delivers-ascend c.args.limit c.self.inside.cursor (ids_of c.args.stream.now.entries) c.lawful.ensures.consistent.ascends)
+    (new_ids-ascend c.args.limit c.self.inside.cursor (ids_of c.args.stream.now.entries) c.lawful.ensures.consistent.ascends)

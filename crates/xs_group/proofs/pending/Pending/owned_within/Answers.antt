@@ -1,7 +1,7 @@
 use Rattle.std.proofs.Common.{◌≡◌, IfOk, [], filter, map, take, sym, ap, ◌∙◌, subst}
 use Rattle.xs_group.specs.Report.{pending_row}
 use Rattle.xs_group.specs.Indexes.{rows_of}
-use Rattle.xs_group.specs.Listing.{is_told, rows_among}
+use Rattle.xs_group.specs.Listing.{is_told, listed_rows}
 use Rattle.xs_group.proofs.OwnIds.{owned-none, owned-some}
 use Rattle.xs_group.proofs.Ordered.{entries-rows_of}
 use Rattle.xs_group.proofs.ReportRows.{asked-owned, take-none}
@@ -19,6 +19,6 @@ returns c =
     let ids = c.in-Some.ids.now in
     let own = owned-some c.self.inside.rows.entries c.self.inside.owners.entries c.args.name.now ids c.self.invariant c.in-Some.ensures.value c.len-count.ensures.ordered in
     rw (← c.self.view_is) (subst (λ es. IfOk c.rows_of_ids.result (λ found. found.items ≡ take c.args.limit (map (pending_row c.args.now) es)))
-    (ap (λ es. filter (is_told c.args.range c.args.min_idle c.args.now) (rows_among es ids.keys)) (sym rows)
+    (ap (λ es. filter (is_told c.args.range c.args.min_idle c.args.now) (listed_rows es ids.keys)) (sym rows)
     ∙ asked-owned c.args.range c.args.min_idle c.args.now c.args.name.now (rows_of c.self.inside.rows.entries) ids.keys own)
     c.rows_of_ids.ensures)

@@ -1,7 +1,7 @@
 use Rattle.std.proofs.Common.{◌≡◌, ◌+◌, ◌-◌, ◌∷◌, suc, drop, Some, Ok, refl, sym, ap, ◌∙◌, subst, arith}
 use Rattle.std.specs.Result.{IsOk}
 use Rattle.std.specs.Option.{IsSome}
-use Rattle.xs_resp.specs.Reading.{word, text_in, words, words_in, IsWhole}
+use Rattle.xs_resp.specs.Reading.{bulk_string, text_in, words, words_in, IsWhole}
 use Rattle.xs_resp.proofs.Fronts.{first-word, no-words}
 use Rattle.xs_resp.proofs.request.Request.split_first.Goals as goal
 
@@ -29,7 +29,7 @@ invariant_of-rest c =
     let some : c.self.inside.count ≡ suc left = omega (arith, c.if-self-eq0.false) in
     let first = first-word c.self.inside.count bytes some c.self.invariant.0 in
     let span = c.unwrap-span.result in
-    let read : word bytes ≡ Ok (Some span) = sym c.read_word.ensures.value ∙ c.unwrap.ensures ∙ ap Ok c.unwrap-span.ensures in
+    let read : bulk_string bytes ≡ Ok (Some span) = sym c.read_word.ensures.value ∙ c.unwrap.ensures ∙ ap Ok c.unwrap-span.ensures in
     let same : span ≡ first.span = let one = sym read ∙ first.read in cc in
     let behind : c.rest_of.result.now ≡ drop (first.span.end + 2) bytes = c.rest_of.ensures ∙ ap (λ s. drop (s.end + 2) bytes) same in
     (subst (λ b. IsWhole (words left b)) (sym behind) first.whole, omega (arith, c.self.invariant.1))
@@ -41,7 +41,7 @@ returns c =
     let some : c.self.inside.count ≡ suc left = omega (arith, c.if-self-eq0.false) in
     let first = first-word c.self.inside.count bytes some c.self.invariant.0 in
     let span = c.unwrap-span.result in
-    let read : word bytes ≡ Ok (Some span) = sym c.read_word.ensures.value ∙ c.unwrap.ensures ∙ ap Ok c.unwrap-span.ensures in
+    let read : bulk_string bytes ≡ Ok (Some span) = sym c.read_word.ensures.value ∙ c.unwrap.ensures ∙ ap Ok c.unwrap-span.ensures in
     let same : first.span ≡ span = let one = sym first.read ∙ read in cc in
     let behind : drop (first.span.end + 2) bytes ≡ c.rest_of.result.now = ap (λ s. drop (s.end + 2) bytes) same ∙ sym c.rest_of.ensures in
     sym c.self.view_is

@@ -1,7 +1,7 @@
 use Rattle.std.proofs.Common.{sym, ap, ◌∙◌, Some, ◌-◌, ◌+◌}
 use Rattle.xs_stream.specs.StreamContent.{fields_at}
 use Rattle.xs_stream.specs.PackedText.{first_text}
-use Rattle.xs_stream.specs.Packed.{entries_in, body_fields}
+use Rattle.xs_stream.specs.Packed.{packed_entries, body_fields}
 use Rattle.xs_stream.proofs.PackedBlocks.{lookup-passed, lookup-found}
 use Rattle.xs_stream.proofs.packed.walks.fields_of.Goals as goal
 
@@ -10,7 +10,7 @@ loop-preserved c =
     let entry = c.read_entry-entry in
     let names = first_text c.args.bytes.now in
     c.loop.invariant ∙ lookup-passed c.args.base names c.args.count c.loop.counter c.args.id entry.result.id c.loop.rest.now c.loop-test.true entry.ensures.id (sym c.eq.ensures ∙ c.if-eq.false)
-    ∙ ap (λ rest. fields_at (entries_in c.args.base names (c.args.count - (c.loop.counter + 1)) rest) c.args.id) (sym entry.ensures.rest)
+    ∙ ap (λ rest. fields_at (packed_entries c.args.base names (c.args.count - (c.loop.counter + 1)) rest) c.args.id) (sym entry.ensures.rest)
 
 pub returns-then-eq : goal.returns-then-eq
 returns-then-eq c =

@@ -5,7 +5,7 @@ use Rattle.std.specs.Map.{remove_entry}
 use Rattle.xs_stream.specs.Id.{is_same_id}
 use Rattle.xs_stream.specs.StreamContent.{fields_at}
 use Rattle.xs_stream.specs.PackedText.{first_text}
-use Rattle.xs_stream.specs.Packed.{entries_in, after_entry, after_entries, entry_in, block_entries}
+use Rattle.xs_stream.specs.Packed.{packed_entries, after_entry, after_entries, entry_in, block_entries}
 use Rattle.xs_stream.proofs.PackedBlocks.{after_entries-more, lookup-passed, lookup-found, removed-passed}
 use Rattle.xs_stream.proofs.PackedBlocks.{removed-found, take-passed, drop-passed, length-after_entry, joined, at-start}
 use Rattle.xs_stream.proofs.packed.walks.place_of.Goals as goal
@@ -40,7 +40,7 @@ returns-then-eq-clause-removed c =
     let was = c.loop-index.invariant in
     was.removed ∙ ap (λ left. take i (block_entries base count start bytes) ++ left)
     (removed-found base names count i id entry.result.id c.loop-index.rest.now c.loop-index-test.true entry.ensures.id (sym c.eq.ensures ∙ c.if-eq.true)
-    ∙ ap (λ rest. entries_in base names (count - (i + 1)) (after_entry rest)) was.rest ∙ sym (drop-passed base names count i (drop start bytes) c.loop-index-test.true))
+    ∙ ap (λ rest. packed_entries base names (count - (i + 1)) (after_entry rest)) was.rest ∙ sym (drop-passed base names count i (drop start bytes) c.loop-index-test.true))
 
 pub returns-then-eq-clause-found : goal.returns-then-eq-clause-found
 returns-then-eq-clause-found c =
@@ -59,10 +59,10 @@ loop-index-preserved c =
     record {
       rest = entry.ensures.rest ∙ ap after_entry was.rest ∙ sym (after_entries-more i rest);
       lookup = was.lookup ∙ lookup-passed base names count i id entry.result.id c.loop-index.rest.now c.loop-index-test.true entry.ensures.id other
-          ∙ ap (λ rest. fields_at (entries_in base names (count - (i + 1)) rest) id) (sym entry.ensures.rest);
+          ∙ ap (λ rest. fields_at (packed_entries base names (count - (i + 1)) rest) id) (sym entry.ensures.rest);
       removed = was.removed ∙ ap (λ left. take i (block_entries base count start bytes) ++ left) (removed-passed base names count i id entry.result.id c.loop-index.rest.now c.loop-index-test.true entry.ensures.id other)
-          ∙ ap (λ r. take i (block_entries base count start bytes) ++ (entry_in base names r ∷ remove_entry (is_same_id id) (entries_in base names (count - (i + 1)) (after_entry c.loop-index.rest.now)))) was.rest
-          ∙ ap (λ r. take i (block_entries base count start bytes) ++ (entry_in base names (after_entries i rest) ∷ remove_entry (is_same_id id) (entries_in base names (count - (i + 1)) r))) (sym entry.ensures.rest)
+          ∙ ap (λ r. take i (block_entries base count start bytes) ++ (entry_in base names r ∷ remove_entry (is_same_id id) (packed_entries base names (count - (i + 1)) (after_entry c.loop-index.rest.now)))) was.rest
+          ∙ ap (λ r. take i (block_entries base count start bytes) ++ (entry_in base names (after_entries i rest) ∷ remove_entry (is_same_id id) (packed_entries base names (count - (i + 1)) r))) (sym entry.ensures.rest)
           ∙ joined (take i (block_entries base count start bytes)) (take (i + 1) (block_entries base count start bytes)) _ _ (take-passed base names count i rest c.loop-index-test.true);
       short = omega (arith, was.short, ap length entry.ensures.rest, length-after_entry c.loop-index.rest.now);
     }

@@ -1,11 +1,11 @@
 use Rattle.std.proofs.Common.{◌≡◌, ◌-◌, ◌++◌, filter}
 use Rattle.xs_stream.specs.StreamContent.{ids_of, is_within}
 use Rattle.xs_stream.specs.PackedText.{first_text}
-use Rattle.xs_stream.specs.Packed.{entries_in, block_entries}
+use Rattle.xs_stream.specs.Packed.{packed_entries, block_entries}
 use Rattle.xs_stream.proofs.packed.walks.push_all_ids.Given as goal
 
 -- the ids so far and those to come
 abbrev pub invariant-loop : goal.invariant-loop
 invariant-loop l =
     l.initial.ids.items ++ filter (is_within l.range) (ids_of (block_entries l.base l.count l.start l.bytes))
-    ≡ l.ids.items ++ filter (is_within l.range) (ids_of (entries_in l.base (first_text l.bytes) (l.count - l.counter) l.rest))
+    ≡ l.ids.items ++ filter (is_within l.range) (ids_of (packed_entries l.base (first_text l.bytes) (l.count - l.counter) l.rest))

@@ -1,13 +1,13 @@
 use Rattle.std.proofs.Common.{◌≡◌, ◌≤◌, ◌-◌, ◌++◌, take, filter, length}
 use Rattle.xs_stream.specs.StreamContent.{is_within}
 use Rattle.xs_stream.specs.PackedText.{first_text}
-use Rattle.xs_stream.specs.Packed.{entries_in, block_entries}
+use Rattle.xs_stream.specs.Packed.{packed_entries, block_entries}
 use Rattle.xs_stream.proofs.packed.walks.push_entries.Given as goal
 
 -- the entries so far and those to come, as many as there may be
 abbrev pub invariant-loop : goal.invariant-loop
 invariant-loop l = record {
   all : take l.most (l.initial.shown.items ++ filter (λ e. is_within l.range e.0) (block_entries l.base l.count l.start l.bytes))
-      ≡ take l.most (l.shown.items ++ filter (λ e. is_within l.range e.0) (entries_in l.base (first_text l.bytes) (l.count - l.counter) l.rest));
+      ≡ take l.most (l.shown.items ++ filter (λ e. is_within l.range e.0) (packed_entries l.base (first_text l.bytes) (l.count - l.counter) l.rest));
   few : length l.shown.items ≤ l.most;
 }

@@ -4,7 +4,7 @@ use Rattle.xs_resp.specs.declared.fault.Fault.TheVariants as said
 use Rattle.xs_resp.specs.declared.fault.Fault.TheVariants.{Protocol}
 use Rattle.xs_resp.specs.declared.reply.Reply.TheVariants.{Error}
 use Rattle.xs_resp.specs.ReplyText.{text}
-use Rattle.xs_resp.specs.LeftToWrite.{left}
+use Rattle.xs_resp.specs.LeftToWrite.{bytes_left}
 use Rattle.xs_resp.proofs.Decisions.{request-open, request-fault}
 use Rattle.xs_resp.specs.HeldBytes.{Next, Ready}
 use Rattle.xs_resp.proofs.NextRequest.{next-words, next-none, next-same, next-shorter, ready-next, ready-none}
@@ -50,8 +50,8 @@ returns-in_default-clause-turns g c = λ first read sent stands.
     let n = next-words connection.requests s.rest words c.skip-2.new.self s.holds next in
     let err = c.in_default.ensures.err in
     let fails = port-fails g.P.Port.fails c.args.port.now c.answer-answered.new.port s.rest n.found words err.0 n.read n.words_are err.1 err.2 in
-    ends-now (ServesBy g.P.Port.replies g.P.Port.fails g.P.Port.gone) (λ count. Err (fault.Write connection.replies)) itself (Err (fault.Port connection.replies)) first read sent (left connection.owed) c.answer-answered.new.port
-    (none-came (left connection.owed) (omega (arith, c.requires)))
+    ends-now (ServesBy g.P.Port.replies g.P.Port.fails g.P.Port.gone) (λ count. Err (fault.Write connection.replies)) itself (Err (fault.Port connection.replies)) first read sent (bytes_left connection.owed) c.answer-answered.new.port
+    (none-came (bytes_left connection.owed) (omega (arith, c.requires)))
     (port-ends g.P.Port.replies g.P.Port.fails g.P.Port.gone first c.args.port.now c.answer-answered.new.port read sent connection s fails err.3)
 
 pub returns-then-quits-clause-turns : goal.returns-then-quits-clause-turns
@@ -63,7 +63,7 @@ returns-then-quits-clause-turns g c = λ first read sent stands.
     let one = one-answered g.P.Port.replies c.args.port.now c.answer-answered.new.port s.rest connection.requests c.skip-2.new.self words c.in-Ok.said.reply c.in-Ok.said.quits c.is_empty.result
     s.holds next c.is_empty.ensures c.if-is_empty.false c.in-Ok.ensures.ok in
     let owes = c.begin-2.ensures ∙ ap text (sym one.4) in
-    ends-quit g.P.Port.replies g.P.Port.fails g.P.Port.gone first c.answer-answered.new.port read sent (left c.begin-2.new.self) one.0 s.exchanges one.1 connection.replies
+    ends-quit g.P.Port.replies g.P.Port.fails g.P.Port.gone first c.answer-answered.new.port read sent (bytes_left c.begin-2.new.self) one.0 s.exchanges one.1 connection.replies
     (answered-again g.P.Port.replies first c.args.port.now c.answer-answered.new.port read s.rest one.0 s.exchanges (one.1 ∷ []) s.answered one.2) s.written owes (one.5 ∙ c.if-quits.true)
 
 pub returns-clause-turns : goal.returns-clause-turns
@@ -95,7 +95,7 @@ pub returns-in-Ok-false-clause-waits : goal.returns-in-Ok-false-clause-waits
 returns-in-Ok-false-clause-waits g c = λ waiting.
     let next = ready-none c.args.self.now.requests c.has_next.new.self (rw c.in-Ok-false.field-0-test at c.in-Ok-false.ensures) in
     let same = next-same c.args.self.now.requests c.has_next.new.self next in (
-      none-came (left c.args.self.now.owed) (omega (arith, c.requires)),
+      none-came (bytes_left c.args.self.now.owed) (omega (arith, c.requires)),
       λ bytes is. request-open bytes (next-none c.args.self.now.requests bytes c.has_next.new.self (sym same ∙ is) next).0,
     )
 
@@ -105,4 +105,4 @@ returns-in-Err-clause-turns g c = λ first read sent stands.
     let s = settled g.P.Port.replies first c.args.port.now read sent connection stands c.requires in
     let wrong = ready-wrong connection.requests s.rest _ c.has_next.new.self s.holds c.in-Err.ensures in
     let owes = c.begin.ensures in
-    ends-refused g.P.Port.replies g.P.Port.fails g.P.Port.gone first c.args.port.now read sent (left c.begin.new.self) s.rest s.exchanges connection.replies wrong.0 s.answered s.written owes (request-fault s.rest wrong.0 wrong.1)
+    ends-refused g.P.Port.replies g.P.Port.fails g.P.Port.gone first c.args.port.now read sent (bytes_left c.begin.new.self) s.rest s.exchanges connection.replies wrong.0 s.answered s.written owes (request-fault s.rest wrong.0 wrong.1)

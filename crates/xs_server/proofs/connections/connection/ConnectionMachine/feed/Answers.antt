@@ -1,5 +1,5 @@
 use Rattle.std.proofs.Common.{Err, ◌++◌, length, ap, arith}
-use Rattle.xs_resp.specs.LeftToWrite.{left}
+use Rattle.xs_resp.specs.LeftToWrite.{bytes_left}
 use Rattle.xs_server.specs.declared.connections.ending.ServeFault.TheVariants as fault
 use Rattle.xs_server.specs.Machine.{itself}
 use Rattle.xs_server.specs.Connection.{ServesBy}
@@ -12,5 +12,5 @@ returns-in-Err-clause-err g c = λ first service read sent stands.
     let connection = c.args.self.now in
     let piece = c.args.piece.now in
     let s = settled g.P.Port.replies first service read sent connection stands (omega (arith, ap length c.requires.waits.0)) in
-    ends-now (ServesBy g.P.Port.replies g.P.Port.fails g.P.Port.gone) (λ count. Err (fault.Write connection.replies)) itself (Err (fault.Memory connection.replies)) first (read ++ piece) sent (left connection.owed) service c.requires.waits.0
+    ends-now (ServesBy g.P.Port.replies g.P.Port.fails g.P.Port.gone) (λ count. Err (fault.Write connection.replies)) itself (Err (fault.Memory connection.replies)) first (read ++ piece) sent (bytes_left connection.owed) service c.requires.waits.0
     (memory-ends g.P.Port.replies g.P.Port.fails g.P.Port.gone first service read sent piece connection s)

@@ -1,6 +1,6 @@
 use Rattle.std.proofs.Common.{arith, ap, length, Err}
 use Rattle.xs_server.specs.declared.connections.ending.ServeFault.TheVariants as fault
-use Rattle.xs_resp.specs.LeftToWrite.{left}
+use Rattle.xs_resp.specs.LeftToWrite.{bytes_left}
 use Rattle.xs_server.specs.Machine.{reader}
 use Rattle.xs_server.specs.Connection.{ServesBy}
 use Rattle.xs_server.proofs.MachineTurns.{ends-now}
@@ -11,5 +11,5 @@ pub returns : goal.returns
 returns g c = λ first service read sent stands.
     let connection = c.args.self.now in
     let s = settled g.P.Port.replies first service read sent connection stands (omega (arith, ap length c.requires.0)) in
-    ends-now (ServesBy g.P.Port.replies g.P.Port.fails g.P.Port.gone) (λ count. Err (fault.Write connection.replies)) reader (Err (fault.Read connection.replies)) first read sent (left connection.owed) service c.requires.0
+    ends-now (ServesBy g.P.Port.replies g.P.Port.fails g.P.Port.gone) (λ count. Err (fault.Write connection.replies)) reader (Err (fault.Read connection.replies)) first read sent (bytes_left connection.owed) service c.requires.0
     (read-ends g.P.Port.replies g.P.Port.fails g.P.Port.gone first service read sent connection s (c.requires.1 s.rest s.holds))

@@ -2,7 +2,7 @@ use Rattle.std.proofs.Common.{◌≡◌, filter, sym, ap, ◌∙◌, subst, IfOk
 use Rattle.xs_stream.specs.Id.{is_below}
 use Rattle.xs_stream.specs.StreamContent.{limited}
 use Rattle.xs_stream.proofs.InOrder.{limited-none}
-use Rattle.xs_group.proofs.pending.Pending.shown.Goals as goal
+use Rattle.xs_group.proofs.pending.Pending.own_ids.Goals as goal
 use Rattle.xs_group.proofs.OwnIds.{owned-none, owned-some}
 
 pub returns-in_default : goal.returns-in_default

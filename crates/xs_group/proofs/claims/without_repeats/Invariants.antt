@@ -3,7 +3,7 @@ use Rattle.std.specs.BTreeSet.{contains}
 use Rattle.xs_stream.specs.declared.id.Id.{Id}
 use Rattle.xs_stream.specs.Id.{id_cmp, has_id}
 use Rattle.xs_group.specs.Claims.{without_repeats}
-use Rattle.xs_group.proofs.claims.firsts.Given as goal
+use Rattle.xs_group.proofs.claims.without_repeats.Given as goal
 
 -- the ids so far are seen, each kept at its first place
 abbrev pub invariant-loop-id : goal.invariant-loop-id

@@ -4,11 +4,11 @@ use Rattle.std.specs.BTreeSet.{contains}
 use Rattle.std.proofs.lemmas.List.{take_more}
 use Rattle.xs_stream.specs.declared.id.Id.{Id}
 use Rattle.xs_stream.specs.Id.{id_cmp, is_same_id, has_id}
-use Rattle.xs_stream.proofs.Order.{is_same-symm}
+use Rattle.xs_stream.proofs.Order.{is_same_id-symm}
 use Rattle.xs_group.specs.Claims.{without_repeats}
-use Rattle.xs_group.proofs.claims.firsts.Goals as goal
-use Rattle.xs_group.proofs.claims.firsts.Goals.{then-branch+in_ok-push, else-branch, Joined-branch}
-use Rattle.xs_group.proofs.ChosenIds.{firsts-more, has-more, had}
+use Rattle.xs_group.proofs.claims.without_repeats.Goals as goal
+use Rattle.xs_group.proofs.claims.without_repeats.Goals.{then-branch+in_ok-push, else-branch, Joined-branch}
+use Rattle.xs_group.proofs.ChosenIds.{without_repeats-more, has-more, had}
 
 one : (b c : Bool) → cond c true b ≡ (b || c)
 one true true = refl
@@ -22,14 +22,14 @@ seen c q =
     let id = get_or c.args.ids.now c.loop-id.id-index (record { ms = 0; seq = 0 }) in
     let next = take_more c.args.ids.now c.loop-id.id-index (record { ms = 0; seq = 0 }) c.loop-id-test.true in
     c.in_ok-insert.ensures.updates.0 q ∙ one (contains id_cmp c.loop-id.seen q) (is_same_id id q) ∙ ap (λ b. b || is_same_id id q) (c.loop-id.invariant.1 q)
-    ∙ ap (λ b. has_id done q || b) (is_same-symm id q) ∙ sym (has-more done id q) ∙ ap (λ ids. has_id ids q) (sym next)
+    ∙ ap (λ b. has_id done q || b) (is_same_id-symm id q) ∙ sym (has-more done id q) ∙ ap (λ ids. has_id ids q) (sym next)
 
 pub loop-id-preserved : goal.loop-id-preserved
 loop-id-preserved c =
     let done = take c.loop-id.id-index c.args.ids.now in
     let id = get_or c.args.ids.now c.loop-id.id-index (record { ms = 0; seq = 0 }) in
     let next = take_more c.args.ids.now c.loop-id.id-index (record { ms = 0; seq = 0 }) c.loop-id-test.true in
-    let kept : cond (has_id done id) (without_repeats done) (without_repeats done ++ id ∷ []) ≡ without_repeats (take (c.loop-id.id-index + 1) c.args.ids.now) = sym (firsts-more done id) ∙ ap without_repeats (sym next) in
+    let kept : cond (has_id done id) (without_repeats done) (without_repeats done ++ id ∷ []) ≡ without_repeats (take (c.loop-id.id-index + 1) c.args.ids.now) = sym (without_repeats-more done id) ∙ ap without_repeats (sym next) in
     elim c.if-branch.branch [
       | then-branch+in_ok-push w ↦ (
         ap (λ (v : Vec Id Global). v.items) w.kept-is ∙ w.in_ok-push.ensures.items ∙ ap (λ ids. ids ++ id ∷ []) c.loop-id.invariant.0
