@@ -157,7 +157,7 @@ impl<'a> Words<'a> {
     }
 
     /// The next word, an id. A missing sequence is 0.
-    #[tactic(auto, unfolding(crate::specs::Words::id))]
+    #[tactic(auto, unfolding(crate::specs::Words::id_of_word))]
     pub(crate) fn id(&self) -> Result<(Id, Words<'a>), Fault>
         ensures { result ≡ id_of_word self.now }
     {

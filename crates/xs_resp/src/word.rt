@@ -23,7 +23,7 @@ pub fn rest_of(bytes: &[u8], at: usize) -> &[u8]
 }
 
 /// Reads the word at the front, with its header and its line end. None where more bytes decide.
-#[tactic(auto, using(crate::proofs::Reading::header_ends), unfolding(crate::specs::Reading::word))]
+#[tactic(auto, using(crate::proofs::Reading::header_ends), unfolding(crate::specs::Reading::bulk_string))]
 pub fn read_word(bytes: &[u8]) -> Result<Option<Span>, Wrong>
     ensures value { result ≡ bulk_string bytes.now }
     ensures ends { IfOk result (λ found. IfSome found (λ span. (span.start ≤ span.end)
