@@ -438,4 +438,4 @@ assigned-owner : (start : Id) (past : List GroupEvent) (event : GroupEvent) (x :
 assigned-owner start past event x h = λ i. cond (cond (h i) false (settles_entry start past event x || is_settled start past x)) None (cond (h i) (consumer_of event.ask) (last_assigned start past x))
 
 pub changes-by-claims : (start : Id) (events : List GroupEvent) → ChangesByClaims start events
-changes-by-claims start events = λ later event earlier x e. (λ name o. owner-after start earlier event x name o, λ o. no-owner-after start earlier event x o, λ h. assigned-owner start earlier event x h)
+changes-by-claims start events = λ later event earlier e x. (λ name o. owner-after start earlier event x name o, λ o. no-owner-after start earlier event x o, λ h. assigned-owner start earlier event x h)

@@ -97,7 +97,7 @@ pub has-one-owner : (past : History) (key group : List ℕ) (life : GroupLife) �
 has-one-owner past key group life e = record {
   is_pending = λ x. owner-row life.start life.events x ∙ sym (ap of_row (row-found life.start life.events x));
   is_last_touched = is-last-touched life.start life.events;
-  claims_idle = claims-idle life.start life.events (present-in-life past key group life e);
+  claims_are_exact = claims-idle life.start life.events (present-in-life past key group life e);
   until_settled = owned-until-settled life.start life.events;
   by_claims = changes-by-claims life.start life.events;
 }

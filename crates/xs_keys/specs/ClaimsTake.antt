@@ -1,5 +1,5 @@
 -- What claims take and what they remove, by looking back. (Redis, XCLAIM and XAUTOCLAIM.)
-use Rattle.std.specs.Prelude.{◌≡◌, ◌⊎◌, ℕ, ◌≤◌, ◌+◌, ◌-◌, ◌*◌, Bool, true, false, not, ◌&&◌, ◌||◌, List, ◌∷◌, ◌++◌}
+use Rattle.std.specs.Prelude.{◌≡◌, ◌⊎◌, ℕ, ◌≤◌, ◌+◌, ◌-◌, ◌*◌, Bool, true, false, not, ◌&&◌, ◌||◌, List}
 use Rattle.std.specs.Prelude.{map, filter, length, is_some}
 use Rattle.xs_stream.specs.Id.{is_same_id}
 use Rattle.xs_group.specs.Verdict.{AreDistinct}
@@ -10,6 +10,7 @@ use Rattle.xs_keys.specs.Owner.{is_taken_by_claim}
 use Rattle.xs_keys.specs.Owner.{is_removed_by_claim, owner}
 use Rattle.xs_keys.specs.TimesAndCounts.{time_of}
 use Rattle.xs_keys.specs.Event.{PendingEntries}
+use Rattle.xs_keys.specs.AtEach.{AtEach}
 
 -- the least idle time that is asked for
 abbrev pub least_idle : GroupAsk → ℕ
@@ -83,6 +84,4 @@ pub record ClaimIsExact (start : Id) (past : List GroupEvent) (event : GroupEven
 
 -- so does each claim of a life
 abbrev pub ClaimsAreExact : Id → List GroupEvent → Type 0
-ClaimsAreExact start events =
-    (later : List GroupEvent) (event : GroupEvent) (earlier : List GroupEvent) → events ≡ later ++ event ∷ earlier
-    → ClaimIsExact start earlier event
+ClaimsAreExact start events = AtEach events (λ earlier event. ClaimIsExact start earlier event)

@@ -5,6 +5,7 @@ use Rattle.xs_keys.specs.GroupEvent.{GroupEvent, delivered_ids, new_ids_of_event
 use Rattle.xs_keys.specs.GroupAsk.{read_new}
 use Rattle.xs_keys.specs.GroupLife.{GroupLife}
 use Rattle.xs_keys.specs.Event.{Bytes}
+use Rattle.xs_keys.specs.AtEach.{AtEach}
 
 -- one of the events is the turn of the id, and it was delivered exactly if it was in the stream then
 pub record HadItsTurn (start : Id) (events : List GroupEvent) (x : Id) : Type 0 where
@@ -17,11 +18,10 @@ pub record HadItsTurn (start : Id) (events : List GroupEvent) (x : Id) : Type 0 
 
 -- a read of new entries delivers as many as it asks for, or leaves no entry in the stream past the cursor
 abbrev pub DeliversInFull : Id → List GroupEvent → Type 0
-DeliversInFull start events =
-    (later : List GroupEvent) (event : GroupEvent) (earlier : List GroupEvent) → events ≡ later ++ event ∷ earlier
-    → (consumer : Bytes) (limit : Option ℕ) (noack : Bool) → event.ask ≡ read_new consumer limit noack
+DeliversInFull start events = AtEach events (λ earlier event.
+    (consumer : Bytes) (limit : Option ℕ) (noack : Bool) → event.ask ≡ read_new consumer limit noack
     → (limit ≡ Some (length (new_ids_of_event event (cursor start earlier))))
-    ⊎ ((x : Id) → has_id event.present x ≡ true → is_below (cursor start (event ∷ earlier)) x ≡ false)
+    ⊎ ((x : Id) → has_id event.present x ≡ true → is_below (cursor start (event ∷ earlier)) x ≡ false))
 
 -- new deliveries: in id order and each once, past the start, exactly the entries in the stream at their turn, and as
 -- many as are asked for

@@ -10,6 +10,7 @@ use Rattle.xs_keys.specs.GroupAsk.{consumer_of}
 use Rattle.xs_keys.specs.Owner.{is_made_pending_by, is_taken_by_claim, settles_entry, owner}
 use Rattle.xs_keys.specs.GroupLife.{GroupLife}
 use Rattle.xs_keys.specs.Event.{Bytes}
+use Rattle.xs_keys.specs.AtEach.{AtEach}
 
 -- one of these later events settles it
 abbrev pub is_settled_in : Id → List GroupEvent → List GroupEvent → Id → Bool
@@ -41,13 +42,12 @@ NoOwnerAfter start past event x =
 -- the owner changes only by a claim, and comes only by a delivery; and what is delivered without NOACK, or taken by a
 -- claim, belongs to the consumer who asked
 abbrev pub ChangesByClaims : Id → List GroupEvent → Type 0
-ChangesByClaims start events =
-    (later : List GroupEvent) (event : GroupEvent) (earlier : List GroupEvent) (x : Id)
-    → events ≡ later ++ event ∷ earlier
+ChangesByClaims start events = AtEach events (λ earlier event.
+    (x : Id)
     → ((name : Bytes) → owner start earlier x ≡ Some name → OwnerAfter start earlier event x name)
     × (owner start earlier x ≡ None → NoOwnerAfter start earlier event x)
     × ((is_made_pending_by start earlier event x || is_taken_by_claim start earlier event x) ≡ true
-    → owner start (event ∷ earlier) x ≡ consumer_of event.ask)
+    → owner start (event ∷ earlier) x ≡ consumer_of event.ask))
 
 -- an entry has an owner exactly if it is pending, and the owner is the consumer of its pending row
 abbrev pub IsPendingWithOwner : Id → List GroupEvent → Type 0
@@ -59,6 +59,6 @@ IsPendingWithOwner start events =
 pub record OwnersAndClaims (life : GroupLife) : Type 0 where
   pub is_pending : IsPendingWithOwner life.start life.events
   pub is_last_touched : IsLastTouched life.start life.events
-  pub claims_idle : ClaimsAreExact life.start life.events
+  pub claims_are_exact : ClaimsAreExact life.start life.events
   pub until_settled : OwnedUntilSettled life.start life.events
   pub by_claims : ChangesByClaims life.start life.events

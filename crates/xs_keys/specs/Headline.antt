@@ -1,5 +1,5 @@
 -- The headline: what holds of the replies to a run of commands, and of each entry and each group at each time of it.
-use Rattle.std.specs.Prelude.{◌≡◌, ◌⊎◌, Some, List, [], ◌∷◌, ◌++◌}
+use Rattle.std.specs.Prelude.{◌≡◌, ◌⊎◌, Some, List, [], ◌∷◌}
 use Rattle.xs_keys.specs.Terms.{Reply, Ascends, ids_of}
 use Rattle.xs_command.specs.WellFormed.{IsWellFormed}
 use Rattle.xs_keys.specs.Life.{StreamEvent, key_life, added_in}
@@ -14,12 +14,7 @@ use Rattle.xs_keys.specs.Event.{Bytes, Event, History, event_moment, event_comma
 use Rattle.xs_keys.specs.EachDelivery.{DeliversNew}
 use Rattle.xs_keys.specs.EachOwner.{OwnersAndClaims}
 use Rattle.xs_keys.specs.EachReply.{AreReplied}
-
--- so it is with the open life of each group, at each time of a history
-abbrev pub OfEachGroup : History → (GroupLife → Type 0) → Type 0
-OfEachGroup history Holds =
-    (later earlier : History) → history ≡ later ++ earlier
-    → (key group : Bytes) (life : GroupLife) → group_life earlier key group ≡ Some life → Holds life
+use Rattle.xs_keys.specs.AtEach.{AtEach, AtEachTime}
 
 -- so it is with the open life of each group, after any history
 abbrev pub OfEachLife : (GroupLife → Type 0) → Type 0
@@ -27,28 +22,27 @@ OfEachLife Holds =
     (past : History) (key group : Bytes) (life : GroupLife)
     → group_life past key group ≡ Some life → Holds life
 
+-- so it is with the open life of each group, at each time of a history
+abbrev pub OfEachGroup : History → (GroupLife → Type 0) → Type 0
+OfEachGroup history Holds = AtEachTime history (λ past.
+    (key group : Bytes) (life : GroupLife) → group_life past key group ≡ Some life → Holds life)
+
 -- at each time of a history, the ids added in the open life of each key ascend
 abbrev pub IdsAscend : History → Type 0
-IdsAscend history =
-    (later earlier : History) → history ≡ later ++ earlier
-    → (key : Bytes) (stream : List StreamEvent) → key_life earlier key ≡ Some stream
-    → Ascends (ids_of (added_in stream))
+IdsAscend history = AtEachTime history (λ past.
+    (key : Bytes) (stream : List StreamEvent) → key_life past key ≡ Some stream → Ascends (ids_of (added_in stream)))
 
 -- each command of a history is well formed
 abbrev pub AreWellFormed : History → Type 0
 AreWellFormed [] = Unit {0}
 AreWellFormed (e ∷ past) = IsWellFormed (event_command e) × AreWellFormed past
 
--- so it is with each event of a history, after those before it. A run holds well-formed commands alone; if it began
--- after a past of other events, those have to be well formed, or the event in question.
-abbrev pub AtEachEvent :
-    History → History → (History → Event → Type 0) → Type 0
-AtEachEvent [] history Holds =
-    (later : History) (e : Event) (earlier : History) → history ≡ later ++ e ∷ earlier
-    → Holds earlier e
-AtEachEvent (first ∷ past) history Holds =
-    (later : History) (e : Event) (earlier : History) → history ≡ later ++ e ∷ earlier
-    → AreWellFormed (first ∷ past) ⊎ IsWellFormed (event_command e) → Holds earlier e
+-- so it is with each event of a history that a run led to. A run holds well-formed commands alone; if it began after a
+-- past of other events, those have to be well formed, or the event in question.
+abbrev pub AtEachEvent : History → History → (History → Event → Type 0) → Type 0
+AtEachEvent [] history Holds = AtEach history Holds
+AtEachEvent (first ∷ past) history Holds = AtEach history (λ earlier e.
+    AreWellFormed (first ∷ past) ⊎ IsWellFormed (event_command e) → Holds earlier e)
 
 -- the lives of a group are apart: what is delivered in a life is what its own events deliver, one after the other, and
 -- an event delivers nothing in a group that has no open life
@@ -60,10 +54,9 @@ LivesAreApart earlier e =
 
 -- each event of a history leads from the content before it to the content after it, and each content is consistent
 abbrev pub StepsAreConsistent : History → Type 0
-StepsAreConsistent history =
-    (later : History) (e : Event) (earlier : History) → history ≡ later ++ e ∷ earlier
-    → (content : Content) → IsContent content earlier
-    → IsConsistentContent content × IsContent (content_after content (event_moment e) (event_command e)) (e ∷ earlier)
+StepsAreConsistent history = AtEach history (λ earlier e.
+    (content : Content) → IsContent content earlier
+    → IsConsistentContent content × IsContent (content_after content (event_moment e) (event_command e)) (e ∷ earlier))
 
 -- every reply is the model's, and tells what was done; each group delivers, in id order and each once, the entries past
 -- its start that were in the stream when their turn came, as many as were asked for; each entry delivered without NOACK

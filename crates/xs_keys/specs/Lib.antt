@@ -1,5 +1,6 @@
 pub mod Event
 pub mod Terms
+pub mod AtEach
 pub mod Life
 pub mod GroupAsk
 pub mod GroupEvent

@@ -1,6 +1,6 @@
 -- Each entry has one place in a group, and the numbers of entries at the places add up. (Redis Streams, "Consumer
 -- groups"; XPENDING.)
-use Rattle.std.specs.Prelude.{◌≡◌, ℕ, ◌+◌, Bool, true, false, List, ◌∷◌, ◌++◌, filter, map, length, Some, None}
+use Rattle.std.specs.Prelude.{◌≡◌, ℕ, ◌+◌, Bool, true, false, List, ◌∷◌, filter, map, length, Some, None}
 use Rattle.xs_group.specs.GroupState.{owned_ids}
 use Rattle.xs_keys.specs.Terms.{Id, is_below, has_id, ids_of, is_same_name, new_ids, Pending, Reply, Int}
 use Rattle.xs_keys.specs.Life.{StreamEvent, key_life, added_in, present_entries}
@@ -12,6 +12,7 @@ use Rattle.xs_keys.specs.Reply.{reply}
 use Rattle.xs_keys.specs.Event.{Bytes, History}
 use Rattle.xs_keys.specs.JobPlace.{Place, before_start, waiting, dropped, handed_out, pending, settled, place_of}
 use Rattle.xs_keys.specs.JobPlace.{HasOnePlace}
+use Rattle.xs_keys.specs.AtEach.{AtEachTime}
 
 -- the same place
 abbrev pub is_at : Place → Place → Bool
@@ -60,7 +61,6 @@ pub record HasItsPlaces (stream : List StreamEvent) (life : GroupLife) : Type 0 
 
 -- at each time of a history each entry has one place in each group
 abbrev pub EachHasAPlace : History → Type 0
-EachHasAPlace history =
-    (later earlier : History) → history ≡ later ++ earlier
-    → (key group : Bytes) (stream : List StreamEvent) (life : GroupLife)
-    → key_life earlier key ≡ Some stream → group_life earlier key group ≡ Some life → HasItsPlaces stream life
+EachHasAPlace history = AtEachTime history (λ past.
+    (key group : Bytes) (stream : List StreamEvent) (life : GroupLife)
+    → key_life past key ≡ Some stream → group_life past key group ≡ Some life → HasItsPlaces stream life)
