@@ -103,11 +103,11 @@ del_formed (k ∷ keys) y e = del_test (nat_lt 0 (length (k ∷ keys))) k keys y
 
 written_sure : (o : Option Id) (x : AddId) → written o ≡ Ok x → IsAddId x
 written_sure None x e = absurd cc
-written_sure (Some id_of_word) x e = written_test id_of_word x (is_same_id id_of_word zero_id) refl e
+written_sure (Some id) x e = written_test id x (is_same_id id zero_id) refl e
   where
-    written_test : (id_of_word : Id) (x : AddId) (b : Bool) → is_same_id id_of_word zero_id ≡ b → cond b (Err ZeroId) (Ok (add.Exact id_of_word)) ≡ Ok x → IsAddId x
-    written_test id_of_word x true h e = absurd cc
-    written_test id_of_word x false h e = let same : add.Exact id_of_word ≡ x = cc in subst IsAddId same (λ z. cc (h, ap (λ i. is_same_id i zero_id) z))
+    written_test : (id : Id) (x : AddId) (b : Bool) → is_same_id id zero_id ≡ b → cond b (Err ZeroId) (Ok (add.Exact id)) ≡ Ok x → IsAddId x
+    written_test id x true h e = absurd cc
+    written_test id x false h e = let same : add.Exact id ≡ x = cc in subst IsAddId same (λ z. cc (h, ap (λ i. is_same_id i zero_id) z))
 
 next_sure : (o : Option ℕ) (x : AddId) → next_in o ≡ Ok x → IsAddId x
 next_sure None x e = absurd cc
@@ -136,12 +136,12 @@ fields_some (name ∷ text ∷ words) y e = fields_test name text words y (nat_l
     fields_test name text words y true e = let same : record { name = name; value = text } ∷ pairs words ≡ y = cc in subst (λ (fields : List Field). fields ≢ []) same (has_first _ (pairs words))
     fields_test name text words y false e = absurd cc
 
-addition_formed : (key : List ℕ) (options : AddOptions) (id_of_word : AddId) → IsAddId id_of_word → (read : Result (List Field) Fault) → ((fields : List Field) → read ≡ Ok fields → fields ≢ []) → (y : Command) → addition key options id_of_word read ≡ Ok y → IsWellFormed y
-addition_formed key options id_of_word sure (Ok fields) some y e =
-    let made : Command = command.Add (record { key = key; make = options.make; trim = options.trim; id_of_word = id_of_word; fields = fields }) in
+addition_formed : (key : List ℕ) (options : AddOptions) (id : AddId) → IsAddId id → (read : Result (List Field) Fault) → ((fields : List Field) → read ≡ Ok fields → fields ≢ []) → (y : Command) → addition key options id read ≡ Ok y → IsWellFormed y
+addition_formed key options id sure (Ok fields) some y e =
+    let made : Command = command.Add (record { key = key; make = options.make; trim = options.trim; id = id; fields = fields }) in
     let same : made ≡ y = cc in subst IsWellFormed same (sure, some fields refl)
-addition_formed key options id_of_word sure (Err fault) some y e = absurd cc
+addition_formed key options id sure (Err fault) some y e = absurd cc
 
 pub xadd_formed : Always IsWellFormed xadd
 unfolding xadd
-xadd_formed = after_any IsWellFormed word _ (λ key. after_any IsWellFormed (many add_option no_add_options) _ (λ options. after_sure IsAddId IsWellFormed add_id _ add_id_is (λ id_of_word sure words y e. addition_formed key options id_of_word sure (fields words) (fields_some words) y e)))
+xadd_formed = after_any IsWellFormed word _ (λ key. after_any IsWellFormed (many add_option no_add_options) _ (λ options. after_sure IsAddId IsWellFormed add_id _ add_id_is (λ id sure words y e. addition_formed key options id sure (fields words) (fields_some words) y e)))

@@ -130,7 +130,7 @@ impl CommandName {
 /// Whether so many words are neither too few nor too many: at least the first number, and at most
 /// the second where there is one.
 pub(crate) fn allows(counts: (usize, Option<usize>), count: usize) -> bool
-    ensures { result ≡ fits word_counts count }
+    ensures { result ≡ fits counts count }
 {
     match counts.1 {
         Some(most) => counts.0 <= count && count <= most,

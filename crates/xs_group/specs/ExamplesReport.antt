@@ -71,8 +71,7 @@ pub record Rows : Type 0 where
       pending_of everything 40 150 10 None group
       ≡ told (at 1 0) (codes "a") 50 1 ∷ told (at 2 0) (codes "b") 40 2 ∷ []
   pub idle_for_longer : pending_of everything 41 150 10 None group ≡ told (at 1 0) (codes "a") 50 1 ∷ []
-  pub first_that_is_idle :
-      pending_of everything 40 150 1 None taken_over ≡ told (at 2 0) (codes "b") 40 1 ∷ []
+  pub first_that_is_idle : pending_of everything 40 150 1 None taken_over ≡ told (at 2 0) (codes "b") 40 1 ∷ []
   pub first_of_a_consumer_that_is_idle :
       pending_of everything 40 150 1 (Some (codes "a")) taken_over ≡ told (at 4 0) (codes "a") 50 1 ∷ []
   pub idle_in_a_range : pending_of (between (at 2 0) (at 3 0)) 40 150 10 (Some (codes "a")) group ≡ []

@@ -42,8 +42,7 @@ key_after event key = record key { stream = stream_after event key.stream }
 
 -- with the stream of a key after an event, if the key is there
 abbrev pub after_stream_event : Content → Bytes → StreamEvent → Option KeyState → Content
-after_stream_event content name event key =
-    option_map_or (λ k. insert content name (key_after event k)) key content
+after_stream_event content name event key = option_map_or (λ k. insert content name (key_after event k)) key content
 
 -- without these keys
 abbrev pub without_keys : List Bytes → Content → Content
@@ -103,10 +102,8 @@ abbrev pub content_after : Content → ℕ → Command → Content
 content_after content now (Add add) =
     let event = add_entry now add.id add.fields add.trim in
     after_stream_event content add.key event (key_or_new add.make (get content add.key))
-content_after content now (Delete name ids) =
-    after_stream_event content name (delete_entries ids) (get content name)
-content_after content now (TrimTo name trim) =
-    after_stream_event content name (trim_entries trim) (get content name)
+content_after content now (Delete name ids) = after_stream_event content name (delete_entries ids) (get content name)
+content_after content now (TrimTo name trim) = after_stream_event content name (trim_entries trim) (get content name)
 content_after content now (GroupCreate create) =
     after_create content create (key_or_new create.make (get content create.key))
 content_after content now (GroupDestroy name group) =

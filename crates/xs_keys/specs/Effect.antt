@@ -9,7 +9,7 @@ use Rattle.xs_keys.specs.Terms.{TrimTo, GroupCreate, GroupDestroy, ConsumerDelet
 use Rattle.xs_keys.specs.Terms.{DropKeys}
 use Rattle.xs_keys.specs.Life.{is_listed}
 use Rattle.xs_keys.specs.GroupLife.{read_group_of, reads_new_entries}
-use Rattle.xs_keys.specs.Event.{Bytes}
+use Rattle.xs_keys.specs.Event.{Bytes, is_same_group}
 
 -- the command deletes the entry
 abbrev pub deletes_entry : Command → Bytes → Id → Bool
@@ -38,12 +38,12 @@ has_noack _ = false
 
 -- it claims the entry in the group by its id
 abbrev pub claims_by_id : Command → Bytes → Bytes → Id → Bool
-claims_by_id (Claim c) key group x = (is_same_name key c.key && is_same_name group c.group) && has_id c.ids x
+claims_by_id (Claim c) key group x = is_same_group key group c.key c.group && has_id c.ids x
 claims_by_id _ key group x = false
 
 -- it scans the group for what it claims
 abbrev pub scans_group : Command → Bytes → Bytes → Bool
-scans_group (AutoClaim c) key group = is_same_name key c.key && is_same_name group c.group
+scans_group (AutoClaim c) key group = is_same_group key group c.key c.group
 scans_group _ key group = false
 
 -- it may claim the entry in the group, if that is pending and idle for long enough
@@ -59,23 +59,23 @@ consumer_of_command _ = None
 
 -- it acknowledges the entry in the group
 abbrev pub acknowledges_entry : Command → Bytes → Bytes → Id → Bool
-acknowledges_entry (Ack k g ids) key group x = (is_same_name key k && is_same_name group g) && has_id ids x
+acknowledges_entry (Ack k g ids) key group x = is_same_group key group k g && has_id ids x
 acknowledges_entry _ key group x = false
 
 -- it removes the consumer from the group
 abbrev pub removes_consumer : Command → Bytes → Bytes → Bytes → Bool
 removes_consumer (ConsumerDelete k g consumer) key group name =
-    (is_same_name key k && is_same_name group g) && is_same_name name consumer
+    is_same_group key group k g && is_same_name name consumer
 removes_consumer _ key group name = false
 
 -- it may add an entry to the stream, or make the group
 abbrev pub may_begin_job : Command → Bytes → Bytes → Bool
 may_begin_job (Add add) key group = is_same_name key add.key
-may_begin_job (GroupCreate create) key group = is_same_name key create.key && is_same_name group create.group
+may_begin_job (GroupCreate create) key group = is_same_group key group create.key create.group
 may_begin_job _ key group = false
 
 -- it ends the life of the group
 abbrev pub ends_group : Command → Bytes → Bytes → Bool
-ends_group (GroupDestroy k g) key group = is_same_name key k && is_same_name group g
+ends_group (GroupDestroy k g) key group = is_same_group key group k g
 ends_group (DropKeys keys) key group = is_listed keys key
 ends_group _ key group = false

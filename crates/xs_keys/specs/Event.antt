@@ -1,8 +1,8 @@
 -- The types that the model is written in: events and histories, and what keys and groups hold.
-use Rattle.std.specs.Prelude.{ℕ, List}
+use Rattle.std.specs.Prelude.{ℕ, Bool, List, ◌&&◌}
 use Rattle.xs_stream.specs.declared.id.Id.{Id}
 use Rattle.xs_stream.specs.declared.field.Field.{Field}
-use Rattle.xs_group.specs.GroupState.{RowState}
+use Rattle.xs_group.specs.GroupState.{RowState, is_same_name}
 use Rattle.xs_command.specs.declared.command.Command.{Command}
 
 -- a byte string: the name of a key, a group or a consumer
@@ -30,3 +30,7 @@ Entries = List (Id × List Field)
 -- the pending entries list of a group: rows by id, in the order of the ids
 abbrev pub PendingEntries : Type 0
 PendingEntries = List (Id × RowState)
+
+-- the same group of the same key
+abbrev pub is_same_group : Bytes → Bytes → Bytes → Bytes → Bool
+is_same_group key group other_key other_group = is_same_name key other_key && is_same_name group other_group

@@ -10,7 +10,7 @@ use Rattle.xs_keys.specs.GroupAsk.{GroupAsk, read_new, read_own, acknowledge, cr
 use Rattle.xs_keys.specs.GroupAsk.{auto_claim}
 use Rattle.xs_keys.specs.GroupEvent.{GroupEvent}
 use Rattle.xs_keys.specs.GroupEvent.{delivered_ids, cursor}
-use Rattle.xs_keys.specs.Event.{Bytes, History, event_moment, event_command}
+use Rattle.xs_keys.specs.Event.{Bytes, History, event_moment, event_command, is_same_group}
 
 -- a life of a group: the id that it starts at, and its events, newest first; ids above the start are the group's
 pub record GroupLife : Type 0 where
@@ -56,32 +56,24 @@ life_after_reads now present read key (one ∷ more) life =
 abbrev pub group_life_after :
     ℕ → Command → Bytes → Bytes → Bool → Option (List StreamEvent) → Option GroupLife → Option GroupLife
 group_life_after now (GroupCreate create) key group all_there stream life =
-    if is_same_name key create.key && is_same_name group create.group
-    then option_or life (new_life create stream)
-    else life
+    if is_same_group key group create.key create.group then option_or life (new_life create stream) else life
 group_life_after now (GroupDestroy k g) key group all_there stream life =
-    if is_same_name key k && is_same_name group g then None else life
+    if is_same_group key group k g then None else life
 group_life_after now (ConsumerCreate k g consumer) key group all_there stream life =
-    if is_same_name key k && is_same_name group g
-    then life_after_ask now (present_in stream) (create_consumer consumer) life
-    else life
+    if is_same_group key group k g then life_after_ask now (present_in stream) (create_consumer consumer) life else life
 group_life_after now (ConsumerDelete k g consumer) key group all_there stream life =
-    if is_same_name key k && is_same_name group g
-    then life_after_ask now (present_in stream) (delete_consumer consumer) life
-    else life
+    if is_same_group key group k g then life_after_ask now (present_in stream) (delete_consumer consumer) life else life
 group_life_after now (ReadGroup read) key group all_there stream life =
     if is_same_name group read.group && all_there
     then life_after_reads now (present_in stream) read key read.reads life
     else life
 group_life_after now (Ack k g ids) key group all_there stream life =
-    if is_same_name key k && is_same_name group g
-    then life_after_ask now (present_in stream) (acknowledge ids) life
-    else life
+    if is_same_group key group k g then life_after_ask now (present_in stream) (acknowledge ids) life else life
 group_life_after now (Claim c) key group all_there stream life =
-    if is_same_name key c.key && is_same_name group c.group
+    if is_same_group key group c.key c.group
     then life_after_ask now (present_in stream) (claim c.consumer c.rule c.ids) life else life
 group_life_after now (AutoClaim c) key group all_there stream life =
-    if is_same_name key c.key && is_same_name group c.group
+    if is_same_group key group c.key c.group
     then life_after_ask now (present_in stream) (auto_claim c.consumer c.rule c.start c.limit) life else life
 group_life_after now (DropKeys keys) key group all_there stream life = if is_listed keys key then None else life
 group_life_after now _ key group all_there stream life = life

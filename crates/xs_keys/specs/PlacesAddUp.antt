@@ -31,8 +31,7 @@ is_pending _ = false
 
 -- the ids ever added whose entries stand at such a place, in their order
 abbrev pub jobs_at : (Place → Bool) → List StreamEvent → GroupLife → List Id
-jobs_at at stream life =
-    filter (λ x. at (place_of life (ids_of (present_entries stream)) x)) (ids_of (added_in stream))
+jobs_at at stream life = filter (λ x. at (place_of life (ids_of (present_entries stream)) x)) (ids_of (added_in stream))
 
 -- what waits is what a read without COUNT delivers now; what is pending are the rows that XPENDING shows, of each
 -- consumer its own; and with what was dropped, handed out and settled they are all ids added past the start

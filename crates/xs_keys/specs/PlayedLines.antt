@@ -27,8 +27,7 @@ answered content now (Err fault) = (Error fault, content)
 -- the replies from a content on
 abbrev pub replies_to : Content → List PlayedLine → List Reply
 replies_to content [] = []
-replies_to content (x ∷ xs) =
-    let one = answered content x.now (reads (line x.words)) in one.0 ∷ replies_to one.1 xs
+replies_to content (x ∷ xs) = let one = answered content x.now (reads (line x.words)) in one.0 ∷ replies_to one.1 xs
 
 -- each line is answered so
 abbrev pub IsPlayed : List PlayedLine → Type 0

@@ -7,7 +7,7 @@ use Rattle.xs_keys.specs.Life.{StreamEvent, is_listed, key_life, top_of}
 use Rattle.xs_keys.specs.GroupLife.{GroupLife, group_life, present_in}
 use Rattle.xs_keys.specs.Effect.{deletes_entry, may_trim_entry, ends_group}
 use Rattle.xs_keys.specs.Life.{added_at}
-use Rattle.xs_keys.specs.Event.{Bytes, Event, History, Entries, event_command}
+use Rattle.xs_keys.specs.Event.{Bytes, Event, History, Entries, event_command, is_same_group}
 
 -- ---- entries
 
@@ -60,7 +60,7 @@ StartsAt (At id) added start = start ≡ id
 -- a command makes this group with this start
 abbrev pub MakesGroup : Command → Bytes → Bytes → Entries → Id → Type 0
 MakesGroup (GroupCreate create) key group added start =
-    ((is_same_name key create.key && is_same_name group create.group) ≡ true) × StartsAt create.start added start
+    (is_same_group key group create.key create.group ≡ true) × StartsAt create.start added start
 MakesGroup _ key group added start = ⊥
 
 -- a group comes by its XGROUP CREATE alone, and starts as that asks
@@ -73,7 +73,7 @@ GroupsAreCreated earlier e =
 -- an XGROUP CREATE of the group, whose key is there or may be made
 abbrev pub has_to_create : Command → Bytes → Bytes → Option (List StreamEvent) → Bool
 has_to_create (GroupCreate create) key group stream =
-    (is_same_name key create.key && is_same_name group create.group) && (create.make || is_some stream)
+    is_same_group key group create.key create.group && (create.make || is_some stream)
 has_to_create _ key group stream = false
 
 -- a group that is open stays so until a command ends it, and then it is gone; and one that has to be created is open
