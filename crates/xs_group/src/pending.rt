@@ -372,8 +372,6 @@ impl Pending {
             ≡ summary_of (record { cursor = zero_id; consumers = self.now.consumers; rows = self.now.rows })) }
     {
         let total = self.rows.len() as u64;
-        // The proof needs that the consumers are in the order of their names, which a call on the map tells it.
-        let _consumers = self.owners.len();
         let owners = reports::owner_counts(alloc, &self.rows, &self.owners)?;
         Ok(GroupSummary {
             total,

@@ -1,7 +1,4 @@
 //! Reports of what is pending (Redis, XPENDING).
-ghost use Rattle.std.specs.BTreeMap.{IsOrdered};
-ghost use Rattle.std.specs.Cmp.Lexicographic.{slice_cmp};
-ghost use Rattle.std.specs.Ordering.{nat_cmp};
 ghost use Rattle.std.specs.Prelude.{IfOk, false, ◌≡◌};
 ghost use Rattle.xs_group.specs.Indexes.{IsAgreed, names_of, rows_of};
 ghost use Rattle.xs_group.specs.Listing.{owners_told, listed_rows, rows_told};
@@ -78,8 +75,7 @@ pub(crate) fn owner_counts(
     _rows: &IdIndex,
     owners: &ConsumerIndex,
 ) -> Result<Vec<OwnerCount>, AllocError>
-    requires agreed { IsAgreed _rows.now.entries owners.now.entries }
-    requires ordered { IsOrdered (slice_cmp nat_cmp) owners.now }
+    requires { IsAgreed _rows.now.entries owners.now.entries }
     ensures { IfOk result (λ counts. counts.items
         ≡ owners_told (names_of owners.now.entries) (rows_of _rows.now.entries)) }
 {

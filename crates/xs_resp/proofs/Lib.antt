@@ -19,3 +19,4 @@ pub mod Decisions
 pub mod Cutting
 pub mod NextRequest
 pub mod Skipping
+pub mod Computing

@@ -1,4 +1,6 @@
 //! Examples of what the definitions say, with values from outside.
+#![tactic(auto, unfolding(crate::proofs::Computing::example_functions))]
+
 ghost use Rattle.xs_resp.specs.Examples.{Replies, FaultTexts, Wholeness};
 ghost use Rattle.xs_resp.specs.ExamplesRequests.{Requests, Undecided, Faults, Reader};
 ghost use Rattle.xs_resp.specs.ExamplesSpelling.{Spellings, Spelled, FaultKinds, Pieces, Stays};

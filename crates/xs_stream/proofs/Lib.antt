@@ -12,3 +12,4 @@ pub mod Past
 pub mod PlacesInLists
 pub mod WithinBlocks
 pub mod WithinEntries
+pub mod Computing

@@ -1,4 +1,6 @@
 //! Examples of what the definitions say, with values from outside.
+#![tactic(auto, unfolding(crate::proofs::Computing::example_functions))]
+
 ghost use Rattle.xs_stream.specs.Examples.{Order, Bounds, Numbers, Neighbours, Assigned, Texts, Ends};
 ghost use Rattle.xs_stream.specs.ExamplesKept.{Entries, Trims, Ranges};
 

@@ -21,7 +21,7 @@ loop-name-init c =
     let rows = (rows_of c.args._rows.now.entries).entries in
     let is = c.into_iter-name-iterator.ensures.into_iter_gives ∙ c.iter-name-items.ensures.rest in
     record {
-      held = subst (AreHeld owners.entries) (sym is) (held-all owners c.requires.ordered);
+      held = subst (AreHeld owners.entries) (sym is) (held-all owners c.iter-name-items.ensures.ordered);
       counted = λ i. c.in_ok-counts.ensures.items i ++ told rows (is i);
     }
 
@@ -31,7 +31,7 @@ loop-name-preserved-then-count-eq0 c =
     let name = c.in-Some.name.now in
     let steps : c.loop-name.name-iterator ≡ (name, c.in-Some.ids.now) ∷ c.next.new.self = c.in-Some.ensures.steps in
     let held = subst (AreHeld c.args.owners.now.entries) steps c.loop-name.invariant.held in
-    let own = owned-some c.args._rows.now.entries c.args.owners.now.entries name c.in-Some.ids.now c.requires.agreed held.0 c.len-count.ensures.ordered in
+    let own = owned-some c.args._rows.now.entries c.args.owners.now.entries name c.in-Some.ids.now c.requires held.0 c.len-count.ensures.ordered in
     let len : c.len-count.result ≡ length (owned_ids name rows) = c.len-count.ensures.len ∙ ap length own in
     let none : ltb 0 (length (owned_ids name rows)) ≡ false = grind (arith, nat_tests) in
     record {
@@ -46,7 +46,7 @@ loop-name-preserved c =
     let name = c.in-Some.name.now in
     let steps : c.loop-name.name-iterator ≡ (name, c.in-Some.ids.now) ∷ c.next.new.self = c.in-Some.ensures.steps in
     let held = subst (AreHeld c.args.owners.now.entries) steps c.loop-name.invariant.held in
-    let own = owned-some c.args._rows.now.entries c.args.owners.now.entries name c.in-Some.ids.now c.requires.agreed held.0 c.len-count.ensures.ordered in
+    let own = owned-some c.args._rows.now.entries c.args.owners.now.entries name c.in-Some.ids.now c.requires held.0 c.len-count.ensures.ordered in
     let len : c.len-count.result ≡ length (owned_ids name rows) = c.len-count.ensures.len ∙ ap length own in
     let some : ltb 0 (length (owned_ids name rows)) ≡ true = grind (arith, nat_tests) in
     let text = c.in_ok-consumer.ensures ∙ c.as_slice.ensures in
@@ -63,4 +63,4 @@ pub returns : goal.returns
 returns c =
     let rows = (rows_of c.args._rows.now.entries).entries in
     sym (append-nil c.loop-name.counts.items) ∙ ap (λ es. c.loop-name.counts.items ++ told rows es) (sym c.in-None.ensures.steps.0) ∙ c.loop-name.invariant.counted
-    ∙ ap (λ names. filter (λ owner. ltb 0 owner.count) (counts_of_owners names rows)) (sym (keys-names_of c.args.owners.now c.requires.ordered))
+    ∙ ap (λ names. filter (λ owner. ltb 0 owner.count) (counts_of_owners names rows)) (sym (keys-names_of c.args.owners.now c.iter-name-items.ensures.ordered))
