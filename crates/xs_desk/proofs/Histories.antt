@@ -15,7 +15,7 @@ use Rattle.xs_keys.specs.Content.{Content}
 use Rattle.xs_keys.specs.EachReply.{Follows, AreReplied}
 use Rattle.xs_keys.specs.Headline.{RunsOn}
 use Rattle.xs_keys.specs.Step.{Step}
-use Rattle.xs_keys.proofs.ConsistentContents.{content-lawful}
+use Rattle.xs_keys.proofs.ConsistentContents.{content-consistent}
 use Rattle.xs_keys.proofs.Runs.{step-follows, headline}
 use Rattle.xs_desk.specs.History.{ServedCall, LaneOf, Desk, of_lane, commands_of, answers_of, events_of, replies_of}
 use Rattle.xs_desk.specs.History.{CountUp, IsHistory}
@@ -32,14 +32,14 @@ answers-snoc past (x ∷ xs) [] mid e answer last run step = absurd run
 answers-snoc past (x ∷ xs) (a ∷ more) mid e answer last run step = (run.0, run.1, answers-snoc run.0 xs more mid e answer last run.2 step)
 
 pub runs-none : (old : Content) → RunsOn old [] [] old
-runs-none old = λ past is. (past, headline past [] [] past refl, is, content-lawful past old is)
+runs-none old = λ past is. (past, headline past [] [] past refl, is, content-consistent past old is)
 
 runs-snoc : (old : Content) (events : History) (answers : List Reply) (mid new : Content) (e : Event) (answer : Reply)
     → RunsOn old events answers mid → IsWellFormed e.1 → Step mid e.0 e.1 answer new → RunsOn old (events ++ e ∷ []) (answers ++ answer ∷ []) new
 runs-snoc old events answers mid new e answer runs formed step = λ past is.
     let here = runs past is in
     let next = step-follows here.0 mid new e.0 e.1 answer formed here.2 step in
-    (next.0, headline past (events ++ e ∷ []) (answers ++ answer ∷ []) next.0 (answers-snoc past events answers here.0 e answer next.0 here.1.replies next.2), next.1, content-lawful next.0 new next.1)
+    (next.0, headline past (events ++ e ∷ []) (answers ++ answer ∷ []) next.0 (answers-snoc past events answers here.0 e answer next.0 here.1.replies next.2), next.1, content-consistent next.0 new next.1)
 
 -- ---- the calls of a lane
 

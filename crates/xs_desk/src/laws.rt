@@ -1,6 +1,7 @@
 //! Laws of the histories of desks.
-ghost use Rattle.std.specs.Prelude.{◌≡◌, ◌++◌, ◌∷◌, [], ℕ, List};
-ghost use Rattle.xs_keys.specs.Event.{Event, History};
+ghost use Rattle.std.specs.Prelude.{◌≡◌, ◌++◌, [], ℕ, List};
+ghost use Rattle.xs_keys.specs.Event.{History};
+ghost use Rattle.xs_keys.specs.AtEach.{AtEach};
 ghost use Rattle.xs_command.specs.declared.command.Command.{Command};
 ghost use Rattle.xs_keys.specs.Headline.{AreWellFormed, Headline, LivesAreApart};
 ghost use Rattle.xs_keys.specs.JobMove.{EachMovesAlong};
@@ -23,6 +24,5 @@ pub fn history_grows_by_what_is_served()
 pub fn what_is_served_has_the_headline()
     ensures { (desk : Desk) (history : List ServedCall) → IsHistory history desk → (events : History)
         × Headline [] (events_of history) (replies_of history) events × AreWellFormed events
-        × ((later : History) (e : Event) (earlier : History) → events ≡ later ++ e ∷ earlier
-        → LivesAreApart earlier e × EachMovesAlong earlier e) }
+        × AtEach events (λ earlier e. LivesAreApart earlier e × EachMovesAlong earlier e) }
 {}
