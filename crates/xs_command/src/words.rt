@@ -49,6 +49,7 @@ impl<'a> Words<'a> {
     }
 
     /// How many words are left.
+    #[inline(always)]
     pub(crate) fn len(&self) -> usize
         ensures count { result ≡ length self.now }
         ensures small { result < 2 ^ 63 }
@@ -57,6 +58,7 @@ impl<'a> Words<'a> {
     }
 
     /// The first word, and those behind it.
+    #[inline(always)]
     fn split_first(&self) -> Option<(&'a [u8], Words<'a>)>
         ensures { MatchOption result (self.now ≡ []) (λ first. self.now ≡ first.0.now ∷ first.1) }
     {
@@ -70,6 +72,7 @@ impl<'a> Words<'a> {
     }
 
     /// The next word, and those behind it.
+    #[inline(always)]
     #[tactic(auto, unfolding(crate::specs::Words::word))]
     pub(crate) fn word(&self) -> Result<(Word<'a>, Words<'a>), Fault>
         ensures { result ≡ word self.now }
@@ -115,6 +118,7 @@ impl<'a> Words<'a> {
     }
 
     /// These words once more.
+    #[inline(always)]
     pub(crate) fn again(&self) -> Words<'a>
         ensures { result ≡ self.now }
     {
@@ -125,6 +129,7 @@ impl<'a> Words<'a> {
     }
 
     /// The next word as a name, copied.
+    #[inline(always)]
     pub(crate) fn name(&self, alloc: Global) -> Result<(Bytes, Words<'a>), Refusal>
         ensures { Gives result (word self.now) }
     {

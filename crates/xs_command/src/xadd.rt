@@ -107,6 +107,7 @@ fn parse_millis(text: &[u8]) -> Option<u64>
 }
 
 /// The next two words, a name and its value.
+#[inline(always)]
 #[tactic(auto, unfolding(crate::specs::Fields::field))]
 fn read_field<'a>(alloc: Global, words: &Words<'a>) -> Result<(Field, Words<'a>), Refusal>
     ensures { Gives result (field words.now) }

@@ -1,7 +1,4 @@
 //! The reader of requests, from bytes that come in pieces.
-ghost use Rattle.std.specs.Prelude.{◌≡◌, ◌≤◌, ◌-◌, length, drop, IsOk, IsErr, IfOk, OnOk, OnErr, Ok, Err};
-ghost use Rattle.xs_resp.specs.HeldBytes.{fed, front_of, is_partial, HasNext, Next, Ready, Skips};
-
 use crate::header::{Part, read_header};
 use crate::progress::{Progress, read_on};
 use crate::read_fault::{ReadFault, Wrong};
@@ -10,6 +7,7 @@ use crate::word::rest_of;
 use std::alloc::{AllocError, Global};
 use std::marker::Model;
 use xs_bytes::{Bytes, List};
+use xs_devices::{FillFault, Input, Source};
 
 /// Where a reader stands.
 #[derive(Clone, Copy, Debug, PartialEq, Eq)]
@@ -22,31 +20,32 @@ enum State {
     Failed(Wrong),
 }
 
-/// A reader of requests: bytes are fed to it in pieces, and whole requests are taken from it.
+/// A reader of requests: bytes are read into it in pieces, and whole requests are taken from it.
 /// A contract sees the bytes that it holds, or the fault with which it has failed.
 #[derive(Debug, Drop)]
 pub struct Requests {
     alloc: Global,
-    bytes: Vec<u8>,
-    start: usize,
+    input: Input,
     state: State,
 }
 
 impl Model for Requests {
-    ghost use Rattle.std.specs.Prelude.{◌≤◌, drop, length};
     ghost use Rattle.xs_resp.specs.HeldBytes.{Held};
 
     ghost Value = { Held };
 
     ghost use Rattle.xs_resp.specs.State.{held_in, IsState};
 
-    ghost view = { λ r. held_in r.state (drop r.start r.bytes.items) };
+    ghost view = { λ r. held_in r.state r.input };
 
-    ghost invariant = { λ r. (r.start ≤ length r.bytes.items) × IsState r.state (drop r.start r.bytes.items) };
+    ghost invariant = { λ r. IsState r.state r.input };
 }
 
 impl Requests {
-    ghost use Rattle.std.specs.Prelude.{◌≡◌, ◌≢◌, ℕ, List, [], None, IfOk, OnOk, OnErr, IsOk, IsErr, Ok};
+    ghost use Rattle.std.specs.Prelude.{◌≡◌, ◌≢◌, ◌+◌, ℕ, List, [], None, true, IfOk, OnErr, Ok, Err};
+    ghost use Rattle.std.specs.Io.KnownBytes.{Keeps};
+    ghost use Rattle.xs_devices.specs.declared.input.FillFault.{FillFault};
+    ghost use Rattle.xs_devices.specs.Device.{capped, Gave};
     ghost use Rattle.xs_resp.specs.HeldBytes.{fed, front_of, is_partial, HasNext, Next, Ready, Skips};
 
     /// A reader that holds nothing.
@@ -55,8 +54,7 @@ impl Requests {
     {
         Self {
             alloc,
-            bytes: Vec::new(alloc),
-            start: 0,
+            input: Input::new(alloc),
             state: State::Between,
         }
     }
@@ -67,8 +65,7 @@ impl Requests {
     {
         Ok(Self {
             alloc,
-            bytes: Vec::with_capacity(alloc, capacity)?,
-            start: 0,
+            input: Input::with_capacity(alloc, capacity)?,
             state: State::Between,
         })
     }
@@ -77,22 +74,23 @@ impl Requests {
     pub fn clear(&mut self)
         ensures { self.new ≡ Ok [] }
     {
-        self.bytes.clear();
-        self.bytes.shrink_to(KEPT);
-        self.start = 0;
+        self.input.clear();
         self.state = State::Between;
     }
 
-    /// Takes a piece in. A failed reader drops it, and takes no memory. Unchanged on refusal.
-    pub fn feed(&mut self, piece: &[u8]) -> Result<(), AllocError>
-        ensures ok { OnOk result (self.new ≡ fed self.old piece.now) }
-        ensures err { OnErr result (self.new ≡ self.old) }
-        ensures failed { IsErr self.old → IsOk result }
+    /// Reads bytes into the buffer of requests, and says how many.
+    ///
+    /// # Errors
+    /// The reader of requests is unchanged.
+    pub fn fill<R: Source>(&mut self, reader: &mut R) -> Result<usize, FillFault>
+        ensures ok { IfOk result (λ n. Gave (R.rest reader.old) (R.rest reader.new) (R.ended reader.new) n
+            (λ got. self.new ≡ fed self.old got)) }
+        ensures err { OnErr result ((self.new ≡ self.old) × Keeps (R.rest reader.old) (R.rest reader.new)) }
+        ensures memory { result ≡ Err FillFault.Memory → reader.new ≡ reader.old }
+        ensures read { result ≡ Err FillFault.Read → R.broken reader.new ≡ true }
+        ensures counted { result ≢ Err FillFault.Memory → R.calls reader.new ≡ capped (R.calls reader.old + 1) }
     {
-        if let State::Failed(_) = self.state {
-            return Ok(());
-        }
-        self.bytes.extend_from_slice(piece)
+        self.input.fill(reader)
     }
 
     /// Whether a whole request stands at the front. It takes no memory.
@@ -107,7 +105,7 @@ impl Requests {
             State::Within(progress) => Some(progress),
             State::Failed(wrong) => return Err(ReadFault::from(wrong)),
         };
-        match read_on(rest_of(self.bytes.as_slice(), self.start), progress) {
+        match read_on(self.input.bytes(), progress) {
             Ok(Some(reached)) => {
                 self.state = State::Within(reached);
                 Ok(reached.left == 0)
@@ -125,7 +123,7 @@ impl Requests {
         requires { HasNext self.now }
         ensures { result ≡ front_of self.now }
     {
-        let bytes = rest_of(self.bytes.as_slice(), self.start);
+        let bytes = self.input.bytes();
         let header = read_header(Part::Count, bytes).unwrap().unwrap();
         Request::new(header.number, rest_of(bytes, header.end))
     }
@@ -139,10 +137,8 @@ impl Requests {
             State::Within(progress) => Some(progress),
             State::Between | State::Failed(_) => None,
         };
-        let bytes = rest_of(self.bytes.as_slice(), self.start);
-        let reached = read_on(bytes, progress).unwrap().unwrap();
-        let end = self.start + reached.at;
-        self.start = end - make_room(&mut self.bytes, end);
+        let reached = read_on(self.input.bytes(), progress).unwrap().unwrap();
+        self.input.consume(reached.at);
         self.state = State::Between;
     }
 
@@ -173,37 +169,7 @@ impl Requests {
     {
         match self.state {
             State::Failed(_) => false,
-            State::Between | State::Within(_) => self.start < self.bytes.len(),
+            State::Between | State::Within(_) => !self.input.bytes().is_empty(),
         }
     }
-}
-
-/// How many bytes of memory a buffer keeps that a great request made large.
-const KEPT: usize = 262_144;
-
-/// Fewer bytes than these aren't worth a move of those behind them.
-const FEW: usize = 4_096;
-
-/// Drops the bytes before an index and gives back the memory that isn't needed any more, where
-/// all bytes are used up, or half of them and not only a few. Tells how many bytes went.
-fn make_room(bytes: &mut Vec<u8>, start: usize) -> usize
-    requires { start ≤ length bytes.old.items }
-    ensures used { result ≤ start }
-    ensures within { start - result ≤ length bytes.new.items }
-    ensures rest { drop (start - result) bytes.new.items ≡ drop start bytes.old.items }
-{
-    if start == bytes.len() {
-        bytes.clear();
-        bytes.shrink_to(KEPT);
-        return start;
-    }
-    if start < FEW {
-        return 0;
-    }
-    if start < bytes.len() - start {
-        return 0;
-    }
-    drop(bytes.drain(..start));
-    bytes.shrink_to(KEPT);
-    start
 }

@@ -1,10 +1,7 @@
 -- Connections: requests that were answered, and how a connection ends.
-use Rattle.std.proofs.Common.{◌≡◌, ℕ, ◌<◌, ◌==◌, Bool, false, List, [], ◌∷◌, ◌++◌, length, drop, Option, Some, None, Ok}
-use Rattle.std.proofs.Common.{inr, sym, ap, ◌∙◌, subst, refl, append_assoc, arith}
-use Rattle.std.proofs.lemmas.List.{nil_from_length}
-use Rattle.xs_resp.specs.declared.fault.Fault.TheVariants.{Memory}
+use Rattle.std.proofs.Common.{◌≡◌, ℕ, ◌<◌, ◌==◌, Bool, false, List, [], ◌∷◌, ◌++◌, length, drop, Option, Some, Ok, sym}
+use Rattle.std.proofs.Common.{ap, ◌∙◌, subst, refl, append_assoc, arith}
 use Rattle.xs_resp.specs.declared.reply.Reply.{Reply}
-use Rattle.xs_resp.specs.declared.reply.Reply.TheVariants.{Error}
 use Rattle.xs_resp.specs.Grammar.{Spells, SpellsAll}
 use Rattle.xs_resp.specs.Reading.{Found, request}
 use Rattle.xs_resp.specs.HeldBytes.{Held, Next}

@@ -1,5 +1,5 @@
 -- How a connection goes on, and how it ends.
-use Rattle.std.proofs.Common.{◌≡◌, ℕ, ◌+◌, ◌<◌, Bool, true, false, ◌||◌, List, [], ◌∷◌, ◌++◌, length, take, drop}
+use Rattle.std.proofs.Common.{◌≡◌, ℕ, ◌+◌, ◌<◌, ◌≤◌, Bool, true, false, ◌||◌, List, [], ◌∷◌, ◌++◌, length, take, drop}
 use Rattle.std.proofs.Common.{Result, Ok, Err, inl, inr, sym, ap, ◌∙◌, subst, refl, append_assoc, arith, length-append}
 use Rattle.std.proofs.Common.{length-drop}
 use Rattle.std.proofs.lemmas.List.{append-nil, take-append-drop}
@@ -10,6 +10,7 @@ use Rattle.xs_resp.specs.declared.reply.Reply.TheVariants.{Simple, Error, Int, B
 use Rattle.xs_resp.specs.declared.fault.Fault.TheVariants.{Protocol}
 use Rattle.xs_resp.specs.declared.read_fault.Wrong.{Wrong}
 use Rattle.xs_resp.specs.ReplyText.{text}
+use Rattle.xs_resp.specs.HeldBytes.{Held, fed, held_length}
 use Rattle.xs_resp.specs.LeftToWrite.{bytes_left}
 use Rattle.xs_resp.specs.Grammar.{FaultIn, IsOpen}
 use Rattle.xs_command.specs.declared.command.Command.{Command}
@@ -18,7 +19,7 @@ use Rattle.xs_server.specs.declared.connections.ending.Ending.{Ending}
 use Rattle.xs_server.specs.declared.connections.ending.Ending.TheVariants as ending
 use Rattle.xs_server.specs.declared.connections.ending.ServeFault.{ServeFault}
 use Rattle.xs_server.specs.declared.connections.ending.ServeFault.TheVariants as serve_fault
-use Rattle.xs_server.specs.Device.{capped}
+use Rattle.xs_devices.specs.Device.{capped}
 use Rattle.xs_server.specs.Machine.{itself, reader, writer, EndsOncePaid}
 use Rattle.xs_server.specs.Exchange.{Exchange, AreAnswered, texts, is_quit}
 use Rattle.xs_server.specs.Serve.{WrittenTo, IsPart, PortFails, Ends, ServesConnection}
@@ -71,6 +72,16 @@ some-text NullBulk = omega arith
 some-text (Array items) = omega arith
 some-text NullArray = omega arith
 
+-- ---- what is held
+
+pub fed-none : (held : Held) → fed held [] ≡ held
+fed-none (Ok bytes) = ap Ok (append-nil bytes)
+fed-none (Err wrong) = refl
+
+pub fed-length : (held : Held) (got : List ℕ) → held_length (fed held got) ≤ held_length held + length got
+fed-length (Ok bytes) got = omega (arith, length-append bytes got)
+fed-length (Err wrong) got = omega arith
+
 -- ---- how a connection goes on
 
 module _ {P : Type 0} (Replies : P → Command → Reply → P → Type 0) where
@@ -96,6 +107,29 @@ module _ {P : Type 0} (Replies : P → Command → Reply → P → Type 0) where
     holds = s.holds;
     written = subst (λ (p : List ℕ). WrittenTo s.exchanges p sent connection.replies) (part-none s.last s.part (bytes_left connection.owed) s.owes few) s.written;
   }
+
+  -- more is read
+  pub stands-fed : (old new : P) (read sent got : List ℕ) (connection later : Connection) → ConnectionStands Replies old new read sent connection → later.requests ≡ fed connection.requests got
+      → bytes_left later.owed ≡ bytes_left connection.owed → later.replies ≡ connection.replies → ConnectionStands Replies old new (read ++ got) sent later
+  stands-fed old new read sent got connection later s is same counted =
+      let a = s.answered in
+      record {
+        exchanges = s.exchanges;
+        last = s.last;
+        rest = s.rest ++ got;
+        part = s.part;
+        answered =
+            record {
+              requests = a.requests;
+              front = a.front;
+              bytes_are = ap (λ b. b ++ got) a.bytes_are ∙ append_assoc a.front s.rest got;
+              spelled = a.spelled;
+              run = a.run;
+            };
+        holds = is ∙ ap (λ h. fed h got) s.holds;
+        written = subst (λ (n : ℕ). WrittenTo s.exchanges s.part sent n) (sym counted) s.written;
+        owes = subst (λ (o : List ℕ). Owes s.last s.part o) (sym same) s.owes;
+      }
 
   -- a part of what is owed is written
   pub stands-on : (old new : P) (read sent front : List ℕ) (connection later : Connection) → ConnectionStands Replies old new read sent connection → bytes_left connection.owed ≡ front ++ bytes_left later.owed → 0 < length (bytes_left later.owed)
@@ -192,19 +226,11 @@ module _ {P : Type 0} (Replies : P → Command → Reply → P → Type 0) (Fail
             (serves-so (Err (serve_fault.Write replies)) old new new read (sent ++ part) rest exchanges a (refl, inr (wrong, part, stands, written, lacks)), refl, λ told e. cc),
       )
 
-  -- memory ran out for what was read
-  pub memory-ends : (old new : P) (read sent piece : List ℕ) (connection : Connection) (s : Settled Replies old new read sent connection)
-      → ServesBy Replies Fails gone itself (Err (serve_fault.Memory connection.replies)) old (read ++ piece) sent new
-  memory-ends old new read sent piece connection s =
-      let a = s.answered in
-      let more : AreAnswered Replies old new (read ++ piece) s.exchanges (s.rest ++ piece) = record {
-        requests = a.requests;
-        front = a.front;
-        bytes_are = ap (λ b. b ++ piece) a.bytes_are ∙ append_assoc a.front s.rest piece;
-        spelled = a.spelled;
-        run = a.run;
-      } in
-      (serves-so (Err (serve_fault.Memory connection.replies)) old new new (read ++ piece) sent (s.rest ++ piece) s.exchanges more (refl, s.written), refl, λ told e. cc)
+  -- memory ran out for more bytes
+  pub memory-ends : (old new : P) (read sent : List ℕ) (connection : Connection) (s : Settled Replies old new read sent connection)
+      → ServesBy Replies Fails gone itself (Err (serve_fault.Memory connection.replies)) old read sent new
+  memory-ends old new read sent connection s =
+      (serves-so (Err (serve_fault.Memory connection.replies)) old new new read sent s.rest s.exchanges s.answered (refl, s.written), refl, λ told e. cc)
 
   -- the port answers no more
   pub port-ends : (old mid new : P) (read sent : List ℕ) (connection : Connection) (s : Settled Replies old mid read sent connection) → PortFails Fails mid new s.rest → gone new ≡ true

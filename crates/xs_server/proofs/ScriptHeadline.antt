@@ -8,7 +8,7 @@ use Rattle.xs_command.specs.declared.command.Command.{Command}
 use Rattle.xs_command.proofs.FormedReads.{given_formed}
 use Rattle.xs_keys.specs.Event.{History}
 use Rattle.xs_keys.specs.Content.{Content, IsContent}
-use Rattle.xs_server.specs.Device.{capped}
+use Rattle.xs_devices.specs.Device.{capped}
 use Rattle.xs_server.specs.Line.{line_of}
 use Rattle.xs_server.specs.Answering.{Answered, IsAnswer}
 use Rattle.xs_keys.specs.EachReply.{Follows, AreReplied}

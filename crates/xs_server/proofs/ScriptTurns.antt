@@ -14,7 +14,7 @@ use Rattle.xs_server.specs.declared.script.machine.Script.{Script as Machine}
 use Rattle.xs_server.specs.declared.script.fault.ScriptFault.{ScriptFault}
 use Rattle.xs_server.specs.declared.script.fault.ScriptFault.TheVariants as fault
 use Rattle.xs_server.specs.Answering.{IsAnswer}
-use Rattle.xs_server.specs.Device.{capped}
+use Rattle.xs_devices.specs.Device.{capped}
 use Rattle.xs_server.specs.Line.{is_line_end, script_lines, line_of, line_limit}
 use Rattle.xs_server.specs.Machine.{Cause, input, reader, writer}
 use Rattle.xs_server.specs.Script.{Script, IsScript, with_end}

@@ -1,4 +1,3 @@
-pub mod Device
 pub mod Machine
 pub mod Line
 pub mod Answering

@@ -3,7 +3,7 @@ use Rattle.std.specs.Prelude.{◌≡◌, ℕ, ◌+◌, ◌<◌, ◌⊎◌, Bool,
 use Rattle.std.specs.Io.KnownBytes.{IsAtEnd}
 use Rattle.xs_server.specs.declared.machines.machine.Turn.{Turn}
 use Rattle.xs_server.specs.declared.machines.machine.Turn.TheVariants.{Ends}
-use Rattle.xs_server.specs.Device.{capped}
+use Rattle.xs_devices.specs.Device.{capped}
 
 -- why a machine is driven no further
 pub data Cause : Type 0 where

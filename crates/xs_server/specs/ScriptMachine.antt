@@ -3,13 +3,12 @@ use Rattle.std.specs.Prelude.{◌≡◌, ℕ, ◌+◌, ◌<◌, ◌≤◌, true,
 use Rattle.std.specs.Prelude.{Result, Ok, Err}
 use Rattle.std.specs.Io.KnownBytes.{IsAtEnd}
 use Rattle.std.specs.List.{flat_map, list_any}
-use Rattle.xs_command.specs.declared.command.Command.{Command}
 use Rattle.xs_keys.specs.Event.{History}
 use Rattle.xs_keys.specs.Content.{Content, IsContent}
 use Rattle.xs_server.specs.declared.script.machine.Script.{Script as Machine}
 use Rattle.xs_server.specs.declared.script.fault.ScriptFault.{ScriptFault}
 use Rattle.xs_server.specs.declared.script.fault.ScriptFault.TheVariants.{Line, Read, Write, Memory}
-use Rattle.xs_server.specs.Device.{capped}
+use Rattle.xs_devices.specs.Device.{capped}
 use Rattle.xs_server.specs.Line.{is_line_end, script_lines, line_of, line_limit}
 use Rattle.xs_server.specs.Machine.{Cause, itself, input, reader, writer}
 use Rattle.xs_server.specs.Script.{Script, IsScript, with_end, AreLines}

@@ -13,7 +13,7 @@ use Rattle.xs_server.specs.declared.connections.ending.Ending.{Ending}
 use Rattle.xs_server.specs.declared.connections.ending.Ending.TheVariants as ending
 use Rattle.xs_server.specs.declared.connections.ending.ServeFault.{ServeFault}
 use Rattle.xs_server.specs.declared.connections.ending.ServeFault.TheVariants as fault
-use Rattle.xs_server.specs.Device.{capped}
+use Rattle.xs_devices.specs.Device.{capped}
 use Rattle.xs_server.specs.Machine.{Cause, itself, input, reader, writer}
 use Rattle.xs_server.specs.Exchange.{Exchange, AreAnswered, texts, is_quit, quits}
 

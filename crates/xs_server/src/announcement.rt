@@ -1,7 +1,7 @@
 //! That the server listens, said once.
-use crate::devices::device::Sink;
 use crate::report::report_ready;
 use std::sync::{Mutex, Wait};
+use xs_devices::Sink;
 
 /// The line that says on which port the server listens. Whoever serves first writes it, so it comes once every thread
 /// has started.

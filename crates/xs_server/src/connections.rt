@@ -1,6 +1,5 @@
 //! Connections: requests in, replies out, over any port.
 pub mod answering;
-pub mod buffers;
 pub mod connection;
 pub mod ending;
 pub mod reserve;

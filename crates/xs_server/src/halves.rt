@@ -2,12 +2,12 @@
 //! the reader waits, and where the writer is dropped. A gate makes it once, for all its connections.
 ghost use Rattle.std.specs.Prelude.{◌≤◌, length, IfOk};
 
-use crate::devices::device::{FromRead, ToWrite};
 use std::alloc::{AllocError, Global};
 use std::io;
 use std::io::{ErrorKind, Read, Write};
 use std::net::TcpStream;
 use std::sync::{Arc, Mutex};
+use xs_devices::{FromRead, ToWrite};
 
 /// How many bytes of replies are gathered.
 const ROOM: usize = 65_536;

@@ -5,7 +5,6 @@
 mod announcement;
 mod command_line;
 mod connections;
-mod devices;
 mod halves;
 mod lines;
 mod machines;
@@ -17,11 +16,11 @@ mod wall_clock;
 mod work;
 
 use command_line::{Asked, read_command_line};
-use devices::device::{FromRead, ToWrite};
 use report::report_memory;
 use script::command::run_and_report;
 use serve_command::serve_and_report;
 use std::process::ExitCode;
+use xs_devices::{FromRead, ToWrite};
 
 fn main(rt: HostRuntime) -> ExitCode {
     let mut errors = ToWrite::new(rt.stderr());

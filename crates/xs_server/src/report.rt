@@ -5,12 +5,11 @@ ghost use Rattle.xs_server.specs.Report.{status_of, script_fault_text, memory_te
 ghost use Rattle.xs_server.specs.Report.{work_text};
 ghost use Rattle.xs_server.specs.Report.{Says, ready_text, ReportsWork};
 
-use crate::devices::device::Sink;
-use crate::devices::sending::write_all;
 use crate::script::fault::ScriptFault;
 use crate::work::fault::WorkFault;
 use itoa::Buffer;
 use xs_desk::{DeskError, Summary};
+use xs_devices::{Sink, write_all};
 
 /// Writes a text, up to a fault of the writer, and says whether it is whole.
 fn say<W: Sink>(errors: &mut W, text: &[u8]) -> bool

@@ -6,7 +6,6 @@ ghost use Rattle.xs_server.specs.WorkOutcome.{IsClosed};
 
 use crate::announcement::Announcement;
 use crate::command_line::ServeOptions;
-use crate::devices::device::Sink;
 use crate::report::{report_listening, report_memory, report_worked};
 use crate::tcp::TcpGate;
 use crate::wall_clock::WallClock;
@@ -17,6 +16,7 @@ use std::net::{Ipv4Addr, Net, TcpListener, TcpStream};
 use std::sync::{Arc, Wait};
 use std::thread::Threads;
 use std::time::Clock;
+use xs_devices::Sink;
 
 /// How many places the rings of a lane have.
 const DEPTH: usize = 16;

@@ -1,6 +1,5 @@
 //! Connections over TCP.
 use crate::announcement::Announcement;
-use crate::devices::device::{FromRead, Sink, ToWrite};
 use crate::halves::{HalvesMemory, Incoming, Outgoing};
 use crate::work::gate::{Gate, GateFault};
 use std::alloc::{AllocError, Global};
@@ -9,6 +8,7 @@ use std::net::{TcpListener, TcpStream};
 use std::sync::{Arc, Wait};
 use std::thread;
 use std::time::{Clock, Duration};
+use xs_devices::{FromRead, Sink, ToWrite};
 
 /// Linux's numbers of the errors of `accept` that a listener gives for good: its descriptor is closed, it doesn't
 /// listen any more, and its descriptor is another file's.

@@ -1,11 +1,11 @@
 //! Scripts whose devices give and take a byte at a time and fail at a chosen call.
 use super::*;
-use crate::devices::device::{FromRead, ToWrite};
 use crate::report::report_script;
 use crate::script::fault::ScriptFault;
 use crate::script::run::run_script;
 use std::alloc::{AllocError, Global};
 use std::test::Fail;
+use xs_devices::{FromRead, ToWrite};
 use xs_fakes::{Pieces, Sips};
 
 /// A reader that gives a byte at a time.

@@ -12,6 +12,7 @@ use crate::machines::machine::{Machine, Turn};
 use std::alloc::{AllocError, Global};
 use std::sync::Wait;
 use xs_desk::Port;
+use xs_devices::{FillFault, Source};
 use xs_resp::{Encoder, Fault, Reply, Requests};
 
 /// A connection: the bytes that came in and aren't taken yet, and the reply that it owes.
@@ -109,13 +110,8 @@ impl<P: Port, T: Wait> Machine<P, T> for Connection {
         Turn::Goes
     }
 
-    fn feed(&mut self, piece: &[u8]) -> Result<(), Result<Ending, ServeFault>> {
-        match self.requests.feed(piece) {
-            Ok(()) => Ok(()),
-            Err(_) => Err(Err(ServeFault::Memory {
-                replies: self.replies,
-            })),
-        }
+    fn fill<R: Source>(&mut self, reader: &mut R) -> Result<usize, FillFault> {
+        self.requests.fill(reader)
     }
 
     fn end(&mut self, _port: &mut P) -> Result<Ending, ServeFault> {
@@ -128,6 +124,12 @@ impl<P: Port, T: Wait> Machine<P, T> for Connection {
 
     fn read_error(&self) -> Result<Ending, ServeFault> {
         Err(ServeFault::Read {
+            replies: self.replies,
+        })
+    }
+
+    fn memory_error(&self) -> Result<Ending, ServeFault> {
+        Err(ServeFault::Memory {
             replies: self.replies,
         })
     }

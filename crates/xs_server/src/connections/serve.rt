@@ -1,17 +1,17 @@
 //! A connection over a reader and a writer.
 ghost use Rattle.std.specs.Prelude.{◌≡◌, ◌+◌, ◌≤◌, List, ℕ, Err, true};
 ghost use Rattle.std.specs.Io.KnownBytes.{Appends, Consumes};
-ghost use Rattle.xs_server.specs.Device.{capped};
+ghost use Rattle.xs_devices.specs.Device.{capped};
 ghost use Rattle.xs_server.specs.Machine.{HasCause, reads_limit};
 ghost use Rattle.xs_server.specs.Serve.{ServesConnection, cause_of_connection};
 
-use crate::connections::buffers::Buffers;
+use crate::connections::connection::Connection;
 use crate::connections::ending::{Ending, ServeFault};
-use crate::devices::device::{Sink, Source};
 use crate::machines::drive::drive;
 use std::alloc::Global;
 use std::sync::Wait;
 use xs_desk::Port;
+use xs_devices::{Sink, Source};
 
 /// Serves a connection: each whole request is asked of the port, in order, and its reply is written whole before the
 /// next request is taken. It reads on only where no request is whole.
@@ -34,16 +34,16 @@ pub fn serve<R: Source, W: Sink, P: Port, T: Wait>(
         (R.calls reader.old) (R.calls reader.new) (W.broken writer.new) }
     ensures gone { (replies : ℕ) → result ≡ Err (ServeFault.Port replies) → P.gone port.new ≡ true }
 {
-    let Ok(mut buffers) = Buffers::new(alloc) else {
+    let Ok(mut connection) = Connection::new(alloc) else {
         return Err(ServeFault::Memory { replies: 0 });
     };
-    serve_with(rt, &mut buffers, reader, writer, port)
+    serve_with(rt, &mut connection, reader, writer, port)
 }
 
 /// Serves a connection as `serve` does, with the memory of those before.
 pub fn serve_with<R: Source, W: Sink, P: Port, T: Wait>(
     rt: &T,
-    buffers: &mut Buffers,
+    connection: &mut Connection,
     reader: &mut R,
     writer: &mut W,
     port: &mut P,
@@ -56,13 +56,6 @@ pub fn serve_with<R: Source, W: Sink, P: Port, T: Wait>(
         (R.calls reader.old) (R.calls reader.new) (W.broken writer.new) }
     ensures gone { (replies : ℕ) → result ≡ Err (ServeFault.Port replies) → P.gone port.new ≡ true }
 {
-    buffers.connection.clear();
-    drive(
-        rt,
-        reader,
-        writer,
-        &mut buffers.chunk,
-        &mut buffers.connection,
-        port,
-    )
+    connection.clear();
+    drive(rt, reader, writer, connection, port)
 }

@@ -7,10 +7,10 @@ ghost use Rattle.xs_server.specs.Alone.{RunsAlone};
 
 use crate::connections::ending::{Ending, ServeFault};
 use crate::connections::serve::serve;
-use crate::devices::device::{Sink, Source};
 use std::alloc::Global;
 use std::sync::Wait;
 use xs_desk::{Alone, Port};
+use xs_devices::{Sink, Source};
 use xs_keys::Clock;
 
 /// Serves a connection by a keyspace alone: the commands that were asked, at the moments of its clock, are a run of the

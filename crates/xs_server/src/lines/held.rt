@@ -1,33 +1,32 @@
 //! The bytes of a script that came in and aren't taken yet.
-ghost use Rattle.std.specs.Prelude.{◌≡◌, ◌+◌, ◌<◌, ◌≤◌, ◌++◌, ◌∷◌, [], false, length, take, drop, OnOk, OnErr};
-ghost use Rattle.std.specs.Prelude.{MatchOption};
+ghost use Rattle.std.specs.Prelude.{◌≡◌, ◌≢◌, ◌+◌, ◌<◌, ◌≤◌, ◌++◌, ◌∷◌, [], true, false, length, take, drop};
+ghost use Rattle.std.specs.Prelude.{IfOk, OnErr, MatchOption, Err};
 ghost use Rattle.std.specs.List.{list_any};
 ghost use Rattle.xs_server.specs.Line.{is_line_end};
 
 use memchr::memchr;
-use std::alloc::{AllocError, Global};
+use std::alloc::Global;
 use std::marker::Model;
+use xs_devices::{FillFault, Input, Source};
 
 /// Bytes that came in and aren't taken yet. A contract sees them as a list.
 #[derive(Drop)]
 pub struct HeldBytes {
-    bytes: Vec<u8>,
-    start: usize,
+    input: Input,
     // No line ends before this index, so that no byte is looked at twice for a line's end.
     searched: usize,
 }
 
 impl Model for HeldBytes {
-    ghost use Rattle.std.specs.Prelude.{ℕ, ◌≡◌, ◌-◌, ◌≤◌, false, List, take, drop, length};
+    ghost use Rattle.std.specs.Prelude.{ℕ, ◌≡◌, ◌≤◌, false, List, take, length};
     ghost use Rattle.std.specs.List.{list_any};
     ghost use Rattle.xs_server.specs.Line.{is_line_end};
 
     ghost Value = { List ℕ };
 
-    ghost view = { λ h. drop h.start h.bytes.items };
+    ghost view = { λ h. h.input };
 
-    ghost invariant = { λ h. (h.start ≤ h.searched) × (h.searched ≤ length h.bytes.items)
-        × (list_any is_line_end (take (h.searched - h.start) (drop h.start h.bytes.items)) ≡ false) };
+    ghost invariant = { λ h. (h.searched ≤ length h.input) × (list_any is_line_end (take h.searched h.input) ≡ false) };
 }
 
 /// Where the first line of some bytes ends, without its LF.
@@ -40,13 +39,16 @@ fn first_line_end(bytes: &[u8]) -> Option<usize>
 }
 
 impl HeldBytes {
+    ghost use Rattle.std.specs.Io.KnownBytes.{Keeps};
+    ghost use Rattle.xs_devices.specs.declared.input.FillFault.{FillFault};
+    ghost use Rattle.xs_devices.specs.Device.{capped, Gave};
+
     /// Nothing. It takes no memory.
     pub fn new(alloc: Global) -> Self
         ensures { result ≡ [] }
     {
         Self {
-            bytes: Vec::new(alloc),
-            start: 0,
+            input: Input::new(alloc),
             searched: 0,
         }
     }
@@ -55,7 +57,7 @@ impl HeldBytes {
     pub fn bytes(&self) -> &[u8]
         ensures { result.now ≡ self.now }
     {
-        &self.bytes[self.start..]
+        self.input.bytes()
     }
 
     /// Where the first line ends, without its LF.
@@ -65,26 +67,29 @@ impl HeldBytes {
             × (self.new ≡ take at self.new ++ 10 ∷ drop (at + 1) self.new)) }
         ensures same { self.new ≡ self.old }
     {
-        let searched = self.searched - self.start;
-        let (_, rest) = self.bytes().split_at(searched);
+        let (_, rest) = self.bytes().split_at(self.searched);
         match first_line_end(rest) {
-            Some(at) => Some(searched + at),
+            Some(at) => Some(self.searched + at),
             None => {
-                self.searched = self.bytes.len();
+                self.searched = self.bytes().len();
                 None
             }
         }
     }
 
-    /// Takes a piece in. Unchanged on refusal.
-    pub fn feed(&mut self, piece: &[u8]) -> Result<(), AllocError>
-        ensures ok { OnOk result (self.new ≡ self.old ++ piece.now) }
-        ensures err { OnErr result (self.new ≡ self.old) }
+    /// Reads bytes in, and says how many.
+    ///
+    /// # Errors
+    /// The bytes are unchanged.
+    pub fn fill<R: Source>(&mut self, reader: &mut R) -> Result<usize, FillFault>
+        ensures ok { IfOk result (λ n. Gave (R.rest reader.old) (R.rest reader.new) (R.ended reader.new) n
+            (λ got. self.new ≡ self.old ++ got)) }
+        ensures err { OnErr result ((self.new ≡ self.old) × Keeps (R.rest reader.old) (R.rest reader.new)) }
+        ensures memory { result ≡ Err FillFault.Memory → reader.new ≡ reader.old }
+        ensures read { result ≡ Err FillFault.Read → R.broken reader.new ≡ true }
+        ensures counted { result ≢ Err FillFault.Memory → R.calls reader.new ≡ capped (R.calls reader.old + 1) }
     {
-        self.searched -= self.start;
-        drop(self.bytes.drain(..self.start));
-        self.start = 0;
-        self.bytes.extend_from_slice(piece)
+        self.input.fill(reader)
     }
 
     /// Uses up the first bytes.
@@ -92,7 +97,7 @@ impl HeldBytes {
         requires { count ≤ length self.old }
         ensures { self.new ≡ drop count self.old }
     {
-        self.start += count;
-        self.searched = self.start;
+        self.input.consume(count);
+        self.searched = 0;
     }
 }

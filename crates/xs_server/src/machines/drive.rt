@@ -2,13 +2,11 @@
 ghost use Rattle.std.specs.Prelude.{◌≡◌, ◌+◌, ◌*◌, ◌<◌, ◌≤◌, ◌⊎◌, ◌++◌, [], Bool, ℕ, List, true, length, take};
 ghost use Rattle.std.specs.Prelude.{OnOk, OnErr, IfErr, MatchResult};
 ghost use Rattle.std.specs.Io.KnownBytes.{Appends, Consumes};
-ghost use Rattle.xs_server.specs.Device.{capped};
+ghost use Rattle.xs_devices.specs.Device.{capped};
 ghost use Rattle.xs_server.specs.Machine.{Cause, HasCause, EndsOncePaid, reads_limit};
 
-use crate::devices::chunk::Chunk;
-use crate::devices::device::{Sink, Source};
-use crate::devices::sending::write_all;
 use crate::machines::machine::{Machine, Turn};
+use xs_devices::{FillFault, Sink, Source, write_all};
 
 /// How often a reader is asked.
 const READS: u64 = 1_000_000_000_000;
@@ -18,7 +16,6 @@ fn come<S, T, M: Machine<S, T>, R: Source>(
     rt: &T,
     reader: &mut R,
     left: &mut u64,
-    chunk: &mut Chunk,
     machine: &mut M,
     service: &mut S,
 ) -> Result<(), M::End>
@@ -42,17 +39,19 @@ fn come<S, T, M: Machine<S, T>, R: Source>(
     if *left == 0 {
         return Err(machine.read_error());
     }
-    *left -= 1;
-    let Ok(count) = chunk.fill(reader) else {
-        return Err(machine.read_error());
+    let count = match machine.fill(reader) {
+        Ok(count) => count,
+        Err(FillFault::Memory) => return Err(machine.memory_error()),
+        Err(FillFault::Read) => {
+            *left -= 1;
+            return Err(machine.read_error());
+        }
     };
+    *left -= 1;
     if count == 0 {
         return Err(machine.end(service));
     }
-    match machine.feed(chunk.bytes()) {
-        Ok(()) => Ok(()),
-        Err(end) => Err(end),
-    }
+    Ok(())
 }
 
 /// Writes the front of what the machine owes. Its end is the error.
@@ -125,13 +124,12 @@ fn send_last<S, T, M: Machine<S, T>, W: Sink>(
     end
 }
 
-/// Drives a machine to its end: its turns are taken one after the other, it is fed what was read where it waits, and
+/// Drives a machine to its end: its turns are taken one after the other, bytes are read into it where it waits, and
 /// what it owes is written once there is enough, and all of it at its end.
 pub fn drive<S, T, M: Machine<S, T>, R: Source, W: Sink>(
     rt: &T,
     reader: &mut R,
     writer: &mut W,
-    chunk: &mut Chunk,
     machine: &mut M,
     service: &mut S,
 ) -> M::End
@@ -146,7 +144,7 @@ pub fn drive<S, T, M: Machine<S, T>, R: Source, W: Sink>(
 {
     let mut left = READS;
     'turns: loop {
-        match come(rt, reader, &mut left, chunk, machine, service) {
+        match come(rt, reader, &mut left, machine, service) {
             Ok(()) => {}
             Err(end) => return send_last(writer, machine, end),
         }

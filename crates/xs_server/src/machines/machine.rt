@@ -1,4 +1,5 @@
-//! What is driven over a reader and a writer, and has no IO of its own.
+//! What is driven over a reader and a writer.
+use xs_devices::{FillFault, Source};
 
 /// What a turn of a machine comes to.
 #[derive(Clone, Copy, Debug, PartialEq, Eq)]
@@ -11,11 +12,15 @@ pub enum Turn<E> {
     Ends(E),
 }
 
-/// A machine: bytes are fed to it, each of its turns may ask a service of type `S`, and it owes bytes, which are paid
+/// A machine: bytes are read into it, each of its turns may ask a service of type `S`, and it owes bytes, which are paid
 /// piece by piece. What its turns need to wait, if they may, is of type `T`. A machine that has ended owes its
 /// last bytes, and has no further turn.
 pub trait Machine<S, T> {
-    ghost use Rattle.std.specs.Prelude.{◌≡◌, ◌+◌, ◌<◌, ◌≤◌, ◌++◌, [], ℕ, List, length, take, OnOk, IfErr};
+    ghost use Rattle.std.specs.Prelude.{◌≡◌, ◌≢◌, ◌+◌, ◌<◌, ◌≤◌, ◌++◌, [], ℕ, List, Err, true, length, take};
+    ghost use Rattle.std.specs.Prelude.{IfOk, OnErr};
+    ghost use Rattle.std.specs.Io.KnownBytes.{Keeps};
+    ghost use Rattle.xs_devices.specs.declared.input.FillFault.{FillFault};
+    ghost use Rattle.xs_devices.specs.Device.{capped, Gave};
     ghost use Rattle.xs_server.specs.Machine.{Cause, EndsOncePaid, AfterTurn};
     ghost use Rattle.xs_server.specs.declared.machines.machine.Turn.TheVariants.{Goes, Waits};
 
@@ -39,7 +44,7 @@ pub trait Machine<S, T> {
     /// Nothing that it holds is whole.
     ghost is_waiting: { Self → Type 0 };
 
-    /// Since this state of the service these bytes were fed to it, these that it owed were written, and it stands so,
+    /// Since this state of the service these bytes were read into it, these that it owed were written, and it stands so,
     /// the service with it.
     ghost stands: { S → List ℕ → List ℕ → Self → S → Type 0 };
 
@@ -59,17 +64,18 @@ pub trait Machine<S, T> {
         ensures less { result ≡ Goes → held self.new < held self.old }
         ensures same { held self.new ≤ held self.old };
 
-    /// Takes bytes in.
-    fn feed(&mut self, piece: &[u8]) -> Result<(), Self::End>
-        requires waits { is_waiting self.old }
-        requires small { length piece.now ≤ 65536 }
-        ensures ok { (first service : S) (read sent : List ℕ) → stands first read sent self.old service →
-            OnOk result (stands first (read ++ piece.now) sent self.new service) }
-        ensures err { (first service : S) (read sent : List ℕ) → stands first read sent self.old service →
-            IfErr result (λ end. EndsOncePaid has_ended
-            (breaks self.new) Cause.itself end first (read ++ piece.now) sent (owes self.new) service) }
-        ensures owed { owes self.new ≡ owes self.old }
-        ensures held { held self.new ≤ held self.old + length piece.now };
+    /// Reads bytes in, and says how many.
+    fn fill<R: Source>(&mut self, reader: &mut R) -> Result<usize, FillFault>
+        requires { is_waiting self.old }
+        ensures ok { IfOk result (λ n. Gave (R.rest reader.old) (R.rest reader.new) (R.ended reader.new) n
+            (λ got. (first service : S) (read sent : List ℕ) → stands first read sent self.old service →
+            stands first (read ++ got) sent self.new service)) }
+        ensures none { IfOk result (λ n. n ≡ 0 → is_waiting self.new) }
+        ensures err { OnErr result ((self.new ≡ self.old) × Keeps (R.rest reader.old) (R.rest reader.new)) }
+        ensures memory { result ≡ Err FillFault.Memory → reader.new ≡ reader.old }
+        ensures read { result ≡ Err FillFault.Read → R.broken reader.new ≡ true }
+        ensures counted { result ≢ Err FillFault.Memory → R.calls reader.new ≡ capped (R.calls reader.old + 1) }
+        ensures held { IfOk result (λ n. held self.new ≤ held self.old + n) };
 
     /// Ends, since the input has ended.
     fn end(&mut self, service: &mut S) -> Self::End
@@ -82,6 +88,12 @@ pub trait Machine<S, T> {
         requires { is_waiting self.now }
         ensures { (first service : S) (read sent : List ℕ) → stands first read sent self.now service →
             EndsOncePaid has_ended (breaks self.now) Cause.reader result first read sent (owes self.now) service };
+
+    /// How it ends if no memory is found for more bytes.
+    fn memory_error(&self) -> Self::End
+        requires { is_waiting self.now }
+        ensures { (first service : S) (read sent : List ℕ) → stands first read sent self.now service →
+            EndsOncePaid has_ended (breaks self.now) Cause.itself result first read sent (owes self.now) service };
 
     /// How it ends if the writer failed behind so many of the bytes that it owes.
     fn write_error(&self, count: usize) -> Self::End

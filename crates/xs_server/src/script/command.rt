@@ -5,10 +5,10 @@ ghost use Rattle.xs_server.specs.declared.script.fault.ScriptFault.{ScriptFault 
 ghost use Rattle.xs_server.specs.Report.{status_of_run, text_of_run, Says};
 ghost use Rattle.xs_server.specs.ScriptMachine.{Runs};
 
-use crate::devices::device::{Sink, Source};
 use crate::report::report_script;
 use crate::script::run::run_script;
 use std::alloc::Global;
+use xs_devices::{Sink, Source};
 
 /// Runs a script, says on the writer of errors why it ended before its end, and gives the status of the program.
 pub fn run_and_report<R: Source, W: Sink, E: Sink>(

@@ -1,7 +1,7 @@
 //! A script, with no IO of its own: each of its turns answers a line.
 ghost use Rattle.std.specs.Prelude.{◌≡◌, ◌≤◌, ◌+◌, ℕ, [], false, length, Err};
 ghost use Rattle.std.specs.List.{list_any};
-ghost use Rattle.xs_server.specs.Device.{capped};
+ghost use Rattle.xs_devices.specs.Device.{capped};
 ghost use Rattle.xs_server.specs.Line.{is_line_end, line_limit};
 ghost use Rattle.xs_server.specs.ScriptMachine.{IsNewScript, RunsBy, ScriptStands};
 
@@ -10,6 +10,7 @@ use crate::machines::machine::{Machine, Turn};
 use crate::script::fault::ScriptFault;
 use crate::script::serving::{Unanswered, serve_line};
 use std::alloc::Global;
+use xs_devices::{FillFault, Source};
 use xs_keys::Keyspace;
 
 /// The most bytes of a line, without its LF.
@@ -60,7 +61,7 @@ impl Script {
     }
 
     /// The end where memory runs out.
-    fn memory_error(&self) -> Result<u64, ScriptFault>
+    fn out_of_memory(&self) -> Result<u64, ScriptFault>
         ensures { result ≡ Err (ScriptFault.Memory (capped (self.now.written + length self.now.owed.items))) }
     {
         Err(ScriptFault::Memory {
@@ -107,18 +108,15 @@ impl Machine<Keyspace, ()> for Script {
         match serve_line(self.alloc, keyspace, line, &mut self.owed) {
             Ok(()) => {}
             Err(Unanswered::NoLine) => return Turn::Ends(self.line_error()),
-            Err(Unanswered::Memory) => return Turn::Ends(self.memory_error()),
+            Err(Unanswered::Memory) => return Turn::Ends(self.out_of_memory()),
         }
         self.held.consume(at + 1);
         self.number = self.number.saturating_add(1);
         Turn::Goes
     }
 
-    fn feed(&mut self, piece: &[u8]) -> Result<(), Result<u64, ScriptFault>> {
-        match self.held.feed(piece) {
-            Ok(()) => Ok(()),
-            Err(_) => Err(self.memory_error()),
-        }
+    fn fill<R: Source>(&mut self, reader: &mut R) -> Result<usize, FillFault> {
+        self.held.fill(reader)
     }
 
     fn end(&mut self, keyspace: &mut Keyspace) -> Result<u64, ScriptFault> {
@@ -129,7 +127,7 @@ impl Machine<Keyspace, ()> for Script {
         match serve_line(self.alloc, keyspace, line, &mut self.owed) {
             Ok(()) => Ok(self.total()),
             Err(Unanswered::NoLine) => self.line_error(),
-            Err(Unanswered::Memory) => self.memory_error(),
+            Err(Unanswered::Memory) => self.out_of_memory(),
         }
     }
 
@@ -137,6 +135,10 @@ impl Machine<Keyspace, ()> for Script {
         Err(ScriptFault::Read {
             written: self.total(),
         })
+    }
+
+    fn memory_error(&self) -> Result<u64, ScriptFault> {
+        self.out_of_memory()
     }
 
     fn write_error(&self, count: usize) -> Result<u64, ScriptFault> {

@@ -1,16 +1,15 @@
 //! A script over a reader and a writer.
 ghost use Rattle.std.specs.Prelude.{◌+◌, ◌≤◌, List, ℕ};
 ghost use Rattle.std.specs.Io.KnownBytes.{Appends, Consumes};
-ghost use Rattle.xs_server.specs.Device.{capped};
+ghost use Rattle.xs_devices.specs.Device.{capped};
 ghost use Rattle.xs_server.specs.Machine.{HasCause, reads_limit};
 ghost use Rattle.xs_server.specs.ScriptMachine.{Runs, cause_of_script};
 
-use crate::devices::chunk::Chunk;
-use crate::devices::device::{Sink, Source};
 use crate::machines::drive::drive;
 use crate::script::fault::ScriptFault;
 use crate::script::machine::Script;
 use std::alloc::Global;
+use xs_devices::{Sink, Source};
 use xs_keys::Keyspace;
 
 /// Runs a script: each line is a request at its moment, and its reply is written. The keyspace is empty at
@@ -27,10 +26,7 @@ pub fn run_script<R: Source, W: Sink>(
     ensures cause { HasCause (cause_of_script result) (R.rest reader.new) (R.ended reader.new) (R.broken reader.new)
         (R.calls reader.old) (R.calls reader.new) (W.broken writer.new) }
 {
-    let Ok(mut chunk) = Chunk::new(alloc) else {
-        return Err(ScriptFault::Memory { written: 0 });
-    };
     let mut script = Script::new(alloc);
     let mut keyspace = Keyspace::new(alloc);
-    drive(&(), reader, writer, &mut chunk, &mut script, &mut keyspace)
+    drive(&(), reader, writer, &mut script, &mut keyspace)
 }

@@ -1,6 +1,5 @@
 //! Work over gates that are no sockets.
 use super::*;
-use crate::devices::device::{Failed, Sink, Source};
 use crate::report::report_work;
 use crate::work::fault::WorkFault;
 use crate::work::gate::{Gate, GateFault};
@@ -9,6 +8,7 @@ use std::sync::atomic::{AtomicU64, Ordering};
 use std::sync::{Arc, Wait};
 use std::thread::Threads;
 use xs_desk::{DeskError, LaneSummary, Summary};
+use xs_devices::{Failed, Sink, Source};
 use xs_fakes::{InTwo, Still, Tally};
 use xs_stream::Moment;
 

@@ -3,10 +3,10 @@ ghost use Rattle.std.specs.Prelude.{◌≡◌, IfOk};
 ghost use Rattle.xs_server.specs.Line.{script_lines};
 ghost use Rattle.xs_server.specs.Script.{IsScript};
 
-use crate::devices::device::{FromRead, ToWrite};
 use crate::script::fault::ScriptFault;
 use crate::script::run::run_script;
 use std::alloc::Global;
+use xs_devices::{FromRead, ToWrite};
 
 /// Runs a script over these bytes, and gives the replies.
 pub fn run_bytes(alloc: Global, script: &[u8]) -> Result<Vec<u8>, ScriptFault>

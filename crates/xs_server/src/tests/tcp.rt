@@ -2,11 +2,11 @@
 use super::sessions::{new_alone, whole_connections};
 use super::*;
 use crate::connections::serve_alone::serve_alone;
-use crate::devices::device::{Failed, Source};
 use crate::halves::{HalvesMemory, Incoming};
 use crate::tcp::{AfterFailure, after_failure};
 use std::io::{self, ErrorKind, Read, Write};
 use std::net::{Ipv4Addr, Shutdown, TcpListener, TcpStream};
+use xs_devices::{Failed, Source};
 
 /// The server's reader of a connection. Before each read the client sends its next part, or ends what it sends.
 #[derive(Drop)]

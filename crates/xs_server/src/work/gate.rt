@@ -1,7 +1,7 @@
 //! Where the connections of a worker come from.
-use crate::devices::device::{Sink, Source};
 use std::sync::Wait;
 use thiserror::Error;
+use xs_devices::{Sink, Source};
 
 /// Why a gate gives no further connection.
 #[derive(Clone, Copy, Debug, PartialEq, Eq, Error)]

@@ -2,7 +2,7 @@
 ghost use Rattle.std.specs.Prelude.{◌≡◌};
 ghost use Rattle.xs_desk.specs.KeptRings.{KeepsSide};
 
-use crate::connections::buffers::Buffers;
+use crate::connections::connection::Connection;
 use crate::connections::ending::ServeFault;
 use crate::connections::serve::serve_with;
 use crate::work::gate::{Gate, GateFault};
@@ -23,7 +23,7 @@ pub struct Worked {
 /// connection alone; but where nobody answers any more there is no further one.
 fn serve_gate<G: Gate, R: Wait>(
     rt: &R,
-    buffers: &mut Buffers,
+    connection: &mut Connection,
     gate: &mut G,
     lane: &mut Lane,
 ) -> Result<(), GateFault>
@@ -33,7 +33,7 @@ fn serve_gate<G: Gate, R: Wait>(
         let Some((mut reader, mut writer)) = gate.open_next(rt)? else {
             return Ok(());
         };
-        let served = serve_with(rt, buffers, &mut reader, &mut writer, lane);
+        let served = serve_with(rt, connection, &mut reader, &mut writer, lane);
         if matches!(served, Err(ServeFault::Port { .. })) {
             return Ok(());
         }
@@ -46,7 +46,7 @@ pub fn run_worker<G: Gate + Drop, R: Wait>(
     rt: &R,
     client: Client,
     gate: G,
-    buffers: Buffers,
+    connection: Connection,
     lifecycle: &Lifecycle,
 ) -> Worked
     ensures { KeepsSide client result.ended }
@@ -57,10 +57,10 @@ pub fn run_worker<G: Gate + Drop, R: Wait>(
             refused: false,
         };
     }
-    let mut buffers = buffers;
+    let mut connection = connection;
     let mut gate = gate;
     let mut lane = Lane::new(client);
-    let served = serve_gate(rt, &mut buffers, &mut gate, &mut lane);
+    let served = serve_gate(rt, &mut connection, &mut gate, &mut lane);
     Worked {
         ended: lane.end().finish(),
         refused: served.is_err(),

@@ -2,7 +2,7 @@
 ghost use Rattle.std.specs.Prelude.{◌≡◌, ◌≤◌, true, [], length, map, vec_capacity, IfOk, IfSome};
 ghost use Rattle.xs_desk.specs.KeptRings.{KeepsSide, KeepSides};
 
-use crate::connections::buffers::Buffers;
+use crate::connections::connection::Connection;
 use crate::work::gate::Gate;
 use crate::work::lifecycle::Lifecycle;
 use crate::work::worker::{Worked, run_worker};
@@ -18,7 +18,7 @@ use xs_desk::{Client, Ended};
 pub struct Worker<G> {
     pub client: Client,
     pub gate: G,
-    pub buffers: Buffers,
+    pub connection: Connection,
 }
 
 /// The lane's end that comes back is that of this client.
@@ -34,7 +34,7 @@ impl Promise<Worked> for SameSide {
 /// A worker in its thread.
 pub type WorkerThread = PromisedHandle<Worked, SameSide>;
 
-/// A worker for each gate, with its buffers, as far as there are gates.
+/// A worker for each gate, with the memory of its connections, as far as there are gates.
 pub fn make_workers<G: Drop>(
     alloc: Global,
     clients: Vec<Client>,
@@ -48,11 +48,11 @@ pub fn make_workers<G: Drop>(
         let Some(gate) = gates.next() else {
             return Err(AllocError);
         };
-        let buffers = Buffers::new(alloc)?;
+        let connection = Connection::new(alloc)?;
         workers.push(Worker {
             client,
             gate,
-            buffers,
+            connection,
         })?;
     }
     Ok(workers)
@@ -69,11 +69,11 @@ fn start<G: Gate + Send + Drop + 'static, R: Threads + Wait + Copy + Send + 'sta
     let Worker {
         client,
         gate,
-        buffers,
+        connection,
     } = worker;
     let promise = SameSide(Snapshot::of(&client));
     match thread::spawn_with(rt, promise, move || {
-        run_worker(&handle, client, gate, buffers, &lifecycle)
+        run_worker(&handle, client, gate, connection, &lifecycle)
     }) {
         Ok(started) => Some(started),
         Err(_) => None,

@@ -1,4 +1,4 @@
-use Rattle.std.proofs.Common.{◌≡◌, drop, Some, Ok, sym, ap, ◌∙◌, subst}
+use Rattle.std.proofs.Common.{◌≡◌, Some, Ok, sym, ap, ◌∙◌, subst}
 use Rattle.xs_resp.specs.HeldBytes.{Ready}
 use Rattle.xs_resp.specs.State.{held_in}
 use Rattle.xs_resp.specs.Progress.{Reaches}
@@ -8,8 +8,8 @@ use Rattle.xs_resp.proofs.requests.Requests.has_next.Goals.{in-Between, in-Withi
 
 pub returns-in-Ok-Some : goal.returns-in-Ok-Some
 returns-in-Ok-Some c =
-    let bytes = drop c.self.inside.start c.self.inside.bytes.items in
-    let here : c.rest_of.result.now ≡ bytes = c.rest_of.ensures ∙ ap (drop c.self.inside.start) c.as_slice.ensures.value in
+    let bytes = c.self.inside.input in
+    let here : c.bytes.result.now ≡ bytes = c.bytes.ensures in
     let open' : held_in c.self.inside.state bytes ≡ Ok bytes = elim c.match-self.branch [ in-Between w ↦ ap (λ s. held_in s bytes) w.in-Between.is | in-Within w ↦ ap (λ s. held_in s bytes) w.in-Within.is ] in
     let reaches = rw c.in-Ok-Some.field-0-is at c.in-Ok-Some.ensures in
     let reached = subst (λ b. Reaches b (Ok (Some c.in-Ok-Some.reached))) here reaches in

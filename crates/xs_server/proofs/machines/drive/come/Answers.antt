@@ -1,9 +1,7 @@
-use Rattle.std.proofs.Common.{ℕ, List, [], subst, inl, inr, arith}
+use Rattle.std.proofs.Common.{◌++◌, [], Err, inl, inr, sym, ap, subst, arith}
 use Rattle.std.proofs.lemmas.List.{append-nil}
-use Rattle.std.specs.Io.KnownBytes.{Consumes}
 use Rattle.std.proofs.KnownBytes.{Consumes-nil, Consumes-kept}
 use Rattle.xs_server.specs.Machine.{itself, input, reader}
-use Rattle.xs_server.proofs.MachineTurns.{none-came}
 use Rattle.xs_server.proofs.machines.drive.come.Goals as goal
 
 pub returns-in-Goes-clause-comes : goal.returns-in-Goes-clause-comes
@@ -22,33 +20,32 @@ returns-then-left-eq0-clause-comes g c = λ first read sent stands.
     let e = c.read_error.ensures first c.advance.new.service read sent t in
     ([], Consumes-nil _, (reader, rw (append-nil read) e, λ before broken counted. inr (omega (arith, counted, c.if-left-eq0.true))))
 
-pub returns-in_default-clause-comes : goal.returns-in_default-clause-comes
-returns-in_default-clause-comes g c = λ first read sent stands.
+pub returns-in-Err-Memory-clause-comes : goal.returns-in-Err-Memory-clause-comes
+returns-in-Err-Memory-clause-comes g c = λ first read sent stands.
     let t = c.in-Waits.ensures.turns first read sent stands in
-    let e = c.read_error-in_default.ensures first c.advance.new.service read sent t in
-    let err = c.in_default.ensures.err in
-    ([], Consumes-kept _ _ _ [] (Consumes-nil _) err.1, (reader, rw (append-nil read) e, λ before broken counted. inl err.0))
+    let err = c.in-Err-Memory.ensures.err in
+    let same = subst (λ m. g.M.Machine.stands first read sent m c.advance.new.service) (sym err.0) t in
+    let e = c.memory_error.ensures first c.advance.new.service read sent same in
+    ([], Consumes-kept _ _ _ [] (Consumes-nil _) err.1, (itself, rw (append-nil read) e, λ before broken counted. tt))
+
+pub returns-in-Err-Read-clause-comes : goal.returns-in-Err-Read-clause-comes
+returns-in-Err-Read-clause-comes g c = λ first read sent stands.
+    let t = c.in-Waits.ensures.turns first read sent stands in
+    let err = c.in-Err-Read.ensures.err in
+    let broken = c.in-Err-Read.ensures.read (ap Err c.in-Err-Read.field-0-is) in
+    let same = subst (λ m. g.M.Machine.stands first read sent m c.advance.new.service) (sym err.0) t in
+    let e = c.read_error-in-Err-Read.ensures first c.advance.new.service read sent same in
+    ([], Consumes-kept _ _ _ [] (Consumes-nil _) err.1, (reader, rw (append-nil read) e, λ before broken' counted. inl broken))
 
 pub returns-then-count-eq0-clause-comes : goal.returns-then-count-eq0-clause-comes
 returns-then-count-eq0-clause-comes g c = λ first read sent stands.
     let t = c.in-Waits.ensures.turns first read sent stands in
-    let e = c.end.ensures first read sent t in
-    let ok = c.in-Ok.ensures in
-    let none = none-came c.fill.new.self (omega (arith, ok.bytes.1, c.if-count-eq0.true)) in
-    let met = ok.end c.if-count-eq0.true in (
-      [],
-      subst (λ (r : List ℕ). Consumes (g.R.Source.rest c.args.reader.now) (g.R.Source.rest c.fill.new.reader) r) none ok.bytes.0,
-      (input, rw (append-nil read) e, λ before broken counted. met),
-    )
+    let (got, size, small, came, end, holds) = c.in-Ok.ensures.ok in
+    let e = c.end.ensures first (read ++ got) sent (holds first c.advance.new.service read sent t) in
+    (got, came, (input, e, λ before broken counted. end c.if-count-eq0.true))
 
-pub returns-in-Ok-feed-clause-comes : goal.returns-in-Ok-feed-clause-comes
-returns-in-Ok-feed-clause-comes g c = λ first read sent stands.
+pub returns-clause-comes : goal.returns-clause-comes
+returns-clause-comes g c = λ first read sent stands.
     let t = c.in-Waits.ensures.turns first read sent stands in
-    let fed = c.in-Ok-feed.ensures.ok first c.advance.new.service read sent t in
-    (c.fill.new.self, c.in-Ok.ensures.bytes.0, rw (← c.bytes.ensures.value) fed)
-
-pub returns-in-Err-clause-comes : goal.returns-in-Err-clause-comes
-returns-in-Err-clause-comes g c = λ first read sent stands.
-    let t = c.in-Waits.ensures.turns first read sent stands in
-    let fed = c.in-Err.ensures.err first c.advance.new.service read sent t in
-    (c.fill.new.self, c.in-Ok.ensures.bytes.0, (itself, rw (← c.bytes.ensures.value) fed, λ before broken counted. tt))
+    let (got, size, small, came, end, holds) = c.in-Ok.ensures.ok in
+    (got, came, holds first c.advance.new.service read sent t)

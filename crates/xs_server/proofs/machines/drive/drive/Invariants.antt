@@ -1,6 +1,6 @@
 use Rattle.std.proofs.Common.{◌≡◌, ℕ, ◌+◌, ◌*◌, ◌<◌, List, length}
 use Rattle.std.specs.Io.KnownBytes.{Consumes, Appends}
-use Rattle.xs_server.specs.Device.{capped}
+use Rattle.xs_devices.specs.Device.{capped}
 use Rattle.xs_server.specs.Machine.{reads_limit}
 use Rattle.xs_server.proofs.machines.drive.drive.Given as goal
 

@@ -1,12 +1,7 @@
-use Rattle.std.proofs.Common.{[], refl, sym, arith}
-use Rattle.std.proofs.KnownBytes.{Consumes-nil, Appends-nil}
+use Rattle.std.proofs.Common.{[], refl, sym}
 use Rattle.xs_keys.proofs.Contents.{content-none}
-use Rattle.xs_server.proofs.ScriptHeadline.{is-script}
 use Rattle.xs_server.proofs.ScriptTurns.{few-none}
 use Rattle.xs_server.proofs.script.run.run_script.Goals as goal
-
-pub returns-in_default-clause-runs : goal.returns-in_default-clause-runs
-returns-in_default-clause-runs g c = ([], [], Consumes-nil _, Appends-nil _, ([], [], [], (refl, tt, refl), omega arith, (is-script [] [] [] (refl, refl), refl)))
 
 pub drive-requires-clause-new : goal.drive-requires-clause-new
 drive-requires-clause-new g c =

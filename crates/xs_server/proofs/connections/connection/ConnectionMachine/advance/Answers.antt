@@ -1,16 +1,10 @@
-use Rattle.std.proofs.Common.{ℕ, ◌<◌, ◌≤◌, List, ◌∷◌, [], ◌++◌, length, drop, Option, Some, None, Result, Ok, Err, inl}
-use Rattle.std.proofs.Common.{inr, refl, sym, subst, ap, ◌∙◌, arith, length-drop}
-use Rattle.xs_resp.specs.declared.fault.Fault.TheVariants as said
-use Rattle.xs_resp.specs.declared.fault.Fault.TheVariants.{Protocol}
-use Rattle.xs_resp.specs.declared.reply.Reply.TheVariants.{Error}
+use Rattle.std.proofs.Common.{◌∷◌, [], ◌++◌, length, drop, Err, sym, ap, ◌∙◌, arith}
 use Rattle.xs_resp.specs.ReplyText.{text}
 use Rattle.xs_resp.specs.LeftToWrite.{bytes_left}
 use Rattle.xs_resp.proofs.Decisions.{request-open, request-fault}
-use Rattle.xs_resp.specs.HeldBytes.{Next, Ready}
 use Rattle.xs_resp.proofs.NextRequest.{next-words, next-none, next-same, next-shorter, ready-next, ready-none}
 use Rattle.xs_resp.proofs.NextRequest.{ready-wrong}
 use Rattle.xs_server.specs.declared.connections.ending.ServeFault.TheVariants as fault
-use Rattle.xs_server.specs.Exchange.{Exchange}
 use Rattle.xs_server.specs.Machine.{itself}
 use Rattle.xs_server.specs.Connection.{ServesBy}
 use Rattle.xs_server.proofs.MachineTurns.{empty-none, ends-now, none-came}

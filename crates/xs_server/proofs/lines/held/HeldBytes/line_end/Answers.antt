@@ -1,4 +1,4 @@
-use Rattle.std.proofs.Common.{◌≤◌, ◌-◌, length, take, drop, ap, ◌∙◌, sym, arith, length-drop}
+use Rattle.std.proofs.Common.{◌≤◌, length, take, drop, ap, ◌∙◌, sym, arith}
 use Rattle.std.proofs.lemmas.List.{take-append-drop, length-take-le}
 use Rattle.xs_server.proofs.HeldLines.{end-behind}
 use Rattle.xs_server.proofs.lines.held.HeldBytes.line_end.Goals as goal
@@ -6,9 +6,8 @@ use Rattle.xs_server.proofs.lines.held.HeldBytes.line_end.Goals as goal
 pub returns-in-Some-clause-found : goal.returns-in-Some-clause-found
 returns-in-Some-clause-found c =
     let held = c.args.self.now in
-    let self = c.self.inside in
     let inv = c.self.invariant in
-    let count = self.searched - self.start in
-    let fits : count ≤ length held = omega (arith, inv.0, inv.1, length-drop self.start self.bytes.items, ap length c.self.view_is) in
+    let count = c.self.inside.searched in
+    let fits : count ≤ length held = omega (arith, inv.0, ap length c.self.view_is) in
     let rest = c.split_at.ensures.back ∙ ap (drop count) c.bytes.ensures in
-    end-behind held (take count held) (drop count held) count c.in-Some.at (sym (take-append-drop count held)) (length-take-le count held fits) (rw (← c.self.view_is) inv.2) (rw (← rest) c.in-Some.ensures)
+    end-behind held (take count held) (drop count held) count c.in-Some.at (sym (take-append-drop count held)) (length-take-le count held fits) (rw (← c.self.view_is) inv.1) (rw (← rest) c.in-Some.ensures)

@@ -46,7 +46,7 @@ returns-in-Err-Memory-clause-turns c = λ first read sent s.
     let found = c.in-Some.ensures.found in
     let split = sym c.line_end.ensures.same ∙ found.2 in
     let few = s.few (take at held) (drop (at + 1) held) split found.1 in
-    rw (c.memory_error.ensures, c.in-Err-Memory.ensures.err) (ends-memory read sent script.owed.items s.lines script.written (all-said read sent script c.args.keyspace.now s) s.written itself (take at held) (10 ∷ drop (at + 1) held)
+    rw (c.out_of_memory.ensures, c.in-Err-Memory.ensures.err) (ends-memory read sent script.owed.items s.lines script.written (all-said read sent script c.args.keyspace.now s) s.written itself (take at held) (10 ∷ drop (at + 1) held)
     (in-hand read s.lines script.held (take at held) (10 ∷ drop (at + 1) held) s.is_read split found.1) (omega (arith, few)))
 
 pub returns-clause-turns : goal.returns-clause-turns

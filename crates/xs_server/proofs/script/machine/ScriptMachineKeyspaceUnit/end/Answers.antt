@@ -32,4 +32,4 @@ pub returns-in-Err-Memory : goal.returns-in-Err-Memory
 returns-in-Err-Memory c = λ first read sent s.
     let script = c.args.self.now in
     let hand = in-hand-last read s.lines script.held s.is_read c.requires.0 in
-    rw (c.memory_error.ensures, c.in-Err-Memory.ensures.err) (ends-memory read sent script.owed.items s.lines script.written (all-said read sent script c.args.keyspace.now s) s.written input script.held [] hand (omega arith))
+    rw (c.out_of_memory.ensures, c.in-Err-Memory.ensures.err) (ends-memory read sent script.owed.items s.lines script.written (all-said read sent script c.args.keyspace.now s) s.written input script.held [] hand (omega arith))

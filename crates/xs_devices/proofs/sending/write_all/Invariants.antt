@@ -1,6 +1,6 @@
 use Rattle.std.proofs.Common.{◌≤◌, ◌-◌, length, take}
 use Rattle.std.specs.Io.KnownBytes.{Appends}
-use Rattle.xs_server.proofs.devices.sending.write_all.Given as goal
+use Rattle.xs_devices.proofs.sending.write_all.Given as goal
 
 -- the first bytes are written
 abbrev pub invariant-loop-sent : goal.invariant-loop-sent

@@ -2,7 +2,7 @@
 ghost use Rattle.std.specs.Prelude.{◌≡◌, ◌<◌, true, length, take, IfOk, IfErr};
 ghost use Rattle.std.specs.Io.KnownBytes.{Appends};
 
-use crate::devices::device::Sink;
+use crate::device::Sink;
 
 /// Writes bytes until all are taken, or the writer fails, and says how many were taken.
 pub fn write_all<W: Sink>(writer: &mut W, bytes: &[u8]) -> Result<usize, usize>

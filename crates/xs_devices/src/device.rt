@@ -2,7 +2,7 @@
 //! they have answered, whether they have failed, and whether the end was met.
 ghost use Rattle.std.specs.Prelude.{◌≡◌, ℕ, ◌+◌, ◌≤◌, Bool, false, ◌||◌, List, Option, IfOk, length, is_err};
 ghost use Rattle.std.specs.Io.KnownBytes.{ReadConsumes, WriteAppends};
-ghost use Rattle.xs_server.specs.Device.{capped, is_end, is_failure};
+ghost use Rattle.xs_devices.specs.Device.{capped, is_end, is_failure};
 
 use std::io::{Read, Write};
 

@@ -1,0 +1,186 @@
+//! The bytes that were read and aren't used yet.
+ghost use Rattle.std.specs.Prelude.{◌≡◌, ◌≢◌, ◌+◌, ◌≤◌, ◌++◌, [], true, length, take, drop, IfOk, OnOk, OnErr, Err};
+ghost use Rattle.std.specs.Io.KnownBytes.{Consumes, Keeps, IsAtEnd};
+ghost use Rattle.xs_devices.specs.Device.{capped, Gave};
+
+use crate::device::{Failed, Source};
+use std::alloc::{AllocError, Global};
+use std::marker::Model;
+
+/// The most bytes of one read.
+const PIECE: usize = 65_536;
+
+/// How many bytes of memory a buffer keeps that many bytes made large.
+const KEPT: usize = 262_144;
+
+/// Why nothing was read.
+#[derive(Clone, Copy, Debug, PartialEq, Eq)]
+pub enum FillFault {
+    /// Out of memory. The reader wasn't asked.
+    Memory,
+    /// The reader failed.
+    Read,
+}
+
+/// The bytes that were read and aren't used yet, in the buffer that they were read into. A contract sees them as a
+/// list.
+#[derive(Debug, Drop)]
+pub struct Input {
+    // The bytes before `start` are used, those from `end` on are room.
+    bytes: Vec<u8>,
+    start: usize,
+    end: usize,
+}
+
+impl Model for Input {
+    ghost use Rattle.std.specs.Prelude.{ℕ, ◌≤◌, List, take, drop, length};
+
+    ghost Value = { List ℕ };
+
+    ghost view = { λ i. drop i.start (take i.end i.bytes.items) };
+
+    ghost invariant = { λ i. (i.start ≤ i.end) × (i.end ≤ length i.bytes.items) };
+}
+
+impl Input {
+    ghost use Rattle.xs_devices.specs.declared.input.FillFault.{FillFault};
+
+    /// Nothing. It takes no memory.
+    pub fn new(alloc: Global) -> Self
+        ensures { result ≡ [] }
+    {
+        Self {
+            bytes: Vec::new(alloc),
+            start: 0,
+            end: 0,
+        }
+    }
+
+    /// Nothing, with memory for so many bytes.
+    pub fn with_capacity(alloc: Global, capacity: usize) -> Result<Self, AllocError>
+        ensures { IfOk result (λ input. input ≡ []) }
+    {
+        Ok(Self {
+            bytes: Vec::with_capacity(alloc, capacity)?,
+            start: 0,
+            end: 0,
+        })
+    }
+
+    /// The bytes.
+    pub fn bytes(&self) -> &[u8]
+        ensures { result.now ≡ self.now }
+    {
+        &self.bytes[self.start..self.end]
+    }
+
+    /// Uses up the first bytes.
+    pub fn consume(&mut self, count: usize)
+        requires { count ≤ length self.old }
+        ensures { self.new ≡ drop count self.old }
+    {
+        self.start += count;
+    }
+
+    /// Drops all bytes. The memory is kept, but for what many bytes took.
+    pub fn clear(&mut self)
+        ensures { self.new ≡ [] }
+    {
+        self.start = 0;
+        self.end = 0;
+        self.bytes.truncate(KEPT);
+        self.bytes.shrink_to(KEPT);
+    }
+
+    /// Moves the bytes to the front of the buffer if there is no room for a piece behind them. Memory that isn't needed
+    /// any more is given back.
+    fn compact(&mut self)
+        ensures { self.new ≡ self.old }
+    {
+        if self.start == self.end {
+            self.clear();
+            return;
+        }
+        if self.start == 0 {
+            return;
+        }
+        if self.bytes.len() - self.end >= PIECE {
+            return;
+        }
+        let count = self.end - self.start;
+        if count <= self.start && self.bytes.len() <= KEPT {
+            copy_to_front(&mut self.bytes, self.start, count);
+        } else {
+            self.bytes.truncate(self.end);
+            drop(self.bytes.drain(..self.start));
+            self.bytes.shrink_to(KEPT);
+        }
+        self.start = 0;
+        self.end = count;
+    }
+
+    /// Reads bytes into the buffer, behind those that are there, and says how many. No byte is copied but to make room.
+    ///
+    /// # Errors
+    /// The bytes are unchanged.
+    pub fn fill<R: Source>(&mut self, reader: &mut R) -> Result<usize, FillFault>
+        ensures ok { IfOk result (λ n. Gave (R.rest reader.old) (R.rest reader.new) (R.ended reader.new) n
+            (λ got. self.new ≡ self.old ++ got)) }
+        ensures err { OnErr result ((self.new ≡ self.old) × Keeps (R.rest reader.old) (R.rest reader.new)) }
+        ensures memory { result ≡ Err FillFault.Memory → reader.new ≡ reader.old }
+        ensures read { result ≡ Err FillFault.Read → R.broken reader.new ≡ true }
+        ensures counted { result ≢ Err FillFault.Memory → R.calls reader.new ≡ capped (R.calls reader.old + 1) }
+    {
+        self.compact();
+        let Ok(()) = make_room(&mut self.bytes, self.end) else {
+            return Err(FillFault::Memory);
+        };
+        let Ok(count) = read_behind(&mut self.bytes, self.end, reader) else {
+            return Err(FillFault::Read);
+        };
+        self.end += count;
+        Ok(count)
+    }
+}
+
+/// Copies so many bytes behind an index to the front, where they don't overlap.
+fn copy_to_front(bytes: &mut Vec<u8>, start: usize, count: usize)
+    requires apart { count ≤ start }
+    requires within { start + count ≤ length bytes.old.items }
+    ensures front { take count bytes.new.items ≡ take count (drop start bytes.old.items) }
+    ensures len { length bytes.new.items ≡ length bytes.old.items }
+{
+    let (front, behind) = bytes.as_mut_slice().split_at_mut(start);
+    let (room, _) = front.split_at_mut(count);
+    room.copy_from_slice(&behind[..count]);
+}
+
+/// Makes room for a piece behind an index.
+fn make_room(bytes: &mut Vec<u8>, end: usize) -> Result<(), AllocError>
+    requires { end ≤ length bytes.old.items }
+    ensures room { OnOk result (end + 65536 ≤ length bytes.new.items) }
+    ensures front { take end bytes.new.items ≡ take end bytes.old.items }
+    ensures within { end ≤ length bytes.new.items }
+{
+    if bytes.len() - end >= PIECE {
+        return Ok(());
+    }
+    bytes.resize(end + PIECE, 0)
+}
+
+/// Reads a piece to behind an index, and says how many bytes it has.
+fn read_behind<R: Source>(bytes: &mut Vec<u8>, end: usize, reader: &mut R) -> Result<usize, Failed>
+    requires { end + 65536 ≤ length bytes.old.items }
+    ensures bound { IfOk result (λ n. n ≤ 65536) }
+    ensures front { take end bytes.new.items ≡ take end bytes.old.items }
+    ensures len { length bytes.new.items ≡ length bytes.old.items }
+    ensures bytes { IfOk result (λ n. Consumes (R.rest reader.old) (R.rest reader.new)
+        (take n (drop end bytes.new.items))) }
+    ensures end { IfOk result (λ n. n ≡ 0 → IsAtEnd (R.rest reader.new) × (R.ended reader.new ≡ true)) }
+    ensures counted { R.calls reader.new ≡ capped (R.calls reader.old + 1) }
+    ensures err { OnErr result ((R.broken reader.new ≡ true) × Keeps (R.rest reader.old) (R.rest reader.new)) }
+{
+    let (_, behind) = bytes.as_mut_slice().split_at_mut(end);
+    let (room, _) = behind.split_at_mut(PIECE);
+    reader.read(room)
+}
