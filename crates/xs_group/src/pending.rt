@@ -185,10 +185,7 @@ impl Pending {
         ensures { IfOk result (λ rows. rows.items ≡ shown_rows self.now.rows (ids_of stream.now.entries) ids.now) }
     {
         let mut rows = Vec::with_capacity(alloc, ids.len())?;
-        let Some(first) = ids.first() else {
-            return Ok(rows);
-        };
-        let lent = stream.entries_from(alloc, *first, ids.len())?;
+        let lent = stream.entries_along(alloc, ids)?;
         for (place, id) in ids.iter().enumerate() {
             let row = DeliveryRow {
                 id: *id,

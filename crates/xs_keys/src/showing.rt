@@ -88,11 +88,8 @@ pub fn push_entries(
     ensures { OnOk result (tokens.new ≡ tokens.old
         ++ flat_map tokens_of (map (entry_reply stream.now.entries) ids.now)) }
 {
-    let Some(first) = ids.first() else {
-        return Ok(());
-    };
     tokens.reserve(ids.len().saturating_mul(ENTRY_TOKENS))?;
-    let lent = stream.entries_from(alloc, *first, ids.len())?;
+    let lent = stream.entries_along(alloc, ids)?;
     for (place, id) in ids.iter().enumerate() {
         push_along(tokens, alloc, stream, lent.as_slice(), place, *id)?;
     }

@@ -9,7 +9,7 @@ use Rattle.std.proofs.lemmas.List.{append-nil, take-append-drop, length-append, 
 use Rattle.std.proofs.lemmas.Grind.{flat_map-append}
 use Rattle.std.proofs.lemmas.Bool.Decides.{nat_tests}
 use Rattle.std.proofs.lemmas.Bool.{false≢true}
-use Rattle.std.proofs.Math.Seq.{take-append_seam, drop-append_seam}
+use Rattle.std.proofs.Math.Seq.{take-append_seam, drop-append_seam, take-add}
 use Rattle.xs_stream.specs.declared.field.Field.{Field}
 use Rattle.xs_stream.specs.declared.id.Id.{Id}
 use Rattle.xs_stream.specs.Id.{is_same_id}
@@ -393,6 +393,29 @@ module _ (base count start : ℕ) (bytes : List ℕ) (packed : IsPacked base cou
       let behind : drop (length bytes - length (after_entries (suc i) (drop start bytes))) bytes ≡ entries_code base names (drop (suc i) es) = drop-front _ _ bytes (split (suc i) (omega arith)) ∙ left (suc i) (omega arith) in
       rw (add-one, before, behind) (append_assoc (text_code names ++ gap) (entries_code base names (take i es)) (entries_code base names (drop (suc i) es))
       ∙ ap (λ b. (text_code names ++ gap) ++ b) (sym (flat_map-append (λ (e : Id × List Field). entry_code base (has_names names e.1) e) (take i es) (drop (suc i) es))))
+
+  -- where entries move up, the bytes that they leave belong to what lies between
+  abbrev pub raised : ℕ → List ℕ → List ℕ
+  raised start2 new = gap ++ take (start2 - start) (drop start new)
+
+  module _ (start2 : ℕ) (new : List ℕ) (later : start ≤ start2) (inside2 : start2 ≤ length new) (same : take start new ≡ take start bytes) where
+    next_count-front : take start2 new ≡ text_code (first_text bytes) ++ raised start2 new
+    next_count-front =
+        let places : start + (start2 - start) ≡ start2 = omega (arith, later) in
+        let moved = take (start2 - start) (drop start new) in
+        ap (λ n. take n new) (sym places) ∙ take-add start (start2 - start) new ∙ ap (λ b. b ++ moved) (same ∙ front) ∙ append_assoc (text_code (first_text bytes)) gap moved
+
+    pub next_count-begins : start2 ≡ length (text_code (first_text bytes) ++ raised start2 new)
+    next_count-begins = omega (arith, ap length next_count-front, length-take start2 new, inside2)
+
+    pub next_count-code : (i : ℕ) → i < count
+        → drop start2 new ≡ drop start (remove_range bytes (length bytes - length (after_entries i (drop start bytes))) (length bytes - length (after_entries (i + 1) (drop start bytes))))
+        → new ≡ (text_code (first_text bytes) ++ raised start2 new) ++ entries_code base (first_text bytes) (remove (block_entries base count start bytes) i)
+    next_count-code i h rest =
+        let left = entries_code base (first_text bytes) (remove (block_entries base count start bytes) i) in
+        let behind : drop start2 new ≡ left =
+        rest ∙ ap (drop start) (removed-code i h) ∙ ap (λ n. drop n ((text_code (first_text bytes) ++ gap) ++ left)) begins ∙ drop-append_seam (text_code (first_text bytes) ++ gap) left in
+        sym (take-append-drop start2 new) ∙ ap (λ b. b ++ drop start2 new) next_count-front ∙ ap (λ b. (text_code (first_text bytes) ++ raised start2 new) ++ b) behind
 
   -- where some entries are passed, their bytes belong to what lies between
   abbrev pub wider : ℕ → List ℕ

@@ -14,7 +14,7 @@ use crate::field::Field;
 use crate::id::Id;
 use crate::packed::entry::{has_names, push_entry, push_names};
 use crate::packed::fields::PackedFields;
-use crate::packed::gap::{close_gap, cut};
+use crate::packed::gap::{cut, take_out};
 use crate::packed::number::after;
 use crate::packed::text::read_text;
 use crate::packed::walks::{
@@ -251,11 +251,7 @@ impl Block {
             self.clear();
             return true;
         }
-        if place.index == 0 {
-            self.drop_some(1);
-            return true;
-        }
-        close_gap(&mut self.bytes, place.from, place.to);
+        self.start = take_out(&mut self.bytes, self.start, place.from, place.to);
         self.count -= 1;
         self.compact();
         true

@@ -200,6 +200,25 @@ impl Stream {
         self.entries(alloc, range, Some(most as u64), false)
     }
 
+    /// Entries to look at side by side with these ids: those from the first id on, as many as there are ids. None where
+    /// the ids don't ascend, since few of the entries would be theirs. They are lent, and each is the one that is looked
+    /// up by its id.
+    pub fn entries_along(
+        &self,
+        alloc: Global,
+        ids: &[Id],
+    ) -> Result<List<Entry<'_>>, AllocError>
+        ensures { IfOk result (λ entries. AreEntriesOf self.now.entries entries) }
+    {
+        let Some(first) = ids.first() else {
+            return Ok(List::new(Vec::new(alloc)));
+        };
+        if !ids.is_sorted() {
+            return Ok(List::new(Vec::new(alloc)));
+        }
+        self.entries_from(alloc, *first, ids.len())
+    }
+
     /// The ids above a cursor, in their order, at most `limit` of them.
     pub fn past(
         &self,

@@ -1,5 +1,5 @@
 //! Parts of bytes that are taken out.
-ghost use Rattle.std.specs.Prelude.{◌≡◌, ◌+◌, ◌≤◌, ◌++◌, take, drop, vec_len};
+ghost use Rattle.std.specs.Prelude.{◌≡◌, ◌+◌, ◌-◌, ◌≤◌, ◌++◌, take, drop, vec_len};
 ghost use Rattle.std.specs.List.{remove_range};
 
 /// Takes a part out, and gives memory back where less than half of it is left.
@@ -44,4 +44,55 @@ fn move_piece(bytes: &mut Vec<u8>, at: usize, gap: usize, piece: usize)
 {
     let (front, back) = bytes.as_mut_slice().split_at_mut(at + gap);
     front[at..at + piece].copy_from_slice(&back[..piece]);
+}
+
+/// Takes a part out of what begins at `start`, and says where that begins then. The fewer bytes move: those before the
+/// part, or those behind it.
+pub(crate) fn take_out(bytes: &mut Vec<u8>, start: usize, from: usize, to: usize) -> usize
+    requires begin { start ≤ from }
+    requires forward { from ≤ to }
+    requires inside { to ≤ vec_len bytes.old }
+    ensures begin { start ≤ result }
+    ensures inside { result ≤ vec_len bytes.new }
+    ensures front { take start bytes.new.items ≡ take start bytes.old.items }
+    ensures rest { drop result bytes.new.items ≡ drop start (remove_range bytes.old.items from to) }
+{
+    if from - start < bytes.len() - to {
+        raise(bytes, start, from, to);
+        return start + (to - from);
+    }
+    close_gap(bytes, from, to);
+    start
+}
+
+/// Takes a part out by moving what lies before it, from `start` on, up over it.
+fn raise(bytes: &mut Vec<u8>, start: usize, from: usize, to: usize)
+    requires begin { start ≤ from }
+    requires forward { from ≤ to }
+    requires inside { to ≤ vec_len bytes.old }
+    ensures length { vec_len bytes.new ≡ vec_len bytes.old }
+    ensures front { take start bytes.new.items ≡ take start bytes.old.items }
+    ensures rest { drop (start + (to - from)) bytes.new.items ≡ drop start (remove_range bytes.old.items from to) }
+{
+    let gap = to - from;
+    if gap == 0 {
+        return;
+    }
+    let mut end = from;
+    while start < end {
+        let piece = gap.min(end - start);
+        end -= piece;
+        raise_piece(bytes, end, gap, piece);
+    }
+}
+
+/// Moves a piece up over a gap behind it that is as long at least.
+fn raise_piece(bytes: &mut Vec<u8>, at: usize, gap: usize, piece: usize)
+    requires apart { piece ≤ gap }
+    requires inside { at + gap + piece ≤ vec_len bytes.old }
+    ensures { bytes.new.items ≡ take (at + gap) bytes.old.items
+        ++ (take piece (drop at bytes.old.items) ++ drop (at + gap + piece) bytes.old.items) }
+{
+    let (front, back) = bytes.as_mut_slice().split_at_mut(at + gap);
+    back[..piece].copy_from_slice(&front[at..at + piece]);
 }
