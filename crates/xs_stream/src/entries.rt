@@ -58,6 +58,7 @@ impl Entries {
     }
 
     /// The id under which the one block is filed that may have the entry with this id. None where only the newest may.
+    #[inline(always)]
     fn block_of(&self, id: Id) -> Option<Id>
         ensures { result ≡ lookup_key (λ under. not (is_below under id)) self.now.older.entries }
     {

@@ -47,6 +47,7 @@ pub(crate) fn read_entry<'a>(base: u64, bytes: &'a [u8]) -> PackedEntry<'a>
 
 /// As `read_entry`, whatever the numbers.
 #[tactic(auto, unfolding(crate::specs::Packed::entry_id, crate::specs::Packed::entry_body, crate::specs::Packed::after_entry))]
+#[inline(always)]
 fn read_any_entry<'a>(base: u64, bytes: &'a [u8]) -> PackedEntry<'a>
     ensures id { result.id ≡ entry_id base bytes.now }
     ensures body { result.body.now ≡ entry_body bytes.now }

@@ -1,5 +1,5 @@
 //! Numbers in few bytes: one byte below 253, otherwise a byte that says how many follow.
-ghost use Rattle.std.specs.Prelude.{◌≡◌, ◌≤◌, ◌++◌, OnOk, OnErr, length, drop, slice_index};
+ghost use Rattle.std.specs.Prelude.{◌≡◌, ◌≤◌, ◌++◌, ◌∷◌, OnOk, OnErr, length, drop, slice_index};
 ghost use Rattle.std.specs.Int.{w16, w32, w64, from_le_bytes};
 ghost use Rattle.xs_stream.specs.PackedNumber.{number_code, first_number, after_number};
 
@@ -56,6 +56,7 @@ fn push_long_number(out: &mut Vec<u8>, n: u64) -> Result<(), AllocError>
 
 /// The number that bytes begin with, and the bytes after it.
 #[tactic(auto, unfolding(crate::specs::PackedNumber::first_number, crate::specs::PackedNumber::after_number))]
+#[inline(always)]
 pub(crate) fn read_number(bytes: &[u8]) -> (u64, &[u8])
     ensures number { result.0 ≡ first_number bytes.now }
     ensures rest { result.1.now ≡ after_number bytes.now }
@@ -66,15 +67,26 @@ pub(crate) fn read_number(bytes: &[u8]) -> (u64, &[u8])
             if *first < 253 {
                 return (u64::from(*first), rest);
             }
-            if *first == 253 {
-                return (u64::from(first_u16(rest)), after(rest, 2));
-            }
-            if *first == 254 {
-                return (u64::from(first_u32(rest)), after(rest, 4));
-            }
-            (first_u64(rest), after(rest, 8))
+            read_long_number(*first, rest)
         }
     }
+}
+
+/// The number that follows a byte that says how long it is, and the bytes after it.
+#[tactic(auto, unfolding(crate::specs::PackedNumber::first_number, crate::specs::PackedNumber::after_number))]
+#[cold]
+fn read_long_number(first: u8, rest: &[u8]) -> (u64, &[u8])
+    requires { 253 ≤ first }
+    ensures number { result.0 ≡ first_number (first ∷ rest.now) }
+    ensures rest { result.1.now ≡ after_number (first ∷ rest.now) }
+{
+    if first == 253 {
+        return (u64::from(first_u16(rest)), after(rest, 2));
+    }
+    if first == 254 {
+        return (u64::from(first_u32(rest)), after(rest, 4));
+    }
+    (first_u64(rest), after(rest, 8))
 }
 
 fn first_u16(bytes: &[u8]) -> u16

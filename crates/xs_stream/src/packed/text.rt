@@ -43,6 +43,7 @@ pub(crate) fn read_text(bytes: &[u8]) -> (&[u8], &[u8])
 
 /// As `read_text`, whatever the length.
 #[tactic(auto, unfolding(crate::specs::PackedText::first_text, crate::specs::PackedText::after_text))]
+#[cold]
 fn read_any_text(bytes: &[u8]) -> (&[u8], &[u8])
     ensures text { result.0.now ≡ first_text bytes.now }
     ensures rest { result.1.now ≡ after_text bytes.now }
