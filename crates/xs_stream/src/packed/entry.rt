@@ -9,7 +9,7 @@ ghost use Rattle.xs_stream.specs.PackedText.{text_code};
 
 use crate::field::Field;
 use crate::id::Id;
-use crate::packed::number::{number_size, push_number, read_number};
+use crate::packed::number::{number_size, push_number, read_number, read_wide_number};
 use crate::packed::text::{push_text, read_text, text_size};
 use std::alloc::AllocError;
 
@@ -67,7 +67,7 @@ fn read_ms(base: u64, bytes: &[u8]) -> (u64, &[u8])
     ensures number { result.0 ≡ first_ms base bytes.now }
     ensures rest { result.1.now ≡ after_number bytes.now }
 {
-    let (above, rest) = read_number(bytes);
+    let (above, rest) = read_wide_number(bytes);
     (base.wrapping_add(above), rest)
 }
 

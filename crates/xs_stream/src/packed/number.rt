@@ -72,6 +72,21 @@ pub(crate) fn read_number(bytes: &[u8]) -> (u64, &[u8])
     }
 }
 
+/// As `read_number`, for numbers that mostly take two bytes more.
+#[tactic(auto, unfolding(crate::specs::PackedNumber::first_number, crate::specs::PackedNumber::after_number))]
+#[inline(always)]
+pub(crate) fn read_wide_number(bytes: &[u8]) -> (u64, &[u8])
+    ensures number { result.0 ≡ first_number bytes.now }
+    ensures rest { result.1.now ≡ after_number bytes.now }
+{
+    if let [first, low, high, rest @ ..] = bytes {
+        if *first == 253 {
+            return (u64::from(u16::from_le_bytes([*low, *high])), rest);
+        }
+    }
+    read_number(bytes)
+}
+
 /// The number that follows a byte that says how long it is, and the bytes after it.
 #[tactic(auto, unfolding(crate::specs::PackedNumber::first_number, crate::specs::PackedNumber::after_number))]
 #[cold]

@@ -2,7 +2,7 @@
 ghost use Rattle.std.specs.Prelude.{◌≡◌, ◌++◌, OnOk, OnErr, IfSome, take, vec_len, length};
 ghost use Rattle.xs_stream.specs.PackedText.{text_code, first_text, after_text};
 
-use crate::packed::number::{number_size, push_number, read_number};
+use crate::packed::number::{number_size, push_number, read_wide_number};
 use std::alloc::AllocError;
 
 #[tactic(auto, unfolding(crate::specs::PackedText::text_code))]
@@ -48,7 +48,7 @@ fn read_any_text(bytes: &[u8]) -> (&[u8], &[u8])
     ensures text { result.0.now ≡ first_text bytes.now }
     ensures rest { result.1.now ≡ after_text bytes.now }
 {
-    let (len, rest) = read_number(bytes);
+    let (len, rest) = read_wide_number(bytes);
     if len >= rest.len() as u64 {
         return (rest, &[]);
     }
