@@ -8,6 +8,9 @@ use std::alloc::{AllocError, Global};
 use xs_bytes::{Bytes, natural};
 use xs_stream::Moment;
 
+/// How many words most lines have at most: there is room for them at once.
+const MOST_WORDS: usize = 16;
+
 /// The part before the first space, and what stands behind it.
 fn split_space(text: &[u8]) -> (&[u8], Option<&[u8]>)
     ensures parts { parts_of text.now ≡ result.0.now ∷ parts_behind (option_copied result.1) }
@@ -24,7 +27,7 @@ fn words_of(alloc: Global, text: &[u8]) -> Result<Option<Vec<Bytes>>, AllocError
     ensures { IfOk result (λ words. option_map (λ w. w.items) words
         ≡ full_parts (parts_of text.now)) }
 {
-    let mut words = Vec::new(alloc);
+    let mut words = Vec::with_capacity(alloc, MOST_WORDS)?;
     let mut left = Some(text);
     while let Some(text) = left {
         let (word, rest) = split_space(text);
