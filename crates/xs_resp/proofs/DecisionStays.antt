@@ -6,7 +6,7 @@ use Rattle.std.proofs.lemmas.Bool.{leb-false, ltb-false}
 use Rattle.std.proofs.lemmas.List.{get_or_append_left, take-append-le, drop-append-le, drop_all}
 use Rattle.xs_resp.specs.declared.header.Part.{Part}
 use Rattle.xs_resp.specs.declared.header.Part.TheVariants.{Size}
-use Rattle.xs_resp.specs.declared.read_fault.Wrong.TheVariants.{Shape}
+use Rattle.xs_resp.specs.declared.read_fault.ProtocolFault.TheVariants.{Shape}
 use Rattle.xs_resp.specs.Outcome.{Keeps}
 use Rattle.xs_resp.specs.HeaderPart.{marker, number_in}
 use Rattle.xs_resp.specs.Header.{is_not_cr, text_len, within_limit, line_at, header}

@@ -5,7 +5,7 @@ use Rattle.std.proofs.lemmas.List.{take_at, drop_at, take-append-drop, append-ni
 use Rattle.std.proofs.lemmas.List.{nil_from_length}
 use Rattle.xs_resp.specs.declared.header.Part.TheVariants.{Count}
 use Rattle.xs_resp.specs.declared.header.Header.{Header}
-use Rattle.xs_resp.specs.declared.read_fault.Wrong.{Wrong}
+use Rattle.xs_resp.specs.declared.read_fault.ProtocolFault.{ProtocolFault}
 use Rattle.xs_resp.specs.Line.{line}
 use Rattle.xs_resp.specs.HeaderPart.{limit, number_in}
 use Rattle.xs_resp.specs.Outcome.{Outcome, ◌>>=◌, Keeps}
@@ -115,7 +115,7 @@ request-spelled bytes found s =
     ∙ ap (λ n. Ok (Some (record { words = found.words; end = n }))) (length-take-le found.end bytes s.within)
 
 -- a fault that was met in a request stands in it
-pub request-fault : (bytes : List ℕ) (wrong : Wrong) → request bytes ≡ Err wrong → FaultIn bytes wrong
+pub request-fault : (bytes : List ℕ) (wrong : ProtocolFault) → request bytes ≡ Err wrong → FaultIn bytes wrong
 unfolding request
 request-fault bytes wrong e =
     elim (bind-err (header Count bytes) _ wrong e) [
@@ -141,7 +141,7 @@ request-fault bytes wrong e =
     ]
 
 -- and the other way
-behind-fault : (bytes : List ℕ) (wrong : Wrong) → FaultBehind bytes wrong → request bytes ≡ Err wrong
+behind-fault : (bytes : List ℕ) (wrong : ProtocolFault) → FaultBehind bytes wrong → request bytes ≡ Err wrong
 unfolding request words
 behind-fault bytes wrong f =
     let head = line 42 f.number in
@@ -156,7 +156,7 @@ behind-fault bytes wrong f =
     ∙ ap (behind_words [] (length head)) (words-sent f.words (suc k) f.rest f.sizes)
     ∙ ap (λ o. behind_words [] (length head) (behind_words f.words (length sent) (o >>= λ (s : Span). behind_words (text_in f.rest s ∷ []) (s.end + 2) (words k (drop (s.end + 2) f.rest))))) (word-err f.rest wrong f.fault)
 
-pub fault-request : (bytes : List ℕ) (wrong : Wrong) → FaultIn bytes wrong → request bytes ≡ Err wrong
+pub fault-request : (bytes : List ℕ) (wrong : ProtocolFault) → FaultIn bytes wrong → request bytes ≡ Err wrong
 fault-request bytes wrong (inl f) = request-err bytes wrong (header-err Count bytes wrong f)
 fault-request bytes wrong (inr f) = behind-fault bytes wrong f
 

@@ -10,8 +10,8 @@ use Rattle.std.proofs.lemmas.List.{take_at, drop_at, take-append-drop, length-ta
 use Rattle.xs_resp.specs.declared.header.Part.{Part}
 use Rattle.xs_resp.specs.declared.header.Part.TheVariants.{Count, Size}
 use Rattle.xs_resp.specs.declared.header.Header.{Header}
-use Rattle.xs_resp.specs.declared.read_fault.Wrong.{Wrong}
-use Rattle.xs_resp.specs.declared.read_fault.Wrong.TheVariants.{Length, Shape, Limit}
+use Rattle.xs_resp.specs.declared.read_fault.ProtocolFault.{ProtocolFault}
+use Rattle.xs_resp.specs.declared.read_fault.ProtocolFault.TheVariants.{Length, Shape, Limit}
 use Rattle.xs_resp.specs.Line.{line, crlf}
 use Rattle.xs_resp.specs.HeaderPart.{marker, limit, number_in}
 use Rattle.xs_resp.specs.Header.{is_not_cr, text_len, within_limit, line_at, header}
@@ -135,7 +135,7 @@ header-read part (byte ∷ bytes) h e =
     ]
 
 -- a number that isn't within its limit
-limited-err : (part : Part) (end : ℕ) (number : Option ℕ) (wrong : Wrong) → within_limit part end number ≡ Err wrong → ((number ≡ None) × (Length ≡ wrong)) ⊎ ((n : ℕ) × (number ≡ Some n) × (limit part < n) × (Limit ≡ wrong))
+limited-err : (part : Part) (end : ℕ) (number : Option ℕ) (wrong : ProtocolFault) → within_limit part end number ≡ Err wrong → ((number ≡ None) × (Length ≡ wrong)) ⊎ ((n : ℕ) × (number ≡ Some n) × (limit part < n) × (Limit ≡ wrong))
 limited-err part end None wrong e = inl (refl, cc)
 limited-err part end (Some n) wrong e =
     elim (chosen (ltb (limit part) n) _ _ _ e) [
@@ -144,7 +144,7 @@ limited-err part end (Some n) wrong e =
     ]
 
 -- a fault that was met in a line stands in it
-line-fault : (part : Part) (bytes : List ℕ) (wrong : Wrong) → line_at part bytes (text_len bytes) ≡ Err wrong → HeaderFault part (marker part ∷ bytes) wrong
+line-fault : (part : Part) (bytes : List ℕ) (wrong : ProtocolFault) → line_at part bytes (text_len bytes) ≡ Err wrong → HeaderFault part (marker part ∷ bytes) wrong
 unfolding line_at
 line-fault part bytes wrong e =
     let cr = text_len bytes in
@@ -175,7 +175,7 @@ line-fault part bytes wrong e =
       ]
     ]
 
-pub header-fault : (part : Part) (bytes : List ℕ) (wrong : Wrong) → header part bytes ≡ Err wrong → HeaderFault part bytes wrong
+pub header-fault : (part : Part) (bytes : List ℕ) (wrong : ProtocolFault) → header part bytes ≡ Err wrong → HeaderFault part bytes wrong
 unfolding header
 header-fault part [] wrong e = absurd (cc)
 header-fault part (byte ∷ bytes) wrong e =
@@ -187,7 +187,7 @@ header-fault part (byte ∷ bytes) wrong e =
     ]
 
 -- and the other way
-pub header-err : (part : Part) (bytes : List ℕ) (wrong : Wrong) → HeaderFault part bytes wrong → header part bytes ≡ Err wrong
+pub header-err : (part : Part) (bytes : List ℕ) (wrong : ProtocolFault) → HeaderFault part bytes wrong → header part bytes ≡ Err wrong
 unfolding header line_at
 header-err part bytes Length f = begins-header part bytes f.text 10 f.begins ∙ ap (within_limit part (length f.text + 3)) f.none
 header-err part bytes Shape (inl f) = ap (header part) f.whole ∙ cond-false (eqb f.byte (marker part)) _ _ (ne_eqb f.byte (marker part) f.other)

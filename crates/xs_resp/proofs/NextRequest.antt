@@ -3,7 +3,7 @@ use Rattle.std.proofs.Common.{◌≡◌, ℕ, ◌+◌, ◌<◌, ◌≤◌, true,
 use Rattle.std.proofs.Common.{None, Result, Ok, Err, inl, inr, sym, ap, ◌∙◌, subst, refl, arith, append_assoc}
 use Rattle.std.proofs.Common.{length-append, length-drop}
 use Rattle.std.proofs.lemmas.List.{append-nil, length-take-le, take-append-drop, drop-append-le}
-use Rattle.xs_resp.specs.declared.read_fault.Wrong.{Wrong}
+use Rattle.xs_resp.specs.declared.read_fault.ProtocolFault.{ProtocolFault}
 use Rattle.xs_resp.specs.declared.read_fault.ReadFault.{ReadFault}
 use Rattle.xs_resp.specs.declared.read_fault.ReadFault.TheVariants.{Memory}
 use Rattle.xs_resp.specs.Grammar.{Spells, SpellsAll}
@@ -43,13 +43,13 @@ pub next-same : (old new : Held) → Next old (Ok None) new → new ≡ old
 next-same (Ok bytes) new next = (next-none (Ok bytes) bytes new refl next).1
 next-same (Err wrong) new (is, left) = cc
 
-fault-of : (bytes : List ℕ) (outcome : Outcome Found) (fault : ReadFault) (new : Held) → request bytes ≡ outcome → (fault ≡ Memory → ⊥) → NextOf bytes outcome (Err fault) new → (wrong : Wrong) × (request bytes ≡ Err wrong)
+fault-of : (bytes : List ℕ) (outcome : Outcome Found) (fault : ReadFault) (new : Held) → request bytes ≡ outcome → (fault ≡ Memory → ⊥) → NextOf bytes outcome (Err fault) new → (wrong : ProtocolFault) × (request bytes ≡ Err wrong)
 fault-of bytes (Ok (Some found)) fault new e other (inl (is, left)) = cc
 fault-of bytes (Ok (Some found)) fault new e other (inr (is, left)) = let same : fault ≡ Memory = cc in absurd (other same)
 fault-of bytes (Ok None) fault new e other (is, left) = cc
 fault-of bytes (Err wrong) fault new e other (is, left) = (wrong, e)
 
-pub next-fault : (old : Held) (bytes : List ℕ) (fault : ReadFault) (new : Held) → old ≡ Ok bytes → (fault ≡ Memory → ⊥) → Next old (Err fault) new → (wrong : Wrong) × (request bytes ≡ Err wrong)
+pub next-fault : (old : Held) (bytes : List ℕ) (fault : ReadFault) (new : Held) → old ≡ Ok bytes → (fault ≡ Memory → ⊥) → Next old (Err fault) new → (wrong : ProtocolFault) × (request bytes ≡ Err wrong)
 next-fault old bytes fault new e other next = fault-of bytes (request bytes) fault new refl other (subst (λ h. Next h (Err fault) new) e next)
 
 -- a request has bytes
@@ -102,12 +102,12 @@ ready-none (Ok bytes) new ready = whole-none bytes (request bytes) new ready
 ready-none (Err wrong) new (is, same) = cc
 
 -- a fault is that of the bytes
-wrong-of : (bytes : List ℕ) (outcome : Outcome Found) (fault : ReadFault) (new : Held) → request bytes ≡ outcome → ReadyOf bytes outcome (Err fault) new → (wrong : Wrong) × (request bytes ≡ Err wrong)
+wrong-of : (bytes : List ℕ) (outcome : Outcome Found) (fault : ReadFault) (new : Held) → request bytes ≡ outcome → ReadyOf bytes outcome (Err fault) new → (wrong : ProtocolFault) × (request bytes ≡ Err wrong)
 wrong-of bytes (Ok (Some found)) fault new e (is, same) = cc
 wrong-of bytes (Ok None) fault new e (is, same) = cc
 wrong-of bytes (Err wrong) fault new e (is, same) = (wrong, e)
 
-pub ready-wrong : (old : Held) (bytes : List ℕ) (fault : ReadFault) (new : Held) → old ≡ Ok bytes → Ready old (Err fault) new → (wrong : Wrong) × (request bytes ≡ Err wrong)
+pub ready-wrong : (old : Held) (bytes : List ℕ) (fault : ReadFault) (new : Held) → old ≡ Ok bytes → Ready old (Err fault) new → (wrong : ProtocolFault) × (request bytes ≡ Err wrong)
 ready-wrong old bytes fault new is ready = wrong-of bytes (request bytes) fault new refl (subst (λ h. Ready h (Err fault) new) is ready)
 
 -- a piece more

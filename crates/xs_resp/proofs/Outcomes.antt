@@ -1,7 +1,7 @@
 -- Facts on outcomes.
 use Rattle.std.proofs.Common.{◌≡◌, ℕ, ◌+◌, List, [], ◌++◌, Some, None, Ok, Err, inl, inr, ◌⊎◌, refl, ap, ◌∙◌, arith}
 use Rattle.std.proofs.Common.{append_assoc}
-use Rattle.xs_resp.specs.declared.read_fault.Wrong.{Wrong}
+use Rattle.xs_resp.specs.declared.read_fault.ProtocolFault.{ProtocolFault}
 use Rattle.xs_resp.specs.Outcome.{Outcome, ◌>>=◌, Keeps}
 use Rattle.xs_resp.specs.Reading.{Found, behind_words}
 
@@ -33,13 +33,13 @@ after-after words more end length (Ok None) = refl
 after-after words more end length (Err wrong) = refl
 
 -- a fault of two steps is one of them
-pub bind-err : {A B : Type 0} (first : Outcome A) (next : A → Outcome B) (wrong : Wrong) → (first >>= next) ≡ Err wrong → (first ≡ Err wrong) ⊎ ((x : A) × (first ≡ Ok (Some x)) × (next x ≡ Err wrong))
+pub bind-err : {A B : Type 0} (first : Outcome A) (next : A → Outcome B) (wrong : ProtocolFault) → (first >>= next) ≡ Err wrong → (first ≡ Err wrong) ⊎ ((x : A) × (first ≡ Ok (Some x)) × (next x ≡ Err wrong))
 bind-err (Ok (Some x)) next wrong e = inr (x, refl, e)
 bind-err (Ok None) next wrong e = absurd (cc)
 bind-err (Err fault) next wrong e = inl (cc)
 
 -- the three outcomes
-pub cases-outcome : {A : Type 0} (outcome : Outcome A) → (outcome ≡ Ok None) ⊎ (((x : A) × (outcome ≡ Ok (Some x))) ⊎ ((wrong : Wrong) × (outcome ≡ Err wrong)))
+pub cases-outcome : {A : Type 0} (outcome : Outcome A) → (outcome ≡ Ok None) ⊎ (((x : A) × (outcome ≡ Ok (Some x))) ⊎ ((wrong : ProtocolFault) × (outcome ≡ Err wrong)))
 cases-outcome (Ok None) = inl refl
 cases-outcome (Ok (Some x)) = inr (inl (x, refl))
 cases-outcome (Err wrong) = inr (inr (wrong, refl))

@@ -6,7 +6,7 @@ use Rattle.xs_resp.specs.declared.header.Part.TheVariants.{Count}
 use Rattle.xs_resp.specs.declared.header.Header.{Header}
 use Rattle.xs_resp.specs.declared.word.Span.{Span}
 use Rattle.xs_resp.specs.declared.progress.Progress.{Progress}
-use Rattle.xs_resp.specs.declared.read_fault.Wrong.{Wrong}
+use Rattle.xs_resp.specs.declared.read_fault.ProtocolFault.{ProtocolFault}
 use Rattle.xs_resp.specs.Outcome.{◌>>=◌, Keeps}
 use Rattle.xs_resp.specs.Header.{header}
 use Rattle.xs_resp.specs.Reading.{bulk_string, text_in, behind_words, words, request}
@@ -21,7 +21,7 @@ unfolding request
 request-none bytes e = ap (λ o. o >>= λ (h : Header). behind_words [] h.end (words h.number (drop h.end bytes))) e
 
 -- a fault of its header is a fault of the request
-pub request-err : (bytes : List ℕ) (wrong : Wrong) → header Count bytes ≡ Err wrong → request bytes ≡ Err wrong
+pub request-err : (bytes : List ℕ) (wrong : ProtocolFault) → header Count bytes ≡ Err wrong → request bytes ≡ Err wrong
 unfolding request
 request-err bytes wrong e = ap (λ o. o >>= λ (h : Header). behind_words [] h.end (words h.number (drop h.end bytes))) e
 
@@ -89,7 +89,7 @@ follows-none bytes progress left f some w =
     ∙ ap (λ o. behind_words f.passed progress.at (o >>= λ (s : Span). behind_words (text_in rest s ∷ []) (s.end + 2) (words left (drop (s.end + 2) rest)))) w
 
 -- a word with a fault
-pub follows-err : (bytes : List ℕ) (progress : Progress) (left : ℕ) (wrong : Wrong) → IsProgressOf bytes progress → progress.left ≡ suc left → bulk_string (drop progress.at bytes) ≡ Err wrong → request bytes ≡ Err wrong
+pub follows-err : (bytes : List ℕ) (progress : Progress) (left : ℕ) (wrong : ProtocolFault) → IsProgressOf bytes progress → progress.left ≡ suc left → bulk_string (drop progress.at bytes) ≡ Err wrong → request bytes ≡ Err wrong
 unfolding words
 follows-err bytes progress left wrong f some w =
     let rest = drop progress.at bytes in

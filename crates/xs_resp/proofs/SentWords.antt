@@ -6,8 +6,8 @@ use Rattle.std.proofs.lemmas.List.{take_at, drop_at, take-append-drop, length-ta
 use Rattle.xs_resp.specs.declared.header.Part.TheVariants.{Size}
 use Rattle.xs_resp.specs.declared.header.Header.{Header}
 use Rattle.xs_resp.specs.declared.word.Span.{Span}
-use Rattle.xs_resp.specs.declared.read_fault.Wrong.{Wrong}
-use Rattle.xs_resp.specs.declared.read_fault.Wrong.TheVariants.{Shape}
+use Rattle.xs_resp.specs.declared.read_fault.ProtocolFault.{ProtocolFault}
+use Rattle.xs_resp.specs.declared.read_fault.ProtocolFault.TheVariants.{Shape}
 use Rattle.xs_resp.specs.Line.{line, crlf}
 use Rattle.xs_resp.specs.HeaderPart.{limit}
 use Rattle.xs_resp.specs.Outcome.{◌>>=◌}
@@ -55,7 +55,7 @@ word-read bytes span e =
     }
 
 -- a line end that is missing
-closed-fault : (start end : ℕ) (rest : List ℕ) (wrong : Wrong) → closed start end rest ≡ Err wrong → (Shape ≡ wrong) × LacksCrlf rest
+closed-fault : (start end : ℕ) (rest : List ℕ) (wrong : ProtocolFault) → closed start end rest ≡ Err wrong → (Shape ≡ wrong) × LacksCrlf rest
 closed-fault start end [] wrong e = absurd (cc)
 closed-fault start end (cr ∷ []) wrong e =
     elim (chosen (eqb cr 13) _ _ _ e) [ inl w ↦ absurd (cc) | inr w ↦ (cc, eqb-false cr 13 w.0) ]
@@ -80,7 +80,7 @@ some-missing [] missing = absurd missing
 some-missing (byte ∷ rest) missing = omega arith
 
 -- a fault that was met in a word stands in it
-pub word-fault : (bytes : List ℕ) (wrong : Wrong) → bulk_string bytes ≡ Err wrong → WordFault bytes wrong
+pub word-fault : (bytes : List ℕ) (wrong : ProtocolFault) → bulk_string bytes ≡ Err wrong → WordFault bytes wrong
 unfolding bulk_string
 word-fault bytes wrong e =
     elim (bind-err (header Size bytes) _ wrong e) [
@@ -117,7 +117,7 @@ behind-line text rest h =
     ∙ ap (closed end (end + n)) (ap (drop (end + n)) (sym (append_assoc head text rest)) ∙ drop_at (head ++ text) rest (end + n) (length-append head text))
 
 -- and the other way
-pub word-err : (bytes : List ℕ) (wrong : Wrong) → WordFault bytes wrong → bulk_string bytes ≡ Err wrong
+pub word-err : (bytes : List ℕ) (wrong : ProtocolFault) → WordFault bytes wrong → bulk_string bytes ≡ Err wrong
 unfolding bulk_string
 word-err bytes wrong (inl f) = ap (λ o. o >>= λ (h : Header). closed h.end (h.end + h.number) (drop (h.end + h.number) bytes)) (header-err Size bytes wrong f)
 word-err bytes wrong (inr f) =

@@ -3,7 +3,7 @@ use Rattle.std.proofs.Common.{◌≡◌, ℕ, ◌+◌, ◌<◌, zero, suc, List,
 use Rattle.std.proofs.Common.{refl, sym, ap, ◌∙◌, subst, arith, append_assoc, length-append}
 use Rattle.std.proofs.lemmas.List.{drop_at, drop-drop, drop-append-le}
 use Rattle.xs_resp.specs.declared.word.Span.{Span}
-use Rattle.xs_resp.specs.declared.read_fault.Wrong.{Wrong}
+use Rattle.xs_resp.specs.declared.read_fault.ProtocolFault.{ProtocolFault}
 use Rattle.xs_resp.specs.Outcome.{◌>>=◌, Keeps}
 use Rattle.xs_resp.specs.Reading.{Found, bulk_string, text_in, behind_words, words}
 use Rattle.xs_resp.specs.Grammar.{sent_word, sent_words, AreSizes, WordFault}
@@ -48,7 +48,7 @@ words-read (suc number) bytes found e =
     })
 
 -- a fault that was met behind some words
-pub record WordsFault (number : ℕ) (bytes : List ℕ) (wrong : Wrong) : Type 0 where
+pub record WordsFault (number : ℕ) (bytes : List ℕ) (wrong : ProtocolFault) : Type 0 where
   pub passed : List (List ℕ)
   pub rest : List ℕ
   pub whole : bytes ≡ sent_words passed ++ rest
@@ -56,7 +56,7 @@ pub record WordsFault (number : ℕ) (bytes : List ℕ) (wrong : Wrong) : Type 0
   pub sizes : AreSizes passed
   pub fault : WordFault rest wrong
 
-pub words-fault : (number : ℕ) (bytes : List ℕ) (wrong : Wrong) → words number bytes ≡ Err wrong → WordsFault number bytes wrong
+pub words-fault : (number : ℕ) (bytes : List ℕ) (wrong : ProtocolFault) → words number bytes ≡ Err wrong → WordsFault number bytes wrong
 unfolding words
 words-fault zero bytes wrong e = absurd (cc)
 words-fault (suc number) bytes wrong e =

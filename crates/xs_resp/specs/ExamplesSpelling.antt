@@ -1,6 +1,6 @@
 -- The grammar of requests, and requests in pieces, by examples of the RESP protocol specification (version 2).
 use Rattle.std.specs.Prelude.{◌≡◌, ℕ, [], ◌∷◌, codes, Ok, Err, ◌++◌}
-use Rattle.xs_resp.specs.declared.read_fault.Wrong.TheVariants.{Length, Shape, Limit}
+use Rattle.xs_resp.specs.declared.read_fault.ProtocolFault.TheVariants.{Length, Shape, Limit}
 use Rattle.xs_resp.specs.Outcome.{Keeps}
 use Rattle.xs_resp.specs.Grammar.{spelling, null_spelling, Spells, SpellsAll}
 use Rattle.xs_resp.specs.Grammar.{HasNoCr, LacksCrlf, FaultIn, WordFault, IsOpen}

@@ -4,8 +4,8 @@ use Rattle.std.specs.Prelude.{◌≡◌, ◌≢◌, ◌⊎◌, ℕ, ◌<◌, ◌
 use Rattle.std.specs.List.{flat_map, AllByRecursion}
 use Rattle.xs_resp.specs.declared.header.Part.{Part}
 use Rattle.xs_resp.specs.declared.header.Part.TheVariants.{Count, Size}
-use Rattle.xs_resp.specs.declared.read_fault.Wrong.{Wrong}
-use Rattle.xs_resp.specs.declared.read_fault.Wrong.TheVariants.{Length, Shape, Limit}
+use Rattle.xs_resp.specs.declared.read_fault.ProtocolFault.{ProtocolFault}
+use Rattle.xs_resp.specs.declared.read_fault.ProtocolFault.TheVariants.{Length, Shape, Limit}
 use Rattle.xs_resp.specs.Line.{crlf, line}
 use Rattle.xs_resp.specs.HeaderPart.{marker, limit, number_in}
 
@@ -89,7 +89,7 @@ pub record IsTooGreat (part : Part) (bytes : List ℕ) : Type 0 where
   pub great : limit part < number
 
 -- the fault of a header that these bytes begin with
-abbrev pub HeaderFault : Part → List ℕ → Wrong → Type 0
+abbrev pub HeaderFault : Part → List ℕ → ProtocolFault → Type 0
 HeaderFault part bytes Length = LacksNumber part bytes
 HeaderFault part bytes Shape = LacksMarker part bytes ⊎ LacksLf part bytes
 HeaderFault part bytes Limit = IsTooLong part bytes ⊎ IsTooGreat part bytes
@@ -109,11 +109,11 @@ pub record LacksLineEnd (bytes : List ℕ) : Type 0 where
   pub missing : LacksCrlf rest
 
 -- the fault of a word that these bytes begin with
-abbrev pub WordFault : List ℕ → Wrong → Type 0
+abbrev pub WordFault : List ℕ → ProtocolFault → Type 0
 WordFault bytes wrong = HeaderFault Size bytes wrong ⊎ ((wrong ≡ Shape) × LacksLineEnd bytes)
 
 -- the bytes begin as a request, and behind some of its words a fault stands
-pub record FaultBehind (bytes : List ℕ) (wrong : Wrong) : Type 0 where
+pub record FaultBehind (bytes : List ℕ) (wrong : ProtocolFault) : Type 0 where
   pub number : ℕ
   pub words : List (List ℕ)
   pub rest : List ℕ
@@ -124,11 +124,11 @@ pub record FaultBehind (bytes : List ℕ) (wrong : Wrong) : Type 0 where
   pub fault : WordFault rest wrong
 
 -- the fault that stands in some bytes
-abbrev pub FaultIn : List ℕ → Wrong → Type 0
+abbrev pub FaultIn : List ℕ → ProtocolFault → Type 0
 FaultIn bytes wrong = HeaderFault Count bytes wrong ⊎ FaultBehind bytes wrong
 
 -- more bytes decide: no front of these is a request, and no fault stands in them
 abbrev pub IsOpen : List ℕ → Type 0
 IsOpen bytes =
     ((front rest : List ℕ) (words : List (List ℕ)) → bytes ≡ front ++ rest → Spells front words → ⊥)
-    × ((wrong : Wrong) → FaultIn bytes wrong → ⊥)
+    × ((wrong : ProtocolFault) → FaultIn bytes wrong → ⊥)

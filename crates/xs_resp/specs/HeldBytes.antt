@@ -2,7 +2,7 @@
 use Rattle.std.specs.Prelude.{◌≡◌, ℕ, ◌==◌, Bool, true, false, not, List, [], ◌++◌, length, drop, Option, Some, None}
 use Rattle.std.specs.Prelude.{Result, Ok}
 use Rattle.std.specs.Prelude.{Err, ◌⊎◌}
-use Rattle.xs_resp.specs.declared.read_fault.Wrong.{Wrong}
+use Rattle.xs_resp.specs.declared.read_fault.ProtocolFault.{ProtocolFault}
 use Rattle.xs_resp.specs.declared.read_fault.ReadFault.{ReadFault}
 use Rattle.xs_resp.specs.declared.read_fault.ReadFault.TheVariants.{Memory}
 use Rattle.xs_resp.specs.Outcome.{Outcome}
@@ -11,7 +11,7 @@ use Rattle.xs_resp.specs.Reading.{Found, request, words_in, IsWhole}
 
 -- the bytes that a reader holds, or the fault with which it has failed
 abbrev pub Held : Type 0
-Held = Result (List ℕ) Wrong
+Held = Result (List ℕ) ProtocolFault
 
 -- a piece more
 abbrev pub fed : Held → List ℕ → Held

@@ -1,9 +1,9 @@
 -- What reading on some bytes comes to: a value, a fault, or nothing yet, where more bytes decide.
 use Rattle.std.specs.Prelude.{◌≡◌, Option, Some, None, Result, Ok, Err}
-use Rattle.xs_resp.specs.declared.read_fault.Wrong.{Wrong}
+use Rattle.xs_resp.specs.declared.read_fault.ProtocolFault.{ProtocolFault}
 
 abbrev pub Outcome : Type 0 → Type 0
-Outcome A = Result (Option A) Wrong
+Outcome A = Result (Option A) ProtocolFault
 
 infixl 10 ◌>>=◌
 -- goes on where a value was read

@@ -1,7 +1,7 @@
 -- How far the request at the front of some bytes is read.
 use Rattle.std.specs.Prelude.{◌≡◌, ℕ, ◌<◌, ◌≤◌, List, ◌++◌, length, drop, Option, Some, None, Result, Ok, Err}
 use Rattle.xs_resp.specs.declared.progress.Progress.{Progress}
-use Rattle.xs_resp.specs.declared.read_fault.Wrong.{Wrong}
+use Rattle.xs_resp.specs.declared.read_fault.ProtocolFault.{ProtocolFault}
 use Rattle.xs_resp.specs.Reading.{behind_words, words, request}
 
 -- behind these words, whatever bytes follow decide what the request is
@@ -17,18 +17,18 @@ pub record IsProgressOf (bytes : List ℕ) (progress : Progress) : Type 0 where
   pub passes : Passes bytes progress passed
 
 -- the request behind its header
-abbrev pub Begins : List ℕ → Result (Option Progress) Wrong → Type 0
+abbrev pub Begins : List ℕ → Result (Option Progress) ProtocolFault → Type 0
 Begins bytes (Ok (Some progress)) = IsProgressOf bytes progress
 Begins bytes (Ok None) = request bytes ≡ Ok None
 Begins bytes (Err wrong) = request bytes ≡ Err wrong
 
 -- the words as far as the bytes go
-abbrev pub Goes : List ℕ → Result Progress Wrong → Type 0
+abbrev pub Goes : List ℕ → Result Progress ProtocolFault → Type 0
 Goes bytes (Ok progress) = IsProgressOf bytes progress × (0 < progress.left → request bytes ≡ Ok None)
 Goes bytes (Err wrong) = request bytes ≡ Err wrong
 
 -- the header, and the words as far as the bytes go
-abbrev pub Reaches : List ℕ → Result (Option Progress) Wrong → Type 0
+abbrev pub Reaches : List ℕ → Result (Option Progress) ProtocolFault → Type 0
 Reaches bytes (Ok (Some progress)) = IsProgressOf bytes progress × (0 < progress.left → request bytes ≡ Ok None)
 Reaches bytes (Ok None) = request bytes ≡ Ok None
 Reaches bytes (Err wrong) = request bytes ≡ Err wrong

@@ -3,7 +3,7 @@ use Rattle.std.specs.Prelude.{◌≡◌, ℕ, ◌+◌, ◌-◌, ◌==◌, List, 
 use Rattle.std.specs.Prelude.{if◌then◌else◌}
 use Rattle.xs_resp.specs.declared.header.Part.TheVariants.{Count, Size}
 use Rattle.xs_resp.specs.declared.word.Span.{Span}
-use Rattle.xs_resp.specs.declared.read_fault.Wrong.TheVariants.{Shape}
+use Rattle.xs_resp.specs.declared.read_fault.ProtocolFault.TheVariants.{Shape}
 use Rattle.xs_resp.specs.Outcome.{Outcome, ◌>>=◌}
 use Rattle.xs_resp.specs.Header.{header}
 

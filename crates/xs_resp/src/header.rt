@@ -6,7 +6,7 @@ ghost use Rattle.xs_bytes.specs.Number.{is_digit, value_of};
 ghost use Rattle.xs_resp.specs.HeaderPart.{marker, limit, is_natural, number_in};
 ghost use Rattle.xs_resp.specs.Header.{text_len, within_limit, line_at, header};
 
-use crate::read_fault::Wrong;
+use crate::read_fault::ProtocolFault;
 
 /// What the number of a header counts.
 #[derive(Clone, Copy, Debug, PartialEq, Eq)]
@@ -49,32 +49,32 @@ fn limit(part: Part) -> u64
 
 /// Reads the header at the front. None where more bytes decide.
 #[tactic(auto, unfolding(crate::specs::Header::header))]
-pub fn read_header(part: Part, bytes: &[u8]) -> Result<Option<Header>, Wrong>
+pub fn read_header(part: Part, bytes: &[u8]) -> Result<Option<Header>, ProtocolFault>
     ensures { result ≡ header part bytes.now }
 {
     let Some((first, line)) = bytes.split_first() else {
         return Ok(None);
     };
     if *first != marker(part) {
-        return Err(Wrong::Shape);
+        return Err(ProtocolFault::Shape);
     }
     read_line(part, line)
 }
 
 /// Reads a header behind its marker.
 #[tactic(auto, unfolding(crate::specs::Header::line_at))]
-fn read_line(part: Part, line: &[u8]) -> Result<Option<Header>, Wrong>
+fn read_line(part: Part, line: &[u8]) -> Result<Option<Header>, ProtocolFault>
     ensures { result ≡ line_at part line.now (text_len line.now) }
 {
     let cr = find_cr(line);
     if cr > TEXT_LIMIT {
-        return Err(Wrong::Limit);
+        return Err(ProtocolFault::Limit);
     }
     if line.len() < cr + 2 {
         return Ok(None);
     }
     if line[cr + 1] != b'\n' {
-        return Err(Wrong::Shape);
+        return Err(ProtocolFault::Shape);
     }
     limited(part, cr + 3, number_in(part, &line[..cr]))
 }
@@ -94,12 +94,12 @@ fn find_cr(line: &[u8]) -> usize
 }
 
 /// A header with this number, if it is one and within the limit. The number is saturated.
-fn limited(part: Part, end: usize, number: Option<u64>) -> Result<Option<Header>, Wrong>
+fn limited(part: Part, end: usize, number: Option<u64>) -> Result<Option<Header>, ProtocolFault>
     ensures { result ≡ within_limit part end number }
 {
-    let number = number.ok_or(Wrong::Length)?;
+    let number = number.ok_or(ProtocolFault::Length)?;
     if number > limit(part) {
-        return Err(Wrong::Limit);
+        return Err(ProtocolFault::Limit);
     }
     Ok(Some(Header {
         number: number as usize,

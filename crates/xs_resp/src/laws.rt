@@ -2,7 +2,7 @@
 ghost use Rattle.std.specs.Prelude.{◌≡◌, ◌≤◌, ◌↔◌, ℕ, List, [], ◌++◌, length, take, Ok, Err, Some, None};
 ghost use Rattle.std.specs.List.{flat_map, concat};
 ghost use Rattle.xs_resp.specs.declared.reply.Reply.{Reply};
-ghost use Rattle.xs_resp.specs.declared.read_fault.Wrong.{Wrong};
+ghost use Rattle.xs_resp.specs.declared.read_fault.ProtocolFault.{ProtocolFault};
 ghost use Rattle.xs_resp.specs.Items.{Items};
 ghost use Rattle.xs_resp.specs.ReplyItems.{items_of};
 ghost use Rattle.xs_resp.specs.Whole.{AreItems};
@@ -38,7 +38,7 @@ pub fn request_is_spelled()
 
 /// A fault is answered exactly where it stands.
 pub fn fault_stands()
-    ensures { (bytes : List ℕ) (wrong : Wrong) →
+    ensures { (bytes : List ℕ) (wrong : ProtocolFault) →
         (request bytes ≡ Err wrong) ↔ FaultIn bytes wrong }
 {}
 

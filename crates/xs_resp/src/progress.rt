@@ -3,7 +3,7 @@ ghost use Rattle.std.specs.Prelude.{◌≡◌, ◌<◌, ◌≤◌, IfSome, Ok, N
 ghost use Rattle.xs_resp.specs.Progress.{IsProgressOf, Begins, Goes, Reaches};
 
 use crate::header::{Part, read_header};
-use crate::read_fault::Wrong;
+use crate::read_fault::ProtocolFault;
 use crate::word::{read_word, rest_of};
 
 /// How far a request is read: behind its header, and behind some of its words.
@@ -16,7 +16,7 @@ pub struct Progress {
 }
 
 /// Reads on as far as the bytes go. None where the header isn't whole.
-pub fn read_on(bytes: &[u8], progress: Option<Progress>) -> Result<Option<Progress>, Wrong>
+pub fn read_on(bytes: &[u8], progress: Option<Progress>) -> Result<Option<Progress>, ProtocolFault>
     requires { IfSome progress (IsProgressOf bytes.now) }
     ensures { Reaches bytes.now result }
 {
@@ -31,7 +31,7 @@ pub fn read_on(bytes: &[u8], progress: Option<Progress>) -> Result<Option<Progre
 }
 
 /// Reads the header of a request.
-fn begin(bytes: &[u8]) -> Result<Option<Progress>, Wrong>
+fn begin(bytes: &[u8]) -> Result<Option<Progress>, ProtocolFault>
     ensures { Begins bytes.now result }
 {
     match read_header(Part::Count, bytes)? {
@@ -44,7 +44,7 @@ fn begin(bytes: &[u8]) -> Result<Option<Progress>, Wrong>
 }
 
 /// Reads words as far as the bytes go.
-fn advance(bytes: &[u8], mut progress: Progress) -> Result<Progress, Wrong>
+fn advance(bytes: &[u8], mut progress: Progress) -> Result<Progress, ProtocolFault>
     requires { IsProgressOf bytes.now progress }
     ensures { Goes bytes.now result }
 {

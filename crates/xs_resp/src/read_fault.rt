@@ -1,9 +1,9 @@
 //! Why bytes are no request.
 use thiserror::Error;
 
-/// What is wrong with the bytes that a reader holds.
+/// How the bytes of a request break the protocol.
 #[derive(Clone, Copy, Debug, PartialEq, Eq)]
-pub enum Wrong {
+pub enum ProtocolFault {
     /// What stands for a number is none.
     Length,
     /// A marker or a line end is missing.
@@ -29,17 +29,17 @@ pub enum ReadFault {
     Memory,
 }
 
-impl From<Wrong> for ReadFault {
+impl From<ProtocolFault> for ReadFault {
     ghost use Rattle.std.specs.Prelude.{◌≡◌};
     ghost use Rattle.xs_resp.specs.ReadFaults.{read_fault_of};
 
     ghost from_gives = { λ wrong fault. fault ≡ read_fault_of wrong };
 
-    fn from(wrong: Wrong) -> Self {
+    fn from(wrong: ProtocolFault) -> Self {
         match wrong {
-            Wrong::Length => Self::Length,
-            Wrong::Shape => Self::Shape,
-            Wrong::Limit => Self::Limit,
+            ProtocolFault::Length => Self::Length,
+            ProtocolFault::Shape => Self::Shape,
+            ProtocolFault::Limit => Self::Limit,
         }
     }
 }

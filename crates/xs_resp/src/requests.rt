@@ -1,7 +1,7 @@
 //! The reader of requests, from bytes that come in pieces.
 use crate::header::{Part, read_header};
 use crate::progress::{Progress, read_on};
-use crate::read_fault::{ReadFault, Wrong};
+use crate::read_fault::{ReadFault, ProtocolFault};
 use crate::request::Request;
 use crate::word::rest_of;
 use std::alloc::{AllocError, Global};
@@ -17,7 +17,7 @@ enum State {
     /// Behind the header of a request.
     Within(Progress),
     /// At a fault, for good.
-    Failed(Wrong),
+    Failed(ProtocolFault),
 }
 
 /// A reader of requests: bytes are read into it in pieces, and whole requests are taken from it.

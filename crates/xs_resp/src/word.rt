@@ -3,7 +3,7 @@ ghost use Rattle.std.specs.Prelude.{◌≡◌, ◌≤◌, ◌+◌, length, drop,
 ghost use Rattle.xs_resp.specs.Reading.{closed, bulk_string};
 
 use crate::header::{Part, read_header};
-use crate::read_fault::Wrong;
+use crate::read_fault::ProtocolFault;
 
 /// Where a word stands.
 #[derive(Clone, Copy, Debug, PartialEq, Eq)]
@@ -24,7 +24,7 @@ pub fn rest_of(bytes: &[u8], at: usize) -> &[u8]
 
 /// Reads the word at the front, with its header and its line end. None where more bytes decide.
 #[tactic(auto, using(crate::proofs::Reading::header_ends), unfolding(crate::specs::Reading::bulk_string))]
-pub fn read_word(bytes: &[u8]) -> Result<Option<Span>, Wrong>
+pub fn read_word(bytes: &[u8]) -> Result<Option<Span>, ProtocolFault>
     ensures value { result ≡ bulk_string bytes.now }
     ensures ends { IfOk result (λ found. IfSome found (λ span. (span.start ≤ span.end)
         × (span.end + 2 ≤ length bytes.now))) }
@@ -40,12 +40,12 @@ pub fn read_word(bytes: &[u8]) -> Result<Option<Span>, Wrong>
 }
 
 /// Reads the line end behind the bytes of a word, which stand between these indices.
-fn read_closing(start: usize, end: usize, rest: &[u8]) -> Result<Option<Span>, Wrong>
+fn read_closing(start: usize, end: usize, rest: &[u8]) -> Result<Option<Span>, ProtocolFault>
     ensures { result ≡ closed start end rest.now }
 {
     match rest {
         [] | [b'\r'] => Ok(None),
         [b'\r', b'\n', ..] => Ok(Some(Span { start, end })),
-        _ => Err(Wrong::Shape),
+        _ => Err(ProtocolFault::Shape),
     }
 }

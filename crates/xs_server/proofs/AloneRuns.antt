@@ -5,7 +5,7 @@ use Rattle.std.proofs.lemmas.List.{append-nil}
 use Rattle.xs_resp.specs.declared.reply.Reply.{Reply}
 use Rattle.xs_command.specs.declared.command.Command.{Command}
 use Rattle.xs_command.proofs.FormedReads.{given_formed}
-use Rattle.xs_keys.specs.Event.{History}
+use Rattle.xs_keys.specs.Event.{Event, event_moment, event_command}
 use Rattle.xs_keys.specs.Content.{Content}
 use Rattle.xs_keys.specs.Headline.{RunsOn}
 use Rattle.xs_keys.specs.Step.{Step}
@@ -26,8 +26,8 @@ IsOfKeyspace {P} Replies gives content clock = (old : P) (command : Command) (an
 -- events with these commands, at moments that the clock gives, and any run that has come to the old content goes on by them to the new one
 abbrev Goes : {C : Type 0} → (C → ℕ → C → Type 0) → List (Command × Reply) → Content → C → Content → C → Type 0
 Goes gives asked old clock new later =
-    (events : History) × (map (λ event. event.1) events ≡ map (λ a. a.0) asked)
-    × GivesMoments gives clock (map (λ event. event.0) events) later
+    (events : List Event) × (map event_command events ≡ map (λ a. a.0) asked)
+    × GivesMoments gives clock (map event_moment events) later
     × ((start : Content) (all : History) (done : List Reply) → RunsSoFar start all done old events → RunsSoFar start all (done ++ map (λ a. a.1) asked) new [])
 
 goes-none : {C : Type 0} (gives : C → ℕ → C → Type 0) (old : Content) (clock : C) → Goes gives [] old clock old clock
@@ -84,6 +84,6 @@ serves-alone Replies Fails gives content clock of never result old new read sent
     let runs = runs-all (content old) events (map (λ a. a.1) (asked_in served.exchanges)) (content served.last) (goes.3 (content old) events [] (runs-none (content old) events)) in (
       events,
       goes.1,
-      subst (λ p. GivesMoments gives (clock old) (map (λ event. event.0) events) (clock p)) (sym same) goes.2,
+      subst (λ p. GivesMoments gives (clock old) (map event_moment events) (clock p)) (sym same) goes.2,
       subst (λ p. RunsOn (content old) events (map (λ a. a.1) (asked_in served.exchanges)) (content p)) (sym same) runs,
     )

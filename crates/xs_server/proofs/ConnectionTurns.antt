@@ -8,7 +8,7 @@ use Rattle.std.proofs.lemmas.List.Folds.{list_any-append}
 use Rattle.xs_resp.specs.declared.reply.Reply.{Reply}
 use Rattle.xs_resp.specs.declared.reply.Reply.TheVariants.{Simple, Error, Int, Bulk, NullBulk, Array, NullArray}
 use Rattle.xs_resp.specs.declared.fault.Fault.TheVariants.{Protocol}
-use Rattle.xs_resp.specs.declared.read_fault.Wrong.{Wrong}
+use Rattle.xs_resp.specs.declared.read_fault.ProtocolFault.{ProtocolFault}
 use Rattle.xs_resp.specs.ReplyText.{text}
 use Rattle.xs_resp.specs.HeldBytes.{Held, fed, held_length}
 use Rattle.xs_resp.specs.LeftToWrite.{bytes_left}
@@ -213,7 +213,7 @@ module _ {P : Type 0} (Replies : P → Command → Reply → P → Type 0) (Fail
       )
 
   -- the bytes aren't a request
-  pub ends-refused : (old new : P) (read sent owed rest : List ℕ) (exchanges : List Exchange) (replies : ℕ) (wrong : Wrong)
+  pub ends-refused : (old new : P) (read sent owed rest : List ℕ) (exchanges : List Exchange) (replies : ℕ) (wrong : ProtocolFault)
       → AreAnswered Replies old new read exchanges rest → WrittenTo exchanges [] sent replies → owed ≡ text (Error Protocol) → FaultIn rest wrong
       → EndsOncePaid (ServesBy Replies Fails gone) (λ count. Err (serve_fault.Write replies)) itself (Ok ending.Protocol) old read sent owed new
   ends-refused old new read sent owed rest exchanges replies wrong a w is stands =

@@ -2,7 +2,7 @@
 use Rattle.std.specs.Prelude.{◌≡◌, ℕ, List, [], ◌∷◌, map, Option, Some, None}
 use Rattle.xs_resp.specs.declared.reply.Reply.{Reply}
 use Rattle.xs_command.specs.declared.command.Command.{Command}
-use Rattle.xs_keys.specs.Event.{History}
+use Rattle.xs_keys.specs.Event.{Event, event_moment, event_command}
 use Rattle.xs_keys.specs.Content.{Content}
 use Rattle.xs_keys.specs.Headline.{RunsOn}
 use Rattle.xs_server.specs.Exchange.{Exchange}
@@ -25,6 +25,6 @@ GivesMoments gives old (moment ∷ moments) new = (mid : _) × gives old moment 
 -- answers are its replies
 abbrev pub RunsAlone : {C : Type 0} → (C → ℕ → C → Type 0) → List Exchange → Content → C → Content → C → Type 0
 RunsAlone gives exchanges old clock new later =
-    (events : History) × (map (λ event. event.1) events ≡ map (λ asked. asked.0) (asked_in exchanges))
-    × GivesMoments gives clock (map (λ event. event.0) events) later
-    × RunsOn old events (map (λ asked. asked.1) (asked_in exchanges)) new
+    (run : List Event) × (map event_command run ≡ map (λ asked. asked.0) (asked_in exchanges))
+    × GivesMoments gives clock (map event_moment run) later
+    × RunsOn old run (map (λ asked. asked.1) (asked_in exchanges)) new

@@ -2,7 +2,6 @@ pub mod Machine
 pub mod Line
 pub mod Answering
 pub mod Script
-pub mod Serving
 pub mod ScriptMachine
 pub mod Report
 pub mod CommandLine

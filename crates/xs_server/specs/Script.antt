@@ -4,7 +4,7 @@ use Rattle.std.specs.List.{flat_map, list_any}
 use Rattle.xs_resp.specs.declared.reply.Reply.{Reply}
 use Rattle.xs_resp.specs.ReplyText.{text}
 use Rattle.xs_command.specs.declared.command.Command.{Command}
-use Rattle.xs_keys.specs.Event.{History}
+use Rattle.xs_keys.specs.Event.{Event, History}
 use Rattle.xs_keys.specs.EachReply.{Follows}
 use Rattle.xs_keys.specs.Headline.{Headline}
 use Rattle.xs_server.specs.Answering.{Answered, IsAnswer}
@@ -36,12 +36,12 @@ AreServed [] [] = Unit {0}
 AreServed (line ∷ lines) (one ∷ more) = IsServedLine line one × AreServed lines more
 AreServed _ _ = ⊥
 
--- the commands that were asked, at their moments, and the answers to them
-abbrev pub onto_event : ℕ → Option Command → History → History
+-- the commands that were asked, at their moments, in the order of the lines, and the answers to them
+abbrev pub onto_event : ℕ → Option Command → List Event → List Event
 onto_event now None events = events
 onto_event now (Some command) events = (now, command) ∷ events
 
-abbrev pub events_of_lines : List Served → History
+abbrev pub events_of_lines : List Served → List Event
 events_of_lines [] = []
 events_of_lines (one ∷ more) = onto_event one.now one.asked (events_of_lines more)
 

@@ -4,7 +4,7 @@ use Rattle.std.specs.Prelude.{Result, Ok, Err}
 use Rattle.xs_resp.specs.declared.fault.Fault.TheVariants.{Protocol}
 use Rattle.xs_resp.specs.declared.reply.Reply.{Reply}
 use Rattle.xs_resp.specs.declared.reply.Reply.TheVariants.{Error}
-use Rattle.xs_resp.specs.declared.read_fault.Wrong.{Wrong}
+use Rattle.xs_resp.specs.declared.read_fault.ProtocolFault.{ProtocolFault}
 use Rattle.xs_resp.specs.ReplyText.{text}
 use Rattle.xs_resp.specs.Grammar.{Spells, FaultIn, IsOpen}
 use Rattle.xs_command.specs.declared.command.Command.{Command}
@@ -38,14 +38,14 @@ ConnectionEndsBy ending.Quit rest exchanges sent =
     (before : List Exchange) × (last : Exchange) × (exchanges ≡ before ++ last ∷ [])
     × (quits before ≡ false) × (is_quit last.asked ≡ true) × (sent ≡ texts exchanges)
 ConnectionEndsBy ending.Protocol rest exchanges sent =
-    (wrong : Wrong) × FaultIn rest wrong × (quits exchanges ≡ false) × (sent ≡ texts exchanges ++ text (Error Protocol))
+    (wrong : ProtocolFault) × FaultIn rest wrong × (quits exchanges ≡ false) × (sent ≡ texts exchanges ++ text (Error Protocol))
 
 -- a writer failed within the text of the last answer, or within that of the protocol error
 abbrev pub WriteFails : List ℕ → List Exchange → List ℕ → ℕ → Type 0
 WriteFails rest exchanges sent replies =
     ((before : List Exchange) × (last : Exchange) × (part : List ℕ) × (exchanges ≡ before ++ last ∷ [])
     × WrittenTo before part sent replies × IsPart part (text last.answer))
-    ⊎ ((wrong : Wrong) × (part : List ℕ) × FaultIn rest wrong
+    ⊎ ((wrong : ProtocolFault) × (part : List ℕ) × FaultIn rest wrong
     × WrittenTo exchanges part sent replies × IsPart part (text (Error Protocol)))
 
 -- memory ran out between two requests: all answers are written

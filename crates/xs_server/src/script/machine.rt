@@ -8,7 +8,7 @@ ghost use Rattle.xs_server.specs.ScriptMachine.{IsNewScript, RunsBy, ScriptStand
 use crate::lines::held::HeldBytes;
 use crate::machines::machine::{Machine, Turn};
 use crate::script::fault::ScriptFault;
-use crate::script::serving::{Unanswered, serve_line};
+use crate::script::serving::{LineFault, serve_line};
 use std::alloc::Global;
 use xs_devices::{FillFault, Source};
 use xs_keys::Keyspace;
@@ -107,8 +107,8 @@ impl Machine<Keyspace, ()> for Script {
         let line = &self.held.bytes()[..at];
         match serve_line(self.alloc, keyspace, line, &mut self.owed) {
             Ok(()) => {}
-            Err(Unanswered::NoLine) => return Turn::Ends(self.line_error()),
-            Err(Unanswered::Memory) => return Turn::Ends(self.out_of_memory()),
+            Err(LineFault::NoLine) => return Turn::Ends(self.line_error()),
+            Err(LineFault::Memory) => return Turn::Ends(self.out_of_memory()),
         }
         self.held.consume(at + 1);
         self.number = self.number.saturating_add(1);
@@ -126,8 +126,8 @@ impl Machine<Keyspace, ()> for Script {
         }
         match serve_line(self.alloc, keyspace, line, &mut self.owed) {
             Ok(()) => Ok(self.total()),
-            Err(Unanswered::NoLine) => self.line_error(),
-            Err(Unanswered::Memory) => self.out_of_memory(),
+            Err(LineFault::NoLine) => self.line_error(),
+            Err(LineFault::Memory) => self.out_of_memory(),
         }
     }
 

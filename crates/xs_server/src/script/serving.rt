@@ -4,7 +4,7 @@ ghost use Rattle.xs_resp.specs.declared.reply.Reply.{Reply};
 ghost use Rattle.xs_resp.specs.ReplyText.{text};
 ghost use Rattle.xs_server.specs.Line.{line_of, line_limit};
 ghost use Rattle.xs_server.specs.Answering.{IsAnswer};
-ghost use Rattle.xs_server.specs.Serving.{StepAt};
+ghost use Rattle.xs_keys.specs.Step.{Step};
 
 use crate::lines::parts::read_line;
 use std::alloc::Global;
@@ -16,7 +16,7 @@ use xs_stream::Moment;
 
 /// Why a line has no reply.
 #[derive(Clone, Copy, Debug, PartialEq, Eq)]
-pub enum Unanswered {
+pub enum LineFault {
     /// It is no script line.
     NoLine,
     /// Out of memory.
@@ -26,7 +26,7 @@ pub enum Unanswered {
 /// Answers the words of a request at a moment.
 fn answer(alloc: Global, keyspace: &mut Keyspace, now: Moment, words: &[Bytes]) -> Reply
     requires { 0 < length words.now }
-    ensures { IsAnswer (StepAt now) keyspace.old words.now result keyspace.new }
+    ensures { IsAnswer (λ old. Step old now) keyspace.old words.now result keyspace.new }
 {
     match read_command(alloc, words) {
         Ok(command) => keyspace.apply_owned(now, command),
@@ -41,24 +41,24 @@ pub fn serve_line(
     keyspace: &mut Keyspace,
     line: &[u8],
     out: &mut Vec<u8>,
-) -> Result<(), Unanswered>
+) -> Result<(), LineFault>
     requires { length line.now ≤ line_limit }
     ensures ok { IfOk result (λ _. (reply : Reply)
         × IsSomeAnd (line_of line.now)
-        (λ request. IsAnswer (StepAt request.0) keyspace.old request.1 reply keyspace.new)
+        (λ request. IsAnswer (λ old. Step old request.0) keyspace.old request.1 reply keyspace.new)
         × (out.new.items ≡ out.old.items ++ text reply)) }
-    ensures none { result ≡ Err Unanswered.NoLine → line_of line.now ≡ None }
+    ensures none { result ≡ Err LineFault.NoLine → line_of line.now ≡ None }
     ensures err { OnErr result (out.new.items ≡ out.old.items) }
 {
     let Ok(read) = read_line(alloc, line) else {
-        return Err(Unanswered::Memory);
+        return Err(LineFault::Memory);
     };
     let Some((now, words)) = read else {
-        return Err(Unanswered::NoLine);
+        return Err(LineFault::NoLine);
     };
     let reply = answer(alloc, keyspace, now, words.as_slice());
     match encode(&reply, out) {
         Ok(()) => Ok(()),
-        Err(_) => Err(Unanswered::Memory),
+        Err(_) => Err(LineFault::Memory),
     }
 }

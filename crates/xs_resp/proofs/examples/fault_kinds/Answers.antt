@@ -1,7 +1,7 @@
 use Rattle.std.specs.Prelude.{◌≢◌, ℕ, T, ◌==◌, codes, []}
 use Rattle.std.specs.Fmt.{digits}
 use Rattle.std.proofs.Common.{refl, subst, arith, inl, inr}
-use Rattle.xs_resp.specs.declared.read_fault.Wrong.TheVariants.{Shape}
+use Rattle.xs_resp.specs.declared.read_fault.ProtocolFault.TheVariants.{Shape}
 use Rattle.xs_resp.specs.declared.header.Part.TheVariants.{Count}
 use Rattle.xs_resp.specs.HeaderPart.{number_in, is_natural}
 use Rattle.xs_resp.specs.Grammar.{Spells, FaultIn, HasNoCr, BeginsLine, LacksMarker}
