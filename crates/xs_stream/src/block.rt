@@ -301,16 +301,22 @@ impl Block {
         self.tidy();
     }
 
-    /// Tidies up, and gives memory back if less than half of it is taken. A sparse block keeps it: another one may fit
-    /// in.
+    /// Tidies up, and gives memory back if its entries take less than half of it. A sparse block keeps it: another one
+    /// may fit in.
     fn compact(&mut self)
         requires { 0 < length self.old }
         ensures { self.new ≡ self.old }
     {
         self.tidy();
-        if self.bytes.len() < self.bytes.capacity() / 2 && !self.is_sparse() {
+        if self.entries_size() < self.bytes.capacity() / 2 && !self.is_sparse() {
+            self.cut_gap(0);
             self.seal();
         }
+    }
+
+    /// How many bytes its entries take.
+    fn entries_size(&self) -> usize {
+        self.bytes.len() - self.start
     }
 
     /// Cuts out what lies before the entries and isn't needed, once it may be more than a quarter: the names, if no
@@ -322,24 +328,25 @@ impl Block {
         ensures { self.new ≡ self.old }
     {
         let bytes = self.bytes.as_slice();
-        if self.start <= bytes.len() / 4 {
+        let quarter = bytes.len() / 4;
+        if self.start <= quarter {
             return;
         }
         if shares_names(self.base, self.count, self.start, bytes) {
-            self.cut_gap();
+            self.cut_gap(quarter);
         } else {
             drop_front(&mut self.bytes, self.start);
             self.start = 1;
         }
     }
 
-    /// Cuts out what lies between the names and the entries, if it is more than a quarter.
-    fn cut_gap(&mut self)
+    /// Cuts out what lies between the names and the entries, if it is more than so many bytes.
+    fn cut_gap(&mut self, most: usize)
         requires { 0 < length self.old }
         ensures { self.new ≡ self.old }
     {
         let end = names_end(self.bytes.as_slice());
-        if self.start - end > self.bytes.len() / 4 {
+        if self.start - end > most {
             cut(&mut self.bytes, end, self.start);
             self.start = end;
         }

@@ -16,7 +16,7 @@ pub(crate) fn cut(bytes: &mut Vec<u8>, from: usize, to: usize)
 
 /// Takes a part out. What lies behind it moves in pieces of its length, each at once: the library's own ways move byte
 /// by byte, or clear a great room on the stack.
-pub(crate) fn close_gap(bytes: &mut Vec<u8>, from: usize, to: usize)
+fn close_gap(bytes: &mut Vec<u8>, from: usize, to: usize)
     requires forward { from ≤ to }
     requires inside { to ≤ vec_len bytes.old }
     ensures { bytes.new.items ≡ remove_range bytes.old.items from to }

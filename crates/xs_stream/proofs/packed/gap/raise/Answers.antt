@@ -1,4 +1,4 @@
-use Rattle.std.proofs.Common.{◌≡◌, ℕ, ◌+◌, ◌-◌, ◌≤◌, ◌++◌, length, take, drop, ◌∙◌, ap, sym, subst, arith}
+use Rattle.std.proofs.Common.{◌≡◌, ◌+◌, ◌-◌, ◌≤◌, ◌++◌, length, take, drop, ◌∙◌, sym, subst, arith}
 use Rattle.xs_stream.proofs.Gaps.{next_count-long, next_count-before, next_count-behind, drop-within}
 use Rattle.xs_stream.proofs.packed.gap.raise.Goals as goal
 
