@@ -12,8 +12,8 @@ pub enum Turn<E> {
     Ends(E),
 }
 
-/// A machine: bytes are read into it, each of its turns may ask a service of type `S`, and it owes bytes, which are paid
-/// piece by piece. What its turns need to wait, if they may, is of type `T`. A machine that has ended owes its
+/// A machine: bytes are read into it, each of its turns may ask a service of type `S`, and it owes bytes, which are
+/// paid piece by piece. What its turns need to wait, if they may, is of type `T`. A machine that has ended owes its
 /// last bytes, and has no further turn.
 pub trait Machine<S, T> {
     ghost use Rattle.std.specs.Prelude.{◌≡◌, ◌≢◌, ◌+◌, ◌<◌, ◌≤◌, ◌++◌, [], ℕ, List, Err, true, length, take};
@@ -44,8 +44,8 @@ pub trait Machine<S, T> {
     /// Nothing that it holds is whole.
     ghost is_waiting: { Self → Type 0 };
 
-    /// Since this state of the service these bytes were read into it, these that it owed were written, and it stands so,
-    /// the service with it.
+    /// Since this state of the service these bytes were read into it, these that it owed were written, and it stands
+    /// so, the service with it.
     ghost stands: { S → List ℕ → List ℕ → Self → S → Type 0 };
 
     /// The same of a machine that ended so, by this cause.
