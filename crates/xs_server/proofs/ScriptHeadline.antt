@@ -14,12 +14,12 @@ use Rattle.xs_server.specs.Answering.{Answered, IsAnswer}
 use Rattle.xs_keys.specs.EachReply.{Follows, AreReplied}
 use Rattle.xs_keys.proofs.Runs.{step-follows, headline}
 use Rattle.xs_server.specs.Script.{Script, Served, AreServed, events_of_lines, answers_of_lines, IsScript}
-use Rattle.xs_keys.specs.Step.{Step}
+use Rattle.xs_keys.specs.Step.{StepAt}
 use Rattle.std.specs.List.{flat_map}
 
 -- how an answer of the keyspace goes on with a history
 pub answer-follows : (past : History) (old new : Content) (now : ℕ) (words : List (List ℕ)) (asked : Option Command) (answer : Reply) → IsContent old past
-    → Answered (λ old. Step old now) old words asked answer new → (next : History) × IsContent new next × Answered (λ before. Follows before now) past words asked answer next
+    → Answered (StepAt now) old words asked answer new → (next : History) × IsContent new next × Answered (λ before. Follows before now) past words asked answer next
 answer-follows past old new now words (Some command) answer is said =
     let next = step-follows past old new now command answer (given_formed words (Ok command) said.0) is said.1 in
     (next.0, next.1, (said.0, next.2))
@@ -40,7 +40,7 @@ script-more past (first ∷ lines) line out mid next answer (reply, then, more, 
     (reply, then, more ++ text answer, said, ap (λ o. o ++ text answer) is ∙ append_assoc (text reply) more (text answer), script-more then lines line more mid next answer rest answered)
 
 line-answered : (past : History) (old new : Content) (read : Option (ℕ × List (List ℕ))) (answer : Reply) → IsContent old past
-    → IsSomeAnd read (λ request. IsAnswer (λ old. Step old request.0) old request.1 answer new)
+    → IsSomeAnd read (λ request. IsAnswer (StepAt request.0) old request.1 answer new)
     → (next : History) × IsContent new next × IsSomeAnd read (λ request. IsAnswer (λ before. Follows before request.0) past request.1 answer next)
 line-answered past old new (Some request) answer is serves =
     let next = answer-follows past old new request.0 request.1 serves.0 answer is serves.1 in
@@ -49,7 +49,7 @@ line-answered past old new None answer is serves = absurd serves
 
 -- a served line
 pub served-line : (lines : List (List ℕ)) (line out : List ℕ) (past : History) (old new : Content) (answer : Reply) → IsContent old past
-    → Script [] lines out past → IsSomeAnd (line_of line) (λ request. IsAnswer (λ old. Step old request.0) old request.1 answer new)
+    → Script [] lines out past → IsSomeAnd (line_of line) (λ request. IsAnswer (StepAt request.0) old request.1 answer new)
     → (next : History) × Script [] (lines ++ line ∷ []) (out ++ text answer) next × IsContent new next
 served-line lines line out past old new answer is so_far serves =
     let next = line-answered past old new (line_of line) answer is serves in

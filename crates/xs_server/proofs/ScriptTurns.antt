@@ -18,7 +18,7 @@ use Rattle.xs_devices.specs.Device.{capped}
 use Rattle.xs_server.specs.Line.{is_line_end, script_lines, line_of, line_limit}
 use Rattle.xs_server.specs.Machine.{Cause, input, reader, writer}
 use Rattle.xs_server.specs.Script.{Script, IsScript, with_end}
-use Rattle.xs_keys.specs.Step.{Step}
+use Rattle.xs_keys.specs.Step.{StepAt}
 use Rattle.xs_server.specs.ScriptMachine.{piece, IsFew, IsRead, IsInHand, IsReadOut, ScriptStands, RunsBy}
 use Rattle.xs_server.proofs.ScriptLines.{read-more, read-line, read-lines, lines-last}
 use Rattle.xs_server.proofs.ScriptHeadline.{served-line, is-script, capped-more, capped-sent}
@@ -53,7 +53,7 @@ few-fed held got none small = λ line rest e other. omega (arith, few-behind hel
 
 -- one line more is answered
 pub stands-more : (read sent : List ℕ) (script later : Machine) (old new : Content) (line : List ℕ) (answer : Reply) → ScriptStands read sent script old → script.held ≡ line ++ 10 ∷ later.held → list_any is_line_end line ≡ false
-    → IsSomeAnd (line_of line) (λ request. IsAnswer (λ old. Step old request.0) old request.1 answer new) → later.owed.items ≡ script.owed.items ++ text answer → later.number ≡ capped (script.number + 1)
+    → IsSomeAnd (line_of line) (λ request. IsAnswer (StepAt request.0) old request.1 answer new) → later.owed.items ≡ script.owed.items ++ text answer → later.number ≡ capped (script.number + 1)
     → later.written ≡ script.written → ScriptStands read sent later new
 stands-more read sent script later old new line answer s is none serves owes numbered same =
     let next = served-line s.lines line (sent ++ script.owed.items) s.past old new answer s.content s.said serves in
@@ -176,7 +176,7 @@ module _ (read sent owed : List ℕ) (lines : List (List ℕ)) (written : ℕ) (
 
 -- the last line, which lacks its end, is answered
 pub last-answered : (read sent : List ℕ) (script : Machine) (old new : Content) (owes : List ℕ) (answer : Reply) (s : ScriptStands read sent script old) → list_any is_line_end script.held ≡ false → 0 < length script.held
-    → IsSomeAnd (line_of script.held) (λ request. IsAnswer (λ old. Step old request.0) old request.1 answer new) → owes ≡ script.owed.items ++ text answer
+    → IsSomeAnd (line_of script.held) (λ request. IsAnswer (StepAt request.0) old request.1 answer new) → owes ≡ script.owed.items ++ text answer
     → IsScript (s.lines ++ script.held ∷ []) (sent ++ owes) × (script_lines read ≡ s.lines ++ script.held ∷ [])
 last-answered read sent script old new owes answer s none some serves is =
     let next = served-line s.lines script.held (sent ++ script.owed.items) s.past old new answer s.content s.said serves in

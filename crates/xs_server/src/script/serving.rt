@@ -4,7 +4,7 @@ ghost use Rattle.xs_resp.specs.declared.reply.Reply.{Reply};
 ghost use Rattle.xs_resp.specs.ReplyText.{text};
 ghost use Rattle.xs_server.specs.Line.{line_of, line_limit};
 ghost use Rattle.xs_server.specs.Answering.{IsAnswer};
-ghost use Rattle.xs_keys.specs.Step.{Step};
+ghost use Rattle.xs_keys.specs.Step.{StepAt};
 
 use crate::lines::parts::read_line;
 use std::alloc::Global;
@@ -26,7 +26,7 @@ pub enum LineFault {
 /// Answers the words of a request at a moment.
 fn answer(alloc: Global, keyspace: &mut Keyspace, now: Moment, words: &[Bytes]) -> Reply
     requires { 0 < length words.now }
-    ensures { IsAnswer (λ old. Step old now) keyspace.old words.now result keyspace.new }
+    ensures { IsAnswer (StepAt now) keyspace.old words.now result keyspace.new }
 {
     match read_command(alloc, words) {
         Ok(command) => keyspace.apply_owned(now, command),
@@ -45,7 +45,7 @@ pub fn serve_line(
     requires { length line.now ≤ line_limit }
     ensures ok { IfOk result (λ _. (reply : Reply)
         × IsSomeAnd (line_of line.now)
-        (λ request. IsAnswer (λ old. Step old request.0) keyspace.old request.1 reply keyspace.new)
+        (λ request. IsAnswer (StepAt request.0) keyspace.old request.1 reply keyspace.new)
         × (out.new.items ≡ out.old.items ++ text reply)) }
     ensures none { result ≡ Err LineFault.NoLine → line_of line.now ≡ None }
     ensures err { OnErr result (out.new.items ≡ out.old.items) }
