@@ -21,7 +21,7 @@ pub mod writing;
 
 pub use encoder::Encoder;
 pub use fault::Fault;
-pub use read_fault::{ReadFault, ProtocolFault};
+pub use read_fault::{ProtocolFault, ReadFault};
 pub use reply::{Replies, Reply, Simple};
 pub use request::Request;
 pub use requests::Requests;

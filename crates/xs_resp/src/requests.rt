@@ -1,7 +1,7 @@
 //! The reader of requests, from bytes that come in pieces.
 use crate::header::{Part, read_header};
 use crate::progress::{Progress, read_on};
-use crate::read_fault::{ReadFault, ProtocolFault};
+use crate::read_fault::{ProtocolFault, ReadFault};
 use crate::request::Request;
 use crate::word::rest_of;
 use std::alloc::{AllocError, Global};

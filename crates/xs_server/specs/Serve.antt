@@ -38,7 +38,8 @@ ConnectionEndsBy ending.Quit rest exchanges sent =
     (before : List Exchange) × (last : Exchange) × (exchanges ≡ before ++ last ∷ [])
     × (quits before ≡ false) × (is_quit last.asked ≡ true) × (sent ≡ texts exchanges)
 ConnectionEndsBy ending.Protocol rest exchanges sent =
-    (wrong : ProtocolFault) × FaultIn rest wrong × (quits exchanges ≡ false) × (sent ≡ texts exchanges ++ text (Error Protocol))
+    (wrong : ProtocolFault) × FaultIn rest wrong × (quits exchanges ≡ false)
+    × (sent ≡ texts exchanges ++ text (Error Protocol))
 
 -- a writer failed within the text of the last answer, or within that of the protocol error
 abbrev pub WriteFails : List ℕ → List Exchange → List ℕ → ℕ → Type 0

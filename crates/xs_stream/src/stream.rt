@@ -200,7 +200,7 @@ impl Stream {
         self.entries(alloc, range, Some(most as u64), false)
     }
 
-    /// Entries to look at side by side with these ids: those from the first id on, as many as there are ids. None where
+    /// Entries to look at side by side with these ids: those from the first id on, as many as there are ids. None if
     /// the ids don't ascend, since few of the entries would be theirs. They are lent, and each is the one that is looked
     /// up by its id.
     pub fn entries_along(&self, alloc: Global, ids: &[Id]) -> Result<List<Entry<'_>>, AllocError>
