@@ -10,7 +10,7 @@ use Rattle.xs_stream.specs.declared.id.Id.{Id}
 use Rattle.xs_stream.specs.Id.{id_cmp, has_id, is_below}
 use Rattle.xs_stream.specs.StreamContent.{limited}
 
--- a pending entry: whose it is, when it was last delivered, and how often
+-- a pending entry: whose it is, and its time and count, of the last delivery or as a claim set them
 pub record RowState : Type 0 where
   pub consumer : List ℕ
   pub time : ℕ

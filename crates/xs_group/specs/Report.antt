@@ -35,7 +35,7 @@ summary_of group =
     let owners = filter (λ owner. nat_lt 0 owner.count) (counts_of_owners (keys group.consumers) rows) in
     record { total = length rows; least = first_id rows; greatest = last_id rows; owners = owners }
 
--- the row of one consumer, where one is named
+-- the row's consumer is the one that is named; any, if none is
 abbrev pub is_of : Option (List ℕ) → RowState → Bool
 is_of None row = true
 is_of (Some consumer) row = is_same_name row.consumer consumer
@@ -48,7 +48,7 @@ abbrev pub is_selected : Range → ℕ → ℕ → Option (List ℕ) → Id × R
 is_selected range min_idle now consumer e =
     is_within range e.0 && (nat_le min_idle (idle now e.1.time) && is_of consumer e.1)
 
--- the first of these rows
+-- XPENDING, the long form: at most `limit` of the selected rows
 abbrev pub pending_of : Range → ℕ → ℕ → ℕ → Option (List ℕ) → GroupState → List PendingRow
 pending_of range min_idle now limit consumer group =
     take limit (map (pending_row now) (filter (is_selected range min_idle now consumer) group.rows.entries))

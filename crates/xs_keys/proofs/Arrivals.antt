@@ -13,14 +13,14 @@ use Rattle.xs_keys.specs.Life.{key_life_after, key_life, added_in, top, top_of}
 use Rattle.xs_keys.specs.GroupAsk.{GroupAsk, create_consumer, delete_consumer, acknowledge, claim, auto_claim}
 use Rattle.xs_keys.specs.GroupLife.{GroupLife, present_in, starting_id, new_life, life_after_ask, group_life_after}
 use Rattle.xs_keys.specs.GroupLife.{reads_of, read_group_of, group_life}
-use Rattle.xs_keys.specs.Presence.{adds_or_deletes, EntriesAreAdded, StartsAt, MakesGroup, GroupsAreCreated}
+use Rattle.xs_keys.specs.Presence.{adds_to_or_deletes_key, EntriesAreAdded, StartsAt, MakesGroup, GroupsAreCreated}
 use Rattle.xs_keys.proofs.Lives.{no-life-read}
 use Rattle.xs_keys.proofs.JobPlaces.{life_of}
 
 -- ---- entries
 
 added-stays : (now : ℕ) (command : Command) (key : List ℕ) (life : Option (List StreamEvent))
-    → (option_map_or added_in (key_life_after now command key life) [] ≡ option_map_or added_in life []) ⊎ (adds_or_deletes command key ≡ true)
+    → (option_map_or added_in (key_life_after now command key life) [] ≡ option_map_or added_in life []) ⊎ (adds_to_or_deletes_key command key ≡ true)
 added-stays now (Ping message) key life = inl refl
 added-stays now Quit key life = inl refl
 added-stays now (Add add) key life = by (is_same_name key add.key) where

@@ -14,7 +14,7 @@ use Rattle.xs_keys.specs.GroupAsk.{GroupAsk, read_new, read_own, acknowledge, cr
 use Rattle.xs_keys.specs.GroupAsk.{auto_claim, row_after_ask}
 use Rattle.xs_keys.specs.GroupEvent.{GroupEvent, delivered_ids, cursor, is_consumer, rows_among, pending_row_at, rows}
 use Rattle.xs_keys.specs.GroupLife.{GroupLife, group_life}
-use Rattle.xs_keys.specs.Content.{KeyState, Content, IsGroup, GroupHolds, KeyHolds, IsContent}
+use Rattle.xs_keys.specs.Content.{KeyState, Content, IsGroupOfLife, GroupHolds, KeyHolds, IsContent}
 use Rattle.xs_stream.specs.ConsistentStream.{IsConsistentStream}
 use Rattle.xs_group.specs.ConsistentGroup.{IsConsistentGroup}
 use Rattle.xs_group.specs.Indexes.{is_owner}
@@ -110,7 +110,7 @@ of-consumers start (event ∷ past) x =
 
 -- ---- groups, keys, contents
 
-consistent-group : (g : GroupState) (life : GroupLife) → IsGroup g life → PresentAscends life.events → IsConsistentGroup g
+consistent-group : (g : GroupState) (life : GroupLife) → IsGroupOfLife g life → PresentAscends life.events → IsConsistentGroup g
 unfolding get
 consistent-group g life h asc = record {
   ascends = subst (λ es. Ascends (row_ids es)) (sym h.rows_are) (ascends-among (λ x. pending_row_at life.start life.events x) (delivered_ids life.start life.events) (ascends-delivered life.start life.events asc));

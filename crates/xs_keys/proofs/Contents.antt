@@ -15,7 +15,7 @@ use Rattle.xs_keys.specs.Life.{StreamEvent, add_entry, delete_entries, trim_entr
 use Rattle.xs_keys.specs.GroupAsk.{GroupAsk, create_consumer, delete_consumer, acknowledge, claim, auto_claim}
 use Rattle.xs_keys.specs.GroupLife.{GroupLife, present_in, starting_id, new_life, life_after_ask, ask_of_read}
 use Rattle.xs_keys.specs.GroupLife.{life_after_reads, group_life}
-use Rattle.xs_keys.specs.Content.{KeyState, Content, IsGroup, GroupHolds, KeyHolds, IsContent}
+use Rattle.xs_keys.specs.Content.{KeyState, Content, IsGroupOfLife, GroupHolds, KeyHolds, IsContent}
 use Rattle.xs_keys.specs.ContentAfter.{new_key, key_or_new, stream_after, key_after, after_stream_event}
 use Rattle.xs_keys.specs.ContentAfter.{without_keys, group_after, with_group, after_ask, after_create}
 use Rattle.xs_keys.specs.ContentAfter.{group_in, has_all_groups_in, after_reads, content_after}
@@ -396,7 +396,7 @@ content-none = λ name. rw (get-empty (slice_cmp nat_cmp) name) (λ g. tt)
 
 -- ---- one content
 
-same_group : (a b : GroupState) (life : GroupLife) → IsGroup a life → IsGroup b life → a ≡ b
+same_group : (a b : GroupState) (life : GroupLife) → IsGroupOfLife a life → IsGroupOfLife b life → a ≡ b
 same_group a b life h k =
     let cursors = h.cursor_is ∙ sym k.cursor_is in
     let names = same_names a.consumers b.consumers (λ q. h.consumers_are q ∙ sym (k.consumers_are q)) in

@@ -17,7 +17,7 @@ use Rattle.xs_keys.specs.GroupAsk.{auto_claim}
 use Rattle.xs_keys.specs.GroupEvent.{GroupEvent, new_ids_of_event, delivered_ids, cursor, is_consumer, rows_among}
 use Rattle.xs_keys.specs.GroupEvent.{pending_row_at, rows}
 use Rattle.xs_keys.specs.GroupLife.{GroupLife}
-use Rattle.xs_keys.specs.Content.{IsGroup}
+use Rattle.xs_keys.specs.Content.{IsGroupOfLife}
 use Rattle.xs_keys.specs.ContentAfter.{group_after}
 use Rattle.xs_keys.proofs.NameMaps.{get-insert, get-remove}
 use Rattle.xs_keys.proofs.Streams.{greatest-append, up_to-greatest}
@@ -99,7 +99,7 @@ left-names names consumer q = ap is_some (get-remove names consumer q) ∙ by (i
 
 -- ---- one event
 
-module _ (life : GroupLife) (g : GroupState) (h : IsGroup g life) (now : ℕ) (present : List Id) (asc : Ascends present) where
+module _ (life : GroupLife) (g : GroupState) (h : IsGroupOfLife g life) (now : ℕ) (present : List Id) (asc : Ascends present) where
   event : GroupAsk → GroupEvent
   event ask = record { now = now; present = present; ask = ask }
 
@@ -115,7 +115,7 @@ module _ (life : GroupLife) (g : GroupState) (h : IsGroup g life) (now : ℕ) (p
   changed_rows : (f : Id → RowState → Option RowState) → (change f g.rows).entries ≡ rows_among (λ x. option_and_then (f x) (pending_row_at life.start life.events x)) (delivered_ids life.start life.events ++ [])
   changed_rows f = rows-changed life.start life.events f g.rows h.rows_are
 
-  step-read_new : (consumer : List ℕ) (limit : Option ℕ) (noack : Bool) → IsGroup (group_after_delivery consumer now limit noack present g) (lived (read_new consumer limit noack))
+  step-read_new : (consumer : List ℕ) (limit : Option ℕ) (noack : Bool) → IsGroupOfLife (group_after_delivery consumer now limit noack present g) (lived (read_new consumer limit noack))
   unfolding event lived row_after
   step-read_new consumer limit noack =
       let at_cursor = cursor life.start life.events in
@@ -131,7 +131,7 @@ module _ (life : GroupLife) (g : GroupState) (h : IsGroup g life) (now : ℕ) (p
             ∙ rows-delivered life.start life.events consumer now (new_ids limit at_cursor present) above ascends noack g.rows h.rows_are;
       }
 
-  step-read_own : (consumer : List ℕ) (limit : Option ℕ) (from : Id) → IsGroup (group_after_reread consumer now limit from present g) (lived (read_own consumer limit from))
+  step-read_own : (consumer : List ℕ) (limit : Option ℕ) (from : Id) → IsGroupOfLife (group_after_reread consumer now limit from present g) (lived (read_own consumer limit from))
   unfolding event lived
   step-read_own consumer limit from = record {
     cursor_is = still;
@@ -140,15 +140,15 @@ module _ (life : GroupLife) (g : GroupState) (h : IsGroup g life) (now : ℕ) (p
         ∙ changed_rows (row_after_reread now (own_ids consumer limit from (rows life.start life.events)) present);
   }
 
-  step-ack : (ids : List Id) → IsGroup (group_after_ack ids g) (lived (acknowledge ids))
+  step-ack : (ids : List Id) → IsGroupOfLife (group_after_ack ids g) (lived (acknowledge ids))
   unfolding event lived
   step-ack ids = record { cursor_is = still; consumers_are = h.consumers_are; rows_are = changed_rows (unless_acked ids) }
 
-  step-join : (consumer : List ℕ) → IsGroup (group_after now present (create_consumer consumer) g) (lived (create_consumer consumer))
+  step-join : (consumer : List ℕ) → IsGroupOfLife (group_after now present (create_consumer consumer) g) (lived (create_consumer consumer))
   unfolding event lived
   step-join consumer = record { cursor_is = still; consumers_are = joins consumer; rows_are = rows-same life.start life.events g.rows h.rows_are }
 
-  step-leave : (consumer : List ℕ) → IsGroup (without_consumer consumer g) (lived (delete_consumer consumer))
+  step-leave : (consumer : List ℕ) → IsGroupOfLife (without_consumer consumer g) (lived (delete_consumer consumer))
   unfolding event lived
   step-leave consumer = record {
     cursor_is = still;
@@ -156,7 +156,7 @@ module _ (life : GroupLife) (g : GroupState) (h : IsGroup g life) (now : ℕ) (p
     rows_are = changed_rows (unless_owned consumer);
   }
 
-  step-claim : (consumer : List ℕ) (rule : Rule) (ids : List Id) → IsGroup (group_after now present (claim consumer rule ids) g) (lived (claim consumer rule ids))
+  step-claim : (consumer : List ℕ) (rule : Rule) (ids : List Id) → IsGroupOfLife (group_after now present (claim consumer rule ids) g) (lived (claim consumer rule ids))
   unfolding event lived
   step-claim consumer rule ids = record {
     cursor_is = still;
@@ -165,7 +165,7 @@ module _ (life : GroupLife) (g : GroupState) (h : IsGroup g life) (now : ℕ) (p
         ∙ changed_rows (row_after_claim consumer now rule (claim_by_ids (rows life.start life.events) present now rule ids));
   }
 
-  step-auto_claim : (consumer : List ℕ) (rule : Rule) (start : Id) (limit : ℕ) → IsGroup (group_after now present (auto_claim consumer rule start limit) g) (lived (auto_claim consumer rule start limit))
+  step-auto_claim : (consumer : List ℕ) (rule : Rule) (start : Id) (limit : ℕ) → IsGroupOfLife (group_after now present (auto_claim consumer rule start limit) g) (lived (auto_claim consumer rule start limit))
   unfolding event lived
   step-auto_claim consumer rule start limit = record {
     cursor_is = still;
@@ -175,8 +175,8 @@ module _ (life : GroupLife) (g : GroupState) (h : IsGroup g life) (now : ℕ) (p
   }
 
 -- the group after one more event is what the event makes of the group
-pub group-step : (life : GroupLife) (g : GroupState) → IsGroup g life → (now : ℕ) (present : List Id) → Ascends present → (ask : GroupAsk)
-    → IsGroup (group_after now present ask g) (record { start = life.start; events = record { now = now; present = present; ask = ask } ∷ life.events })
+pub group-step : (life : GroupLife) (g : GroupState) → IsGroupOfLife g life → (now : ℕ) (present : List Id) → Ascends present → (ask : GroupAsk)
+    → IsGroupOfLife (group_after now present ask g) (record { start = life.start; events = record { now = now; present = present; ask = ask } ∷ life.events })
 unfolding lived event
 group-step life g h now present asc (read_new consumer limit noack) = step-read_new life g h now present asc consumer limit noack
 group-step life g h now present asc (read_own consumer limit from) = step-read_own life g h now present asc consumer limit from
@@ -187,6 +187,6 @@ group-step life g h now present asc (claim consumer rule ids) = step-claim life 
 group-step life g h now present asc (auto_claim consumer rule start limit) = step-auto_claim life g h now present asc consumer rule start limit
 
 -- a group that begins
-pub group-new : (start : Id) → IsGroup (new_group start) (record { start = start; events = [] })
+pub group-new : (start : Id) → IsGroupOfLife (new_group start) (record { start = start; events = [] })
 unfolding empty
 group-new start = record { cursor_is = refl; consumers_are = λ q. ap is_some (get-empty _ q); rows_are = refl }

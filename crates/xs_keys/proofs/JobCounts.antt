@@ -11,13 +11,13 @@ use Rattle.xs_keys.specs.Terms.{Command, GroupState, Reply, Int, NullBulk, get, 
 use Rattle.xs_keys.specs.Terms.{Id, ids_of, Ascends, AllAbove}
 use Rattle.xs_keys.specs.Life.{StreamEvent, key_life, added_in, present_entries}
 use Rattle.xs_keys.specs.GroupEvent.{GroupEvent, delivered_ids, cursor, rows_among, pending_row_at, rows}
-use Rattle.xs_keys.specs.Owner.{last_assigned, owner}
+use Rattle.xs_keys.specs.Owner.{last_assignee, owner}
 use Rattle.xs_keys.specs.GroupLife.{GroupLife, group_life}
-use Rattle.xs_keys.specs.Content.{Content, KeyState, IsGroup, GroupHolds, KeyHolds, IsContent}
+use Rattle.xs_keys.specs.Content.{Content, KeyState, IsGroupOfLife, GroupHolds, KeyHolds, IsContent}
 use Rattle.xs_keys.specs.ReplyParts.{array, array_or_null, id_reply, reply_of_group, owner_reply, summary_reply}
 use Rattle.xs_keys.specs.JobPlace.{Place, before_start, waiting, dropped, handed_out, pending, settled, place_of}
 use Rattle.xs_keys.specs.JobPlace.{StandsAt, HasOnePlace}
-use Rattle.xs_keys.specs.PlacesAddUp.{is_at, is_pending, jobs_at, PlacesAddUp, TellsPending}
+use Rattle.xs_keys.specs.PlacesAddUp.{is_same_place, is_pending, jobs_at, PlacesAddUp, TellsPending}
 use Rattle.xs_keys.proofs.Truths.{first_of, second_of, none_or}
 use Rattle.xs_keys.proofs.IdLists.{ascends-where, has_id-where, not_above}
 use Rattle.xs_keys.proofs.Streams.{ascends-added, ascends-present}
@@ -98,7 +98,7 @@ filter-same p q xs h = λ i. filter (λ x. h x i) xs
 
 -- ---- what waits
 
-waits : (p : Place) → is_at waiting p ≡ true → p ≡ waiting
+waits : (p : Place) → is_same_place waiting p ≡ true → p ≡ waiting
 waits before_start e = absurd (false≢true e)
 waits waiting e = refl
 waits dropped e = absurd (false≢true e)
@@ -119,28 +119,28 @@ module _ (life : GroupLife) (changes : List StreamEvent) (asc : PresentAscends l
   one : (x : Id) → HasOnePlace life (ids_of (present_entries changes)) x
   one x = has-one-place life changes asc sees x
 
-  waiting-are : jobs_at (is_at waiting) changes life ≡ new_ids None (cursor life.start life.events) (ids_of (present_entries changes))
+  waiting-are : jobs_at (is_same_place waiting) changes life ≡ new_ids None (cursor life.start life.events) (ids_of (present_entries changes))
   waiting-are =
-      ascends-same (jobs_at (is_at waiting) changes life) (new_ids None (cursor life.start life.events) (ids_of (present_entries changes)))
-      (ascends-where (λ x. is_at waiting (place_of life (ids_of (present_entries changes)) x)) (ids_of (added_in changes)) (ascends-added changes))
+      ascends-same (jobs_at (is_same_place waiting) changes life) (new_ids None (cursor life.start life.events) (ids_of (present_entries changes)))
+      (ascends-where (λ x. is_same_place waiting (place_of life (ids_of (present_entries changes)) x)) (ids_of (added_in changes)) (ascends-added changes))
       (ascends-where (λ x. is_below (cursor life.start life.events) x) (ids_of (present_entries changes)) (ascends-present changes))
       (λ x.
-      has_id-where (λ y. is_at waiting (place_of life (ids_of (present_entries changes)) y)) (ids_of (added_in changes)) x
+      has_id-where (λ y. is_same_place waiting (place_of life (ids_of (present_entries changes)) y)) (ids_of (added_in changes)) x
       ∙ same_truth _ _ (to x) (from x)
       ∙ sym (has_id-where (λ y. is_below (cursor life.start life.events) y) (ids_of (present_entries changes)) x))
     where
-      to : (x : Id) → (is_at waiting (place_of life (ids_of (present_entries changes)) x) && has_id (ids_of (added_in changes)) x) ≡ true → (is_below (cursor life.start life.events) x && has_id (ids_of (present_entries changes)) x) ≡ true
+      to : (x : Id) → (is_same_place waiting (place_of life (ids_of (present_entries changes)) x) && has_id (ids_of (added_in changes)) x) ≡ true → (is_below (cursor life.start life.events) x && has_id (ids_of (present_entries changes)) x) ≡ true
       to x e =
           let at = waits (place_of life (ids_of (present_entries changes)) x) (first_of _ _ e) in
           let stands = subst (StandsAt life (ids_of (present_entries changes)) x) at (has-one-place life changes asc sees x).0 in
           λ i. stands.1 i && stands.0 i
 
-      from : (x : Id) → (is_below (cursor life.start life.events) x && has_id (ids_of (present_entries changes)) x) ≡ true → (is_at waiting (place_of life (ids_of (present_entries changes)) x) && has_id (ids_of (added_in changes)) x) ≡ true
+      from : (x : Id) → (is_below (cursor life.start life.events) x && has_id (ids_of (present_entries changes)) x) ≡ true → (is_same_place waiting (place_of life (ids_of (present_entries changes)) x) && has_id (ids_of (added_in changes)) x) ≡ true
       from x e =
           let there = second_of (is_below (cursor life.start life.events) x) _ e in
           let at = (has-one-place life changes asc sees x).1 waiting (there, first_of _ _ e) in
           let given = present-added changes x there in
-          λ i. is_at waiting (sym at i) && given i
+          λ i. is_same_place waiting (sym at i) && given i
 
   -- ---- what is pending, where a test asks for the consumer
   pending-are : (at : Place → Bool) (test : List ℕ → Bool) → ((p : Place) → at p ≡ true → (name : List ℕ) × (p ≡ pending name)) → ((name : List ℕ) → at (pending name) ≡ test name)
@@ -182,7 +182,7 @@ is-pending handed_out e = absurd (false≢true e)
 is-pending (pending name) e = (name, refl)
 is-pending settled e = absurd (false≢true e)
 
-is-pending-with : (consumer : List ℕ) (p : Place) → is_at (pending consumer) p ≡ true → (name : List ℕ) × (p ≡ pending name)
+is-pending-with : (consumer : List ℕ) (p : Place) → is_same_place (pending consumer) p ≡ true → (name : List ℕ) × (p ≡ pending name)
 is-pending-with consumer before_start e = absurd (false≢true e)
 is-pending-with consumer waiting e = absurd (false≢true e)
 is-pending-with consumer dropped e = absurd (false≢true e)
@@ -206,7 +206,7 @@ place-past true false false last has = refl
 
 one-more : (x : Id) (p : Place) (a : Bool) → a ≡ is_past p → (all w d h n s : List Id) → length all ≡ length w + (length d + (length h + (length n + length s)))
     → length (cond a (x ∷ all) all)
-    ≡ length (cond (is_at waiting p) (x ∷ w) w) + (length (cond (is_at dropped p) (x ∷ d) d) + (length (cond (is_at handed_out p) (x ∷ h) h) + (length (cond (is_pending p) (x ∷ n) n) + length (cond (is_at settled p) (x ∷ s) s))))
+    ≡ length (cond (is_same_place waiting p) (x ∷ w) w) + (length (cond (is_same_place dropped p) (x ∷ d) d) + (length (cond (is_same_place handed_out p) (x ∷ h) h) + (length (cond (is_pending p) (x ∷ n) n) + length (cond (is_same_place settled p) (x ∷ s) s))))
 one-more x before_start a e all w d h n s f = rw e f
 one-more x waiting a e all w d h n s f = rw e (omega (arith, f))
 one-more x dropped a e all w d h n s f = rw e (omega (arith, f))
@@ -216,8 +216,8 @@ one-more x settled a e all w d h n s f = rw e (omega (arith, f))
 
 add-up : (above : Id → Bool) (place : Id → Place) → ((x : Id) → above x ≡ is_past (place x)) → (ids : List Id)
     → length (filter above ids)
-    ≡ length (filter (λ x. is_at waiting (place x)) ids) + (length (filter (λ x. is_at dropped (place x)) ids) + (length (filter (λ x. is_at handed_out (place x)) ids)
-    + (length (filter (λ x. is_pending (place x)) ids) + length (filter (λ x. is_at settled (place x)) ids))))
+    ≡ length (filter (λ x. is_same_place waiting (place x)) ids) + (length (filter (λ x. is_same_place dropped (place x)) ids) + (length (filter (λ x. is_same_place handed_out (place x)) ids)
+    + (length (filter (λ x. is_pending (place x)) ids) + length (filter (λ x. is_same_place settled (place x)) ids))))
 add-up above place is [] = refl
 add-up above place is (x ∷ xs) = one-more x (place x) (above x) (is x) _ _ _ _ _ _ (add-up above place is xs)
 
@@ -230,13 +230,13 @@ places-add-up life changes asc sees =
       waiting_are = waiting-are life changes asc sees;
       pending_are = all_pending;
       of_consumers = λ consumer.
-          pending-are life changes asc sees (is_at (pending consumer)) (λ name. is_same_name name consumer) (is-pending-with consumer) (λ name. refl)
+          pending-are life changes asc sees (is_same_place (pending consumer)) (λ name. is_same_name name consumer) (is-pending-with consumer) (λ name. refl)
           ∙ filter-same _ _ (delivered_ids life.start life.events) (held life changes asc sees (λ name. is_same_name name consumer))
           ∙ sym (owned-among consumer (λ x. pending_row_at life.start life.events x) (delivered_ids life.start life.events));
       add_up = add-up (λ x. is_below life.start x) (λ x. place_of life (ids_of (present_entries changes)) x)
-          (λ x. place-past (is_below life.start x) (has_id (delivered_ids life.start life.events) x) (has_id (ids_of (present_entries changes)) x) (last_assigned life.start life.events x) (owner life.start life.events x))
+          (λ x. place-past (is_below life.start x) (has_id (delivered_ids life.start life.events) x) (has_id (ids_of (present_entries changes)) x) (last_assignee life.start life.events x) (owner life.start life.events x))
           (ids_of (added_in changes))
-          ∙ ap (λ n. length (jobs_at (is_at waiting) changes life) + (length (jobs_at (is_at dropped) changes life) + (length (jobs_at (is_at handed_out) changes life) + (n + length (jobs_at (is_at settled) changes life)))))
+          ∙ ap (λ n. length (jobs_at (is_same_place waiting) changes life) + (length (jobs_at (is_same_place dropped) changes life) + (length (jobs_at (is_same_place handed_out) changes life) + (n + length (jobs_at (is_same_place settled) changes life)))))
           (ap length all_pending ∙ length-map (rows life.start life.events) (λ e. e.0));
     }
   where
@@ -252,7 +252,7 @@ pub tells-pending : (c : Content) (past : History) (now : ℕ) (key group : List
 tells-pending c past now key group changes life is k g =
     by (get c key) refl (subst (λ l. KeyHolds (get c key) l (λ name. group_life past key name)) k (is key))
   where
-    number : (state : GroupState) → IsGroup state life → length state.rows.entries ≡ length (jobs_at is_pending changes life)
+    number : (state : GroupState) → IsGroupOfLife state life → length state.rows.entries ≡ length (jobs_at is_pending changes life)
     number state holds =
         ap length holds.rows_are ∙ sym (length-map (rows life.start life.events) (λ e. e.0))
         ∙ sym (ap length (places-add-up life changes (present-in-life past key group life g) (sees-of past key group changes life k g)).pending_are)

@@ -28,20 +28,22 @@ use Rattle.xs_keys.specs.Life.{StreamEvent, add_entry, delete_entries, trim_entr
 use Rattle.xs_keys.specs.Life.{key_life_after, key_life, entry_of, entries_added_by, added_in, top, removes_id}
 use Rattle.xs_keys.specs.Life.{is_present, present_entries}
 use Rattle.xs_keys.specs.GroupAsk.{GroupAsk, create_consumer, delete_consumer, acknowledge, claim, auto_claim}
-use Rattle.xs_keys.specs.GroupAsk.{new_ids_of_ask, claim_of_ask, consumer_of, keeps_pending, is_acknowledgement_of}
+use Rattle.xs_keys.specs.GroupAsk.{new_ids_of_ask, claim_of_ask, consumer_of, reads_without_noack}
+use Rattle.xs_keys.specs.GroupAsk.{is_acknowledgement_of}
 use Rattle.xs_keys.specs.GroupAsk.{deletes_consumer}
 use Rattle.xs_keys.specs.GroupEvent.{GroupEvent, delivered_ids, cursor, pending_row_at, rows}
-use Rattle.xs_keys.specs.Owner.{last_assigned, owner}
+use Rattle.xs_keys.specs.Owner.{last_assignee, owner}
 use Rattle.xs_keys.specs.GroupLife.{GroupLife, present_in, starting_id, new_life, life_after_ask, ask_of_read}
 use Rattle.xs_keys.specs.GroupLife.{life_after_reads, group_life_after, reads_of, read_group_of, group_life, is_new}
 use Rattle.xs_keys.specs.GroupLife.{reads_new_entries}
 use Rattle.xs_keys.specs.JobPlace.{Place, before_start, waiting, dropped, handed_out, pending, settled, place_of}
 use Rattle.xs_keys.specs.JobPlace.{place_in, place_after}
-use Rattle.xs_keys.specs.Effect.{deletes_entry, is_trimmed_below_one, may_trim_entry, reads_new_entries_in, has_noack}
-use Rattle.xs_keys.specs.Effect.{claims_by_id, may_claim_entry, consumer_of_command, acknowledges_entry}
+use Rattle.xs_keys.specs.Effect.{deletes_entry, is_trimmed_after_addition, may_trim_entry, reads_new_entries_in}
+use Rattle.xs_keys.specs.Effect.{has_noack}
+use Rattle.xs_keys.specs.Effect.{claims_by_id, may_claim_entry, reader_or_claimer, acknowledges_entry}
 use Rattle.xs_keys.specs.Effect.{removes_consumer, may_begin_job, ends_group}
 use Rattle.xs_keys.specs.JobMove.{found_at, HasArrow, HasToMove, trims_new, IsFirstPlace, MovesAlong, is_final}
-use Rattle.xs_keys.specs.JobMove.{GroupStaysOpen}
+use Rattle.xs_keys.specs.JobMove.{NoneEndsGroup}
 use Rattle.xs_keys.proofs.Truths.{first_of, second_of, or_false}
 use Rattle.xs_keys.proofs.IdLists.{has_id-append, has_id-where}
 use Rattle.xs_keys.proofs.Streams.{adds-not_new, up_to-present}
@@ -80,7 +82,7 @@ module _ (start : Id) (events : List GroupEvent) (change : StreamEvent) (past : 
       by false e false f false g h = absurd (false≢true g)
 
   abbrev at : Bool → Bool → Bool → Place
-  at above went there = place_by above went there (last_assigned start events x) (owner start events x)
+  at above went there = place_by above went there (last_assignee start events x) (owner start events x)
 
   altered : Altered change past x (place_of (life_of start events) (ids_of (present_entries past)) x) (place_of (life_of start events) (ids_of (present_entries (change ∷ past))) x)
   altered = by (has_id (ids_of (present_entries past)) x) refl (has_id (ids_of (present_entries (change ∷ past))) x) refl (is_below start x) refl (has_id (delivered_ids start events) x) refl where
@@ -173,9 +175,9 @@ module _ (command : Command) (key group : List ℕ) (x : Id) where
       owes : (here : Place) → place_of life (ids_of (present_entries past)) x ≡ here → HasToMove command key group (ids_of (present_entries past)) x here (place_of life (ids_of (present_entries (change ∷ past))) x)
       owes before_start e = tt
       owes waiting e = λ d.
-          let asked = waiting-asked (is_below life.start x) (has_id (delivered_ids life.start life.events) x) (has_id (ids_of (present_entries past)) x) (last_assigned life.start life.events x) (owner life.start life.events x) e in
+          let asked = waiting-asked (is_below life.start x) (has_id (delivered_ids life.start life.events) x) (has_id (ids_of (present_entries past)) x) (last_assignee life.start life.events x) (owner life.start life.events x) e in
           let gone = not-present change past x (does.must d (ids_of (filter (λ e. is_present past e.0) (added_in past) ++ entries_added_by change (top past)))) in
-          λ i. place_by (asked.0 i) (asked.1 i) (gone i) (last_assigned life.start life.events x) (owner life.start life.events x)
+          λ i. place_by (asked.0 i) (asked.1 i) (gone i) (last_assignee life.start life.events x) (owner life.start life.events x)
       owes dropped e = tt
       owes handed_out e = tt
       owes (pending name) e = λ s. absurd (false≢true (sym (does.settles_none (ids_of (present_entries past)) name) ∙ s))
@@ -185,9 +187,9 @@ module _ (command : Command) (key group : List ℕ) (x : Id) where
 
 -- what an ask does to an entry the command is told to do
 record Causes (command : Command) (key group : List ℕ) (ids : List Id) (x : Id) (now : ℕ) (ask : GroupAsk) : Type 0 where
-  hands_out : (a : Id) → has_id (new_ids_of_ask ask ids a) x ≡ true → keeps_pending ask ≡ false → (reads_new_entries_in command key group && has_noack command) ≡ true
-  delivers : (a : Id) → has_id (new_ids_of_ask ask ids a) x ≡ true → keeps_pending ask ≡ true → ((reads_new_entries_in command key group && not (has_noack command)) ≡ true) × (consumer_of_command command ≡ consumer_of ask)
-  takes : (es : List (Id × RowState)) → has_id (claim_of_ask ask now ids es).take x ≡ true → ((may_claim_entry command key group x && has_id ids x) ≡ true) × (consumer_of_command command ≡ consumer_of ask)
+  hands_out : (a : Id) → has_id (new_ids_of_ask ask ids a) x ≡ true → reads_without_noack ask ≡ false → (reads_new_entries_in command key group && has_noack command) ≡ true
+  delivers : (a : Id) → has_id (new_ids_of_ask ask ids a) x ≡ true → reads_without_noack ask ≡ true → ((reads_new_entries_in command key group && not (has_noack command)) ≡ true) × (reader_or_claimer command ≡ consumer_of ask)
+  takes : (es : List (Id × RowState)) → has_id (claim_of_ask ask now ids es).take x ≡ true → ((may_claim_entry command key group x && has_id ids x) ≡ true) × (reader_or_claimer command ≡ consumer_of ask)
   settles : (es : List (Id × RowState)) (name : List ℕ) → (is_acknowledgement_of ask x || (deletes_consumer ask name || has_id (claim_of_ask ask now ids es).removed x)) ≡ true
       → (acknowledges_entry command key group x || (removes_consumer command key group name || (may_claim_entry command key group x && not (has_id ids x)))) ≡ true
   no_deletion : deletes_entry command key x ≡ false
@@ -237,7 +239,7 @@ goes-asked command key group x now ask (Some changes) (Some life) causes = by (h
   owes dropped e = tt
   owes handed_out e = tt
   owes (pending name) e = λ s.
-      let o = pending-owner (is_below life.start x) (has_id (delivered_ids life.start life.events) x) (has_id (ids_of (present_entries changes)) x) (last_assigned life.start life.events x) (owner life.start life.events x) name e in
+      let o = pending-owner (is_below life.start x) (has_id (delivered_ids life.start life.events) x) (has_id (ids_of (present_entries changes)) x) (last_assignee life.start life.events x) (owner life.start life.events x) name e in
       let l = owner-last life.start life.events x name o in
       settled-now life.start life.events (record { now = now; present = ids_of (present_entries changes); ask = ask }) x (ids_of (present_entries changes)) refl name o
       (ap (λ last. (is_acknowledgement_of ask x && is_some last) || (option_map_or (deletes_consumer ask) last false || has_id (claim_of_ask ask now (ids_of (present_entries changes)) (rows life.start life.events)).removed x)) l
@@ -399,7 +401,7 @@ adds command key group x change make None (Some life) t sees does idle = absurd 
 
 -- what a trim drops behind an addition
 pub trimmed-below : (given : Result Id AddError) (fields : List Field) (trim : Option Trim) (es : List (Id × List Field)) (x : Id)
-    → (is_ok given && option_map_or (λ t. is_trimmed t (ids_of (es ++ entry_of given fields)) x) trim false) ≡ true → option_map_or (λ t. is_trimmed_below_one t (ids_of es) x) trim false ≡ true
+    → (is_ok given && option_map_or (λ t. is_trimmed t (ids_of (es ++ entry_of given fields)) x) trim false) ≡ true → option_map_or (λ t. is_trimmed_after_addition t (ids_of es) x) trim false ≡ true
 trimmed-below (Err refusal) fields trim es x e = absurd (false≢true e)
 trimmed-below (Ok id) fields None es x e = absurd (false≢true e)
 trimmed-below (Ok id) fields (Some (MinId low)) es x e = e
@@ -473,7 +475,7 @@ added-first now add past x new life ids d =
     by (is_below life.start x) (has_id (delivered_ids life.start life.events) x) d (has_id (ids_of (present_entries (add_entry now add.id add.fields add.trim ∷ past))) x) refl
   where
     by : (a d : Bool) → d ≡ false → (t : Bool) → has_id (ids_of (present_entries (add_entry now add.id add.fields add.trim ∷ past))) x ≡ t
-        → IsFirstPlace (Add add) ids x (place_by a d t (last_assigned life.start life.events x) (owner life.start life.events x))
+        → IsFirstPlace (Add add) ids x (place_by a d t (last_assignee life.start life.events x) (owner life.start life.events x))
     by false d e t f = tt
     by true true e t f = absurd (false≢true (sym e))
     by true false e true f = tt
@@ -595,7 +597,7 @@ no_arrow command key group ids x handed_out there f h = h
 no_arrow command key group ids x (pending name) there f h = false≢true f
 no_arrow command key group ids x settled there f h = h
 
-pub for-good : (later earlier : History) (key group : List ℕ) (x : Id) (here : Place) → GroupStaysOpen key group later → is_final here ≡ true → place_after earlier key group x ≡ Some here
+pub for-good : (later earlier : History) (key group : List ℕ) (x : Id) (here : Place) → NoneEndsGroup key group later → is_final here ≡ true → place_after earlier key group x ≡ Some here
     → place_after (later ++ earlier) key group x ≡ Some here
 for-good [] earlier key group x here on final e = e
 for-good (event ∷ later) earlier key group x here on final e =

@@ -6,8 +6,8 @@ use Rattle.xs_stream.proofs.Order.{up_to-below}
 use Rattle.xs_keys.specs.Terms.{Id, is_below, has_id, ids_of}
 use Rattle.xs_keys.specs.Life.{StreamEvent, present_entries}
 use Rattle.xs_keys.specs.GroupEvent.{GroupEvent, new_ids_of_event, delivered_ids, cursor, rows}
-use Rattle.xs_keys.specs.GroupAsk.{consumer_of, keeps_pending}
-use Rattle.xs_keys.specs.Owner.{is_taken_by_claim, last_assigned, settles_entry, is_settled, owner}
+use Rattle.xs_keys.specs.GroupAsk.{consumer_of, reads_without_noack}
+use Rattle.xs_keys.specs.Owner.{is_taken_by_claim, last_assignee, may_settle_entry, is_settled, owner}
 use Rattle.xs_keys.specs.GroupLife.{GroupLife}
 use Rattle.xs_keys.specs.JobPlace.{Place, before_start, waiting, dropped, handed_out, pending, settled}
 use Rattle.xs_keys.specs.JobPlace.{place_of_delivered, place_of, StandsAt, HasOnePlace}
@@ -21,26 +21,26 @@ use Rattle.xs_keys.proofs.IdsAtEvents.{Sees, none-stranded, asked-present, above
 -- ---- who has what was delivered
 
 -- what was assigned was delivered
-pub assigned-delivered : (start : Id) (events : List GroupEvent) (x : Id) → is_some (last_assigned start events x) ≡ true → has_id (delivered_ids start events) x ≡ true
+pub assigned-delivered : (start : Id) (events : List GroupEvent) (x : Id) → is_some (last_assignee start events x) ≡ true → has_id (delivered_ids start events) x ≡ true
 assigned-delivered start [] x e = absurd (false≢true e)
 assigned-delivered start (event ∷ past) x e =
     has_id-append (delivered_ids start past) (new_ids_of_event event (cursor start past)) x
-    ∙ by (has_id (new_ids_of_event event (cursor start past)) x) refl (keeps_pending event.ask) refl (is_taken_by_claim start past event x) refl (assigned-delivered start past x)
+    ∙ by (has_id (new_ids_of_event event (cursor start past)) x) refl (reads_without_noack event.ask) refl (is_taken_by_claim start past event x) refl (assigned-delivered start past x)
   where
-    by : (n : Bool) → has_id (new_ids_of_event event (cursor start past)) x ≡ n → (k : Bool) → keeps_pending event.ask ≡ k → (t : Bool) → is_taken_by_claim start past event x ≡ t
-        → (is_some (last_assigned start past x) ≡ true → has_id (delivered_ids start past) x ≡ true)
+    by : (n : Bool) → has_id (new_ids_of_event event (cursor start past)) x ≡ n → (k : Bool) → reads_without_noack event.ask ≡ k → (t : Bool) → is_taken_by_claim start past event x ≡ t
+        → (is_some (last_assignee start past x) ≡ true → has_id (delivered_ids start past) x ≡ true)
         → (has_id (delivered_ids start past) x || has_id (new_ids_of_event event (cursor start past)) x) ≡ true
     by true n k f t g before = or_right _ _ n
     by false n k f true g before = or_left _ _ (owned-delivered start past x (taken-owned start past event x g))
     by false n k f false g before = or_left _ _ (before (ap is_some (sym (not_assigned k f)) ∙ e)) where
-      not_assigned : (k : Bool) → keeps_pending event.ask ≡ k → last_assigned start (event ∷ past) x ≡ last_assigned start past x
-      not_assigned true f = λ i. cond ((f i && n i) || g i) (consumer_of event.ask) (last_assigned start past x)
-      not_assigned false f = λ i. cond ((f i && n i) || g i) (consumer_of event.ask) (last_assigned start past x)
+      not_assigned : (k : Bool) → reads_without_noack event.ask ≡ k → last_assignee start (event ∷ past) x ≡ last_assignee start past x
+      not_assigned true f = λ i. cond ((f i && n i) || g i) (consumer_of event.ask) (last_assignee start past x)
+      not_assigned false f = λ i. cond ((f i && n i) || g i) (consumer_of event.ask) (last_assignee start past x)
 
 -- whoever has it is who it was last assigned to
-pub owner-last : (start : Id) (events : List GroupEvent) (x : Id) (name : List ℕ) → owner start events x ≡ Some name → last_assigned start events x ≡ Some name
+pub owner-last : (start : Id) (events : List GroupEvent) (x : Id) (name : List ℕ) → owner start events x ≡ Some name → last_assignee start events x ≡ Some name
 owner-last start events x name e = by (is_settled start events x) e where
-  by : (s : Bool) → cond s None (last_assigned start events x) ≡ Some name → last_assigned start events x ≡ Some name
+  by : (s : Bool) → cond s None (last_assignee start events x) ≡ Some name → last_assignee start events x ≡ Some name
   by true f = absurd (false≢true (ap is_some f))
   by false f = f
 
@@ -59,8 +59,8 @@ life_of start events = record { start = start; events = events }
 
 -- where a delivered one stands
 at-delivered : (start : Id) (events : List GroupEvent) (present : List Id) (x : Id) → has_id (delivered_ids start events) x ≡ true
-    → place_of (life_of start events) present x ≡ place_of_delivered (last_assigned start events x) (owner start events x)
-at-delivered start events present x d = λ i. place_by (past start events x d i) (d i) (has_id present x) (last_assigned start events x) (owner start events x)
+    → place_of (life_of start events) present x ≡ place_of_delivered (last_assignee start events x) (owner start events x)
+at-delivered start events present x d = λ i. place_by (past start events x d i) (d i) (has_id present x) (last_assignee start events x) (owner start events x)
 
 nobody : (last : Option (List ℕ)) → is_some last ≡ true → settled ≡ place_of_delivered last None
 nobody None e = absurd (false≢true e)
@@ -68,7 +68,7 @@ nobody (Some last) e = refl
 
 module _ (start : Id) (events : List GroupEvent) (changes : List StreamEvent) (asc : PresentAscends events) (sees : Sees changes events) (x : Id) where
   is_present-there : (above : Bool) → is_below start x ≡ above → (went : Bool) → has_id (delivered_ids start events) x ≡ went → (there : Bool) → has_id (ids_of (present_entries changes)) x ≡ there
-      → (last : Option (List ℕ)) → last_assigned start events x ≡ last → (has : Option (List ℕ)) → owner start events x ≡ has
+      → (last : Option (List ℕ)) → last_assignee start events x ≡ last → (has : Option (List ℕ)) → owner start events x ≡ has
       → StandsAt (life_of start events) (ids_of (present_entries changes)) x (place_by above went there last has)
   is_present-there false a went d there v last l has o = a
   is_present-there true a true d there v None l has o = (d, l)
@@ -81,25 +81,25 @@ module _ (start : Id) (events : List GroupEvent) (changes : List StreamEvent) (a
     by false e = absurd (false≢true (sym d ∙ none-stranded start changes events x asc sees a e v))
 
   is_present-only : (other : Place) → StandsAt (life_of start events) (ids_of (present_entries changes)) x other → other ≡ place_of (life_of start events) (ids_of (present_entries changes)) x
-  is_present-only before_start a = λ i. place_by (sym a i) (has_id (delivered_ids start events) x) (has_id (ids_of (present_entries changes)) x) (last_assigned start events x) (owner start events x)
+  is_present-only before_start a = λ i. place_by (sym a i) (has_id (delivered_ids start events) x) (has_id (ids_of (present_entries changes)) x) (last_assignee start events x) (owner start events x)
   is_present-only waiting h =
       let above = up_to-below (cursor start events) start x (start-up start events) h.1 in
       let not_yet = not_among (cursor start events) (delivered_ids start events) x h.1 (up_to-delivered start events) in
-      λ i. place_by (sym above i) (sym not_yet i) (sym h.0 i) (last_assigned start events x) (owner start events x)
-  is_present-only dropped h = λ i. place_by (sym h.0 i) (sym h.2 i) (sym h.1 i) (last_assigned start events x) (owner start events x)
+      λ i. place_by (sym above i) (sym not_yet i) (sym h.0 i) (last_assignee start events x) (owner start events x)
+  is_present-only dropped h = λ i. place_by (sym h.0 i) (sym h.2 i) (sym h.1 i) (last_assignee start events x) (owner start events x)
   is_present-only handed_out h = sym (at-delivered start events (ids_of (present_entries changes)) x h.0 ∙ ap (λ last. place_of_delivered last (owner start events x)) h.1)
   is_present-only (pending name) o =
       let last = owner-last start events x name o in
       sym (at-delivered start events (ids_of (present_entries changes)) x (owned-delivered start events x (ap is_some o)) ∙ (λ i. place_of_delivered (last i) (o i)))
   is_present-only settled h =
-      nobody (last_assigned start events x) h.0
-      ∙ ap (place_of_delivered (last_assigned start events x)) (sym h.1)
+      nobody (last_assignee start events x) h.0
+      ∙ ap (place_of_delivered (last_assignee start events x)) (sym h.1)
       ∙ sym (at-delivered start events (ids_of (present_entries changes)) x (assigned-delivered start events x h.0))
 
 pub has-one-place : (life : GroupLife) (changes : List StreamEvent) → PresentAscends life.events → Sees changes life.events → (x : Id) → HasOnePlace life (ids_of (present_entries changes)) x
 has-one-place life changes asc sees x = (
   is_present-there life.start life.events changes asc sees x (is_below life.start x) refl (has_id (delivered_ids life.start life.events) x) refl (has_id (ids_of (present_entries changes)) x) refl
-      (last_assigned life.start life.events x) refl (owner life.start life.events x) refl,
+      (last_assignee life.start life.events x) refl (owner life.start life.events x) refl,
   is_present-only life.start life.events changes asc sees x,
 )
 
@@ -108,11 +108,11 @@ has-one-place life changes asc sees x = (
 -- what an event of a group makes of the place of an entry
 pub data Went (start : Id) (past : List GroupEvent) (event : GroupEvent) (x : Id) (here there : Place) : Type 0 where
   stayed : there ≡ here → Went start past event x here there
-  was_handed_out : has_id (new_ids_of_event event (cursor start past)) x ≡ true → keeps_pending event.ask ≡ false → here ≡ waiting → there ≡ handed_out → Went start past event x here there
-  was_delivered : has_id (new_ids_of_event event (cursor start past)) x ≡ true → keeps_pending event.ask ≡ true → (name : List ℕ) → consumer_of event.ask ≡ Some name
+  was_handed_out : has_id (new_ids_of_event event (cursor start past)) x ≡ true → reads_without_noack event.ask ≡ false → here ≡ waiting → there ≡ handed_out → Went start past event x here there
+  was_delivered : has_id (new_ids_of_event event (cursor start past)) x ≡ true → reads_without_noack event.ask ≡ true → (name : List ℕ) → consumer_of event.ask ≡ Some name
       → here ≡ waiting → there ≡ pending name → Went start past event x here there
   was_taken : is_taken_by_claim start past event x ≡ true → (one other : List ℕ) → consumer_of event.ask ≡ Some other → here ≡ pending one → there ≡ pending other → Went start past event x here there
-  was_settled : settles_entry start past event x ≡ true → (name : List ℕ) → last_assigned start past x ≡ Some name → here ≡ pending name → there ≡ settled → Went start past event x here there
+  was_settled : may_settle_entry start past event x ≡ true → (name : List ℕ) → last_assignee start past x ≡ Some name → here ≡ pending name → there ≡ settled → Went start past event x here there
 
 named : (o : Option (List ℕ)) → is_some o ≡ true → (name : List ℕ) × (o ≡ Some name)
 named None e = absurd (false≢true e)
@@ -125,12 +125,12 @@ module _ (start : Id) (before : List GroupEvent) (event : GroupEvent) (x : Id) (
   -- where it stands after the event, if it was delivered before
   after-delivered : has_id (delivered_ids start before) x ≡ true
       → place_of (life_of start (event ∷ before)) present x
-      ≡ place_of_delivered (cond (is_taken_by_claim start before event x) (consumer_of event.ask) (last_assigned start before x))
-      (cond (is_taken_by_claim start before event x) (consumer_of event.ask) (cond (settles_entry start before event x) None (owner start before x)))
+      ≡ place_of_delivered (cond (is_taken_by_claim start before event x) (consumer_of event.ask) (last_assignee start before x))
+      (cond (is_taken_by_claim start before event x) (consumer_of event.ask) (cond (may_settle_entry start before event x) None (owner start before x)))
   after-delivered d =
       at-delivered start (event ∷ before) present x (delivered-after ∙ or_left _ _ d)
-      ∙ ap (place_of_delivered (last_assigned start (event ∷ before) x)) (owner-step start before event x)
-      ∙ ap (λ a. place_of_delivered (cond a (consumer_of event.ask) (last_assigned start before x)) (cond a (consumer_of event.ask) (cond (settles_entry start before event x) None (owner start before x))))
+      ∙ ap (place_of_delivered (last_assignee start (event ∷ before) x)) (owner-step start before event x)
+      ∙ ap (λ a. place_of_delivered (cond a (consumer_of event.ask) (last_assignee start before x)) (cond a (consumer_of event.ask) (cond (may_settle_entry start before event x) None (owner start before x))))
       (assigned-again start before event x d)
 
   Goes : Type 0
@@ -139,24 +139,24 @@ module _ (start : Id) (before : List GroupEvent) (event : GroupEvent) (x : Id) (
   -- it was delivered before
   went-delivered : has_id (delivered_ids start before) x ≡ true → Goes
   unfolding Goes
-  went-delivered d = by (is_taken_by_claim start before event x) refl (settles_entry start before event x) refl (last_assigned start before x) refl (owner start before x) refl where
-    here : place_of (life_of start before) present x ≡ place_of_delivered (last_assigned start before x) (owner start before x)
+  went-delivered d = by (is_taken_by_claim start before event x) refl (may_settle_entry start before event x) refl (last_assignee start before x) refl (owner start before x) refl where
+    here : place_of (life_of start before) present x ≡ place_of_delivered (last_assignee start before x) (owner start before x)
     here = at-delivered start before present x d
 
     there : place_of (life_of start (event ∷ before)) present x
-        ≡ place_of_delivered (cond (is_taken_by_claim start before event x) (consumer_of event.ask) (last_assigned start before x))
-        (cond (is_taken_by_claim start before event x) (consumer_of event.ask) (cond (settles_entry start before event x) None (owner start before x)))
+        ≡ place_of_delivered (cond (is_taken_by_claim start before event x) (consumer_of event.ask) (last_assignee start before x))
+        (cond (is_taken_by_claim start before event x) (consumer_of event.ask) (cond (may_settle_entry start before event x) None (owner start before x)))
     there = after-delivered d
 
-    by : (t : Bool) → is_taken_by_claim start before event x ≡ t → (s : Bool) → settles_entry start before event x ≡ s
-        → (last : Option (List ℕ)) → last_assigned start before x ≡ last → (has : Option (List ℕ)) → owner start before x ≡ has
+    by : (t : Bool) → is_taken_by_claim start before event x ≡ t → (s : Bool) → may_settle_entry start before event x ≡ s
+        → (last : Option (List ℕ)) → last_assignee start before x ≡ last → (has : Option (List ℕ)) → owner start before x ≡ has
         → Went start before event x (place_of (life_of start before) present x) (place_of (life_of start (event ∷ before)) present x)
     by true t s f last l None o = absurd (false≢true (ap is_some (sym o) ∙ taken-owned start before event x t))
     by true t s f None l (Some one) o = absurd (false≢true (ap is_some (sym l ∙ owner-last start before x one o)))
     by true t s f (Some last) l (Some one) o =
         let c = named (consumer_of event.ask) (claim-named event.ask event.now event.present (rows start before) x t) in
         was_taken t one c.0 c.1 (here ∙ (λ i. place_of_delivered (l i) (o i)))
-        (there ∙ (λ i. place_of_delivered (cond (t i) (c.1 i) (last_assigned start before x)) (cond (t i) (c.1 i) (cond (settles_entry start before event x) None (owner start before x)))))
+        (there ∙ (λ i. place_of_delivered (cond (t i) (c.1 i) (last_assignee start before x)) (cond (t i) (c.1 i) (cond (may_settle_entry start before event x) None (owner start before x)))))
     by false t true s None l has o =
         stayed (there ∙ (λ i. place_of_delivered (cond (t i) (consumer_of event.ask) (l i)) (cond (t i) (consumer_of event.ask) (cond (s i) None (o i))))
         ∙ sym (here ∙ (λ i. place_of_delivered (l i) (o i))))
@@ -167,21 +167,21 @@ module _ (start : Id) (before : List GroupEvent) (event : GroupEvent) (x : Id) (
         was_settled s name (owner-last start before x name o) (here ∙ (λ i. place_of_delivered (l i) (o i)))
         (there ∙ (λ i. place_of_delivered (cond (t i) (consumer_of event.ask) (l i)) (cond (t i) (consumer_of event.ask) (cond (s i) None (o i)))))
     by false t false s last l has o =
-        stayed (there ∙ (λ i. place_of_delivered (cond (t i) (consumer_of event.ask) (last_assigned start before x)) (cond (t i) (consumer_of event.ask) (cond (s i) None (owner start before x)))) ∙ sym here)
+        stayed (there ∙ (λ i. place_of_delivered (cond (t i) (consumer_of event.ask) (last_assignee start before x)) (cond (t i) (consumer_of event.ask) (cond (s i) None (owner start before x)))) ∙ sym here)
 
   -- it wasn't
   went-undelivered : has_id (delivered_ids start before) x ≡ false → Goes
   unfolding Goes
-  went-undelivered d = by (has_id (new_ids_of_event event (cursor start before)) x) refl (keeps_pending event.ask) refl where
+  went-undelivered d = by (has_id (new_ids_of_event event (cursor start before)) x) refl (reads_without_noack event.ask) refl where
     none_had : owner start before x ≡ None
     none_had = only (owner start before x) refl where
       only : (o : Option (List ℕ)) → owner start before x ≡ o → owner start before x ≡ None
       only None e = e
       only (Some name) e = absurd (false≢true (sym d ∙ owned-delivered start before x (ap is_some e)))
 
-    none_last : last_assigned start before x ≡ None
-    none_last = only (last_assigned start before x) refl where
-      only : (o : Option (List ℕ)) → last_assigned start before x ≡ o → last_assigned start before x ≡ None
+    none_last : last_assignee start before x ≡ None
+    none_last = only (last_assignee start before x) refl where
+      only : (o : Option (List ℕ)) → last_assignee start before x ≡ o → last_assignee start before x ≡ None
       only None e = e
       only (Some name) e = absurd (false≢true (sym d ∙ assigned-delivered start before x (ap is_some e)))
 
@@ -191,12 +191,12 @@ module _ (start : Id) (before : List GroupEvent) (event : GroupEvent) (x : Id) (
       only false e = refl
       only true e = absurd (false≢true (ap is_some (sym none_had) ∙ taken-owned start before event x e))
 
-    by : (n : Bool) → has_id (new_ids_of_event event (cursor start before)) x ≡ n → (k : Bool) → keeps_pending event.ask ≡ k
+    by : (n : Bool) → has_id (new_ids_of_event event (cursor start before)) x ≡ n → (k : Bool) → reads_without_noack event.ask ≡ k
         → Went start before event x (place_of (life_of start before) present x) (place_of (life_of start (event ∷ before)) present x)
     by false n k f =
         let after = delivered-after ∙ (λ i. d i || n i) in
-        stayed ((λ i. place_by (is_below start x) (after i) (has_id present x) (last_assigned start (event ∷ before) x) (owner start (event ∷ before) x))
-        ∙ sym (λ i. place_by (is_below start x) (d i) (has_id present x) (last_assigned start before x) (owner start before x)))
+        stayed ((λ i. place_by (is_below start x) (after i) (has_id present x) (last_assignee start (event ∷ before) x) (owner start (event ∷ before) x))
+        ∙ sym (λ i. place_by (is_below start x) (d i) (has_id present x) (last_assignee start before x) (owner start before x)))
     by true n k f = keeps k f where
       now : has_id (delivered_ids start (event ∷ before)) x ≡ true
       now = delivered-after ∙ or_right _ _ n
@@ -205,16 +205,16 @@ module _ (start : Id) (before : List GroupEvent) (event : GroupEvent) (x : Id) (
       in_stream = ap (λ ids. has_id ids x) (sym saw) ∙ asked-present event.ask event.present (cursor start before) x n
 
       waits : place_of (life_of start before) present x ≡ waiting
-      waits = λ i. place_by (past start (event ∷ before) x now i) (d i) (in_stream i) (last_assigned start before x) (owner start before x)
+      waits = λ i. place_by (past start (event ∷ before) x now i) (d i) (in_stream i) (last_assignee start before x) (owner start before x)
 
-      keeps : (k : Bool) → keeps_pending event.ask ≡ k → Went start before event x (place_of (life_of start before) present x) (place_of (life_of start (event ∷ before)) present x)
+      keeps : (k : Bool) → reads_without_noack event.ask ≡ k → Went start before event x (place_of (life_of start before) present x) (place_of (life_of start (event ∷ before)) present x)
       keeps true f =
           let c = named (consumer_of event.ask) (pending-named event.ask f) in
           was_delivered n f c.0 c.1 waits
           (at-delivered start (event ∷ before) present x now
-          ∙ ap (place_of_delivered (last_assigned start (event ∷ before) x)) (owner-step start before event x)
-          ∙ (λ i. place_of_delivered (cond ((f i && n i) || is_taken_by_claim start before event x) (c.1 i) (last_assigned start before x))
-          (cond ((f i && n i) || is_taken_by_claim start before event x) (c.1 i) (cond (settles_entry start before event x) None (owner start before x)))))
+          ∙ ap (place_of_delivered (last_assignee start (event ∷ before) x)) (owner-step start before event x)
+          ∙ (λ i. place_of_delivered (cond ((f i && n i) || is_taken_by_claim start before event x) (c.1 i) (last_assignee start before x))
+          (cond ((f i && n i) || is_taken_by_claim start before event x) (c.1 i) (cond (may_settle_entry start before event x) None (owner start before x)))))
       keeps false f =
           was_handed_out n f waits
           (at-delivered start (event ∷ before) present x now
@@ -228,15 +228,15 @@ module _ (start : Id) (before : List GroupEvent) (event : GroupEvent) (x : Id) (
     by false d = went-undelivered d
 
   -- what has an owner and is settled stands so
-  pub settled-now : (name : List ℕ) → owner start before x ≡ Some name → settles_entry start before event x ≡ true → place_of (life_of start (event ∷ before)) present x ≡ settled
+  pub settled-now : (name : List ℕ) → owner start before x ≡ Some name → may_settle_entry start before event x ≡ true → place_of (life_of start (event ∷ before)) present x ≡ settled
   settled-now name o s =
       after-delivered (owned-delivered start before x (ap is_some o))
       ∙ by (is_taken_by_claim start before event x) refl
     where
       by : (t : Bool) → is_taken_by_claim start before event x ≡ t
-          → place_of_delivered (cond (is_taken_by_claim start before event x) (consumer_of event.ask) (last_assigned start before x))
-          (cond (is_taken_by_claim start before event x) (consumer_of event.ask) (cond (settles_entry start before event x) None (owner start before x))) ≡ settled
-      by true t = absurd (false≢true (sym (taken-unsettled event.ask event.now event.present (rows start before) x (last_assigned start before x) t) ∙ s))
+          → place_of_delivered (cond (is_taken_by_claim start before event x) (consumer_of event.ask) (last_assignee start before x))
+          (cond (is_taken_by_claim start before event x) (consumer_of event.ask) (cond (may_settle_entry start before event x) None (owner start before x))) ≡ settled
+      by true t = absurd (false≢true (sym (taken-unsettled event.ask event.now event.present (rows start before) x (last_assignee start before x) t) ∙ s))
       by false t =
           let last = owner-last start before x name o in
           λ i. place_of_delivered (cond (t i) (consumer_of event.ask) (last i)) (cond (t i) (consumer_of event.ask) (cond (s i) None (owner start before x)))

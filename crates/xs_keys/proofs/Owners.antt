@@ -13,13 +13,13 @@ use Rattle.xs_group.specs.GroupState.{row_after_reread}
 use Rattle.xs_group.specs.GroupState.{unless_acked, unless_owned}
 use Rattle.xs_keys.specs.Terms.{with_some, Id}
 use Rattle.xs_keys.specs.GroupAsk.{GroupAsk, read_new, read_own, acknowledge, create_consumer, delete_consumer, claim}
-use Rattle.xs_keys.specs.GroupAsk.{auto_claim, new_ids_of_ask, claim_of_ask, consumer_of, keeps_pending}
+use Rattle.xs_keys.specs.GroupAsk.{auto_claim, new_ids_of_ask, claim_of_ask, consumer_of, reads_without_noack}
 use Rattle.xs_keys.specs.GroupAsk.{is_acknowledgement_of, deletes_consumer, row_after_ask}
 use Rattle.xs_keys.specs.GroupEvent.{GroupEvent, delivered_ids, cursor, new_ids_of_event, rows_among, pending_row_at}
 use Rattle.xs_keys.specs.GroupEvent.{rows}
-use Rattle.xs_keys.specs.Owner.{is_made_pending_by, is_taken_by_claim, is_assigned_by, last_assigned, is_deletion_of}
-use Rattle.xs_keys.specs.Owner.{settles_entry, is_settled, owner}
-use Rattle.xs_keys.specs.EachOwner.{OwnerAfter, NoOwnerAfter, is_settled_in, OwnedUntilSettled, ChangesByClaims}
+use Rattle.xs_keys.specs.Owner.{is_made_pending_by, is_taken_by_claim, is_assigned_by, last_assignee, is_deletion_of}
+use Rattle.xs_keys.specs.Owner.{may_settle_entry, is_settled, owner}
+use Rattle.xs_keys.specs.EachOwner.{OwnerAfter, AfterNoOwner, is_settled_in, OwnedUntilSettled, ChangesByClaims}
 use Rattle.xs_keys.proofs.Truths.{first_of, second_of, none_or, or_none}
 use Rattle.xs_keys.proofs.IdLists.{has_id-append, has_id-where, not_above, not_among}
 use Rattle.xs_keys.proofs.GroupSteps.{up_to-delivered}
@@ -148,16 +148,16 @@ claimed-over ask now present es x e = asked-over ask now present es x e
 abbrev pub of_row : Option RowState → Option (List ℕ)
 of_row r = option_map (λ row. row.consumer) r
 
-owner-by : (assigned settles_entry settled : Bool) (asking last : Option (List ℕ))
-    → cond (cond assigned false (settles_entry || settled)) None (cond assigned asking last) ≡ cond assigned asking (cond settles_entry None (cond settled None last))
-owner-by true settles_entry settled asking last = refl
+owner-by : (assigned may_settle_entry settled : Bool) (asking last : Option (List ℕ))
+    → cond (cond assigned false (may_settle_entry || settled)) None (cond assigned asking last) ≡ cond assigned asking (cond may_settle_entry None (cond settled None last))
+owner-by true may_settle_entry settled asking last = refl
 owner-by false true settled asking last = refl
 owner-by false false settled asking last = refl
 
 -- what an event makes of the owner
 pub owner-step : (start : Id) (past : List GroupEvent) (event : GroupEvent) (x : Id)
-    → owner start (event ∷ past) x ≡ cond (is_assigned_by start past event x) (consumer_of event.ask) (cond (settles_entry start past event x) None (owner start past x))
-owner-step start past event x = owner-by (is_assigned_by start past event x) (settles_entry start past event x) (is_settled start past x) (consumer_of event.ask) (last_assigned start past x)
+    → owner start (event ∷ past) x ≡ cond (is_assigned_by start past event x) (consumer_of event.ask) (cond (may_settle_entry start past event x) None (owner start past x))
+owner-step start past event x = owner-by (is_assigned_by start past event x) (may_settle_entry start past event x) (is_settled start past x) (consumer_of event.ask) (last_assignee start past x)
 
 stays-settled : (s : Bool) → s ≡ false → (o : Option (List ℕ)) → cond s None o ≡ o
 stays-settled s e o = rw e refl
@@ -180,7 +180,7 @@ module _ (start : Id) (past : List GroupEvent) (now : ℕ) (present : List Id) (
   Agrees ask = owner start (t ask ∷ past) x ≡ of_row (pending_row_at start (t ask ∷ past) x)
 
   -- nothing is assigned or settled, and the row's consumer stays
-  quiet : (ask : GroupAsk) → is_assigned_by start past (t ask) x ≡ false → settles_entry start past (t ask) x ≡ false → of_row (pending_row_at start past x) ≡ of_row (pending_row_at start (t ask ∷ past) x) → Agrees ask
+  quiet : (ask : GroupAsk) → is_assigned_by start past (t ask) x ≡ false → may_settle_entry start past (t ask) x ≡ false → of_row (pending_row_at start past x) ≡ of_row (pending_row_at start (t ask ∷ past) x) → Agrees ask
   unfolding Agrees
   quiet ask a s same =
       owner-step start past (t ask) x ∙ (λ i. cond (a i) (consumer_of (t ask).ask) (cond (s i) None (owner start past x))) ∙ ih ∙ same
@@ -190,8 +190,8 @@ module _ (start : Id) (past : List GroupEvent) (now : ℕ) (present : List Id) (
   agree-new consumer limit noack =
       owner-step start past (t (read_new consumer limit noack)) x
       ∙ by noack (has_id (new_ids limit (cursor start past) present) x) refl
-      (settles_entry start past (t (read_new consumer limit noack)) x)
-      (settles-none false (is_deletion_of (t (read_new consumer limit noack)) (last_assigned start past x)) false refl (removes-none (t (read_new consumer limit noack)) (λ _. refl) (last_assigned start past x)) refl)
+      (may_settle_entry start past (t (read_new consumer limit noack)) x)
+      (settles-none false (is_deletion_of (t (read_new consumer limit noack)) (last_assignee start past x)) false refl (removes-none (t (read_new consumer limit noack)) (λ _. refl) (last_assignee start past x)) refl)
     where
       by : (quietly d : Bool) → has_id (new_ids limit (cursor start past) present) x ≡ d → (s : Bool) → s ≡ false
           → cond ((not quietly && d) || false) (Some consumer) (cond s None (owner start past x)) ≡ of_row (cond d (cond quietly None (Some (first_row consumer now))) (pending_row_at start past x))
@@ -204,7 +204,7 @@ module _ (start : Id) (past : List GroupEvent) (now : ℕ) (present : List Id) (
   unfolding t
   agree-own consumer limit from =
       quiet (read_own consumer limit from) refl
-      (settles-none false (is_deletion_of (t (read_own consumer limit from)) (last_assigned start past x)) false refl (removes-none (t (read_own consumer limit from)) (λ _. refl) (last_assigned start past x)) refl)
+      (settles-none false (is_deletion_of (t (read_own consumer limit from)) (last_assignee start past x)) false refl (removes-none (t (read_own consumer limit from)) (λ _. refl) (last_assignee start past x)) refl)
       (by (pending_row_at start past x) (has_id (own_ids consumer limit from (rows start past)) x && has_id present x))
     where
       by : (r : Option RowState) (b : Bool) → of_row r ≡ of_row (option_and_then (λ row. cond b (Some (redelivered_row now row)) (Some row)) r)
@@ -215,14 +215,14 @@ module _ (start : Id) (past : List GroupEvent) (now : ℕ) (present : List Id) (
   agree-join : (consumer : List ℕ) → Agrees (create_consumer consumer)
   unfolding t
   agree-join consumer =
-      quiet (create_consumer consumer) refl (settles-none false (is_deletion_of (t (create_consumer consumer)) (last_assigned start past x)) false refl (removes-none (t (create_consumer consumer)) (λ _. refl) (last_assigned start past x)) refl) refl
+      quiet (create_consumer consumer) refl (settles-none false (is_deletion_of (t (create_consumer consumer)) (last_assignee start past x)) false refl (removes-none (t (create_consumer consumer)) (λ _. refl) (last_assignee start past x)) refl) refl
 
   agree-ack : (ids : List Id) → Agrees (acknowledge ids)
   unfolding Agrees t
   agree-ack ids =
       owner-step start past (t (acknowledge ids)) x
-      ∙ ap (λ b. cond {A = Option (List ℕ)} b None (owner start past x)) (or_none (has_id ids x && is_some (last_assigned start past x)) (is_deletion_of (t (acknowledge ids)) (last_assigned start past x) || false) (settles-none false _ false refl (removes-none (t (acknowledge ids)) (λ _. refl) (last_assigned start past x)) refl))
-      ∙ once-assigned (has_id ids x) (last_assigned start past x) (is_settled start past x)
+      ∙ ap (λ b. cond {A = Option (List ℕ)} b None (owner start past x)) (or_none (has_id ids x && is_some (last_assignee start past x)) (is_deletion_of (t (acknowledge ids)) (last_assignee start past x) || false) (settles-none false _ false refl (removes-none (t (acknowledge ids)) (λ _. refl) (last_assignee start past x)) refl))
+      ∙ once-assigned (has_id ids x) (last_assignee start past x) (is_settled start past x)
       ∙ ap (cond (has_id ids x) None) ih ∙ by (pending_row_at start past x) (has_id ids x)
     where
       once-assigned : (a : Bool) (last : Option (List ℕ)) (settled : Bool) → cond (a && is_some last) None (cond settled None last) ≡ cond a None (cond settled None last)
@@ -240,7 +240,7 @@ module _ (start : Id) (past : List GroupEvent) (now : ℕ) (present : List Id) (
   agree-leave : (consumer : List ℕ) → Agrees (delete_consumer consumer)
   unfolding Agrees t
   agree-leave consumer =
-      owner-step start past (t (delete_consumer consumer)) x ∙ by (is_settled start past x) (last_assigned start past x) (pending_row_at start past x) ih
+      owner-step start past (t (delete_consumer consumer)) x ∙ by (is_settled start past x) (last_assignee start past x) (pending_row_at start past x) ih
     where
       by : (settled : Bool) (last : Option (List ℕ)) (r : Option RowState) → cond settled None last ≡ of_row r
           → cond (is_deletion_of (t (delete_consumer consumer)) last || false) None (cond settled None last) ≡ of_row (option_and_then (unless_owned consumer x) r)
@@ -281,14 +281,14 @@ module _ (start : Id) (past : List GroupEvent) (now : ℕ) (present : List Id) (
   agree-claim consumer rule ids =
       owner-step start past (t (claim consumer rule ids)) x
       ∙ agree-claims consumer rule (claim_by_ids (rows start past) present now rule ids) (asked-over (claim consumer rule ids) now present (rows start past) x)
-      (settles_entry start past (t (claim consumer rule ids)) x) (none_or (is_deletion_of (t (claim consumer rule ids)) (last_assigned start past x)) _ (removes-none (t (claim consumer rule ids)) (λ _. refl) (last_assigned start past x)))
+      (may_settle_entry start past (t (claim consumer rule ids)) x) (none_or (is_deletion_of (t (claim consumer rule ids)) (last_assignee start past x)) _ (removes-none (t (claim consumer rule ids)) (λ _. refl) (last_assignee start past x)))
 
   agree-auto_claim : (consumer : List ℕ) (rule : Rule) (from : Id) (limit : ℕ) → Agrees (auto_claim consumer rule from limit)
   unfolding Agrees t
   agree-auto_claim consumer rule from limit =
       owner-step start past (t (auto_claim consumer rule from limit)) x
       ∙ agree-claims consumer rule (scan_of (rows start past) present now rule from limit).claim (asked-over (auto_claim consumer rule from limit) now present (rows start past) x)
-      (settles_entry start past (t (auto_claim consumer rule from limit)) x) (none_or (is_deletion_of (t (auto_claim consumer rule from limit)) (last_assigned start past x)) _ (removes-none (t (auto_claim consumer rule from limit)) (λ _. refl) (last_assigned start past x)))
+      (may_settle_entry start past (t (auto_claim consumer rule from limit)) x) (none_or (is_deletion_of (t (auto_claim consumer rule from limit)) (last_assignee start past x)) _ (removes-none (t (auto_claim consumer rule from limit)) (λ _. refl) (last_assignee start past x)))
 
 agree-asked : (start : Id) (past : List GroupEvent) (now : ℕ) (present : List Id) (ask : GroupAsk) (x : Id) → owner start past x ≡ of_row (pending_row_at start past x)
     → owner start (record { now = now; present = present; ask = ask } ∷ past) x ≡ of_row (pending_row_at start (record { now = now; present = present; ask = ask } ∷ past) x)
@@ -340,36 +340,36 @@ owned-delivered start past x e = held-delivered start past x (some-row (pending_
 
 -- what was delivered is assigned by claims alone
 pub assigned-again : (start : Id) (past : List GroupEvent) (event : GroupEvent) (x : Id) → has_id (delivered_ids start past) x ≡ true → is_assigned_by start past event x ≡ is_taken_by_claim start past event x
-assigned-again start past event x d = ap (λ b. (keeps_pending event.ask && b) || is_taken_by_claim start past event x) (not-again start past event x d) ∙ by (keeps_pending event.ask) where
+assigned-again start past event x d = ap (λ b. (reads_without_noack event.ask && b) || is_taken_by_claim start past event x) (not-again start past event x d) ∙ by (reads_without_noack event.ask) where
   by : (k : Bool) → ((k && false) || is_taken_by_claim start past event x) ≡ is_taken_by_claim start past event x
   by true = refl
   by false = refl
 
 pub owner-after : (start : Id) (past : List GroupEvent) (event : GroupEvent) (x : Id) (name : List ℕ) → owner start past x ≡ Some name → OwnerAfter start past event x name
-owner-after start past event x name e = by (is_taken_by_claim start past event x) refl (settles_entry start past event x) refl where
-  step : owner start (event ∷ past) x ≡ cond (is_taken_by_claim start past event x) (consumer_of event.ask) (cond (settles_entry start past event x) None (owner start past x))
-  step = owner-step start past event x ∙ ap (λ b. cond b (consumer_of event.ask) (cond (settles_entry start past event x) None (owner start past x))) (assigned-again start past event x (owned-delivered start past x (ap is_some e)))
+owner-after start past event x name e = by (is_taken_by_claim start past event x) refl (may_settle_entry start past event x) refl where
+  step : owner start (event ∷ past) x ≡ cond (is_taken_by_claim start past event x) (consumer_of event.ask) (cond (may_settle_entry start past event x) None (owner start past x))
+  step = owner-step start past event x ∙ ap (λ b. cond b (consumer_of event.ask) (cond (may_settle_entry start past event x) None (owner start past x))) (assigned-again start past event x (owned-delivered start past x (ap is_some e)))
 
-  by : (taken : Bool) → is_taken_by_claim start past event x ≡ taken → (settled : Bool) → settles_entry start past event x ≡ settled → OwnerAfter start past event x name
-  by true t settled s = inr (inr (t, step ∙ ap (λ b. cond b (consumer_of event.ask) (cond (settles_entry start past event x) None (owner start past x))) t))
+  by : (taken : Bool) → is_taken_by_claim start past event x ≡ taken → (settled : Bool) → may_settle_entry start past event x ≡ settled → OwnerAfter start past event x name
+  by true t settled s = inr (inr (t, step ∙ ap (λ b. cond b (consumer_of event.ask) (cond (may_settle_entry start past event x) None (owner start past x))) t))
   by false t true s = inr (inl (s, step ∙ (λ i. cond (t i) (consumer_of event.ask) (cond (s i) None (owner start past x)))))
   by false t false s = inl (step ∙ (λ i. cond (t i) (consumer_of event.ask) (cond (s i) None (owner start past x))) ∙ e)
 
-pub no-owner-after : (start : Id) (past : List GroupEvent) (event : GroupEvent) (x : Id) → owner start past x ≡ None → NoOwnerAfter start past event x
+pub no-owner-after : (start : Id) (past : List GroupEvent) (event : GroupEvent) (x : Id) → owner start past x ≡ None → AfterNoOwner start past event x
 no-owner-after start past event x e = by (is_made_pending_by start past event x) refl (is_taken_by_claim start past event x) refl where
   none : (s : Bool) → cond s None (owner start past x) ≡ None
   none true = refl
   none false = e
 
-  by : (new : Bool) → is_made_pending_by start past event x ≡ new → (taken : Bool) → is_taken_by_claim start past event x ≡ taken → NoOwnerAfter start past event x
-  by true d taken t = inr (d, owner-step start past event x ∙ ap (λ b. cond (b || is_taken_by_claim start past event x) (consumer_of event.ask) (cond (settles_entry start past event x) None (owner start past x))) d)
+  by : (new : Bool) → is_made_pending_by start past event x ≡ new → (taken : Bool) → is_taken_by_claim start past event x ≡ taken → AfterNoOwner start past event x
+  by true d taken t = inr (d, owner-step start past event x ∙ ap (λ b. cond (b || is_taken_by_claim start past event x) (consumer_of event.ask) (cond (may_settle_entry start past event x) None (owner start past x))) d)
   by false d true t = absurd (false≢true (sym (ap is_some e) ∙ taken-owned start past event x t))
   by false d false t =
-      inl (owner-step start past event x ∙ (λ i. cond (d i || t i) (consumer_of event.ask) (cond (settles_entry start past event x) None (owner start past x))) ∙ none (settles_entry start past event x))
+      inl (owner-step start past event x ∙ (λ i. cond (d i || t i) (consumer_of event.ask) (cond (may_settle_entry start past event x) None (owner start past x))) ∙ none (may_settle_entry start past event x))
 
 -- ---- one owner until settled
 
-pub pending-named : (ask : GroupAsk) → keeps_pending ask ≡ true → is_some (consumer_of ask) ≡ true
+pub pending-named : (ask : GroupAsk) → reads_without_noack ask ≡ true → is_some (consumer_of ask) ≡ true
 pending-named (read_new consumer limit noack) e = refl
 pending-named (read_own consumer limit from) e = refl
 pending-named (acknowledge ids) e = e
@@ -395,20 +395,20 @@ still-delivered start (u ∷ later) before x d =
 
 delivered-now : (start : Id) (past : List GroupEvent) (event : GroupEvent) (x : Id) → is_made_pending_by start past event x ≡ true → has_id (delivered_ids start (event ∷ past)) x ≡ true
 delivered-now start past event x e =
-    has_id-append (delivered_ids start past) (new_ids_of_event event (cursor start past)) x ∙ or_right _ _ (second_of (keeps_pending event.ask) _ e)
+    has_id-append (delivered_ids start past) (new_ids_of_event event (cursor start past)) x ∙ or_right _ _ (second_of (reads_without_noack event.ask) _ e)
 
 pub until-settled : (start : Id) (later : List GroupEvent) (event : GroupEvent) (earlier : List GroupEvent) (x : Id) → is_made_pending_by start earlier event x ≡ true
     → is_some (owner start (later ++ event ∷ earlier) x) ≡ not (is_settled_in start later (event ∷ earlier) x)
 until-settled start [] event earlier x e =
-    ap is_some (owner-step start earlier event x ∙ ap (λ b. cond (b || is_taken_by_claim start earlier event x) (consumer_of event.ask) (cond (settles_entry start earlier event x) None (owner start earlier x))) e)
-    ∙ pending-named event.ask (first_of (keeps_pending event.ask) _ e)
+    ap is_some (owner-step start earlier event x ∙ ap (λ b. cond (b || is_taken_by_claim start earlier event x) (consumer_of event.ask) (cond (may_settle_entry start earlier event x) None (owner start earlier x))) e)
+    ∙ pending-named event.ask (first_of (reads_without_noack event.ask) _ e)
 until-settled start (u ∷ later) event earlier x e = by (is_taken_by_claim start past u x) refl (until-settled start later event earlier x e) where
   past : List GroupEvent
   past = later ++ event ∷ earlier
 
-  step : owner start (u ∷ past) x ≡ cond (is_taken_by_claim start past u x) (consumer_of u.ask) (cond (settles_entry start past u x) None (owner start past x))
+  step : owner start (u ∷ past) x ≡ cond (is_taken_by_claim start past u x) (consumer_of u.ask) (cond (may_settle_entry start past u x) None (owner start past x))
   step = owner-step start past u x
-      ∙ ap (λ b. cond b (consumer_of u.ask) (cond (settles_entry start past u x) None (owner start past x))) (assigned-again start past u x (still-delivered start later (event ∷ earlier) x (delivered-now start earlier event x e)))
+      ∙ ap (λ b. cond b (consumer_of u.ask) (cond (may_settle_entry start past u x) None (owner start past x))) (assigned-again start past u x (still-delivered start later (event ∷ earlier) x (delivered-now start earlier event x e)))
 
   kept_or_not : (s : Bool) (o : Option (List ℕ)) (b : Bool) → is_some o ≡ not b → is_some (cond s None o) ≡ not (s || b)
   kept_or_not true o b h = refl
@@ -419,15 +419,15 @@ until-settled start (u ∷ later) event earlier x e = by (is_taken_by_claim star
   unsettled false h = refl
 
   by : (taken : Bool) → is_taken_by_claim start past u x ≡ taken → is_some (owner start past x) ≡ not (is_settled_in start later (event ∷ earlier) x)
-      → is_some (owner start (u ∷ past) x) ≡ not (settles_entry start past u x || is_settled_in start later (event ∷ earlier) x)
+      → is_some (owner start (u ∷ past) x) ≡ not (may_settle_entry start past u x || is_settled_in start later (event ∷ earlier) x)
   by true t ih =
-      let free = taken-unsettled u.ask u.now u.present (rows start past) x (last_assigned start past x) t in
+      let free = taken-unsettled u.ask u.now u.present (rows start past) x (last_assignee start past x) t in
       let none = unsettled (is_settled_in start later (event ∷ earlier) x) (sym (taken-owned start past u x t) ∙ ih) in
-      ap is_some (step ∙ ap (λ b. cond b (consumer_of u.ask) (cond (settles_entry start past u x) None (owner start past x))) t)
+      ap is_some (step ∙ ap (λ b. cond b (consumer_of u.ask) (cond (may_settle_entry start past u x) None (owner start past x))) t)
       ∙ claim-named u.ask u.now u.present (rows start past) x t ∙ sym (λ i. not (free i || none i))
   by false t ih =
-      ap is_some (step ∙ ap (λ b. cond b (consumer_of u.ask) (cond (settles_entry start past u x) None (owner start past x))) t)
-      ∙ kept_or_not (settles_entry start past u x) (owner start past x) (is_settled_in start later (event ∷ earlier) x) ih
+      ap is_some (step ∙ ap (λ b. cond b (consumer_of u.ask) (cond (may_settle_entry start past u x) None (owner start past x))) t)
+      ∙ kept_or_not (may_settle_entry start past u x) (owner start past x) (is_settled_in start later (event ∷ earlier) x) ih
 
 pub owned-until-settled : (start : Id) (events : List GroupEvent) → OwnedUntilSettled start events
 owned-until-settled start events = λ later event earlier x e d.
@@ -435,7 +435,7 @@ owned-until-settled start events = λ later event earlier x e d.
 
 -- what is delivered or taken belongs to the consumer who asked
 assigned-owner : (start : Id) (past : List GroupEvent) (event : GroupEvent) (x : Id) → is_assigned_by start past event x ≡ true → owner start (event ∷ past) x ≡ consumer_of event.ask
-assigned-owner start past event x h = λ i. cond (cond (h i) false (settles_entry start past event x || is_settled start past x)) None (cond (h i) (consumer_of event.ask) (last_assigned start past x))
+assigned-owner start past event x h = λ i. cond (cond (h i) false (may_settle_entry start past event x || is_settled start past x)) None (cond (h i) (consumer_of event.ask) (last_assignee start past x))
 
 pub changes-by-claims : (start : Id) (events : List GroupEvent) → ChangesByClaims start events
 changes-by-claims start events = λ later event earlier e x. (λ name o. owner-after start earlier event x name o, λ o. no-owner-after start earlier event x o, λ h. assigned-owner start earlier event x h)

@@ -31,7 +31,7 @@ use Rattle.xs_keys.specs.Owner.{owner}
 use Rattle.xs_keys.specs.GroupAsk.{claim, auto_claim, acknowledge}
 use Rattle.xs_keys.specs.GroupLife.{GroupLife, group_life, life_after_ask, present_in, is_new, reads_new_entries}
 use Rattle.xs_keys.specs.GroupLife.{has_all_groups, ids_delivered_by, ask_of_read}
-use Rattle.xs_keys.specs.Content.{Content, KeyState, IsContent, IsGroup, GroupHolds, KeyHolds}
+use Rattle.xs_keys.specs.Content.{Content, KeyState, IsContent, IsGroupOfLife, GroupHolds, KeyHolds}
 use Rattle.xs_keys.specs.ContentAfter.{key_or_new, stream_after, group_in, entries_in, after_ask}
 use Rattle.xs_keys.specs.Reply.{reply, parts_of_read, parts, removed_count}
 use Rattle.xs_keys.specs.ReplyParts.{assigned_reply, array, array_or_null, id_reply, field_replies, entry_reply}
@@ -151,7 +151,7 @@ pub record IsThere (c : Content) (past : History) (name group : List ℕ) : Type
   pub state_is : get key.groups group ≡ Some state
   pub life_is : group_life past name group ≡ Some life
   pub stream_is : key.stream ≡ stream_of changes
-  pub holds : IsGroup state life
+  pub holds : IsGroupOfLife state life
 
 there : (c : Content) (past : History) (name group : List ℕ) → IsContent c past → is_some (group_life past name group) ≡ true → IsThere c past name group
 there c past name group is is_open = by (get c name) (key_life past name) refl refl (is name) where

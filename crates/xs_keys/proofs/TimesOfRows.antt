@@ -7,9 +7,10 @@ use Rattle.xs_group.specs.GroupState.{RowState, is_same_name, new_ids, first_row
 use Rattle.xs_group.specs.GroupState.{unless_acked, unless_owned}
 use Rattle.xs_keys.specs.Terms.{Id, has_id}
 use Rattle.xs_keys.specs.GroupAsk.{GroupAsk, read_new, read_own, acknowledge, create_consumer, delete_consumer, claim}
-use Rattle.xs_keys.specs.GroupAsk.{auto_claim, row_after_ask, new_ids_of_ask, claim_of_ask, keeps_pending}
+use Rattle.xs_keys.specs.GroupAsk.{auto_claim, row_after_ask, new_ids_of_ask, claim_of_ask, reads_without_noack}
 use Rattle.xs_keys.specs.GroupEvent.{GroupEvent, cursor, pending_row_at, rows}
-use Rattle.xs_keys.specs.TimesAndCounts.{own_ids_shown, time_of_touch, count_of_touch, time_of, count_of, IsLastTouched}
+use Rattle.xs_keys.specs.TimesAndCounts.{own_ids_shown, time_of_touch, count_of_touch, time_of, count_of}
+use Rattle.xs_keys.specs.TimesAndCounts.{AreOfLastTouch}
 use Rattle.xs_keys.proofs.Owners.{row-found}
 
 -- the row has that time and that count
@@ -34,7 +35,7 @@ has-some row time count h = h row refl
 -- whether an ask touches an id, over the cursor and the rows that it meets
 asked_touch : GroupAsk → ℕ → List Id → Id → List (Id × RowState) → Id → Bool
 asked_touch ask now present a es x =
-    ((keeps_pending ask && has_id (new_ids_of_ask ask present a) x) || has_id (claim_of_ask ask now present es).take x)
+    ((reads_without_noack ask && has_id (new_ids_of_ask ask present a) x) || has_id (claim_of_ask ask now present es).take x)
     || (has_id (own_ids_shown ask es) x && has_id present x)
 
 -- time and count after an ask
@@ -103,6 +104,6 @@ held-touched start [] x = none-has _ _
 held-touched start (event ∷ past) x =
     asked-touched event.ask event.now event.present (cursor start past) (rows start past) x (pending_row_at start past x) (time_of start past x) (count_of start past x) (held-touched start past x)
 
-pub is-last-touched : (start : Id) (events : List GroupEvent) → IsLastTouched start events
+pub is-last-touched : (start : Id) (events : List GroupEvent) → AreOfLastTouch start events
 unfolding Has
 is-last-touched start events x row e = held-touched start events x row (sym (row-found start events x) ∙ e)

@@ -2,11 +2,11 @@
 use Rattle.std.specs.Prelude.{◌≡◌, List, ◌∷◌, ◌++◌}
 
 module _ {E : Type 0} where
-  -- so it is with each event, after those before it
+  -- Holds is true of each event, given those before it
   abbrev pub AtEach : List E → (List E → E → Type 0) → Type 0
   AtEach events Holds =
       (later : List E) (event : E) (earlier : List E) → events ≡ later ++ event ∷ earlier → Holds earlier event
 
-  -- so it is at each time, after the events up to it
+  -- Holds is true at each time, of the events up to then
   abbrev pub AtEachTime : List E → (List E → Type 0) → Type 0
   AtEachTime events Holds = (later earlier : List E) → events ≡ later ++ earlier → Holds earlier

@@ -58,12 +58,12 @@ MayStop event rows =
     (scan_limit event.ask ≤ length (claim_of_event event rows).take + length (claim_of_event event rows).removed)
     ⊎ (10 * scan_limit event.ask ≤ length (filter (λ x. is_scanned event rows x) (map (λ e. e.0) rows)))
 
--- a claim is asked for this entry: an XCLAIM names it, or an XAUTOCLAIM scans it
+-- the claim asks for the entry: an XCLAIM names it, or an XAUTOCLAIM scans it
 abbrev pub is_asked_for : GroupEvent → PendingEntries → Id → Bool
 is_asked_for event rows x = is_named_by event.ask x || is_scanned event rows x
 
--- a claim takes the entry exactly if it is asked for it and may take it, and removes it exactly if it is asked for it
--- and it has left the stream
+-- an entry is taken exactly if the claim asks for it and it may be taken, and removed exactly if the claim asks for it,
+-- it is pending, and it has left the stream
 pub record ClaimsWhatIsAsked (start : Id) (past : List GroupEvent) (event : GroupEvent) (x : Id) : Type 0 where
   pub takes_idle : is_taken_by_claim start past event x ≡ true → MayBeTaken start past event x
   pub removes_gone : is_removed_by_claim start past event x ≡ true → MayBeRemoved start past event x
@@ -76,12 +76,13 @@ pub record ClaimsWhatIsAsked (start : Id) (past : List GroupEvent) (event : Grou
       is_asked_for event (rows start past) x ≡ true → MayBeRemoved start past event x
       → is_removed_by_claim start past event x ≡ true
 
--- a claim takes and removes what it is asked for, takes no entry twice, and scans to the end of the rows or may stop
+-- a claim takes and removes what it asks for, takes no entry twice, and scans to the end of the rows or at least as far
+-- as it has to; where it stops is in `scan_of`
 pub record ClaimIsExact (start : Id) (past : List GroupEvent) (event : GroupEvent) : Type 0 where
   pub as_asked : (x : Id) → ClaimsWhatIsAsked start past event x
   pub each_once : AreDistinct (claim_of_event event (rows start past)).take
   pub far_enough : (scan_end_of_event event (rows start past) ≡ zero_id) ⊎ MayStop event (rows start past)
 
--- so does each claim of a life
+-- each claim of a life is exact
 abbrev pub ClaimsAreExact : Id → List GroupEvent → Type 0
 ClaimsAreExact start events = AtEach events (λ earlier event. ClaimIsExact start earlier event)

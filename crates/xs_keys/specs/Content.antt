@@ -1,7 +1,7 @@
 -- The content of the keyspace, and which content a history leaves.
 use Rattle.std.specs.Prelude.{◌≡◌, List, Option, Some, None}
 use Rattle.xs_keys.specs.Terms.{NameMap, get, StreamState, GroupState, has_name}
-use Rattle.xs_keys.specs.Life.{StreamEvent, key_life, stream_of}
+use Rattle.xs_keys.specs.Life.{KeyLife, key_life, stream_of}
 use Rattle.xs_keys.specs.GroupEvent.{cursor, is_consumer, rows}
 use Rattle.xs_keys.specs.GroupLife.{GroupLife, group_life}
 use Rattle.xs_keys.specs.Event.{Bytes, History}
@@ -16,19 +16,19 @@ abbrev pub Content : Type 0
 Content = NameMap KeyState
 
 -- a group's cursor, consumers and rows are those of its life
-pub record IsGroup (group : GroupState) (life : GroupLife) : Type 0 where
+pub record IsGroupOfLife (group : GroupState) (life : GroupLife) : Type 0 where
   pub cursor_is : group.cursor ≡ cursor life.start life.events
   pub consumers_are : (name : Bytes) → has_name group.consumers name ≡ is_consumer life.events name
   pub rows_are : group.rows.entries ≡ rows life.start life.events
 
--- a group is there exactly if its life is open
+-- a group is there exactly if its life is open, and its cursor, consumers and rows are those of the life
 abbrev pub GroupHolds : Option GroupState → Option GroupLife → Type 0
 GroupHolds None None = Unit {0}
-GroupHolds (Some group) (Some life) = IsGroup group life
+GroupHolds (Some group) (Some life) = IsGroupOfLife group life
 GroupHolds _ _ = ⊥
 
 -- a key is there exactly if its life is open; without one there are no groups
-abbrev pub KeyHolds : Option KeyState → Option (List StreamEvent) → (Bytes → Option GroupLife) → Type 0
+abbrev pub KeyHolds : Option KeyState → Option KeyLife → (Bytes → Option GroupLife) → Type 0
 KeyHolds None None lives = (group : Bytes) → GroupHolds None (lives group)
 KeyHolds (Some key) (Some past) lives =
     (key.stream ≡ stream_of past) × ((group : Bytes) → GroupHolds (get key.groups group) (lives group))

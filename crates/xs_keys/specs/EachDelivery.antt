@@ -16,7 +16,8 @@ pub record HadItsTurn (start : Id) (events : List GroupEvent) (x : Id) : Type 0 
   pub is_turn : is_turn_of start earlier event x ≡ true
   pub delivered_if_present : has_id (delivered_ids start events) x ≡ has_id event.present x
 
--- a read of new entries delivers as many as it asks for, or leaves no entry in the stream past the cursor
+-- a read of new entries delivers as many as it asks for, or leaves no entry in the stream past the cursor; that it
+-- never delivers more is in `new_ids`
 abbrev pub DeliversInFull : Id → List GroupEvent → Type 0
 DeliversInFull start events = AtEach events (λ earlier event.
     (consumer : Bytes) (limit : Option ℕ) (noack : Bool) → event.ask ≡ read_new consumer limit noack

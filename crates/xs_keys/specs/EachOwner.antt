@@ -3,11 +3,11 @@
 use Rattle.std.specs.Prelude.{◌≡◌, Bool, true, false, ◌⊎◌, Some, not, ◌||◌, List, [], ◌∷◌, ◌++◌, None, is_some}
 use Rattle.xs_keys.specs.Terms.{Id, option_map}
 use Rattle.xs_group.specs.Claims.{row_at}
-use Rattle.xs_keys.specs.TimesAndCounts.{IsLastTouched}
+use Rattle.xs_keys.specs.TimesAndCounts.{AreOfLastTouch}
 use Rattle.xs_keys.specs.ClaimsTake.{ClaimsAreExact}
 use Rattle.xs_keys.specs.GroupEvent.{GroupEvent, rows}
 use Rattle.xs_keys.specs.GroupAsk.{consumer_of}
-use Rattle.xs_keys.specs.Owner.{is_made_pending_by, is_taken_by_claim, settles_entry, owner}
+use Rattle.xs_keys.specs.Owner.{is_made_pending_by, is_taken_by_claim, may_settle_entry, owner}
 use Rattle.xs_keys.specs.GroupLife.{GroupLife}
 use Rattle.xs_keys.specs.Event.{Bytes}
 use Rattle.xs_keys.specs.AtEach.{AtEach}
@@ -15,8 +15,8 @@ use Rattle.xs_keys.specs.AtEach.{AtEach}
 -- one of these later events settles it
 abbrev pub is_settled_in : Id → List GroupEvent → List GroupEvent → Id → Bool
 is_settled_in start [] before x = false
-is_settled_in start (event ∷ later) before x =
-    settles_entry start (later ++ before) event x || is_settled_in start later before x
+is_settled_in start (event ∷ rest) before x =
+    may_settle_entry start (rest ++ before) event x || is_settled_in start rest before x
 
 -- after a delivery without NOACK there is an owner exactly as long as nothing has settled the entry
 abbrev pub OwnedUntilSettled : Id → List GroupEvent → Type 0
@@ -30,12 +30,12 @@ OwnedUntilSettled start events =
 abbrev pub OwnerAfter : Id → List GroupEvent → GroupEvent → Id → Bytes → Type 0
 OwnerAfter start past event x name =
     (owner start (event ∷ past) x ≡ Some name)
-    ⊎ (((settles_entry start past event x ≡ true) × (owner start (event ∷ past) x ≡ None))
+    ⊎ (((may_settle_entry start past event x ≡ true) × (owner start (event ∷ past) x ≡ None))
     ⊎ ((is_taken_by_claim start past event x ≡ true) × (owner start (event ∷ past) x ≡ consumer_of event.ask)))
 
--- without an owner there is none, unless the event delivers the entry
-abbrev pub NoOwnerAfter : Id → List GroupEvent → GroupEvent → Id → Type 0
-NoOwnerAfter start past event x =
+-- after an event, an entry that had no owner has none, unless the event delivers it without NOACK
+abbrev pub AfterNoOwner : Id → List GroupEvent → GroupEvent → Id → Type 0
+AfterNoOwner start past event x =
     (owner start (event ∷ past) x ≡ None)
     ⊎ ((is_made_pending_by start past event x ≡ true) × (owner start (event ∷ past) x ≡ consumer_of event.ask))
 
@@ -45,7 +45,7 @@ abbrev pub ChangesByClaims : Id → List GroupEvent → Type 0
 ChangesByClaims start events = AtEach events (λ earlier event.
     (x : Id)
     → ((name : Bytes) → owner start earlier x ≡ Some name → OwnerAfter start earlier event x name)
-    × (owner start earlier x ≡ None → NoOwnerAfter start earlier event x)
+    × (owner start earlier x ≡ None → AfterNoOwner start earlier event x)
     × ((is_made_pending_by start earlier event x || is_taken_by_claim start earlier event x) ≡ true
     → owner start (event ∷ earlier) x ≡ consumer_of event.ask))
 
@@ -54,11 +54,11 @@ abbrev pub IsPendingWithOwner : Id → List GroupEvent → Type 0
 IsPendingWithOwner start events =
     (x : Id) → owner start events x ≡ option_map (λ row. row.consumer) (row_at (rows start events) x)
 
--- a pending entry has one owner until it is settled; its time and its count are those that it got last; and claims are
--- exact
+-- a pending entry has one owner until it is settled, whom only claims change; its time and its count are those of the
+-- event that touched it last; and claims are exact
 pub record OwnersAndClaims (life : GroupLife) : Type 0 where
   pub is_pending : IsPendingWithOwner life.start life.events
-  pub is_last_touched : IsLastTouched life.start life.events
+  pub is_last_touched : AreOfLastTouch life.start life.events
   pub claims_are_exact : ClaimsAreExact life.start life.events
   pub until_settled : OwnedUntilSettled life.start life.events
   pub by_claims : ChangesByClaims life.start life.events

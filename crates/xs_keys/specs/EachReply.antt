@@ -9,7 +9,7 @@ use Rattle.xs_keys.specs.RepliesTell.{IsTold}
 use Rattle.xs_keys.specs.Event.{Event, History, event_moment, event_command}
 
 -- an event of the history: its command is well formed, and its reply is the model's, at the content of the events
--- before it; what it tells a consumer of entries is what it delivers or claims; and what is refused changes nothing
+-- before it; what the reply tells is what was done; and what is refused changes nothing
 pub record IsReplied (past : History) (now : ℕ) (command : Command) (answer : Reply) : Type 0 where
   pub formed : IsWellFormed command
   pub content : Content
@@ -18,7 +18,7 @@ pub record IsReplied (past : History) (now : ℕ) (command : Command) (answer : 
   pub told : IsTold past now command answer
   pub unchanged : IsUnchangedIfRefused content now command
 
--- it was refused as out of memory, where the command takes some and the model refuses nothing
+-- the command was answered OOM: it takes memory, and the model refuses nothing
 pub record IsLeftOut (past : History) (now : ℕ) (command : Command) (answer : Reply) : Type 0 where
   pub takes : takes_memory command ≡ true
   pub content : Content

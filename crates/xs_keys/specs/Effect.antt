@@ -1,5 +1,5 @@
--- What a command does to an entry, by its words alone. (Redis, XADD, XDEL, XTRIM, XGROUP, XREADGROUP, XACK, XCLAIM,
--- XAUTOCLAIM and DEL.)
+-- What a command does to an entry, by its words, and for trims by the ids in the stream. (Redis, XADD, XDEL, XTRIM,
+-- XGROUP, XREADGROUP, XACK, XCLAIM, XAUTOCLAIM and DEL.)
 use Rattle.std.specs.Prelude.{◌+◌, Bool, false, ◌&&◌, ◌||◌, List, nat_le, Option, Some, None}
 use Rattle.xs_stream.specs.StreamContent.{count_above}
 use Rattle.xs_stream.specs.declared.trim.Trim.TheVariants.{MaxLen, MinId}
@@ -16,15 +16,15 @@ abbrev pub deletes_entry : Command → Bytes → Id → Bool
 deletes_entry (Delete k ids) key x = is_same_name key k && has_id ids x
 deletes_entry _ key x = false
 
--- a trim drops the entry from a stream of these ids and one that is added above them
-abbrev pub is_trimmed_below_one : Trim → List Id → Id → Bool
-is_trimmed_below_one (MaxLen n) present x = nat_le n (count_above x present + 1)
-is_trimmed_below_one (MinId low) present x = is_below x low
+-- the trim drops the entry once one more id is added above all of these
+abbrev pub is_trimmed_after_addition : Trim → List Id → Id → Bool
+is_trimmed_after_addition (MaxLen n) present x = nat_le n (count_above x present + 1)
+is_trimmed_after_addition (MinId low) present x = is_below x low
 
 -- it may trim the entry away, by itself or with an addition, which may be refused and then trims nothing
 abbrev pub may_trim_entry : Command → Bytes → List Id → Id → Bool
 may_trim_entry (Add add) key present x =
-    is_same_name key add.key && option_map_or (λ trim. is_trimmed_below_one trim present x) add.trim false
+    is_same_name key add.key && option_map_or (λ trim. is_trimmed_after_addition trim present x) add.trim false
 may_trim_entry (TrimTo k trim) key present x = is_same_name key k && is_trimmed trim present x
 may_trim_entry _ key present x = false
 
@@ -51,18 +51,18 @@ abbrev pub may_claim_entry : Command → Bytes → Bytes → Id → Bool
 may_claim_entry command key group x = scans_group command key group || claims_by_id command key group x
 
 -- the consumer that reads or claims
-abbrev pub consumer_of_command : Command → Option Bytes
-consumer_of_command (ReadGroup read) = Some read.consumer
-consumer_of_command (Claim c) = Some c.consumer
-consumer_of_command (AutoClaim c) = Some c.consumer
-consumer_of_command _ = None
+abbrev pub reader_or_claimer : Command → Option Bytes
+reader_or_claimer (ReadGroup read) = Some read.consumer
+reader_or_claimer (Claim c) = Some c.consumer
+reader_or_claimer (AutoClaim c) = Some c.consumer
+reader_or_claimer _ = None
 
 -- it acknowledges the entry in the group
 abbrev pub acknowledges_entry : Command → Bytes → Bytes → Id → Bool
 acknowledges_entry (Ack k g ids) key group x = is_same_group key group k g && has_id ids x
 acknowledges_entry _ key group x = false
 
--- it removes the consumer from the group
+-- it deletes the consumer of the group
 abbrev pub removes_consumer : Command → Bytes → Bytes → Bytes → Bool
 removes_consumer (ConsumerDelete k g consumer) key group name =
     is_same_group key group k g && is_same_name name consumer

@@ -13,7 +13,7 @@ use Rattle.xs_keys.specs.GroupAsk.{GroupAsk, read_new, read_own, acknowledge, cr
 use Rattle.xs_keys.specs.GroupEvent.{rows, is_consumer}
 use Rattle.xs_keys.specs.GroupAsk.{delete_consumer}
 use Rattle.xs_keys.specs.GroupEvent.{is_turn_of}
-use Rattle.xs_keys.specs.Owner.{is_settled, settles_entry, owner, is_removed_by_claim}
+use Rattle.xs_keys.specs.Owner.{is_settled, may_settle_entry, owner, is_removed_by_claim}
 use Rattle.xs_keys.specs.TimesAndCounts.{is_redelivered_by, is_touched_by, time_of, count_of}
 use Rattle.xs_keys.specs.ClaimsTake.{least_idle, is_named_by, is_from_start, passes, is_scanned, MayStop}
 use Rattle.xs_keys.specs.ExamplesHistory.{of_group, group_and}
@@ -157,7 +157,7 @@ pub record Touches : Type 0 where
       is_turn_of start (first_by_a ∷ []) (event 150 (read_new (codes "a") (Some 1) false)) (at 3 0) ≡ true
   pub nothing_settled_at_first : is_settled start [] (at 2 0) ≡ false
   pub not_settled_before_its_delivery :
-      settles_entry start [] (event 200 (delete_consumer (codes "a"))) (at 2 0) ≡ false
+      may_settle_entry start [] (event 200 (delete_consumer (codes "a"))) (at 2 0) ≡ false
   pub acknowledged_before_its_delivery :
       owner start (read_by_a ∷ event 50 (acknowledge (at 2 0 ∷ [])) ∷ []) (at 2 0) ≡ Some (codes "a")
   pub no_owner_before_its_delivery : owner start (event 200 (create_consumer (codes "c")) ∷ []) (at 2 0) ≡ None

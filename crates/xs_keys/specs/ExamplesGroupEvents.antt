@@ -13,8 +13,8 @@ use Rattle.xs_keys.specs.GroupAsk.{auto_claim}
 use Rattle.xs_keys.specs.GroupEvent.{GroupEvent}
 use Rattle.xs_keys.specs.GroupEvent.{delivered_ids, cursor}
 use Rattle.xs_keys.specs.GroupEvent.{is_turn_of, is_consumer, rows}
-use Rattle.xs_keys.specs.Owner.{is_made_pending_by, is_taken_by_claim, settles_entry}
-use Rattle.xs_keys.specs.Owner.{is_assigned_by, last_assigned, is_settled, owner}
+use Rattle.xs_keys.specs.Owner.{is_made_pending_by, is_taken_by_claim, may_settle_entry}
+use Rattle.xs_keys.specs.Owner.{is_assigned_by, last_assignee, is_settled, owner}
 use Rattle.xs_keys.specs.GroupAsk.{consumer_of}
 use Rattle.xs_keys.specs.EachOwner.{is_settled_in}
 
@@ -133,24 +133,24 @@ pub record Owners : Type 0 where
 
 pub record Settling : Type 0 where
   pub by_an_acknowledgement :
-      settles_entry start (read_by_a ∷ []) (event 200 (acknowledge (at 3 0 ∷ at 2 0 ∷ []))) (at 2 0) ≡ true
-  pub of_another : settles_entry start (read_by_a ∷ []) (event 200 (acknowledge (at 3 0 ∷ []))) (at 2 0) ≡ false
-  pub by_a_removal : settles_entry start (read_by_a ∷ []) (event 200 (delete_consumer (codes "a"))) (at 2 0) ≡ true
-  pub by_another_s : settles_entry start (read_by_a ∷ []) (event 200 (delete_consumer (codes "b"))) (at 2 0) ≡ false
+      may_settle_entry start (read_by_a ∷ []) (event 200 (acknowledge (at 3 0 ∷ at 2 0 ∷ []))) (at 2 0) ≡ true
+  pub of_another : may_settle_entry start (read_by_a ∷ []) (event 200 (acknowledge (at 3 0 ∷ []))) (at 2 0) ≡ false
+  pub by_a_removal : may_settle_entry start (read_by_a ∷ []) (event 200 (delete_consumer (codes "a"))) (at 2 0) ≡ true
+  pub by_another_s : may_settle_entry start (read_by_a ∷ []) (event 200 (delete_consumer (codes "b"))) (at 2 0) ≡ false
   pub by_the_claimer_s :
-      settles_entry start (claim_by_b ∷ read_by_a ∷ []) (event 200 (delete_consumer (codes "b"))) (at 2 0) ≡ true
+      may_settle_entry start (claim_by_b ∷ read_by_a ∷ []) (event 200 (delete_consumer (codes "b"))) (at 2 0) ≡ true
   pub by_a_claim_that_finds_it_deleted :
-      settles_entry start (read_by_a ∷ [])
+      may_settle_entry start (read_by_a ∷ [])
       (event_without 200 (claim (codes "b") any_idle_time (at 2 0 ∷ []))) (at 2 0) ≡ true
   pub by_a_scan_that_finds_it_deleted :
-      settles_entry start (read_by_a ∷ [])
+      may_settle_entry start (read_by_a ∷ [])
       (event_without 200 (auto_claim (codes "b") any_idle_time (at 0 0) 9)) (at 2 0)
       ≡ true
-  pub not_before_its_delivery : settles_entry start [] (event 200 (acknowledge (at 2 0 ∷ []))) (at 2 0) ≡ false
-  pub not_with_noack : settles_entry start (noack_by_b ∷ []) (event 200 (acknowledge (at 2 0 ∷ []))) (at 2 0) ≡ false
-  pub not_by_a_claim : settles_entry start (read_by_a ∷ []) claim_by_b (at 2 0) ≡ false
+  pub not_before_its_delivery : may_settle_entry start [] (event 200 (acknowledge (at 2 0 ∷ []))) (at 2 0) ≡ false
+  pub not_with_noack : may_settle_entry start (noack_by_b ∷ []) (event 200 (acknowledge (at 2 0 ∷ []))) (at 2 0) ≡ false
+  pub not_by_a_claim : may_settle_entry start (read_by_a ∷ []) claim_by_b (at 2 0) ≡ false
   pub not_by_a_read :
-      settles_entry start (read_by_a ∷ []) (event_without 200 (read_own (codes "a") None (at 0 0))) (at 2 0) ≡ false
+      may_settle_entry start (read_by_a ∷ []) (event_without 200 (read_own (codes "a") None (at 0 0))) (at 2 0) ≡ false
   pub taken_by_a_claim : is_taken_by_claim start (read_by_a ∷ []) claim_by_b (at 2 0) ≡ true
   pub another_isnt_taken : is_taken_by_claim start (read_by_a ∷ []) claim_by_b (at 3 0) ≡ false
   pub not_taken_before_its_delivery : is_taken_by_claim start [] claim_by_b (at 2 0) ≡ false
@@ -158,7 +158,7 @@ pub record Settling : Type 0 where
   pub assigned_by_a_claim : is_assigned_by start (read_by_a ∷ []) claim_by_b (at 2 0) ≡ true
   pub not_by_noack : is_assigned_by start [] noack_by_b (at 2 0) ≡ false
   pub last_by_a_claim :
-      last_assigned start (event 200 (acknowledge (at 2 0 ∷ [])) ∷ claim_by_b ∷ read_by_a ∷ []) (at 2 0)
+      last_assignee start (event 200 (acknowledge (at 2 0 ∷ [])) ∷ claim_by_b ∷ read_by_a ∷ []) (at 2 0)
       ≡ Some (codes "b")
   pub settled :
       is_settled start (event 200 (create_consumer (codes "c")) ∷ event 200 (acknowledge (at 2 0 ∷ []))

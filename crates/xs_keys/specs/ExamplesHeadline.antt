@@ -15,7 +15,7 @@ use Rattle.xs_keys.specs.Terms.{GroupCreateCommand, At}
 use Rattle.xs_keys.specs.GroupEvent.{GroupEvent}
 use Rattle.xs_keys.specs.GroupAsk.{read_new, acknowledge, create_consumer}
 use Rattle.xs_keys.specs.GroupLife.{GroupLife, LifeContinues}
-use Rattle.xs_keys.specs.EachOwner.{OwnerAfter, NoOwnerAfter}
+use Rattle.xs_keys.specs.EachOwner.{OwnerAfter, AfterNoOwner}
 use Rattle.xs_keys.specs.EachReply.{Follows, AreReplied}
 use Rattle.xs_keys.specs.Step.{is_error}
 use Rattle.xs_keys.specs.Adding.{Adds}
@@ -32,10 +32,10 @@ pub record OwnersGoOn : Type 0 where
   pub stays : OwnerAfter start (read_by_a ∷ []) claim_by_b (at 3 0) (codes "a")
   pub is_settled : OwnerAfter start (read_by_a ∷ []) (event 200 (acknowledge (at 2 0 ∷ []))) (at 2 0) (codes "a")
   pub is_claimed : OwnerAfter start (read_by_a ∷ []) claim_by_b (at 2 0) (codes "a")
-  pub none_yet : NoOwnerAfter start (first_by_a ∷ []) (event 150 (create_consumer (codes "c"))) (at 3 0)
-  pub comes_by_a_delivery : NoOwnerAfter start (first_by_a ∷ []) next_by_b (at 3 0)
+  pub none_yet : AfterNoOwner start (first_by_a ∷ []) (event 150 (create_consumer (codes "c"))) (at 3 0)
+  pub comes_by_a_delivery : AfterNoOwner start (first_by_a ∷ []) next_by_b (at 3 0)
   pub none_where_there_is_one :
-      NoOwnerAfter start (read_by_a ∷ []) (event 150 (create_consumer (codes "c"))) (at 2 0) → ⊥
+      AfterNoOwner start (read_by_a ∷ []) (event 150 (create_consumer (codes "c"))) (at 2 0) → ⊥
 
 abbrev pub life : List GroupEvent → GroupLife
 life events = record { start = start; events = events }

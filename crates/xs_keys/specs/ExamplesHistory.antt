@@ -18,7 +18,7 @@ use Rattle.xs_keys.specs.Life.{StreamEvent, key_life, added_in, top, present_ent
 use Rattle.xs_keys.specs.GroupEvent.{delivered_ids, cursor}
 use Rattle.xs_keys.specs.GroupAsk.{claim, auto_claim}
 use Rattle.xs_keys.specs.GroupLife.{GroupLife, group_life, ids_delivered_by}
-use Rattle.xs_keys.specs.Headline.{OfEachGroup}
+use Rattle.xs_keys.specs.Headline.{OfEachLifeIn}
 use Rattle.xs_keys.specs.Step.{takes_memory}
 use Rattle.xs_keys.specs.Life.{added_at}
 use Rattle.xs_keys.specs.RepliesTell.{scan_at}
@@ -111,7 +111,7 @@ pub record Groups : Type 0 where
       of_group (group_and (codes "XGROUP DESTROY s h" ∷ codes "XGROUP DESTROY t g" ∷ [])) starts_at ≡ Some (at 1 0)
   pub goes_with_its_key : of_group (group_and (codes "DEL t s" ∷ codes "XADD s 1-0 f v" ∷ [])) starts_at ≡ None
   pub lives_that_are_over_too :
-      OfEachGroup (events 5 (codes "XGROUP CREATE s g $ MKSTREAM" ∷ codes "DEL s" ∷ [])) (λ life. ⊥) → ⊥
+      OfEachLifeIn (events 5 (codes "XGROUP CREATE s g $ MKSTREAM" ∷ codes "DEL s" ∷ [])) (λ life. ⊥) → ⊥
   pub another_key_goes : of_group (group_and (codes "DEL t" ∷ [])) starts_at ≡ Some (at 1 0)
   pub begins_anew :
       of_group (group_and (codes "XREADGROUP GROUP g c STREAMS s >" ∷ codes "XGROUP DESTROY s g"

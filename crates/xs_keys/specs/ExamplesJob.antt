@@ -12,9 +12,9 @@ use Rattle.xs_keys.specs.JobPlace.{Place, before_start, waiting, dropped, handed
 use Rattle.xs_keys.specs.JobMove.{HasArrow}
 use Rattle.xs_command.specs.declared.command.GroupStart.TheVariants.{Top, At}
 use Rattle.xs_keys.specs.Presence.{StartsAt}
-use Rattle.xs_keys.specs.JobMove.{MovesAlong, is_final, GroupStaysOpen}
+use Rattle.xs_keys.specs.JobMove.{MovesAlong, is_final, NoneEndsGroup}
 use Rattle.xs_keys.specs.JobPlace.{place_after}
-use Rattle.xs_keys.specs.PlacesAddUp.{is_at, is_pending, jobs_at}
+use Rattle.xs_keys.specs.PlacesAddUp.{is_same_place, is_pending, jobs_at}
 use Rattle.xs_keys.specs.ExamplesHistory.{event, events}
 use Rattle.xs_keys.specs.ExamplesGroupEvents.{event_over, read_by_a, noack_by_b}
 use Rattle.xs_keys.specs.ExamplesHeadline.{life}
@@ -254,10 +254,10 @@ pub record Comings : Type 0 where
   pub not_kept_by_a_deletion : GoesBy (codes "XDEL s 1-0") (Some waiting) (Some waiting) → ⊥
 
 pub record Lasting : Type 0 where
-  pub at_a_command_of_no_group : GroupStaysOpen (codes "s") (codes "g") (events 5 (codes "PING" ∷ codes "QUIT" ∷ []))
-  pub at_another_group_s_end : GroupStaysOpen (codes "s") (codes "g") (events 5 (codes "XGROUP DESTROY s h" ∷ []))
+  pub at_a_command_of_no_group : NoneEndsGroup (codes "s") (codes "g") (events 5 (codes "PING" ∷ codes "QUIT" ∷ []))
+  pub at_another_group_s_end : NoneEndsGroup (codes "s") (codes "g") (events 5 (codes "XGROUP DESTROY s h" ∷ []))
   pub not_past_its_end :
-      GroupStaysOpen (codes "s") (codes "g")
+      NoneEndsGroup (codes "s") (codes "g")
       (events 5 (codes "PING" ∷ codes "XGROUP DESTROY s g" ∷ codes "PING" ∷ [])) → ⊥
 
 -- of five entries one is deleted, one is read and acknowledged, one is read with NOACK, one is read, and one waits
@@ -278,12 +278,12 @@ of_five at =
     jobs_in (key_life (events 5 five_jobs) (codes "s")) (group_life (events 5 five_jobs) (codes "s") (codes "g")) at
 
 pub record Books : Type 0 where
-  pub waiting_ones : of_five (is_at waiting) ≡ at 6 0 ∷ []
-  pub dropped_ones : of_five (is_at dropped) ≡ at 2 0 ∷ []
-  pub handed_out_ones : of_five (is_at handed_out) ≡ at 4 0 ∷ []
+  pub waiting_ones : of_five (is_same_place waiting) ≡ at 6 0 ∷ []
+  pub dropped_ones : of_five (is_same_place dropped) ≡ at 2 0 ∷ []
+  pub handed_out_ones : of_five (is_same_place handed_out) ≡ at 4 0 ∷ []
   pub pending_ones : of_five is_pending ≡ at 5 0 ∷ []
-  pub pending_with_d : of_five (is_at (pending (codes "d"))) ≡ at 5 0 ∷ []
-  pub pending_with_c : of_five (is_at (pending (codes "c"))) ≡ []
-  pub settled_ones : of_five (is_at settled) ≡ at 3 0 ∷ []
-  pub before_the_start : of_five (is_at before_start) ≡ at 1 0 ∷ []
+  pub pending_with_d : of_five (is_same_place (pending (codes "d"))) ≡ at 5 0 ∷ []
+  pub pending_with_c : of_five (is_same_place (pending (codes "c"))) ≡ []
+  pub settled_ones : of_five (is_same_place settled) ≡ at 3 0 ∷ []
+  pub before_the_start : of_five (is_same_place before_start) ≡ at 1 0 ∷ []
   pub final_ones : of_five is_final ≡ at 1 0 ∷ at 2 0 ∷ at 3 0 ∷ at 4 0 ∷ []

@@ -32,13 +32,13 @@ claim_of_ask (claim consumer rule ids) now present rows = claim_by_ids rows pres
 claim_of_ask (auto_claim consumer rule start limit) now present rows = (scan_of rows present now rule start limit).claim
 claim_of_ask _ now present rows = no_claim
 
--- the cursor that a scan returns, from the rows it meets: where to go on, or 0-0 at their end
+-- the cursor that a scan returns, from the rows it meets: where the next one starts, or 0-0 at their end
 abbrev pub scan_end_of_ask : GroupAsk → ℕ → List Id → PendingEntries → Id
 scan_end_of_ask (auto_claim consumer rule start limit) now present rows =
     (scan_of rows present now rule start limit).cursor
 scan_end_of_ask _ now present rows = zero_id
 
--- the consumer that asks, or is asked for
+-- the consumer that reads or claims, or is created or deleted
 abbrev pub consumer_of : GroupAsk → Option Bytes
 consumer_of (read_new consumer limit noack) = Some consumer
 consumer_of (read_own consumer limit from) = Some consumer
@@ -55,9 +55,9 @@ rule_of (auto_claim consumer rule start limit) = Some rule
 rule_of _ = None
 
 -- a read of new entries without NOACK
-abbrev pub keeps_pending : GroupAsk → Bool
-keeps_pending (read_new consumer limit noack) = not noack
-keeps_pending _ = false
+abbrev pub reads_without_noack : GroupAsk → Bool
+reads_without_noack (read_new consumer limit noack) = not noack
+reads_without_noack _ = false
 
 -- an acknowledgement that names the id
 abbrev pub is_acknowledgement_of : GroupAsk → Id → Bool

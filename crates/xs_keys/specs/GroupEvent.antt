@@ -22,7 +22,7 @@ new_ids_of_event event cursor = new_ids_of_ask event.ask event.present cursor
 abbrev pub claim_of_event : GroupEvent → PendingEntries → Claim
 claim_of_event event rows = claim_of_ask event.ask event.now event.present rows
 
--- the cursor that a scan returns, from the rows it meets
+-- where the next scan starts, from the rows it meets
 abbrev pub scan_end_of_event : GroupEvent → PendingEntries → Id
 scan_end_of_event event rows = scan_end_of_ask event.ask event.now event.present rows
 
@@ -53,7 +53,7 @@ abbrev pub rows_among : (Id → Option RowState) → List Id → PendingEntries
 rows_among row_of [] = []
 rows_among row_of (x ∷ xs) = with_some x (row_of x) (rows_among row_of xs)
 
--- the row of an id, if it has one
+-- the row of an id after these events, carried forward: each event changes it as `row_after_ask` says
 abbrev pub pending_row_at : Id → List GroupEvent → Id → Option RowState
 pending_row_at start [] x = None
 pending_row_at start (event ∷ past) x =

@@ -5,7 +5,7 @@ use Rattle.xs_keys.specs.Terms.{option_map, option_map_or, option_or, list_all, 
 use Rattle.xs_keys.specs.Terms.{new_ids, Command, GroupCreate, GroupDestroy, ConsumerCreate, ConsumerDelete}
 use Rattle.xs_keys.specs.Terms.{ReadGroup, Ack, Claim, AutoClaim, DropKeys, GroupStart, Top, At, GroupCreateCommand}
 use Rattle.xs_keys.specs.Terms.{ReadGroupCommand, ReadOne, ReadFrom, New, After}
-use Rattle.xs_keys.specs.Life.{StreamEvent, is_listed, life_or_new, key_life, present_entries, top}
+use Rattle.xs_keys.specs.Life.{KeyLife, is_listed, life_or_new, key_life, present_entries, top}
 use Rattle.xs_keys.specs.GroupAsk.{GroupAsk, read_new, read_own, acknowledge, create_consumer, delete_consumer, claim}
 use Rattle.xs_keys.specs.GroupAsk.{auto_claim}
 use Rattle.xs_keys.specs.GroupEvent.{GroupEvent}
@@ -18,8 +18,8 @@ pub record GroupLife : Type 0 where
   pub events : List GroupEvent
 
 -- the ids in the stream
-abbrev pub present_in : Option (List StreamEvent) → List Id
-present_in stream = option_map_or (λ changes. ids_of (present_entries changes)) stream []
+abbrev pub present_in : Option KeyLife → List Id
+present_in stream = option_map_or (λ key. ids_of (present_entries key)) stream []
 
 -- where a group starts: at the written id, or at the top
 abbrev pub starting_id : GroupStart → Id → Id
@@ -27,10 +27,10 @@ starting_id Top top = top
 starting_id (At id) top = id
 
 -- a new life; none if the key is missing and isn't made
-abbrev pub new_life : GroupCreateCommand → Option (List StreamEvent) → Option GroupLife
+abbrev pub new_life : GroupCreateCommand → Option KeyLife → Option GroupLife
 new_life create stream =
     let begin : Id → GroupLife = λ id. record { start = starting_id create.start id; events = [] } in
-    option_map (λ changes. begin (top changes)) (life_or_new create.make stream)
+    option_map (λ key. begin (top key)) (life_or_new create.make stream)
 
 -- one event more
 abbrev pub life_after_ask : ℕ → List Id → GroupAsk → Option GroupLife → Option GroupLife
@@ -54,7 +54,7 @@ life_after_reads now present read key (one ∷ more) life =
 -- the life of a group after a command at a moment, from the lives of its key and its own before, and from whether all
 -- groups that a read names are there; XGROUP CREATE leaves an open life as it is
 abbrev pub group_life_after :
-    ℕ → Command → Bytes → Bytes → Bool → Option (List StreamEvent) → Option GroupLife → Option GroupLife
+    ℕ → Command → Bytes → Bytes → Bool → Option KeyLife → Option GroupLife → Option GroupLife
 group_life_after now (GroupCreate create) key group all_there stream life =
     if is_same_group key group create.key create.group then option_or life (new_life create stream) else life
 group_life_after now (GroupDestroy k g) key group all_there stream life =

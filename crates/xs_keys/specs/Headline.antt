@@ -2,7 +2,7 @@
 use Rattle.std.specs.Prelude.{◌≡◌, ◌⊎◌, Some, List, [], ◌∷◌}
 use Rattle.xs_keys.specs.Terms.{Reply, Ascends, ids_of}
 use Rattle.xs_command.specs.WellFormed.{IsWellFormed}
-use Rattle.xs_keys.specs.Life.{StreamEvent, key_life, added_in}
+use Rattle.xs_keys.specs.Life.{KeyLife, key_life, added_in}
 use Rattle.xs_keys.specs.Content.{Content, IsContent}
 use Rattle.xs_keys.specs.ConsistentContent.{IsConsistentContent}
 use Rattle.xs_keys.specs.ContentAfter.{content_after}
@@ -16,33 +16,33 @@ use Rattle.xs_keys.specs.EachOwner.{OwnersAndClaims}
 use Rattle.xs_keys.specs.EachReply.{AreReplied}
 use Rattle.xs_keys.specs.AtEach.{AtEach, AtEachTime}
 
--- so it is with the open life of each group, after any history
+-- Holds is true of the open life of each group, after any history
 abbrev pub OfEachLife : (GroupLife → Type 0) → Type 0
 OfEachLife Holds =
     (past : History) (key group : Bytes) (life : GroupLife)
     → group_life past key group ≡ Some life → Holds life
 
--- so it is with the open life of each group, at each time of a history
-abbrev pub OfEachGroup : History → (GroupLife → Type 0) → Type 0
-OfEachGroup history Holds = AtEachTime history (λ past.
+-- Holds is true of the open life of each group, at each time of a history
+abbrev pub OfEachLifeIn : History → (GroupLife → Type 0) → Type 0
+OfEachLifeIn history Holds = AtEachTime history (λ past.
     (key group : Bytes) (life : GroupLife) → group_life past key group ≡ Some life → Holds life)
 
 -- at each time of a history, the ids added in the open life of each key ascend
 abbrev pub IdsAscend : History → Type 0
 IdsAscend history = AtEachTime history (λ past.
-    (key : Bytes) (stream : List StreamEvent) → key_life past key ≡ Some stream → Ascends (ids_of (added_in stream)))
+    (key : Bytes) (stream : KeyLife) → key_life past key ≡ Some stream → Ascends (ids_of (added_in stream)))
 
 -- each command of a history is well formed
 abbrev pub AreWellFormed : History → Type 0
 AreWellFormed [] = Unit {0}
 AreWellFormed (e ∷ past) = IsWellFormed (event_command e) × AreWellFormed past
 
--- so it is with each event of a history that a run led to. A run holds well-formed commands alone; if it began after a
--- past of other events, those have to be well formed, or the event in question.
+-- Holds is true of each event of a history that a run led to. If the run began after earlier events, only if all of
+-- those, or the event itself, are well formed; commands of a run are.
 abbrev pub AtEachEvent : History → History → (History → Event → Type 0) → Type 0
 AtEachEvent [] history Holds = AtEach history Holds
-AtEachEvent (first ∷ past) history Holds = AtEach history (λ earlier e.
-    AreWellFormed (first ∷ past) ⊎ IsWellFormed (event_command e) → Holds earlier e)
+AtEachEvent (newest ∷ older) history Holds = AtEach history (λ earlier e.
+    AreWellFormed (newest ∷ older) ⊎ IsWellFormed (event_command e) → Holds earlier e)
 
 -- the lives of a group are apart: what is delivered in a life is what its own events deliver, one after the other, and
 -- an event delivers nothing in a group that has no open life
@@ -58,26 +58,27 @@ StepsAreConsistent history = AtEach history (λ earlier e.
     (content : Content) → IsContent content earlier
     → IsConsistentContent content × IsContent (content_after content (event_moment e) (event_command e)) (e ∷ earlier))
 
--- every reply is the model's, and tells what was done; each group delivers, in id order and each once, the entries past
--- its start that were in the stream when their turn came, as many as were asked for; each entry delivered without NOACK
--- is pending with exactly one consumer until it is settled, and is claimed only when idle; each entry has one place in
--- each group at each time, and moves from one to another along the arrows alone; and entries and groups come and go by
--- their own commands alone
+-- what holds of a run over a past, of the answers to it, and of the history that they lead to
 pub record Headline
     (past : History) (run : List Event) (answers : List Reply) (history : History) : Type 0 where
+  -- each reply is the model's, and tells what was done; contents are consistent
   pub replies : AreReplied past run answers history
   pub formed : AreWellFormed past → AreWellFormed history
   pub steps_are_consistent : StepsAreConsistent history
-  pub ids_ascend : IdsAscend history
-  pub lives_are_apart : AtEachEvent past history LivesAreApart
-  pub deliveries : OfEachGroup history DeliversNew
-  pub owners : OfEachGroup history OwnersAndClaims
+  -- each job has one place, and moves along the arrows alone; entries and groups come and go by their own commands
   pub places : EachHasAPlace history
   pub moves : AtEachEvent past history EachMovesAlong
   pub entries_are_added : AtEachEvent past history EntriesAreAdded
   pub entries_stay : AtEachEvent past history EntriesStay
   pub groups_are_created : AtEachEvent past history GroupsAreCreated
   pub groups_stay : AtEachEvent past history GroupsStay
+  -- each delivery is in id order, once, and of the entries in the stream at their turn
+  pub deliveries : OfEachLifeIn history DeliversNew
+  pub ids_ascend : IdsAscend history
+  -- each owner has the entry until it is settled or claimed
+  pub owners : OfEachLifeIn history OwnersAndClaims
+  -- lives of a group are apart
+  pub lives_are_apart : AtEachEvent past history LivesAreApart
 
 -- after any history that left the old content, the headline holds of the run, and the new content is consistent, and is
 -- that of the history with the events that were applied

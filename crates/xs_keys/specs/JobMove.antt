@@ -11,7 +11,7 @@ use Rattle.xs_keys.specs.GroupLife.{present_in}
 use Rattle.xs_keys.specs.Event.{Bytes, Event, History, event_command}
 use Rattle.xs_keys.specs.JobPlace.{Place, before_start, waiting, dropped, handed_out, pending, settled, place_after}
 use Rattle.xs_keys.specs.Effect.{deletes_entry, may_trim_entry, reads_new_entries_in, has_noack, claims_by_id}
-use Rattle.xs_keys.specs.Effect.{may_claim_entry, consumer_of_command, acknowledges_entry, removes_consumer}
+use Rattle.xs_keys.specs.Effect.{may_claim_entry, reader_or_claimer, acknowledges_entry, removes_consumer}
 use Rattle.xs_keys.specs.Effect.{may_begin_job}
 use Rattle.xs_keys.specs.Effect.{ends_group}
 
@@ -23,9 +23,9 @@ HasArrow command key group present x waiting handed_out =
     (reads_new_entries_in command key group && has_noack command) ≡ true
 HasArrow command key group present x waiting (pending consumer) =
     ((reads_new_entries_in command key group && not (has_noack command)) ≡ true)
-    × (consumer_of_command command ≡ Some consumer)
+    × (reader_or_claimer command ≡ Some consumer)
 HasArrow command key group present x (pending one) (pending other) =
-    ((may_claim_entry command key group x && has_id present x) ≡ true) × (consumer_of_command command ≡ Some other)
+    ((may_claim_entry command key group x && has_id present x) ≡ true) × (reader_or_claimer command ≡ Some other)
 HasArrow command key group present x (pending consumer) settled =
     (acknowledges_entry command key group x || (removes_consumer command key group consumer
     || (may_claim_entry command key group x && not (has_id present x)))) ≡ true
@@ -56,8 +56,8 @@ abbrev pub trims_new : Trim → Id → Bool
 trims_new (MaxLen n) x = nat_le n 0
 trims_new (MinId low) x = is_below x low
 
--- where an entry stands at first: one that is added waits, unless the addition's own trim drops it or the group starts
--- above it; one that was there before the group is where the new group finds it
+-- where an entry may stand at first: one that is added waits or is before the start, and is dropped only by the
+-- addition's own trim; one that was there before the group is where the new group finds it
 abbrev pub IsFirstPlace : Command → List Id → Id → Place → Type 0
 IsFirstPlace (Add add) present x before_start = Unit {0}
 IsFirstPlace (Add add) present x waiting = Unit {0}
@@ -82,11 +82,11 @@ is_final waiting = false
 is_final (pending consumer) = false
 is_final _ = true
 
--- none of these events, newest first, ends the life of the group
-abbrev pub GroupStaysOpen : Bytes → Bytes → History → Type 0
-GroupStaysOpen key group [] = Unit {0}
-GroupStaysOpen key group (e ∷ later) =
-    IsWellFormed (event_command e) × (ends_group (event_command e) key group ≡ false) × GroupStaysOpen key group later
+-- each of these commands is well formed, and none ends the life of the group
+abbrev pub NoneEndsGroup : Bytes → Bytes → History → Type 0
+NoneEndsGroup key group [] = Unit {0}
+NoneEndsGroup key group (e ∷ rest) =
+    IsWellFormed (event_command e) × (ends_group (event_command e) key group ≡ false) × NoneEndsGroup key group rest
 
 -- an event leaves each entry at its place, or moves it along an arrow
 abbrev pub EachMovesAlong : History → Event → Type 0

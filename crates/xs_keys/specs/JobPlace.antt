@@ -1,9 +1,9 @@
 -- The places of a job: where an entry stands for a group. (Redis Streams, "Consumer groups"; XPENDING.)
 use Rattle.std.specs.Prelude.{◌≡◌, true, false, not, List, Option, Some, None, is_some, if◌then◌else◌}
 use Rattle.xs_keys.specs.Terms.{Id, is_below, has_id, ids_of}
-use Rattle.xs_keys.specs.Life.{StreamEvent, key_life, added_in, present_entries}
+use Rattle.xs_keys.specs.Life.{KeyLife, key_life, added_in, present_entries}
 use Rattle.xs_keys.specs.GroupEvent.{delivered_ids, cursor}
-use Rattle.xs_keys.specs.Owner.{last_assigned, owner}
+use Rattle.xs_keys.specs.Owner.{last_assignee, owner}
 use Rattle.xs_keys.specs.GroupLife.{GroupLife, group_life}
 use Rattle.xs_keys.specs.Event.{Bytes, History}
 
@@ -27,10 +27,10 @@ abbrev pub place_of : GroupLife → List Id → Id → Place
 place_of life present x =
     if not (is_below life.start x) then before_start
     else (if has_id (delivered_ids life.start life.events) x
-    then place_of_delivered (last_assigned life.start life.events x) (owner life.start life.events x)
+    then place_of_delivered (last_assignee life.start life.events x) (owner life.start life.events x)
     else (if has_id present x then waiting else dropped))
 
--- what it is to stand at each place, none by way of another
+-- what each place means, without `place_of`
 abbrev pub StandsAt : GroupLife → List Id → Id → Place → Type 0
 StandsAt life present x before_start = is_below life.start x ≡ false
 StandsAt life present x waiting = (has_id present x ≡ true) × (is_below (cursor life.start life.events) x ≡ true)
@@ -38,10 +38,10 @@ StandsAt life present x dropped =
     (is_below life.start x ≡ true) × (has_id present x ≡ false)
     × (has_id (delivered_ids life.start life.events) x ≡ false)
 StandsAt life present x handed_out =
-    (has_id (delivered_ids life.start life.events) x ≡ true) × (last_assigned life.start life.events x ≡ None)
+    (has_id (delivered_ids life.start life.events) x ≡ true) × (last_assignee life.start life.events x ≡ None)
 StandsAt life present x (pending consumer) = owner life.start life.events x ≡ Some consumer
 StandsAt life present x settled =
-    (is_some (last_assigned life.start life.events x) ≡ true) × (owner life.start life.events x ≡ None)
+    (is_some (last_assignee life.start life.events x) ≡ true) × (owner life.start life.events x ≡ None)
 
 -- an entry stands at one place, and at no other
 abbrev pub HasOnePlace : GroupLife → List Id → Id → Type 0
@@ -50,7 +50,7 @@ HasOnePlace life present x =
     × ((other : Place) → StandsAt life present x other → other ≡ place_of life present x)
 
 -- where an entry stands, by the open lives of its key and of the group; none if it wasn't added, or no life is open
-abbrev pub place_in : Option (List StreamEvent) → Option GroupLife → Id → Option Place
+abbrev pub place_in : Option KeyLife → Option GroupLife → Id → Option Place
 place_in (Some past) (Some life) x =
     if has_id (ids_of (added_in past)) x then Some (place_of life (ids_of (present_entries past)) x) else None
 place_in _ _ x = None

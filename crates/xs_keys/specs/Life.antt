@@ -16,12 +16,16 @@ pub data StreamEvent : Type 0 where
   delete_entries : List Id → StreamEvent  -- XDEL
   trim_entries : Trim → StreamEvent  -- XTRIM
 
+-- the life of a key: the events of its stream, newest first
+abbrev pub KeyLife : Type 0
+KeyLife = List StreamEvent
+
 -- the open life of a key, or a new one if the command may make the key
-abbrev pub life_or_new : Bool → Option (List StreamEvent) → Option (List StreamEvent)
+abbrev pub life_or_new : Bool → Option KeyLife → Option KeyLife
 life_or_new make life = option_or life (if make then Some [] else None)
 
 -- the life of a key after a command at a moment: the events of its stream, newest first; none if no life is open
-abbrev pub key_life_after : ℕ → Command → Bytes → Option (List StreamEvent) → Option (List StreamEvent)
+abbrev pub key_life_after : ℕ → Command → Bytes → Option KeyLife → Option KeyLife
 key_life_after now (Add add) key life =
     let event = add_entry now add.id add.fields add.trim in
     if is_same_name key add.key then option_map (λ past. event ∷ past) (life_or_new add.make life) else life
@@ -35,7 +39,7 @@ key_life_after now (DropKeys keys) key life = if is_listed keys key then None el
 key_life_after now _ key life = life
 
 -- the open life of a key, looking back over all events
-abbrev pub key_life : History → Bytes → Option (List StreamEvent)
+abbrev pub key_life : History → Bytes → Option KeyLife
 key_life [] key = None
 key_life (e ∷ past) key = key_life_after (event_moment e) (event_command e) key (key_life past key)
 
@@ -59,12 +63,12 @@ entries_added_by (add_entry now id fields trim) top = entry_of (assigned now top
 entries_added_by _ top = []
 
 -- all entries that were ever added in a life, in the order of the events, the deleted ones too
-abbrev pub added_in : List StreamEvent → Entries
+abbrev pub added_in : KeyLife → Entries
 added_in [] = []
 added_in (event ∷ past) = added_in past ++ entries_added_by event (top_of (added_in past))
 
 -- the greatest id ever added, or 0-0
-abbrev pub top : List StreamEvent → Id
+abbrev pub top : KeyLife → Id
 top past = top_of (added_in past)
 
 -- an event removes an id: a deletion names it, or it falls to a trim, or to that of an addition that isn't refused
@@ -75,7 +79,7 @@ removes_id (delete_entries ids) top present x = has_id ids x
 removes_id (trim_entries trim) top present x = is_trimmed trim present x
 
 -- the id was added, and neither that event nor a later one has removed it
-abbrev pub is_present : List StreamEvent → Id → Bool
+abbrev pub is_present : KeyLife → Id → Bool
 is_present [] x = false
 is_present (event ∷ past) x =
     let new = entries_added_by event (top past) in
@@ -84,11 +88,11 @@ is_present (event ∷ past) x =
     else (if has_id (ids_of new) x then true else is_present past x)
 
 -- the entries that are in the stream
-abbrev pub present_entries : List StreamEvent → Entries
+abbrev pub present_entries : KeyLife → Entries
 present_entries past = filter (λ e. is_present past e.0) (added_in past)
 
 -- the stream: its top and the entries in it
-abbrev pub stream_of : List StreamEvent → StreamState
+abbrev pub stream_of : KeyLife → StreamState
 stream_of past = record { top = top past; entries = present_entries past }
 
 -- all entries that were ever added in the open life of a key, with the fields that they were added with

@@ -3,7 +3,7 @@
 use Rattle.std.specs.Prelude.{◌≡◌, ◌⊎◌, Bool, true, false, not, ◌&&◌, ◌||◌, List, ◌∷◌, Option, Some, None, is_some}
 use Rattle.xs_keys.specs.Terms.{Id, has_id, ids_of, is_same_name, Command, Add, GroupCreate, DropKeys}
 use Rattle.xs_keys.specs.Terms.{GroupStart, Top, At}
-use Rattle.xs_keys.specs.Life.{StreamEvent, is_listed, key_life, top_of}
+use Rattle.xs_keys.specs.Life.{KeyLife, is_listed, key_life, top_of}
 use Rattle.xs_keys.specs.GroupLife.{GroupLife, group_life, present_in}
 use Rattle.xs_keys.specs.Effect.{deletes_entry, may_trim_entry, ends_group}
 use Rattle.xs_keys.specs.Life.{added_at}
@@ -17,21 +17,22 @@ deletes_key (DropKeys keys) key = is_listed keys key
 deletes_key _ key = false
 
 -- the command adds to the key, or deletes it
-abbrev pub adds_or_deletes : Command → Bytes → Bool
-adds_or_deletes (Add add) key = is_same_name key add.key
-adds_or_deletes command key = deletes_key command key
+abbrev pub adds_to_or_deletes_key : Command → Bytes → Bool
+adds_to_or_deletes_key (Add add) key = is_same_name key add.key
+adds_to_or_deletes_key command key = deletes_key command key
 
 -- entries come by additions alone: another command leaves all that was ever added, unless it deletes the key
 abbrev pub EntriesAreAdded : History → Event → Type 0
 EntriesAreAdded earlier e =
-    (key : Bytes) → (added_at (e ∷ earlier) key ≡ added_at earlier key) ⊎ (adds_or_deletes (event_command e) key ≡ true)
+    (key : Bytes)
+    → (added_at (e ∷ earlier) key ≡ added_at earlier key) ⊎ (adds_to_or_deletes_key (event_command e) key ≡ true)
 
 -- the command may remove the entry from a stream of these ids: it deletes it, may trim it away, or deletes the key
 abbrev pub may_remove_entry : Command → Bytes → List Id → Id → Bool
 may_remove_entry command key present x =
     deletes_entry command key x || (may_trim_entry command key present x || deletes_key command key)
 
--- and has to; an addition that is refused doesn't trim
+-- the command removes the entry for certain; an addition may be refused, and then trims nothing
 abbrev pub has_to_remove : Command → Bytes → List Id → Id → Bool
 has_to_remove (Add add) key present x = false
 has_to_remove command key present x = may_remove_entry command key present x
@@ -43,7 +44,7 @@ pub record EntryStays (command : Command) (key : Bytes) (before after added : Li
   pub is_removed : has_to_remove command key before x ≡ true → has_id after x ≡ false
   pub comes_new : has_id before x ≡ false → has_id after x ≡ true → has_id added x ≡ false
 
--- so it is with each entry of each key
+-- each entry of each key stays so
 abbrev pub EntriesStay : History → Event → Type 0
 EntriesStay earlier e =
     (key : Bytes) (x : Id)
@@ -71,7 +72,7 @@ GroupsAreCreated earlier e =
     → MakesGroup (event_command e) key group (added_at earlier key) life.start
 
 -- an XGROUP CREATE of the group, whose key is there or may be made
-abbrev pub has_to_create : Command → Bytes → Bytes → Option (List StreamEvent) → Bool
+abbrev pub has_to_create : Command → Bytes → Bytes → Option KeyLife → Bool
 has_to_create (GroupCreate create) key group stream =
     is_same_group key group create.key create.group && (create.make || is_some stream)
 has_to_create _ key group stream = false

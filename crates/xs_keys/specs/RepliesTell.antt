@@ -90,7 +90,8 @@ TellsRows asked now life answer =
 abbrev pub IfThere : Bool → Reply → Type 0 → Type 0
 IfThere there answer Told = (there ≡ true → Told) × (there ≡ false → answer ≡ Error NoGroup)
 
--- the answer to a command, after this past, tells what it did
+-- the answer to a command, after this past, tells what it did; of ranges, groups, DEL, PING and QUIT nothing is told
+-- beyond the model's reply
 abbrev pub IsTold : History → ℕ → Command → Reply → Type 0
 IsTold past now (Add add) answer =
     TellsAddition (added_at past add.key) add.fields answer (added_at ((now, Add add) ∷ past) add.key)

@@ -1,4 +1,4 @@
--- One call: applied, or refused as out of memory.
+-- One call: applied, or answered OOM.
 use Rattle.std.specs.Prelude.{◌≡◌, ℕ, Bool, true, false, ◌⊎◌, Some}
 use Rattle.xs_keys.specs.Terms.{Memory, Reply, Error, Command, Ping, Add, Scan}
 use Rattle.xs_keys.specs.Terms.{GroupCreate, ConsumerCreate, ReadGroup, Pending, PendingRows, Claim, AutoClaim}

@@ -43,8 +43,8 @@ count_of start [] x = 0
 count_of start (event ∷ past) x =
     if is_touched_by start past event x then count_of_touch event.ask (count_of start past x) else count_of start past x
 
--- time and count of a pending row are those of the last event that touched it
-abbrev pub IsLastTouched : Id → List GroupEvent → Type 0
-IsLastTouched start events =
+-- time and count of a pending row are those of the event that touched it last
+abbrev pub AreOfLastTouch : Id → List GroupEvent → Type 0
+AreOfLastTouch start events =
     (x : Id) (row : RowState) → row_at (rows start events) x ≡ Some row
     → (row.time ≡ time_of start events x) × (row.count ≡ count_of start events x)

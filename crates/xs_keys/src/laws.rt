@@ -21,9 +21,9 @@ ghost use Rattle.xs_keys.specs.Reply.{reply};
 ghost use Rattle.xs_keys.specs.Step.{IsUnchangedIfRefused};
 ghost use Rattle.xs_keys.specs.RepliesTell.{IsTold};
 ghost use Rattle.xs_keys.specs.ClaimsTake.{ClaimsAreExact};
-ghost use Rattle.xs_keys.specs.TimesAndCounts.{IsLastTouched};
+ghost use Rattle.xs_keys.specs.TimesAndCounts.{AreOfLastTouch};
 ghost use Rattle.xs_keys.specs.JobPlace.{Place, HasOnePlace, place_after};
-ghost use Rattle.xs_keys.specs.JobMove.{MovesAlong, is_final, GroupStaysOpen};
+ghost use Rattle.xs_keys.specs.JobMove.{MovesAlong, is_final, NoneEndsGroup};
 ghost use Rattle.xs_keys.specs.PlacesAddUp.{is_pending, jobs_at, PlacesAddUp, TellsPending};
 ghost use Rattle.xs_keys.specs.Presence.{EntriesAreAdded, EntriesStay, GroupsAreCreated, GroupsStay};
 ghost use Rattle.xs_keys.specs.EachDelivery.{HadItsTurn, DeliversInFull};
@@ -115,7 +115,7 @@ pub fn owner_is_of_the_row()
 /// The time and the delivery count of a pending row, carried from event to event, are those that the last event
 /// gave that touched the entry: that delivered it, claimed it, or showed it once more to its consumer.
 pub fn time_and_count_are_of_the_last_touch()
-    ensures { OfEachLife (λ life. IsLastTouched life.start life.events) }
+    ensures { OfEachLife (λ life. AreOfLastTouch life.start life.events) }
 {}
 
 /// A claim takes an entry only if it has an owner, is in the stream, and the time that it was last given lies as far
@@ -148,7 +148,7 @@ pub fn the_life_of_a_job()
     ensures groups { (earlier : History) (e : Event) → GroupsAreCreated earlier e }
     ensures open_groups { (earlier : History) (e : Event) → GroupsStay earlier e }
     ensures for_good { (later earlier : History) (key group : Bytes) (x : Id) (here : Place) →
-        GroupStaysOpen key group later → is_final here ≡ true → place_after earlier key group x ≡ Some here →
+        NoneEndsGroup key group later → is_final here ≡ true → place_after earlier key group x ≡ Some here →
         place_after (later ++ earlier) key group x ≡ Some here }
     ensures places_add_up { (past : History) (key group : Bytes) (changes : List StreamEvent) (life : GroupLife) →
         key_life past key ≡ Some changes → group_life past key group ≡ Some life → PlacesAddUp changes life }

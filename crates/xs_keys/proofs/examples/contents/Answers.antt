@@ -1,7 +1,7 @@
 use Rattle.std.proofs.Common.{codes, refl, ap, length, subst, T, arith}
 use Rattle.xs_bytes.specs.SortedMap.{empty, get, insert_by, remove, change}
 use Rattle.xs_stream.specs.StreamContent.{StreamState}
-use Rattle.xs_keys.specs.Content.{IsGroup}
+use Rattle.xs_keys.specs.Content.{IsGroupOfLife}
 use Rattle.xs_keys.proofs.examples.contents.Goals as goal
 
 pub returns : goal.returns
@@ -19,8 +19,8 @@ returns c = record {
   of_a_new_group = record { cursor_is = refl; consumers_are = λ name. refl; rows_are = refl };
   not_a_group_without_a_life = λ h. h;
   not_a_life_without_a_group = λ h. h;
-  not_another_start = λ h. omega (arith, ap (λ i. i.ms) (IsGroup.cursor_is h));
-  not_before_its_read = λ h. omega (arith, ap (λ i. i.ms) (IsGroup.cursor_is h));
-  not_after_a_read = λ h. omega (arith, ap (λ i. i.ms) (IsGroup.cursor_is h));
-  not_with_a_consumer = λ h. subst T (IsGroup.consumers_are h (codes "b")) tt;
+  not_another_start = λ h. omega (arith, ap (λ i. i.ms) (IsGroupOfLife.cursor_is h));
+  not_before_its_read = λ h. omega (arith, ap (λ i. i.ms) (IsGroupOfLife.cursor_is h));
+  not_after_a_read = λ h. omega (arith, ap (λ i. i.ms) (IsGroupOfLife.cursor_is h));
+  not_with_a_consumer = λ h. subst T (IsGroupOfLife.consumers_are h (codes "b")) tt;
 }
