@@ -13,8 +13,9 @@ use Rattle.xs_group.specs.declared.claims.ClaimTime.TheVariants as claim_time
 use Rattle.xs_group.specs.GroupState.{RowState, idle, new_ids}
 use Rattle.xs_group.specs.Claims.{Rule, row_at, is_idle, is_taken, is_removed, is_hit, is_enough, prefixes, first_where}
 use Rattle.xs_group.specs.Claims.{without_repeats, scanned_part, from_start, first_or_zero, claim_among}
-use Rattle.xs_group.specs.Verdict.{AreDistinct}
+use Rattle.xs_group.specs.Verdict.{AreDistinct, scanned_after}
 use Rattle.xs_group.proofs.CarriedOutClaims.{apart-filter, apart-without_repeats}
+use Rattle.xs_group.proofs.Scanning.{scanned-after}
 use Rattle.xs_keys.specs.Terms.{option_map_or, Id, Ascends, AllAbove}
 use Rattle.xs_keys.specs.Life.{greatest}
 use Rattle.xs_keys.specs.GroupAsk.{GroupAsk, read_new, read_own, acknowledge, create_consumer, delete_consumer, claim}
@@ -22,7 +23,7 @@ use Rattle.xs_keys.specs.GroupAsk.{auto_claim, claim_of_ask, scan_end_of_ask, ru
 use Rattle.xs_keys.specs.GroupEvent.{GroupEvent, delivered_ids, pending_row_at, rows, new_ids_of_event, cursor}
 use Rattle.xs_keys.specs.Owner.{is_taken_by_claim, is_removed_by_claim, owner}
 use Rattle.xs_keys.specs.ClaimsTake.{least_idle, MayBeTaken, MayBeRemoved, passes, is_scanned, is_asked_for, MayStop}
-use Rattle.xs_keys.specs.ClaimsTake.{ClaimsWhatIsAsked, ClaimIsExact, ClaimsAreExact}
+use Rattle.xs_keys.specs.ClaimsTake.{ClaimsWhatIsAsked, ClaimIsExact, ClaimsAreExact, IsWithinCount}
 use Rattle.xs_keys.specs.EachDelivery.{DeliversInFull}
 use Rattle.xs_keys.proofs.Truths.{first_of, second_of, or_false}
 use Rattle.xs_keys.proofs.IdLists.{has_id-where, has_id-append, ascends-where, not_among}
@@ -31,6 +32,7 @@ use Rattle.xs_keys.proofs.Streams.{greatest-up, up_to-greatest}
 use Rattle.xs_keys.proofs.GroupSteps.{cursor-step}
 use Rattle.xs_keys.proofs.Deliveries.{PresentAscends, past-start}
 use Rattle.xs_keys.proofs.IdsAtEvents.{above-has}
+use Rattle.xs_keys.proofs.FirstIds.{limited-few}
 use Rattle.xs_keys.proofs.Owners.{owner-row, row-found, of_row}
 use Rattle.xs_keys.proofs.JobCounts.{ids-among, ascends-rows, ascends-same, same_truth, not_itself}
 use Rattle.xs_keys.proofs.ScanParts.{Begins, scanned-begins, AreNotZero, above-not_zero, before-part, part-before}
@@ -87,6 +89,33 @@ hits-few r t (x ∷ xs) = by (r x) (t x) (hits-few r t xs) where
   by true false h = omega (arith, h)
   by false true h = omega (arith, h)
   by false false h = h
+
+-- after some hits there are no more than the rest
+few-after : (hit : Id → Bool) (limit hits seen : ℕ) (ids : List Id) → hits ≤ limit → hits + length (filter hit (scanned_after hit limit hits seen ids)) ≤ limit
+few-after hit limit hits seen [] few = omega (arith, few)
+few-after hit limit hits seen (x ∷ xs) few =
+    by (nat_le limit hits) refl (nat_le (10 * limit) seen) (few-after hit limit (hits + 1) (seen + 1) xs) (few-after hit limit (hits + 0) (seen + 1) xs) where
+      by : (t : Bool) → nat_le limit hits ≡ t → (s : Bool)
+          → (hits + 1 ≤ limit → hits + 1 + length (filter hit (scanned_after hit limit (hits + 1) (seen + 1) xs)) ≤ limit)
+          → (hits + 0 ≤ limit → hits + 0 + length (filter hit (scanned_after hit limit (hits + 0) (seen + 1) xs)) ≤ limit)
+          → hits + length (filter hit (cond (t || s) [] (x ∷ scanned_after hit limit (hits + cond (hit x) 1 0) (seen + 1) xs))) ≤ limit
+      by true e s one none = omega (arith, few)
+      by false e true one none = omega (arith, few)
+      by false e false one none = step (hit x) where
+        step : (h : Bool) → hits + length (cond h (x ∷ filter hit (scanned_after hit limit (hits + cond h 1 0) (seen + 1) xs)) (filter hit (scanned_after hit limit (hits + cond h 1 0) (seen + 1) xs))) ≤ limit
+        step true = let room : hits + 1 ≤ limit = grind (arith, nat_tests, e) in omega (arith, one room)
+        step false = let room : hits + 0 ≤ limit = omega (arith, few) in omega (arith, none room)
+
+-- what is both taken and removed is nothing, so both together are hits
+hits-many : (r t : Id → Bool) → ((x : Id) → r x ≡ true → t x ≡ true → ⊥) → (xs : List Id) → length (filter t xs) + length (filter r xs) ≤ length (filter (λ x. r x || t x) xs)
+hits-many r t apart [] = omega arith
+hits-many r t apart (x ∷ xs) = by (r x) refl (t x) refl (hits-many r t apart xs) where
+  by : (a : Bool) → r x ≡ a → (b : Bool) → t x ≡ b → length (filter t xs) + length (filter r xs) ≤ length (filter (λ y. r y || t y) xs)
+      → length (cond b (x ∷ filter t xs) (filter t xs)) + length (cond a (x ∷ filter r xs) (filter r xs)) ≤ length (cond (a || b) (x ∷ filter (λ y. r y || t y) xs) (filter (λ y. r y || t y) xs))
+  by true e true f h = absurd (apart x e f)
+  by true e false f h = omega (arith, h)
+  by false e true f h = omega (arith, h)
+  by false e false f h = h
 
 ascends-first : (part rest : List Id) → Ascends (part ++ rest) → Ascends part
 ascends-first [] rest asc = tt
@@ -218,6 +247,25 @@ goes-far (delete_consumer consumer) now present all are = inl refl
 goes-far (claim consumer rule ids) now present all are = inl refl
 goes-far (auto_claim consumer rule from limit) now present all are = far-enough all are now present consumer rule from limit
 
+-- a scan takes and removes no more than its COUNT
+within : (all : List (Id × RowState)) (now : ℕ) (present : List Id) (rule : Rule) (from : Id) (limit : ℕ)
+    → length (filter (is_taken all present now rule) (scanned_part (is_hit all present now rule) limit (from_start from all)))
+    + length (filter (is_removed all present) (scanned_part (is_hit all present now rule) limit (from_start from all))) ≤ limit
+within all now present rule from limit =
+    let ids = from_start from all in
+    let hit : Id → Bool = is_hit all present now rule in
+    let many = hits-many (is_removed all present) (is_taken all present now rule) apart (scanned_part hit limit ids) in
+    let after = few-after hit limit 0 0 ids (omega arith) in
+    let few : length (filter hit (scanned_part hit limit ids)) ≤ limit = subst (λ (part : List Id). length (filter hit part) ≤ limit) (sym (scanned-after hit limit ids)) (omega (arith, after)) in
+    omega (arith, many, few) where
+      apart : (x : Id) → is_removed all present x ≡ true → is_taken all present now rule x ≡ true → ⊥
+      apart x r t = false≢true (sym (ap not (second_of (is_idle now rule (row_at all x)) (has_id present x) t)) ∙ second_of (is_some (row_at all x)) (not (has_id present x)) r)
+
+within-count : (event : GroupEvent) (all : List (Id × RowState)) → IsWithinCount event all
+within-count event all = λ consumer rule from limit asks.
+    subst (λ (ask : GroupAsk). length (claim_of_ask ask event.now event.present all).take + length (claim_of_ask ask event.now event.present all).removed ≤ limit) (sym asks)
+    (within all event.now event.present rule from limit)
+
 -- ---- one claim
 
 -- an id with a row is among theirs
@@ -336,9 +384,13 @@ in-turn : (start : Id) (past : List GroupEvent) → PresentAscends past → (eve
 unfolding met asked_rule looked
 in-turn start past asc event = record {
   as_asked = as-asked start past asc event;
-  each_once = subst (λ (c : Claim). AreDistinct c.take) (sym (looks event.ask event.now event.present (rows start past)).0)
+  takes_once = subst (λ (c : Claim). AreDistinct c.take) (sym (looks event.ask event.now event.present (rows start past)).0)
       (apart-filter (is_taken (rows start past) event.present event.now (rule_for event.ask)) (looked_at event.ask event.now event.present (rows start past))
       (looked-apart event.ask event.now event.present (rows start past) (are-rows start past asc event zero_id)));
+  removes_once = subst (λ (c : Claim). AreDistinct c.removed) (sym (looks event.ask event.now event.present (rows start past)).0)
+      (apart-filter (is_removed (rows start past) event.present) (looked_at event.ask event.now event.present (rows start past))
+      (looked-apart event.ask event.now event.present (rows start past) (are-rows start past asc event zero_id)));
+  at_most = within-count event (rows start past);
   far_enough = goes-far event.ask event.now event.present (rows start past) (are-rows start past asc event zero_id);
 }
 
@@ -389,7 +441,7 @@ pub in-full : (start : Id) (events : List GroupEvent) → DeliversInFull start e
 in-full start events = λ later event earlier e consumer limit noack asks.
     let a = cursor start earlier in
     let same : new_ids_of_event event a ≡ new_ids limit a event.present = ap (λ (ask : GroupAsk). new_ids_of_ask ask event.present a) asks in
-    by event earlier limit same (full limit a event.present) where
+    (by event earlier limit same (full limit a event.present), λ n is. subst (λ (ids : List Id). length ids ≤ n) (sym same) (limited-few (filter (λ y. is_below a y) event.present) limit n is)) where
       by : (event : GroupEvent) (earlier : List GroupEvent) (limit : Option ℕ) → new_ids_of_event event (cursor start earlier) ≡ new_ids limit (cursor start earlier) event.present
           → (limit ≡ Some (length (new_ids limit (cursor start earlier) event.present)))
           ⊎ ((x : Id) → has_id event.present x ≡ true → is_below (greatest (cursor start earlier) (new_ids limit (cursor start earlier) event.present)) x ≡ false)

@@ -30,12 +30,24 @@ take-few zero xs = omega arith
 take-few (suc n) [] = omega arith
 take-few (suc n) (x ∷ xs) = omega (arith, take-few n xs)
 
+pub limited-few : (xs : List Id) (limit : Option ℕ) (n : ℕ) → limit ≡ Some n → length (limited limit xs) ≤ n
+limited-few xs None n e = absurd (subst (λ (o : Option ℕ). is_none o) e tt) where
+  is_none : Option ℕ → Type 0
+  is_none None = Unit {0}
+  is_none (Some m) = ⊥
+limited-few xs (Some m) n e = subst (λ (k : ℕ). length (take m xs) ≤ k) (or_zero e) (take-few m xs) where
+  or_zero : Some m ≡ Some n → m ≡ n
+  or_zero f = ap (λ (o : Option ℕ). number o) f where
+    number : Option ℕ → ℕ
+    number None = 0
+    number (Some k) = k
+
 pub limited-first : (limit : Option ℕ) (xs : List Id) → Ascends xs → AreFirst (λ x. has_id xs x ≡ true) limit (limited limit xs)
 limited-first limit xs asc = record {
   ascend = ascends-limited limit xs asc;
   chosen = limited-has limit xs;
   in_full = full limit;
-  at_most = few limit;
+  at_most = limited-few xs limit;
 }
   where
     full : (limit : Option ℕ) (x : Id) → has_id xs x ≡ true → (has_id (limited limit xs) x ≡ true) ⊎ ((limit ≡ Some (length (limited limit xs))) × AllUpTo x (limited limit xs))
@@ -45,18 +57,6 @@ limited-first limit xs asc = record {
           → (has_id (take n xs) x ≡ true) ⊎ ((Some n ≡ Some (length (take n xs))) × AllUpTo x (take n xs))
       by (inl among) = inl among
       by (inr (full_is, above)) = inr (ap Some full_is, above)
-
-    few : (limit : Option ℕ) (n : ℕ) → limit ≡ Some n → length (limited limit xs) ≤ n
-    few None n e = absurd (subst (λ (o : Option ℕ). is_none o) e tt) where
-      is_none : Option ℕ → Type 0
-      is_none None = Unit {0}
-      is_none (Some m) = ⊥
-    few (Some m) n e = subst (λ (k : ℕ). length (take m xs) ≤ k) (or_zero e) (take-few m xs) where
-      or_zero : Some m ≡ Some n → m ≡ n
-      or_zero f = ap (λ (o : Option ℕ). number o) f where
-        number : Option ℕ → ℕ
-        number None = 0
-        number (Some k) = k
 
 -- the same of what is chosen alike
 pub first-as : (A B : Id → Type 0) (limit : Option ℕ) (ids : List Id) → ((x : Id) → A x → B x) → ((x : Id) → B x → A x) → AreFirst A limit ids → AreFirst B limit ids

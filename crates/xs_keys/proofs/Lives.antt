@@ -170,8 +170,8 @@ goes-on past now (PendingRows p) key group formed = stays (group_life past key g
 -- without a life that is open nothing is delivered
 pub closed : (past : History) (command : Command) (key group : List ℕ) → group_life past key group ≡ None → ids_delivered_by past command key group ≡ []
 closed past command key group e =
-    ap (λ life. cond (reads_new_entries command key && (is_same_name group (read_group_of command) && has_all_groups past command)) (delivered_in command (present_in (key_life past key)) life) []) e
-    ∙ by (reads_new_entries command key && (is_same_name group (read_group_of command) && has_all_groups past command))
+    ap (λ life. cond (reads_new_entries command key && (is_same_name group (read_group_of command) && has_all_groups (group_life past) command)) (delivered_in command (present_in (key_life past key)) life) []) e
+    ∙ by (reads_new_entries command key && (is_same_name group (read_group_of command) && has_all_groups (group_life past) command))
   where
     by : (t : Bool) → cond {A = List Id} t [] [] ≡ []
     by true = refl

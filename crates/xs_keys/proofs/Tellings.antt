@@ -224,7 +224,7 @@ scan-is c past now name group consumer rule start limit t = rw (t.changes_are, t
 
 -- what a read with `>` delivers in a group that is there
 new_ids-there : (c : Content) (past : History) (read : ReadGroupCommand) (name : List ℕ) (t : IsThere c past name read.group)
-    → has_all_groups past (ReadGroup read) ≡ true → reads_new_entries (ReadGroup read) name ≡ true
+    → has_all_groups (group_life past) (ReadGroup read) ≡ true → reads_new_entries (ReadGroup read) name ≡ true
     → ids_delivered_by past (ReadGroup read) name read.group ≡ new_ids read.limit (cursor t.life.start t.life.events) (ids_of (present_entries t.changes))
 new_ids-there c past read name t act new = rw (new, act, is_same_name-refl read.group, t.life_is, t.changes_are) refl
 
@@ -273,7 +273,7 @@ module _ (past : History) (key group : List ℕ) (life : GroupLife) (is : group_
 
 -- one read of those that are left: its key and its group are as they were before the event
 told-read : (c next : Content) (past : History) (read : ReadGroupCommand) (one : ReadOne) → IsThere c past one.key read.group → get next one.key ≡ get c one.key
-    → has_all_groups past (ReadGroup read) ≡ true → (is_new one.from ≡ true → reads_new_entries (ReadGroup read) one.key ≡ true)
+    → has_all_groups (group_life past) (ReadGroup read) ≡ true → (is_new one.from ≡ true → reads_new_entries (ReadGroup read) one.key ≡ true)
     → TellsRead past read one.key one.from
     (option_map_or (parts_of_read read one.key one.from (entries_in (get next one.key))) (group_in (get next one.key) read.group) [])
 told-read c next past read one t same act asks = by one.from asks where
@@ -295,7 +295,7 @@ told-read c next past read one t same act asks = by one.from asks where
       )
 
 -- the reads that are left
-told-reads : (c : Content) (past : History) (now : ℕ) (read : ReadGroupCommand) → IsContent c past → has_all_groups past (ReadGroup read) ≡ true
+told-reads : (c : Content) (past : History) (now : ℕ) (read : ReadGroupCommand) → IsContent c past → has_all_groups (group_life past) (ReadGroup read) ≡ true
     → (reads : List ReadOne) (next : Content) → IsDistinct bytes_eq (keys_of reads)
     → list_all (λ one. is_some (group_life past one.key read.group)) reads ≡ true
     → ((key : List ℕ) → list_any (λ one. is_same_name key one.key) reads ≡ true → get next key ≡ get c key)

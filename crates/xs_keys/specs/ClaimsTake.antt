@@ -3,13 +3,12 @@ use Rattle.std.specs.Prelude.{◌≡◌, ◌⊎◌, ℕ, ◌≤◌, ◌+◌, ◌
 use Rattle.std.specs.Prelude.{map, filter, length, is_some}
 use Rattle.xs_stream.specs.Id.{is_same_id}
 use Rattle.xs_group.specs.Verdict.{AreDistinct}
-use Rattle.xs_keys.specs.Terms.{option_map_or, Id, is_below, has_id, zero_id}
+use Rattle.xs_keys.specs.Terms.{option_map_or, Id, Rule, is_below, has_id, zero_id}
 use Rattle.xs_keys.specs.GroupAsk.{GroupAsk, claim, auto_claim, rule_of}
 use Rattle.xs_keys.specs.GroupEvent.{GroupEvent, claim_of_event, scan_end_of_event, rows}
-use Rattle.xs_keys.specs.Owner.{is_taken_by_claim}
-use Rattle.xs_keys.specs.Owner.{is_removed_by_claim, owner}
+use Rattle.xs_keys.specs.Owner.{is_taken_by_claim, is_removed_by_claim, owner}
 use Rattle.xs_keys.specs.TimesAndCounts.{time_of}
-use Rattle.xs_keys.specs.Event.{PendingEntries}
+use Rattle.xs_keys.specs.Event.{Bytes, PendingEntries}
 use Rattle.xs_keys.specs.AtEach.{AtEach}
 
 -- the least idle time that is asked for
@@ -58,6 +57,12 @@ MayStop event rows =
     (scan_limit event.ask ≤ length (claim_of_event event rows).take + length (claim_of_event event rows).removed)
     ⊎ (10 * scan_limit event.ask ≤ length (filter (λ x. is_scanned event rows x) (map (λ e. e.0) rows)))
 
+-- a scan takes and removes no more than its COUNT
+abbrev pub IsWithinCount : GroupEvent → PendingEntries → Type 0
+IsWithinCount event rows =
+    (consumer : Bytes) (rule : Rule) (start : Id) (limit : ℕ) → event.ask ≡ auto_claim consumer rule start limit
+    → length (claim_of_event event rows).take + length (claim_of_event event rows).removed ≤ limit
+
 -- the claim asks for the entry: an XCLAIM names it, or an XAUTOCLAIM scans it
 abbrev pub is_asked_for : GroupEvent → PendingEntries → Id → Bool
 is_asked_for event rows x = is_named_by event.ask x || is_scanned event rows x
@@ -76,11 +81,13 @@ pub record ClaimsWhatIsAsked (start : Id) (past : List GroupEvent) (event : Grou
       is_asked_for event (rows start past) x ≡ true → MayBeRemoved start past event x
       → is_removed_by_claim start past event x ≡ true
 
--- a claim takes and removes what it asks for, takes no entry twice, and scans to the end of the rows or at least as far
--- as it has to; where it stops is in `scan_of`
+-- a claim takes and removes what it asks for, each entry once; a scan takes and removes no more than its COUNT, and
+-- goes to the end of the rows or as far as it has to
 pub record ClaimIsExact (start : Id) (past : List GroupEvent) (event : GroupEvent) : Type 0 where
   pub as_asked : (x : Id) → ClaimsWhatIsAsked start past event x
-  pub each_once : AreDistinct (claim_of_event event (rows start past)).take
+  pub takes_once : AreDistinct (claim_of_event event (rows start past)).take
+  pub removes_once : AreDistinct (claim_of_event event (rows start past)).removed
+  pub at_most : IsWithinCount event (rows start past)
   pub far_enough : (scan_end_of_event event (rows start past) ≡ zero_id) ⊎ MayStop event (rows start past)
 
 -- each claim of a life is exact

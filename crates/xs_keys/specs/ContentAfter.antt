@@ -40,11 +40,11 @@ stream_after (trim_entries trim) stream = record stream { entries = trimmed trim
 abbrev pub key_after : StreamEvent → KeyState → KeyState
 key_after event key = record key { stream = stream_after event key.stream }
 
--- with the stream of a key after an event, if the key is there
+-- the content with the stream of a key after an event; as it was if there is no key
 abbrev pub after_stream_event : Content → Bytes → StreamEvent → Option KeyState → Content
 after_stream_event content name event key = option_map_or (λ k. insert content name (key_after event k)) key content
 
--- without these keys
+-- the content without these keys
 abbrev pub without_keys : List Bytes → Content → Content
 without_keys [] content = content
 without_keys (name ∷ names) content = without_keys names (remove content name)
@@ -66,14 +66,14 @@ group_after now present (auto_claim consumer rule start limit) group =
 abbrev pub with_group : KeyState → Bytes → GroupState → KeyState
 with_group key name group = record key { groups = insert key.groups name group }
 
--- with a group of a key after an ask, if both are there
+-- the content with a group of a key after an ask; as it was if one of them is missing
 abbrev pub after_ask : Content → ℕ → Bytes → Bytes → GroupAsk → Content
 after_ask content now name group_name ask =
     let with_asked : KeyState → GroupState → Content = λ key group.
     insert content name (with_group key group_name (group_after now (ids_of key.stream.entries) ask group)) in
     option_map_or (λ key. option_map_or (with_asked key) (get key.groups group_name) content) (get content name) content
 
--- with a new group of a key, unless it is there
+-- the content with a new group of a key; as it was if the group is there
 abbrev pub after_create : Content → GroupCreateCommand → Option KeyState → Content
 after_create content create None = content
 after_create content create (Some key) =
@@ -91,7 +91,7 @@ entries_in key = option_map_or (λ k. k.stream.entries) key []
 abbrev pub has_all_groups_in : Content → ReadGroupCommand → Bool
 has_all_groups_in content read = list_all (λ one. is_some (group_in (get content one.key) read.group)) read.reads
 
--- after the reads of a command, one after the other
+-- the content after the reads of a command, one after the other
 abbrev pub after_reads : Content → ℕ → ReadGroupCommand → List ReadOne → Content
 after_reads content now read [] = content
 after_reads content now read (one ∷ more) =

@@ -1,5 +1,5 @@
 -- Each delivery of new entries: in id order, each once, and in full. (Redis, XREADGROUP.)
-use Rattle.std.specs.Prelude.{◌≡◌, ℕ, Bool, true, false, ◌⊎◌, Option, Some, List, ◌∷◌, ◌++◌, length}
+use Rattle.std.specs.Prelude.{◌≡◌, ℕ, ◌≤◌, Bool, true, false, ◌⊎◌, Option, Some, List, ◌∷◌, ◌++◌, length}
 use Rattle.xs_keys.specs.Terms.{Id, is_below, has_id, Ascends, AllAbove}
 use Rattle.xs_keys.specs.GroupEvent.{GroupEvent, delivered_ids, new_ids_of_event, cursor, is_turn_of}
 use Rattle.xs_keys.specs.GroupAsk.{read_new}
@@ -16,13 +16,14 @@ pub record HadItsTurn (start : Id) (events : List GroupEvent) (x : Id) : Type 0 
   pub is_turn : is_turn_of start earlier event x ≡ true
   pub delivered_if_present : has_id (delivered_ids start events) x ≡ has_id event.present x
 
--- a read of new entries delivers as many as it asks for, or leaves no entry in the stream past the cursor; that it
--- never delivers more is in `new_ids`
+-- a read of new entries delivers as many as it asks for, or leaves no entry in the stream past the cursor; and never
+-- more than it asks for
 abbrev pub DeliversInFull : Id → List GroupEvent → Type 0
 DeliversInFull start events = AtEach events (λ earlier event.
     (consumer : Bytes) (limit : Option ℕ) (noack : Bool) → event.ask ≡ read_new consumer limit noack
-    → (limit ≡ Some (length (new_ids_of_event event (cursor start earlier))))
+    → ((limit ≡ Some (length (new_ids_of_event event (cursor start earlier))))
     ⊎ ((x : Id) → has_id event.present x ≡ true → is_below (cursor start (event ∷ earlier)) x ≡ false))
+    × ((n : ℕ) → limit ≡ Some n → length (new_ids_of_event event (cursor start earlier)) ≤ n))
 
 -- new deliveries: in id order and each once, past the start, exactly the entries in the stream at their turn, and as
 -- many as are asked for

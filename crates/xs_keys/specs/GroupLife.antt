@@ -87,12 +87,17 @@ abbrev pub read_group_of : Command → Bytes
 read_group_of (ReadGroup read) = read.group
 read_group_of _ = []
 
+-- each key and group that a command reads is there, by the open lives of groups; without one a read is refused whole
+abbrev pub has_all_groups : (Bytes → Bytes → Option GroupLife) → Command → Bool
+has_all_groups lives command =
+    list_all (λ one. is_some (lives one.key (read_group_of command))) (reads_of command)
+
 -- the open life of a group of a key, looking back over all events
 abbrev pub group_life : History → Bytes → Bytes → Option GroupLife
 group_life [] key group = None
 group_life (e ∷ past) key group =
     let command = event_command e in
-    let all_there = list_all (λ one. is_some (group_life past one.key (read_group_of command))) (reads_of command) in
+    let all_there = has_all_groups (λ k g. group_life past k g) command in
     group_life_after (event_moment e) command key group all_there (key_life past key) (group_life past key group)
 
 abbrev pub is_new : ReadFrom → Bool
@@ -103,11 +108,6 @@ is_new (After id) = false
 abbrev pub reads_new_entries : Command → Bytes → Bool
 reads_new_entries command key = list_any (λ one. is_same_name key one.key && is_new one.from) (reads_of command)
 
--- each key and group that a command reads is there; without one a read is refused as a whole
-abbrev pub has_all_groups : History → Command → Bool
-has_all_groups past command =
-    list_all (λ one. is_some (group_life past one.key (read_group_of command))) (reads_of command)
-
 abbrev pub read_limit_of : Command → Option ℕ
 read_limit_of (ReadGroup read) = read.limit
 read_limit_of _ = None
@@ -117,8 +117,9 @@ abbrev pub ids_delivered_by : History → Command → Bytes → Bytes → List I
 ids_delivered_by past command key group =
     let present = present_in (key_life past key) in
     let new : GroupLife → List Id = λ life. new_ids (read_limit_of command) (cursor life.start life.events) present in
-    if reads_new_entries command key && (is_same_name group (read_group_of command) && has_all_groups past command)
-    then option_map_or new (group_life past key group) [] else []
+    let reads = reads_new_entries command key && (is_same_name group (read_group_of command)
+    && has_all_groups (group_life past) command) in
+    if reads then option_map_or new (group_life past key group) [] else []
 
 -- the life of a group before and after an event that delivers these new ids: it continues, with just these ids more; or
 -- it begins, and nothing is delivered; or none is open after the event, and nothing is delivered

@@ -31,8 +31,8 @@ HasArrow command key group present x (pending consumer) settled =
     || (may_claim_entry command key group x && not (has_id present x)))) ≡ true
 HasArrow command key group present x _ _ = ⊥
 
--- and some have to: a deletion drops what waits; and an acknowledgement, the removal of its consumer, and a claim by
--- its id that finds it deleted settle what is pending
+-- some moves have to be made: a deletion drops what waits; and an acknowledgement, the deletion of its consumer, and a
+-- claim by its id that finds it deleted settle what is pending
 abbrev pub HasToMove : Command → Bytes → Bytes → List Id → Id → Place → Place → Type 0
 HasToMove command key group present x waiting there = deletes_entry command key x ≡ true → there ≡ dropped
 HasToMove command key group present x (pending consumer) there =

@@ -6,7 +6,7 @@ use Rattle.xs_keys.specs.Event.{Bytes}
 use Rattle.xs_keys.specs.GroupEvent.{GroupEvent, new_ids_of_event, claim_of_event, cursor, rows}
 use Rattle.xs_keys.specs.GroupAsk.{consumer_of, reads_without_noack, is_acknowledgement_of, deletes_consumer}
 
--- the event delivers it, and not with NOACK
+-- the event delivers the entry, and not with NOACK
 abbrev pub is_made_pending_by : Id → List GroupEvent → GroupEvent → Id → Bool
 is_made_pending_by start past event x =
     reads_without_noack event.ask && has_id (new_ids_of_event event (cursor start past)) x
@@ -15,7 +15,7 @@ is_made_pending_by start past event x =
 abbrev pub is_taken_by_claim : Id → List GroupEvent → GroupEvent → Id → Bool
 is_taken_by_claim start past event x = has_id (claim_of_event event (rows start past)).take x
 
--- it is delivered without NOACK, or taken by a claim
+-- the event delivers the entry without NOACK, or takes it by a claim
 abbrev pub is_assigned_by : Id → List GroupEvent → GroupEvent → Id → Bool
 is_assigned_by start past event x = is_made_pending_by start past event x || is_taken_by_claim start past event x
 

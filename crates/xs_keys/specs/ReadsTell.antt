@@ -20,7 +20,7 @@ TellsNew key added (x ∷ xs) told =
 abbrev pub owner_in : Option GroupLife → Id → Option Bytes
 owner_in life x = option_and_then (λ l. owner l.start l.events x) life
 
--- it is pending with the consumer in the group, and past the id
+-- the entry is pending with the consumer in the group, and above the id
 abbrev pub IsOwnPast : Option GroupLife → Bytes → Id → Id → Type 0
 IsOwnPast life consumer from x = (owner_in life x ≡ Some consumer) × (is_below from x ≡ true)
 

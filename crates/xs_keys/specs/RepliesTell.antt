@@ -73,7 +73,7 @@ pub record IsAskedRow (asked : PendingRowsCommand) (now : ℕ) (life : GroupLife
   pub long_enough : asked.min_idle ≤ now - time_of life.start life.events x
   pub named : (name : Bytes) → asked.consumer ≡ Some name → consumer ≡ name
 
--- its row: the id, its owner, for how long it has been idle, and how often it was delivered
+-- the row of an entry: the id, its owner, for how long it has been idle, and how often it was delivered
 abbrev pub TellsRow : ℕ → GroupLife → Id → Reply → Type 0
 TellsRow now life x answer =
     (consumer : Bytes) × (owner life.start life.events x ≡ Some consumer)
@@ -99,7 +99,7 @@ IsTold past now (Delete key ids) answer = TellsFewer (present_count key) past (n
 IsTold past now (TrimTo key trim) answer = TellsFewer (present_count key) past (now, TrimTo key trim) answer
 IsTold past now (Len key) answer = answer ≡ Int (present_count key past)
 IsTold past now (ReadGroup read) answer =
-    IfThere (has_all_groups past (ReadGroup read)) answer
+    IfThere (has_all_groups (group_life past) (ReadGroup read)) answer
     ((told : List Reply) × (answer ≡ array_or_null told) × TellsReads past read read.reads told)
 IsTold past now (Ack key group ids) answer = TellsFewer (pending_count key group) past (now, Ack key group ids) answer
 IsTold past now (Pending key group) answer =

@@ -1,5 +1,5 @@
--- How a reply tells of entries, and which ids are the first of some. (Redis, XRANGE, XREADGROUP and XCLAIM, "RESP2
--- Reply".)
+-- How a reply tells of entries, and what it is to be the first of some ids. (Redis, XRANGE, XREADGROUP and XCLAIM,
+-- "RESP2 Reply".)
 use Rattle.std.specs.Prelude.{◌≡◌, ◌⊎◌, ℕ, ◌≤◌, true, false, List, [], ◌∷◌, length, Option, Some}
 use Rattle.xs_keys.specs.Terms.{flat_map, Id, Field, has_id, fields_at, Ascends, AllUpTo, Reply, NullArray}
 use Rattle.xs_keys.specs.ReplyParts.{array, id_reply, field_replies}

@@ -14,11 +14,11 @@ abbrev pub own_ids_shown : GroupAsk → PendingEntries → List Id
 own_ids_shown (read_own consumer limit from) rows = own_ids consumer limit from rows
 own_ids_shown _ rows = []
 
--- the event delivers it once more to the consumer who has it: it is shown, and still in the stream
+-- the event delivers the entry once more to the consumer who has it: it is shown, and still in the stream
 abbrev pub is_redelivered_by : Id → List GroupEvent → GroupEvent → Id → Bool
 is_redelivered_by start past event x = has_id (own_ids_shown event.ask (rows start past)) x && has_id event.present x
 
--- it is delivered without NOACK, taken by a claim, or delivered once more
+-- the event delivers the entry without NOACK, takes it by a claim, or delivers it once more
 abbrev pub is_touched_by : Id → List GroupEvent → GroupEvent → Id → Bool
 is_touched_by start past event x = is_assigned_by start past event x || is_redelivered_by start past event x
 
