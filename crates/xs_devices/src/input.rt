@@ -1,9 +1,10 @@
 //! The bytes that were read and aren't used yet.
-ghost use Rattle.std.specs.Prelude.{◌≡◌, ◌≢◌, ◌+◌, ◌≤◌, ◌++◌, [], true, length, take, drop, IfOk, OnOk, OnErr, Err};
+ghost use Rattle.std.specs.Prelude.{◌≡◌, ◌+◌, ◌≤◌, ◌++◌, [], true, length, take, drop, IfOk, OnOk, OnErr};
 ghost use Rattle.std.specs.Io.KnownBytes.{Consumes, Keeps, IsAtEnd};
-ghost use Rattle.xs_devices.specs.Device.{capped, Gave};
+ghost use Rattle.xs_devices.specs.Device.{capped};
 
 use crate::device::{Failed, Source};
+use crate::fill::{Fill, FillFault};
 use std::alloc::{AllocError, Global};
 use std::marker::Model;
 
@@ -12,15 +13,6 @@ const PIECE: usize = 65_536;
 
 /// How many bytes of memory a buffer keeps that many bytes made large.
 const KEPT: usize = 262_144;
-
-/// Why nothing was read.
-#[derive(Clone, Copy, Debug, PartialEq, Eq)]
-pub enum FillFault {
-    /// Out of memory. The reader wasn't asked.
-    Memory,
-    /// The reader failed.
-    Read,
-}
 
 /// The bytes that were read and aren't used yet, in the buffer that they were read into. A contract sees them as a
 /// list.
@@ -43,8 +35,6 @@ impl Model for Input {
 }
 
 impl Input {
-    ghost use Rattle.xs_devices.specs.declared.input.FillFault.{FillFault};
-
     /// Nothing. It takes no memory.
     pub fn new(alloc: Global) -> Self
         ensures { result ≡ [] }
@@ -118,19 +108,13 @@ impl Input {
         self.start = 0;
         self.end = count;
     }
+}
 
-    /// Reads bytes into the buffer, behind those that are there, and says how many. No byte is copied but to make room.
-    ///
-    /// # Errors
-    /// The bytes are unchanged.
-    pub fn fill<R: Source>(&mut self, reader: &mut R) -> Result<usize, FillFault>
-        ensures ok { IfOk result (λ n. Gave (R.rest reader.old) (R.rest reader.new) (R.ended reader.new) n
-            (λ got. self.new ≡ self.old ++ got)) }
-        ensures err { OnErr result ((self.new ≡ self.old) × Keeps (R.rest reader.old) (R.rest reader.new)) }
-        ensures memory { result ≡ Err FillFault.Memory → reader.new ≡ reader.old }
-        ensures read { result ≡ Err FillFault.Read → R.broken reader.new ≡ true }
-        ensures counted { result ≢ Err FillFault.Memory → R.calls reader.new ≡ capped (R.calls reader.old + 1) }
-    {
+impl Fill for Input {
+    ghost with_bytes = { λ input bytes. input ++ bytes };
+
+    /// Reads bytes into the buffer. None is copied but to make room.
+    fn fill<R: Source>(&mut self, reader: &mut R) -> Result<usize, FillFault> {
         self.compact();
         let Ok(()) = make_room(&mut self.bytes, self.end) else {
             return Err(FillFault::Memory);

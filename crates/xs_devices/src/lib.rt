@@ -2,9 +2,11 @@
 #![tactic(auto)]
 
 pub mod device;
+pub mod fill;
 pub mod input;
 pub mod sending;
 
 pub use device::{Failed, FromRead, Sink, Source, ToWrite};
-pub use input::{FillFault, Input};
+pub use fill::{Fill, FillFault};
+pub use input::Input;
 pub use sending::write_all;

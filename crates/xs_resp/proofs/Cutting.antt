@@ -6,7 +6,7 @@ use Rattle.std.specs.List.{concat}
 use Rattle.xs_resp.specs.Outcome.{Outcome, Keeps}
 use Rattle.xs_resp.specs.Header.{header}
 use Rattle.xs_resp.specs.Reading.{Found, request}
-use Rattle.xs_resp.specs.HeldBytes.{Held, fed}
+use Rattle.xs_resp.specs.HeldBytes.{Held, with_piece}
 use Rattle.xs_resp.specs.Pieces.{Rests, Reads, ReadsHeld, ReadsPieces}
 use Rattle.xs_resp.proofs.Outcomes.{cases-outcome}
 use Rattle.xs_resp.proofs.Decisions.{request-keeps, request-read}
@@ -16,15 +16,15 @@ request-later : (bytes more : List ℕ) (found : Found) → request bytes ≡ Ok
 request-later bytes more found e = subst (λ o. Keeps o (request (bytes ++ more))) e (request-keeps bytes more)
 
 -- what rests, fed a piece
-rests-fed : (outcome : Outcome Found) (bytes piece : List ℕ) (old new : Held) (first : List (List (List ℕ))) → Keeps outcome (request (bytes ++ piece)) → Rests outcome bytes old → ReadsHeld (fed old piece) first new → Reads (bytes ++ piece) first new
+rests-fed : (outcome : Outcome Found) (bytes piece : List ℕ) (old new : Held) (first : List (List (List ℕ))) → Keeps outcome (request (bytes ++ piece)) → Rests outcome bytes old → ReadsHeld (with_piece old piece) first new → Reads (bytes ++ piece) first new
 rests-fed (Ok (Some found)) bytes piece old new first k r h = absurd r
-rests-fed (Ok None) bytes piece old new first k r h = subst (λ o. ReadsHeld (fed o piece) first new) r h
+rests-fed (Ok None) bytes piece old new first k r h = subst (λ o. ReadsHeld (with_piece o piece) first new) r h
 rests-fed (Err wrong) bytes piece old new first k r h =
-    let failed = subst (λ o. ReadsHeld (fed o piece) first new) r h in
+    let failed = subst (λ o. ReadsHeld (with_piece o piece) first new) r h in
     subst (λ ts. Reads (bytes ++ piece) ts new) (sym failed.0) (subst (λ o. Rests o (bytes ++ piece) new) (sym k) failed.1)
 
 -- requests before a piece and behind it
-reads-fed : (done : List (List (List ℕ))) (bytes piece : List ℕ) (old new : Held) (first : List (List (List ℕ))) → Reads bytes done old → ReadsHeld (fed old piece) first new → Reads (bytes ++ piece) (done ++ first) new
+reads-fed : (done : List (List (List ℕ))) (bytes piece : List ℕ) (old new : Held) (first : List (List (List ℕ))) → Reads bytes done old → ReadsHeld (with_piece old piece) first new → Reads (bytes ++ piece) (done ++ first) new
 reads-fed [] bytes piece old new first r h = rests-fed (request bytes) bytes piece old new first (request-keeps bytes piece) r h
 reads-fed (words ∷ done) bytes piece old new first r h =
     let found : Found = record { words = words; end = r.0 } in

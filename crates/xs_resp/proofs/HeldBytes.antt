@@ -8,7 +8,7 @@ use Rattle.xs_resp.specs.declared.requests.State.TheVariants.{Between, Within, F
 use Rattle.xs_resp.specs.Outcome.{Outcome}
 use Rattle.xs_resp.specs.Reading.{Found, request}
 use Rattle.xs_resp.specs.declared.read_fault.ReadFault.{ReadFault}
-use Rattle.xs_resp.specs.HeldBytes.{Held, fed, Ready, ReadyOf}
+use Rattle.xs_resp.specs.HeldBytes.{Held, with_piece, Ready, ReadyOf}
 use Rattle.xs_resp.specs.Progress.{IsProgressOf}
 use Rattle.xs_resp.specs.State.{held_in, IsState}
 use Rattle.xs_resp.specs.declared.progress.Progress.{Progress}

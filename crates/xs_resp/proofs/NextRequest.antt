@@ -10,7 +10,7 @@ use Rattle.xs_resp.specs.Grammar.{Spells, SpellsAll}
 use Rattle.xs_resp.specs.Outcome.{Outcome, Keeps}
 use Rattle.xs_resp.specs.ReadFaults.{read_fault_of}
 use Rattle.xs_resp.specs.Reading.{Found, request, words_in}
-use Rattle.xs_resp.specs.HeldBytes.{Held, HasNext, Next, NextOf, Ready, ReadyOf, Skips, fed, front_of, held_length}
+use Rattle.xs_resp.specs.HeldBytes.{Held, HasNext, Next, NextOf, Ready, ReadyOf, Skips, with_piece, front_of, held_length}
 use Rattle.xs_resp.proofs.Decisions.{request-read, request-keeps}
 use Rattle.xs_resp.proofs.Skipping.{skip-left}
 
@@ -111,7 +111,7 @@ pub ready-wrong : (old : Held) (bytes : List ℕ) (fault : ReadFault) (new : Hel
 ready-wrong old bytes fault new is ready = wrong-of bytes (request bytes) fault new refl (subst (λ h. Ready h (Err fault) new) is ready)
 
 -- a piece more
-pub fed-length : (old : Held) (got : List ℕ) → held_length (fed old got) ≤ held_length old + length got
+pub fed-length : (old : Held) (got : List ℕ) → held_length (with_piece old got) ≤ held_length old + length got
 fed-length (Ok bytes) got = omega (arith, length-append bytes got)
 fed-length (Err wrong) got = omega arith
 
@@ -147,19 +147,19 @@ took read front rest requests found is spelled next =
     }
 
 stays-of : (bytes more : List ℕ) (outcome : Outcome Found) (result : Result (Option (List (List ℕ))) ReadFault) (new : Held) → request bytes ≡ outcome → NextOf bytes outcome result new
-    → Keeps outcome (request (bytes ++ more)) → (result ≡ Ok None → ⊥) → Next (Ok (bytes ++ more)) result (fed new more)
+    → Keeps outcome (request (bytes ++ more)) → (result ≡ Ok None → ⊥) → Next (Ok (bytes ++ more)) result (with_piece new more)
 stays-of bytes more (Ok (Some found)) result new e (inl (is, left)) keeps some =
     let within = (request-read bytes found e).within in
-    subst (λ o. NextOf (bytes ++ more) o result (fed new more)) (sym keeps)
-    (inl (is, ap (λ h. fed h more) left ∙ ap Ok (sym (drop-append-le found.end bytes more within))))
+    subst (λ o. NextOf (bytes ++ more) o result (with_piece new more)) (sym keeps)
+    (inl (is, ap (λ h. with_piece h more) left ∙ ap Ok (sym (drop-append-le found.end bytes more within))))
 stays-of bytes more (Ok (Some found)) result new e (inr (is, left)) keeps some =
-    subst (λ o. NextOf (bytes ++ more) o result (fed new more)) (sym keeps) (inr (is, ap (λ h. fed h more) left))
+    subst (λ o. NextOf (bytes ++ more) o result (with_piece new more)) (sym keeps) (inr (is, ap (λ h. with_piece h more) left))
 stays-of bytes more (Ok None) result new e (is, left) keeps some = absurd (some is)
 stays-of bytes more (Err wrong) result new e (is, left) keeps some =
-    subst (λ o. NextOf (bytes ++ more) o result (fed new more)) (sym keeps) (is, ap (λ h. fed h more) left)
+    subst (λ o. NextOf (bytes ++ more) o result (with_piece new more)) (sym keeps) (is, ap (λ h. with_piece h more) left)
 
 -- what is answered but None is answered on every continuation
 pub next_stays : (old : Held) (result : Result (Option (List (List ℕ))) ReadFault) (new : Held) → Next old result new
-    → (more : List ℕ) → (result ≡ Ok None → ⊥) → Next (fed old more) result (fed new more)
+    → (more : List ℕ) → (result ≡ Ok None → ⊥) → Next (with_piece old more) result (with_piece new more)
 next_stays (Ok bytes) result new next more some = stays-of bytes more (request bytes) result new refl next (request-keeps bytes more) some
-next_stays (Err wrong) result new (is, left) more some = (is, ap (λ h. fed h more) left)
+next_stays (Err wrong) result new (is, left) more some = (is, ap (λ h. with_piece h more) left)

@@ -5,7 +5,7 @@ use Rattle.xs_resp.specs.declared.read_fault.ProtocolFault.TheVariants.{Length, 
 use Rattle.xs_resp.specs.declared.read_fault.ReadFault.TheVariants as fault
 use Rattle.xs_resp.specs.Outcome.{Outcome}
 use Rattle.xs_resp.specs.Reading.{Found, request}
-use Rattle.xs_resp.specs.HeldBytes.{fed, front_of, held_length, is_partial, HasNext, Next, Ready, Skips}
+use Rattle.xs_resp.specs.HeldBytes.{with_piece, front_of, held_length, is_partial, HasNext, Next, Ready, Skips}
 use Rattle.xs_resp.specs.Examples.{wire}
 
 -- these words, in so many bytes
@@ -70,8 +70,8 @@ pub record Faults : Type 0 where
   pub a_word_header_too_long : request (wire (codes "*1^$111111111111111111111111111111")) ≡ Err Limit
 
 pub record Reader : Type 0 where
-  pub a_piece_more : fed (Ok (codes "*1")) (codes "23") ≡ Ok (codes "*123")
-  pub a_failed_reader : fed (Err Limit) (codes "23") ≡ Err Limit
+  pub a_piece_more : with_piece (Ok (codes "*1")) (codes "23") ≡ Ok (codes "*123")
+  pub a_failed_reader : with_piece (Err Limit) (codes "23") ≡ Err Limit
   pub four_bytes : held_length (Ok (codes "PING")) ≡ 4
   pub none_of_a_failed_reader : held_length (Err Shape) ≡ 0
   pub partial : is_partial (Ok (codes "*")) ≡ true

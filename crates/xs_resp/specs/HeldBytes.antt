@@ -14,9 +14,9 @@ abbrev pub Held : Type 0
 Held = Result (List ℕ) ProtocolFault
 
 -- a piece more
-abbrev pub fed : Held → List ℕ → Held
-fed (Ok bytes) piece = Ok (bytes ++ piece)
-fed (Err wrong) piece = Err wrong
+abbrev pub with_piece : Held → List ℕ → Held
+with_piece (Ok bytes) piece = Ok (bytes ++ piece)
+with_piece (Err wrong) piece = Err wrong
 
 -- how many bytes are held
 abbrev pub held_length : Held → ℕ

@@ -2,7 +2,7 @@
 use Rattle.std.specs.Prelude.{◌≡◌, ℕ, List, [], ◌∷◌, ◌++◌, drop, Some, None, Ok, Err}
 use Rattle.xs_resp.specs.Outcome.{Outcome}
 use Rattle.xs_resp.specs.Reading.{Found, request}
-use Rattle.xs_resp.specs.HeldBytes.{Held, fed}
+use Rattle.xs_resp.specs.HeldBytes.{Held, with_piece}
 
 -- no request is whole: the bytes are held, or their fault
 abbrev pub Rests : Outcome Found → List ℕ → Held → Type 0
@@ -35,4 +35,4 @@ pub record Turn (old : Held) (requests : List (List (List ℕ))) (rest : List (L
 abbrev pub ReadsPieces : Held → List (List ℕ) → List (List (List ℕ)) → Held → Type 0
 ReadsPieces old [] requests held = (requests ≡ []) × (held ≡ old)
 ReadsPieces old (piece ∷ pieces) requests held =
-    Turn (fed old piece) requests (λ others between. ReadsPieces between pieces others held)
+    Turn (with_piece old piece) requests (λ others between. ReadsPieces between pieces others held)

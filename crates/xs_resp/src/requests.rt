@@ -7,7 +7,7 @@ use crate::word::rest_of;
 use std::alloc::{AllocError, Global};
 use std::marker::Model;
 use xs_bytes::{Bytes, List};
-use xs_devices::{FillFault, Input, Source};
+use xs_devices::{Fill, FillFault, Input, Source};
 
 /// Where a reader stands.
 #[derive(Clone, Copy, Debug, PartialEq, Eq)]
@@ -42,11 +42,8 @@ impl Model for Requests {
 }
 
 impl Requests {
-    ghost use Rattle.std.specs.Prelude.{◌≡◌, ◌≢◌, ◌+◌, ℕ, List, [], None, true, IfOk, OnErr, Ok, Err};
-    ghost use Rattle.std.specs.Io.KnownBytes.{Keeps};
-    ghost use Rattle.xs_devices.specs.declared.input.FillFault.{FillFault};
-    ghost use Rattle.xs_devices.specs.Device.{capped, Gave};
-    ghost use Rattle.xs_resp.specs.HeldBytes.{fed, front_of, is_partial, HasNext, Next, Ready, Skips};
+    ghost use Rattle.std.specs.Prelude.{◌≡◌, ◌≢◌, List, ℕ, [], None, IfOk, Ok};
+    ghost use Rattle.xs_resp.specs.HeldBytes.{with_piece, front_of, is_partial, HasNext, Next, Ready, Skips};
 
     /// A reader that holds nothing.
     pub fn new(alloc: Global) -> Self
@@ -76,21 +73,6 @@ impl Requests {
     {
         self.input.clear();
         self.state = State::Between;
-    }
-
-    /// Reads bytes into the buffer of requests, and says how many.
-    ///
-    /// # Errors
-    /// The reader of requests is unchanged.
-    pub fn fill<R: Source>(&mut self, reader: &mut R) -> Result<usize, FillFault>
-        ensures ok { IfOk result (λ n. Gave (R.rest reader.old) (R.rest reader.new) (R.ended reader.new) n
-            (λ got. self.new ≡ fed self.old got)) }
-        ensures err { OnErr result ((self.new ≡ self.old) × Keeps (R.rest reader.old) (R.rest reader.new)) }
-        ensures memory { result ≡ Err FillFault.Memory → reader.new ≡ reader.old }
-        ensures read { result ≡ Err FillFault.Read → R.broken reader.new ≡ true }
-        ensures counted { result ≢ Err FillFault.Memory → R.calls reader.new ≡ capped (R.calls reader.old + 1) }
-    {
-        self.input.fill(reader)
     }
 
     /// Whether a whole request stands at the front. It takes no memory.
@@ -151,7 +133,7 @@ impl Requests {
     #[tactic(auto, using(crate::proofs::NextRequest::next_stays))]
     pub fn next(&mut self) -> Result<Option<List<Bytes>>, ReadFault>
         ensures next { Next self.old result self.new }
-        ensures stays { (more : List ℕ) → result ≢ Ok None → Next (fed self.old more) result (fed self.new more) }
+        ensures stays { (more : List ℕ) → result ≢ Ok None → Next (with_piece self.old more) result (with_piece self.new more) }
     {
         if !self.has_next()? {
             return Ok(None);
@@ -171,5 +153,15 @@ impl Requests {
             State::Failed(_) => false,
             State::Between | State::Within(_) => !self.input.bytes().is_empty(),
         }
+    }
+}
+
+impl Fill for Requests {
+    ghost use Rattle.xs_resp.specs.HeldBytes.{with_piece};
+
+    ghost with_bytes = { with_piece };
+
+    fn fill<R: Source>(&mut self, reader: &mut R) -> Result<usize, FillFault> {
+        self.input.fill(reader)
     }
 }

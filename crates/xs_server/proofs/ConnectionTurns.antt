@@ -10,7 +10,7 @@ use Rattle.xs_resp.specs.declared.reply.Reply.TheVariants.{Simple, Error, Int, B
 use Rattle.xs_resp.specs.declared.fault.Fault.TheVariants.{Protocol}
 use Rattle.xs_resp.specs.declared.read_fault.ProtocolFault.{ProtocolFault}
 use Rattle.xs_resp.specs.ReplyText.{text}
-use Rattle.xs_resp.specs.HeldBytes.{Held, fed, held_length}
+use Rattle.xs_resp.specs.HeldBytes.{with_piece}
 use Rattle.xs_resp.specs.LeftToWrite.{bytes_left}
 use Rattle.xs_resp.specs.Grammar.{FaultIn, IsOpen}
 use Rattle.xs_command.specs.declared.command.Command.{Command}
@@ -72,16 +72,6 @@ some-text NullBulk = omega arith
 some-text (Array items) = omega arith
 some-text NullArray = omega arith
 
--- ---- what is held
-
-pub fed-none : (held : Held) → fed held [] ≡ held
-fed-none (Ok bytes) = ap Ok (append-nil bytes)
-fed-none (Err wrong) = refl
-
-pub fed-length : (held : Held) (got : List ℕ) → held_length (fed held got) ≤ held_length held + length got
-fed-length (Ok bytes) got = omega (arith, length-append bytes got)
-fed-length (Err wrong) got = omega arith
-
 -- ---- how a connection goes on
 
 module _ {P : Type 0} (Replies : P → Command → Reply → P → Type 0) where
@@ -109,7 +99,7 @@ module _ {P : Type 0} (Replies : P → Command → Reply → P → Type 0) where
   }
 
   -- more is read
-  pub stands-fed : (old new : P) (read sent got : List ℕ) (connection later : Connection) → ConnectionStands Replies old new read sent connection → later.requests ≡ fed connection.requests got
+  pub stands-fed : (old new : P) (read sent got : List ℕ) (connection later : Connection) → ConnectionStands Replies old new read sent connection → later.requests ≡ with_piece connection.requests got
       → bytes_left later.owed ≡ bytes_left connection.owed → later.replies ≡ connection.replies → ConnectionStands Replies old new (read ++ got) sent later
   stands-fed old new read sent got connection later s is same counted =
       let a = s.answered in
@@ -126,7 +116,7 @@ module _ {P : Type 0} (Replies : P → Command → Reply → P → Type 0) where
               spelled = a.spelled;
               run = a.run;
             };
-        holds = is ∙ ap (λ h. fed h got) s.holds;
+        holds = is ∙ ap (λ h. with_piece h got) s.holds;
         written = subst (λ (n : ℕ). WrittenTo s.exchanges s.part sent n) (sym counted) s.written;
         owes = subst (λ (o : List ℕ). Owes s.last s.part o) (sym same) s.owes;
       }

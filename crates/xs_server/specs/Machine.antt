@@ -1,5 +1,6 @@
 -- Machines with no IO of their own, as they are driven over a reader and a writer.
 use Rattle.std.specs.Prelude.{◌≡◌, ℕ, ◌+◌, ◌<◌, ◌⊎◌, Bool, true, List, ◌++◌, length, take, Option}
+use Rattle.std.specs.Borrow.{Lends, MutBor, Fml, RattleType}
 use Rattle.std.specs.Io.KnownBytes.{IsAtEnd}
 use Rattle.xs_server.specs.declared.machines.machine.Turn.{Turn}
 use Rattle.xs_server.specs.declared.machines.machine.Turn.TheVariants.{Ends}
@@ -37,3 +38,8 @@ abbrev pub EndsOncePaid :
 EndsOncePaid HasEnded breaks cause end first read sent owed service =
     HasEnded cause end first read (sent ++ owed) service
     × ((count : ℕ) → count < length owed → HasEnded writer (breaks count) first read (sent ++ take count owed) service)
+
+module _ (M I : RattleType) where
+  -- a machine lends its input: what that ends as is the machine's from then on
+  abbrev pub lends_input : (M.Denot → I.Denot → M.Denot) → MutBor M.Denot → MutBor I.Denot → Fml
+  lends_input with_input machine lent = Lends M I machine lent (with_input machine.now)

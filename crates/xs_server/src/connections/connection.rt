@@ -12,7 +12,6 @@ use crate::machines::machine::{Machine, Turn};
 use std::alloc::{AllocError, Global};
 use std::sync::Wait;
 use xs_desk::Port;
-use xs_devices::{FillFault, Source};
 use xs_resp::{Encoder, Fault, Reply, Requests};
 
 /// A connection: the bytes that came in and aren't taken yet, and the reply that it owes.
@@ -59,6 +58,8 @@ impl<P: Port, T: Wait> Machine<P, T> for Connection {
 
     type End = Result<Ending, ServeFault>;
 
+    type Input = Requests;
+
     /// Each reply is written whole before the next request is taken.
     const ENOUGH: usize = 1;
 
@@ -69,6 +70,8 @@ impl<P: Port, T: Wait> Machine<P, T> for Connection {
     ghost front = { λ connection. connection.owed.piece };
 
     ghost held = { λ connection. held_length connection.requests };
+
+    ghost with_input = { λ connection requests. record connection { requests = requests } };
 
     ghost is_waiting = { λ connection. (bytes_left connection.owed ≡ [])
         × ((bytes : List ℕ) → connection.requests ≡ Ok bytes → IsOpen bytes) };
@@ -110,8 +113,8 @@ impl<P: Port, T: Wait> Machine<P, T> for Connection {
         Turn::Goes
     }
 
-    fn fill<R: Source>(&mut self, reader: &mut R) -> Result<usize, FillFault> {
-        self.requests.fill(reader)
+    fn input(&mut self) -> &mut Requests {
+        &mut self.requests
     }
 
     fn end(&mut self, _port: &mut P) -> Result<Ending, ServeFault> {

@@ -1,13 +1,12 @@
 //! The bytes of a script that came in and aren't taken yet.
-ghost use Rattle.std.specs.Prelude.{◌≡◌, ◌≢◌, ◌+◌, ◌<◌, ◌≤◌, ◌++◌, ◌∷◌, [], true, false, length, take, drop};
-ghost use Rattle.std.specs.Prelude.{IfOk, OnErr, MatchOption, Err};
+ghost use Rattle.std.specs.Prelude.{◌≡◌, ◌+◌, ◌<◌, ◌≤◌, ◌++◌, ◌∷◌, [], false, length, take, drop, MatchOption};
 ghost use Rattle.std.specs.List.{list_any};
 ghost use Rattle.xs_server.specs.Line.{is_line_end};
 
 use memchr::memchr;
 use std::alloc::Global;
 use std::marker::Model;
-use xs_devices::{FillFault, Input, Source};
+use xs_devices::{Fill, FillFault, Input, Source};
 
 /// Bytes that came in and aren't taken yet. A contract sees them as a list.
 #[derive(Drop)]
@@ -39,10 +38,6 @@ fn first_line_end(bytes: &[u8]) -> Option<usize>
 }
 
 impl HeldBytes {
-    ghost use Rattle.std.specs.Io.KnownBytes.{Keeps};
-    ghost use Rattle.xs_devices.specs.declared.input.FillFault.{FillFault};
-    ghost use Rattle.xs_devices.specs.Device.{capped, Gave};
-
     /// Nothing. It takes no memory.
     pub fn new(alloc: Global) -> Self
         ensures { result ≡ [] }
@@ -77,21 +72,6 @@ impl HeldBytes {
         }
     }
 
-    /// Reads bytes in, and says how many.
-    ///
-    /// # Errors
-    /// The bytes are unchanged.
-    pub fn fill<R: Source>(&mut self, reader: &mut R) -> Result<usize, FillFault>
-        ensures ok { IfOk result (λ n. Gave (R.rest reader.old) (R.rest reader.new) (R.ended reader.new) n
-            (λ got. self.new ≡ self.old ++ got)) }
-        ensures err { OnErr result ((self.new ≡ self.old) × Keeps (R.rest reader.old) (R.rest reader.new)) }
-        ensures memory { result ≡ Err FillFault.Memory → reader.new ≡ reader.old }
-        ensures read { result ≡ Err FillFault.Read → R.broken reader.new ≡ true }
-        ensures counted { result ≢ Err FillFault.Memory → R.calls reader.new ≡ capped (R.calls reader.old + 1) }
-    {
-        self.input.fill(reader)
-    }
-
     /// Uses up the first bytes.
     pub fn consume(&mut self, count: usize)
         requires { count ≤ length self.old }
@@ -99,5 +79,13 @@ impl HeldBytes {
     {
         self.input.consume(count);
         self.searched = 0;
+    }
+}
+
+impl Fill for HeldBytes {
+    ghost with_bytes = { λ held bytes. held ++ bytes };
+
+    fn fill<R: Source>(&mut self, reader: &mut R) -> Result<usize, FillFault> {
+        self.input.fill(reader)
     }
 }

@@ -6,7 +6,7 @@ ghost use Rattle.xs_devices.specs.Device.{capped};
 ghost use Rattle.xs_server.specs.Machine.{Cause, HasCause, EndsOncePaid, reads_limit};
 
 use crate::machines::machine::{Machine, Turn};
-use xs_devices::{FillFault, Sink, Source, write_all};
+use xs_devices::{Fill, FillFault, Sink, Source, write_all};
 
 /// How often a reader is asked.
 const READS: u64 = 1_000_000_000_000;
@@ -39,7 +39,7 @@ fn come<S, T, M: Machine<S, T>, R: Source>(
     if *left == 0 {
         return Err(machine.read_error());
     }
-    let count = match machine.fill(reader) {
+    let count = match machine.input().fill(reader) {
         Ok(count) => count,
         Err(FillFault::Memory) => return Err(machine.memory_error()),
         Err(FillFault::Read) => {

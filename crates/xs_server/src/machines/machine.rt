@@ -1,5 +1,5 @@
 //! What is driven over a reader and a writer.
-use xs_devices::{FillFault, Source};
+use xs_devices::Fill;
 
 /// What a turn of a machine comes to.
 #[derive(Clone, Copy, Debug, PartialEq, Eq)]
@@ -12,20 +12,20 @@ pub enum Turn<E> {
     Ends(E),
 }
 
-/// A machine: bytes are read into it, each of its turns may ask a service of type `S`, and it owes bytes, which are
-/// paid piece by piece. What its turns need to wait, if they may, is of type `T`. A machine that has ended owes its
+/// A machine with no IO: it lends what bytes are read into, each of its turns may ask a service of type `S`, and it owes
+/// bytes, which are paid piece by piece. What its turns need to wait, if they may, is of type `T`. A machine that has ended owes its
 /// last bytes, and has no further turn.
 pub trait Machine<S, T> {
-    ghost use Rattle.std.specs.Prelude.{◌≡◌, ◌≢◌, ◌+◌, ◌<◌, ◌≤◌, ◌++◌, [], ℕ, List, Err, true, length, take};
-    ghost use Rattle.std.specs.Prelude.{IfOk, OnErr};
-    ghost use Rattle.std.specs.Io.KnownBytes.{Keeps};
-    ghost use Rattle.xs_devices.specs.declared.input.FillFault.{FillFault};
-    ghost use Rattle.xs_devices.specs.Device.{capped, Gave};
-    ghost use Rattle.xs_server.specs.Machine.{Cause, EndsOncePaid, AfterTurn};
+    ghost use Rattle.std.specs.Prelude.{◌≡◌, ◌+◌, ◌<◌, ◌≤◌, ◌++◌, [], ℕ, List, length, take};
+    ghost use Rattle.std.specs.Borrow.{sem};
+    ghost use Rattle.xs_server.specs.Machine.{Cause, EndsOncePaid, AfterTurn, lends_input};
     ghost use Rattle.xs_server.specs.declared.machines.machine.Turn.TheVariants.{Goes, Waits};
 
     /// How it ends.
     type End: Drop;
+
+    /// What bytes are read into.
+    type Input: Fill;
 
     /// It is paid once it owes so many bytes.
     const ENOUGH: usize;
@@ -40,6 +40,9 @@ pub trait Machine<S, T> {
 
     /// How many bytes it holds that it hasn't used.
     ghost held: { Self → ℕ };
+
+    /// The same, but for what bytes are read into.
+    ghost with_input: { Self → Self.Input → Self };
 
     /// Nothing that it holds is whole.
     ghost is_waiting: { Self → Type 0 };
@@ -64,18 +67,16 @@ pub trait Machine<S, T> {
         ensures less { result ≡ Goes → held self.new < held self.old }
         ensures same { held self.new ≤ held self.old };
 
-    /// Reads bytes in, and says how many.
-    fn fill<R: Source>(&mut self, reader: &mut R) -> Result<usize, FillFault>
+    /// Lends what bytes are read into, a piece of at most 64 KiB.
+    fn input(&mut self) -> &mut Self::Input
         requires { is_waiting self.old }
-        ensures ok { IfOk result (λ n. Gave (R.rest reader.old) (R.rest reader.new) (R.ended reader.new) n
-            (λ got. (first service : S) (read sent : List ℕ) → stands first read sent self.old service →
-            stands first (read ++ got) sent self.new service)) }
-        ensures none { IfOk result (λ n. n ≡ 0 → is_waiting self.new) }
-        ensures err { OnErr result ((self.new ≡ self.old) × Keeps (R.rest reader.old) (R.rest reader.new)) }
-        ensures memory { result ≡ Err FillFault.Memory → reader.new ≡ reader.old }
-        ensures read { result ≡ Err FillFault.Read → R.broken reader.new ≡ true }
-        ensures counted { result ≢ Err FillFault.Memory → R.calls reader.new ≡ capped (R.calls reader.old + 1) }
-        ensures held { IfOk result (λ n. held self.new ≤ held self.old + n) };
+        ensures* lends { sem 𝓛 (lends_input Self.row Self.Input.row with_input self.entry result) }
+        ensures same { with_input self.old result.now ≡ self.old }
+        ensures stands { (got : List ℕ) → length got ≤ 65536 → (first service : S) (read sent : List ℕ) →
+            stands first read sent self.old service →
+            stands first (read ++ got) sent (with_input self.old (Self.Input.with_bytes result.now got)) service }
+        ensures held { (got : List ℕ) → held (with_input self.old (Self.Input.with_bytes result.now got))
+            ≤ held self.old + length got };
 
     /// Ends, since the input has ended.
     fn end(&mut self, service: &mut S) -> Self::End

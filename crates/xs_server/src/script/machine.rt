@@ -10,7 +10,6 @@ use crate::machines::machine::{Machine, Turn};
 use crate::script::fault::ScriptFault;
 use crate::script::serving::{LineFault, serve_line};
 use std::alloc::Global;
-use xs_devices::{FillFault, Source};
 use xs_keys::Keyspace;
 
 /// The most bytes of a line, without its LF.
@@ -75,6 +74,8 @@ impl Machine<Keyspace, ()> for Script {
 
     type End = Result<u64, ScriptFault>;
 
+    type Input = HeldBytes;
+
     /// Replies are held up to so many bytes.
     const ENOUGH: usize = 65_536;
 
@@ -85,6 +86,8 @@ impl Machine<Keyspace, ()> for Script {
     ghost front = { λ script. script.owed.items };
 
     ghost held = { λ script. length script.held };
+
+    ghost with_input = { λ script held. record script { held = held } };
 
     ghost is_waiting = { λ script. (list_any is_line_end script.held ≡ false) × (length script.held ≤ line_limit) };
 
@@ -115,8 +118,8 @@ impl Machine<Keyspace, ()> for Script {
         Turn::Goes
     }
 
-    fn fill<R: Source>(&mut self, reader: &mut R) -> Result<usize, FillFault> {
-        self.held.fill(reader)
+    fn input(&mut self) -> &mut HeldBytes {
+        &mut self.held
     }
 
     fn end(&mut self, keyspace: &mut Keyspace) -> Result<u64, ScriptFault> {

@@ -1,4 +1,4 @@
-use Rattle.std.proofs.Common.{◌++◌, [], Err, inl, inr, sym, ap, subst, arith}
+use Rattle.std.proofs.Common.{◌++◌, [], Err, inl, inr, sym, ap, ◌∙◌, subst, arith}
 use Rattle.std.proofs.lemmas.List.{append-nil}
 use Rattle.std.proofs.KnownBytes.{Consumes-nil, Consumes-kept}
 use Rattle.xs_server.specs.Machine.{itself, input, reader}
@@ -24,8 +24,8 @@ pub returns-in-Err-Memory-clause-comes : goal.returns-in-Err-Memory-clause-comes
 returns-in-Err-Memory-clause-comes g c = λ first read sent stands.
     let t = c.in-Waits.ensures.turns first read sent stands in
     let err = c.in-Err-Memory.ensures.err in
-    let same = subst (λ m. g.M.Machine.stands first read sent m c.advance.new.service) (sym err.0) t in
-    let e = c.memory_error.ensures first c.advance.new.service read sent same in
+    let same = ap (g.M.Machine.with_input c.advance.new.self) err.0 ∙ c.input.ensures.same in
+    let e = c.memory_error.ensures first c.advance.new.service read sent (subst (λ m. g.M.Machine.stands first read sent m c.advance.new.service) (sym same) t) in
     ([], Consumes-kept _ _ _ [] (Consumes-nil _) err.1, (itself, rw (append-nil read) e, λ before broken counted. tt))
 
 pub returns-in-Err-Read-clause-comes : goal.returns-in-Err-Read-clause-comes
@@ -33,19 +33,21 @@ returns-in-Err-Read-clause-comes g c = λ first read sent stands.
     let t = c.in-Waits.ensures.turns first read sent stands in
     let err = c.in-Err-Read.ensures.err in
     let broken = c.in-Err-Read.ensures.read (ap Err c.in-Err-Read.field-0-is) in
-    let same = subst (λ m. g.M.Machine.stands first read sent m c.advance.new.service) (sym err.0) t in
-    let e = c.read_error-in-Err-Read.ensures first c.advance.new.service read sent same in
+    let same = ap (g.M.Machine.with_input c.advance.new.self) err.0 ∙ c.input.ensures.same in
+    let e = c.read_error-in-Err-Read.ensures first c.advance.new.service read sent (subst (λ m. g.M.Machine.stands first read sent m c.advance.new.service) (sym same) t) in
     ([], Consumes-kept _ _ _ [] (Consumes-nil _) err.1, (reader, rw (append-nil read) e, λ before broken' counted. inl broken))
 
 pub returns-then-count-eq0-clause-comes : goal.returns-then-count-eq0-clause-comes
 returns-then-count-eq0-clause-comes g c = λ first read sent stands.
     let t = c.in-Waits.ensures.turns first read sent stands in
-    let (got, size, small, came, end, holds) = c.in-Ok.ensures.ok in
-    let e = c.end.ensures first (read ++ got) sent (holds first c.advance.new.service read sent t) in
+    let (got, size, small, came, end, is) = c.in-Ok.ensures.ok in
+    let more = c.input.ensures.stands got (omega (arith, size, small)) first c.advance.new.service read sent t in
+    let e = c.end.ensures first (read ++ got) sent (subst (λ input. g.M.Machine.stands first (read ++ got) sent (g.M.Machine.with_input c.advance.new.self input) c.advance.new.service) (sym is) more) in
     (got, came, (input, e, λ before broken counted. end c.if-count-eq0.true))
 
 pub returns-clause-comes : goal.returns-clause-comes
 returns-clause-comes g c = λ first read sent stands.
     let t = c.in-Waits.ensures.turns first read sent stands in
-    let (got, size, small, came, end, holds) = c.in-Ok.ensures.ok in
-    (got, came, holds first c.advance.new.service read sent t)
+    let (got, size, small, came, end, is) = c.in-Ok.ensures.ok in
+    let more = c.input.ensures.stands got (omega (arith, size, small)) first c.advance.new.service read sent t in
+    (got, came, subst (λ input. g.M.Machine.stands first (read ++ got) sent (g.M.Machine.with_input c.advance.new.self input) c.advance.new.service) (sym is) more)

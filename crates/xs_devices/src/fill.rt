@@ -1,0 +1,35 @@
+//! What bytes are read into.
+use crate::device::Source;
+
+/// Why nothing was read.
+#[derive(Clone, Copy, Debug, PartialEq, Eq)]
+pub enum FillFault {
+    /// Out of memory. The reader wasn't asked.
+    Memory,
+    /// The reader failed.
+    Read,
+}
+
+/// What bytes are read into, behind those that it has.
+pub trait Fill {
+    ghost use Rattle.std.specs.Prelude.{◌≡◌, ◌≢◌, ◌+◌, ℕ, List, true, IfOk, OnErr, Ok, Err};
+    ghost use Rattle.std.specs.Io.KnownBytes.{Keeps};
+    ghost use Rattle.xs_devices.specs.declared.fill.FillFault.{FillFault};
+    ghost use Rattle.xs_devices.specs.Device.{capped, Gave};
+
+    /// The same, with these bytes behind its own.
+    ghost with_bytes: { Self → List ℕ → Self };
+
+    /// Reads bytes in, and says how many: none at the end alone.
+    ///
+    /// # Errors
+    /// It is unchanged.
+    fn fill<R: Source>(&mut self, reader: &mut R) -> Result<usize, FillFault>
+        ensures ok { IfOk result (λ n. Gave (R.rest reader.old) (R.rest reader.new) (R.ended reader.new) n
+            (λ got. self.new ≡ with_bytes self.old got)) }
+        ensures none { result ≡ Ok 0 → self.new ≡ self.old }
+        ensures err { OnErr result ((self.new ≡ self.old) × Keeps (R.rest reader.old) (R.rest reader.new)) }
+        ensures memory { result ≡ Err FillFault.Memory → reader.new ≡ reader.old }
+        ensures read { result ≡ Err FillFault.Read → R.broken reader.new ≡ true }
+        ensures counted { result ≢ Err FillFault.Memory → R.calls reader.new ≡ capped (R.calls reader.old + 1) };
+}
