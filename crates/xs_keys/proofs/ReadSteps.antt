@@ -8,7 +8,7 @@ use Rattle.xs_group.specs.declared.delivery.Delivery.{Delivery}
 use Rattle.xs_group.specs.GroupState.{GroupState, Rows, is_same_name, new_ids}
 use Rattle.xs_group.specs.Deliveries.{row_ids, new_rows, shown_rows, IsMade}
 use Rattle.xs_keys.specs.Terms.{flat_map, list_all, option_map_or, NameMap, get, insert, Id, Field, ids_of}
-use Rattle.xs_keys.specs.Terms.{ReadGroupCommand, ReadOne, ReadFrom, New, After}
+use Rattle.xs_keys.specs.Terms.{Reply, ReadGroupCommand, ReadOne, ReadFrom, New, After}
 use Rattle.xs_keys.specs.declared.xreadgroup.Served.{Served}
 use Rattle.xs_keys.specs.GroupAsk.{GroupAsk}
 use Rattle.xs_keys.specs.GroupLife.{ask_of_read}
@@ -19,7 +19,7 @@ use Rattle.xs_resp.specs.Token.{Token}
 use Rattle.xs_resp.specs.ReplyItems.{tokens_of}
 use Rattle.xs_keys.specs.Reply.{parts_of_read, parts}
 use Rattle.xs_keys.specs.ReplyParts.{new_part}
-use Rattle.xs_keys.specs.Reading.{parts_of_one, IsServedRead, IsServedAt, IsMadeAt, AreMade}
+use Rattle.xs_keys.specs.Reading.{ids_shown, part_of, parts_of_one, IsShown, IsServedAt, IsMadeAt, AreMade}
 use Rattle.xs_keys.proofs.NameMaps.{get-insert, is_same_name-eq, is_same_name-refl, same_map}
 
 pub ids-new : (ids : List Id) → row_ids (new_rows ids) ≡ ids
@@ -48,15 +48,26 @@ asked-at content now name group_name ask key was had has = rw (had, has) refl
 
 -- ---- one read
 
+parts-shown : (read : ReadGroupCommand) (key : List ℕ) (from : ReadFrom) (entries : List (Id × List Field)) (group : GroupState)
+    → part_of from key entries (ids_shown read from (ids_of entries) group) ≡ parts_of_read read key from entries group
+parts-shown read key New entries group = refl
+parts-shown read key (After id) entries group = refl
+
 -- a read of a group that is there is one among the keys
-pub served-at : (now : ℕ) (read : ReadGroupCommand) (one : ReadOne) (before : Content) (key : KeyState) (was is : GroupState) (tokens longer : List Token) (served : Served)
-    → get before one.key ≡ Some key → get key.groups read.group ≡ Some was → IsServedRead key.stream.entries now read one was is tokens longer served
+pub served-at : (now : ℕ) (read : ReadGroupCommand) (one : ReadOne) (before : Content) (key : KeyState) (was is : GroupState) (tokens longer : List Token) (ids : List Id) (served : Served)
+    → get before one.key ≡ Some key → get key.groups read.group ≡ Some was
+    → is ≡ group_after now (ids_of key.stream.entries) (ask_of_read read one.from) was
+    → ids ≡ ids_shown read one.from (ids_of key.stream.entries) was → IsShown (part_of one.from one.key key.stream.entries ids) served.parts tokens longer
+    → IsMade was is served.delivery
     → IsServedAt now read one before (insert before one.key (with_group key read.group is)) tokens longer served
-served-at now read one before key was is tokens longer served had has s = record {
-  left = ap (λ (g : GroupState). insert before one.key (with_group key read.group g)) s.left ∙ sym (asked-at before now one.key read.group (ask_of_read read one.from) key was had has);
-  shows = rw (had, has) s.shows;
-  made = record { key = key; was = was; is = is; had = had; has = has; put = refl; made = s.made };
-}
+served-at now read one before key was is tokens longer ids served had has left ids-are shows made =
+    let entries = key.stream.entries in
+    let parts-are = ap (part_of one.from one.key entries) ids-are ∙ parts-shown read one.key one.from entries was in
+    record {
+      left = ap (λ (g : GroupState). insert before one.key (with_group key read.group g)) left ∙ sym (asked-at before now one.key read.group (ask_of_read read one.from) key was had has);
+      shows = rw (had, has) (subst (λ (p : List Reply). IsShown p served.parts tokens longer) parts-are shows);
+      made = record { key = key; was = was; is = is; had = had; has = has; put = refl; made = made };
+    }
 
 -- ---- what is there stays there
 

@@ -37,14 +37,6 @@ parts_of_one content read one =
     let key = get content one.key in
     option_map_or (parts_of_read read one.key one.from (entries_in key)) (group_in key read.group) []
 
--- a read of a group was served: what it left, what it shows, and what takes it back
-pub record IsServedRead
-    (entries : Entries) (now : ℕ) (read : ReadGroupCommand) (one : ReadOne) (before after : GroupState)
-    (tokens longer : List Token) (served : Served) : Type 0 where
-  pub left : after ≡ group_after now (ids_of entries) (ask_of_read read one.from) before
-  pub shows : IsShown (parts_of_read read one.key one.from entries before) served.parts tokens longer
-  pub made : IsMade before after served.delivery
-
 -- a read of a group of one of these keys made the ones of the others, and answered this delivery
 pub record IsMadeAt (group_name key_name : Bytes) (before after : Content) (delivery : Delivery) : Type 0 where
   pub key : KeyState
@@ -55,7 +47,7 @@ pub record IsMadeAt (group_name key_name : Bytes) (before after : Content) (deli
   pub put : after ≡ insert before key_name (with_group key group_name is)
   pub made : IsMade was is delivery
 
--- a read of a group of these keys was served
+-- a read of a group of these keys was served: what it left, what it shows, and what takes it back
 pub record IsServedAt
     (now : ℕ) (read : ReadGroupCommand) (one : ReadOne) (before after : Content) (tokens longer : List Token)
     (served : Served) : Type 0 where

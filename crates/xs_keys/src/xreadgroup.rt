@@ -10,7 +10,7 @@ ghost use Rattle.xs_keys.specs.ContentAfter.{group_after, group_in, has_all_grou
 ghost use Rattle.xs_resp.specs.ReplyItems.{tokens_of};
 ghost use Rattle.xs_keys.specs.ReplyParts.{array_or_null, entry_reply, stream_part};
 ghost use Rattle.xs_keys.specs.Reply.{parts};
-ghost use Rattle.xs_keys.specs.Reading.{ids_shown, part_of, IsShown, IsServedRead, IsServedAt, IsMadeAt, AreMade};
+ghost use Rattle.xs_keys.specs.Reading.{ids_shown, part_of, IsShown, IsServedAt, IsMadeAt, AreMade};
 ghost use Rattle.xs_keys.specs.Step.{Step};
 
 use crate::keys::{Keys, group_at};
@@ -113,38 +113,8 @@ fn push_part(
     Ok(1)
 }
 
-/// Serves one read, and appends its part of the reply. Where there is no memory for that, the read is taken back.
-fn serve(
-    group: &mut Group,
-    alloc: Global,
-    stream: &Stream,
-    now: Moment,
-    read: &ReadGroupCommand,
-    one: &ReadOne,
-    tokens: &mut Tokens,
-) -> Result<Served, AllocError>
-    ensures ok { IfOk result
-        (IsServedRead stream.now.entries now read.now one.now group.old group.new tokens.old tokens.new) }
-    ensures err { OnErr result (group.new ≡ group.old) }
-{
-    let delivery = read_group(group, alloc, stream, now, read, one.from)?;
-    match push_part(
-        tokens,
-        alloc,
-        stream,
-        &one.key,
-        one.from,
-        delivery.rows.as_slice(),
-    ) {
-        Ok(parts) => Ok(Served { delivery, parts }),
-        Err(error) => {
-            group.undo(delivery);
-            Err(error)
-        }
-    }
-}
-
-/// Serves one read among the keys.
+/// Serves one read among the keys, and appends its part of the reply. If there is no memory for that, the read is taken
+/// back.
 fn serve_at(
     keys: &mut Keys,
     alloc: Global,
@@ -163,7 +133,15 @@ fn serve_at(
     let Some(group) = slot.groups.get_mut(&read.group) else {
         unreachable!();
     };
-    serve(group, alloc, &slot.stream, now, read, one, tokens)
+    let delivery = read_group(group, alloc, &slot.stream, now, read, one.from)?;
+    let rows = delivery.rows.as_slice();
+    match push_part(tokens, alloc, &slot.stream, &one.key, one.from, rows) {
+        Ok(parts) => Ok(Served { delivery, parts }),
+        Err(error) => {
+            group.undo(delivery);
+            Err(error)
+        }
+    }
 }
 
 /// Takes a read of a group of one of these keys back, where it was the last one.
