@@ -8,6 +8,9 @@ use crate::fill::{Fill, FillFault};
 use std::alloc::{AllocError, Global};
 use std::marker::Model;
 
+#[cfg(test)]
+mod tests;
+
 /// The most bytes of one read.
 const PIECE: usize = 65_536;
 
