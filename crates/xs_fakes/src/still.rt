@@ -1,4 +1,6 @@
 //! A clock that stands still.
+ghost use Rattle.std.specs.Prelude.{◌≡◌};
+
 use xs_keys::Clock;
 use xs_stream::Moment;
 
@@ -18,7 +20,7 @@ impl Still {
 }
 
 impl Clock for Still {
-    ghost gives = { λ old now new. Unit {0} };
+    ghost gives = { λ old now new. (now ≡ old.moment) × (new ≡ old) };
 
     fn now(&mut self) -> Moment {
         self.moment
