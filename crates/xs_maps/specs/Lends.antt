@@ -25,7 +25,8 @@ module _ (K V : RattleType) (o : OrdMembers K.Denot) where
   -- the entries have the last value written through r at the key, and stay as they are if r is `None`
   abbrev pub lends_in_few : MutBor (Few K.Denot V.Denot) → K.Denot → Option (MutBor V.Denot) → Fml
   lends_in_few f key r =
-      LendsSo (few.the_row K V) V f r (λ n w. WritesThrough o.cmp (o.cmp key) (seen_few f.now) w (seen_few n)) (λ n. n ≡ f.now)
+      LendsSo (few.the_row K V) V f r (λ n w. WritesThrough o.cmp (o.cmp key) (seen_few f.now) w (seen_few n))
+      (λ n. n ≡ f.now)
 
   -- the same of what the entries are seen as
   abbrev pub lends_in_form : MutBor (Form K.Denot V.Denot) → K.Denot → Option (MutBor V.Denot) → Fml

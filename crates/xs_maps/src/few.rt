@@ -189,7 +189,8 @@ pub(crate) fn part<'a, K: Ord, V>(
     start: Bound<&K>,
     end: Bound<&K>,
 ) -> &'a [(K, V)]
-    ensures { result.now ≡ span K.cmp (bound_map (λ x. x.now) start.entry) (bound_map (λ x. x.now) end.entry) entries.now }
+    ensures { result.now
+        ≡ span K.cmp (bound_map (λ x. x.now) start.entry) (bound_map (λ x. x.now) end.entry) entries.now }
 {
     from_start(up_to_end(entries, end), start)
 }

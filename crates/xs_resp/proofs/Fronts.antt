@@ -1,6 +1,6 @@
 -- The words of a whole request, one after the other.
-use Rattle.std.proofs.Common.{◌≡◌, ℕ, ◌+◌, ◌-◌, ◌<◌, suc, List, [], ◌∷◌, ◌++◌, length, drop, Some, None, Ok, Err, refl}
-use Rattle.std.proofs.Common.{sym, ap, ◌∙◌, subst, arith}
+use Rattle.std.proofs.Common.{◌≡◌, ℕ, ◌+◌, ◌-◌, suc, List, [], ◌∷◌, ◌++◌, length, drop, Some, None, Ok, Err, refl}
+use Rattle.std.proofs.Common.{sym, ap, ◌∙◌, subst}
 use Rattle.xs_resp.specs.declared.header.Part.TheVariants.{Count}
 use Rattle.xs_resp.specs.declared.header.Header.{Header}
 use Rattle.xs_resp.specs.declared.word.Span.{Span}

@@ -1,18 +1,14 @@
 -- What a reader holds.
-use Rattle.std.proofs.Common.{◌≡◌, ℕ, ◌==◌, ◌<◌, ◌≤◌, Bool, true, false, cond, List, ◌++◌, length, drop, inl, inr, Some}
-use Rattle.std.proofs.Common.{None, Result, Ok, Err, refl, sym, ap, ◌∙◌, subst, arith, length-append}
+use Rattle.std.proofs.Common.{◌≡◌, ℕ, ◌==◌, ◌<◌, Bool, true, false, List, Some}
+use Rattle.std.proofs.Common.{None, Result, Ok, refl, sym, subst, arith}
 use Rattle.std.proofs.lemmas.Bool.{eqb-true, eqb-false}
-use Rattle.xs_resp.specs.declared.read_fault.ProtocolFault.{ProtocolFault}
-use Rattle.xs_resp.specs.declared.requests.State.{State}
-use Rattle.xs_resp.specs.declared.requests.State.TheVariants.{Between, Within, Failed}
 use Rattle.xs_resp.specs.Outcome.{Outcome}
 use Rattle.xs_resp.specs.Reading.{Found, request}
 use Rattle.xs_resp.specs.declared.read_fault.ReadFault.{ReadFault}
-use Rattle.xs_resp.specs.HeldBytes.{Held, with_piece, Ready, ReadyOf}
+use Rattle.xs_resp.specs.HeldBytes.{Held, Ready, ReadyOf}
 use Rattle.xs_resp.specs.Progress.{IsProgressOf}
-use Rattle.xs_resp.specs.State.{held_in, IsState}
 use Rattle.xs_resp.specs.declared.progress.Progress.{Progress}
-use Rattle.xs_resp.proofs.Progressing.{follows-all, follows-fed}
+use Rattle.xs_resp.proofs.Progressing.{follows-all}
 
 -- whether a request is whole, by the outcome of the held bytes
 pub Ready-by : (held : Held) (bytes : List ℕ) (outcome : Outcome Found) (result : Result Bool ReadFault) (new : Held) → held ≡ Ok bytes → request bytes ≡ outcome → ReadyOf bytes outcome result new

@@ -8,7 +8,6 @@ use Rattle.xs_resp.specs.declared.read_fault.ReadFault.{ReadFault}
 use Rattle.xs_resp.specs.declared.read_fault.ReadFault.TheVariants.{Memory}
 use Rattle.xs_resp.specs.Grammar.{Spells, SpellsAll}
 use Rattle.xs_resp.specs.Outcome.{Outcome, Keeps}
-use Rattle.xs_resp.specs.ReadFaults.{read_fault_of}
 use Rattle.xs_resp.specs.Reading.{Found, request, words_in}
 use Rattle.xs_resp.specs.HeldBytes.{Held, HasNext, Next, NextOf, Ready, ReadyOf, Skips, with_piece, front_of, held_length}
 use Rattle.xs_resp.proofs.Decisions.{request-read, request-keeps}

@@ -1,6 +1,6 @@
 -- How progress in a request is kept.
 use Rattle.std.proofs.Common.{◌≡◌, ℕ, ◌+◌, ◌-◌, ◌≤◌, suc, List, [], ◌∷◌, ◌++◌, length, take, drop, Some, None, Ok, Err}
-use Rattle.std.proofs.Common.{sym, ap, ◌∙◌, subst, arith, append_assoc, length-append, length-drop}
+use Rattle.std.proofs.Common.{sym, ap, ◌∙◌, subst, arith, length-drop}
 use Rattle.std.proofs.lemmas.List.{take-append-le, drop-append-le, drop-drop, append-nil}
 use Rattle.xs_resp.specs.declared.header.Part.TheVariants.{Count}
 use Rattle.xs_resp.specs.declared.header.Header.{Header}
@@ -106,15 +106,3 @@ follows-all bytes progress f none =
     ∙ ap (λ k. behind_words f.passed progress.at (words k rest)) none
     ∙ ap (λ ws. Ok (Some (record { words = ws; end = progress.at + 0 }))) (append-nil f.passed)
     ∙ ap (λ n. Ok (Some (record { words = f.passed; end = n }))) (omega arith)
-
--- more bytes
-pub follows-fed : (bytes piece : List ℕ) (progress : Progress) → IsProgressOf bytes progress → IsProgressOf (bytes ++ piece) progress
-follows-fed bytes piece progress f =
-    record {
-      within = omega (arith, f.within, length-append bytes piece);
-      passed = f.passed;
-      passes = λ more.
-          ap request (append_assoc bytes piece more)
-          ∙ f.passes (piece ++ more)
-          ∙ ap (λ b. behind_words f.passed progress.at (words progress.left b)) (sym (append_assoc (drop progress.at bytes) piece more) ∙ ap (λ b. b ++ more) (sym (drop-append-le progress.at bytes piece f.within)));
-    }

@@ -133,7 +133,8 @@ impl Requests {
     #[tactic(auto, using(crate::proofs::NextRequest::next_stays))]
     pub fn next(&mut self) -> Result<Option<List<Bytes>>, ReadFault>
         ensures next { Next self.old result self.new }
-        ensures stays { (more : List ℕ) → result ≢ Ok None → Next (with_piece self.old more) result (with_piece self.new more) }
+        ensures stays { (more : List ℕ) → result ≢ Ok None
+            → Next (with_piece self.old more) result (with_piece self.new more) }
     {
         if !self.has_next()? {
             return Ok(None);

@@ -1,5 +1,4 @@
 use Rattle.std.proofs.Common.{◌≡◌, Some, Ok, sym, ap, ◌∙◌, subst}
-use Rattle.xs_resp.specs.HeldBytes.{Ready}
 use Rattle.xs_resp.specs.State.{held_in}
 use Rattle.xs_resp.specs.Progress.{Reaches}
 use Rattle.xs_resp.proofs.HeldBytes.{ready-reached}

@@ -1,4 +1,4 @@
-use Rattle.std.proofs.Common.{◌≡◌, Some, Ok, sym, ap, ◌∙◌, subst}
+use Rattle.std.proofs.Common.{◌≡◌, Ok, sym, ap, ◌∙◌, subst}
 use Rattle.xs_resp.specs.Progress.{Reaches}
 use Rattle.xs_resp.specs.Reading.{request, IsWhole}
 use Rattle.xs_resp.proofs.Skipping.{held-bytes, reached-end}
