@@ -24,7 +24,7 @@ among table word = option_map (λ entry. entry.1) (find (λ entry. is_word entry
 unfoldable pub name_of : List ℕ → Option CommandName
 name_of word = among names word
 
--- a length that few names have
+-- a length that few names have; most have 4, 6 or 10 letters
 abbrev pub has_another_length : ℕ → Bool
 has_another_length n = not (n == 4 || n == 6 || n == 10)
 

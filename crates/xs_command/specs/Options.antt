@@ -3,8 +3,8 @@ use Rattle.std.specs.Prelude.{ℕ, zero, suc, List, [], ◌∷◌, length, Optio
 use Rattle.xs_resp.specs.declared.fault.Fault.{Fault}
 use Rattle.xs_command.specs.Words.{Reading, Part}
 
--- What an option of a name says, after the options before it: the new state and the words behind
--- the option. No words: the name is no option.
+-- what a name says as an option, after the options before it: the new state and the words after the option; or None in
+-- the place of those words, if the name is no option
 abbrev pub OptionOf : Type 0 → Type 0
 OptionOf S = S → List ℕ → Reading (S × Option (List (List ℕ)))
 
@@ -17,7 +17,7 @@ taken (Err fault) = Err fault
 abbrev pub taking : {S : Type 0} → Part S → Reading (S × Option (List (List ℕ)))
 taking part words = taken (part words)
 
--- what comes after a name was read as an option, or as none
+-- how options go on after a name: after an option, or at the words if it was none
 abbrev pub option_after :
     {S : Type 0} → Result (S × Option (List (List ℕ))) Fault → List (List ℕ) → (S → Part S)
     → Result (S × List (List ℕ)) Fault

@@ -7,7 +7,7 @@ use Rattle.xs_command.specs.Integer.{at_least_zero}
 use Rattle.xs_command.specs.Words.{Reading, Part, ◌>>=◌, is_word, word, integer, low, high}
 use Rattle.xs_command.specs.Syntax.{only}
 
--- a last word that may be left out
+-- a word that may be left out
 unfoldable pub optional : Part (Option (List ℕ))
 optional [] = Ok (None, [])
 optional (w ∷ words) = Ok (Some w, words)
@@ -28,23 +28,23 @@ pending_rows key group min_idle = do
     consumer = consumer;
   })) Syntax
 
--- IDLE is behind us: ms low high count [consumer]
+-- the words after IDLE: ms low high count [consumer]
 unfoldable pub idle_rows : List ℕ → List ℕ → Reading Command
 idle_rows key group = do
   idle ← integer
   pending_rows key group (at_least_zero idle)
 
--- so many words, or one more
+-- n or m words; any other number is a syntax error
 abbrev pub counted : ℕ → ℕ → Reading Command → Reading Command
 counted n m rows words = if length words == n || length words == m then rows words else Err Syntax
 
--- the long form begins with this word; the number of words comes before what they say
+-- the long form, which begins with this word; that there are too many or too few words is found first
 abbrev pub long_form : List ℕ → List ℕ → List ℕ → Reading Command
 long_form key group first words =
     if is_word (codes "idle") first then counted 4 5 (idle_rows key group) words
     else counted 3 4 (pending_rows key group 0) (first ∷ words)
 
--- nothing, or the long form
+-- no more words are the short form, others the long form
 unfoldable pub form : List ℕ → List ℕ → Reading Command
 form key group [] = Ok (command.Pending key group)
 form key group (first ∷ words) = long_form key group first words

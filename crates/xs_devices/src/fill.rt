@@ -20,10 +20,10 @@ pub trait Fill {
     /// The same, with these bytes behind its own.
     ghost with_bytes: { Self → List ℕ → Self };
 
-    /// Reads bytes in, and says how many: none at the end alone.
+    /// Reads bytes in, at most 64 KiB, and says how many: 0 only at the end.
     ///
     /// # Errors
-    /// It is unchanged.
+    /// It is unchanged. The reader is too, if the fault is `Memory`; else its bytes are.
     fn fill<R: Source>(&mut self, reader: &mut R) -> Result<usize, FillFault>
         ensures ok { IfOk result (λ n. Gave (R.rest reader.old) (R.rest reader.new) (R.ended reader.new) n
             (λ got. self.new ≡ with_bytes self.old got)) }

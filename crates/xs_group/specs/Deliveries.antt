@@ -1,4 +1,4 @@
--- What a read of a group answers, and which read a delivery takes back.
+-- What a read of a group answers, and what is left if it is undone.
 use Rattle.std.specs.Prelude.{◌≡◌, ℕ, Bool, true, not, ◌⊎◌, List, [], ◌∷◌, map, Option, Some, None, if◌then◌else◌}
 use Rattle.std.specs.Option.{option_map}
 use Rattle.xs_bytes.specs.SortedMap.{get, change, remove}
@@ -23,7 +23,7 @@ new_row x = record { id = x; present = true; before = None }
 abbrev pub new_rows : List Id → List DeliveryRow
 new_rows ids = map new_row ids
 
--- a group after a delivery of these ids
+-- a group after these ids were delivered
 abbrev pub received : List ℕ → ℕ → Bool → List Id → GroupState → GroupState
 received consumer now noack ids group =
     record {
@@ -85,7 +85,7 @@ pub record IsReread (before after : GroupState) (delivery : Delivery) : Type 0 w
   pub left : after ≡ group_after_reread delivery.consumer now limit from ids before
   pub answered : delivery ≡ history_of delivery.consumer limit from ids before
 
--- a read of a lawful group left this one, and answered this delivery
+-- a read of a consistent group left this one, and answered this delivery
 abbrev pub IsMade : GroupState → GroupState → Delivery → Type 0
 IsMade before after delivery =
     IsConsistentGroup before × (IsDelivered before after delivery ⊎ IsReread before after delivery)

@@ -42,7 +42,7 @@ has_name names name = has_key names name
 abbrev pub is_same_name : List ℕ → List ℕ → Bool
 is_same_name a b = eq_by_cmp (slice_cmp nat_cmp) a b
 
--- how long ago the time of a row is, that of its last delivery or what a claim gave it; 0 where the moment is before it
+-- now minus the time of a row, which its last delivery or a claim gave it; 0 if that is later
 abbrev pub idle : ℕ → ℕ → ℕ
 idle now time = now - time
 
@@ -77,11 +77,11 @@ abbrev pub without_consumer : List ℕ → GroupState → GroupState
 without_consumer consumer group =
     record group { consumers = remove group.consumers consumer; rows = change (unless_owned consumer) group.rows }
 
--- what `>` delivers: the first of the ids in the stream that are above the cursor
+-- what `>` delivers: of the ids in the stream those above the cursor, up to the limit
 abbrev pub new_ids : Option ℕ → Id → List Id → List Id
 new_ids limit cursor present = limited limit (filter (λ x. is_below cursor x) present)
 
--- the last of these ids, or the id before them where there is none
+-- the last of these ids, or the one before them if there are none
 abbrev pub last_of : Id → List Id → Id
 last_of a [] = a
 last_of a (x ∷ xs) = last_of x xs
@@ -95,7 +95,7 @@ abbrev pub with_rows : List Id → RowState → Rows → Rows
 with_rows [] row rows = rows
 with_rows (x ∷ xs) row rows = with_rows xs row (insert_by ids_total rows x row)
 
--- a group after a delivery: the consumer is there, the cursor is the last id delivered,
+-- a group after a read of new entries: the consumer is there, the cursor is the last id delivered,
 -- and without NOACK the ids are pending
 abbrev pub group_after_delivery : List ℕ → ℕ → Option ℕ → Bool → List Id → GroupState → GroupState
 group_after_delivery consumer now limit noack present group =
@@ -107,7 +107,7 @@ group_after_delivery consumer now limit noack present group =
 abbrev pub owned_ids : List ℕ → List (Id × RowState) → List Id
 owned_ids consumer rows = map (λ e. e.0) (filter (λ e. is_same_name e.1.consumer consumer) rows)
 
--- the consumer's own pending ids above an id
+-- what a read of own entries shows: the consumer's pending ids above an id, up to the limit
 abbrev pub own_ids : List ℕ → Option ℕ → Id → List (Id × RowState) → List Id
 own_ids consumer limit from rows = limited limit (filter (λ x. is_below from x) (owned_ids consumer rows))
 

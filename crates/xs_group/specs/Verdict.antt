@@ -1,4 +1,4 @@
--- What a claim makes of one id, and the scanned part met one id after another.
+-- What a claim makes of one id, and the scanned part, id by id.
 use Rattle.std.specs.Prelude.{◌≡◌, ℕ, ◌+◌, ◌*◌, Bool, true, false, ◌||◌, ◌&&◌, ◌⊎◌, List, [], ◌∷◌, ◌++◌, nat_le, Option}
 use Rattle.std.specs.Prelude.{Some, None, if◌then◌else◌}
 use Rattle.xs_stream.specs.declared.id.Id.{Id}
@@ -72,7 +72,7 @@ IsClaimOn group now rule claim = IsFound group now rule claim ⊎ IsScanned grou
 abbrev pub AreSomeOf : List Id → List Id → Type 0
 AreSomeOf done ids = (x : Id) → has_id done x ≡ true → has_id ids x ≡ true
 
--- both indexes hold the same pairs, but for these ids, which the consumer has besides
+-- both indexes have the same pairs, but that by consumer has these ids of the consumer as well
 abbrev pub AreAgreedBut : List (Id × RowState) → ConsumerIndex → List ℕ → List Id → Type 0
 AreAgreedBut rows owners name ids =
     (n : List ℕ) → (x : Id) → holds owners n x

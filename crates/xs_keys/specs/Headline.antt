@@ -37,8 +37,8 @@ abbrev pub AreWellFormed : History → Type 0
 AreWellFormed [] = Unit {0}
 AreWellFormed (e ∷ past) = IsWellFormed (event_command e) × AreWellFormed past
 
--- Holds is true of each event of a history that a run led to. If the run began after earlier events, only if all of
--- those, or the event itself, are well formed; commands of a run are.
+-- Holds is true of each event of a history that a run led to; if there was a past before the run, only if all of the
+-- past, or this event, is well formed. Commands of a run are.
 abbrev pub AtEachEvent : History → History → (History → Event → Type 0) → Type 0
 AtEachEvent [] history Holds = AtEach history Holds
 AtEachEvent (newest ∷ older) history Holds = AtEach history (λ earlier e.
@@ -58,7 +58,7 @@ StepsAreConsistent history = AtEach history (λ earlier e.
     (content : Content) → IsContent content earlier
     → IsConsistentContent content × IsContent (content_after content (event_moment e) (event_command e)) (e ∷ earlier))
 
--- what holds of a run over a past, of the answers to it, and of the history that they lead to
+-- what holds of a run over a past, of the answers that the program gave, and of the history that they lead to
 pub record Headline
     (past : History) (run : List Event) (answers : List Reply) (history : History) : Type 0 where
   -- each reply is the model's, and tells what was done; contents are consistent

@@ -17,9 +17,9 @@ use Rattle.xs_keys.specs.Reply.{parts_of_read}
 use Rattle.xs_keys.specs.Event.{Bytes, Entries}
 
 -- these parts of a reply were counted and appended
-pub record IsShown (own_ids : List Reply) (count : ℕ) (before after : List Token) : Type 0 where
-  pub counted : count ≡ length own_ids
-  pub appended : after ≡ before ++ flat_map tokens_of own_ids
+pub record IsShown (parts : List Reply) (count : ℕ) (before after : List Token) : Type 0 where
+  pub counted : count ≡ length parts
+  pub appended : after ≡ before ++ flat_map tokens_of parts
 
 -- the ids that a read shows
 abbrev pub ids_shown : ReadGroupCommand → ReadFrom → List Id → GroupState → List Id

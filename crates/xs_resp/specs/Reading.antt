@@ -12,7 +12,7 @@ pub record Found : Type 0 where
   pub words : List (List ℕ)
   pub end : ℕ
 
--- the CR LF behind the bytes of a word, which stand between these indices
+-- the span from start to end, if CR LF follows it
 abbrev pub closed : ℕ → ℕ → List ℕ → Outcome Span
 closed start end [] = Ok None
 closed start end (cr ∷ []) = if cr == 13 then Ok None else Err Shape
@@ -43,7 +43,7 @@ words (suc n) bytes =
 unfoldable pub request : List ℕ → Outcome Found
 request bytes = header Count bytes >>= λ h. behind_words [] h.end (words h.number (drop h.end bytes))
 
--- something was read
+-- a whole request was read, or all of its words
 abbrev pub IsWhole : Outcome Found → Type 0
 IsWhole outcome = (found : Found) × (outcome ≡ Ok (Some found))
 

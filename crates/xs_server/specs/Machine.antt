@@ -8,7 +8,7 @@ use Rattle.xs_devices.specs.Device.{capped}
 
 -- why a machine is driven no further
 pub data Cause : Type 0 where
-  itself : Cause  -- it ended by itself
+  itself : Cause  -- it ended by itself, or found no memory for more bytes
   input : Cause  -- the end of the input was met
   reader : Cause  -- the reader failed, or was asked too often
   writer : Cause  -- the writer failed

@@ -44,7 +44,7 @@ successor id =
     then record { ms = id.ms; seq = id.seq + 1 }
     else record { ms = id.ms + 1; seq = 0 }
 
--- what a stream with room gives, by its top
+-- the id of an addition, if the top isn't the greatest id
 abbrev pub assigned_above : ℕ → Id → AddId → Result Id AddError
 assigned_above now top Auto = Ok (if nat_lt top.ms now then record { ms = now; seq = 0 } else successor top)
 assigned_above now top (AutoSeq ms) =

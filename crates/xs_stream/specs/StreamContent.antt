@@ -44,7 +44,7 @@ without ids entries = filter (λ e. not (has_id ids e.0)) entries
 abbrev pub count_above : Id → List Id → ℕ
 count_above x ids = length (filter (λ y. is_below x y) ids)
 
--- MAXLEN n drops an id with n greater ones or more; MINID drops those below its own
+-- MAXLEN n drops an id with n greater ones or more; MINID drops those below its id
 abbrev pub is_trimmed : Trim → List Id → Id → Bool
 is_trimmed (MaxLen n) ids x = nat_le n (count_above x ids)
 is_trimmed (MinId low) ids x = is_below x low

@@ -47,11 +47,11 @@ pub trait Machine<S, T> {
     /// Nothing that it holds is whole.
     ghost is_waiting: { Self → Type 0 };
 
-    /// Since this state of the service these bytes were read into it, these that it owed were written, and it stands
-    /// so, the service with it.
+    /// The service was first in one state. Since then some bytes were read into the machine, and some of those that it
+    /// owed were written. Now the machine may be as it is, and the service in the other state.
     ghost stands: { S → List ℕ → List ℕ → Self → S → Type 0 };
 
-    /// The same of a machine that ended so, by this cause.
+    /// The same of a machine that has ended, by this cause.
     ghost has_ended: { Cause → Self.End → S → List ℕ → List ℕ → S → Type 0 };
 
     /// How it ends where the writer failed behind so many of the bytes that it owes.
@@ -67,7 +67,7 @@ pub trait Machine<S, T> {
         ensures less { result ≡ Goes → held self.new < held self.old }
         ensures same { held self.new ≤ held self.old };
 
-    /// Lends what bytes are read into, a piece of at most 64 KiB.
+    /// Lends what bytes are read into, at most 64 KiB at once.
     fn input(&mut self) -> &mut Self::Input
         requires { is_waiting self.old }
         ensures* lends { sem 𝓛 (lends_input Self.row Self.Input.row with_input self.entry result) }
@@ -103,7 +103,7 @@ pub trait Machine<S, T> {
         ensures stands { (first service : S) (read sent : List ℕ) → stands first read sent self.now service →
             has_ended Cause.writer result first read (sent ++ take count (owes self.now)) service };
 
-    /// The front of what it owes. All that it owes lies there if that is less than enough.
+    /// The front of what it owes. If that is less than enough, so is all that it owes; if it is empty, nothing is owed.
     fn owed(&self) -> &[u8]
         ensures value { result.now ≡ front self.now }
         ensures front { (behind : List ℕ) × (owes self.now ≡ result.now ++ behind) }
