@@ -8,6 +8,7 @@ pub mod Lending
 pub mod Order
 pub mod PackedBlocks
 pub mod PackedCodes
+pub mod PassedEntries
 pub mod Past
 pub mod PlacesInLists
 pub mod WithinBlocks

@@ -1,10 +1,10 @@
 -- The order of ids.
-use Rattle.std.proofs.Common.{◌≡◌, ℕ, Bool, true, false, not, Some, Ordering, sym, ap, ◌∙◌, refl}
-use Rattle.std.specs.Cmp.{eq_by_cmp_equiv, IsTotalOrder, nat_cmp_total, on_total, then_total}
+use Rattle.std.proofs.Common.{◌≡◌, ℕ, ◌<◌, ◌≤◌, arith, Bool, true, false, not, Some, Ordering, sym, ap, ◌∙◌, refl}
+use Rattle.std.specs.Cmp.{eq_by_cmp_equiv, IsTotalOrder, nat_cmp_is, nat_cmp_total, on_total, then_total}
 use Rattle.std.specs.declared.cmp.Ordering.TheVariants.{Less, Equal, Greater}
 use Rattle.std.specs.Ordering.{nat_cmp, is_lt, is_eq, is_le, is_some_and, ordering_reverse, ordering_then}
 use Rattle.std.specs.Ordering.{partial_ordering_then}
-use Rattle.std.proofs.lemmas.Cmp.{ranked, tied_itself}
+use Rattle.std.proofs.lemmas.Cmp.{by_ranked, ranked, tied_itself}
 use Rattle.std.proofs.lemmas.Bool.{false≢true}
 use Rattle.xs_stream.specs.declared.id.Id.{Id}
 use Rattle.xs_stream.specs.Id.{id_cmp, is_below, is_same_id}
@@ -53,6 +53,13 @@ below-not_same a b e = ap is_eq (less-from _ e)
 
 pub below-not_back : (a b : Id) → is_below a b ≡ true → is_below b a ≡ false
 below-not_back a b e = ap is_lt (ids_total.antisymm b a ∙ ap ordering_reverse (less-from _ e))
+
+-- what is no later, and has a lower sequence number if it isn't earlier
+pub earlier-below : (a b : Id) → a.ms ≤ b.ms → (b.ms ≤ a.ms → a.seq < b.seq) → is_below a b ≡ true
+earlier-below a b h k = by_ranked (a.ms < b.ms) (a.ms ≡ b.ms) (b.ms < a.ms) (nat_cmp a.ms b.ms) (ranked a.ms b.ms (nat_cmp a.ms b.ms) refl)
+    (λ e lower. ap (λ r. is_lt (ordering_then r (nat_cmp a.seq b.seq))) e)
+    (λ e same. ap (λ r. is_lt (ordering_then r (nat_cmp a.seq b.seq))) e ∙ ap is_lt (sym (nat_cmp_is a.seq b.seq Less (k (omega (arith, same))))))
+    (λ e higher. absurd (omega (arith, h, higher)))
 
 pub below-irrefl : (a : Id) → is_below a a ≡ false
 below-irrefl a = ap is_lt (tied_itself ids_total a)

@@ -8,4 +8,5 @@ pub mod ExamplesKept
 pub mod Blocks
 pub mod PackedNumber
 pub mod PackedText
+pub mod PassedEntries
 pub mod Packed

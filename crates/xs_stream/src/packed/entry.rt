@@ -1,5 +1,5 @@
 //! Entries as they stand in bytes.
-ghost use Rattle.std.specs.Prelude.{◌≡◌, ◌++◌, IfSome, OnOk, OnErr, length, take, vec_len};
+ghost use Rattle.std.specs.Prelude.{◌≡◌, ◌++◌, ◌+◌, ◌<◌, ◌≤◌, ℕ, IfSome, OnOk, OnErr, length, take, vec_len};
 ghost use Rattle.std.specs.Prelude.{true, false};
 ghost use Rattle.std.specs.List.{flat_map};
 ghost use Rattle.xs_stream.specs.Packed.{names_code, has_names, field_code, body_code, mark_of, entry_code};
@@ -61,6 +61,26 @@ fn read_any_entry<'a>(base: u64, bytes: &'a [u8]) -> PackedEntry<'a>
         body,
         rest,
     }
+}
+
+/// The bytes after an entry whose numbers take a byte each, and which is fewer milliseconds above the base than `ms`,
+/// or as many with a sequence number below `seq`.
+#[tactic(auto, unfolding(crate::specs::Packed::first_ms, crate::specs::Packed::entry_id, crate::specs::Packed::after_entry, crate::specs::PackedText::after_text, crate::specs::PackedNumber::first_number, crate::specs::PackedNumber::after_number))]
+#[inline(always)]
+pub(crate) fn after_early_entry(bytes: &[u8], ms: u8, seq: u8) -> Option<&[u8]>
+    requires ms { ms < 253 }
+    requires seq { seq ≤ 253 }
+    ensures rest { IfSome result (λ rest. rest.now ≡ after_entry bytes.now) }
+    ensures ms { IfSome result (λ _. (base : ℕ) → (entry_id base bytes.now).ms ≤ base + ms) }
+    ensures seq { IfSome result (λ _. (base : ℕ) → base + ms ≤ (entry_id base bytes.now).ms → (entry_id base bytes.now).seq < seq) }
+{
+    if let [above, number, len, rest @ ..] = bytes {
+        let early = *above < ms && *number < 253 || *above == ms && *number < seq;
+        if early && *len < 253 {
+            return rest.get(usize::from(*len)..);
+        }
+    }
+    None
 }
 
 fn read_ms(base: u64, bytes: &[u8]) -> (u64, &[u8])

@@ -7,10 +7,11 @@ ghost use Rattle.std.specs.Option.{is_some};
 ghost use Rattle.xs_stream.specs.Id.{is_same_id, is_below};
 ghost use Rattle.xs_stream.specs.StreamContent.{is_within, ids_of, fields_at};
 ghost use Rattle.xs_stream.specs.Packed.{after_entries, block_entries, shares_names, all_rebased};
+ghost use Rattle.xs_stream.specs.PassedEntries.{packed_ids, AllBelow};
 
 use crate::entry::Entry;
 use crate::id::Id;
-use crate::packed::entry::{push_packed, read_entry};
+use crate::packed::entry::{after_early_entry, push_packed, read_entry};
 use crate::packed::fields::PackedFields;
 use crate::packed::number::{after, read_number};
 use crate::packed::text::read_text;
@@ -25,6 +26,28 @@ pub(crate) struct Place {
     pub(crate) to: usize,
 }
 
+/// Passes over entries at the front that are below an id, and gives how many, and the bytes after them. It may stop
+/// early: it passes over no entry whose numbers take more than a byte each.
+fn pass_below(base: u64, count: usize, bytes: &[u8], low: Id) -> (usize, &[u8])
+    ensures few { result.0 ≤ count }
+    ensures rest { result.1.now ≡ after_entries result.0 bytes.now }
+    ensures below { AllBelow low (packed_ids base result.0 bytes.now) }
+{
+    let Some(above) = low.ms.checked_sub(base) else {
+        return (0, bytes);
+    };
+    let ms = above.min(252) as u8;
+    let seq = low.seq.min(253) as u8;
+    let mut rest = bytes;
+    for passed in 0..count {
+        let Some(next) = after_early_entry(rest, ms, seq) else {
+            return (passed, rest);
+        };
+        rest = next;
+    }
+    (count, rest)
+}
+
 /// The fields of an entry.
 pub(crate) fn fields_of<'a>(
     base: u64,
@@ -35,8 +58,8 @@ pub(crate) fn fields_of<'a>(
 ) -> Option<PackedFields<'a>>
     ensures { result ≡ fields_at (block_entries base count start bytes.now) id }
 {
-    let mut rest = after(bytes, start);
-    for _ in 0..count {
+    let (passed, mut rest) = pass_below(base, count, after(bytes, start), id);
+    for _ in passed..count {
         let entry = read_entry(base, rest);
         if entry.id == id {
             let (names, _) = read_text(bytes);
@@ -58,8 +81,8 @@ pub(crate) fn place_of(base: u64, count: usize, start: usize, bytes: &[u8], id: 
         ≡ remove (block_entries base count start bytes.now) p.index) }
     ensures found { is_some result ≡ is_some (fields_at (block_entries base count start bytes.now) id) }
 {
-    let mut rest = after(bytes, start);
-    for index in 0..count {
+    let (passed, mut rest) = pass_below(base, count, after(bytes, start), id);
+    for index in passed..count {
         let entry = read_entry(base, rest);
         if entry.id == id {
             let from = bytes.len() - rest.len();
@@ -101,8 +124,8 @@ pub(crate) fn push_ids(
     ensures { OnOk result (ids.new.items
         ≡ take most (ids.old.items ++ filter (is_within range) (ids_of (block_entries base count start bytes.now)))) }
 {
-    let mut rest = after(bytes, start);
-    for _ in 0..count {
+    let (passed, mut rest) = pass_below(base, count, after(bytes, start), range.low);
+    for _ in passed..count {
         if ids.len() as u64 >= most {
             return Ok(());
         }
@@ -153,8 +176,8 @@ pub(crate) fn push_entries<'a>(
         ≡ take most (shown.old.items ++ filter (λ e. is_within range e.0) (block_entries base count start bytes.now))) }
 {
     let (names, _) = read_text(bytes);
-    let mut rest = after(bytes, start);
-    for _ in 0..count {
+    let (passed, mut rest) = pass_below(base, count, after(bytes, start), range.low);
+    for _ in passed..count {
         if shown.len() as u64 >= most {
             return Ok(());
         }

@@ -3,7 +3,13 @@ use Rattle.xs_stream.specs.StreamContent.{fields_at}
 use Rattle.xs_stream.specs.PackedText.{first_text}
 use Rattle.xs_stream.specs.Packed.{packed_entries, body_fields}
 use Rattle.xs_stream.proofs.PackedBlocks.{lookup-passed, lookup-found}
+use Rattle.xs_stream.proofs.PassedEntries.{lookup-start}
 use Rattle.xs_stream.proofs.packed.walks.fields_of.Goals as goal
+
+pub loop-init : goal.loop-init
+loop-init c =
+    let passed = c.pass_below-passed in
+    lookup-start c.args.base c.args.count c.args.start passed.result.0 c.args.bytes.now c.after.result.now passed.result.1.now passed.ensures.few c.after.ensures passed.ensures.rest c.args.id passed.ensures.below
 
 pub loop-preserved : goal.loop-preserved
 loop-preserved c =

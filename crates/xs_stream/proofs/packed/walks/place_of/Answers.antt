@@ -1,4 +1,4 @@
-use Rattle.std.proofs.Common.{◌∙◌, ◌-◌, ◌+◌, ◌++◌, ◌∷◌, ap, arith, length, take, drop, refl, sym}
+use Rattle.std.proofs.Common.{◌∙◌, ◌-◌, ◌+◌, ◌++◌, ◌∷◌, ap, arith, length, take, drop, sym}
 use Rattle.std.proofs.lemmas.List.{length-drop}
 use Rattle.std.specs.Option.{is_some}
 use Rattle.std.specs.Map.{remove_entry}
@@ -7,19 +7,18 @@ use Rattle.xs_stream.specs.StreamContent.{fields_at}
 use Rattle.xs_stream.specs.PackedText.{first_text}
 use Rattle.xs_stream.specs.Packed.{packed_entries, after_entry, after_entries, entry_in, block_entries}
 use Rattle.xs_stream.proofs.PackedBlocks.{after_entries-more, lookup-passed, lookup-found, removed-passed}
-use Rattle.xs_stream.proofs.PackedBlocks.{removed-found, take-passed, drop-passed, length-after_entry, joined, at-start}
+use Rattle.xs_stream.proofs.PackedBlocks.{removed-found, take-passed, drop-passed, length-after_entry, length-after_entries, joined}
+use Rattle.xs_stream.proofs.PassedEntries.{lookup-start, removed-start}
 use Rattle.xs_stream.proofs.packed.walks.place_of.Goals as goal
 
 pub loop-index-init : goal.loop-index-init
 loop-index-init c =
-    let bytes = c.args.bytes.now in
-    let id = c.args.id in
-    let all = at-start c.args.base c.args.count c.args.start bytes (first_text bytes) c.after-rest.result.now refl c.after-rest.ensures in
+    let passed = c.pass_below-passed in
     record {
-      rest = c.after-rest.ensures;
-      lookup = ap (λ es. fields_at es id) all;
-      removed = ap (remove_entry (is_same_id id)) all;
-      short = omega (arith, ap length c.after-rest.ensures, length-drop c.args.start bytes);
+      rest = passed.ensures.rest ∙ ap (after_entries passed.result.0) c.after.ensures;
+      lookup = lookup-start c.args.base c.args.count c.args.start passed.result.0 c.args.bytes.now c.after.result.now passed.result.1.now passed.ensures.few c.after.ensures passed.ensures.rest c.args.id passed.ensures.below;
+      removed = removed-start c.args.base c.args.count c.args.start passed.result.0 c.args.bytes.now c.after.result.now passed.result.1.now passed.ensures.few c.after.ensures passed.ensures.rest c.args.id passed.ensures.below;
+      short = omega (arith, ap length passed.ensures.rest, length-after_entries passed.result.0 c.after.result.now, ap length c.after.ensures, length-drop c.args.start c.args.bytes.now);
     }
 
 pub overflow_sub-to : goal.overflow_sub-to

@@ -1,9 +1,18 @@
-use Rattle.std.proofs.Common.{◌∙◌, sym, ap, arith, length}
+use Rattle.std.proofs.Common.{◌∙◌, sym, ap, arith, length, take, ◌++◌}
 use Rattle.xs_stream.specs.StreamContent.{is_within}
 use Rattle.xs_stream.specs.PackedText.{first_text}
 use Rattle.xs_stream.proofs.PackedBlocks.{all-taken, all-left}
+use Rattle.xs_stream.proofs.PassedEntries.{ids_within-start}
 use Rattle.xs_stream.proofs.packed.walks.push_ids.Goals as goal
 use Rattle.xs_stream.proofs.packed.walks.push_ids.Goals.{then-contains+in_ok-push, else-contains}
+
+pub loop-init : goal.loop-init
+loop-init c =
+    let passed = c.pass_below-passed in
+    record {
+      all = ap (λ ids. take c.args.most (c.args.ids.now.items ++ ids)) (ids_within-start c.args.base c.args.count c.args.start passed.result.0 c.args.bytes.now c.after.result.now passed.result.1.now passed.ensures.few c.after.ensures passed.ensures.rest c.args.range passed.ensures.below);
+      few = c.requires;
+    }
 
 pub loop-preserved : goal.loop-preserved
 loop-preserved c =

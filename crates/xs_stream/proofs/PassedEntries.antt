@@ -1,0 +1,83 @@
+-- Entries that a walk passes over, since their ids are below the one from which it looks on.
+use Rattle.std.proofs.Common.{◌≡◌, ℕ, ◌+◌, ◌-◌, ◌≤◌, suc, zero, true, false, List, ◌∷◌, ◌++◌}
+use Rattle.std.proofs.Common.{filter, take, drop, sym, ap, ◌∙◌, refl, arith, add-one}
+use Rattle.std.specs.Map.{remove_entry}
+use Rattle.xs_stream.specs.declared.id.Id.{Id}
+use Rattle.xs_stream.specs.declared.range.Range.{Range}
+use Rattle.xs_stream.specs.Id.{is_below, is_same_id}
+use Rattle.xs_stream.specs.StreamContent.{fields_at, ids_of, is_within}
+use Rattle.xs_stream.specs.Packed.{entry_id, entry_in, after_entry, packed_entries, after_entries}
+use Rattle.xs_stream.specs.Packed.{block_entries}
+use Rattle.xs_stream.specs.PassedEntries.{packed_ids, AllBelow}
+use Rattle.xs_stream.specs.PackedText.{first_text}
+use Rattle.xs_stream.proofs.Order.{below-not_same, is_same_id-symm}
+
+module _ (base : ℕ) (low : Id) where
+  below-suc : (n : ℕ) (bytes : List ℕ) → AllBelow low (packed_ids base n bytes) → is_below (entry_id base (after_entries n bytes)) low ≡ true → AllBelow low (packed_ids base (suc n) bytes)
+  below-suc zero bytes all h = (h, tt)
+  below-suc (suc n) bytes all h = (all.0, below-suc n (after_entry bytes) all.1 h)
+
+  -- one more is passed
+  pub below-more : (n : ℕ) (bytes : List ℕ) → AllBelow low (packed_ids base n bytes) → is_below (entry_id base (after_entries n bytes)) low ≡ true → AllBelow low (packed_ids base (n + 1) bytes)
+  below-more n bytes all h = rw add-one (below-suc n bytes all h)
+
+-- what is looked for is behind them
+module _ (base : ℕ) (names : List ℕ) (id : Id) where
+  other : (x : Id) → is_below x id ≡ true → is_same_id id x ≡ false
+  other x h = is_same_id-symm id x ∙ below-not_same x id h
+
+  pub lookup-behind : (count n : ℕ) (bytes : List ℕ) → n ≤ count → AllBelow id (packed_ids base n bytes)
+      → fields_at (packed_entries base names count bytes) id ≡ fields_at (packed_entries base names (count - n) (after_entries n bytes)) id
+  lookup-behind count zero bytes h all = let e : count - 0 ≡ count = omega arith in rw e refl
+  lookup-behind zero (suc n) bytes h all = absurd (omega arith)
+  lookup-behind (suc count) (suc n) bytes h all =
+      let e : suc count - suc n ≡ count - n = omega arith in
+      rw (other (entry_id base bytes) all.0, e) (lookup-behind count n (after_entry bytes) (omega arith) all.1)
+
+  pub removed-behind : (count n : ℕ) (bytes : List ℕ) → n ≤ count → AllBelow id (packed_ids base n bytes)
+      → remove_entry (is_same_id id) (packed_entries base names count bytes)
+      ≡ take n (packed_entries base names count bytes) ++ remove_entry (is_same_id id) (packed_entries base names (count - n) (after_entries n bytes))
+  removed-behind count zero bytes h all = let e : count - 0 ≡ count = omega arith in rw e refl
+  removed-behind zero (suc n) bytes h all = absurd (omega arith)
+  removed-behind (suc count) (suc n) bytes h all =
+      let e : suc count - suc n ≡ count - n = omega arith in
+      rw (other (entry_id base bytes) all.0, e) (ap (λ es. entry_in base names bytes ∷ es) (removed-behind count n (after_entry bytes) (omega arith) all.1))
+
+-- none of them is within a range from that id on
+module _ (base : ℕ) (names : List ℕ) (range : Range) where
+  outside : (x : Id) → is_below x range.low ≡ true → is_within range x ≡ false
+  outside x h = rw h refl
+
+  pub within-behind : (count n : ℕ) (bytes : List ℕ) → n ≤ count → AllBelow range.low (packed_ids base n bytes)
+      → filter (λ e. is_within range e.0) (packed_entries base names count bytes) ≡ filter (λ e. is_within range e.0) (packed_entries base names (count - n) (after_entries n bytes))
+  within-behind count zero bytes h all = let e : count - 0 ≡ count = omega arith in rw e refl
+  within-behind zero (suc n) bytes h all = absurd (omega arith)
+  within-behind (suc count) (suc n) bytes h all =
+      let e : suc count - suc n ≡ count - n = omega arith in
+      rw (outside (entry_id base bytes) all.0, e) (within-behind count n (after_entry bytes) (omega arith) all.1)
+
+  pub ids_within-behind : (count n : ℕ) (bytes : List ℕ) → n ≤ count → AllBelow range.low (packed_ids base n bytes)
+      → filter (is_within range) (ids_of (packed_entries base names count bytes)) ≡ filter (is_within range) (ids_of (packed_entries base names (count - n) (after_entries n bytes)))
+  ids_within-behind count zero bytes h all = let e : count - 0 ≡ count = omega arith in rw e refl
+  ids_within-behind zero (suc n) bytes h all = absurd (omega arith)
+  ids_within-behind (suc count) (suc n) bytes h all =
+      let e : suc count - suc n ≡ count - n = omega arith in
+      rw (outside (entry_id base bytes) all.0, e) (ids_within-behind count n (after_entry bytes) (omega arith) all.1)
+
+-- so a walk may begin behind them
+module _ (base count start n : ℕ) (bytes from rest : List ℕ) (few : n ≤ count) (at : from ≡ drop start bytes) (left : rest ≡ after_entries n from) where
+  pub lookup-start : (id : Id) → AllBelow id (packed_ids base n from) → fields_at (block_entries base count start bytes) id ≡ fields_at (packed_entries base (first_text bytes) (count - n) rest) id
+  lookup-start id all = rw (left, sym at) (lookup-behind base (first_text bytes) id count n from few all)
+
+  pub removed-start : (id : Id) → AllBelow id (packed_ids base n from)
+      → remove_entry (is_same_id id) (block_entries base count start bytes)
+      ≡ take n (block_entries base count start bytes) ++ remove_entry (is_same_id id) (packed_entries base (first_text bytes) (count - n) rest)
+  removed-start id all = rw (left, sym at) (removed-behind base (first_text bytes) id count n from few all)
+
+  pub within-start : (range : Range) → AllBelow range.low (packed_ids base n from)
+      → filter (λ e. is_within range e.0) (block_entries base count start bytes) ≡ filter (λ e. is_within range e.0) (packed_entries base (first_text bytes) (count - n) rest)
+  within-start range all = rw (left, sym at) (within-behind base (first_text bytes) range count n from few all)
+
+  pub ids_within-start : (range : Range) → AllBelow range.low (packed_ids base n from)
+      → filter (is_within range) (ids_of (block_entries base count start bytes)) ≡ filter (is_within range) (ids_of (packed_entries base (first_text bytes) (count - n) rest))
+  ids_within-start range all = rw (left, sym at) (ids_within-behind base (first_text bytes) range count n from few all)
