@@ -5,7 +5,7 @@ use Rattle.std.proofs.lemmas.List.{length-append, length-take, length-drop, drop
 use Rattle.std.proofs.Math.Seq.{take-append_seam, drop-append_seam, drop-append-add, drop-drop, take-add}
 
 -- what stands before a gap, and behind it, once one more piece has moved
-module _ (bytes new : List ℕ) (at gap piece : ℕ) (inside : at + gap + piece ≤ length bytes) (apart : piece ≤ gap)
+module _ (bytes new : List ℕ) (at gap piece : ℕ) (inside : at + gap + piece ≤ length bytes)
     (moved : new ≡ take at bytes ++ (take piece (drop (at + gap) bytes) ++ drop (at + piece) bytes)) where
   before : List ℕ
   before = take at bytes ++ take piece (drop (at + gap) bytes)

@@ -2,6 +2,9 @@
 ghost use Rattle.std.specs.Prelude.{◌≡◌, ◌+◌, ◌-◌, ◌≤◌, ◌++◌, take, drop, vec_len};
 ghost use Rattle.std.specs.List.{remove_range};
 
+/// How many bytes move at once.
+const PIECE: usize = 512;
+
 /// Takes a part out, and gives memory back where less than half of it is left.
 pub(crate) fn cut(bytes: &mut Vec<u8>, from: usize, to: usize)
     requires forward { from ≤ to }
@@ -14,8 +17,8 @@ pub(crate) fn cut(bytes: &mut Vec<u8>, from: usize, to: usize)
     }
 }
 
-/// Takes a part out. What lies behind it moves in pieces of its length, each at once: the library's own ways move byte
-/// by byte, or clear a great room on the stack.
+/// Takes a part out. What lies behind it moves in pieces, each at once: the library's own ways move byte by byte, or
+/// clear a great room on the stack.
 fn close_gap(bytes: &mut Vec<u8>, from: usize, to: usize)
     requires forward { from ≤ to }
     requires inside { to ≤ vec_len bytes.old }
@@ -28,22 +31,24 @@ fn close_gap(bytes: &mut Vec<u8>, from: usize, to: usize)
     let left = bytes.len() - gap;
     let mut at = from;
     while at < left {
-        let piece = gap.min(left - at);
+        let piece = PIECE.min(left - at);
         move_piece(bytes, at, gap, piece);
         at += piece;
     }
     bytes.truncate(left);
 }
 
-/// Moves a piece down over a gap before it that is as long at least.
+/// Moves a piece down over a gap before it, by way of the stack.
 fn move_piece(bytes: &mut Vec<u8>, at: usize, gap: usize, piece: usize)
-    requires apart { piece ≤ gap }
+    requires short { piece ≤ 512 }
     requires inside { at + gap + piece ≤ vec_len bytes.old }
     ensures { bytes.new.items ≡ take at bytes.old.items
         ++ (take piece (drop (at + gap) bytes.old.items) ++ drop (at + piece) bytes.old.items) }
 {
-    let (front, back) = bytes.as_mut_slice().split_at_mut(at + gap);
-    front[at..at + piece].copy_from_slice(&back[..piece]);
+    let mut room = [0; PIECE];
+    let held = &mut room[..piece];
+    held.copy_from_slice(&bytes.as_slice()[at + gap..at + gap + piece]);
+    bytes.as_mut_slice()[at..at + piece].copy_from_slice(held);
 }
 
 /// Takes a part out of what begins at `start`, and says where that begins then. The fewer bytes move: those before the
@@ -80,19 +85,21 @@ fn raise(bytes: &mut Vec<u8>, start: usize, from: usize, to: usize)
     }
     let mut end = from;
     while start < end {
-        let piece = gap.min(end - start);
+        let piece = PIECE.min(end - start);
         end -= piece;
         raise_piece(bytes, end, gap, piece);
     }
 }
 
-/// Moves a piece up over a gap behind it that is as long at least.
+/// Moves a piece up over a gap behind it, by way of the stack.
 fn raise_piece(bytes: &mut Vec<u8>, at: usize, gap: usize, piece: usize)
-    requires apart { piece ≤ gap }
+    requires short { piece ≤ 512 }
     requires inside { at + gap + piece ≤ vec_len bytes.old }
     ensures { bytes.new.items ≡ take (at + gap) bytes.old.items
         ++ (take piece (drop at bytes.old.items) ++ drop (at + gap + piece) bytes.old.items) }
 {
-    let (front, back) = bytes.as_mut_slice().split_at_mut(at + gap);
-    back[..piece].copy_from_slice(&front[at..at + piece]);
+    let mut room = [0; PIECE];
+    let held = &mut room[..piece];
+    held.copy_from_slice(&bytes.as_slice()[at..at + piece]);
+    bytes.as_mut_slice()[at + gap..at + gap + piece].copy_from_slice(held);
 }

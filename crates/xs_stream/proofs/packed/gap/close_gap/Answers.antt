@@ -8,6 +8,6 @@ loop-at-preserved c =
     record {
       forward = omega (arith, was.forward);
       not_past = omega (arith, c.loop-at-test.true, c.min-piece.ensures);
-      same_length = omega (arith, was.same_length, piece-long c.loop-at.bytes.items c.move_piece.new.bytes.items c.loop-at.at _ c.min-piece.result (omega arith) (omega arith) c.move_piece.ensures);
-      around = piece-moved c.loop-at.bytes.items c.move_piece.new.bytes.items c.loop-at.at _ c.min-piece.result (omega arith) (omega arith) c.move_piece.ensures ∙ was.around;
+      same_length = omega (arith, was.same_length, piece-long c.loop-at.bytes.items c.move_piece.new.bytes.items c.loop-at.at _ c.min-piece.result (omega arith) c.move_piece.ensures);
+      around = piece-moved c.loop-at.bytes.items c.move_piece.new.bytes.items c.loop-at.at _ c.min-piece.result (omega arith) c.move_piece.ensures ∙ was.around;
     }
