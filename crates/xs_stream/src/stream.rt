@@ -201,8 +201,8 @@ impl Stream {
     }
 
     /// Entries to look at side by side with these ids: those from the first id on, as many as there are ids. None if
-    /// the ids don't ascend, since few of the entries would be theirs. They are lent, and each is the one that is looked
-    /// up by its id.
+    /// the ids don't ascend, since few of the entries would be theirs. They are lent, and each is the one that a search
+    /// for its id finds.
     pub fn entries_along(&self, alloc: Global, ids: &[Id]) -> Result<List<Entry<'_>>, AllocError>
         ensures { IfOk result (λ entries. AreEntriesOf self.now.entries entries) }
     {

@@ -63,8 +63,8 @@ fn read_any_entry<'a>(base: u64, bytes: &'a [u8]) -> PackedEntry<'a>
     }
 }
 
-/// The bytes after an entry whose numbers take a byte each, and which is fewer milliseconds above the base than `ms`,
-/// or as many with a sequence number below `seq`.
+/// The bytes after an entry that takes one byte for each number, and is fewer than `ms` milliseconds above the base, or
+/// as many with a sequence number below `seq`. None for each other entry, and near the end of a block.
 #[tactic(auto, unfolding(crate::specs::Packed::first_ms, crate::specs::Packed::entry_id, crate::specs::Packed::after_entry, crate::specs::PackedText::after_text, crate::specs::PackedNumber::first_number, crate::specs::PackedNumber::after_number))]
 #[inline(always)]
 pub(crate) fn after_early_entry(bytes: &[u8], ms: u8, seq: u8) -> Option<&[u8]>
@@ -72,8 +72,13 @@ pub(crate) fn after_early_entry(bytes: &[u8], ms: u8, seq: u8) -> Option<&[u8]>
     requires seq { seq ≤ 253 }
     ensures rest { IfSome result (λ rest. rest.now ≡ after_entry bytes.now) }
     ensures ms { IfSome result (λ _. (base : ℕ) → (entry_id base bytes.now).ms ≤ base + ms) }
-    ensures seq { IfSome result (λ _. (base : ℕ) → base + ms ≤ (entry_id base bytes.now).ms → (entry_id base bytes.now).seq < seq) }
+    ensures seq { IfSome result (λ _. (base : ℕ) → base + ms ≤ (entry_id base bytes.now).ms
+        → (entry_id base bytes.now).seq < seq) }
 {
+    // Then no length of one byte leads past the end, and a walk needs no further look at it.
+    if bytes.len() < 255 {
+        return None;
+    }
     if let [above, number, len, rest @ ..] = bytes {
         let early = *above < ms && *number < 253 || *above == ms && *number < seq;
         if early && *len < 253 {
