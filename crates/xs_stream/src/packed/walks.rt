@@ -150,6 +150,7 @@ pub(crate) fn push_all_ids(
     ensures { OnOk result (ids.new.items
         ≡ ids.old.items ++ filter (is_within range) (ids_of (block_entries base count start bytes.now))) }
 {
+    ids.reserve(count)?;
     let mut rest = after(bytes, start);
     for _ in 0..count {
         let entry = read_entry(base, rest);
@@ -203,6 +204,7 @@ pub(crate) fn push_all_entries<'a>(
         ≡ shown.old.items ++ filter (λ e. is_within range e.0) (block_entries base count start bytes.now)) }
 {
     let (names, _) = read_text(bytes);
+    shown.reserve(count)?;
     let mut rest = after(bytes, start);
     for _ in 0..count {
         let entry = read_entry(base, rest);
