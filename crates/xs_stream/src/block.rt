@@ -29,7 +29,11 @@ use std::marker::Model;
 const MOST_ENTRIES: usize = 128;
 
 /// How many bytes a block of many small entries has room for.
-const ROOM: usize = 1536;
+const ROOM: usize = 2560;
+
+/// How many bytes aren't worth giving back. The C library keeps pieces so small apart, and joins each with its
+/// neighbours when a stream goes.
+const SMALL_PIECE: usize = 128;
 
 /// How many bytes an entry may take more in another block.
 const MOST_LONGER: usize = 8;
@@ -119,11 +123,13 @@ impl Block {
         values.saturating_add(BESIDE_VALUES) <= left as u64
     }
 
-    /// Gives back the memory that no entry takes.
+    /// Gives back the memory that no entry takes, unless it is a small piece.
     pub(crate) fn seal(&mut self)
         ensures { self.new ≡ self.old }
     {
-        self.bytes.shrink_to_fit();
+        if self.bytes.capacity().saturating_sub(self.bytes.len()) > SMALL_PIECE {
+            self.bytes.shrink_to_fit();
+        }
     }
 
     /// Puts an entry behind the others, whose values take so many bytes.
