@@ -75,7 +75,7 @@ pub(crate) fn after_early_entry(bytes: &[u8], ms: u8, seq: u8) -> Option<&[u8]>
     ensures seq { IfSome result (λ _. (base : ℕ) → base + ms ≤ (entry_id base bytes.now).ms
         → (entry_id base bytes.now).seq < seq) }
 {
-    // Then no length of one byte leads past the end, and a walk needs no further look at it.
+    // If as many bytes are left, no length of one byte leads past the end: this one test does for the whole entry.
     if bytes.len() < 255 {
         return None;
     }
