@@ -117,6 +117,7 @@ impl<K: Ord, V> SmallMap<K, V> {
         ensures fits { length result < 2 ^ 64 }
         ensures between { R.has_bounds range → result
             ≡ entries_between K.cmp (R.start_bound range) (R.end_bound range) self.now.entries }
+        ensures ordered { IsOrdered K.cmp self.now }
     {
         Entries::new(self.form.range(range))
     }

@@ -62,6 +62,7 @@ impl<K: Ord> SmallSet<K> {
         requires { R.is_forward range (IsLeBy K.cmp) (IsLtBy K.cmp) }
         ensures between { R.has_bounds range → result
             ≡ keys_between K.cmp (R.start_bound range) (R.end_bound range) self.now }
+        ensures ordered { IsOrdered K.cmp self.now }
     {
         Keys::new(self.map.range(range))
     }
