@@ -112,11 +112,10 @@ unowned-rows names rows name named none = change-nothing (unless_owned name) row
   by q (Some row) e = ap (λ b. cond b None (Some row)) e
 
 -- without the consumer that was put in, a group is what it was
-pub held-back : (held : PendingList) (name : List ℕ) → IsNamed held.consumers held.rows → true ≡ not (has_name held.consumers name)
+pub held-back : (held : PendingList) (name : List ℕ) → change (unless_owned name) held.rows ≡ held.rows → true ≡ not (has_name held.consumers name)
     → ◌≡◌ {A = PendingList} (record { consumers = remove (with_name held.consumers name) name; rows = change (unless_owned name) held.rows }) held
-held-back held name named new =
-    let none = by (has_name held.consumers name) new in
-    λ i. record { consumers = out-names held.consumers name none i; rows = unowned-rows held.consumers held.rows name named none i } where
+held-back held name unowned new =
+    λ i. record { consumers = out-names held.consumers name (by (has_name held.consumers name) new) i; rows = unowned i } where
       by : (b : Bool) → true ≡ not b → b ≡ false
       by true e = cc
       by false e = refl

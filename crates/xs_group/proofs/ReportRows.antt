@@ -23,15 +23,15 @@ use Rattle.xs_stream.specs.declared.id.Id.{Id}
 use Rattle.xs_stream.specs.declared.range.Range.{Range}
 use Rattle.xs_stream.specs.Id.{id_cmp, is_below}
 use Rattle.xs_stream.specs.StreamContent.{is_within}
-use Rattle.xs_stream.proofs.InOrder.{between-within, filter-filter}
+use Rattle.xs_stream.proofs.InOrder.{between-within, filter-filter, and_yes}
 use Rattle.xs_group.specs.declared.reports.PendingRow.{PendingRow}
-use Rattle.xs_group.specs.GroupState.{RowState, Rows, is_same_name, idle, owned_ids}
-use Rattle.xs_group.specs.Indexes.{ConsumerIndex, names_of, ids_at, indexed_row}
+use Rattle.xs_group.specs.declared.reports.Selection.{Selection}
+use Rattle.xs_group.specs.GroupState.{RowState, is_same_name, idle, owned_ids}
+use Rattle.xs_group.specs.Indexes.{ConsumerIndex, names_of, ids_at, indexed_row, rows_of}
 use Rattle.xs_group.specs.Report.{first_id, last_id, pending_row, is_of, is_selected}
-use Rattle.xs_group.specs.Listing.{is_told, with_row, listed_rows}
 use Rattle.xs_group.proofs.ByConsumer.{Index, is_same_name-symm, is_same_name-refl}
 use Rattle.xs_group.proofs.Ordered.{is_sorted-from, first, second}
-use Rattle.xs_group.proofs.Views.{find-lookup}
+use Rattle.xs_group.proofs.Views.{get-rows_of}
 use Rattle.xs_group.proofs.Scanning.{AreFound, found-all, found-filter}
 use Rattle.xs_stream.proofs.Order.{below-not_below}
 
@@ -101,15 +101,23 @@ told xs ys all n e few (inr full) =
     let exact : length xs ≡ n = omega arith in
     sym (take-append_seam xs ys) ∙ ap (λ k. take k (xs ++ ys)) exact ∙ ap (take n) e
 
-filter-same : (p q : Id × RowState → Bool) (es : List (Id × RowState)) → ((e : Id × RowState) → p e ≡ q e) → filter p es ≡ filter q es
-filter-same p q [] is = refl
-filter-same p q (e ∷ es) is = λ i. cond (is e i) (e ∷ filter-same p q es is i) (filter-same p q es is i)
+pub rows-between : (s : Selection) (rows : List (Id × RowState))
+    → filter (λ e. leb s.min_idle (idle s.moment e.1.time)) (entries_between id_cmp (Included s.range.low) (Included s.range.high) rows)
+    ≡ filter (is_selected s.range s.min_idle s.moment None) rows
+rows-between s rows =
+    filter-filter (λ (e : Id × RowState). range_contains id_cmp (Included s.range.low) (Included s.range.high) e.0)
+    (λ e. leb s.min_idle (idle s.moment e.1.time)) (is_selected s.range s.min_idle s.moment None)
+    (λ e. λ i. sym (between-within s.range e.0) i && and_yes (leb s.min_idle (idle s.moment e.1.time)) i) rows
 
-pub rows-between : (range : Range) (min now : ℕ) (rows : List (Id × RowState))
-    → filter (λ e. leb min (idle now e.1.time)) (entries_between id_cmp (Included range.low) (Included range.high) rows) ≡ filter (is_told range min now) rows
-rows-between range min now rows =
-    filter-filter (λ (e : Id × RowState). range_contains id_cmp (Included range.low) (Included range.high) e.0) (λ e. leb min (idle now e.1.time)) (is_told range min now)
-    (λ e. ap (λ b. b && leb min (idle now e.1.time)) (sym (between-within range e.0))) rows
+-- a row before the others, where there is one
+abbrev pub with_row : Id → Option RowState → List (Id × RowState) → List (Id × RowState)
+with_row x None rest = rest
+with_row x (Some row) rest = (x, row) ∷ rest
+
+-- the rows of these ids
+abbrev pub listed_rows : List (Id × RowState) → List Id → List (Id × RowState)
+listed_rows rows [] = []
+listed_rows rows (x ∷ xs) = with_row x (indexed_row rows x) (listed_rows rows xs)
 
 -- the rows of the ids in a range
 pub among-between : (range : Range) (rows : List (Id × RowState)) (ids : List Id)
@@ -131,33 +139,26 @@ among-between range rows (x ∷ xs) =
       one false e None a b r = r
       one false e (Some row) a b r = r ∙ ap (λ t. cond t ((x, row) ∷ filter (λ e. is_within range e.0) b) (filter (λ e. is_within range e.0) b)) (sym e)
 
-pub among-told : (range : Range) (min now : ℕ) (rows : List (Id × RowState)) (ids : List Id)
-    → filter (λ e. leb min (idle now e.1.time)) (listed_rows rows (filter (range_contains id_cmp (Included range.low) (Included range.high)) ids))
-    ≡ filter (is_told range min now) (listed_rows rows ids)
-among-told range min now rows ids = ap (filter (λ e. leb min (idle now e.1.time))) (among-between range rows ids)
-    ∙ filter-filter (λ (e : Id × RowState). is_within range e.0) (λ e. leb min (idle now e.1.time)) (is_told range min now) (λ e. refl) (listed_rows rows ids)
-
-among-found : (rows es : List (Id × RowState)) → AreFound rows es → listed_rows rows (keys_of es) ≡ es
+among-found : (rows es : List (Id × RowState)) → AreFound (rows_of rows).entries es → listed_rows rows (keys_of es) ≡ es
+unfolding get
 among-found rows [] a = refl
-among-found rows (e ∷ es) a = (λ i. with_row e.0 (sym (a.0 ∙ find-lookup id_cmp e.0 rows) i) (listed_rows rows (keys_of es))) ∙ ap (λ rest. e ∷ rest) (among-found rows es a.1)
+among-found rows (e ∷ es) a = (λ i. with_row e.0 (sym (a.0 ∙ get-rows_of rows e.0) i) (listed_rows rows (keys_of es))) ∙ ap (λ rest. e ∷ rest) (among-found rows es a.1)
 
 -- ---- what is asked
 
-pub asked-all : (range : Range) (min now : ℕ) (rows : List (Id × RowState)) → filter (is_told range min now) rows ≡ filter (is_selected range min now None) rows
-asked-all range min now rows = filter-same (is_told range min now) (is_selected range min now None) rows (λ e. ap (λ b. is_within range e.0 && b) (yes (leb min (idle now e.1.time)))) where
-  yes : (b : Bool) → b ≡ (b && true)
-  yes true = refl
-  yes false = refl
-
-pub asked-owned : (range : Range) (min now : ℕ) (name : List ℕ) (rows : Rows) (ids : List Id) → ids ≡ owned_ids name rows.entries
-    → filter (is_told range min now) (listed_rows rows.entries ids) ≡ filter (is_selected range min now (Some name)) rows.entries
-asked-owned range min now name rows ids is =
-    ap (λ k. filter (is_told range min now) (listed_rows rows.entries k)) is
-    ∙ ap (filter (is_told range min now)) (among-found rows.entries (filter (λ e. is_same_name e.1.consumer name) rows.entries)
-    (found-filter rows.entries rows.entries (λ e. is_same_name e.1.consumer name) (found-all rows.entries rows.sorted)))
-    ∙ filter-filter (λ (e : Id × RowState). is_same_name e.1.consumer name) (is_told range min now) (is_selected range min now (Some name))
-    (λ e. turned (is_within range e.0) (leb min (idle now e.1.time)) (is_same_name e.1.consumer name)) rows.entries where
-      turned : (w i n : Bool) → (w && (i && n)) ≡ (n && (w && i))
+pub asked-owned : (s : Selection) (name : List ℕ) (rows : List (Id × RowState)) (ids : List Id) → ids ≡ owned_ids name (rows_of rows).entries
+    → filter (λ e. leb s.min_idle (idle s.moment e.1.time)) (filter (λ e. is_within s.range e.0) (listed_rows rows ids))
+    ≡ filter (is_selected s.range s.min_idle s.moment (Some name)) (rows_of rows).entries
+asked-owned s name rows ids is =
+    let all = (rows_of rows).entries in
+    let mine = λ (e : Id × RowState). is_same_name e.1.consumer name in
+    let within = λ (e : Id × RowState). is_within s.range e.0 in
+    let is_idle = λ (e : Id × RowState). leb s.min_idle (idle s.moment e.1.time) in
+    ap (λ k. filter is_idle (filter within (listed_rows rows k))) is
+    ∙ ap (λ es. filter is_idle (filter within es)) (among-found rows (filter mine all) (found-filter all all mine (found-all all (rows_of rows).sorted)))
+    ∙ ap (filter is_idle) (filter-filter mine within (λ e. mine e && within e) (λ e. refl) all)
+    ∙ filter-filter (λ e. mine e && within e) is_idle (is_selected s.range s.min_idle s.moment (Some name)) (λ e. turned (within e) (is_idle e) (mine e)) all where
+      turned : (w i n : Bool) → (w && (i && n)) ≡ ((n && w) && i)
       turned true true true = refl
       turned true true false = refl
       turned true false true = refl

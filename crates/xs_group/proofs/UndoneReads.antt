@@ -10,7 +10,7 @@ use Rattle.xs_group.specs.ConsistentGroup.{IsConsistentGroup}
 use Rattle.xs_group.specs.Deliveries.{delivery_of, history_of, new_rows, kind_of, taken_back, without_made, unmade}
 use Rattle.xs_group.specs.Deliveries.{row_ids, IsDelivered, IsReread, IsMade}
 use Rattle.xs_group.proofs.Agreeing.{name-again}
-use Rattle.xs_group.proofs.NewRows.{held-back, out-again}
+use Rattle.xs_group.proofs.NewRows.{held-back, out-again, unowned-rows}
 use Rattle.xs_group.proofs.Cursors.{free-above, new_ids-above}
 use Rattle.xs_group.proofs.Touching.{rows-unread}
 
@@ -24,7 +24,7 @@ without-made : (held : PendingList) (name : List ℕ) → IsNamed held.consumers
 without-made held name named = by (has_name held.consumers name) refl where
   by : (t : Bool) → has_name held.consumers name ≡ t → without_made (not t) name (record { consumers = with_name held.consumers name; rows = held.rows }) ≡ held
   by true e = ap (λ names. record { consumers = names; rows = held.rows }) (name-again held.consumers name e)
-  by false e = held-back held name named (sym (ap not e))
+  by false e = held-back held name (unowned-rows held.consumers held.rows name named e) (sym (ap not e))
 
 -- a group with the consumers and the rows that an undoing leaves
 abbrev pub undone : Delivery → GroupState → GroupState

@@ -1,17 +1,16 @@
 -- The words of the contracts within this crate, by examples over the group of `ExamplesRead`: the index by consumer,
 -- reports as they are made, and what a read leaves. They say the same as those of `ExamplesRead` and `ExamplesReport`.
-use Rattle.std.specs.Prelude.{◌≡◌, true, false, [], ◌∷◌, codes, Some, None}
+use Rattle.std.specs.Prelude.{◌≡◌, ℕ, true, false, [], ◌∷◌, codes, Some, None}
 use Rattle.xs_bytes.specs.SortedMap.{keys}
-use Rattle.xs_stream.specs.Id.{greatest_id}
 use Rattle.xs_stream.specs.Examples.{at}
 use Rattle.xs_group.specs.declared.delivery.DeliveryKind.TheVariants as kind
+use Rattle.xs_group.specs.declared.reports.Selection.{Selection}
 use Rattle.xs_group.specs.Indexes.{ConsumerIndex, rows_of, names_of, has_among, holds, AreFree}
 use Rattle.xs_group.specs.Deliveries.{received, taken_back}
-use Rattle.xs_group.specs.Listing.{owners_told, is_told, rows_told, with_row, listed_rows, rows_asked}
+use Rattle.xs_group.specs.Listing.{owners_told, rows_asked}
 use Rattle.xs_group.specs.Verdict.{AreSomeOf, AreAgreedBut}
 use Rattle.xs_group.specs.ExamplesRead.{pending, three, group, Is}
-use Rattle.xs_group.specs.ExamplesClaims.{row}
-use Rattle.xs_group.specs.ExamplesReport.{owner, told, everything, between}
+use Rattle.xs_group.specs.ExamplesReport.{owner, told, everything}
 use Rattle.xs_group.specs.ExamplesDelivered.{own}
 
 -- the ids of a, of b, and none of c
@@ -29,26 +28,21 @@ pub record Indexes : Type 0 where
   pub isnt_there : holds owners (codes "d") (at 1 0) ≡ false
   pub no_set : has_among None (at 1 0) ≡ false
 
+-- at most so many rows that are idle for so long
+abbrev pub first : ℕ → ℕ → Selection
+first limit min_idle = record { range = everything; min_idle = min_idle; moment = 150; limit = limit }
+
 pub record Listed : Type 0 where
   pub owners_of_rows : owners_told group.consumers group.rows ≡ owner (codes "a") 2 ∷ owner (codes "b") 1 ∷ []
-  pub idle_for_as_long : is_told everything 50 150 (pending (at 1 0) (codes "a") 100 1) ≡ true
-  pub not_idle_for_so_long : is_told everything 51 150 (pending (at 1 0) (codes "a") 100 1) ≡ false
-  pub not_in_the_range : is_told (between (at 1 1) greatest_id) 50 150 (pending (at 1 0) (codes "a") 100 1) ≡ false
-  pub the_first_of_two : rows_told everything 40 150 1 three ≡ told (at 1 0) (codes "a") 50 1 ∷ []
-  pub both : rows_told everything 40 150 9 three ≡ told (at 1 0) (codes "a") 50 1 ∷ told (at 2 0) (codes "b") 40 2 ∷ []
-  pub before_the_others :
-      with_row (at 1 0) (Some (row (codes "a") 100 1)) (pending (at 2 0) (codes "b") 110 2 ∷ [])
-      ≡ pending (at 1 0) (codes "a") 100 1 ∷ pending (at 2 0) (codes "b") 110 2 ∷ []
-  pub no_row :
-      with_row (at 9 0) None (pending (at 2 0) (codes "b") 110 2 ∷ []) ≡ pending (at 2 0) (codes "b") 110 2 ∷ []
-  pub rows_of_ids :
-      listed_rows three (at 3 0 ∷ at 9 0 ∷ at 1 0 ∷ [])
-      ≡ pending (at 3 0) (codes "a") 120 1 ∷ pending (at 1 0) (codes "a") 100 1 ∷ []
+  pub idle_for_as_long :
+      rows_asked (first 9 40) None group.rows
+      ≡ told (at 1 0) (codes "a") 50 1 ∷ told (at 2 0) (codes "b") 40 2 ∷ []
+  pub the_first_of_two : rows_asked (first 1 40) None group.rows ≡ told (at 1 0) (codes "a") 50 1 ∷ []
   pub of_one_consumer :
-      rows_asked everything 0 150 9 (Some (codes "a")) three
+      rows_asked (first 9 0) (Some (codes "a")) group.rows
       ≡ told (at 1 0) (codes "a") 50 1 ∷ told (at 3 0) (codes "a") 30 1 ∷ []
   pub the_first_of_a_consumer :
-      rows_asked everything 0 150 1 (Some (codes "a")) three ≡ told (at 1 0) (codes "a") 50 1 ∷ []
+      rows_asked (first 1 0) (Some (codes "a")) group.rows ≡ told (at 1 0) (codes "a") 50 1 ∷ []
 
 pub record Left : Type 0 where
   pub received_with_rows :

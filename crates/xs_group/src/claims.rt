@@ -1,9 +1,9 @@
 //! Claims: which pending entries go to another consumer, and what becomes of them (Redis, XCLAIM and XAUTOCLAIM).
-ghost use Rattle.std.specs.BTreeMap.{IsOrdered};
 ghost use Rattle.std.specs.Prelude.{IfOk, OnOk, Some, [], ◌≡◌};
 ghost use Rattle.xs_group.specs.Claims.{without_repeats, scan_of};
+ghost use Rattle.xs_group.specs.Indexes.{rows_of};
 ghost use Rattle.xs_group.specs.Verdict.{hits_of, verdict_of, with_removed, with_taken};
-ghost use Rattle.xs_stream.specs.Id.{has_id, id_cmp};
+ghost use Rattle.xs_stream.specs.Id.{has_id};
 ghost use Rattle.xs_stream.specs.StreamContent.{ids_of};
 
 use crate::id_index::IdIndex;
@@ -52,6 +52,15 @@ impl Model for ClaimRule {
     ghost invariant = { λ r. IsCount r.retry };
 
     ghost inverse = { λ r. record { min_idle = r.min_idle; when = r.when; retry = r.retry; just_id = r.just_id } };
+}
+
+/// By what an entry is claimed.
+#[derive(Drop)]
+pub(crate) struct ClaimTerms {
+    /// The moment of the claim.
+    pub(crate) moment: Moment,
+    /// Its rule.
+    pub(crate) rule: ClaimRule,
 }
 
 /// What a claim takes and removes, each in the order in which it was met.
@@ -143,19 +152,14 @@ impl Found {
 }
 
 /// The verdict on a pending entry.
-pub(crate) fn judge(
-    entry: &PendingEntry,
-    stream: &Stream,
-    now: Moment,
-    rule: &ClaimRule,
-    id: Id,
-) -> Verdict
-    ensures { result ≡ verdict_of (Some entry.now) (has_id (ids_of stream.now.entries) id) now rule.now }
+pub(crate) fn judge(entry: &PendingEntry, stream: &Stream, terms: &ClaimTerms, id: Id) -> Verdict
+    ensures { result
+        ≡ verdict_of (Some entry.now) (has_id (ids_of stream.now.entries) id) terms.now.moment terms.now.rule }
 {
     if !reading::is_present(stream, id) {
         return Verdict::Removed;
     }
-    if entry.idle(now) < rule.min_idle {
+    if entry.idle(terms.moment) < terms.rule.min_idle {
         return Verdict::Passed;
     }
     Verdict::Taken
@@ -180,14 +184,12 @@ pub(crate) fn scan_rows(
     alloc: Global,
     rows: &IdIndex,
     stream: &Stream,
-    now: Moment,
-    rule: &ClaimRule,
+    terms: &ClaimTerms,
     start: Id,
     limit: u64,
 ) -> Result<Scan, AllocError>
-    requires { IsOrdered id_cmp rows.now }
-    ensures { IfOk result (λ scan. scan
-        ≡ scan_of rows.now.entries (ids_of stream.now.entries) now rule.now start limit) }
+    ensures { IfOk result (λ scan. scan ≡ scan_of (rows_of rows.now.entries).entries (ids_of stream.now.entries)
+        terms.now.moment terms.now.rule start limit) }
 {
     let mut found = Found::new(alloc);
     let mut hits = 0u64;
@@ -200,7 +202,7 @@ pub(crate) fn scan_rows(
                 claim: found.into_claim(),
             });
         }
-        let verdict = judge(entry, stream, now, rule, *id);
+        let verdict = judge(entry, stream, terms, *id);
         hits += verdict.hits();
         seen += 1;
         found.add(verdict, *id)?;

@@ -11,10 +11,10 @@ ghost use Rattle.std.specs.Option.{option_map};
 ghost use Rattle.xs_group.specs.Deliveries.{delivery_of, history_of, kind_of, received, IsMade};
 ghost use Rattle.xs_stream.specs.StreamContent.{ids_of, AllAbove, Ascends};
 
-use crate::claims::{Claim, ClaimRule, Scan};
+use crate::claims::{Claim, ClaimRule, ClaimTerms, Scan};
 use crate::delivery::{Delivery, DeliveryKind};
 use crate::pending::Pending;
-use crate::reports::{GroupSummary, PendingRow};
+use crate::reports::{GroupSummary, PendingRow, Selection};
 use crate::{claims, reading};
 use std::alloc::{AllocError, Global};
 use std::marker::Model;
@@ -190,8 +190,12 @@ impl Group {
             ≡ claim_by_ids self.now.rows.entries (ids_of stream.now.entries) now rule.now ids.now) }
     {
         let distinct = claims::without_repeats(alloc, ids)?;
+        let terms = ClaimTerms {
+            moment: now,
+            rule: *rule,
+        };
         self.pending
-            .claim_among(alloc, stream, now, rule, distinct.as_slice())
+            .claim_among(alloc, stream, &terms, distinct.as_slice())
     }
 
     /// What a claim of the pending entries from a start upwards takes and removes, and where the next
@@ -209,7 +213,11 @@ impl Group {
         ensures { IfOk result (λ scan. scan
             ≡ scan_of self.now.rows.entries (ids_of stream.now.entries) now rule.now start limit) }
     {
-        self.pending.scan(alloc, stream, now, rule, start, limit)
+        let terms = ClaimTerms {
+            moment: now,
+            rule: *rule,
+        };
+        self.pending.scan(alloc, stream, &terms, start, limit)
     }
 
     /// Carries out a claim that `find_claim` or `scan` found on this group as it stands, at the same
@@ -226,7 +234,11 @@ impl Group {
         ensures ok { OnOk result (self.new ≡ group_after_claim consumer.now now rule.now claim.now self.old) }
         ensures err { OnErr result (self.new ≡ self.old) }
     {
-        self.pending.settle(alloc, consumer, now, rule, claim)?;
+        let terms = ClaimTerms {
+            moment: now,
+            rule: *rule,
+        };
+        self.pending.settle(alloc, consumer, &terms, claim)?;
         Ok(())
     }
 
@@ -252,16 +264,18 @@ impl Group {
         ensures { IfOk result (λ rows. rows.items
             ≡ pending_of range min_idle now limit (option_map (λ c. c.now) consumer.entry) self.now) }
     {
-        // A look at a field brings in what holds of the whole group.
-        let _cursor = &self.cursor;
         if range.high < range.low {
             return Ok(Vec::new(alloc));
         }
+        let selection = Selection {
+            range,
+            min_idle,
+            moment: now,
+            limit,
+        };
         match consumer {
-            Some(name) => self
-                .pending
-                .owned_within(alloc, range, min_idle, now, limit, name),
-            None => self.pending.all_within(alloc, range, min_idle, now, limit),
+            Some(name) => self.pending.owned_within(alloc, &selection, name),
+            None => self.pending.all_within(alloc, &selection),
         }
     }
 

@@ -7,14 +7,14 @@ ghost use Rattle.xs_group.specs.GroupState.{is_same_name};
 ghost use Rattle.xs_group.specs.Indexes.{holds, ids_at, is_owner, indexed_row, IsAgreed};
 ghost use Rattle.xs_group.specs.Verdict.{moved, AreDistinct, AreAgreedBut, AreSomeOf};
 
-use crate::claims::ClaimRule;
+use crate::claims::ClaimTerms;
 use crate::consumer_index::{self, ConsumerIndex};
 use crate::id_index::IdIndex;
 use crate::name::Name;
 use crate::pending_entry::PendingEntry;
 use std::alloc::{AllocError, Global};
 use xs_bytes::Bytes;
-use xs_stream::{Id, Moment};
+use xs_stream::Id;
 
 /// The same name.
 fn are_equal_names(a: &Bytes, b: &Bytes) -> bool
@@ -122,24 +122,22 @@ fn leave_owner(owners: &mut ConsumerIndex, old: &Bytes, name: &Bytes, id: Id)
     consumer_index::remove_id(owners, old, id);
 }
 
-/// Gives one row to a consumer that has its id already. Those of `rest` follow.
+/// Gives one row to a consumer that has its id already.
 fn move_row(
     rows: &mut IdIndex,
     owners: &mut ConsumerIndex,
     name: &Bytes,
     share: Name,
-    now: Moment,
-    rule: &ClaimRule,
+    terms: &ClaimTerms,
     id: Id,
-    rest: &[Id],
 )
-    requires share { share ≡ name.now }
-    requires apart { has_id rest.now id ≡ false }
-    requires agreed { AreAgreedBut rows.old.entries owners.old.entries name.now (id ∷ rest.now) }
+    requires { share ≡ name.now }
     ensures rows { (x : Id) → indexed_row rows.new.entries x
-        ≡ (if is_same_id x id then option_and_then (moved name.now now rule.now (id
+        ≡ (if is_same_id x id then option_and_then (moved name.now terms.now.moment terms.now.rule (id
         ∷ []) x) (indexed_row rows.old.entries x) else indexed_row rows.old.entries x) }
-    ensures agreed { AreAgreedBut rows.new.entries owners.new.entries name.now rest.now }
+    ensures agreed { (rest : List Id) → has_id rest id ≡ false
+        → AreAgreedBut rows.old.entries owners.old.entries name.now (id ∷ rest)
+        → AreAgreedBut rows.new.entries owners.new.entries name.now rest }
     ensures names { (n : List ℕ) → is_some (ids_at owners.new.entries n) ≡ is_some (ids_at owners.old.entries n) }
 {
     let Some(entry) = rows.get_mut(&id) else {
@@ -147,7 +145,7 @@ fn move_row(
         return;
     };
     leave_owner(owners, entry.consumer(), name, id);
-    entry.claim(share, now, rule);
+    entry.claim(share, terms);
 }
 
 /// Gives rows to a consumer that has their ids already. It takes no memory.
@@ -156,15 +154,14 @@ pub(crate) fn move_rows(
     owners: &mut ConsumerIndex,
     name: &Bytes,
     names: Vec<Name>,
-    now: Moment,
-    rule: &ClaimRule,
+    terms: &ClaimTerms,
     ids: &[Id],
 )
     requires names { names.items ≡ map (λ x. name.now) ids.now }
     requires apart { AreDistinct ids.now }
     requires agreed { AreAgreedBut rows.old.entries owners.old.entries name.now ids.now }
     ensures rows { (x : Id) → indexed_row rows.new.entries x
-        ≡ option_and_then (moved name.now now rule.now ids.now x) (indexed_row rows.old.entries x) }
+        ≡ option_and_then (moved name.now terms.now.moment terms.now.rule ids.now x) (indexed_row rows.old.entries x) }
     ensures agreed { IsAgreed rows.new.entries owners.new.entries }
     ensures names { (n : List ℕ) → is_some (ids_at owners.new.entries n) ≡ is_some (ids_at owners.old.entries n) }
 {
@@ -174,6 +171,6 @@ pub(crate) fn move_rows(
             return;
         };
         todo = rest;
-        move_row(rows, owners, name, share, now, rule, *id, rest);
+        move_row(rows, owners, name, share, terms, *id);
     }
 }

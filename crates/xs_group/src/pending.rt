@@ -14,19 +14,19 @@ ghost use Rattle.xs_stream.specs.StreamContent.{ids_of};
 ghost use Rattle.xs_group.specs.Deliveries.{touch_of, shown_rows, set_one, set_rows, touch_set, row_ids, taken_back};
 ghost use Rattle.xs_group.specs.Deliveries.{unmade};
 
-use crate::claims::{Claim, ClaimRule, Found, Scan, Verdict};
+use crate::claims::{Claim, ClaimTerms, Found, Scan, Verdict};
 use crate::consumer_index::{self, ConsumerIndex};
 use crate::delivery::{Delivery, DeliveryKind, DeliveryRow, Touch};
 use crate::id_index::{self, IdIndex};
 use crate::name::Name;
 use crate::pending_entry::PendingEntry;
-use crate::reports::{GroupSummary, PendingRow};
+use crate::reports::{GroupSummary, PendingRow, Selection};
 use crate::{claims, moving, reading, reports};
 use std::alloc::{AllocError, Global};
 use std::marker::Model;
 use xs_bytes::{Bytes, List};
 use xs_maps::{SmallMap, SmallSet};
-use xs_stream::{Id, Moment, Range, Stream};
+use xs_stream::{Id, Moment, Stream};
 
 /// The consumers and the pending entries. Both indexes hold the same pairs of a consumer and an id.
 #[derive(Drop)]
@@ -64,9 +64,11 @@ impl Pending {
         self.owners.contains_key(name)
     }
 
-    /// Puts a consumer in, and says whether it is new.
+    /// Puts a consumer in, and says whether it is new. A new one has no rows.
     pub(crate) fn add_consumer(&mut self, alloc: Global, name: &Bytes) -> Result<bool, AllocError>
         ensures made { IfOk result (λ made. made ≡ not (has_name self.old.consumers name.now)) }
+        ensures unowned { IfOk result (λ made. made ≡ true
+            → change (unless_owned name.now) self.old.rows ≡ self.old.rows) }
         ensures ok { OnOk result (self.new ≡ record self.old { consumers = with_name self.old.consumers name.now }) }
         ensures err { OnErr result (self.new ≡ self.old) }
     {
@@ -136,7 +138,6 @@ impl Pending {
         }) }
         ensures err { OnErr result (self.new ≡ self.old) }
     {
-        self.lawful();
         let made = self.add_consumer(alloc, name)?;
         let Ok(()) = self.put_all(alloc, name, now, ids) else {
             if made {
@@ -160,8 +161,6 @@ impl Pending {
         let Some(ids) = self.owners.get(name) else {
             return Ok(List::new(Vec::new(alloc)));
         };
-        // The proof needs that the ids ascend, which a call on the set tells it.
-        let _len = ids.len();
         reading::limited_above(alloc, ids, from, limit)
     }
 
@@ -258,11 +257,12 @@ impl Pending {
     }
 
     /// What a claim makes of an id.
-    fn verdict(&self, stream: &Stream, now: Moment, rule: &ClaimRule, id: Id) -> Verdict
-        ensures { result ≡ verdict_of (get self.now.rows id) (has_id (ids_of stream.now.entries) id) now rule.now }
+    fn verdict(&self, stream: &Stream, terms: &ClaimTerms, id: Id) -> Verdict
+        ensures { result ≡ verdict_of (get self.now.rows id) (has_id (ids_of stream.now.entries) id)
+            terms.now.moment terms.now.rule }
     {
         match self.rows.get(&id) {
-            Some(entry) => claims::judge(entry, stream, now, rule, id),
+            Some(entry) => claims::judge(entry, stream, terms, id),
             None => Verdict::Passed,
         }
     }
@@ -272,16 +272,15 @@ impl Pending {
         &self,
         alloc: Global,
         stream: &Stream,
-        now: Moment,
-        rule: &ClaimRule,
+        terms: &ClaimTerms,
         ids: &[Id],
     ) -> Result<Claim, AllocError>
-        ensures { IfOk result (λ claim. claim
-            ≡ claim_among self.now.rows.entries (ids_of stream.now.entries) now rule.now ids.now) }
+        ensures { IfOk result (λ claim. claim ≡ claim_among self.now.rows.entries (ids_of stream.now.entries)
+            terms.now.moment terms.now.rule ids.now) }
     {
         let mut found = Found::new(alloc);
         for id in ids {
-            let verdict = self.verdict(stream, now, rule, *id);
+            let verdict = self.verdict(stream, terms, *id);
             found.add(verdict, *id)?;
         }
         Ok(found.into_claim())
@@ -292,17 +291,14 @@ impl Pending {
         &self,
         alloc: Global,
         stream: &Stream,
-        now: Moment,
-        rule: &ClaimRule,
+        terms: &ClaimTerms,
         start: Id,
         limit: u64,
     ) -> Result<Scan, AllocError>
-        ensures { IfOk result (λ scan. scan
-            ≡ scan_of self.now.rows.entries (ids_of stream.now.entries) now rule.now start limit) }
+        ensures { IfOk result (λ scan. scan ≡ scan_of self.now.rows.entries (ids_of stream.now.entries)
+            terms.now.moment terms.now.rule start limit) }
     {
-        // The proof needs that the rows are in the order of their ids, which a call on the map tells it.
-        let _len = self.rows.len();
-        claims::scan_rows(alloc, &self.rows, stream, now, rule, start, limit)
+        claims::scan_rows(alloc, &self.rows, stream, terms, start, limit)
     }
 
     /// Gives these entries to a consumer, as a claim does.
@@ -310,28 +306,20 @@ impl Pending {
         &mut self,
         alloc: Global,
         name: &Bytes,
-        now: Moment,
-        rule: &ClaimRule,
+        terms: &ClaimTerms,
         ids: &[Id],
     ) -> Result<(), AllocError>
         requires there { has_name self.old.consumers name.now ≡ true }
         requires apart { AreDistinct ids.now }
-        ensures ok { OnOk result (self.new
-            ≡ record self.old { rows = change (moved name.now now rule.now ids.now) self.old.rows }) }
+        ensures ok { OnOk result (self.new ≡ record self.old {
+          rows = change (moved name.now terms.now.moment terms.now.rule ids.now) self.old.rows;
+        }) }
         ensures err { OnErr result (self.new ≡ self.old) }
     {
         let shared = self.shared_name(alloc, name)?;
         let names = moving::shares(alloc, &shared, ids)?;
         moving::add_ids(&self.rows, &mut self.owners, name, ids)?;
-        moving::move_rows(
-            &mut self.rows,
-            &mut self.owners,
-            name,
-            names,
-            now,
-            rule,
-            ids,
-        );
+        moving::move_rows(&mut self.rows, &mut self.owners, name, names, terms, ids);
         Ok(())
     }
 
@@ -340,20 +328,18 @@ impl Pending {
         &mut self,
         alloc: Global,
         name: &Bytes,
-        now: Moment,
-        rule: &ClaimRule,
+        terms: &ClaimTerms,
         claim: &Claim,
     ) -> Result<(), AllocError>
         requires { AreDistinct claim.now.take }
         ensures ok { OnOk result (self.new ≡ record {
           consumers = with_name self.old.consumers name.now;
-          rows = change (row_after_claim name.now now rule.now claim.now) self.old.rows;
+          rows = change (row_after_claim name.now terms.now.moment terms.now.rule claim.now) self.old.rows;
         }) }
         ensures err { OnErr result (self.new ≡ self.old) }
     {
-        self.lawful();
         let made = self.add_consumer(alloc, name)?;
-        let Ok(()) = self.reassign(alloc, name, now, rule, claim.take.as_slice()) else {
+        let Ok(()) = self.reassign(alloc, name, terms, claim.take.as_slice()) else {
             if made {
                 self.remove_consumer(name);
             }
@@ -369,7 +355,7 @@ impl Pending {
             ≡ summary_of (record { cursor = zero_id; consumers = self.now.consumers; rows = self.now.rows })) }
     {
         let total = self.rows.len() as u64;
-        let owners = reports::owner_counts(alloc, &self.rows, &self.owners)?;
+        let owners = reports::owner_counts(alloc, &self.owners)?;
         Ok(GroupSummary {
             total,
             least: reports::least(&self.rows),
@@ -378,45 +364,32 @@ impl Pending {
         })
     }
 
-    /// The rows in a range that isn't empty that are idle for long enough, at most this many.
+    /// The selected rows, in a range that isn't empty.
     pub(crate) fn all_within(
         &self,
         alloc: Global,
-        range: Range,
-        min_idle: u64,
-        now: Moment,
-        limit: u64,
+        selection: &Selection,
     ) -> Result<Vec<PendingRow>, AllocError>
-        requires { is_below range.high range.low ≡ false }
-        ensures { IfOk result (λ found. found.items ≡ rows_asked range min_idle now limit None self.now.rows.entries) }
+        requires { is_below selection.now.range.high selection.now.range.low ≡ false }
+        ensures { IfOk result (λ found. found.items ≡ rows_asked selection.now None self.now.rows) }
     {
-        // The proof needs that the rows are in the order of their ids, which a call on the map tells it.
-        let _len = self.rows.len();
-        reports::rows_within(alloc, &self.rows, range, min_idle, now, limit)
+        reports::rows_within(alloc, &self.rows, selection)
     }
 
     /// Those of one consumer.
     pub(crate) fn owned_within(
         &self,
         alloc: Global,
-        range: Range,
-        min_idle: u64,
-        now: Moment,
-        limit: u64,
+        selection: &Selection,
         name: &Bytes,
     ) -> Result<Vec<PendingRow>, AllocError>
-        requires { is_below range.high range.low ≡ false }
-        ensures { IfOk result (λ found. found.items
-            ≡ rows_asked range min_idle now limit (Some name.now) self.now.rows.entries) }
+        requires { is_below selection.now.range.high selection.now.range.low ≡ false }
+        ensures { IfOk result (λ found. found.items ≡ rows_asked selection.now (Some name.now) self.now.rows) }
     {
-        // The proof needs that the rows are in the order of their ids, which a call on the map tells it.
-        let _len = self.rows.len();
         let Some(ids) = self.owners.get(name) else {
             return Ok(Vec::new(alloc));
         };
-        // The same of the consumer's ids.
-        let _count = ids.len();
-        reports::rows_of_ids(alloc, &self.rows, ids, range, min_idle, now, limit)
+        reports::rows_of_ids(alloc, &self.rows, ids, selection)
     }
 
     /// Takes these ids out.

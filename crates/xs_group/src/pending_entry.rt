@@ -3,7 +3,7 @@ ghost use Rattle.std.specs.Prelude.{◌≡◌, IfOk};
 ghost use Rattle.xs_group.specs.GroupState.{next_count, idle};
 ghost use Rattle.xs_group.specs.Claims.{claimed_row, claim_time, claim_count};
 
-use crate::claims::{ClaimRule, ClaimTime};
+use crate::claims::{ClaimTerms, ClaimTime};
 use crate::delivery::Touch;
 use crate::name::Name;
 use std::alloc::AllocError;
@@ -91,11 +91,12 @@ impl PendingEntry {
     }
 
     /// What a claim makes of the entry.
-    pub(crate) fn claim(&mut self, consumer: Name, now: Moment, rule: &ClaimRule)
-        ensures { self.new ≡ claimed_row consumer now rule.now self.old }
+    pub(crate) fn claim(&mut self, consumer: Name, terms: &ClaimTerms)
+        ensures { self.new ≡ claimed_row consumer terms.now.moment terms.now.rule self.old }
     {
         self.consumer = consumer;
-        self.time = claim_time(rule.when, now);
+        let rule = &terms.rule;
+        self.time = claim_time(rule.when, terms.moment);
         self.count = claim_count(rule.retry, rule.just_id, self.count);
     }
 }

@@ -1,6 +1,7 @@
 //! What a read of a group is made of.
 ghost use Rattle.std.specs.Prelude.{◌≡◌, IfOk, take, filter};
-ghost use Rattle.xs_stream.specs.Id.{has_id, is_below};
+ghost use Rattle.std.specs.BTreeSet.{IsOrdered};
+ghost use Rattle.xs_stream.specs.Id.{has_id, id_cmp, is_below};
 ghost use Rattle.xs_stream.specs.StreamContent.{ids_of, limited, AreEntriesOf};
 ghost use Rattle.xs_group.specs.GroupState.{last_of};
 ghost use Rattle.xs_group.specs.Deliveries.{new_rows, touch_set};
@@ -67,7 +68,8 @@ pub(crate) fn limited_above(
     from: Id,
     limit: Option<u64>,
 ) -> Result<List<Id>, AllocError>
-    ensures { IfOk result (λ above. above ≡ limited limit (filter (λ x. is_below from x) ids.now.keys)) }
+    ensures ordered { IsOrdered id_cmp ids.now }
+    ensures above { IfOk result (λ above. above ≡ limited limit (filter (λ x. is_below from x) ids.now.keys)) }
 {
     let above = ids_above(alloc, ids, from, limit.unwrap_or(u64::MAX))?;
     Ok(List::new(above))
@@ -75,7 +77,8 @@ pub(crate) fn limited_above(
 
 /// The ids of a set above this one, in their order, at most this many.
 fn ids_above(alloc: Global, ids: &SmallSet<Id>, from: Id, most: u64) -> Result<Vec<Id>, AllocError>
-    ensures { IfOk result (λ above. above.items ≡ take most (filter (λ x. is_below from x) ids.now.keys)) }
+    ensures ordered { IsOrdered id_cmp ids.now }
+    ensures above { IfOk result (λ above. above.items ≡ take most (filter (λ x. is_below from x) ids.now.keys)) }
 {
     let mut above = Vec::new(alloc);
     let past = ids.range((Bound::Excluded(from), Bound::Unbounded));

@@ -1,9 +1,12 @@
 //! Reports of what is pending (Redis, XPENDING).
-ghost use Rattle.std.specs.Prelude.{IfOk, false, ◌≡◌};
-ghost use Rattle.xs_group.specs.Indexes.{IsAgreed, names_of, rows_of};
-ghost use Rattle.xs_group.specs.Listing.{owners_told, listed_rows, rows_told};
+ghost use Rattle.std.specs.Prelude.{IfOk, List, ℕ, None, Some, false, ◌≡◌};
+ghost use Rattle.std.specs.BTreeSet.{contains};
+ghost use Rattle.xs_group.specs.GroupState.{RowState};
+ghost use Rattle.xs_group.specs.Indexes.{IsAgreed, indexed_row, is_owner, names_of, rows_of};
+ghost use Rattle.xs_group.specs.Listing.{owners_told, rows_asked};
 ghost use Rattle.xs_group.specs.Report.{first_id, last_id, pending_row};
-ghost use Rattle.xs_stream.specs.Id.{is_below};
+ghost use Rattle.xs_stream.specs.declared.id.Id.{Id};
+ghost use Rattle.xs_stream.specs.Id.{id_cmp, is_below};
 
 use crate::consumer_index::ConsumerIndex;
 use crate::id_index::IdIndex;
@@ -49,6 +52,19 @@ pub struct PendingRow {
     pub count: u64,
 }
 
+/// Which pending entries the long form tells.
+#[derive(Drop)]
+pub(crate) struct Selection {
+    /// The range of their ids.
+    pub(crate) range: Range,
+    /// The idle time in milliseconds from which an entry is told.
+    pub(crate) min_idle: u64,
+    /// The moment that idle times are counted to.
+    pub(crate) moment: Moment,
+    /// How many entries at most.
+    pub(crate) limit: u64,
+}
+
 /// The least id.
 pub(crate) fn least(rows: &IdIndex) -> Option<Id>
     ensures { result ≡ first_id rows.now.entries }
@@ -69,15 +85,13 @@ pub(crate) fn greatest(rows: &IdIndex) -> Option<Id>
     }
 }
 
-/// The consumers that have rows, with how many they have.
+/// The consumers that have rows, with how many they have. The rows are those that this index agrees with.
 pub(crate) fn owner_counts(
     alloc: Global,
-    _rows: &IdIndex,
     owners: &ConsumerIndex,
 ) -> Result<Vec<OwnerCount>, AllocError>
-    requires { IsAgreed _rows.now.entries owners.now.entries }
-    ensures { IfOk result (λ counts. counts.items
-        ≡ owners_told (names_of owners.now.entries) (rows_of _rows.now.entries)) }
+    ensures { (rows : List (Id × RowState)) → IsAgreed rows owners.now.entries → IfOk result (λ counts. counts.items
+        ≡ owners_told (names_of owners.now.entries) (rows_of rows)) }
 {
     let mut counts = Vec::with_capacity(alloc, owners.len())?;
     for (name, ids) in owners.iter() {
@@ -108,59 +122,56 @@ fn told(alloc: Global, now: Moment, id: Id, entry: &PendingEntry) -> Result<Pend
 /// The room for rows that is taken at once, where so many are asked for.
 const FIRST_ROOM: u64 = 16;
 
-/// The rows in a range that isn't empty that are idle for long enough, at most this many.
+/// The selected rows, in a range that isn't empty.
 pub(crate) fn rows_within(
     alloc: Global,
     rows: &IdIndex,
-    range: Range,
-    min_idle: u64,
-    now: Moment,
-    limit: u64,
+    selection: &Selection,
 ) -> Result<Vec<PendingRow>, AllocError>
-    requires { is_below range.high range.low ≡ false }
-    ensures { IfOk result (λ found. found.items ≡ rows_told range min_idle now limit rows.now.entries) }
+    requires { is_below selection.now.range.high selection.now.range.low ≡ false }
+    ensures { IfOk result (λ found. found.items ≡ rows_asked selection.now None (rows_of rows.now.entries)) }
 {
-    let mut found = Vec::with_capacity(alloc, FIRST_ROOM.min(limit) as usize)?;
-    let within = rows.range((Bound::Included(range.low), Bound::Included(range.high)));
+    let mut found = Vec::with_capacity(alloc, FIRST_ROOM.min(selection.limit) as usize)?;
+    let Range { low, high } = selection.range;
+    let within = rows.range((Bound::Included(low), Bound::Included(high)));
     for (id, entry) in within {
-        if found.len() as u64 >= limit {
+        if found.len() as u64 >= selection.limit {
             break;
         }
-        if entry.idle(now) < min_idle {
+        if entry.idle(selection.moment) < selection.min_idle {
             continue;
         }
-        found.push(told(alloc, now, *id, entry)?)?;
+        found.push(told(alloc, selection.moment, *id, entry)?)?;
     }
     Ok(found)
 }
 
-/// The rows of these ids in a range that isn't empty that are idle for long enough, at most this many.
+/// The selected rows of the consumer that has these ids, in a range that isn't empty.
 pub(crate) fn rows_of_ids(
     alloc: Global,
     rows: &IdIndex,
     ids: &SmallSet<Id>,
-    range: Range,
-    min_idle: u64,
-    now: Moment,
-    limit: u64,
+    selection: &Selection,
 ) -> Result<Vec<PendingRow>, AllocError>
-    requires { is_below range.high range.low ≡ false }
-    ensures { IfOk result (λ found. found.items
-        ≡ rows_told range min_idle now limit (listed_rows rows.now.entries ids.now.keys)) }
+    requires { is_below selection.now.range.high selection.now.range.low ≡ false }
+    ensures { (name : List ℕ)
+        → ((x : Id) → contains id_cmp ids.now x ≡ is_owner (indexed_row rows.now.entries x) name)
+        → IfOk result (λ found. found.items ≡ rows_asked selection.now (Some name) (rows_of rows.now.entries)) }
 {
-    let mut found = Vec::with_capacity(alloc, FIRST_ROOM.min(limit) as usize)?;
-    let within = ids.range((Bound::Included(range.low), Bound::Included(range.high)));
+    let mut found = Vec::with_capacity(alloc, FIRST_ROOM.min(selection.limit) as usize)?;
+    let Range { low, high } = selection.range;
+    let within = ids.range((Bound::Included(low), Bound::Included(high)));
     for id in within {
-        if found.len() as u64 >= limit {
+        if found.len() as u64 >= selection.limit {
             break;
         }
         let Some(entry) = rows.get(id) else {
             continue;
         };
-        if entry.idle(now) < min_idle {
+        if entry.idle(selection.moment) < selection.min_idle {
             continue;
         }
-        found.push(told(alloc, now, *id, entry)?)?;
+        found.push(told(alloc, selection.moment, *id, entry)?)?;
     }
     Ok(found)
 }

@@ -8,9 +8,10 @@ use Rattle.xs_stream.specs.Id.{id_cmp, has_id}
 use Rattle.xs_stream.specs.StreamContent.{ids_of}
 use Rattle.xs_group.specs.GroupState.{RowState}
 use Rattle.xs_group.specs.Claims.{is_taken, is_removed, is_hit, from_start, first_or_zero}
+use Rattle.xs_group.specs.Indexes.{rows_of}
 use Rattle.xs_group.specs.Verdict.{verdict_of, with_taken, with_removed, hits_of, scanned_after}
 use Rattle.xs_group.proofs.ChosenIds.{taken-verdict, removed-verdict, hits-verdict, one_most}
-use Rattle.xs_group.proofs.Ordered.{is_sorted-from}
+use Rattle.xs_group.proofs.Ordered.{entries-rows_of}
 use Rattle.xs_group.proofs.Scanning.{AreFound, found-all, found-filter, keys-between, scanned-on, scanned-enough}
 use Rattle.xs_group.proofs.Scanning.{taken-on, removed-on, scan-ended}
 use Rattle.xs_group.proofs.claims.scan_rows.Goals as goal
@@ -22,27 +23,28 @@ keys es = map (λ e. e.0) es
 
 pub loop-id-init : goal.loop-id-init
 loop-id-init c =
-    let rows = c.args.rows.now.entries in
+    let rows = (rows_of c.args.rows.now.entries).entries in
     let present = ids_of c.args.stream.now.entries in
-    let hit = is_hit rows present c.args.now c.args.rule.now in
-    let is : c.into_iter-id-iterator.result ≡ entries_between id_cmp (Included c.args.start) Unbounded rows = c.into_iter-id-iterator.ensures.into_iter_gives ∙ c.range-past.ensures.between tt in
+    let hit = is_hit rows present c.args.terms.now.moment c.args.terms.now.rule in
+    let is : c.into_iter-id-iterator.result ≡ entries_between id_cmp (Included c.args.start) Unbounded rows = c.into_iter-id-iterator.ensures.into_iter_gives ∙ c.range-past.ensures.between tt
+    ∙ ap (entries_between id_cmp (Included c.args.start) Unbounded) (sym (entries-rows_of c.args.rows.now c.range-past.ensures.ordered)) in
     let all : keys c.into_iter-id-iterator.result ≡ from_start c.args.start rows = ap keys is ∙ keys-between c.args.start rows in
     let few : length c.into_iter-id-iterator.result < 18446744073709551616 = omega (arith, c.range-past.ensures.fits, ap length c.into_iter-id-iterator.ensures.into_iter_gives) in
     record {
       few = omega arith;
       small = omega arith;
-      found = subst (AreFound rows) (sym is) (found-filter rows rows (λ e. range_contains id_cmp (Included c.args.start) Unbounded e.0) (found-all rows (is_sorted-from id_cmp rows c.requires)));
-      taken = (λ i. c.new-found.ensures.take i ++ filter (is_taken rows present c.args.now c.args.rule.now) (scanned_after hit c.args.limit 0 0 (all i)));
+      found = subst (AreFound rows) (sym is) (found-filter rows rows (λ e. range_contains id_cmp (Included c.args.start) Unbounded e.0) (found-all rows (rows_of c.args.rows.now.entries).sorted));
+      taken = (λ i. c.new-found.ensures.take i ++ filter (is_taken rows present c.args.terms.now.moment c.args.terms.now.rule) (scanned_after hit c.args.limit 0 0 (all i)));
       removed = (λ i. c.new-found.ensures.removed i ++ filter (is_removed rows present) (scanned_after hit c.args.limit 0 0 (all i)));
       cursor = ap (λ ks. first_or_zero (drop (length (scanned_after hit c.args.limit 0 0 ks)) ks)) all;
     }
 
 pub loop-id-preserved : goal.loop-id-preserved
 loop-id-preserved c =
-    let rows = c.args.rows.now.entries in
+    let rows = (rows_of c.args.rows.now.entries).entries in
     let present = ids_of c.args.stream.now.entries in
-    let now = c.args.now in
-    let rule = c.args.rule.now in
+    let now = c.args.terms.now.moment in
+    let rule = c.args.terms.now.rule in
     let limit = c.args.limit in
     let hit = is_hit rows present now rule in
     let id = c.in-Some.id.now in
@@ -75,10 +77,10 @@ loop-id-preserved c =
 
 pub returns-then-hits-limit : goal.returns-then-hits-limit
 returns-then-hits-limit c =
-    let rows = c.args.rows.now.entries in
+    let rows = (rows_of c.args.rows.now.entries).entries in
     let present = ids_of c.args.stream.now.entries in
-    let now = c.args.now in
-    let rule = c.args.rule.now in
+    let now = c.args.terms.now.moment in
+    let rule = c.args.terms.now.rule in
     let limit = c.args.limit in
     let hit = is_hit rows present now rule in
     let inv = c.loop-id.invariant in
@@ -97,10 +99,10 @@ returns-then-hits-limit c =
 
 pub returns : goal.returns
 returns c =
-    let rows = c.args.rows.now.entries in
+    let rows = (rows_of c.args.rows.now.entries).entries in
     let present = ids_of c.args.stream.now.entries in
-    let now = c.args.now in
-    let rule = c.args.rule.now in
+    let now = c.args.terms.now.moment in
+    let rule = c.args.terms.now.rule in
     let limit = c.args.limit in
     let hit = is_hit rows present now rule in
     let inv = c.loop-id.invariant in

@@ -1,66 +1,77 @@
-use Rattle.std.proofs.Common.{◌≡◌, ℕ, true, false, cond, List, [], ◌∷◌, ◌++◌, filter, length, ltb, sym, ap, ◌∙◌, subst}
+use Rattle.std.proofs.Common.{◌≡◌, ℕ, Bool, true, false, cond, Some, List, [], ◌∷◌, ◌++◌, filter, length, ltb, sym, ap, ◌∙◌, subst}
 use Rattle.std.proofs.Common.{append_assoc, append-nil, arith}
 use Rattle.std.proofs.lemmas.Bool.Decides.{nat_tests}
 use Rattle.std.specs.BTreeSet.{BTreeSet}
 use Rattle.std.specs.Map.{keys_of}
+use Rattle.std.specs.List.Sorted.{IsStrictlySortedBy}
 use Rattle.xs_stream.specs.declared.id.Id.{Id}
+use Rattle.xs_stream.specs.Id.{id_cmp}
 use Rattle.xs_group.specs.declared.reports.OwnerCount.{OwnerCount}
-use Rattle.xs_group.specs.GroupState.{RowState, owned_ids}
-use Rattle.xs_group.specs.Indexes.{rows_of}
+use Rattle.xs_group.specs.GroupState.{RowState}
+use Rattle.xs_group.specs.Indexes.{ConsumerIndex, IsAgreed, ids_at, rows_of}
 use Rattle.xs_group.specs.Report.{counts_of_owners}
 use Rattle.xs_group.proofs.OwnIds.{owned-some}
 use Rattle.xs_group.proofs.ReportRows.{AreHeld, held-all, keys-names_of}
 use Rattle.xs_group.proofs.reports.owner_counts.Goals as goal
 
-abbrev told : List (Id × RowState) → List (List ℕ × BTreeSet Id) → List OwnerCount
-told rows es = filter (λ owner. ltb 0 owner.count) (counts_of_owners (keys_of es) rows)
+abbrev told : List (Id × RowState) → ConsumerIndex → List OwnerCount
+told rows es = filter (λ owner. ltb 0 owner.count) (counts_of_owners (keys_of es) (rows_of rows).entries)
+
+abbrev told_by : Bool → List ℕ → ℕ → List OwnerCount → List OwnerCount
+told_by some name count rest = cond some (record { consumer = name; count = count } ∷ rest) rest
+
+-- a consumer more
+told-more : (rows : List (Id × RowState)) (owners : ConsumerIndex) (name : List ℕ) (ids : BTreeSet Id) (rest : ConsumerIndex) → IsAgreed rows owners
+    → Some ids ≡ ids_at owners name → IsStrictlySortedBy id_cmp ids.keys → told_by (ltb 0 (length ids.keys)) name (length ids.keys) (told rows rest) ≡ told rows ((name, ids) ∷ rest)
+told-more rows owners name ids rest agreed held ordered =
+    ap (λ own. told_by (ltb 0 (length own)) name (length own) (told rows rest)) (owned-some rows owners name ids agreed held ordered)
 
 pub loop-name-init : goal.loop-name-init
 loop-name-init c =
     let owners = c.args.owners.now in
-    let rows = (rows_of c.args._rows.now.entries).entries in
     let is = c.into_iter-name-iterator.ensures.into_iter_gives ∙ c.iter-name-items.ensures.rest in
     record {
       held = subst (AreHeld owners.entries) (sym is) (held-all owners c.iter-name-items.ensures.ordered);
-      counted = λ i. c.in_ok-counts.ensures.items i ++ told rows (is i);
+      counted = λ rows agreed. λ i. c.in_ok-counts.ensures.items i ++ told rows (is i);
     }
 
 pub loop-name-preserved-then-count-eq0 : goal.loop-name-preserved-then-count-eq0
 loop-name-preserved-then-count-eq0 c =
-    let rows = (rows_of c.args._rows.now.entries).entries in
+    let owners = c.args.owners.now.entries in
     let name = c.in-Some.name.now in
-    let steps : c.loop-name.name-iterator ≡ (name, c.in-Some.ids.now) ∷ c.next.new.self = c.in-Some.ensures.steps in
-    let held = subst (AreHeld c.args.owners.now.entries) steps c.loop-name.invariant.held in
-    let own = owned-some c.args._rows.now.entries c.args.owners.now.entries name c.in-Some.ids.now c.requires held.0 c.len-count.ensures.ordered in
-    let len : c.len-count.result ≡ length (owned_ids name rows) = c.len-count.ensures.len ∙ ap length own in
-    let none : ltb 0 (length (owned_ids name rows)) ≡ false = grind (arith, nat_tests) in
+    let ids = c.in-Some.ids.now in
+    let counts = c.loop-name.counts.items in
+    let steps : c.loop-name.name-iterator ≡ (name, ids) ∷ c.next.new.self = c.in-Some.ensures.steps in
+    let held = subst (AreHeld owners) steps c.loop-name.invariant.held in
+    let len : c.len-count.result ≡ length ids.keys = c.len-count.ensures.len in
+    let none : ltb 0 (length ids.keys) ≡ false = grind (arith, nat_tests) in
     record {
       held = held.1;
-      counted = ap (λ b. c.loop-name.counts.items ++ cond b (record { consumer = name; count = length (owned_ids name rows) } ∷ told rows c.next.new.self) (told rows c.next.new.self)) (sym none)
-          ∙ ap (λ es. c.loop-name.counts.items ++ told rows es) (sym steps) ∙ c.loop-name.invariant.counted;
+      counted = λ rows agreed. ap (λ k. counts ++ k) (ap (λ b. told_by b name (length ids.keys) (told rows c.next.new.self)) (sym none)
+          ∙ told-more rows owners name ids c.next.new.self agreed held.0 c.len-count.ensures.ordered ∙ ap (told rows) (sym steps)) ∙ c.loop-name.invariant.counted rows agreed;
     }
 
 pub loop-name-preserved : goal.loop-name-preserved
 loop-name-preserved c =
-    let rows = (rows_of c.args._rows.now.entries).entries in
+    let owners = c.args.owners.now.entries in
     let name = c.in-Some.name.now in
-    let steps : c.loop-name.name-iterator ≡ (name, c.in-Some.ids.now) ∷ c.next.new.self = c.in-Some.ensures.steps in
-    let held = subst (AreHeld c.args.owners.now.entries) steps c.loop-name.invariant.held in
-    let own = owned-some c.args._rows.now.entries c.args.owners.now.entries name c.in-Some.ids.now c.requires held.0 c.len-count.ensures.ordered in
-    let len : c.len-count.result ≡ length (owned_ids name rows) = c.len-count.ensures.len ∙ ap length own in
-    let some : ltb 0 (length (owned_ids name rows)) ≡ true = grind (arith, nat_tests) in
+    let ids = c.in-Some.ids.now in
+    let counts = c.loop-name.counts.items in
+    let steps : c.loop-name.name-iterator ≡ (name, ids) ∷ c.next.new.self = c.in-Some.ensures.steps in
+    let held = subst (AreHeld owners) steps c.loop-name.invariant.held in
+    let len : c.len-count.result ≡ length ids.keys = c.len-count.ensures.len in
+    let some : ltb 0 (length ids.keys) ≡ true = grind (arith, nat_tests) in
     let text = c.in_ok-consumer.ensures ∙ c.as_slice.ensures in
     record {
       held = held.1;
-      counted = ap (λ (counts : List OwnerCount). counts ++ told rows c.next.new.self) (c.in_ok-push.ensures.items
-          ∙ (λ i. c.loop-name.counts.items ++ record { consumer = text i; count = len i } ∷ []))
-          ∙ append_assoc c.loop-name.counts.items (record { consumer = name; count = length (owned_ids name rows) } ∷ []) (told rows c.next.new.self)
-          ∙ ap (λ b. c.loop-name.counts.items ++ cond b (record { consumer = name; count = length (owned_ids name rows) } ∷ told rows c.next.new.self) (told rows c.next.new.self)) (sym some)
-          ∙ ap (λ es. c.loop-name.counts.items ++ told rows es) (sym steps) ∙ c.loop-name.invariant.counted;
+      counted = λ rows agreed. (λ i. (c.in_ok-push.ensures.items ∙ (λ j. counts ++ record { consumer = text j; count = len j } ∷ [])) i ++ told rows c.next.new.self)
+          ∙ append_assoc counts (record { consumer = name; count = length ids.keys } ∷ []) (told rows c.next.new.self)
+          ∙ ap (λ k. counts ++ k) (ap (λ b. told_by b name (length ids.keys) (told rows c.next.new.self)) (sym some)
+          ∙ told-more rows owners name ids c.next.new.self agreed held.0 c.len-count.ensures.ordered ∙ ap (told rows) (sym steps)) ∙ c.loop-name.invariant.counted rows agreed;
     }
 
 pub returns : goal.returns
-returns c =
-    let rows = (rows_of c.args._rows.now.entries).entries in
-    sym (append-nil c.loop-name.counts.items) ∙ ap (λ es. c.loop-name.counts.items ++ told rows es) (sym c.in-None.ensures.steps.0) ∙ c.loop-name.invariant.counted
-    ∙ ap (λ names. filter (λ owner. ltb 0 owner.count) (counts_of_owners names rows)) (sym (keys-names_of c.args.owners.now c.iter-name-items.ensures.ordered))
+returns c = λ rows agreed.
+    let counts = c.loop-name.counts.items in
+    sym (append-nil counts) ∙ ap (λ es. counts ++ told rows es) (sym c.in-None.ensures.steps.0) ∙ c.loop-name.invariant.counted rows agreed
+    ∙ ap (λ names. filter (λ owner. ltb 0 owner.count) (counts_of_owners names (rows_of rows).entries)) (sym (keys-names_of c.args.owners.now c.iter-name-items.ensures.ordered))

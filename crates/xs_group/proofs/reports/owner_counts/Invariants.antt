@@ -1,16 +1,17 @@
-use Rattle.std.proofs.Common.{◌≡◌, ◌++◌, filter, ltb}
+use Rattle.std.proofs.Common.{◌≡◌, ◌++◌, List, filter, ltb}
 use Rattle.std.specs.Map.{keys_of}
-use Rattle.xs_group.specs.Indexes.{rows_of}
+use Rattle.xs_stream.specs.declared.id.Id.{Id}
+use Rattle.xs_group.specs.GroupState.{RowState}
+use Rattle.xs_group.specs.Indexes.{IsAgreed, rows_of}
 use Rattle.xs_group.specs.Report.{counts_of_owners}
 use Rattle.xs_group.proofs.ReportRows.{AreHeld}
 use Rattle.xs_group.proofs.reports.owner_counts.Given as goal
 
 -- what is counted, and what the rest will bring, is what is told
 abbrev pub invariant-loop-name : goal.invariant-loop-name
-invariant-loop-name l =
-    let rows = (rows_of l._rows.entries).entries in
-    record {
-      held : AreHeld l.owners.entries l.name-iterator;
-      counted : l.counts.items ++ filter (λ owner. ltb 0 owner.count) (counts_of_owners (keys_of l.name-iterator) rows)
-          ≡ filter (λ owner. ltb 0 owner.count) (counts_of_owners (keys_of l.owners.entries) rows);
-    }
+invariant-loop-name l = record {
+  held : AreHeld l.owners.entries l.name-iterator;
+  counted : (rows : List (Id × RowState)) → IsAgreed rows l.owners.entries
+      → l.counts.items ++ filter (λ owner. ltb 0 owner.count) (counts_of_owners (keys_of l.name-iterator) (rows_of rows).entries)
+      ≡ filter (λ owner. ltb 0 owner.count) (counts_of_owners (keys_of l.owners.entries) (rows_of rows).entries);
+}

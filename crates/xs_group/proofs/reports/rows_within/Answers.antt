@@ -1,14 +1,17 @@
-use Rattle.std.proofs.Common.{leb, map, filter, ap, ◌∙◌, arith}
+use Rattle.std.proofs.Common.{None, leb, map, filter, ap, sym, ◌∙◌, arith}
 use Rattle.xs_group.specs.GroupState.{idle}
-use Rattle.xs_group.specs.Report.{pending_row}
+use Rattle.xs_group.specs.Report.{pending_row, is_selected}
+use Rattle.xs_group.proofs.Ordered.{entries-rows_of}
 use Rattle.xs_group.proofs.ReportRows.{rows-between}
 use Rattle.xs_group.proofs.reports.rows_within.Goals as goal
 
 pub loop-id-init : goal.loop-id-init
 loop-id-init c =
+    let s = c.args.selection.now in
     let is = c.into_iter-id-iterator.ensures.into_iter_gives ∙ c.range-within.ensures.between tt in
     rw (c.in_ok-found.ensures.items) (
-      ap (λ es. map (pending_row c.args.now) (filter (λ e. leb c.args.min_idle (idle c.args.now e.1.time)) es)) is
-          ∙ ap (map (pending_row c.args.now)) (rows-between c.args.range c.args.min_idle c.args.now c.args.rows.now.entries),
+      ap (λ es. map (pending_row s.moment) (filter (λ e. leb s.min_idle (idle s.moment e.1.time)) es)) is
+          ∙ ap (map (pending_row s.moment)) (rows-between s c.args.rows.now.entries
+          ∙ ap (filter (is_selected s.range s.min_idle s.moment None)) (sym (entries-rows_of c.args.rows.now c.range-within.ensures.ordered))),
       omega arith,
     )

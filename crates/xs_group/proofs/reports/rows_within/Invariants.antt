@@ -1,12 +1,13 @@
-use Rattle.std.proofs.Common.{◌≡◌, ◌≤◌, ◌++◌, map, filter, length, leb}
+use Rattle.std.proofs.Common.{◌≡◌, ◌≤◌, ◌++◌, None, map, filter, length, leb}
 use Rattle.xs_group.specs.GroupState.{idle}
-use Rattle.xs_group.specs.Report.{pending_row}
-use Rattle.xs_group.specs.Listing.{is_told}
+use Rattle.xs_group.specs.Indexes.{rows_of}
+use Rattle.xs_group.specs.Report.{pending_row, is_selected}
 use Rattle.xs_group.proofs.reports.rows_within.Given as goal
 
--- the rows so far and those to come are those of the range
+-- the rows so far and those to come are those that are asked for
 abbrev pub invariant-loop-id : goal.invariant-loop-id
 invariant-loop-id l =
-    (l.found.items ++ map (pending_row l.now) (filter (λ e. leb l.min_idle (idle l.now e.1.time)) l.id-iterator)
-    ≡ map (pending_row l.now) (filter (is_told l.fn.range l.min_idle l.now) l.rows.entries))
-    × (length l.found.items ≤ l.limit)
+    let s = l.selection in
+    (l.found.items ++ map (pending_row s.moment) (filter (λ e. leb s.min_idle (idle s.moment e.1.time)) l.id-iterator)
+    ≡ map (pending_row s.moment) (filter (is_selected s.range s.min_idle s.moment None) (rows_of l.rows.entries).entries))
+    × (length l.found.items ≤ s.limit)

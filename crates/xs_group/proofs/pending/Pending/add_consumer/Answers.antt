@@ -4,6 +4,8 @@ use Rattle.xs_group.specs.GroupState.{with_name}
 use Rattle.xs_group.proofs.pending.Pending.add_consumer.Goals as goal
 use Rattle.xs_group.proofs.Views.{has_name-names_of}
 use Rattle.xs_group.proofs.Agreeing.{agreed-joined, names-joined, held-again}
+use Rattle.xs_group.proofs.NewRows.{unowned-rows}
+use Rattle.xs_group.proofs.RemovedRows.{named-agreed}
 
 pub returns-then-contains_key-clause-made : goal.returns-then-contains_key-clause-made
 returns-then-contains_key-clause-made c = rw (← c.self.view_is) (ap not (c.if-contains_key.ensures ∙ sym (has_name-names_of c.self.inside.owners.entries c.args.name.now)))
@@ -25,3 +27,7 @@ returns-clause-made c = rw (← c.self.view_is) (ap not (c.if-contains_key.ensur
 pub returns-clause-ok : goal.returns-clause-ok
 returns-clause-ok c = rw (← c.self.view_is) (ap (λ names. record { consumers = names; rows = rows_of c.self.inside.rows.entries })
     (names-joined c.self.inside.owners c.insert.new.self c.in_ok-text.text c.new.result c.in_ok-insert.ensures.updates ∙ ap (with_name (names_of c.self.inside.owners.entries)) (text_is c)))
+
+pub returns-clause-unowned : goal.returns-clause-unowned
+returns-clause-unowned c = rw (← c.self.view_is) (λ made. unowned-rows (names_of c.self.inside.owners.entries) (rows_of c.self.inside.rows.entries) c.args.name.now
+    (named-agreed c.self.inside.rows.entries c.self.inside.owners.entries c.self.invariant) (has_name-names_of c.self.inside.owners.entries c.args.name.now ∙ sym c.if-contains_key.ensures))

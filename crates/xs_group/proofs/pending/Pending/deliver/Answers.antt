@@ -12,7 +12,7 @@ pub returns-then-made-clause-err : goal.returns-then-made-clause-err
 returns-then-made-clause-err c =
     c.remove_consumer.ensures.rows ∙ ap (λ held. record { consumers = remove held.consumers c.args.name.now; rows = change (unless_owned c.args.name.now) held.rows })
     (c.in_default.ensures.err ∙ c.in_ok-made.ensures.ok)
-    ∙ held-back c.args.self.now c.args.name.now c.lawful.ensures (sym c.if-made.true ∙ c.in_ok-made.ensures.made)
+    ∙ held-back c.args.self.now c.args.name.now (c.in_ok-made.ensures.unowned c.if-made.true) (sym c.if-made.true ∙ c.in_ok-made.ensures.made)
 
 pub returns-else-made-clause-err : goal.returns-else-made-clause-err
 returns-else-made-clause-err c = c.in_default.ensures.err ∙ c.in_ok-made.ensures.ok

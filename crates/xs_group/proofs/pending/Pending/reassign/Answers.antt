@@ -19,4 +19,4 @@ returns-clause-ok c =
     rw (← c.self.view_is) (held-by (names_of c.move_rows.new.owners.entries) (names_of c.self.inside.owners.entries) (rows_of c.move_rows.new.rows.entries) _
     (names-same c.move_rows.new.owners.entries c.add_ids.new.owners.entries c.move_rows.ensures.names
     ∙ names-same c.add_ids.new.owners.entries c.self.inside.owners.entries c.add_ids.ensures.names)
-    (rows-moved c.self.inside.rows.entries c.move_rows.new.rows.entries c.args.name.now c.args.now c.args.rule.now c.args.ids.now c.move_rows.ensures.rows))
+    (rows-moved c.self.inside.rows.entries c.move_rows.new.rows.entries c.args.name.now c.args.terms.now.moment c.args.terms.now.rule c.args.ids.now c.move_rows.ensures.rows))

@@ -14,7 +14,7 @@ pub returns-then-made-clause-err : goal.returns-then-made-clause-err
 returns-then-made-clause-err c =
     c.remove_consumer.ensures.rows ∙ ap (λ held. record { consumers = remove held.consumers c.args.name.now; rows = change (unless_owned c.args.name.now) held.rows })
     (c.in_default.ensures.err ∙ c.in_ok-made.ensures.ok)
-    ∙ held-back c.args.self.now c.args.name.now c.lawful.ensures (sym c.if-made.true ∙ c.in_ok-made.ensures.made)
+    ∙ held-back c.args.self.now c.args.name.now (c.in_ok-made.ensures.unowned c.if-made.true) (sym c.if-made.true ∙ c.in_ok-made.ensures.made)
 
 pub returns-else-made-clause-err : goal.returns-else-made-clause-err
 returns-else-made-clause-err c = c.in_default.ensures.err ∙ c.in_ok-made.ensures.ok
@@ -24,10 +24,10 @@ pub returns-clause-ok : goal.returns-clause-ok
 returns-clause-ok c =
     let name = c.args.name.now in
     let old = c.args.self.now in
-    let rule = c.args.rule.now in
+    let rule = c.args.terms.now.rule in
     c.take_all.ensures
     ∙ ap (λ ids. record { consumers = c.reassign.new.self.consumers; rows = change (unless_acked ids) c.reassign.new.self.rows }) c.as_slice-2.ensures
     ∙ ap (λ held. record { consumers = held.consumers; rows = change (unless_acked c.args.claim.now.removed) held.rows }) c.in-Ok.ensures.ok
-    ∙ ap (λ ids. record { consumers = c.add_consumer.new.self.consumers; rows = change (unless_acked c.args.claim.now.removed) (change (moved name c.args.now rule ids) c.add_consumer.new.self.rows) }) c.as_slice.ensures
-    ∙ ap (λ held. record { consumers = held.consumers; rows = change (unless_acked c.args.claim.now.removed) (change (moved name c.args.now rule c.args.claim.now.take) held.rows) }) c.in_ok-made.ensures.ok
-    ∙ ap (λ rows. record { consumers = with_name old.consumers name; rows = rows }) (rows-settled name c.args.now rule c.args.claim.now old.rows)
+    ∙ ap (λ ids. record { consumers = c.add_consumer.new.self.consumers; rows = change (unless_acked c.args.claim.now.removed) (change (moved name c.args.terms.now.moment rule ids) c.add_consumer.new.self.rows) }) c.as_slice.ensures
+    ∙ ap (λ held. record { consumers = held.consumers; rows = change (unless_acked c.args.claim.now.removed) (change (moved name c.args.terms.now.moment rule c.args.claim.now.take) held.rows) }) c.in_ok-made.ensures.ok
+    ∙ ap (λ rows. record { consumers = with_name old.consumers name; rows = rows }) (rows-settled name c.args.terms.now.moment rule c.args.claim.now old.rows)

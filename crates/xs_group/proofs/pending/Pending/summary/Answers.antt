@@ -10,5 +10,5 @@ returns c =
       total = (c.len-total.ensures.len ∙ sym (ap length rows)) i;
       least = (c.least.ensures ∙ sym (ap first_id rows)) i;
       greatest = (c.greatest.ensures ∙ sym (ap last_id rows)) i;
-      owners = (c.new.ensures ∙ c.in_ok-owners.ensures) i;
+      owners = (c.new.ensures ∙ c.in_ok-owners.ensures c.self.inside.rows.entries c.self.invariant) i;
     })
