@@ -1,19 +1,10 @@
 -- The two indexes go on holding the same pairs.
-use Rattle.std.proofs.Common.{◌≡◌, ℕ, Bool, true, false, cond, not, ◌&&◌, ◌||◌, List, [], Option, Some, None, is_some}
-use Rattle.std.proofs.Common.{Result, Ok, Err, OnErr, sym, ap, ◌∙◌, refl}
-use Rattle.std.specs.BTreeMap.{UpdatesBy}
-use Rattle.std.specs.BTreeSet.{BTreeSet}
-use Rattle.std.specs.Ordering.{nat_cmp}
-use Rattle.std.specs.Cmp.Lexicographic.{slice_cmp, nat_list_cmp_total}
-use Rattle.std.specs.List.{list_any}
-use Rattle.xs_bytes.specs.SortedMap.{get, has_key}
-use Rattle.xs_bytes.proofs.SortedMaps.{get-insert_by}
-use Rattle.xs_stream.specs.declared.id.Id.{Id}
-use Rattle.xs_stream.specs.Id.{id_cmp, is_same_id}
-use Rattle.xs_stream.proofs.Order.{is_same_id-eq, is_same_id-symm}
-use Rattle.xs_group.specs.GroupState.{RowState, Rows, Names, is_same_name, with_name, has_name}
-use Rattle.xs_group.specs.Indexes.{rows_of, PendingList, ConsumerIndex, names_of, ids_at, has_among, holds, is_owner}
-use Rattle.xs_group.specs.Indexes.{indexed_row, IsAgreed}
+use Rattle.xs_group.proofs.Terms.{◌≡◌, ℕ, Bool, true, false, cond, not, ◌&&◌, ◌||◌, List, [], Option, Some, None}
+use Rattle.xs_group.proofs.Terms.{is_some, Result, Ok, Err, OnErr, sym, ap, ◌∙◌, refl, UpdatesBy, BTreeSet, nat_cmp}
+use Rattle.xs_group.proofs.Terms.{slice_cmp, nat_list_cmp_total, list_any, get, has_key, get-insert_by, Id, id_cmp}
+use Rattle.xs_group.proofs.Terms.{is_same_id, is_same_id-eq, is_same_id-symm, RowState, Rows, Names, is_same_name}
+use Rattle.xs_group.proofs.Terms.{with_name, has_name, rows_of, PendingList, ConsumerIndex, names_of, ids_at, has_among}
+use Rattle.xs_group.proofs.Terms.{holds, is_owner, indexed_row, IsAgreed}
 use Rattle.xs_group.proofs.ByConsumer.{Index, is_same_name-eq, is_same_name-symm}
 use Rattle.xs_group.proofs.Views.{RowMap, has_name-names_of, same_names, names-same, get-rows_of}
 

@@ -1,21 +1,10 @@
 -- The index by consumer.
-use Rattle.std.proofs.Common.{◌≡◌, ℕ, Bool, true, false, cond, not, ◌&&◌, ◌||◌, List, Some, None, is_some, sym, ap, ◌∙◌}
-use Rattle.std.proofs.Common.{refl, BTreeMap}
+use Rattle.xs_group.proofs.Terms.{◌≡◌, ℕ, Bool, true, false, cond, not, ◌&&◌, ◌||◌, List, Some, None, is_some, sym, ap}
+use Rattle.xs_group.proofs.Terms.{◌∙◌, refl, BTreeMap, UpdatesBy, BTreeSet, nat_cmp, is_eq, eq_by_cmp_equiv, slice_cmp}
+use Rattle.xs_group.proofs.Terms.{nat_list_cmp_total, or_assoc, tied_itself, exact_bytes, Id, id_cmp, is_same_id}
+use Rattle.xs_group.proofs.Terms.{has_id, equal-from, is_same_id-symm, is_same_name, ids_at, has_among, holds}
 use Rattle.std.specs.BTreeMap as tree
-use Rattle.std.specs.BTreeMap.{UpdatesBy}
 use Rattle.std.specs.BTreeSet as set
-use Rattle.std.specs.BTreeSet.{BTreeSet}
-use Rattle.std.specs.Ordering.{nat_cmp, is_eq}
-use Rattle.std.specs.Cmp.{eq_by_cmp_equiv}
-use Rattle.std.specs.Cmp.Lexicographic.{slice_cmp, nat_list_cmp_total}
-use Rattle.std.proofs.Math.Bool.{or_assoc}
-use Rattle.std.proofs.lemmas.Cmp.{tied_itself}
-use Rattle.std.proofs.lemmas.Map.Lookups.{exact_bytes}
-use Rattle.xs_stream.specs.declared.id.Id.{Id}
-use Rattle.xs_stream.specs.Id.{id_cmp, is_same_id, has_id}
-use Rattle.xs_stream.proofs.Order.{equal-from, is_same_id-symm}
-use Rattle.xs_group.specs.GroupState.{is_same_name}
-use Rattle.xs_group.specs.Indexes.{ids_at, has_among, holds}
 
 pub is_same_name-eq : (a b : List ℕ) → is_same_name a b ≡ true → a ≡ b
 is_same_name-eq a b e = exact_bytes a b (equal-from _ e)

@@ -1,21 +1,11 @@
 -- A claim that is carried out.
-use Rattle.std.proofs.Common.{◌≡◌, ℕ, ◌+◌, ◌*◌, Bool, true, false, cond, not, ◌||◌, inl, inr, leb, List, [], ◌∷◌, map}
-use Rattle.std.proofs.Common.{filter, Option, Some, None, option_and_then, sym, ap, ◌∙◌, refl, subst, Ordering}
-use Rattle.std.proofs.lemmas.Bool.{false≢true}
-use Rattle.std.proofs.Math.Dec.{T}
-use Rattle.std.specs.FinMap.Entries.{below_all, is_sorted}
-use Rattle.std.specs.Ordering.{is_lt, is_eq}
-use Rattle.std.specs.declared.cmp.Ordering.TheVariants.{Less, Equal, Greater}
-use Rattle.xs_bytes.specs.SortedMap.{get, change}
-use Rattle.xs_stream.specs.declared.id.Id.{Id}
-use Rattle.xs_stream.specs.Id.{id_cmp, is_same_id, is_below, has_id}
-use Rattle.xs_stream.proofs.Order.{is_same_id-symm}
-use Rattle.xs_group.specs.declared.claims.Claim.{Claim}
-use Rattle.xs_group.specs.Claims.{Rule, is_taken, is_hit, without_repeats, from_start, scanned_part, row_after_claim}
-use Rattle.xs_group.specs.Claims.{claimed_row}
-use Rattle.xs_group.specs.GroupState.{RowState, Rows, GroupState, unless_acked}
-use Rattle.xs_group.specs.Indexes.{rows_of, indexed_row}
-use Rattle.xs_group.specs.Verdict.{moved, scanned_after, AreDistinct, IsClaimOn}
+use Rattle.xs_group.proofs.Terms.{◌≡◌, ℕ, ◌+◌, ◌*◌, Bool, true, false, cond, not, ◌||◌, inl, inr, leb, List, [], ◌∷◌}
+use Rattle.xs_group.proofs.Terms.{map, filter, Option, Some, None, option_and_then, sym, ap, ◌∙◌, refl, subst, Ordering}
+use Rattle.xs_group.proofs.Terms.{false≢true, T, below_all, is_sorted, is_lt, is_eq, Less, Equal, Greater, get, change}
+use Rattle.xs_group.proofs.Terms.{Id, id_cmp, is_same_id, is_below, has_id, is_same_id-symm, Claim, Rule, is_taken}
+use Rattle.xs_group.proofs.Terms.{is_hit, without_repeats, from_start, scanned_part, row_after_claim, claimed_row}
+use Rattle.xs_group.proofs.Terms.{RowState, Rows, GroupState, unless_acked, rows_of, indexed_row, moved, scanned_after}
+use Rattle.xs_group.proofs.Terms.{AreDistinct, IsClaimOn}
 use Rattle.xs_group.proofs.Ordered.{first, second}
 use Rattle.xs_group.proofs.Views.{same_rows, get-rows_of}
 use Rattle.xs_group.proofs.RemovedRows.{get-changed}

@@ -1,16 +1,10 @@
 -- The ids that a claim takes and removes.
-use Rattle.std.proofs.Common.{◌≡◌, ◌≤◌, ℕ, Bool, true, false, cond, not, ◌&&◌, ◌||◌, List, [], ◌∷◌, ◌++◌, filter}
-use Rattle.std.proofs.Common.{Option, Some, None, is_some, sym, ap, ◌∙◌, refl, arith}
-use Rattle.std.proofs.lemmas.List.Folds.{list_any-append}
-use Rattle.std.proofs.Math.Bool.{or-false}
+use Rattle.xs_group.proofs.Terms.{◌≡◌, ◌≤◌, ℕ, Bool, true, false, cond, not, ◌&&◌, ◌||◌, List, [], ◌∷◌, ◌++◌, filter}
+use Rattle.xs_group.proofs.Terms.{Option, Some, None, is_some, sym, ap, ◌∙◌, refl, arith, list_any-append, or-false, Id}
+use Rattle.xs_group.proofs.Terms.{is_same_id, has_id, Verdict, Passed, Taken, Removed, Rule, row_at, is_idle, is_taken}
+use Rattle.xs_group.proofs.Terms.{is_removed, is_hit, without_repeats, RowState, Rows, is_taken_by, is_removed_by}
+use Rattle.xs_group.proofs.Terms.{verdict_of, with_taken, with_removed, hits_of}
 use Rattle.xs_bytes.specs.SortedMap.{get}
-use Rattle.xs_stream.specs.declared.id.Id.{Id}
-use Rattle.xs_stream.specs.Id.{is_same_id, has_id}
-use Rattle.xs_group.specs.declared.claims.Verdict.{Verdict}
-use Rattle.xs_group.specs.declared.claims.Verdict.TheVariants.{Passed, Taken, Removed}
-use Rattle.xs_group.specs.Claims.{Rule, row_at, is_idle, is_taken, is_removed, is_hit, without_repeats}
-use Rattle.xs_group.specs.GroupState.{RowState, Rows}
-use Rattle.xs_group.specs.Verdict.{is_taken_by, is_removed_by, verdict_of, with_taken, with_removed, hits_of}
 
 pub has-more : (ids : List Id) (id q : Id) → has_id (ids ++ id ∷ []) q ≡ (has_id ids q || is_same_id q id)
 has-more ids id q = list_any-append (is_same_id q) ids (id ∷ []) ∙ ap (λ b. has_id ids q || b) (or-false (is_same_id q id))

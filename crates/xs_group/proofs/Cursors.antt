@@ -1,15 +1,9 @@
 -- Ids above a cursor.
-use Rattle.std.proofs.Common.{◌≡◌, ℕ, suc, zero, Bool, true, false, cond, ◌||◌, List, [], ◌∷◌, ◌++◌, filter, take}
-use Rattle.std.proofs.Common.{Option, Some, None, is_some, sym, ap, ◌∙◌, refl}
-use Rattle.std.proofs.lemmas.Bool.{false≢true}
-use Rattle.xs_bytes.specs.SortedMap.{get, has_key}
-use Rattle.xs_stream.specs.declared.id.Id.{Id}
-use Rattle.xs_stream.specs.Id.{is_same_id, is_below, has_id}
-use Rattle.xs_stream.specs.StreamContent.{AllAbove, Ascends, limited}
-use Rattle.xs_stream.proofs.Order.{is_same_id-eq, below-not_back, below-irrefl, not_above-trans}
-use Rattle.xs_group.specs.GroupState.{RowState, Rows, last_of, with_rows}
-use Rattle.xs_group.specs.Indexes.{AreFree}
-use Rattle.xs_group.specs.ConsistentGroup.{IsUpTo}
+use Rattle.xs_group.proofs.Terms.{◌≡◌, ℕ, suc, zero, Bool, true, false, cond, ◌||◌, List, [], ◌∷◌, ◌++◌, filter, take}
+use Rattle.xs_group.proofs.Terms.{Option, Some, None, is_some, sym, ap, ◌∙◌, refl, false≢true, get, has_key, Id}
+use Rattle.xs_group.proofs.Terms.{is_same_id, is_below, has_id, AllAbove, Ascends, limited, is_same_id-eq}
+use Rattle.xs_group.proofs.Terms.{below-not_back, below-irrefl, not_above-trans, RowState, Rows, last_of, with_rows}
+use Rattle.xs_group.proofs.Terms.{AreFree, IsUpTo}
 use Rattle.xs_group.proofs.NewRows.{get-with_rows}
 
 pub above-has : (c : Id) (ids : List Id) → AllAbove c ids → (x : Id) → has_id ids x ≡ true → is_below c x ≡ true

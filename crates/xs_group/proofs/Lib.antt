@@ -1,3 +1,4 @@
+pub mod Terms
 pub mod ByConsumer
 pub mod Views
 pub mod Agreeing

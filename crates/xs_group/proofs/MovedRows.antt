@@ -1,25 +1,12 @@
 -- Rows that go to another consumer.
-use Rattle.std.proofs.Common.{◌≡◌, ℕ, Bool, true, false, cond, not, ◌&&◌, ◌||◌, List, [], ◌∷◌, ◌++◌, map, take, Option}
-use Rattle.std.proofs.Common.{Some, None, option_and_then, sym, ap, ◌∙◌, refl}
-use Rattle.std.proofs.lemmas.Bool.{false≢true}
-use Rattle.std.specs.BTreeMap.{UpdatesBy}
-use Rattle.xs_stream.specs.declared.id.Id.{Id}
-use Rattle.xs_stream.specs.Id.{id_cmp, is_same_id, has_id}
-use Rattle.xs_stream.proofs.Order.{is_same_id-eq, is_same_id-symm}
-use Rattle.xs_group.specs.Claims.{Rule, claimed_row}
-use Rattle.xs_group.specs.GroupState.{RowState, is_same_name}
-use Rattle.xs_group.specs.Indexes.{ConsumerIndex, holds, is_owner, indexed_row, IsAgreed}
-use Rattle.xs_group.specs.Verdict.{moved, AreAgreedBut, AreSomeOf}
+use Rattle.xs_group.proofs.Terms.{◌≡◌, ℕ, Bool, true, false, cond, not, ◌&&◌, ◌||◌, List, [], ◌∷◌, ◌++◌, map, take}
+use Rattle.xs_group.proofs.Terms.{Option, Some, None, option_and_then, sym, ap, ◌∙◌, refl, false≢true, UpdatesBy, Id}
+use Rattle.xs_group.proofs.Terms.{id_cmp, is_same_id, has_id, is_same_id-eq, is_same_id-symm, Rule, claimed_row}
+use Rattle.xs_group.proofs.Terms.{RowState, is_same_name, ConsumerIndex, holds, is_owner, indexed_row, IsAgreed, moved}
+use Rattle.xs_group.proofs.Terms.{AreAgreedBut, AreSomeOf}
 use Rattle.xs_group.proofs.ByConsumer.{is_same_name-eq, is_same_name-symm}
 use Rattle.xs_group.proofs.Views.{RowMap}
 use Rattle.xs_group.proofs.NewRows.{among-take}
-
--- ---- ids that a consumer gets before their rows
-
-pub or-none : (a s : Bool) → a ≡ (a || (s && false))
-or-none true s = refl
-or-none false true = refl
-or-none false false = refl
 
 -- ---- ids that are taken back
 
@@ -31,44 +18,6 @@ and-more true true true false false = refl
 and-more true true false t o = refl
 and-more true false h t o = refl
 and-more false s h t o = refl
-
-pub and-none : (a s o : Bool) → a ≡ (a && not (s && (false && not o)))
-and-none true true o = refl
-and-none true false o = refl
-and-none false s o = refl
-
--- nothing is taken back of a row that is the consumer's
-pub kept-owner : (a s t o : Bool) → o ≡ true → a ≡ (a && not (s && (t && not o)))
-kept-owner true true true true e = refl
-kept-owner true true false o e = refl
-kept-owner true false t o e = refl
-kept-owner false s t o e = refl
-kept-owner true true true false e = absurd (false≢true e)
-
-pub lost-owner : (a s t o : Bool) → o ≡ false → (a && not (s && t)) ≡ (a && not (s && (t && not o)))
-lost-owner true true true false e = refl
-lost-owner true true true true e = absurd (false≢true (sym e))
-lost-owner true true false o e = refl
-lost-owner true false t o e = refl
-lost-owner false s t o e = refl
-
--- where the id is another one, the row doesn't matter
-pub one-back : (rows : List (Id × RowState)) (name : List ℕ) (id : Id) (a s : Bool) (x : Id) → is_owner (indexed_row rows id) name ≡ true
-    → a ≡ (a && not (s && (is_same_id x id && not (is_owner (indexed_row rows x) name))))
-one-back rows name id a s x e = by (is_same_id x id) refl where
-  by : (t : Bool) → is_same_id x id ≡ t → a ≡ (a && not (s && (t && not (is_owner (indexed_row rows x) name))))
-  by true f = kept-owner a s true (is_owner (indexed_row rows x) name) (ap (λ k. is_owner (indexed_row rows k) name) (is_same_id-eq x id f) ∙ e)
-  by false f = and-none a s (is_owner (indexed_row rows x) name)
-
-pub one-gone : (rows : List (Id × RowState)) (name : List ℕ) (id : Id) (a s : Bool) (x : Id) → is_owner (indexed_row rows id) name ≡ false
-    → (a && not (s && is_same_id x id)) ≡ (a && not (s && (is_same_id x id && not (is_owner (indexed_row rows x) name))))
-one-gone rows name id a s x e = by (is_same_id x id) refl where
-  none : (a s o : Bool) → (a && not (s && false)) ≡ (a && not (s && (false && not o)))
-  none a s o = refl
-
-  by : (t : Bool) → is_same_id x id ≡ t → (a && not (s && t)) ≡ (a && not (s && (t && not (is_owner (indexed_row rows x) name))))
-  by true f = lost-owner a s true (is_owner (indexed_row rows x) name) (ap (λ k. is_owner (indexed_row rows k) name) (is_same_id-eq x id f) ∙ e)
-  by false f = none a s (is_owner (indexed_row rows x) name)
 
 -- once all are taken back, the indexes agree
 pub agreed-again : (rows : List (Id × RowState)) (a b : ConsumerIndex) (name : List ℕ) (done ids : List Id) → AreSomeOf done ids → AreAgreedBut rows a name done
@@ -143,31 +92,6 @@ module _ (m n : RowMap) (a b : ConsumerIndex) (name : List ℕ) (id : Id) (rest 
         by false e = aside (is_same_name row.consumer name) (is_owner (indexed_row m.entries x) q) (is_same_name q name) (has_id rest x) (is_same_name q row.consumer)
             ∙ ap (λ o. is_owner o q || (is_same_name q name && has_id rest x)) (sym (u.2 x (is_same_id-symm id x ∙ e)))
 
-  pub moved-none : indexed_row m.entries id ≡ None → has_id rest id ≡ false
-      → ((q : List ℕ) → (x : Id) → holds b q x ≡ (holds a q x && not (is_same_name q name && is_same_id x id)))
-      → AreAgreedBut m.entries b name rest
-  moved-none none apart h q x = h q x ∙ ap (λ c. c && not (is_same_name q name && is_same_id x id)) (but q x) ∙ by (is_same_id x id) refl where
-    gone : is_same_id x id ≡ true → indexed_row m.entries x ≡ None
-    gone e = ap (indexed_row m.entries) (is_same_id-eq x id e) ∙ none
-
-    far : is_same_id x id ≡ true → has_id rest x ≡ false
-    far e = ap (has_id rest) (is_same_id-eq x id e) ∙ apart
-
-    nothing : (s : Bool) → ((false || (s && true)) && not (s && true)) ≡ (false || (s && false))
-    nothing true = refl
-    nothing false = refl
-
-    aside : (c s : Bool) → (c && not (s && false)) ≡ c
-    aside true true = refl
-    aside true false = refl
-    aside false s = refl
-
-    by : (t : Bool) → is_same_id x id ≡ t → ((is_owner (indexed_row m.entries x) q || (is_same_name q name && (t || has_id rest x))) && not (is_same_name q name && t))
-        ≡ (is_owner (indexed_row m.entries x) q || (is_same_name q name && has_id rest x))
-    by true e = (λ i. (is_owner (gone e i) q || (is_same_name q name && true)) && not (is_same_name q name && true)) ∙ nothing (is_same_name q name)
-        ∙ sym (λ i. is_owner (gone e i) q || (is_same_name q name && far e i))
-    by false e = aside (is_owner (indexed_row m.entries x) q || (is_same_name q name && has_id rest x)) (is_same_name q name)
-
 pub names-more : (name : List ℕ) (ids : List Id) (id : Id) → map (λ (x : Id). name) (ids ++ id ∷ []) ≡ map (λ (x : Id). name) ids ++ name ∷ []
 names-more name [] id = refl
 names-more name (x ∷ xs) id = ap (λ (rest : List (List ℕ)). name ∷ rest) (names-more name xs id)
@@ -195,13 +119,6 @@ rows-left name now rule id rest x o p apart e = ap (option_and_then (moved name 
   by true f None = refl
   by true f (Some row) = ap (λ b. cond b (Some (claimed_row name now rule (claimed_row name now rule row))) (Some (claimed_row name now rule row))) (ap (has_id rest) (is_same_id-eq x id f) ∙ apart)
   by false f r = refl
-
-pub none-left : (name : List ℕ) (now : ℕ) (rule : Rule) (x : Id) (o : Option RowState) → option_and_then (moved name now rule [] x) o ≡ o
-none-left name now rule x None = refl
-none-left name now rule x (Some row) = refl
-
-pub agreed-none_left : (rows : List (Id × RowState)) (a : ConsumerIndex) (name : List ℕ) → AreAgreedBut rows a name [] → IsAgreed rows a
-agreed-none_left rows a name but q x = but q x ∙ sym (or-none (is_owner (indexed_row rows x) q) (is_same_name q name))
 
 pub tails : (a b : List ℕ) (xs ys : List (List ℕ)) → a ∷ xs ≡ b ∷ ys → xs ≡ ys
 tails a b xs ys e = cc

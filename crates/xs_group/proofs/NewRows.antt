@@ -1,20 +1,11 @@
 -- Rows that are put.
-use Rattle.std.proofs.Common.{◌≡◌, ℕ, suc, zero, Bool, true, false, cond, not, ◌||◌, List, [], ◌∷◌, ◌++◌, take, Option}
-use Rattle.std.proofs.Common.{Some, None, is_some, option_and_then, ◌&&◌, sym, ap, ◌∙◌, refl}
-use Rattle.std.proofs.lemmas.Bool.{false≢true}
-use Rattle.std.proofs.Math.Bool.{and-true, and-false, or-false}
-use Rattle.std.specs.BTreeMap.{UpdatesBy}
-use Rattle.std.specs.Cmp.Lexicographic.{nat_list_cmp_total}
-use Rattle.xs_bytes.specs.SortedMap.{get, remove, change, insert_by}
-use Rattle.xs_bytes.proofs.SortedMaps.{get-insert_by, get-remove}
-use Rattle.xs_stream.specs.declared.id.Id.{Id}
-use Rattle.xs_stream.specs.Id.{id_cmp, is_same_id, has_id}
-use Rattle.xs_stream.proofs.Order.{is_same_id-symm}
-use Rattle.xs_group.specs.GroupState.{RowState, Rows, Names, ids_total, is_same_name, has_name, with_name, with_rows}
-use Rattle.xs_group.specs.GroupState.{unless_acked, unless_owned}
-use Rattle.xs_group.specs.Indexes.{rows_of, indexed_row, ConsumerIndex, is_owner, AreFree, IsAgreed, IsNamed}
-use Rattle.xs_group.specs.Indexes.{PendingList}
-use Rattle.xs_group.specs.Verdict.{AreAgreedBut}
+use Rattle.xs_group.proofs.Terms.{◌≡◌, ℕ, suc, zero, Bool, true, false, cond, not, ◌||◌, List, [], ◌∷◌, ◌++◌, take}
+use Rattle.xs_group.proofs.Terms.{Option, Some, None, is_some, option_and_then, ◌&&◌, sym, ap, ◌∙◌, refl, false≢true}
+use Rattle.xs_group.proofs.Terms.{and-true, and-false, or-false, UpdatesBy, nat_list_cmp_total, get, remove, change}
+use Rattle.xs_group.proofs.Terms.{insert_by, get-insert_by, get-remove, Id, id_cmp, is_same_id, has_id, is_same_id-symm}
+use Rattle.xs_group.proofs.Terms.{RowState, Rows, Names, ids_total, is_same_name, has_name, with_name, with_rows}
+use Rattle.xs_group.proofs.Terms.{unless_acked, unless_owned, rows_of, indexed_row, ConsumerIndex, is_owner, AreFree}
+use Rattle.xs_group.proofs.Terms.{IsAgreed, IsNamed, PendingList, AreAgreedBut}
 use Rattle.xs_group.proofs.ByConsumer.{is_same_name-eq, is_same_name-refl, is_same_name-symm}
 use Rattle.xs_group.proofs.ChosenIds.{has-more}
 use Rattle.xs_group.proofs.Views.{RowMap, same_rows, same_names, get-rows_of}

@@ -1,24 +1,12 @@
 -- Lists and maps in the order of their keys.
-use Rattle.std.proofs.Common.{◌≡◌, ℕ, Bool, true, false, cond, ◌&&◌, ◌||◌, List, [], ◌∷◌, map, filter, Option, Some}
-use Rattle.std.proofs.Common.{None}
-use Rattle.std.proofs.Common.{is_some, sym, ap, subst, ◌∙◌, refl, Ordering}
-use Rattle.std.proofs.Math.Dec.{T}
-use Rattle.std.specs.FinMap.Entries.{find, below_all, is_sorted, same_entries}
-use Rattle.std.specs.List.{AllByRecursion}
+use Rattle.xs_group.proofs.Terms.{◌≡◌, ℕ, Bool, true, false, cond, ◌&&◌, ◌||◌, List, [], ◌∷◌, map, filter, Option, Some}
+use Rattle.xs_group.proofs.Terms.{None, is_some, sym, ap, subst, ◌∙◌, refl, Ordering, T, find, below_all, is_sorted}
+use Rattle.xs_group.proofs.Terms.{same_entries, AllByRecursion, keys_of, IsOrdered, is_lt, is_eq, Less, sorted_head}
+use Rattle.xs_group.proofs.Terms.{sorted_tail, get-of_entries, Id, id_cmp, is_same_id, is_below, has_id, AllAbove}
+use Rattle.xs_group.proofs.Terms.{Ascends, same_id, is_same_id-eq, RowState, Rows, ids_total, is_same_name, owned_ids}
+use Rattle.xs_group.proofs.Terms.{rows_of, is_owner}
 use Rattle.std.specs.List.Sorted.{IsStrictlySortedBy}
-use Rattle.std.specs.Map.{keys_of}
-use Rattle.std.specs.BTreeMap.{IsOrdered}
-use Rattle.std.specs.Ordering.{is_lt, is_eq}
-use Rattle.std.specs.declared.cmp.Ordering.TheVariants.{Less}
-use Rattle.std.proofs.lemmas.Map.Keys.{sorted_head, sorted_tail}
 use Rattle.xs_bytes.specs.SortedMap.{get}
-use Rattle.xs_bytes.proofs.SortedMaps.{get-of_entries}
-use Rattle.xs_stream.specs.declared.id.Id.{Id}
-use Rattle.xs_stream.specs.Id.{id_cmp, is_same_id, is_below, has_id}
-use Rattle.xs_stream.specs.StreamContent.{AllAbove, Ascends}
-use Rattle.xs_stream.proofs.Order.{same_id, is_same_id-eq}
-use Rattle.xs_group.specs.GroupState.{RowState, Rows, ids_total, is_same_name, owned_ids}
-use Rattle.xs_group.specs.Indexes.{rows_of, is_owner}
 use Rattle.xs_group.proofs.Views.{RowMap}
 
 pub both : (a b : Bool) → T a → T b → T (a && b)

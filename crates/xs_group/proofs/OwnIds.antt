@@ -1,11 +1,7 @@
 -- A consumer's own ids.
-use Rattle.std.proofs.Common.{◌≡◌, ℕ, List, [], Option, Some, None, sym, ap, ◌∙◌}
-use Rattle.std.specs.BTreeSet.{BTreeSet}
-use Rattle.std.specs.List.Sorted.{IsStrictlySortedBy}
-use Rattle.xs_stream.specs.declared.id.Id.{Id}
-use Rattle.xs_stream.specs.Id.{id_cmp}
-use Rattle.xs_group.specs.GroupState.{RowState, owned_ids}
-use Rattle.xs_group.specs.Indexes.{rows_of, ConsumerIndex, ids_at, has_among, is_owner, IsAgreed}
+use Rattle.xs_group.proofs.Terms.{◌≡◌, ℕ, List, [], Option, Some, None, sym, ap, ◌∙◌, BTreeSet, IsStrictlySortedBy, Id}
+use Rattle.xs_group.proofs.Terms.{id_cmp, RowState, owned_ids, rows_of, ConsumerIndex, ids_at, has_among, is_owner}
+use Rattle.xs_group.proofs.Terms.{IsAgreed}
 use Rattle.xs_group.proofs.Views.{get-rows_of}
 use Rattle.xs_group.proofs.Ordered.{ids-owned, sorted-none}
 

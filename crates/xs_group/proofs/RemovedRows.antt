@@ -1,31 +1,18 @@
 -- Rows that go: acknowledged ones, and those of a consumer that goes.
-use Rattle.std.proofs.Common.{◌≡◌, ℕ, ◌≤◌, suc, Bool, true, false, cond, ◌||◌, List, [], ◌∷◌, ◌++◌, length, Option}
-use Rattle.std.proofs.Common.{Some, None, is_some, option_and_then, sym, ap, ◌∙◌, refl, arith}
-use Rattle.std.specs.BTreeSet.{BTreeSet}
-use Rattle.std.specs.List.{list_any}
-use Rattle.std.specs.Cmp.Lexicographic.{nat_list_cmp_total}
-use Rattle.std.proofs.lemmas.List.Folds.{list_any-append}
-use Rattle.std.proofs.Math.Bool.{or-false}
-use Rattle.xs_bytes.specs.Each.{with_some, each}
-use Rattle.xs_bytes.specs.SortedMap.{get, has_key, remove, change, empty}
-use Rattle.xs_bytes.proofs.SortedMaps.{get-change, get-remove, get-empty}
-use Rattle.xs_stream.specs.declared.id.Id.{Id}
-use Rattle.xs_stream.specs.Id.{id_cmp, is_same_id, has_id}
-use Rattle.xs_stream.proofs.Order.{same_id, is_same_id-symm}
-use Rattle.xs_group.specs.GroupState.{RowState, Rows, ids_total, is_same_name, unless_acked, unless_owned}
-use Rattle.xs_group.specs.Indexes.{rows_of, ConsumerIndex, names_of, ids_at, has_among, holds, is_owner, indexed_row}
-use Rattle.xs_group.specs.Indexes.{IsAgreed, IsNamed}
-use Rattle.xs_group.specs.ConsistentGroup.{IsUpTo}
+use Rattle.xs_group.proofs.Terms.{◌≡◌, ℕ, ◌≤◌, suc, Bool, true, false, cond, ◌||◌, List, [], ◌∷◌, ◌++◌, length, Option}
+use Rattle.xs_group.proofs.Terms.{Some, None, is_some, option_and_then, sym, ap, ◌∙◌, refl, arith, BTreeSet, list_any}
+use Rattle.xs_group.proofs.Terms.{nat_list_cmp_total, list_any-append, or-false, with_some, each, get, has_key, remove}
+use Rattle.xs_group.proofs.Terms.{empty, get-change, get-remove, get-empty, Id, id_cmp, is_same_id, has_id, same_id}
+use Rattle.xs_group.proofs.Terms.{is_same_id-symm, RowState, Rows, ids_total, is_same_name, unless_acked, unless_owned}
+use Rattle.xs_group.proofs.Terms.{rows_of, ConsumerIndex, names_of, ids_at, has_among, holds, is_owner, indexed_row}
+use Rattle.xs_group.proofs.Terms.{IsAgreed, IsNamed, IsUpTo}
+use Rattle.xs_bytes.specs.SortedMap.{change}
 use Rattle.xs_group.proofs.ByConsumer.{is_same_name-eq, is_same_name-symm}
 use Rattle.xs_group.proofs.Views.{same_rows, same_names, get-rows_of, has_name-names_of}
 
 -- a row as it changes
 pub get-changed : (f : Id → RowState → Option RowState) (rows : Rows) (q : Id) → get (change f rows) q ≡ option_and_then (f q) (get rows q)
 get-changed f rows q = get-change ids_total same_id f rows q
-
--- changes that answer alike
-pub change-same : (f g : Id → RowState → Option RowState) (rows : Rows) → ((q : Id) → option_and_then (f q) (get rows q) ≡ option_and_then (g q) (get rows q)) → change f rows ≡ change g rows
-change-same f g rows is = same_rows _ _ (λ q. get-changed f rows q ∙ is q ∙ sym (get-changed g rows q))
 
 pub change-nothing : (f : Id → RowState → Option RowState) (rows : Rows) → ((q : Id) → option_and_then (f q) (get rows q) ≡ get rows q) → change f rows ≡ rows
 change-nothing f rows is = same_rows _ _ (λ q. get-changed f rows q ∙ is q)

@@ -1,49 +1,21 @@
 -- What is told of pending rows.
-use Rattle.std.proofs.Common.{◌≡◌, ℕ, ◌-◌, ◌<◌, ◌≤◌, suc, zero, Bool, true, false, cond, not, ◌&&◌, ◌⊎◌, inl, inr, leb}
-use Rattle.std.proofs.Common.{List, [], ◌∷◌, ◌++◌, map, filter, take, length, Option, Some, None, IsSome, ◌↔◌, sym, ap}
-use Rattle.std.proofs.Common.{◌∙◌, refl, subst, arith, append-nil, take_all, Ordering}
-use Rattle.std.proofs.lemmas.Bool.{false≢true}
-use Rattle.std.proofs.Math.Dec.{T}
-use Rattle.std.proofs.Math.Seq.{take-append_seam}
-use Rattle.std.specs.List.{AllByRecursion, slice_get}
-use Rattle.std.specs.List.Sorted.{IsStrictlySortedBy}
-use Rattle.std.specs.Map.{keys_of}
-use Rattle.std.specs.BTreeMap.{IsOrdered}
-use Rattle.std.specs.BTreeMap.Range.{range_contains, entries_between}
-use Rattle.std.specs.BTreeSet.{BTreeSet}
-use Rattle.std.specs.declared.ops.Bound.TheVariants.{Included}
-use Rattle.std.specs.FinMap.Entries.{below_all, is_sorted, same_entries}
-use Rattle.std.specs.Ordering.{nat_cmp, is_lt, is_eq}
-use Rattle.std.specs.Cmp.Lexicographic.{slice_cmp, nat_list_cmp_total}
-use Rattle.std.specs.declared.cmp.Ordering.TheVariants.{Less, Equal, Greater}
-use Rattle.std.proofs.lemmas.Map.Lookups.{exact_bytes}
-use Rattle.xs_bytes.specs.SortedMap.{get, keys}
-use Rattle.xs_bytes.proofs.SortedMaps.{get-of_entries}
-use Rattle.xs_stream.specs.declared.id.Id.{Id}
-use Rattle.xs_stream.specs.declared.range.Range.{Range}
-use Rattle.xs_stream.specs.Id.{id_cmp, is_below}
-use Rattle.xs_stream.specs.StreamContent.{is_within}
-use Rattle.xs_stream.proofs.InOrder.{between-within, filter-filter, and_yes}
-use Rattle.xs_group.specs.declared.reports.PendingRow.{PendingRow}
-use Rattle.xs_group.specs.declared.reports.Selection.{Selection}
-use Rattle.xs_group.specs.GroupState.{RowState, is_same_name, idle, owned_ids}
-use Rattle.xs_group.specs.Indexes.{ConsumerIndex, names_of, ids_at, indexed_row, rows_of}
-use Rattle.xs_group.specs.Report.{first_id, last_id, pending_row, is_of, is_selected}
+use Rattle.xs_group.proofs.Terms.{◌≡◌, ℕ, ◌-◌, suc, zero, Bool, true, false, cond, not, ◌&&◌}
+use Rattle.xs_group.proofs.Terms.{leb, List, [], ◌∷◌, map, filter, take, length, Option, Some, None}
+use Rattle.xs_group.proofs.Terms.{sym, ap, ◌∙◌, refl, subst, arith, Ordering, T}
+use Rattle.xs_group.proofs.Terms.{AllByRecursion, slice_get, IsStrictlySortedBy, keys_of, IsOrdered}
+use Rattle.xs_group.proofs.Terms.{range_contains, entries_between, BTreeSet, Included, below_all, is_sorted}
+use Rattle.xs_group.proofs.Terms.{same_entries, nat_cmp, is_lt, is_eq, slice_cmp, nat_list_cmp_total, Less, Equal}
+use Rattle.xs_group.proofs.Terms.{Greater, exact_bytes, keys, get-of_entries, Id, Range, id_cmp, is_below, is_within}
+use Rattle.xs_group.proofs.Terms.{between-within, filter-filter, and_yes, PendingRow, Selection, RowState, is_same_name}
+use Rattle.xs_group.proofs.Terms.{idle, owned_ids, ConsumerIndex, names_of, ids_at, indexed_row, rows_of}
+use Rattle.xs_group.proofs.Terms.{last_id, pending_row, is_of, is_selected, below-not_below}
+use Rattle.xs_bytes.specs.SortedMap.{get}
 use Rattle.xs_group.proofs.ByConsumer.{Index, is_same_name-symm, is_same_name-refl}
 use Rattle.xs_group.proofs.Ordered.{is_sorted-from, first, second}
 use Rattle.xs_group.proofs.Views.{get-rows_of}
 use Rattle.xs_group.proofs.Scanning.{AreFound, found-all, found-filter}
-use Rattle.xs_stream.proofs.Order.{below-not_below}
 
 -- ---- the least and the greatest id
-
-pub first-told : (es : List (Id × RowState)) (x : Id) (row : RowState) → slice_get es 0 ≡ Some (x, row) → Some x ≡ first_id es
-first-told [] x row e = cc
-first-told (f ∷ es) x row e = cc
-
-pub first-none : (es : List (Id × RowState)) → (IsSome {T = Id} None ↔ (0 < length es)) → None ≡ first_id es
-first-none [] v = refl
-first-none (f ∷ es) v = absurd (false≢true (v.1 (omega arith)))
 
 pub last-told : (es : List (Id × RowState)) (x : Id) (row : RowState) → slice_get es (length es - 1) ≡ Some (x, row) → Some x ≡ last_id es
 last-told [] x row e = cc
@@ -51,10 +23,6 @@ last-told (f ∷ []) x row e = cc
 last-told (f ∷ g ∷ es) x row e =
     let k : suc (suc (length es)) - 1 ≡ suc (suc (length es) - 1) = omega arith in
     last-told (g ∷ es) x row (sym (ap (slice_get (f ∷ g ∷ es)) k) ∙ e)
-
-pub last-none : (es : List (Id × RowState)) → (IsSome {T = Id} None ↔ (0 < length es)) → None ≡ last_id es
-last-none [] v = refl
-last-none (f ∷ es) v = absurd (false≢true (v.1 (omega arith)))
 
 -- ---- the consumers
 
@@ -93,13 +61,6 @@ keys-names_of m o =
     ∙ keys-units m.entries
 
 -- ---- rows
-
-pub told : (xs ys all : List PendingRow) (n : ℕ) → xs ++ ys ≡ all → length xs ≤ n → (ys ≡ []) ⊎ (n ≤ length xs) → xs ≡ take n all
-told xs ys all n e few (inl none) = let whole : xs ≡ all = sym (append-nil xs) ∙ ap (λ rest. xs ++ rest) (sym none) ∙ e in
-    whole ∙ sym (take_all n all (subst (λ l. length l ≤ n) whole few))
-told xs ys all n e few (inr full) =
-    let exact : length xs ≡ n = omega arith in
-    sym (take-append_seam xs ys) ∙ ap (λ k. take k (xs ++ ys)) exact ∙ ap (take n) e
 
 pub rows-between : (s : Selection) (rows : List (Id × RowState))
     → filter (λ e. leb s.min_idle (idle s.moment e.1.time)) (entries_between id_cmp (Included s.range.low) (Included s.range.high) rows)

@@ -1,22 +1,12 @@
 -- The scanned part, met one id after another.
-use Rattle.std.proofs.Common.{◌≡◌, ℕ, ◌+◌, ◌*◌, Bool, true, false, cond, not, ◌&&◌, ◌||◌, leb, List, [], ◌∷◌, ◌++◌, map}
-use Rattle.std.proofs.Common.{filter, length, drop, Some, sym, ap, ◌∙◌, refl, add-zero, arith, append_assoc, Ordering}
-use Rattle.std.proofs.Math.Dec.{T}
-use Rattle.std.specs.FinMap.Entries.{below_all, is_sorted}
-use Rattle.std.specs.List.{AllByRecursion}
-use Rattle.std.specs.BTreeMap.Range.{range_contains, entries_between}
-use Rattle.std.specs.declared.ops.Bound.TheVariants.{Included, Unbounded}
-use Rattle.std.specs.Ordering.{is_lt, is_eq}
-use Rattle.std.specs.declared.cmp.Ordering.TheVariants.{Less, Equal, Greater}
-use Rattle.xs_stream.specs.declared.id.Id.{Id}
-use Rattle.xs_stream.specs.Id.{id_cmp, is_below}
-use Rattle.xs_stream.proofs.Order.{is_same_id-symm, is_same_id-refl, le-not_below}
-use Rattle.xs_group.specs.declared.claims.Scan.{Scan}
-use Rattle.xs_group.specs.declared.claims.Verdict.{Verdict}
-use Rattle.xs_group.specs.Claims.{Rule, row_at, is_taken, is_removed, is_hit, from_start, prefixes, first_where}
-use Rattle.xs_group.specs.Claims.{scanned_part, first_or_zero, scan_of}
-use Rattle.xs_group.specs.GroupState.{RowState}
-use Rattle.xs_group.specs.Verdict.{is_taken_by, is_removed_by, with_taken, with_removed, scanned_after}
+use Rattle.xs_group.proofs.Terms.{◌≡◌, ℕ, ◌+◌, ◌*◌, Bool, true, false, cond, not, ◌&&◌, ◌||◌, leb, List, [], ◌∷◌, ◌++◌}
+use Rattle.xs_group.proofs.Terms.{map, filter, length, drop, Some, sym, ap, ◌∙◌, refl, add-zero, arith, append_assoc}
+use Rattle.xs_group.proofs.Terms.{Ordering, T, below_all, is_sorted, AllByRecursion, range_contains, entries_between}
+use Rattle.xs_group.proofs.Terms.{Included, Unbounded, is_lt, is_eq, Less, Equal, Greater, Id, id_cmp, is_below}
+use Rattle.xs_group.proofs.Terms.{is_same_id-symm, is_same_id-refl, le-not_below, Scan, Verdict, Rule, row_at, is_taken}
+use Rattle.xs_group.proofs.Terms.{is_removed, is_hit, from_start, prefixes, first_where, scanned_part, first_or_zero}
+use Rattle.xs_group.proofs.Terms.{scan_of, RowState, is_taken_by, is_removed_by, with_taken, with_removed}
+use Rattle.xs_group.proofs.Terms.{scanned_after}
 use Rattle.xs_group.proofs.Ordered.{first, second}
 
 -- ---- the shortest prefix that is enough

@@ -1,17 +1,10 @@
 -- Times and counts that are set.
-use Rattle.std.proofs.Common.{◌≡◌, ℕ, Bool, true, false, cond, ◌&&◌, ◌||◌, List, [], ◌∷◌, ◌++◌, map, Option, Some, None}
-use Rattle.std.proofs.Common.{option_and_then, sym, ap, ◌∙◌, refl}
-use Rattle.std.specs.BTreeMap.{UpdatesBy}
-use Rattle.xs_bytes.specs.SortedMap.{get, change}
-use Rattle.xs_stream.specs.declared.id.Id.{Id}
-use Rattle.xs_stream.specs.Id.{id_cmp, is_same_id, has_id}
-use Rattle.xs_stream.proofs.Order.{is_same_id-eq, is_same_id-symm}
-use Rattle.xs_group.specs.declared.delivery.Touch.{Touch}
-use Rattle.xs_group.specs.declared.delivery.DeliveryRow.{DeliveryRow}
-use Rattle.xs_group.specs.GroupState.{RowState, Rows, redelivered_row, row_after_reread}
-use Rattle.xs_group.specs.Indexes.{rows_of, ConsumerIndex, is_owner, indexed_row, IsAgreed}
-use Rattle.xs_group.specs.Deliveries.{touch_of, shown_row, shown_rows, touch_set, with_touch, touched_at, set_one}
-use Rattle.xs_group.specs.Deliveries.{set_rows, row_ids}
+use Rattle.xs_group.proofs.Terms.{◌≡◌, ℕ, Bool, true, false, cond, ◌&&◌, ◌||◌, List, [], ◌∷◌, ◌++◌, map, Option, Some}
+use Rattle.xs_group.proofs.Terms.{None, option_and_then, sym, ap, ◌∙◌, refl, UpdatesBy, get, change, Id, id_cmp}
+use Rattle.xs_group.proofs.Terms.{is_same_id, has_id, is_same_id-eq, is_same_id-symm, Touch, DeliveryRow, RowState}
+use Rattle.xs_group.proofs.Terms.{Rows, redelivered_row, row_after_reread, rows_of, ConsumerIndex, is_owner}
+use Rattle.xs_group.proofs.Terms.{indexed_row, IsAgreed, touch_of, shown_row, shown_rows, touch_set, with_touch}
+use Rattle.xs_group.proofs.Terms.{touched_at, set_one, set_rows, row_ids}
 use Rattle.xs_group.proofs.Views.{RowMap, get-rows_of, same_rows}
 use Rattle.xs_group.proofs.RemovedRows.{get-changed, change-nothing}
 

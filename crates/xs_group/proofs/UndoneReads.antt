@@ -1,14 +1,9 @@
 -- A read that is taken back.
-use Rattle.std.proofs.Common.{Option, ◌≡◌, ℕ, Bool, true, false, cond, not, inl, inr, List, [], ◌∷◌, sym, ap, ◌∙◌, refl}
-use Rattle.xs_bytes.specs.SortedMap.{change}
-use Rattle.xs_stream.specs.declared.id.Id.{Id}
-use Rattle.xs_group.specs.declared.delivery.Delivery.{Delivery}
-use Rattle.xs_group.specs.GroupState.{Rows, GroupState, has_name, with_name, new_ids, first_row, with_rows, own_ids}
-use Rattle.xs_group.specs.GroupState.{group_after_delivery, group_after_reread, unless_acked}
-use Rattle.xs_group.specs.Indexes.{PendingList, IsNamed, AreFree}
-use Rattle.xs_group.specs.ConsistentGroup.{IsConsistentGroup}
-use Rattle.xs_group.specs.Deliveries.{delivery_of, history_of, new_rows, kind_of, taken_back, without_made, unmade}
-use Rattle.xs_group.specs.Deliveries.{row_ids, IsDelivered, IsReread, IsMade}
+use Rattle.xs_group.proofs.Terms.{Option, ◌≡◌, ℕ, Bool, true, false, cond, not, inl, inr, List, [], ◌∷◌, sym, ap, ◌∙◌}
+use Rattle.xs_group.proofs.Terms.{refl, change, Id, Delivery, Rows, GroupState, has_name, with_name, new_ids, first_row}
+use Rattle.xs_group.proofs.Terms.{with_rows, own_ids, group_after_delivery, group_after_reread, unless_acked}
+use Rattle.xs_group.proofs.Terms.{PendingList, IsNamed, AreFree, IsConsistentGroup, delivery_of, history_of, new_rows}
+use Rattle.xs_group.proofs.Terms.{kind_of, taken_back, without_made, unmade, row_ids, IsDelivered, IsReread, IsMade}
 use Rattle.xs_group.proofs.Agreeing.{name-again}
 use Rattle.xs_group.proofs.NewRows.{held-back, out-again, unowned-rows}
 use Rattle.xs_group.proofs.Cursors.{free-above, new_ids-above}

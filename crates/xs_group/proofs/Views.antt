@@ -1,19 +1,10 @@
 -- The maps that the two indexes are seen as.
-use Rattle.std.proofs.Common.{◌≡◌, ℕ, Bool, true, false, cond, List, [], ◌∷◌, map, Option, Some, None, is_some, sym, ap}
-use Rattle.std.proofs.Common.{◌∙◌, refl, BTreeMap, Ordering}
-use Rattle.std.specs.FinMap.Entries.{find}
-use Rattle.std.specs.Map.{lookup}
-use Rattle.std.specs.BTreeMap.{UpdatesBy, is_at}
-use Rattle.std.specs.Ordering.{nat_cmp, eq_by_cmp}
-use Rattle.std.specs.Cmp.Lexicographic.{slice_cmp, nat_list_cmp_total}
-use Rattle.std.proofs.lemmas.Map.Lookups.{exact_bytes}
-use Rattle.xs_bytes.specs.SortedMap.{get, remove}
-use Rattle.xs_bytes.proofs.SortedMaps.{get-of_entries, get-remove, same_map}
-use Rattle.xs_stream.specs.declared.id.Id.{Id}
-use Rattle.xs_stream.specs.Id.{id_cmp, is_same_id}
-use Rattle.xs_stream.proofs.Order.{same_id, is_same_id-symm}
-use Rattle.xs_group.specs.GroupState.{RowState, Rows, Names, is_same_name, has_name, ids_total}
-use Rattle.xs_group.specs.Indexes.{rows_of, ConsumerIndex, names_of, ids_at, indexed_row}
+use Rattle.xs_group.proofs.Terms.{◌≡◌, ℕ, Bool, true, false, cond, List, [], ◌∷◌, map, Option, Some, None, is_some, sym}
+use Rattle.xs_group.proofs.Terms.{ap, ◌∙◌, refl, BTreeMap, Ordering, find, lookup, UpdatesBy, is_at, nat_cmp, eq_by_cmp}
+use Rattle.xs_group.proofs.Terms.{slice_cmp, nat_list_cmp_total, exact_bytes, get, remove, get-of_entries, get-remove}
+use Rattle.xs_group.proofs.Terms.{same_map, Id, id_cmp, is_same_id, same_id, is_same_id-symm, RowState, Rows, Names}
+use Rattle.xs_group.proofs.Terms.{is_same_name, has_name, ids_total, rows_of, ConsumerIndex, names_of, ids_at}
+use Rattle.xs_group.proofs.Terms.{indexed_row}
 
 pub find-lookup : {K X : Type 0} (R : K → K → Ordering) (q : K) (es : List (K × X)) → find R q es ≡ lookup (is_at (R q)) es
 find-lookup R q [] = refl

@@ -1,15 +1,8 @@
-use Rattle.std.proofs.Common.{◌≡◌, ◌+◌, ◌*◌, ◌<◌, ◌≤◌, ◌++◌, ◌||◌, List, [], ◌∷◌, map, filter, length, drop, true}
-use Rattle.std.proofs.Common.{false, cond, leb, Some, sym, ap, ◌∙◌, subst, arith, append-nil}
-use Rattle.std.proofs.lemmas.Bool.Decides.{nat_tests}
-use Rattle.std.specs.BTreeMap.Range.{range_contains, entries_between}
-use Rattle.std.specs.declared.ops.Bound.TheVariants.{Included, Unbounded}
-use Rattle.xs_stream.specs.declared.id.Id.{Id}
-use Rattle.xs_stream.specs.Id.{id_cmp, has_id}
-use Rattle.xs_stream.specs.StreamContent.{ids_of}
-use Rattle.xs_group.specs.GroupState.{RowState}
-use Rattle.xs_group.specs.Claims.{is_taken, is_removed, is_hit, from_start, first_or_zero}
-use Rattle.xs_group.specs.Indexes.{rows_of}
-use Rattle.xs_group.specs.Verdict.{verdict_of, with_taken, with_removed, hits_of, scanned_after}
+use Rattle.xs_group.proofs.Terms.{◌≡◌, ◌+◌, ◌*◌, ◌<◌, ◌≤◌, ◌++◌, ◌||◌, List, [], ◌∷◌, map, filter, length, drop, true}
+use Rattle.xs_group.proofs.Terms.{false, cond, leb, Some, sym, ap, ◌∙◌, subst, arith, append-nil, nat_tests}
+use Rattle.xs_group.proofs.Terms.{range_contains, entries_between, Included, Unbounded, Id, id_cmp, has_id, ids_of}
+use Rattle.xs_group.proofs.Terms.{RowState, is_taken, is_removed, is_hit, from_start, first_or_zero, rows_of}
+use Rattle.xs_group.proofs.Terms.{verdict_of, with_taken, with_removed, hits_of, scanned_after}
 use Rattle.xs_group.proofs.ChosenIds.{taken-verdict, removed-verdict, hits-verdict, one_most}
 use Rattle.xs_group.proofs.Ordered.{entries-rows_of}
 use Rattle.xs_group.proofs.Scanning.{AreFound, found-all, found-filter, keys-between, scanned-on, scanned-enough}

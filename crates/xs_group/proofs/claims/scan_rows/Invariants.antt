@@ -1,8 +1,5 @@
-use Rattle.std.proofs.Common.{◌≡◌, ◌+◌, ◌<◌, ◌≤◌, ◌++◌, map, filter, length, drop}
-use Rattle.xs_stream.specs.StreamContent.{ids_of}
-use Rattle.xs_group.specs.Claims.{is_taken, is_removed, is_hit, from_start, first_or_zero}
-use Rattle.xs_group.specs.Indexes.{rows_of}
-use Rattle.xs_group.specs.Verdict.{scanned_after}
+use Rattle.xs_group.proofs.Terms.{◌≡◌, ◌+◌, ◌<◌, ◌≤◌, ◌++◌, map, filter, length, drop, ids_of, is_taken, is_removed}
+use Rattle.xs_group.proofs.Terms.{is_hit, from_start, first_or_zero, rows_of, scanned_after}
 use Rattle.xs_group.proofs.Scanning.{AreFound}
 use Rattle.xs_group.proofs.claims.scan_rows.Given as goal
 

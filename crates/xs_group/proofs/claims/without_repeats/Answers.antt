@@ -1,11 +1,6 @@
-use Rattle.std.proofs.Common.{◌≡◌, ◌+◌, Bool, true, false, cond, ◌||◌, get_or, take, sym, ap, ◌∙◌, ◌++◌, ◌∷◌, [], refl}
-use Rattle.std.proofs.Common.{Vec, Global}
-use Rattle.std.specs.BTreeSet.{contains}
-use Rattle.std.proofs.lemmas.List.{take_more}
-use Rattle.xs_stream.specs.declared.id.Id.{Id}
-use Rattle.xs_stream.specs.Id.{id_cmp, is_same_id, has_id}
-use Rattle.xs_stream.proofs.Order.{is_same_id-symm}
-use Rattle.xs_group.specs.Claims.{without_repeats}
+use Rattle.xs_group.proofs.Terms.{◌≡◌, ◌+◌, Bool, true, false, cond, ◌||◌, get_or, take, sym, ap, ◌∙◌, ◌++◌, ◌∷◌, []}
+use Rattle.xs_group.proofs.Terms.{refl, Vec, Global, contains, take_more, Id, id_cmp, is_same_id, has_id}
+use Rattle.xs_group.proofs.Terms.{is_same_id-symm, without_repeats}
 use Rattle.xs_group.proofs.claims.without_repeats.Goals as goal
 use Rattle.xs_group.proofs.claims.without_repeats.Goals.{then-branch+in_ok-push, else-branch, Joined-branch}
 use Rattle.xs_group.proofs.ChosenIds.{without_repeats-more, has-more, had}

@@ -1,8 +1,4 @@
-use Rattle.std.proofs.Common.{◌≡◌, take}
-use Rattle.std.specs.BTreeSet.{contains}
-use Rattle.xs_stream.specs.declared.id.Id.{Id}
-use Rattle.xs_stream.specs.Id.{id_cmp, has_id}
-use Rattle.xs_group.specs.Claims.{without_repeats}
+use Rattle.xs_group.proofs.Terms.{◌≡◌, take, contains, Id, id_cmp, has_id, without_repeats}
 use Rattle.xs_group.proofs.claims.without_repeats.Given as goal
 
 -- the ids so far are seen, each kept at its first place

@@ -1,8 +1,5 @@
-use Rattle.std.proofs.Common.{◌||◌, get_or, take, sym, ap, ◌∙◌}
-use Rattle.std.proofs.lemmas.List.{take_more}
-use Rattle.std.specs.BTreeSet.{contains}
-use Rattle.std.specs.List.{list_any}
-use Rattle.xs_stream.specs.Id.{id_cmp, is_same_id, has_id}
+use Rattle.xs_group.proofs.Terms.{◌||◌, get_or, take, sym, ap, ◌∙◌, take_more, contains, list_any, id_cmp, is_same_id}
+use Rattle.xs_group.proofs.Terms.{has_id}
 use Rattle.xs_group.proofs.ByConsumer.{contains-more}
 use Rattle.xs_group.proofs.ChosenIds.{has-more}
 use Rattle.xs_group.proofs.MovedRows.{some-take}

@@ -1,5 +1,4 @@
-use Rattle.std.proofs.Common.{sym, rules}
-use Rattle.std.proofs.lemmas.Result.{on_ok_weaker, on_err_weaker}
+use Rattle.xs_group.proofs.Terms.{sym, rules, on_ok_weaker, on_err_weaker}
 use Rattle.xs_group.proofs.consumer_index.put_ids.Goals as goal
 use Rattle.xs_group.proofs.ByConsumer.{names-written, holds-put}
 

@@ -1,4 +1,4 @@
-use Rattle.std.proofs.Common.{sym, rules}
+use Rattle.xs_group.proofs.Terms.{sym, rules}
 use Rattle.xs_group.proofs.consumer_index.remove_id.Goals as goal
 use Rattle.xs_group.proofs.ByConsumer.{names-written, holds-removed, holds-absent}
 

@@ -1,6 +1,4 @@
-use Rattle.std.proofs.Common.{sym, ap, ◌∙◌, None, cond}
-use Rattle.xs_stream.specs.Id.{has_id}
-use Rattle.xs_group.specs.Indexes.{indexed_row}
+use Rattle.xs_group.proofs.Terms.{sym, ap, ◌∙◌, None, cond, has_id, indexed_row}
 use Rattle.xs_group.proofs.consumer_index.remove_rows.Goals as goal
 use Rattle.xs_group.proofs.RemovedRows.{out-more}
 

@@ -1,7 +1,4 @@
-use Rattle.std.proofs.Common.{◌≡◌, cond, None}
-use Rattle.xs_stream.specs.declared.id.Id.{Id}
-use Rattle.xs_stream.specs.Id.{has_id}
-use Rattle.xs_group.specs.Indexes.{indexed_row}
+use Rattle.xs_group.proofs.Terms.{◌≡◌, cond, None, Id, has_id, indexed_row}
 use Rattle.xs_group.proofs.consumer_index.remove_rows.Given as goal
 
 -- without the ids still to come, what is left is what will be left

@@ -1,7 +1,7 @@
+use Rattle.xs_group.proofs.Terms.{refl, sym, subst, arith}
 use Rattle.std.specs.Prelude.{T, codes}
-use Rattle.std.proofs.Common.{refl, sym, subst, arith}
-use Rattle.xs_bytes.specs.SortedMap.{empty, get, insert_by}
 use Rattle.xs_stream.specs.Examples.{at}
+use Rattle.xs_bytes.specs.SortedMap.{empty, get, insert_by}
 use Rattle.xs_group.proofs.examples.lawful.Goals as goal
 
 pub returns : goal.returns

@@ -1,7 +1,6 @@
+use Rattle.xs_group.proofs.Terms.{refl, sym, subst}
 use Rattle.std.specs.Prelude.{T, codes}
-use Rattle.std.proofs.Common.{sym, subst}
 use Rattle.xs_stream.specs.Examples.{at}
-use Rattle.std.proofs.Common.{refl}
 use Rattle.xs_bytes.specs.SortedMap.{empty, get, insert_by, remove, change}
 use Rattle.xs_group.proofs.examples.left.Goals as goal
 

@@ -1,8 +1,4 @@
-use Rattle.std.proofs.Common.{Some, cond, ap, ◌∙◌}
-use Rattle.std.proofs.lemmas.Result.{on_ok_weaker}
-use Rattle.xs_stream.specs.Id.{is_same_id}
-use Rattle.xs_group.specs.GroupState.{first_row}
-use Rattle.xs_group.specs.Indexes.{indexed_row}
+use Rattle.xs_group.proofs.Terms.{Some, cond, ap, ◌∙◌, on_ok_weaker, is_same_id, first_row, indexed_row}
 use Rattle.xs_group.proofs.NewRows.{row-put}
 use Rattle.xs_group.proofs.id_index.put_row.Goals as goal
 

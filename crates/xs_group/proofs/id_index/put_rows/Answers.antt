@@ -1,8 +1,5 @@
-use Rattle.std.proofs.Common.{get_or, take, sym, ap, ◌∙◌, cond, Some, None}
-use Rattle.std.proofs.lemmas.List.{take_more}
-use Rattle.xs_stream.specs.Id.{has_id}
-use Rattle.xs_group.specs.GroupState.{first_row}
-use Rattle.xs_group.specs.Indexes.{indexed_row}
+use Rattle.xs_group.proofs.Terms.{get_or, take, sym, ap, ◌∙◌, cond, Some, None, take_more, has_id, first_row}
+use Rattle.xs_group.proofs.Terms.{indexed_row}
 use Rattle.xs_group.proofs.NewRows.{rows-more, none-again, among-take}
 use Rattle.xs_group.proofs.id_index.put_rows.Goals as goal
 

@@ -1,8 +1,4 @@
-use Rattle.std.proofs.Common.{◌≡◌, cond, take, Some}
-use Rattle.xs_stream.specs.declared.id.Id.{Id}
-use Rattle.xs_stream.specs.Id.{has_id}
-use Rattle.xs_group.specs.Indexes.{indexed_row}
-use Rattle.xs_group.specs.GroupState.{first_row}
+use Rattle.xs_group.proofs.Terms.{◌≡◌, cond, take, Some, Id, has_id, indexed_row, first_row}
 use Rattle.xs_group.proofs.id_index.put_rows.Given as goal
 
 -- the ids so far have their rows

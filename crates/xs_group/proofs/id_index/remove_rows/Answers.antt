@@ -1,7 +1,4 @@
-use Rattle.std.proofs.Common.{get_or, take, sym, ap, ◌∙◌, cond, None}
-use Rattle.std.proofs.lemmas.List.{take_more}
-use Rattle.xs_stream.specs.Id.{has_id}
-use Rattle.xs_group.specs.Indexes.{indexed_row}
+use Rattle.xs_group.proofs.Terms.{get_or, take, sym, ap, ◌∙◌, cond, None, take_more, has_id, indexed_row}
 use Rattle.xs_group.proofs.NewRows.{row-put, rows-more}
 use Rattle.xs_group.proofs.id_index.remove_rows.Goals as goal
 

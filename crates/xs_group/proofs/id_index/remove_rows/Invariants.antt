@@ -1,7 +1,4 @@
-use Rattle.std.proofs.Common.{◌≡◌, cond, take, None}
-use Rattle.xs_stream.specs.declared.id.Id.{Id}
-use Rattle.xs_stream.specs.Id.{has_id}
-use Rattle.xs_group.specs.Indexes.{indexed_row}
+use Rattle.xs_group.proofs.Terms.{◌≡◌, cond, take, None, Id, has_id, indexed_row}
 use Rattle.xs_group.proofs.id_index.remove_rows.Given as goal
 
 -- the rows of the ids so far are out

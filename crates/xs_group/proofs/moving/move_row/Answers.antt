@@ -1,9 +1,5 @@
-use Rattle.std.proofs.Common.{◌&&◌, cond, Some, sym, ap, ◌∙◌, not, subst, rules}
-use Rattle.std.specs.BTreeMap.{UpdatesBy}
-use Rattle.xs_stream.specs.Id.{id_cmp, is_same_id}
-use Rattle.xs_group.specs.GroupState.{RowState, is_same_name}
-use Rattle.xs_group.specs.Claims.{claimed_row}
-use Rattle.xs_group.specs.Indexes.{holds}
+use Rattle.xs_group.proofs.Terms.{◌&&◌, cond, Some, sym, ap, ◌∙◌, not, subst, rules, UpdatesBy, id_cmp, is_same_id}
+use Rattle.xs_group.proofs.Terms.{RowState, is_same_name, claimed_row, holds}
 use Rattle.xs_group.proofs.MovedRows.{moved-some, row-moved}
 use Rattle.xs_group.proofs.moving.move_row.Goals as goal
 

@@ -1,8 +1,5 @@
-use Rattle.std.proofs.Common.{◌≡◌, map, option_and_then, ◌∷◌, sym, ap, ◌∙◌, subst}
-use Rattle.std.specs.Vec.Iter.{into_iter_items}
-use Rattle.xs_stream.specs.declared.id.Id.{Id}
-use Rattle.xs_group.specs.Indexes.{indexed_row}
-use Rattle.xs_group.specs.Verdict.{moved, AreDistinct, AreAgreedBut}
+use Rattle.xs_group.proofs.Terms.{◌≡◌, map, option_and_then, ◌∷◌, sym, ap, ◌∙◌, subst, into_iter_items, Id, indexed_row}
+use Rattle.xs_group.proofs.Terms.{moved, AreDistinct, AreAgreedBut}
 use Rattle.xs_group.proofs.MovedRows.{rows-left, tails}
 use Rattle.xs_group.proofs.moving.move_rows.Goals as goal
 

@@ -1,8 +1,5 @@
-use Rattle.std.proofs.Common.{◌≡◌, ℕ, List, map, is_some, option_and_then}
-use Rattle.std.specs.Vec.Iter.{into_iter_items}
-use Rattle.xs_stream.specs.declared.id.Id.{Id}
-use Rattle.xs_group.specs.Indexes.{ids_at, indexed_row}
-use Rattle.xs_group.specs.Verdict.{moved, AreDistinct, AreAgreedBut}
+use Rattle.xs_group.proofs.Terms.{◌≡◌, ℕ, List, map, is_some, option_and_then, into_iter_items, Id, ids_at, indexed_row}
+use Rattle.xs_group.proofs.Terms.{moved, AreDistinct, AreAgreedBut}
 use Rattle.xs_group.proofs.moving.move_rows.Given as goal
 
 -- what is left to do makes of the rows what all was to make of them

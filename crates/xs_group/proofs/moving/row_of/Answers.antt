@@ -1,7 +1,4 @@
-use Rattle.std.proofs.Common.{sym, ap, ◌∙◌}
-use Rattle.std.proofs.lemmas.Bool.{false≢true}
-use Rattle.xs_group.specs.GroupState.{is_same_name}
-use Rattle.xs_group.specs.Indexes.{has_among, is_owner}
+use Rattle.xs_group.proofs.Terms.{sym, ap, ◌∙◌, false≢true, is_same_name, has_among, is_owner}
 use Rattle.xs_group.proofs.ByConsumer.{is_same_name-eq}
 use Rattle.xs_group.proofs.moving.row_of.Goals as goal
 

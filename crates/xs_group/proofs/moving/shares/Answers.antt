@@ -1,6 +1,4 @@
-use Rattle.std.proofs.Common.{ℕ, List, map, get_or, take, sym, ap, ◌∙◌, ◌++◌, ◌∷◌, []}
-use Rattle.std.proofs.lemmas.List.{take_more}
-use Rattle.xs_stream.specs.declared.id.Id.{Id}
+use Rattle.xs_group.proofs.Terms.{ℕ, List, map, get_or, take, sym, ap, ◌∙◌, ◌++◌, ◌∷◌, [], take_more, Id}
 use Rattle.xs_group.proofs.moving.shares.Goals as goal
 use Rattle.xs_group.proofs.MovedRows.{names-more}
 

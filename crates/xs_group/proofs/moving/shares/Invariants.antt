@@ -1,4 +1,4 @@
-use Rattle.std.proofs.Common.{◌≡◌, take, map}
+use Rattle.xs_group.proofs.Terms.{◌≡◌, take, map}
 use Rattle.xs_group.proofs.moving.shares.Given as goal
 
 -- the name for each of the ids so far

@@ -1,8 +1,6 @@
-use Rattle.std.proofs.Common.{◌≡◌, ◌&&◌, get_or, take, sym, ap, ◌∙◌, not, arith}
-use Rattle.std.proofs.lemmas.List.{take_more, take_all}
-use Rattle.xs_stream.specs.Id.{is_same_id, has_id}
-use Rattle.xs_group.specs.GroupState.{is_same_name}
-use Rattle.xs_group.specs.Indexes.{holds, is_owner, indexed_row}
+use Rattle.xs_group.proofs.Terms.{◌≡◌, ◌&&◌, get_or, take, sym, ap, ◌∙◌, not, arith, take_more, is_same_id, has_id}
+use Rattle.xs_group.proofs.Terms.{is_same_name, holds, is_owner, indexed_row}
+use Rattle.std.proofs.lemmas.List.{take_all}
 use Rattle.xs_group.proofs.ChosenIds.{has-more}
 use Rattle.xs_group.proofs.MovedRows.{and-more, agreed-again}
 use Rattle.xs_group.proofs.moving.take_back.Goals as goal

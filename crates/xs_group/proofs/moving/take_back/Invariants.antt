@@ -1,8 +1,5 @@
-use Rattle.std.proofs.Common.{◌≡◌, ◌&&◌, ℕ, List, take, is_some, not}
-use Rattle.xs_stream.specs.declared.id.Id.{Id}
-use Rattle.xs_stream.specs.Id.{has_id}
-use Rattle.xs_group.specs.GroupState.{is_same_name}
-use Rattle.xs_group.specs.Indexes.{holds, ids_at, is_owner, indexed_row}
+use Rattle.xs_group.proofs.Terms.{◌≡◌, ◌&&◌, ℕ, List, take, is_some, not, Id, has_id, is_same_name, holds, ids_at}
+use Rattle.xs_group.proofs.Terms.{is_owner, indexed_row}
 use Rattle.xs_group.proofs.moving.take_back.Given as goal
 
 -- the ids so far are taken back, and the consumers are the same

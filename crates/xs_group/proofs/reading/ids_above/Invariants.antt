@@ -1,5 +1,4 @@
-use Rattle.std.proofs.Common.{◌≡◌, ◌≤◌, ◌++◌, filter, length}
-use Rattle.xs_stream.specs.Id.{is_below}
+use Rattle.xs_group.proofs.Terms.{◌≡◌, ◌≤◌, ◌++◌, filter, length, is_below}
 use Rattle.xs_group.proofs.reading.ids_above.Given as goal
 
 -- the ids so far and those to come are those above

@@ -1,6 +1,4 @@
-use Rattle.std.proofs.Common.{ap, is_some, ◌∙◌}
-use Rattle.std.proofs.lemmas.Map.Made.{is_some-lookup}
-use Rattle.xs_stream.specs.Id.{is_same_id}
+use Rattle.xs_group.proofs.Terms.{ap, is_some, ◌∙◌, is_some-lookup, is_same_id}
 use Rattle.xs_group.proofs.reading.is_present.Goals as goal
 
 pub returns : goal.returns

@@ -1,10 +1,5 @@
-use Rattle.std.proofs.Common.{◌≡◌, ◌&&◌, eqb, true, is_some, ap, sym, ◌∙◌, subst, arith}
-use Rattle.std.proofs.lemmas.Map.Made.{is_some-lookup}
-use Rattle.std.proofs.lemmas.Bool.Decides.{nat_tests}
-use Rattle.xs_stream.specs.declared.id.Id.{Id}
-use Rattle.xs_stream.specs.Id.{is_same_id}
-use Rattle.xs_stream.specs.StreamContent.{IsEntryOf, fields_at}
-use Rattle.xs_stream.proofs.Lending.{is-lent}
+use Rattle.xs_group.proofs.Terms.{◌≡◌, ◌&&◌, eqb, true, is_some, ap, sym, ◌∙◌, subst, arith, is_some-lookup, nat_tests}
+use Rattle.xs_group.proofs.Terms.{Id, is_same_id, IsEntryOf, fields_at, is-lent}
 use Rattle.xs_group.proofs.reading.is_present_along.Goals as goal
 
 same-id : (a b : Id) → (eqb a.ms b.ms && eqb a.seq b.seq) ≡ true → a ≡ b

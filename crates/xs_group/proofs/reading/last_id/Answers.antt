@@ -1,6 +1,4 @@
-use Rattle.std.proofs.Common.{sym, ap, ◌∙◌, take, get_or}
-use Rattle.std.proofs.lemmas.List.{take_more}
-use Rattle.xs_group.specs.GroupState.{last_of}
+use Rattle.xs_group.proofs.Terms.{sym, ap, ◌∙◌, take, get_or, take_more, last_of}
 use Rattle.xs_group.proofs.Cursors.{last-more}
 use Rattle.xs_group.proofs.reading.last_id.Goals as goal
 

@@ -1,5 +1,4 @@
-use Rattle.std.proofs.Common.{◌≡◌, take}
-use Rattle.xs_group.specs.GroupState.{last_of}
+use Rattle.xs_group.proofs.Terms.{◌≡◌, take, last_of}
 use Rattle.xs_group.proofs.reading.last_id.Given as goal
 
 -- the last of the ids so far

@@ -1,5 +1,4 @@
-use Rattle.std.proofs.Common.{◌≡◌, take}
-use Rattle.xs_group.specs.Deliveries.{new_rows}
+use Rattle.xs_group.proofs.Terms.{◌≡◌, take, new_rows}
 use Rattle.xs_group.proofs.reading.new_rows.Given as goal
 
 -- the rows so far

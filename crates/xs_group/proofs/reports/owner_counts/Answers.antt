@@ -1,15 +1,7 @@
-use Rattle.std.proofs.Common.{◌≡◌, ℕ, Bool, true, false, cond, Some, List, [], ◌∷◌, ◌++◌, filter, length, ltb, sym, ap, ◌∙◌, subst}
-use Rattle.std.proofs.Common.{append_assoc, append-nil, arith}
-use Rattle.std.proofs.lemmas.Bool.Decides.{nat_tests}
-use Rattle.std.specs.BTreeSet.{BTreeSet}
-use Rattle.std.specs.Map.{keys_of}
-use Rattle.std.specs.List.Sorted.{IsStrictlySortedBy}
-use Rattle.xs_stream.specs.declared.id.Id.{Id}
-use Rattle.xs_stream.specs.Id.{id_cmp}
-use Rattle.xs_group.specs.declared.reports.OwnerCount.{OwnerCount}
-use Rattle.xs_group.specs.GroupState.{RowState}
-use Rattle.xs_group.specs.Indexes.{ConsumerIndex, IsAgreed, ids_at, rows_of}
-use Rattle.xs_group.specs.Report.{counts_of_owners}
+use Rattle.xs_group.proofs.Terms.{◌≡◌, ℕ, Bool, true, false, cond, Some, List, [], ◌∷◌, ◌++◌, filter, length, ltb, sym}
+use Rattle.xs_group.proofs.Terms.{ap, ◌∙◌, subst, append_assoc, append-nil, arith, nat_tests, BTreeSet, keys_of}
+use Rattle.xs_group.proofs.Terms.{IsStrictlySortedBy, Id, id_cmp, OwnerCount, RowState, ConsumerIndex, IsAgreed, ids_at}
+use Rattle.xs_group.proofs.Terms.{rows_of, counts_of_owners}
 use Rattle.xs_group.proofs.OwnIds.{owned-some}
 use Rattle.xs_group.proofs.ReportRows.{AreHeld, held-all, keys-names_of}
 use Rattle.xs_group.proofs.reports.owner_counts.Goals as goal

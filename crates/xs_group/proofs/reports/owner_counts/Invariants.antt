@@ -1,9 +1,5 @@
-use Rattle.std.proofs.Common.{◌≡◌, ◌++◌, List, filter, ltb}
-use Rattle.std.specs.Map.{keys_of}
-use Rattle.xs_stream.specs.declared.id.Id.{Id}
-use Rattle.xs_group.specs.GroupState.{RowState}
-use Rattle.xs_group.specs.Indexes.{IsAgreed, rows_of}
-use Rattle.xs_group.specs.Report.{counts_of_owners}
+use Rattle.xs_group.proofs.Terms.{◌≡◌, ◌++◌, List, filter, ltb, keys_of, Id, RowState, IsAgreed, rows_of}
+use Rattle.xs_group.proofs.Terms.{counts_of_owners}
 use Rattle.xs_group.proofs.ReportRows.{AreHeld}
 use Rattle.xs_group.proofs.reports.owner_counts.Given as goal
 

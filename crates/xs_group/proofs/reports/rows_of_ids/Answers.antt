@@ -1,9 +1,5 @@
-use Rattle.std.proofs.Common.{◌≡◌, leb, map, filter, take, ap, sym, ◌∙◌, arith}
-use Rattle.std.proofs.lemmas.Grind.{common_steps}
-use Rattle.xs_stream.specs.StreamContent.{is_within}
-use Rattle.xs_group.specs.GroupState.{idle}
-use Rattle.xs_group.specs.Indexes.{rows_of, is_owner}
-use Rattle.xs_group.specs.Report.{pending_row}
+use Rattle.xs_group.proofs.Terms.{◌≡◌, leb, map, filter, take, ap, sym, ◌∙◌, arith, common_steps, is_within, idle}
+use Rattle.xs_group.proofs.Terms.{rows_of, is_owner, pending_row}
 use Rattle.xs_group.proofs.Views.{get-rows_of}
 use Rattle.xs_group.proofs.Ordered.{ids-owned}
 use Rattle.xs_group.proofs.ReportRows.{listed_rows, among-between, asked-owned}

@@ -1,7 +1,4 @@
-use Rattle.std.proofs.Common.{◌≡◌, ◌≤◌, ◌++◌, map, filter, length, leb}
-use Rattle.xs_stream.specs.StreamContent.{is_within}
-use Rattle.xs_group.specs.GroupState.{idle}
-use Rattle.xs_group.specs.Report.{pending_row}
+use Rattle.xs_group.proofs.Terms.{◌≡◌, ◌≤◌, ◌++◌, map, filter, length, leb, is_within, idle, pending_row}
 use Rattle.xs_group.proofs.ReportRows.{listed_rows}
 use Rattle.xs_group.proofs.reports.rows_of_ids.Given as goal
 

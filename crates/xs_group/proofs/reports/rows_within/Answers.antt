@@ -1,6 +1,4 @@
-use Rattle.std.proofs.Common.{None, leb, map, filter, ap, sym, ◌∙◌, arith}
-use Rattle.xs_group.specs.GroupState.{idle}
-use Rattle.xs_group.specs.Report.{pending_row, is_selected}
+use Rattle.xs_group.proofs.Terms.{None, leb, map, filter, ap, sym, ◌∙◌, arith, idle, pending_row, is_selected}
 use Rattle.xs_group.proofs.Ordered.{entries-rows_of}
 use Rattle.xs_group.proofs.ReportRows.{rows-between}
 use Rattle.xs_group.proofs.reports.rows_within.Goals as goal

@@ -1,7 +1,5 @@
-use Rattle.std.proofs.Common.{◌≡◌, ◌≤◌, ◌++◌, None, map, filter, length, leb}
-use Rattle.xs_group.specs.GroupState.{idle}
-use Rattle.xs_group.specs.Indexes.{rows_of}
-use Rattle.xs_group.specs.Report.{pending_row, is_selected}
+use Rattle.xs_group.proofs.Terms.{◌≡◌, ◌≤◌, ◌++◌, None, map, filter, length, leb, idle, rows_of, pending_row}
+use Rattle.xs_group.proofs.Terms.{is_selected}
 use Rattle.xs_group.proofs.reports.rows_within.Given as goal
 
 -- the rows so far and those to come are those that are asked for

@@ -1,5 +1,4 @@
-use Rattle.std.proofs.Common.{length, ap, arith}
-use Rattle.xs_group.specs.GroupState.{unless_acked}
+use Rattle.xs_group.proofs.Terms.{length, ap, arith, unless_acked}
 use Rattle.xs_group.proofs.group.Group.ack.Goals as goal
 use Rattle.xs_group.proofs.RemovedRows.{length-change, up_to-change}
 

@@ -1,5 +1,4 @@
-use Rattle.std.proofs.Common.{sym, ◌∙◌, subst}
-use Rattle.xs_stream.specs.StreamContent.{AllAbove, Ascends, ids_of}
+use Rattle.xs_group.proofs.Terms.{sym, ◌∙◌, subst, AllAbove, Ascends, ids_of}
 use Rattle.xs_group.proofs.group.Group.deliver.Goals as goal
 use Rattle.xs_group.proofs.Cursors.{new_ids-above, new_ids-ascend}
 

@@ -1,7 +1,4 @@
-use Rattle.std.proofs.Common.{Some, ap, ◌∙◌}
-use Rattle.xs_stream.specs.StreamContent.{ids_of}
-use Rattle.xs_group.specs.GroupState.{with_name, own_ids, row_after_reread}
-use Rattle.xs_group.specs.Deliveries.{set_rows, shown_rows}
+use Rattle.xs_group.proofs.Terms.{Some, ap, ◌∙◌, ids_of, with_name, own_ids, row_after_reread, set_rows, shown_rows}
 use Rattle.xs_group.proofs.group.Group.history.Goals as goal
 use Rattle.xs_group.proofs.RemovedRows.{up_to-change}
 use Rattle.xs_group.proofs.Touching.{rows-reread}

@@ -1,7 +1,4 @@
-use Rattle.std.proofs.Common.{◌≡◌, true, sym, ◌∙◌}
-use Rattle.std.specs.Option.{option_map}
-use Rattle.xs_stream.specs.Id.{is_below}
-use Rattle.xs_stream.proofs.Order.{partial-below}
+use Rattle.xs_group.proofs.Terms.{◌≡◌, true, sym, ◌∙◌, option_map, is_below, partial-below}
 use Rattle.xs_group.proofs.ReportRows.{asked-none}
 use Rattle.xs_group.proofs.group.Group.pending.Goals as goal
 

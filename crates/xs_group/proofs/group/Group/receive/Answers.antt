@@ -1,6 +1,4 @@
-use Rattle.std.proofs.Common.{sym, subst}
-use Rattle.xs_stream.specs.StreamContent.{AllAbove}
-use Rattle.xs_group.specs.GroupState.{first_row}
+use Rattle.xs_group.proofs.Terms.{sym, subst, AllAbove, first_row}
 use Rattle.xs_group.proofs.group.Group.receive.Goals as goal
 use Rattle.xs_group.proofs.Cursors.{free-above, up_to-later, up_to-put}
 

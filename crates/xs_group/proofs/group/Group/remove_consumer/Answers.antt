@@ -1,4 +1,4 @@
-use Rattle.xs_group.specs.GroupState.{unless_owned}
+use Rattle.xs_group.proofs.Terms.{unless_owned}
 use Rattle.xs_group.proofs.group.Group.remove_consumer.Goals as goal
 use Rattle.xs_group.proofs.RemovedRows.{up_to-change}
 

@@ -1,4 +1,4 @@
-use Rattle.xs_group.specs.Claims.{row_after_claim}
+use Rattle.xs_group.proofs.Terms.{row_after_claim}
 use Rattle.xs_group.proofs.group.Group.settle.Goals as goal
 use Rattle.xs_group.proofs.RemovedRows.{up_to-change}
 use Rattle.xs_group.proofs.CarriedOutClaims.{apart-claim}

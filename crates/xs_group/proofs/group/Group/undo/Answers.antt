@@ -1,6 +1,4 @@
-use Rattle.std.proofs.Common.{◌≡◌, sym, ap, ◌∙◌, subst}
-use Rattle.xs_group.specs.GroupState.{GroupState}
-use Rattle.xs_group.specs.ConsistentGroup.{IsUpTo}
+use Rattle.xs_group.proofs.Terms.{◌≡◌, sym, ap, ◌∙◌, subst, GroupState, IsUpTo}
 use Rattle.xs_group.proofs.group.Group.undo.Goals as goal
 use Rattle.xs_group.proofs.UndoneReads.{undone, undone-before}
 

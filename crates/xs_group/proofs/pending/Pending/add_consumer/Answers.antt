@@ -1,6 +1,4 @@
-use Rattle.std.proofs.Common.{◌≡◌, sym, ap, ◌∙◌, not, is_some}
-use Rattle.xs_group.specs.Indexes.{ids_at, names_of, rows_of}
-use Rattle.xs_group.specs.GroupState.{with_name}
+use Rattle.xs_group.proofs.Terms.{◌≡◌, sym, ap, ◌∙◌, not, is_some, ids_at, names_of, rows_of, with_name}
 use Rattle.xs_group.proofs.pending.Pending.add_consumer.Goals as goal
 use Rattle.xs_group.proofs.Views.{has_name-names_of}
 use Rattle.xs_group.proofs.Agreeing.{agreed-joined, names-joined, held-again}

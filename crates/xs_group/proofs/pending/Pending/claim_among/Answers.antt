@@ -1,10 +1,5 @@
-use Rattle.std.proofs.Common.{get_or, take, filter, sym, ap, ◌∙◌}
-use Rattle.std.proofs.lemmas.List.{take_more}
-use Rattle.xs_bytes.specs.SortedMap.{get}
-use Rattle.xs_stream.specs.Id.{has_id}
-use Rattle.xs_stream.specs.StreamContent.{ids_of}
-use Rattle.xs_group.specs.Claims.{is_taken, is_removed}
-use Rattle.xs_group.specs.Verdict.{verdict_of, with_taken, with_removed}
+use Rattle.xs_group.proofs.Terms.{get_or, take, filter, sym, ap, ◌∙◌, take_more, get, has_id, ids_of, is_taken}
+use Rattle.xs_group.proofs.Terms.{is_removed, verdict_of, with_taken, with_removed}
 use Rattle.xs_group.proofs.pending.Pending.claim_among.Goals as goal
 use Rattle.xs_group.proofs.ChosenIds.{taken-more, removed-more, row_at-get}
 

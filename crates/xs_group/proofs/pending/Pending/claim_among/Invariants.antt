@@ -1,6 +1,4 @@
-use Rattle.std.proofs.Common.{◌≡◌, take, filter}
-use Rattle.xs_stream.specs.StreamContent.{ids_of}
-use Rattle.xs_group.specs.Claims.{is_taken, is_removed}
+use Rattle.xs_group.proofs.Terms.{◌≡◌, take, filter, ids_of, is_taken, is_removed}
 use Rattle.xs_group.proofs.pending.Pending.claim_among.Given as goal
 
 -- what is taken and removed of the ids so far

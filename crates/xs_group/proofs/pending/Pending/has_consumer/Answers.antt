@@ -1,4 +1,4 @@
-use Rattle.std.proofs.Common.{sym, ◌∙◌}
+use Rattle.xs_group.proofs.Terms.{sym, ◌∙◌}
 use Rattle.xs_group.proofs.pending.Pending.has_consumer.Goals as goal
 use Rattle.xs_group.proofs.Views.{has_name-names_of}
 

@@ -1,4 +1,4 @@
-use Rattle.std.proofs.Common.{length, sym, ap, ◌∙◌}
+use Rattle.xs_group.proofs.Terms.{length, sym, ap, ◌∙◌}
 use Rattle.xs_group.proofs.pending.Pending.len.Goals as goal
 use Rattle.xs_group.proofs.Ordered.{entries-rows_of}
 

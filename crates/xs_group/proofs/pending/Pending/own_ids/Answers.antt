@@ -1,7 +1,4 @@
-use Rattle.std.proofs.Common.{◌≡◌, filter, sym, ap, ◌∙◌, subst, IfOk}
-use Rattle.xs_stream.specs.Id.{is_below}
-use Rattle.xs_stream.specs.StreamContent.{limited}
-use Rattle.xs_stream.proofs.InOrder.{limited-none}
+use Rattle.xs_group.proofs.Terms.{◌≡◌, filter, sym, ap, ◌∙◌, subst, IfOk, is_below, limited, limited-none}
 use Rattle.xs_group.proofs.pending.Pending.own_ids.Goals as goal
 use Rattle.xs_group.proofs.OwnIds.{owned-none, owned-some}
 

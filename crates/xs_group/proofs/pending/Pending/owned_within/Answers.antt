@@ -1,6 +1,4 @@
-use Rattle.std.proofs.Common.{[], map, take, sym, ap, ◌∙◌}
-use Rattle.xs_group.specs.Report.{pending_row}
-use Rattle.xs_group.specs.Indexes.{has_among}
+use Rattle.xs_group.proofs.Terms.{[], map, take, sym, ap, ◌∙◌, pending_row, has_among}
 use Rattle.xs_group.proofs.OwnIds.{owned-none}
 use Rattle.xs_group.proofs.ReportRows.{asked-owned, take-none}
 use Rattle.xs_group.proofs.pending.Pending.owned_within.Goals as goal

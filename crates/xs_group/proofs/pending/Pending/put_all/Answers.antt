@@ -1,9 +1,5 @@
-use Rattle.std.proofs.Common.{◌≡◌, cond, Some, sym, ap, ◌∙◌}
-use Rattle.xs_bytes.specs.SortedMap.{has_key}
-use Rattle.xs_stream.specs.Id.{has_id}
-use Rattle.xs_stream.specs.declared.id.Id.{Id}
-use Rattle.xs_group.specs.GroupState.{has_name, first_row, with_rows}
-use Rattle.xs_group.specs.Indexes.{rows_of, names_of, indexed_row, AreFree}
+use Rattle.xs_group.proofs.Terms.{◌≡◌, cond, Some, sym, ap, ◌∙◌, has_key, has_id, Id, has_name, first_row, with_rows}
+use Rattle.xs_group.proofs.Terms.{rows_of, names_of, indexed_row, AreFree}
 use Rattle.xs_group.proofs.pending.Pending.put_all.Goals as goal
 use Rattle.xs_group.proofs.pending.Pending.put_all.Goals.{In-Ok}
 use Rattle.xs_group.proofs.Views.{has_name-names_of, names-same, rows-same}

@@ -1,6 +1,4 @@
-use Rattle.std.proofs.Common.{sym, ap, ◌∙◌}
-use Rattle.xs_group.specs.GroupState.{has_name}
-use Rattle.xs_group.specs.Indexes.{rows_of, names_of}
+use Rattle.xs_group.proofs.Terms.{sym, ap, ◌∙◌, has_name, rows_of, names_of}
 use Rattle.xs_group.proofs.pending.Pending.reassign.Goals as goal
 use Rattle.xs_group.proofs.Views.{has_name-names_of, names-same}
 use Rattle.xs_group.proofs.Agreeing.{held-by, refused-as}

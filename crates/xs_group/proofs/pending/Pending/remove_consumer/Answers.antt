@@ -1,7 +1,5 @@
-use Rattle.std.proofs.Common.{[], Option, sym, ap, ◌∙◌, length}
-use Rattle.std.specs.BTreeSet.{BTreeSet}
-use Rattle.xs_stream.specs.declared.id.Id.{Id}
-use Rattle.xs_group.specs.Indexes.{rows_of, names_of, is_owner, has_among}
+use Rattle.xs_group.proofs.Terms.{[], Option, sym, ap, ◌∙◌, length, BTreeSet, Id, rows_of, names_of, is_owner}
+use Rattle.xs_group.proofs.Terms.{has_among}
 use Rattle.xs_group.proofs.pending.Pending.remove_consumer.Goals as goal
 use Rattle.xs_group.proofs.Views.{get-rows_of}
 use Rattle.xs_group.proofs.Ordered.{ids-owned, sorted-none}

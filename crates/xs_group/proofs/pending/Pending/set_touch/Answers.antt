@@ -1,8 +1,5 @@
-use Rattle.std.proofs.Common.{Some, sym, ap, ◌∙◌, subst, rules}
-use Rattle.std.specs.BTreeMap.{UpdatesBy}
-use Rattle.xs_stream.specs.Id.{id_cmp}
-use Rattle.xs_group.specs.GroupState.{RowState}
-use Rattle.xs_group.specs.Indexes.{rows_of, names_of, IsAgreed}
+use Rattle.xs_group.proofs.Terms.{Some, sym, ap, ◌∙◌, subst, rules, UpdatesBy, id_cmp, RowState, rows_of, names_of}
+use Rattle.xs_group.proofs.Terms.{IsAgreed}
 use Rattle.xs_group.proofs.pending.Pending.set_touch.Goals as goal
 use Rattle.xs_group.proofs.Touching.{rows-touched, untouched, agreed-touched}
 use Rattle.xs_group.proofs.Views.{RowMap, get-rows_of}

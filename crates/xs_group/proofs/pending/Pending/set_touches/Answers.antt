@@ -1,7 +1,5 @@
-use Rattle.std.proofs.Common.{take, sym, ap, ◌∙◌, ◌++◌, ◌∷◌, []}
-use Rattle.std.proofs.lemmas.List.{take_more}
-use Rattle.xs_group.specs.declared.delivery.DeliveryRow.{DeliveryRow}
-use Rattle.xs_group.specs.Deliveries.{set_one, set_rows, touch_set}
+use Rattle.xs_group.proofs.Terms.{take, sym, ap, ◌∙◌, ◌++◌, ◌∷◌, [], take_more, DeliveryRow, set_one, set_rows}
+use Rattle.xs_group.proofs.Terms.{touch_set}
 use Rattle.xs_group.proofs.pending.Pending.set_touches.Goals as goal
 use Rattle.xs_group.proofs.Touching.{set_rows-more}
 

@@ -1,5 +1,4 @@
-use Rattle.std.proofs.Common.{◌≡◌, take}
-use Rattle.xs_group.specs.Deliveries.{set_rows}
+use Rattle.xs_group.proofs.Terms.{◌≡◌, take, set_rows}
 use Rattle.xs_group.proofs.pending.Pending.set_touches.Given as goal
 
 -- the rows so far are set

@@ -1,7 +1,4 @@
-use Rattle.std.proofs.Common.{sym, ap, ◌∙◌}
-use Rattle.xs_bytes.specs.SortedMap.{change, remove}
-use Rattle.xs_group.specs.GroupState.{has_name, with_name, unless_acked, unless_owned}
-use Rattle.xs_group.specs.Verdict.{moved}
+use Rattle.xs_group.proofs.Terms.{sym, ap, ◌∙◌, change, remove, has_name, with_name, unless_acked, unless_owned, moved}
 use Rattle.xs_group.proofs.pending.Pending.settle.Goals as goal
 use Rattle.xs_group.proofs.Agreeing.{held-again}
 use Rattle.xs_group.proofs.NewRows.{held-back, name-there, was_there}

@@ -1,5 +1,4 @@
-use Rattle.std.proofs.Common.{subst, sym}
-use Rattle.xs_stream.specs.StreamContent.{AreEntriesOf}
+use Rattle.xs_group.proofs.Terms.{subst, sym, AreEntriesOf}
 use Rattle.xs_group.proofs.pending.Pending.shown_rows.Goals as goal
 
 pub is_present_along-requires : goal.is_present_along-requires

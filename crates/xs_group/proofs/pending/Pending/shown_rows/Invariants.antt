@@ -1,6 +1,4 @@
-use Rattle.std.proofs.Common.{◌≡◌, take}
-use Rattle.xs_stream.specs.StreamContent.{ids_of}
-use Rattle.xs_group.specs.Deliveries.{shown_rows}
+use Rattle.xs_group.proofs.Terms.{◌≡◌, take, ids_of, shown_rows}
 use Rattle.xs_group.proofs.pending.Pending.shown_rows.Given as goal
 
 -- the rows so far

@@ -1,5 +1,4 @@
-use Rattle.std.proofs.Common.{length, sym, ap, ◌∙◌}
-use Rattle.xs_group.specs.Report.{first_id, last_id}
+use Rattle.xs_group.proofs.Terms.{length, sym, ap, ◌∙◌, first_id, last_id}
 use Rattle.xs_group.proofs.Ordered.{entries-rows_of}
 use Rattle.xs_group.proofs.pending.Pending.summary.Goals as goal
 

@@ -1,7 +1,4 @@
-use Rattle.std.proofs.Common.{◌&&◌, sym, ap, ◌∙◌, not}
-use Rattle.xs_stream.specs.Id.{is_same_id}
-use Rattle.xs_group.specs.Indexes.{names_of, holds}
-use Rattle.xs_group.specs.GroupState.{is_same_name}
+use Rattle.xs_group.proofs.Terms.{◌&&◌, sym, ap, ◌∙◌, not, is_same_id, names_of, holds, is_same_name}
 use Rattle.xs_group.proofs.pending.Pending.take.Goals as goal
 use Rattle.xs_group.proofs.Views.{names-same, rows-remove}
 use Rattle.xs_group.proofs.Agreeing.{agreed-taken, held-by}

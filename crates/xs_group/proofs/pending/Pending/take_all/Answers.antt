@@ -1,7 +1,4 @@
-use Rattle.std.proofs.Common.{get_or, take, sym, ap, ◌∙◌}
-use Rattle.std.proofs.lemmas.List.{take_more}
-use Rattle.xs_bytes.specs.SortedMap.{change, remove}
-use Rattle.xs_group.specs.GroupState.{unless_acked}
+use Rattle.xs_group.proofs.Terms.{get_or, take, sym, ap, ◌∙◌, take_more, change, remove, unless_acked}
 use Rattle.xs_group.proofs.pending.Pending.take_all.Goals as goal
 use Rattle.xs_group.proofs.RemovedRows.{acked-none, acked-more}
 

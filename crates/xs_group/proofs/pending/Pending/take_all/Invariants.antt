@@ -1,6 +1,4 @@
-use Rattle.std.proofs.Common.{◌≡◌, take}
-use Rattle.xs_bytes.specs.SortedMap.{change}
-use Rattle.xs_group.specs.GroupState.{unless_acked}
+use Rattle.xs_group.proofs.Terms.{◌≡◌, take, change, unless_acked}
 use Rattle.xs_group.proofs.pending.Pending.take_all.Given as goal
 
 -- the ids so far are out

@@ -1,9 +1,5 @@
-use Rattle.std.proofs.Common.{take, sym, ap, ◌∙◌, ◌++◌, ◌∷◌, []}
-use Rattle.std.proofs.lemmas.List.{take_more}
-use Rattle.xs_bytes.specs.SortedMap.{change, remove}
-use Rattle.xs_group.specs.declared.delivery.DeliveryRow.{DeliveryRow}
-use Rattle.xs_group.specs.GroupState.{unless_acked}
-use Rattle.xs_group.specs.Deliveries.{row_ids}
+use Rattle.xs_group.proofs.Terms.{take, sym, ap, ◌∙◌, ◌++◌, ◌∷◌, [], take_more, change, remove, DeliveryRow}
+use Rattle.xs_group.proofs.Terms.{unless_acked, row_ids}
 use Rattle.xs_group.proofs.pending.Pending.take_rows.Goals as goal
 use Rattle.xs_group.proofs.RemovedRows.{acked-none, acked-more}
 use Rattle.xs_group.proofs.Touching.{row_ids-append}

@@ -1,7 +1,4 @@
-use Rattle.std.proofs.Common.{◌≡◌, take}
-use Rattle.xs_bytes.specs.SortedMap.{change}
-use Rattle.xs_group.specs.GroupState.{unless_acked}
-use Rattle.xs_group.specs.Deliveries.{row_ids}
+use Rattle.xs_group.proofs.Terms.{◌≡◌, take, change, unless_acked, row_ids}
 use Rattle.xs_group.proofs.pending.Pending.take_rows.Given as goal
 
 -- the ids so far are out

@@ -1,5 +1,4 @@
-use Rattle.std.proofs.Common.{Some, sym, ap, ◌∙◌}
-use Rattle.xs_group.specs.Deliveries.{touch_of}
+use Rattle.xs_group.proofs.Terms.{Some, sym, ap, ◌∙◌, touch_of}
 use Rattle.xs_group.proofs.pending.Pending.touch_at.Goals as goal
 use Rattle.xs_group.proofs.Views.{get-rows_of}
 

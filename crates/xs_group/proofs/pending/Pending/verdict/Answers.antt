@@ -1,7 +1,4 @@
-use Rattle.std.proofs.Common.{sym, ap, ◌∙◌}
-use Rattle.xs_stream.specs.Id.{has_id}
-use Rattle.xs_stream.specs.StreamContent.{ids_of}
-use Rattle.xs_group.specs.Verdict.{verdict_of}
+use Rattle.xs_group.proofs.Terms.{sym, ap, ◌∙◌, has_id, ids_of, verdict_of}
 use Rattle.xs_group.proofs.pending.Pending.verdict.Goals as goal
 use Rattle.xs_group.proofs.Views.{get-rows_of}
 
