@@ -4,7 +4,7 @@ use Rattle.xs_group.proofs.Terms.{is_some, Result, Ok, Err, OnErr, sym, ap, ◌�
 use Rattle.xs_group.proofs.Terms.{slice_cmp, nat_list_cmp_total, list_any, get, has_key, get-insert_by, Id, id_cmp}
 use Rattle.xs_group.proofs.Terms.{is_same_id, is_same_id-eq, is_same_id-symm, RowState, Rows, Names, is_same_name}
 use Rattle.xs_group.proofs.Terms.{with_name, has_name, rows_of, PendingList, ConsumerIndex, names_of, ids_at, has_among}
-use Rattle.xs_group.proofs.Terms.{holds, is_owner, indexed_row, IsAgreed}
+use Rattle.xs_group.proofs.Terms.{holds, is_owner, indexed_row, IsAgreed, arith}
 use Rattle.xs_group.proofs.ByConsumer.{Index, is_same_name-eq, is_same_name-symm}
 use Rattle.xs_group.proofs.Views.{RowMap, has_name-names_of, same_names, names-same, get-rows_of}
 
@@ -14,8 +14,7 @@ pub agreed-joined : (rows : List (Id × RowState)) (m n : Index) (name : List �
     → is_some (ids_at m.entries name) ≡ false → s.keys ≡ [] → UpdatesBy (slice_cmp nat_cmp) (slice_cmp nat_cmp name) m n (Some s) → IsAgreed rows n.entries
 agreed-joined rows m n name s agreed none nothing u q x = by (is_same_name name q) refl where
   gone : (o : Option (BTreeSet Id)) → is_some o ≡ false → has_among o x ≡ false
-  gone None e = refl
-  gone (Some y) e = cc
+  gone o e = grind arith
 
   by : (t : Bool) → is_same_name name q ≡ t → holds n.entries q x ≡ is_owner (indexed_row rows x) q
   by true t = ap (λ o. has_among o x) (u.0 q ∙ ap (λ b. cond b (Some s) (ids_at m.entries q)) t) ∙ ap (λ ks. list_any (is_same_id x) ks) nothing
@@ -23,8 +22,7 @@ agreed-joined rows m n name s agreed none nothing u q x = by (is_same_name name 
   by false t = ap (λ o. has_among o x) (u.2 q t) ∙ agreed q x
 
 is_some-cond : {X : Type 0} (b : Bool) (x : X) (o : Option X) → is_some (cond b (Some x) o) ≡ (b || is_some o)
-is_some-cond true x o = refl
-is_some-cond false x o = refl
+is_some-cond b x o = grind arith
 
 pub has_name-with_name : (names : Names) (name q : List ℕ) → has_name (with_name names name) q ≡ (is_same_name q name || has_name names q)
 has_name-with_name names name q = ap is_some (get-insert_by nat_list_cmp_total names name tt q) ∙ is_some-cond (is_same_name q name) tt (get names q)
@@ -50,13 +48,10 @@ pub agreed-taken : (m n : RowMap) (a b : ConsumerIndex) (id : Id) (row : RowStat
     → UpdatesBy id_cmp (id_cmp id) m n None → IsAgreed n.entries b
 agreed-taken m n a b id row agreed found h u q x = h q x ∙ by (is_same_id id x) refl where
   undone : (c d : Bool) → (c && not (d && false)) ≡ c
-  undone true true = refl
-  undone true false = refl
-  undone false d = refl
+  undone c d = grind arith
 
   nothing : (d : Bool) → (d && not (d && true)) ≡ false
-  nothing true = refl
-  nothing false = refl
+  nothing d = grind arith
 
   by : (t : Bool) → is_same_id id x ≡ t → (holds a q x && not (is_same_name q row.consumer && is_same_id x id)) ≡ is_owner (indexed_row n.entries x) q
   by true t =
@@ -70,8 +65,7 @@ agreed-taken m n a b id row agreed found h u q x = h q x ∙ by (is_same_id id x
 pub none-from_free : (rows : List (Id × RowState)) (id : Id) → has_key (rows_of rows) id ≡ false → indexed_row rows id ≡ None
 none-from_free rows id e = by (indexed_row rows id) (ap is_some (sym (get-rows_of rows id)) ∙ e) where
   by : (o : Option RowState) → is_some o ≡ false → o ≡ None
-  by None e = refl
-  by (Some x) e = cc
+  by o e = grind arith
 
 pub held-again : (held : PendingList) (name : List ℕ) → has_name held.consumers name ≡ true → held ≡ record { consumers = with_name held.consumers name; rows = held.rows }
 held-again held name there = ap (λ names. record { consumers = names; rows = held.rows }) (sym (name-again held.consumers name there))

@@ -2,7 +2,7 @@
 use Rattle.xs_group.proofs.Terms.{◌≡◌, ℕ, Bool, true, false, cond, not, ◌&&◌, ◌||◌, List, Some, None, is_some, sym, ap}
 use Rattle.xs_group.proofs.Terms.{◌∙◌, refl, BTreeMap, UpdatesBy, BTreeSet, nat_cmp, is_eq, eq_by_cmp_equiv, slice_cmp}
 use Rattle.xs_group.proofs.Terms.{nat_list_cmp_total, or_assoc, tied_itself, exact_bytes, Id, id_cmp, is_same_id}
-use Rattle.xs_group.proofs.Terms.{has_id, equal-from, is_same_id-symm, is_same_name, ids_at, has_among, holds}
+use Rattle.xs_group.proofs.Terms.{has_id, equal-from, is_same_id-symm, is_same_name, ids_at, has_among, holds, arith}
 use Rattle.std.specs.BTreeMap as tree
 use Rattle.std.specs.BTreeSet as set
 
@@ -19,16 +19,10 @@ abbrev pub Index : Type 0
 Index = BTreeMap (List ℕ) (BTreeSet Id)
 
 or_turned : (a b : Bool) → cond a true b ≡ (b || a)
-or_turned true true = refl
-or_turned true false = refl
-or_turned false true = refl
-or_turned false false = refl
+or_turned a b = grind arith
 
 and_turned : (a b : Bool) → cond a false b ≡ (b && not a)
-and_turned true true = refl
-and_turned true false = refl
-and_turned false true = refl
-and_turned false false = refl
+and_turned a b = grind arith
 
 -- an id more in a set
 pub contains-more : (s w : BTreeSet Id) (id : Id) (a h : Bool) (x : Id) → set.Updates id_cmp s w id true → set.contains id_cmp s x ≡ (a || h)
@@ -37,12 +31,10 @@ contains-more s w id a h x v e = v.0 x ∙ or_turned (is_same_id id x) (set.cont
     ∙ ap (λ b. (a || h) || b) (is_same_id-symm id x) ∙ or_assoc a h (is_same_id x id)
 
 or_no : (b : Bool) → b ≡ (b || false)
-or_no true = refl
-or_no false = refl
+or_no b = grind arith
 
 and_yes : (b : Bool) → b ≡ (b && true)
-and_yes true = refl
-and_yes false = refl
+and_yes b = grind arith
 
 module _ (m n : Index) (name : List ℕ) (s w : BTreeSet Id) (e : tree.get (slice_cmp nat_cmp) m name ≡ Some s)
     (u : UpdatesBy (slice_cmp nat_cmp) (slice_cmp nat_cmp name) m n (Some w)) where

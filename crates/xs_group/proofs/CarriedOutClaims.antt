@@ -1,11 +1,11 @@
 -- A claim that is carried out.
 use Rattle.xs_group.proofs.Terms.{◌≡◌, ℕ, ◌+◌, ◌*◌, Bool, true, false, cond, not, ◌||◌, inl, inr, leb, List, [], ◌∷◌}
 use Rattle.xs_group.proofs.Terms.{map, filter, Option, Some, None, option_and_then, sym, ap, ◌∙◌, refl, subst, Ordering}
-use Rattle.xs_group.proofs.Terms.{false≢true, T, below_all, is_sorted, is_lt, is_eq, Less, Equal, Greater, get, change}
+use Rattle.xs_group.proofs.Terms.{false≢true, T, below_all, is_sorted, is_lt, is_eq, get, change}
 use Rattle.xs_group.proofs.Terms.{Id, id_cmp, is_same_id, is_below, has_id, is_same_id-symm, Claim, Rule, is_taken}
 use Rattle.xs_group.proofs.Terms.{is_hit, without_repeats, from_start, scanned_part, row_after_claim, claimed_row}
 use Rattle.xs_group.proofs.Terms.{RowState, Rows, GroupState, unless_acked, rows_of, indexed_row, moved, scanned_after}
-use Rattle.xs_group.proofs.Terms.{AreDistinct, IsClaimOn}
+use Rattle.xs_group.proofs.Terms.{AreDistinct, IsClaimOn, arith}
 use Rattle.xs_group.proofs.Ordered.{first, second}
 use Rattle.xs_group.proofs.Views.{same_rows, get-rows_of}
 use Rattle.xs_group.proofs.RemovedRows.{get-changed}
@@ -44,9 +44,7 @@ above-keys : (x : Id) (es : List (Id × RowState)) → T (below_all id_cmp x es)
 above-keys x [] h = refl
 above-keys x (e ∷ es) h = ap (λ b. b || has_id (map (λ e. e.0) es) x) (less _ (first _ _ h)) ∙ above-keys x es (second _ _ h) where
   less : (o : Ordering) → T (is_lt o) → is_eq o ≡ false
-  less Less p = refl
-  less Equal p = absurd p
-  less Greater p = absurd p
+  less o e = grind arith
 
 apart-keys : (es : List (Id × RowState)) → T (is_sorted id_cmp es) → AreDistinct (map (λ e. e.0) es)
 apart-keys [] h = tt
@@ -88,13 +86,7 @@ rows-settled name now rule claim rows = same_rows _ _ (λ q. get-changed (unless
     ∙ by (has_id claim.removed q) (has_id claim.take q) (get rows q) ∙ sym (get-changed (row_after_claim name now rule claim) rows q)) where
       by : (r t : Bool) (o : Option RowState) → option_and_then (λ row. cond r None (Some row)) (option_and_then (λ row. cond t (Some (claimed_row name now rule row)) (Some row)) o)
           ≡ option_and_then (λ row. cond r None (cond t (Some (claimed_row name now rule row)) (Some row))) o
-      by true true None = refl
-      by true false None = refl
-      by false t None = refl
-      by true true (Some row) = refl
-      by true false (Some row) = refl
-      by false true (Some row) = refl
-      by false false (Some row) = refl
+      by r t o = grind arith
 
 pub rows-moved : (a b : List (Id × RowState)) (name : List ℕ) (now : ℕ) (rule : Rule) (ids : List Id)
     → ((x : Id) → indexed_row b x ≡ option_and_then (moved name now rule ids x) (indexed_row a x)) → rows_of b ≡ change (moved name now rule ids) (rows_of a)

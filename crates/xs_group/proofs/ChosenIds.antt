@@ -16,10 +16,7 @@ filter-more p [] id = by (p id) where
 filter-more p (x ∷ xs) id = ap (λ rest. cond (p x) (x ∷ rest) rest) (filter-more p xs id) ∙ by (p x) (p id) where
   by : (s t : Bool) → cond s (x ∷ cond t (filter p xs ++ id ∷ []) (filter p xs)) (cond t (filter p xs ++ id ∷ []) (filter p xs))
       ≡ cond t (cond s (x ∷ filter p xs) (filter p xs) ++ id ∷ []) (cond s (x ∷ filter p xs) (filter p xs))
-  by true true = refl
-  by true false = refl
-  by false true = refl
-  by false false = refl
+  by s t = grind arith
 
 -- ---- each id at its first place
 
@@ -45,12 +42,10 @@ module _ (rows : List (Id × RowState)) (present : List Id) (now : ℕ) (rule : 
   pub taken-verdict : (row : Option RowState) (x : Id) → row ≡ row_at rows x → is_taken rows present now rule x ≡ is_taken_by (verdict_of row (has_id present x) now rule)
   taken-verdict row x e = ap (λ r. is_idle now rule r && has_id present x) (sym e) ∙ by row (has_id present x) where
     inner : (r : RowState) (i : Bool) → (i && true) ≡ is_taken_by (cond i Taken Passed)
-    inner r true = refl
-    inner r false = refl
+    inner r i = grind arith
 
     no : (i : Bool) → (i && false) ≡ false
-    no true = refl
-    no false = refl
+    no i = grind arith
 
     by : (r : Option RowState) (p : Bool) → (is_idle now rule r && p) ≡ is_taken_by (verdict_of r p now rule)
     by None p = refl
@@ -60,8 +55,7 @@ module _ (rows : List (Id × RowState)) (present : List Id) (now : ℕ) (rule : 
   pub removed-verdict : (row : Option RowState) (x : Id) → row ≡ row_at rows x → is_removed rows present x ≡ is_removed_by (verdict_of row (has_id present x) now rule)
   removed-verdict row x e = ap (λ r. is_some r && not (has_id present x)) (sym e) ∙ by row (has_id present x) where
     inner : (i : Bool) → false ≡ is_removed_by (cond i Taken Passed)
-    inner true = refl
-    inner false = refl
+    inner i = grind arith
 
     by : (r : Option RowState) (p : Bool) → (is_some r && not p) ≡ is_removed_by (verdict_of r p now rule)
     by None p = refl
@@ -71,9 +65,7 @@ module _ (rows : List (Id × RowState)) (present : List Id) (now : ℕ) (rule : 
   pub hits-verdict : (row : Option RowState) (x : Id) → row ≡ row_at rows x → cond (is_hit rows present now rule x) 1 0 ≡ hits_of (verdict_of row (has_id present x) now rule)
   hits-verdict row x e = (λ i. cond (removed-verdict row x e i || taken-verdict row x e i) 1 0) ∙ by (verdict_of row (has_id present x) now rule) where
     by : (v : Verdict) → cond (is_removed_by v || is_taken_by v) 1 0 ≡ hits_of v
-    by Passed = refl
-    by Taken = refl
-    by Removed = refl
+    by v = grind arith
 
   pub taken-more : (row : Option RowState) (x : Id) (ids : List Id) → row ≡ row_at rows x
       → with_taken (verdict_of row (has_id present x) now rule) (filter (is_taken rows present now rule) ids) x ≡ filter (is_taken rows present now rule) (ids ++ x ∷ [])

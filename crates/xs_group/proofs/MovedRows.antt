@@ -3,7 +3,7 @@ use Rattle.xs_group.proofs.Terms.{◌≡◌, ℕ, Bool, true, false, cond, not, 
 use Rattle.xs_group.proofs.Terms.{Option, Some, None, option_and_then, sym, ap, ◌∙◌, refl, false≢true, UpdatesBy, Id}
 use Rattle.xs_group.proofs.Terms.{id_cmp, is_same_id, has_id, is_same_id-eq, is_same_id-symm, Rule, claimed_row}
 use Rattle.xs_group.proofs.Terms.{RowState, is_same_name, ConsumerIndex, holds, is_owner, indexed_row, IsAgreed, moved}
-use Rattle.xs_group.proofs.Terms.{AreAgreedBut, AreSomeOf}
+use Rattle.xs_group.proofs.Terms.{AreAgreedBut, AreSomeOf, arith}
 use Rattle.xs_group.proofs.ByConsumer.{is_same_name-eq, is_same_name-symm}
 use Rattle.xs_group.proofs.Views.{RowMap}
 use Rattle.xs_group.proofs.NewRows.{among-take}
@@ -11,13 +11,7 @@ use Rattle.xs_group.proofs.NewRows.{among-take}
 -- ---- ids that are taken back
 
 pub and-more : (a s h t o : Bool) → ((a && not (s && (h && not o))) && not (s && (t && not o))) ≡ (a && not (s && ((h || t) && not o)))
-and-more true true true true true = refl
-and-more true true true true false = refl
-and-more true true true false true = refl
-and-more true true true false false = refl
-and-more true true false t o = refl
-and-more true false h t o = refl
-and-more false s h t o = refl
+and-more a s h t o = grind arith
 
 -- once all are taken back, the indexes agree
 pub agreed-again : (rows : List (Id × RowState)) (a b : ConsumerIndex) (name : List ℕ) (done ids : List Id) → AreSomeOf done ids → AreAgreedBut rows a name done
@@ -28,17 +22,10 @@ agreed-again rows a b name done ids some but h q x = h q x ∙ ap (λ c. c && no
       own e = ap (is_owner (indexed_row rows x)) (sym (is_same_name-eq q name e))
 
       mine : (o p d i : Bool) → p ≡ o → (d ≡ true → i ≡ true) → ((o || d) && not (i && not p)) ≡ o
-      mine true true d true e f = refl
-      mine true true d false e f = refl
-      mine true false d i e f = absurd (false≢true e)
-      mine false true d i e f = absurd (false≢true (sym e))
-      mine false false true true e f = refl
-      mine false false true false e f = absurd (false≢true (f refl))
-      mine false false false i e f = refl
+      mine o p d i e f = grind arith
 
       other : (o : Bool) → ((o || false) && true) ≡ o
-      other true = refl
-      other false = refl
+      other o = grind arith
 
       by : (s d i : Bool) → is_same_name q name ≡ s → (d ≡ true → i ≡ true)
           → ((is_owner (indexed_row rows x) q || (s && d)) && not (s && (i && not (is_owner (indexed_row rows x) name)))) ≡ is_owner (indexed_row rows x) q
@@ -60,13 +47,7 @@ module _ (m n : RowMap) (a b : ConsumerIndex) (name : List ℕ) (id : Id) (rest 
         after e = u.0 x ∙ ap (λ t. cond t (Some new) (indexed_row m.entries x)) (is_same_id-symm id x ∙ e)
 
         aside : (e o s h : Bool) (r : Bool) → cond e (o || (s && h)) ((o || (s && h)) && not (r && false)) ≡ (o || (s && h))
-        aside true o s h r = refl
-        aside false true s h true = refl
-        aside false true s h false = refl
-        aside false false true true true = refl
-        aside false false true true false = refl
-        aside false false true false r = refl
-        aside false false false h r = refl
+        aside e o s h r = grind arith
 
         here : (e r s : Bool) → is_same_name row.consumer name ≡ e → is_same_name row.consumer q ≡ r → is_same_name q name ≡ s → (h : Bool)
             → cond e (r || (s && true)) ((r || (s && true)) && not (r && true)) ≡ (s || (s && h))

@@ -5,7 +5,7 @@ use Rattle.xs_group.proofs.Terms.{and-true, and-false, or-false, UpdatesBy, nat_
 use Rattle.xs_group.proofs.Terms.{insert_by, get-insert_by, get-remove, Id, id_cmp, is_same_id, has_id, is_same_id-symm}
 use Rattle.xs_group.proofs.Terms.{RowState, Rows, Names, ids_total, is_same_name, has_name, with_name, with_rows}
 use Rattle.xs_group.proofs.Terms.{unless_acked, unless_owned, rows_of, indexed_row, ConsumerIndex, is_owner, AreFree}
-use Rattle.xs_group.proofs.Terms.{IsAgreed, IsNamed, PendingList, AreAgreedBut}
+use Rattle.xs_group.proofs.Terms.{IsAgreed, IsNamed, PendingList, AreAgreedBut, arith}
 use Rattle.xs_group.proofs.ByConsumer.{is_same_name-eq, is_same_name-refl, is_same_name-symm}
 use Rattle.xs_group.proofs.ChosenIds.{has-more}
 use Rattle.xs_group.proofs.Views.{RowMap, same_rows, same_names, get-rows_of}
@@ -13,10 +13,7 @@ use Rattle.xs_group.proofs.Agreeing.{has_name-with_name, none-from_free}
 use Rattle.xs_group.proofs.RemovedRows.{get-changed, change-nothing}
 
 cond_or : {A : Type 0} (a b : Bool) (x y : A) → cond a x (cond b x y) ≡ cond (b || a) x y
-cond_or true true x y = refl
-cond_or true false x y = refl
-cond_or false true x y = refl
-cond_or false false x y = refl
+cond_or a b x y = grind arith
 
 pub get-with_rows : (ids : List Id) (row : RowState) (rows : Rows) (q : Id) → get (with_rows ids row rows) q ≡ cond (has_id ids q) (Some row) (get rows q)
 get-with_rows [] row rows q = refl
@@ -67,16 +64,14 @@ among-take (x ∷ xs) (suc i) q e = by (is_same_id q x) (among-take xs i q) e wh
   by false rest e = rest e
 
 pub none_by : (o : Option RowState) → is_some o ≡ false → o ≡ None
-none_by None e = refl
-none_by (Some x) e = cc
+none_by o e = grind arith
 
 -- rows that are put where none was, and taken out again
 pub out-again : (ids : List Id) (row : RowState) (rows : Rows) → AreFree rows ids → change (unless_acked ids) (with_rows ids row rows) ≡ rows
 out-again ids row rows free = same_rows _ _ (λ q. get-changed (unless_acked ids) (with_rows ids row rows) q
     ∙ ap (option_and_then (unless_acked ids q)) (get-with_rows ids row rows q) ∙ by q (has_id ids q) refl) where
       same_and : (o : Option RowState) → option_and_then (λ row. Some row) o ≡ o
-      same_and None = refl
-      same_and (Some row) = refl
+      same_and o = grind arith
 
       by : (q : Id) (t : Bool) → has_id ids q ≡ t → option_and_then (λ r. cond (has_id ids q) None (Some r)) (cond t (Some row) (get rows q)) ≡ get rows q
       by q true e = ap (λ b. cond b None (Some row)) e ∙ sym (none_by (get rows q) (free q e))
@@ -108,12 +103,10 @@ pub held-back : (held : PendingList) (name : List ℕ) → change (unless_owned 
 held-back held name unowned new =
     λ i. record { consumers = out-names held.consumers name (by (has_name held.consumers name) new) i; rows = unowned i } where
       by : (b : Bool) → true ≡ not b → b ≡ false
-      by true e = cc
-      by false e = refl
+      by b e = grind arith
 
 pub name-there : (names : Names) (name : List ℕ) → has_name (with_name names name) name ≡ true
 name-there names name = has_name-with_name names name name ∙ ap (λ b. b || has_name names name) (is_same_name-refl name)
 
 pub was_there : (b : Bool) → false ≡ not b → b ≡ true
-was_there true e = refl
-was_there false e = cc
+was_there b e = grind arith

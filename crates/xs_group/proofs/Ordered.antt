@@ -1,10 +1,10 @@
 -- Lists and maps in the order of their keys.
 use Rattle.xs_group.proofs.Terms.{◌≡◌, ℕ, Bool, true, false, cond, ◌&&◌, ◌||◌, List, [], ◌∷◌, map, filter, Option, Some}
-use Rattle.xs_group.proofs.Terms.{None, is_some, sym, ap, subst, ◌∙◌, refl, Ordering, T, find, below_all, is_sorted}
+use Rattle.xs_group.proofs.Terms.{is_some, sym, ap, subst, ◌∙◌, refl, Ordering, T, find, below_all, is_sorted}
 use Rattle.xs_group.proofs.Terms.{same_entries, AllByRecursion, keys_of, IsOrdered, is_lt, is_eq, Less, sorted_head}
 use Rattle.xs_group.proofs.Terms.{sorted_tail, get-of_entries, Id, id_cmp, is_same_id, is_below, has_id, AllAbove}
 use Rattle.xs_group.proofs.Terms.{Ascends, same_id, is_same_id-eq, RowState, Rows, ids_total, is_same_name, owned_ids}
-use Rattle.xs_group.proofs.Terms.{rows_of, is_owner}
+use Rattle.xs_group.proofs.Terms.{rows_of, is_owner, arith}
 use Rattle.std.specs.List.Sorted.{IsStrictlySortedBy}
 use Rattle.xs_bytes.specs.SortedMap.{get}
 use Rattle.xs_group.proofs.Views.{RowMap}
@@ -70,10 +70,7 @@ sorted-units [] = refl
 sorted-units (e ∷ es) = λ i. below-units e.0 es i && sorted-units es i
 
 some-unit : (a b : Option (Unit {0})) → is_some a ≡ is_some b → a ≡ b
-some-unit None None e = refl
-some-unit (Some x) (Some y) e = refl
-some-unit None (Some y) e = cc
-some-unit (Some x) None e = cc
+some-unit a b e = grind arith
 
 find-units : (q : Id) (xs : List Id) → is_some (find id_cmp q (units xs)) ≡ has_id xs q
 find-units q [] = refl
@@ -93,8 +90,7 @@ find-below : (k : Id) (name : List ℕ) (es : List (Id × RowState)) → T (belo
 find-below k name [] h = refl
 find-below k name (e ∷ es) h = by (is_same_name e.1.consumer name) (find-below k name es (second _ _ h)) where
   less : (o : Ordering) → T (is_lt o) → is_eq o ≡ false
-  less Less p = refl
-  less _ p = absurd p
+  less o e = grind arith
 
   by : (t : Bool) → has_id (keys_of (filter (λ e. is_same_name e.1.consumer name) es)) k ≡ false → has_id (keys_of (cond t (e ∷ filter (λ e. is_same_name e.1.consumer name) es) (filter (λ e. is_same_name e.1.consumer name) es))) k ≡ false
   by true rest = ap (λ b. b || has_id (keys_of (filter (λ e. is_same_name e.1.consumer name) es)) k) (less _ (first _ _ h)) ∙ rest
@@ -124,8 +120,7 @@ sorted-none = tt
 -- ---- the ids of rows ascend
 
 is-true : (b : Bool) → T b → b ≡ true
-is-true true p = refl
-is-true false p = absurd p
+is-true b e = grind arith
 
 above-ids : (x : Id) (es : List (Id × RowState)) → T (below_all id_cmp x es) → AllAbove x (map (λ e. e.0) es)
 above-ids x [] h = tt

@@ -32,8 +32,7 @@ length-change f rows = length-each f rows.entries
 -- ---- acknowledgements
 
 same_and : (o : Option RowState) → option_and_then (λ row. Some row) o ≡ o
-same_and None = refl
-same_and (Some row) = refl
+same_and o = grind arith
 
 pub acked-none : (rows : Rows) → change (unless_acked []) rows ≡ rows
 acked-none rows = change-nothing (unless_acked []) rows (λ q. same_and (get rows q))
@@ -47,14 +46,7 @@ acked-more ids id rows = same_rows _ _ (λ q.
       has q = list_any-append (is_same_id q) ids (id ∷ []) ∙ ap (λ b. has_id ids q || b) (or-false (is_same_id q id))
 
       by : (a b : Bool) (o : Option RowState) → cond b None (option_and_then (λ row. cond a None (Some row)) o) ≡ option_and_then (λ row. cond (a || b) None (Some row)) o
-      by true true None = refl
-      by true false None = refl
-      by false true None = refl
-      by false false None = refl
-      by true true (Some row) = refl
-      by true false (Some row) = refl
-      by false true (Some row) = refl
-      by false false (Some row) = refl
+      by a b o = grind arith
 
 -- ---- a consumer that goes
 
@@ -64,8 +56,7 @@ module _ (rows new : List (Id × RowState)) (a b : ConsumerIndex) (name : List �
   rows-without = same_rows _ _ (λ q. get-rows_of new q ∙ left q ∙ ap (λ c. cond c None (indexed_row rows q)) (agreed name q) ∙ by q (indexed_row rows q)
       ∙ ap (option_and_then (unless_owned name q)) (sym (get-rows_of rows q)) ∙ sym (get-changed (unless_owned name) (rows_of rows) q)) where
         by : (q : Id) (o : Option RowState) → cond (is_owner o name) None o ≡ option_and_then (unless_owned name q) o
-        by q None = refl
-        by q (Some row) = refl
+        by q o = grind arith
 
   pub agreed-without : ((q : List ℕ) → ids_at b q ≡ cond (is_same_name name q) None (ids_at a q)) → IsAgreed new b
   agreed-without u q x = ap (λ o. has_among o x) (u q) ∙ by (is_same_name name q) refl ∙ sym (ap (λ o. is_owner o q) (left x)) where
@@ -88,8 +79,7 @@ names-without a b name u = same_names _ _ (λ q. has_name-names_of b q ∙ ap is
     ∙ ap (λ t. cond t false (is_some (ids_at a q))) (is_same_name-symm name q) ∙ ap (cond (is_same_name q name) false) (sym (has_name-names_of a q))
     ∙ sym (some-cond (is_same_name q name) (get (names_of a) q)) ∙ sym (ap is_some (get-remove nat_list_cmp_total (names_of a) name q))) where
       some-cond : {X : Type 0} (t : Bool) (o : Option X) → is_some (cond t None o) ≡ cond t false (is_some o)
-      some-cond true o = refl
-      some-cond false o = refl
+      some-cond t o = grind arith
 
 pub left-none : (rows : List (Id × RowState)) (a : ConsumerIndex) (name : List ℕ) → ids_at a name ≡ None → (x : Id) → indexed_row rows x ≡ cond (holds a name x) None (indexed_row rows x)
 left-none rows a name none x = ap (λ (o : Option (BTreeSet Id)). cond (has_among o x) None (indexed_row rows x)) (sym none)
@@ -124,7 +114,4 @@ named-agreed rows a agreed name x e = has_name-names_of a name ∙ by (ids_at a 
 pub out-more : (id x : Id) (ids : List Id) (o p : Option RowState) → p ≡ cond (is_same_id id x) None o → cond (has_id ids x) None p ≡ cond (has_id (id ∷ ids) x) None o
 out-more id x ids o p e = ap (cond (has_id ids x) None) e ∙ ap (λ s. cond (has_id ids x) None (cond s None o)) (is_same_id-symm id x) ∙ by (has_id ids x) (is_same_id x id) where
   by : (h s : Bool) → cond h None (cond s None o) ≡ cond (s || h) None o
-  by true true = refl
-  by true false = refl
-  by false true = refl
-  by false false = refl
+  by h s = grind arith

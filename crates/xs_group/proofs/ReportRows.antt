@@ -1,11 +1,11 @@
 -- What is told of pending rows.
-use Rattle.xs_group.proofs.Terms.{◌≡◌, ℕ, ◌-◌, suc, zero, Bool, true, false, cond, not, ◌&&◌}
+use Rattle.xs_group.proofs.Terms.{◌≡◌, ℕ, ◌-◌, suc, Bool, true, false, cond, not, ◌&&◌}
 use Rattle.xs_group.proofs.Terms.{leb, List, [], ◌∷◌, map, filter, take, length, Option, Some, None}
 use Rattle.xs_group.proofs.Terms.{sym, ap, ◌∙◌, refl, subst, arith, Ordering, T}
 use Rattle.xs_group.proofs.Terms.{AllByRecursion, slice_get, IsStrictlySortedBy, keys_of, IsOrdered}
 use Rattle.xs_group.proofs.Terms.{range_contains, entries_between, BTreeSet, Included, below_all, is_sorted}
-use Rattle.xs_group.proofs.Terms.{same_entries, nat_cmp, is_lt, is_eq, slice_cmp, nat_list_cmp_total, Less, Equal}
-use Rattle.xs_group.proofs.Terms.{Greater, exact_bytes, keys, get-of_entries, Id, Range, id_cmp, is_below, is_within}
+use Rattle.xs_group.proofs.Terms.{same_entries, nat_cmp, is_lt, is_eq, slice_cmp, nat_list_cmp_total}
+use Rattle.xs_group.proofs.Terms.{exact_bytes, keys, get-of_entries, Id, Range, id_cmp, is_below, is_within}
 use Rattle.xs_group.proofs.Terms.{between-within, filter-filter, and_yes, PendingRow, Selection, RowState, is_same_name}
 use Rattle.xs_group.proofs.Terms.{idle, owned_ids, ConsumerIndex, names_of, ids_at, indexed_row, rows_of}
 use Rattle.xs_group.proofs.Terms.{last_id, pending_row, is_of, is_selected, below-not_below}
@@ -34,9 +34,7 @@ held-later : (e : List ℕ × BTreeSet Id) (owners es : ConsumerIndex) → T (be
 held-later e owners [] b a = tt
 held-later e owners (f ∷ fs) b a = (a.0 ∙ ap (λ t. cond t (Some e.1) (ids_at owners f.0)) (sym (is_same_name-symm f.0 e.0 ∙ less _ (first _ _ b))), held-later e owners fs (second _ _ b) a.1) where
   less : (o : Ordering) → T (is_lt o) → is_eq o ≡ false
-  less Less p = refl
-  less Equal p = absurd p
-  less Greater p = absurd p
+  less o e = grind arith
 
 held-sorted : (owners : ConsumerIndex) → T (is_sorted (slice_cmp nat_cmp) owners) → AreHeld owners owners
 held-sorted [] s = tt
@@ -90,8 +88,7 @@ among-between range rows (x ∷ xs) =
     ∙ one (is_within range x) refl (indexed_row rows x) (listed_rows rows (filter (range_contains id_cmp (Included range.low) (Included range.high)) xs)) (listed_rows rows xs) (among-between range rows xs) where
       split : (t : Bool) → listed_rows rows (cond t (x ∷ filter (range_contains id_cmp (Included range.low) (Included range.high)) xs) (filter (range_contains id_cmp (Included range.low) (Included range.high)) xs))
           ≡ cond t (with_row x (indexed_row rows x) (listed_rows rows (filter (range_contains id_cmp (Included range.low) (Included range.high)) xs))) (listed_rows rows (filter (range_contains id_cmp (Included range.low) (Included range.high)) xs))
-      split true = refl
-      split false = refl
+      split t = grind arith
 
       one : (t : Bool) → is_within range x ≡ t → (o : Option RowState) (a b : List (Id × RowState)) → a ≡ filter (λ e. is_within range e.0) b
           → cond t (with_row x o a) a ≡ filter (λ e. is_within range e.0) (with_row x o b)
@@ -120,12 +117,7 @@ asked-owned s name rows ids is =
     ∙ ap (filter is_idle) (filter-filter mine within (λ e. mine e && within e) (λ e. refl) all)
     ∙ filter-filter (λ e. mine e && within e) is_idle (is_selected s.range s.min_idle s.moment (Some name)) (λ e. turned (within e) (is_idle e) (mine e)) all where
       turned : (w i n : Bool) → (w && (i && n)) ≡ ((n && w) && i)
-      turned true true true = refl
-      turned true true false = refl
-      turned true false true = refl
-      turned true false false = refl
-      turned false i true = refl
-      turned false i false = refl
+      turned w i n = grind arith
 
 not_within : (range : Range) → is_below range.high range.low ≡ true → (x : Id) → is_within range x ≡ false
 not_within range h x = by (is_below x range.low) refl where
@@ -141,9 +133,7 @@ asked-none range min now limit consumer rows h = sym (ap (λ es. take limit (map
   none (e ∷ es) = ap (λ b. cond (b && (leb min (idle now e.1.time) && is_of consumer e.1)) (e ∷ filter (is_selected range min now consumer) es) (filter (is_selected range min now consumer) es)) (not_within range h e.0) ∙ none es
 
   nothing : (n : ℕ) → take n (map (pending_row now) []) ≡ []
-  nothing zero = refl
-  nothing (suc n) = refl
+  nothing n = grind arith
 
 pub take-none : (n : ℕ) → ◌≡◌ {A = List PendingRow} (take n []) []
-take-none zero = refl
-take-none (suc n) = refl
+take-none n = grind arith

@@ -2,7 +2,7 @@
 use Rattle.xs_group.proofs.Terms.{◌≡◌, ℕ, ◌+◌, ◌*◌, Bool, true, false, cond, not, ◌&&◌, ◌||◌, leb, List, [], ◌∷◌, ◌++◌}
 use Rattle.xs_group.proofs.Terms.{map, filter, length, drop, Some, sym, ap, ◌∙◌, refl, add-zero, arith, append_assoc}
 use Rattle.xs_group.proofs.Terms.{Ordering, T, below_all, is_sorted, AllByRecursion, range_contains, entries_between}
-use Rattle.xs_group.proofs.Terms.{Included, Unbounded, is_lt, is_eq, Less, Equal, Greater, Id, id_cmp, is_below}
+use Rattle.xs_group.proofs.Terms.{Included, Unbounded, is_lt, is_eq, Id, id_cmp, is_below}
 use Rattle.xs_group.proofs.Terms.{is_same_id-symm, is_same_id-refl, le-not_below, Scan, Verdict, Rule, row_at, is_taken}
 use Rattle.xs_group.proofs.Terms.{is_removed, is_hit, from_start, prefixes, first_where, scanned_part, first_or_zero}
 use Rattle.xs_group.proofs.Terms.{scan_of, RowState, is_taken_by, is_removed_by, with_taken, with_removed}
@@ -16,8 +16,7 @@ first-mapped : (test : List Id → Bool) (x : Id) (other : List Id) (ls : List (
 first-mapped test x other [] = refl
 first-mapped test x other (l ∷ ls) = ap (λ rest. cond (test (x ∷ l)) (x ∷ l) rest) (first-mapped test x other ls) ∙ by (test (x ∷ l)) where
   by : (t : Bool) → cond t (x ∷ l) (x ∷ first_where (λ ids. test (x ∷ ids)) other ls) ≡ x ∷ cond t l (first_where (λ ids. test (x ∷ ids)) other ls)
-  by true = refl
-  by false = refl
+  by t = grind arith
 
 first-same : (p q : List Id → Bool) → ((ids : List Id) → p ids ≡ q ids) → (other : List Id) (ls : List (List Id)) → first_where p other ls ≡ first_where q other ls
 first-same p q is other [] = refl
@@ -68,9 +67,7 @@ found-later : (e : Id × RowState) (rows es : List (Id × RowState)) → T (belo
 found-later e rows [] b a = tt
 found-later e rows (f ∷ fs) b a = (a.0 ∙ ap (λ t. cond t (Some e.1) (row_at rows f.0)) (sym (is_same_id-symm f.0 e.0 ∙ less _ (first _ _ b))), found-later e rows fs (second _ _ b) a.1) where
   less : (o : Ordering) → T (is_lt o) → is_eq o ≡ false
-  less Less p = refl
-  less Equal p = absurd p
-  less Greater p = absurd p
+  less o e = grind arith
 
 pub found-all : (rows : List (Id × RowState)) → T (is_sorted id_cmp rows) → AreFound rows rows
 found-all [] s = tt
@@ -84,8 +81,7 @@ found-filter rows (e ∷ es) p a = by (p e) (found-filter rows es p a.1) where
   by false rest = rest
 
 and_yes : (t : Bool) → (t && not false) ≡ t
-and_yes true = refl
-and_yes false = refl
+and_yes t = grind arith
 
 pub keys-between : (start : Id) (rows : List (Id × RowState)) → map (λ e. e.0) (entries_between id_cmp (Included start) Unbounded rows) ≡ from_start start rows
 keys-between start [] = refl

@@ -4,7 +4,7 @@ use Rattle.xs_group.proofs.Terms.{None, option_and_then, sym, ap, ◌∙◌, ref
 use Rattle.xs_group.proofs.Terms.{is_same_id, has_id, is_same_id-eq, is_same_id-symm, Touch, DeliveryRow, RowState}
 use Rattle.xs_group.proofs.Terms.{Rows, redelivered_row, row_after_reread, rows_of, ConsumerIndex, is_owner}
 use Rattle.xs_group.proofs.Terms.{indexed_row, IsAgreed, touch_of, shown_row, shown_rows, touch_set, with_touch}
-use Rattle.xs_group.proofs.Terms.{touched_at, set_one, set_rows, row_ids}
+use Rattle.xs_group.proofs.Terms.{touched_at, set_one, set_rows, row_ids, arith}
 use Rattle.xs_group.proofs.Views.{RowMap, get-rows_of, same_rows}
 use Rattle.xs_group.proofs.RemovedRows.{get-changed, change-nothing}
 
@@ -22,8 +22,7 @@ rows-touched m n id touch row found u = same_rows _ _ (λ q. get-rows_of n.entri
   there q e = get-rows_of m.entries q ∙ ap (indexed_row m.entries) (is_same_id-eq q id e) ∙ found
 
   same : (o : Option RowState) → o ≡ option_and_then (λ r. Some r) o
-  same None = refl
-  same (Some r) = refl
+  same o = grind arith
 
   by : (q : Id) (t : Bool) → is_same_id q id ≡ t → indexed_row n.entries q ≡ option_and_then (touched_at id touch q) (get (rows_of m.entries) q)
   by q true e = u.0 q ∙ ap (λ b. cond b (Some (with_touch touch row)) (indexed_row m.entries q)) (is_same_id-symm id q ∙ e)
@@ -55,15 +54,10 @@ get-set_one id None rows q = by (is_same_id q id) where
   by false = refl
 get-set_one id (Some touch) rows q = get-changed (touched_at id touch) rows q ∙ by (is_same_id q id) (get rows q) where
   by : (t : Bool) (o : Option RowState) → option_and_then (λ r. cond t (Some (with_touch touch r)) (Some r)) o ≡ cond t (touched (Some touch) o) o
-  by true None = refl
-  by true (Some row) = refl
-  by false None = refl
-  by false (Some row) = refl
+  by t o = grind arith
 
 twice : (touch : Option Touch) (row : Option RowState) → touched touch (touched touch row) ≡ touched touch row
-twice None row = refl
-twice (Some touch) None = refl
-twice (Some touch) (Some row) = refl
+twice touch row = grind arith
 
 -- each id's touch is set, once or more
 get-set_rows : (now : Option ℕ) (make : Id → DeliveryRow) → ((x : Id) → (make x).id ≡ x) → (ids : List Id) (rows : Rows) (q : Id)
@@ -91,12 +85,7 @@ rows-reread now present ids rows = same_rows _ _ (λ q. get-set_rows (Some now) 
     ∙ by q (has_id ids q) (has_id present q) (get rows q) ∙ sym (get-changed (row_after_reread now ids present) rows q)) where
       by : (q : Id) (h p : Bool) (o : Option RowState) → cond h (touched (touch_set (Some now) (record { id = q; present = p; before = touch_of o })) o) o
           ≡ option_and_then (λ row. cond (h && p) (Some (redelivered_row now row)) (Some row)) o
-      by q true true None = refl
-      by q true false None = refl
-      by q false p None = refl
-      by q true true (Some row) = refl
-      by q true false (Some row) = refl
-      by q false p (Some row) = refl
+      by q h p o = grind arith
 
 -- and taken back
 pub rows-unread : (now : ℕ) (present ids : List Id) (rows : Rows) → set_rows None (shown_rows rows present ids) (change (row_after_reread now ids present) rows) ≡ rows
@@ -104,12 +93,7 @@ rows-unread now present ids rows = same_rows _ _ (λ q. get-set_rows None (shown
     ∙ ap (λ o. cond (has_id ids q) (touched (touch_of (get rows q)) o) o) (get-changed (row_after_reread now ids present) rows q) ∙ by q (has_id ids q) (has_id present q) (get rows q)) where
       by : (q : Id) (h p : Bool) (o : Option RowState) → cond h (touched (touch_of o) (option_and_then (λ row. cond (h && p) (Some (redelivered_row now row)) (Some row)) o))
           (option_and_then (λ row. cond (h && p) (Some (redelivered_row now row)) (Some row)) o) ≡ o
-      by q true true None = refl
-      by q true false None = refl
-      by q false p None = refl
-      by q true true (Some row) = refl
-      by q true false (Some row) = refl
-      by q false p (Some row) = refl
+      by q h p o = grind arith
 
 pub set_rows-more : (now : Option ℕ) (rs : List DeliveryRow) (r : DeliveryRow) (rows : Rows) → set_one r.id (touch_set now r) (set_rows now rs rows) ≡ set_rows now (rs ++ r ∷ []) rows
 set_rows-more now [] r rows = refl

@@ -1,10 +1,10 @@
 -- The maps that the two indexes are seen as.
-use Rattle.xs_group.proofs.Terms.{◌≡◌, ℕ, Bool, true, false, cond, List, [], ◌∷◌, map, Option, Some, None, is_some, sym}
+use Rattle.xs_group.proofs.Terms.{◌≡◌, ℕ, Bool, cond, List, [], ◌∷◌, map, Option, Some, None, is_some, sym}
 use Rattle.xs_group.proofs.Terms.{ap, ◌∙◌, refl, BTreeMap, Ordering, find, lookup, UpdatesBy, is_at, nat_cmp, eq_by_cmp}
 use Rattle.xs_group.proofs.Terms.{slice_cmp, nat_list_cmp_total, exact_bytes, get, remove, get-of_entries, get-remove}
 use Rattle.xs_group.proofs.Terms.{same_map, Id, id_cmp, is_same_id, same_id, is_same_id-symm, RowState, Rows, Names}
 use Rattle.xs_group.proofs.Terms.{is_same_name, has_name, ids_total, rows_of, ConsumerIndex, names_of, ids_at}
-use Rattle.xs_group.proofs.Terms.{indexed_row}
+use Rattle.xs_group.proofs.Terms.{indexed_row, arith}
 
 pub find-lookup : {K X : Type 0} (R : K → K → Ordering) (q : K) (es : List (K × X)) → find R q es ≡ lookup (is_at (R q)) es
 find-lookup R q [] = refl
@@ -21,24 +21,19 @@ lookup-units : (owners : ConsumerIndex) (n : List ℕ) → lookup (is_at (slice_
 lookup-units [] n = refl
 lookup-units (e ∷ es) n = ap (cond (is_same_name n e.0) (Some tt)) (lookup-units es n) ∙ by (is_same_name n e.0) where
   by : (t : Bool) → cond t (Some tt) (unit_of (ids_at es n)) ≡ unit_of (cond t (Some e.1) (ids_at es n))
-  by true = refl
-  by false = refl
+  by t = grind arith
 
 pub get-names_of : (owners : ConsumerIndex) (n : List ℕ) → get (names_of owners) n ≡ unit_of (ids_at owners n)
 get-names_of owners n = get-of_entries nat_list_cmp_total (map (λ e. (e.0, tt)) owners) n ∙ find-lookup (slice_cmp nat_cmp) n (map (λ e. (e.0, tt)) owners) ∙ lookup-units owners n
 
 some_unit : {X : Type 0} (o : Option X) → is_some (unit_of o) ≡ is_some o
-some_unit None = refl
-some_unit (Some x) = refl
+some_unit o = grind arith
 
 pub has_name-names_of : (owners : ConsumerIndex) (n : List ℕ) → has_name (names_of owners) n ≡ is_some (ids_at owners n)
 has_name-names_of owners n = ap is_some (get-names_of owners n) ∙ some_unit (ids_at owners n)
 
 pub unit_same : (a b : Option (Unit {0})) → is_some a ≡ is_some b → a ≡ b
-unit_same None None e = refl
-unit_same (Some x) (Some y) e = refl
-unit_same None (Some y) e = cc
-unit_same (Some x) None e = cc
+unit_same a b e = grind arith
 
 pub same_names : (m n : Names) → ((q : List ℕ) → has_name m q ≡ has_name n q) → m ≡ n
 same_names m n is = same_map nat_list_cmp_total exact_bytes m n (λ q. unit_same (get m q) (get n q) (is q))

@@ -1,15 +1,12 @@
 use Rattle.xs_group.proofs.Terms.{◌≡◌, ◌+◌, Bool, true, false, cond, ◌||◌, get_or, take, sym, ap, ◌∙◌, ◌++◌, ◌∷◌, []}
-use Rattle.xs_group.proofs.Terms.{refl, Vec, Global, contains, take_more, Id, id_cmp, is_same_id, has_id}
-use Rattle.xs_group.proofs.Terms.{is_same_id-symm, without_repeats}
+use Rattle.xs_group.proofs.Terms.{Vec, Global, contains, take_more, Id, id_cmp, is_same_id, has_id}
+use Rattle.xs_group.proofs.Terms.{is_same_id-symm, without_repeats, arith}
 use Rattle.xs_group.proofs.claims.without_repeats.Goals as goal
 use Rattle.xs_group.proofs.claims.without_repeats.Goals.{then-branch+in_ok-push, else-branch, Joined-branch}
 use Rattle.xs_group.proofs.ChosenIds.{without_repeats-more, has-more, had}
 
 one : (b c : Bool) → cond c true b ≡ (b || c)
-one true true = refl
-one true false = refl
-one false true = refl
-one false false = refl
+one b c = grind arith
 
 seen : (c : Joined-branch) → (q : Id) → contains id_cmp c.insert.new.self q ≡ has_id (take (c.loop-id.id-index + 1) c.args.ids.now) q
 seen c q =
