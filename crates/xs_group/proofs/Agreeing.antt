@@ -1,9 +1,9 @@
 -- The two indexes go on holding the same pairs.
-use Rattle.xs_group.proofs.Terms.{◌≡◌, ℕ, Bool, true, false, cond, not, ◌&&◌, ◌||◌, List, [], Option, Some, None}
+use Rattle.xs_group.proofs.Terms.{◌≡◌, ℕ, Bool, true, false, not, ◌&&◌, ◌||◌, List, [], Some, None}
 use Rattle.xs_group.proofs.Terms.{is_some, Result, Ok, Err, OnErr, sym, ap, ◌∙◌, refl, UpdatesBy, BTreeSet, nat_cmp}
-use Rattle.xs_group.proofs.Terms.{slice_cmp, nat_list_cmp_total, list_any, get, has_key, get-insert_by, Id, id_cmp}
+use Rattle.xs_group.proofs.Terms.{slice_cmp, nat_list_cmp_total, has_key, get-insert_by, Id, id_cmp}
 use Rattle.xs_group.proofs.Terms.{is_same_id, is_same_id-eq, is_same_id-symm, RowState, Rows, Names, is_same_name}
-use Rattle.xs_group.proofs.Terms.{with_name, has_name, rows_of, PendingList, ConsumerIndex, names_of, ids_at, has_among}
+use Rattle.xs_group.proofs.Terms.{with_name, has_name, rows_of, PendingList, ConsumerIndex, names_of, ids_at}
 use Rattle.xs_group.proofs.Terms.{holds, is_owner, indexed_row, IsAgreed, arith}
 use Rattle.xs_group.proofs.ByConsumer.{Index, is_same_name-eq, is_same_name-symm}
 use Rattle.xs_group.proofs.Views.{RowMap, has_name-names_of, same_names, names-same, get-rows_of}
@@ -12,34 +12,19 @@ use Rattle.xs_group.proofs.Views.{RowMap, has_name-names_of, same_names, names-s
 
 pub agreed-joined : (rows : List (Id × RowState)) (m n : Index) (name : List ℕ) (s : BTreeSet Id) → IsAgreed rows m.entries
     → is_some (ids_at m.entries name) ≡ false → s.keys ≡ [] → UpdatesBy (slice_cmp nat_cmp) (slice_cmp nat_cmp name) m n (Some s) → IsAgreed rows n.entries
-agreed-joined rows m n name s agreed none nothing u q x = by (is_same_name name q) refl where
-  gone : (o : Option (BTreeSet Id)) → is_some o ≡ false → has_among o x ≡ false
-  gone o e = grind arith
-
-  by : (t : Bool) → is_same_name name q ≡ t → holds n.entries q x ≡ is_owner (indexed_row rows x) q
-  by true t = ap (λ o. has_among o x) (u.0 q ∙ ap (λ b. cond b (Some s) (ids_at m.entries q)) t) ∙ ap (λ ks. list_any (is_same_id x) ks) nothing
-      ∙ sym (gone (ids_at m.entries q) (ap (λ k. is_some (ids_at m.entries k)) (sym (is_same_name-eq name q t)) ∙ none)) ∙ agreed q x
-  by false t = ap (λ o. has_among o x) (u.2 q t) ∙ agreed q x
-
-is_some-cond : {X : Type 0} (b : Bool) (x : X) (o : Option X) → is_some (cond b (Some x) o) ≡ (b || is_some o)
-is_some-cond b x o = grind arith
+agreed-joined rows m n name s agreed none nothing u q x = grind (arith, u.0 q, is_same_name-eq name q, none, nothing, agreed q x)
 
 pub has_name-with_name : (names : Names) (name q : List ℕ) → has_name (with_name names name) q ≡ (is_same_name q name || has_name names q)
-has_name-with_name names name q = ap is_some (get-insert_by nat_list_cmp_total names name tt q) ∙ is_some-cond (is_same_name q name) tt (get names q)
+has_name-with_name names name q = grind (arith, get-insert_by nat_list_cmp_total names name tt q)
 
 pub names-joined : (m n : Index) (name : List ℕ) (s : BTreeSet Id) → UpdatesBy (slice_cmp nat_cmp) (slice_cmp nat_cmp name) m n (Some s)
     → names_of n.entries ≡ with_name (names_of m.entries) name
-names-joined m n name s u = same_names _ _ (λ q.
-    has_name-names_of n.entries q ∙ ap is_some (u.0 q) ∙ is_some-cond (is_same_name name q) s (ids_at m.entries q)
-    ∙ ap (λ b. b || is_some (ids_at m.entries q)) (is_same_name-symm name q) ∙ ap (λ b. is_same_name q name || b) (sym (has_name-names_of m.entries q))
-    ∙ sym (has_name-with_name (names_of m.entries) name q))
+names-joined m n name s u = same_names _ _ (λ q. grind (arith, has_name-names_of n.entries q, has_name-names_of m.entries q,
+    has_name-with_name (names_of m.entries) name q, u.0 q, is_same_name-symm name q))
 
 -- a consumer that is there already
 pub name-again : (names : Names) (name : List ℕ) → has_name names name ≡ true → with_name names name ≡ names
-name-again names name there = same_names _ _ (λ q. has_name-with_name names name q ∙ by q (is_same_name q name) refl) where
-  by : (q : List ℕ) (t : Bool) → is_same_name q name ≡ t → (t || has_name names q) ≡ has_name names q
-  by q true t = sym (ap (has_name names) (is_same_name-eq q name t) ∙ there)
-  by q false t = refl
+name-again names name there = same_names _ _ (λ q. grind (arith, has_name-with_name names name q, is_same_name-eq q name, there))
 
 -- ---- a row less
 
@@ -47,25 +32,14 @@ pub agreed-taken : (m n : RowMap) (a b : ConsumerIndex) (id : Id) (row : RowStat
     → ((q : List ℕ) → (x : Id) → holds b q x ≡ (holds a q x && not (is_same_name q row.consumer && is_same_id x id)))
     → UpdatesBy id_cmp (id_cmp id) m n None → IsAgreed n.entries b
 agreed-taken m n a b id row agreed found h u q x = h q x ∙ by (is_same_id id x) refl where
-  undone : (c d : Bool) → (c && not (d && false)) ≡ c
-  undone c d = grind arith
-
-  nothing : (d : Bool) → (d && not (d && true)) ≡ false
-  nothing d = grind arith
-
   by : (t : Bool) → is_same_id id x ≡ t → (holds a q x && not (is_same_name q row.consumer && is_same_id x id)) ≡ is_owner (indexed_row n.entries x) q
-  by true t =
-      let mine : holds a q x ≡ is_same_name q row.consumer = agreed q x ∙ ap (λ o. is_owner o q) (ap (indexed_row m.entries) (sym (is_same_id-eq id x t)) ∙ found) ∙ is_same_name-symm row.consumer q in
-      ap (λ c. c && not (is_same_name q row.consumer && is_same_id x id)) mine ∙ ap (λ c. is_same_name q row.consumer && not (is_same_name q row.consumer && c)) (is_same_id-symm x id ∙ t)
-      ∙ nothing (is_same_name q row.consumer) ∙ sym (ap (λ o. is_owner o q) (u.0 x ∙ ap (λ c. cond c None (indexed_row m.entries x)) t))
-  by false t = ap (λ c. holds a q x && not (is_same_name q row.consumer && c)) (is_same_id-symm x id ∙ t) ∙ undone (holds a q x) (is_same_name q row.consumer) ∙ agreed q x ∙ sym (ap (λ o. is_owner o q) (u.2 x t))
+  by true t = grind (arith, agreed q x, found, u.0 x, is_same_id-eq id x t, is_same_id-symm id x, is_same_name-symm row.consumer q)
+  by false t = grind (arith, agreed q x, u.2 x t, is_same_id-symm id x)
 
 -- ---- what callers know of a row
 
 pub none-from_free : (rows : List (Id × RowState)) (id : Id) → has_key (rows_of rows) id ≡ false → indexed_row rows id ≡ None
-none-from_free rows id e = by (indexed_row rows id) (ap is_some (sym (get-rows_of rows id)) ∙ e) where
-  by : (o : Option RowState) → is_some o ≡ false → o ≡ None
-  by o e = grind arith
+none-from_free rows id e = grind (arith, get-rows_of rows id, e)
 
 pub held-again : (held : PendingList) (name : List ℕ) → has_name held.consumers name ≡ true → held ≡ record { consumers = with_name held.consumers name; rows = held.rows }
 held-again held name there = ap (λ names. record { consumers = names; rows = held.rows }) (sym (name-again held.consumers name there))

@@ -1,8 +1,8 @@
 -- The index by consumer.
-use Rattle.xs_group.proofs.Terms.{◌≡◌, ℕ, Bool, true, false, cond, not, ◌&&◌, ◌||◌, List, Some, None, is_some, sym, ap}
-use Rattle.xs_group.proofs.Terms.{◌∙◌, refl, BTreeMap, UpdatesBy, BTreeSet, nat_cmp, is_eq, eq_by_cmp_equiv, slice_cmp}
-use Rattle.xs_group.proofs.Terms.{nat_list_cmp_total, or_assoc, tied_itself, exact_bytes, Id, id_cmp, is_same_id}
-use Rattle.xs_group.proofs.Terms.{has_id, equal-from, is_same_id-symm, is_same_name, ids_at, has_among, holds, arith}
+use Rattle.xs_group.proofs.Terms.{◌≡◌, ℕ, Bool, true, false, not, ◌&&◌, ◌||◌, List, Some, None, is_some, sym, ap}
+use Rattle.xs_group.proofs.Terms.{◌∙◌, BTreeMap, UpdatesBy, BTreeSet, nat_cmp, is_eq, eq_by_cmp_equiv, slice_cmp}
+use Rattle.xs_group.proofs.Terms.{nat_list_cmp_total, tied_itself, exact_bytes, Id, id_cmp, is_same_id}
+use Rattle.xs_group.proofs.Terms.{has_id, equal-from, is_same_id-symm, is_same_name, ids_at, holds, arith}
 use Rattle.std.specs.BTreeMap as tree
 use Rattle.std.specs.BTreeSet as set
 
@@ -18,20 +18,10 @@ is_same_name-symm a b = (eq_by_cmp_equiv nat_list_cmp_total).symm a b
 abbrev pub Index : Type 0
 Index = BTreeMap (List ℕ) (BTreeSet Id)
 
-or_turned : (a b : Bool) → cond a true b ≡ (b || a)
-or_turned a b = grind arith
-
-and_turned : (a b : Bool) → cond a false b ≡ (b && not a)
-and_turned a b = grind arith
-
 -- an id more in a set
 pub contains-more : (s w : BTreeSet Id) (id : Id) (a h : Bool) (x : Id) → set.Updates id_cmp s w id true → set.contains id_cmp s x ≡ (a || h)
     → set.contains id_cmp w x ≡ (a || (h || is_same_id x id))
-contains-more s w id a h x v e = v.0 x ∙ or_turned (is_same_id id x) (set.contains id_cmp s x) ∙ ap (λ b. b || is_same_id id x) e
-    ∙ ap (λ b. (a || h) || b) (is_same_id-symm id x) ∙ or_assoc a h (is_same_id x id)
-
-or_no : (b : Bool) → b ≡ (b || false)
-or_no b = grind arith
+contains-more s w id a h x v e = grind (arith, v.0 x, is_same_id-symm id x)
 
 and_yes : (b : Bool) → b ≡ (b && true)
 and_yes b = grind arith
@@ -42,34 +32,18 @@ module _ (m n : Index) (name : List ℕ) (s w : BTreeSet Id) (e : tree.get (slic
   found q t = ap (λ k. ids_at m.entries k) (sym (is_same_name-eq name q t)) ∙ e
 
   pub names-written : (q : List ℕ) → is_some (ids_at n.entries q) ≡ is_some (ids_at m.entries q)
-  names-written q = by (is_same_name name q) refl where
-    by : (t : Bool) → is_same_name name q ≡ t → is_some (ids_at n.entries q) ≡ is_some (ids_at m.entries q)
-    by true t = ap is_some (u.0 q ∙ ap (λ b. cond b (Some w) (ids_at m.entries q)) t) ∙ sym (ap is_some (found q t))
-    by false t = ap is_some (u.2 q t)
+  names-written q = grind (arith, u.0 q, found q)
 
   -- ids more in the set that is found
   pub holds-put : (ids : List Id) → ((x : Id) → set.contains id_cmp w x ≡ (set.contains id_cmp s x || has_id ids x)) → (q : List ℕ) (x : Id)
       → holds n.entries q x ≡ (holds m.entries q x || (is_same_name q name && has_id ids x))
-  holds-put ids v q x = by (is_same_name name q) refl where
-    by : (t : Bool) → is_same_name name q ≡ t → holds n.entries q x ≡ (holds m.entries q x || (is_same_name q name && has_id ids x))
-    by true t = ap (λ o. has_among o x) (u.0 q ∙ ap (λ b. cond b (Some w) (ids_at m.entries q)) t) ∙ v x
-        ∙ ap (λ b. b || has_id ids x) (sym (ap (λ o. has_among o x) (found q t)))
-        ∙ ap (λ b. holds m.entries q x || (b && has_id ids x)) (sym t ∙ is_same_name-symm name q)
-    by false t = ap (λ o. has_among o x) (u.2 q t) ∙ or_no (holds m.entries q x) ∙ ap (λ b. holds m.entries q x || (b && has_id ids x)) (sym t ∙ is_same_name-symm name q)
+  holds-put ids v q x = grind (arith, u.0 q, found q, v x, is_same_name-symm name q)
 
   -- an id less
   pub holds-removed : (id : Id) → set.UpdatesBy id_cmp (id_cmp id) s w false → (q : List ℕ) (x : Id) → holds n.entries q x ≡ (holds m.entries q x && not (is_same_name q name && is_same_id x id))
-  holds-removed id v q x = by (is_same_name name q) refl where
-    by : (t : Bool) → is_same_name name q ≡ t → holds n.entries q x ≡ (holds m.entries q x && not (is_same_name q name && is_same_id x id))
-    by true t = ap (λ o. has_among o x) (u.0 q ∙ ap (λ b. cond b (Some w) (ids_at m.entries q)) t) ∙ v.0 x ∙ and_turned (is_same_id id x) (set.contains id_cmp s x)
-        ∙ ap (λ b. b && not (is_same_id id x)) (sym (ap (λ o. has_among o x) (found q t))) ∙ ap (λ b. holds m.entries q x && not b) (is_same_id-symm id x)
-        ∙ ap (λ b. holds m.entries q x && not (b && is_same_id x id)) (sym t ∙ is_same_name-symm name q)
-    by false t = ap (λ o. has_among o x) (u.2 q t) ∙ and_yes (holds m.entries q x) ∙ ap (λ b. holds m.entries q x && not (b && is_same_id x id)) (sym t ∙ is_same_name-symm name q)
+  holds-removed id v q x = grind (arith, u.0 q, found q, v.0 x, is_same_name-symm name q, is_same_id-symm id x)
 
 -- a consumer that isn't there has nothing to lose
 pub holds-absent : (m n : Index) (name : List ℕ) → n ≡ m → tree.get (slice_cmp nat_cmp) m name ≡ None → (id : Id) (q : List ℕ) (x : Id)
     → holds n.entries q x ≡ (holds m.entries q x && not (is_same_name q name && is_same_id x id))
-holds-absent m n name e none id q x = ap (λ (k : Index). holds k.entries q x) e ∙ by (is_same_name q name) refl where
-  by : (t : Bool) → is_same_name q name ≡ t → holds m.entries q x ≡ (holds m.entries q x && not (t && is_same_id x id))
-  by true t = let gone : holds m.entries q x ≡ false = ap (λ k. holds m.entries k x) (is_same_name-eq q name t) ∙ ap (λ o. has_among o x) none in rw gone refl
-  by false t = and_yes (holds m.entries q x)
+holds-absent m n name e none id q x = grind (arith, e, none, is_same_name-eq q name)

@@ -1,9 +1,9 @@
 -- A claim that is carried out.
 use Rattle.xs_group.proofs.Terms.{◌≡◌, ℕ, ◌+◌, ◌*◌, Bool, true, false, cond, not, ◌||◌, inl, inr, leb, List, [], ◌∷◌}
-use Rattle.xs_group.proofs.Terms.{map, filter, Option, Some, None, option_and_then, sym, ap, ◌∙◌, refl, subst, Ordering}
-use Rattle.xs_group.proofs.Terms.{false≢true, T, below_all, is_sorted, is_lt, is_eq, get, change}
+use Rattle.xs_group.proofs.Terms.{map, filter, option_and_then, sym, ap, ◌∙◌, refl, subst, Ordering}
+use Rattle.xs_group.proofs.Terms.{T, below_all, is_sorted, is_lt, is_eq, change}
 use Rattle.xs_group.proofs.Terms.{Id, id_cmp, is_same_id, is_below, has_id, is_same_id-symm, Claim, Rule, is_taken}
-use Rattle.xs_group.proofs.Terms.{is_hit, without_repeats, from_start, scanned_part, row_after_claim, claimed_row}
+use Rattle.xs_group.proofs.Terms.{is_hit, without_repeats, from_start, scanned_part, row_after_claim}
 use Rattle.xs_group.proofs.Terms.{RowState, Rows, GroupState, unless_acked, rows_of, indexed_row, moved, scanned_after}
 use Rattle.xs_group.proofs.Terms.{AreDistinct, IsClaimOn, arith}
 use Rattle.xs_group.proofs.Ordered.{first, second}
@@ -15,11 +15,7 @@ use Rattle.xs_group.proofs.Scanning.{scanned-after}
 
 has-filter : (p : Id → Bool) (x : Id) (ids : List Id) → has_id ids x ≡ false → has_id (filter p ids) x ≡ false
 has-filter p x [] e = e
-has-filter p x (y ∷ ys) e = by (p y) (is_same_id x y) refl e (has-filter p x ys) where
-  by : (t s : Bool) → is_same_id x y ≡ s → (s || has_id ys x) ≡ false → (has_id ys x ≡ false → has_id (filter p ys) x ≡ false) → has_id (cond t (y ∷ filter p ys) (filter p ys)) x ≡ false
-  by t true f e rest = absurd (false≢true (sym e))
-  by true false f e rest = ap (λ b. b || has_id (filter p ys) x) f ∙ rest e
-  by false false f e rest = rest e
+has-filter p x (y ∷ ys) e = grind (arith, has-filter p x ys, e)
 
 pub apart-filter : (p : Id → Bool) (ids : List Id) → AreDistinct ids → AreDistinct (filter p ids)
 apart-filter p [] a = tt
@@ -30,11 +26,7 @@ apart-filter p (y ∷ ys) a = by (p y) (apart-filter p ys a.1) where
 
 not_kept : (x : Id) (ids : List Id) → has_id (filter (λ y. not (is_same_id y x)) ids) x ≡ false
 not_kept x [] = refl
-not_kept x (y ∷ ys) = by (is_same_id y x) refl (not_kept x ys) where
-  by : (t : Bool) → is_same_id y x ≡ t → has_id (filter (λ y. not (is_same_id y x)) ys) x ≡ false
-      → has_id (cond (not t) (y ∷ filter (λ y. not (is_same_id y x)) ys) (filter (λ y. not (is_same_id y x)) ys)) x ≡ false
-  by true e rest = rest
-  by false e rest = ap (λ b. b || has_id (filter (λ y. not (is_same_id y x)) ys) x) (is_same_id-symm x y ∙ e) ∙ rest
+not_kept x (y ∷ ys) = grind (arith, not_kept x ys, is_same_id-symm x y)
 
 pub apart-without_repeats : (ids : List Id) → AreDistinct (without_repeats ids)
 apart-without_repeats [] = tt
@@ -53,12 +45,7 @@ apart-keys (e ∷ es) h = (above-keys e.0 es (first _ _ h), apart-keys es (secon
 module _ (hit : Id → Bool) (limit : ℕ) where
   has-scanned : (hits seen : ℕ) (x : Id) (ids : List Id) → has_id ids x ≡ false → has_id (scanned_after hit limit hits seen ids) x ≡ false
   has-scanned hits seen x [] e = e
-  has-scanned hits seen x (y ∷ ys) e = by (leb limit hits || leb (10 * limit) seen) (is_same_id x y) refl e (has-scanned (hits + cond (hit y) 1 0) (seen + 1) x ys) where
-    by : (t s : Bool) → is_same_id x y ≡ s → (s || has_id ys x) ≡ false → (has_id ys x ≡ false → has_id (scanned_after hit limit (hits + cond (hit y) 1 0) (seen + 1) ys) x ≡ false)
-        → has_id (cond t [] (y ∷ scanned_after hit limit (hits + cond (hit y) 1 0) (seen + 1) ys)) x ≡ false
-    by true s f e rest = refl
-    by false true f e rest = absurd (false≢true (sym e))
-    by false false f e rest = ap (λ b. b || has_id (scanned_after hit limit (hits + cond (hit y) 1 0) (seen + 1) ys) x) f ∙ rest e
+  has-scanned hits seen x (y ∷ ys) e = grind (arith, has-scanned (hits + cond (hit y) 1 0) (seen + 1) x ys, e)
 
   apart-scanned : (hits seen : ℕ) (ids : List Id) → AreDistinct ids → AreDistinct (scanned_after hit limit hits seen ids)
   apart-scanned hits seen [] a = tt
@@ -81,14 +68,9 @@ apart-claim group now rule claim (inr w) =
 
 pub rows-settled : (name : List ℕ) (now : ℕ) (rule : Rule) (claim : Claim) (rows : Rows)
     → change (unless_acked claim.removed) (change (moved name now rule claim.take) rows) ≡ change (row_after_claim name now rule claim) rows
-rows-settled name now rule claim rows = same_rows _ _ (λ q. get-changed (unless_acked claim.removed) (change (moved name now rule claim.take) rows) q
-    ∙ ap (option_and_then (unless_acked claim.removed q)) (get-changed (moved name now rule claim.take) rows q)
-    ∙ by (has_id claim.removed q) (has_id claim.take q) (get rows q) ∙ sym (get-changed (row_after_claim name now rule claim) rows q)) where
-      by : (r t : Bool) (o : Option RowState) → option_and_then (λ row. cond r None (Some row)) (option_and_then (λ row. cond t (Some (claimed_row name now rule row)) (Some row)) o)
-          ≡ option_and_then (λ row. cond r None (cond t (Some (claimed_row name now rule row)) (Some row))) o
-      by r t o = grind arith
+rows-settled name now rule claim rows = same_rows _ _ (λ q. grind (arith, get-changed (unless_acked claim.removed) (change (moved name now rule claim.take) rows) q,
+    get-changed (moved name now rule claim.take) rows q, get-changed (row_after_claim name now rule claim) rows q))
 
 pub rows-moved : (a b : List (Id × RowState)) (name : List ℕ) (now : ℕ) (rule : Rule) (ids : List Id)
     → ((x : Id) → indexed_row b x ≡ option_and_then (moved name now rule ids x) (indexed_row a x)) → rows_of b ≡ change (moved name now rule ids) (rows_of a)
-rows-moved a b name now rule ids is = same_rows _ _ (λ q. get-rows_of b q ∙ is q ∙ ap (option_and_then (moved name now rule ids q)) (sym (get-rows_of a q))
-    ∙ sym (get-changed (moved name now rule ids) (rows_of a) q))
+rows-moved a b name now rule ids is = same_rows _ _ (λ q. grind (arith, get-rows_of b q, is q, get-rows_of a q, get-changed (moved name now rule ids) (rows_of a) q))

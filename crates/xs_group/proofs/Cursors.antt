@@ -1,23 +1,17 @@
 -- Ids above a cursor.
-use Rattle.xs_group.proofs.Terms.{◌≡◌, ℕ, suc, zero, Bool, true, false, cond, ◌||◌, List, [], ◌∷◌, ◌++◌, filter, take}
-use Rattle.xs_group.proofs.Terms.{Option, Some, None, is_some, sym, ap, ◌∙◌, refl, false≢true, get, has_key, Id}
-use Rattle.xs_group.proofs.Terms.{is_same_id, is_below, has_id, AllAbove, Ascends, limited, is_same_id-eq}
+use Rattle.xs_group.proofs.Terms.{◌≡◌, ℕ, suc, zero, Bool, true, false, cond, List, [], ◌∷◌, ◌++◌, filter, take}
+use Rattle.xs_group.proofs.Terms.{Option, Some, None, refl, false≢true, Id}
+use Rattle.xs_group.proofs.Terms.{is_below, has_id, AllAbove, Ascends, limited, is_same_id-eq}
 use Rattle.xs_group.proofs.Terms.{below-not_back, below-irrefl, not_above-trans, RowState, Rows, last_of, with_rows}
-use Rattle.xs_group.proofs.Terms.{AreFree, IsUpTo}
+use Rattle.xs_group.proofs.Terms.{AreFree, IsUpTo, arith}
 use Rattle.xs_group.proofs.NewRows.{get-with_rows}
 
 pub above-has : (c : Id) (ids : List Id) → AllAbove c ids → (x : Id) → has_id ids x ≡ true → is_below c x ≡ true
 above-has c [] a x e = absurd (false≢true e)
-above-has c (y ∷ ys) a x e = by (is_same_id x y) refl e (above-has c ys a.1 x) where
-  by : (t : Bool) → is_same_id x y ≡ t → (t || has_id ys x) ≡ true → (has_id ys x ≡ true → is_below c x ≡ true) → is_below c x ≡ true
-  by true f e rest = ap (is_below c) (is_same_id-eq x y f) ∙ a.0
-  by false f e rest = rest e
+above-has c (y ∷ ys) a x e = grind (arith, is_same_id-eq x y, a.0, above-has c ys a.1 x, e)
 
 pub free-above : (c : Id) (rows : Rows) (ids : List Id) → IsUpTo c rows → AllAbove c ids → AreFree rows ids
-free-above c rows ids up a x e = by (has_key rows x) refl where
-  by : (t : Bool) → has_key rows x ≡ t → has_key rows x ≡ false
-  by false f = f
-  by true f = absurd (false≢true (sym (up x f) ∙ above-has c ids a x e))
+free-above c rows ids up a x e = grind (arith, up x, above-has c ids a x e)
 
 last-not_below : (c : Id) (ids : List Id) → AllAbove c ids → Ascends ids → is_below (last_of c ids) c ≡ false
 last-not_below c [] a s = below-irrefl c
@@ -25,19 +19,13 @@ last-not_below c (y ∷ ys) a s = not_above-trans (last_of y ys) y c (last-not_b
 
 last-up_to : (c : Id) (ids : List Id) → AllAbove c ids → Ascends ids → (x : Id) → has_id ids x ≡ true → is_below (last_of c ids) x ≡ false
 last-up_to c [] a s x e = absurd (false≢true e)
-last-up_to c (y ∷ ys) a s x e = by (is_same_id x y) refl e (last-up_to y ys s.0 s.1 x) where
-  by : (t : Bool) → is_same_id x y ≡ t → (t || has_id ys x) ≡ true → (has_id ys x ≡ true → is_below (last_of y ys) x ≡ false) → is_below (last_of y ys) x ≡ false
-  by true f e rest = ap (is_below (last_of y ys)) (is_same_id-eq x y f) ∙ last-not_below y ys s.0 s.1
-  by false f e rest = rest e
+last-up_to c (y ∷ ys) a s x e = grind (arith, is_same_id-eq x y, last-not_below y ys s.0 s.1, last-up_to y ys s.0 s.1 x, e)
 
 pub up_to-later : (c : Id) (ids : List Id) (rows : Rows) → IsUpTo c rows → AllAbove c ids → Ascends ids → IsUpTo (last_of c ids) rows
 up_to-later c ids rows up a s x e = not_above-trans (last_of c ids) c x (last-not_below c ids a s) (up x e)
 
 pub up_to-put : (c : Id) (ids : List Id) (row : RowState) (rows : Rows) → IsUpTo c rows → AllAbove c ids → Ascends ids → IsUpTo (last_of c ids) (with_rows ids row rows)
-up_to-put c ids row rows up a s x e = by (has_id ids x) refl (sym (ap is_some (get-with_rows ids row rows x)) ∙ e) where
-  by : (t : Bool) → has_id ids x ≡ t → is_some (cond t (Some row) (get rows x)) ≡ true → is_below (last_of c ids) x ≡ false
-  by true f e = last-up_to c ids a s x f
-  by false f e = up_to-later c ids rows up a s x e
+up_to-put c ids row rows up a s x e = grind (arith, get-with_rows ids row rows x, last-up_to c ids a s x, up_to-later c ids rows up a s x, e)
 
 pub last-more : (c : Id) (ids : List Id) (x : Id) → last_of c (ids ++ x ∷ []) ≡ x
 last-more c [] x = refl

@@ -1,9 +1,9 @@
 -- The maps that the two indexes are seen as.
-use Rattle.xs_group.proofs.Terms.{◌≡◌, ℕ, Bool, cond, List, [], ◌∷◌, map, Option, Some, None, is_some, sym}
+use Rattle.xs_group.proofs.Terms.{◌≡◌, ℕ, cond, List, [], ◌∷◌, map, Option, Some, None, is_some, sym}
 use Rattle.xs_group.proofs.Terms.{ap, ◌∙◌, refl, BTreeMap, Ordering, find, lookup, UpdatesBy, is_at, nat_cmp, eq_by_cmp}
 use Rattle.xs_group.proofs.Terms.{slice_cmp, nat_list_cmp_total, exact_bytes, get, remove, get-of_entries, get-remove}
-use Rattle.xs_group.proofs.Terms.{same_map, Id, id_cmp, is_same_id, same_id, is_same_id-symm, RowState, Rows, Names}
-use Rattle.xs_group.proofs.Terms.{is_same_name, has_name, ids_total, rows_of, ConsumerIndex, names_of, ids_at}
+use Rattle.xs_group.proofs.Terms.{same_map, Id, id_cmp, same_id, is_same_id-symm, RowState, Rows, Names}
+use Rattle.xs_group.proofs.Terms.{has_name, ids_total, rows_of, ConsumerIndex, names_of, ids_at}
 use Rattle.xs_group.proofs.Terms.{indexed_row, arith}
 
 pub find-lookup : {K X : Type 0} (R : K → K → Ordering) (q : K) (es : List (K × X)) → find R q es ≡ lookup (is_at (R q)) es
@@ -19,9 +19,7 @@ unit_of (Some x) = Some tt
 
 lookup-units : (owners : ConsumerIndex) (n : List ℕ) → lookup (is_at (slice_cmp nat_cmp n)) (map (λ e. (e.0, tt)) owners) ≡ unit_of (ids_at owners n)
 lookup-units [] n = refl
-lookup-units (e ∷ es) n = ap (cond (is_same_name n e.0) (Some tt)) (lookup-units es n) ∙ by (is_same_name n e.0) where
-  by : (t : Bool) → cond t (Some tt) (unit_of (ids_at es n)) ≡ unit_of (cond t (Some e.1) (ids_at es n))
-  by t = grind arith
+lookup-units (e ∷ es) n = grind (arith, lookup-units es n)
 
 pub get-names_of : (owners : ConsumerIndex) (n : List ℕ) → get (names_of owners) n ≡ unit_of (ids_at owners n)
 get-names_of owners n = get-of_entries nat_list_cmp_total (map (λ e. (e.0, tt)) owners) n ∙ find-lookup (slice_cmp nat_cmp) n (map (λ e. (e.0, tt)) owners) ∙ lookup-units owners n
@@ -30,7 +28,7 @@ some_unit : {X : Type 0} (o : Option X) → is_some (unit_of o) ≡ is_some o
 some_unit o = grind arith
 
 pub has_name-names_of : (owners : ConsumerIndex) (n : List ℕ) → has_name (names_of owners) n ≡ is_some (ids_at owners n)
-has_name-names_of owners n = ap is_some (get-names_of owners n) ∙ some_unit (ids_at owners n)
+has_name-names_of owners n = grind (arith, get-names_of owners n)
 
 pub unit_same : (a b : Option (Unit {0})) → is_some a ≡ is_some b → a ≡ b
 unit_same a b e = grind arith
@@ -40,7 +38,7 @@ same_names m n is = same_map nat_list_cmp_total exact_bytes m n (λ q. unit_same
 
 -- indexes of the same consumers
 pub names-same : (a b : ConsumerIndex) → ((q : List ℕ) → is_some (ids_at a q) ≡ is_some (ids_at b q)) → names_of a ≡ names_of b
-names-same a b is = same_names (names_of a) (names_of b) (λ q. has_name-names_of a q ∙ is q ∙ sym (has_name-names_of b q))
+names-same a b is = same_names (names_of a) (names_of b) (λ q. grind (arith, has_name-names_of a q, is q, has_name-names_of b q))
 
 pub same_rows : (m n : Rows) → ((q : Id) → get m q ≡ get n q) → m ≡ n
 same_rows m n is = same_map ids_total same_id m n is
@@ -54,5 +52,4 @@ abbrev pub RowMap : Type 0
 RowMap = BTreeMap Id RowState
 
 pub rows-remove : (m n : RowMap) (id : Id) → UpdatesBy id_cmp (id_cmp id) m n None → rows_of n.entries ≡ remove (rows_of m.entries) id
-rows-remove m n id u = same_rows _ _ (λ q. get-rows_of n.entries q ∙ u.0 q ∙ ap (λ b. cond b None (indexed_row m.entries q)) (is_same_id-symm id q)
-    ∙ ap (cond (is_same_id q id) None) (sym (get-rows_of m.entries q)) ∙ sym (get-remove ids_total (rows_of m.entries) id q))
+rows-remove m n id u = same_rows _ _ (λ q. grind (arith, get-rows_of n.entries q, u.0 q, is_same_id-symm id q, get-rows_of m.entries q, get-remove ids_total (rows_of m.entries) id q))
