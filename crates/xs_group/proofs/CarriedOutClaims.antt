@@ -1,7 +1,7 @@
 -- A claim that is carried out.
-use Rattle.xs_group.proofs.Terms.{◌≡◌, ℕ, ◌+◌, ◌*◌, Bool, true, false, cond, not, ◌||◌, inl, inr, leb, List, [], ◌∷◌}
-use Rattle.xs_group.proofs.Terms.{map, filter, option_and_then, sym, ap, ◌∙◌, refl, subst, Ordering}
-use Rattle.xs_group.proofs.Terms.{T, below_all, is_sorted, is_lt, is_eq, change}
+use Rattle.xs_group.proofs.Terms.{◌≡◌, ℕ, ◌+◌, Bool, false, cond, not, inl, inr, List, [], ◌∷◌}
+use Rattle.xs_group.proofs.Terms.{map, filter, option_and_then, sym, refl, subst}
+use Rattle.xs_group.proofs.Terms.{T, below_all, is_sorted, change}
 use Rattle.xs_group.proofs.Terms.{Id, id_cmp, is_same_id, is_below, has_id, is_same_id-symm, Claim, Rule, is_taken}
 use Rattle.xs_group.proofs.Terms.{is_hit, without_repeats, from_start, scanned_part, row_after_claim}
 use Rattle.xs_group.proofs.Terms.{RowState, Rows, GroupState, unless_acked, rows_of, indexed_row, moved, scanned_after}
@@ -19,10 +19,7 @@ has-filter p x (y ∷ ys) e = grind (arith, has-filter p x ys, e)
 
 pub apart-filter : (p : Id → Bool) (ids : List Id) → AreDistinct ids → AreDistinct (filter p ids)
 apart-filter p [] a = tt
-apart-filter p (y ∷ ys) a = by (p y) (apart-filter p ys a.1) where
-  by : (t : Bool) → AreDistinct (filter p ys) → AreDistinct (cond t (y ∷ filter p ys) (filter p ys))
-  by true rest = (has-filter p y ys a.0, rest)
-  by false rest = rest
+apart-filter p (y ∷ ys) a = grind (arith, has-filter p y ys a.0, apart-filter p ys a.1)
 
 not_kept : (x : Id) (ids : List Id) → has_id (filter (λ y. not (is_same_id y x)) ids) x ≡ false
 not_kept x [] = refl
@@ -34,9 +31,7 @@ apart-without_repeats (x ∷ xs) = (not_kept x (without_repeats xs), apart-filte
 
 above-keys : (x : Id) (es : List (Id × RowState)) → T (below_all id_cmp x es) → has_id (map (λ e. e.0) es) x ≡ false
 above-keys x [] h = refl
-above-keys x (e ∷ es) h = ap (λ b. b || has_id (map (λ e. e.0) es) x) (less _ (first _ _ h)) ∙ above-keys x es (second _ _ h) where
-  less : (o : Ordering) → T (is_lt o) → is_eq o ≡ false
-  less o e = grind arith
+above-keys x (e ∷ es) h = grind (arith, above-keys x es, h)
 
 apart-keys : (es : List (Id × RowState)) → T (is_sorted id_cmp es) → AreDistinct (map (λ e. e.0) es)
 apart-keys [] h = tt
@@ -49,10 +44,7 @@ module _ (hit : Id → Bool) (limit : ℕ) where
 
   apart-scanned : (hits seen : ℕ) (ids : List Id) → AreDistinct ids → AreDistinct (scanned_after hit limit hits seen ids)
   apart-scanned hits seen [] a = tt
-  apart-scanned hits seen (y ∷ ys) a = by (leb limit hits || leb (10 * limit) seen) (apart-scanned (hits + cond (hit y) 1 0) (seen + 1) ys a.1) where
-    by : (t : Bool) → AreDistinct (scanned_after hit limit (hits + cond (hit y) 1 0) (seen + 1) ys) → AreDistinct (cond t [] (y ∷ scanned_after hit limit (hits + cond (hit y) 1 0) (seen + 1) ys))
-    by true rest = tt
-    by false rest = (has-scanned (hits + cond (hit y) 1 0) (seen + 1) y ys a.0, rest)
+  apart-scanned hits seen (y ∷ ys) a = grind (arith, has-scanned (hits + cond (hit y) 1 0) (seen + 1) y ys a.0, apart-scanned (hits + cond (hit y) 1 0) (seen + 1) ys a.1)
 
 pub apart-claim : (group : GroupState) (now : ℕ) (rule : Rule) (claim : Claim) → IsClaimOn group now rule claim → AreDistinct claim.take
 apart-claim group now rule claim (inl w) = subst (λ (c : Claim). AreDistinct c.take) (sym w.is) (apart-filter (is_taken group.rows.entries w.present now rule) (without_repeats w.ids) (apart-without_repeats w.ids))

@@ -1,5 +1,5 @@
 -- Ids above a cursor.
-use Rattle.xs_group.proofs.Terms.{◌≡◌, ℕ, suc, zero, Bool, true, false, cond, List, [], ◌∷◌, ◌++◌, filter, take}
+use Rattle.xs_group.proofs.Terms.{◌≡◌, ℕ, suc, zero, true, false, List, [], ◌∷◌, ◌++◌, filter, take}
 use Rattle.xs_group.proofs.Terms.{Option, Some, None, refl, false≢true, Id}
 use Rattle.xs_group.proofs.Terms.{is_below, has_id, AllAbove, Ascends, limited, is_same_id-eq}
 use Rattle.xs_group.proofs.Terms.{below-not_back, below-irrefl, not_above-trans, RowState, Rows, last_of, with_rows}
@@ -35,24 +35,15 @@ last-more c (y ∷ ys) x = last-more y ys x
 
 above-filter : (c x : Id) (ids : List Id) → AllAbove x ids → AllAbove x (filter (λ y. is_below c y) ids)
 above-filter c x [] a = tt
-above-filter c x (y ∷ ys) a = by (is_below c y) (above-filter c x ys a.1) where
-  by : (t : Bool) → AllAbove x (filter (λ y. is_below c y) ys) → AllAbove x (cond t (y ∷ filter (λ y. is_below c y) ys) (filter (λ y. is_below c y) ys))
-  by true rest = (a.0, rest)
-  by false rest = rest
+above-filter c x (y ∷ ys) a = grind (arith, a.0, above-filter c x ys a.1)
 
 ascends-filter : (c : Id) (ids : List Id) → Ascends ids → Ascends (filter (λ y. is_below c y) ids)
 ascends-filter c [] a = tt
-ascends-filter c (y ∷ ys) a = by (is_below c y) (ascends-filter c ys a.1) where
-  by : (t : Bool) → Ascends (filter (λ y. is_below c y) ys) → Ascends (cond t (y ∷ filter (λ y. is_below c y) ys) (filter (λ y. is_below c y) ys))
-  by true rest = (above-filter c y ys a.0, rest)
-  by false rest = rest
+ascends-filter c (y ∷ ys) a = grind (arith, above-filter c y ys a.0, ascends-filter c ys a.1)
 
 filter-above : (c : Id) (ids : List Id) → AllAbove c (filter (λ y. is_below c y) ids)
 filter-above c [] = tt
-filter-above c (y ∷ ys) = by (is_below c y) refl (filter-above c ys) where
-  by : (t : Bool) → is_below c y ≡ t → AllAbove c (filter (λ y. is_below c y) ys) → AllAbove c (cond t (y ∷ filter (λ y. is_below c y) ys) (filter (λ y. is_below c y) ys))
-  by true e rest = (e, rest)
-  by false e rest = rest
+filter-above c (y ∷ ys) = grind (arith, filter-above c ys)
 
 above-take : (x : Id) (n : ℕ) (ids : List Id) → AllAbove x ids → AllAbove x (take n ids)
 above-take x zero ids a = tt

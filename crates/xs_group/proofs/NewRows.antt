@@ -1,6 +1,6 @@
 -- Rows that are put.
-use Rattle.xs_group.proofs.Terms.{◌≡◌, ℕ, suc, zero, Bool, true, false, cond, not, ◌||◌, List, [], ◌∷◌, ◌++◌, take}
-use Rattle.xs_group.proofs.Terms.{Option, Some, None, is_some, refl, false≢true}
+use Rattle.xs_group.proofs.Terms.{◌≡◌, ℕ, suc, zero, Bool, true, false, cond, not, List, [], ◌∷◌, ◌++◌, take}
+use Rattle.xs_group.proofs.Terms.{Option, Some, None, refl, false≢true}
 use Rattle.xs_group.proofs.Terms.{UpdatesBy, nat_list_cmp_total, get, remove, change}
 use Rattle.xs_group.proofs.Terms.{insert_by, get-insert_by, get-remove, Id, id_cmp, is_same_id, has_id, is_same_id-symm}
 use Rattle.xs_group.proofs.Terms.{RowState, Rows, Names, ids_total, has_name, with_name, with_rows}
@@ -11,9 +11,6 @@ use Rattle.xs_group.proofs.ChosenIds.{has-more}
 use Rattle.xs_group.proofs.Views.{RowMap, same_rows, same_names, get-rows_of}
 use Rattle.xs_group.proofs.Agreeing.{has_name-with_name, none-from_free}
 use Rattle.xs_group.proofs.RemovedRows.{get-changed, change-nothing}
-
-cond_or : {A : Type 0} (a b : Bool) (x y : A) → cond a x (cond b x y) ≡ cond (b || a) x y
-cond_or a b x y = grind arith
 
 pub get-with_rows : (ids : List Id) (row : RowState) (rows : Rows) (q : Id) → get (with_rows ids row rows) q ≡ cond (has_id ids q) (Some row) (get rows q)
 get-with_rows [] row rows q = refl
@@ -51,9 +48,6 @@ among-take [] zero q e = e
 among-take [] (suc i) q e = e
 among-take (x ∷ xs) zero q e = absurd (false≢true e)
 among-take (x ∷ xs) (suc i) q e = grind (arith, among-take xs i q, e)
-
-pub none_by : (o : Option RowState) → is_some o ≡ false → o ≡ None
-none_by o e = grind arith
 
 -- rows that are put where none was, and taken out again
 pub out-again : (ids : List Id) (row : RowState) (rows : Rows) → AreFree rows ids → change (unless_acked ids) (with_rows ids row rows) ≡ rows

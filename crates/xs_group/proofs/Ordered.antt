@@ -1,8 +1,8 @@
 -- Lists and maps in the order of their keys.
-use Rattle.xs_group.proofs.Terms.{◌≡◌, ℕ, Bool, true, false, cond, ◌&&◌, ◌||◌, List, [], ◌∷◌, map, filter, Option, Some}
+use Rattle.xs_group.proofs.Terms.{◌≡◌, ℕ, Bool, true, false, ◌&&◌, List, [], ◌∷◌, map, filter, Option}
 use Rattle.xs_group.proofs.Terms.{is_some, sym, ap, subst, ◌∙◌, refl, Ordering, T, find, below_all, is_sorted}
-use Rattle.xs_group.proofs.Terms.{same_entries, AllByRecursion, keys_of, IsOrdered, is_lt, is_eq, Less, sorted_head}
-use Rattle.xs_group.proofs.Terms.{sorted_tail, get-of_entries, Id, id_cmp, is_same_id, is_below, has_id, AllAbove}
+use Rattle.xs_group.proofs.Terms.{same_entries, AllByRecursion, keys_of, IsOrdered, Less, sorted_head}
+use Rattle.xs_group.proofs.Terms.{sorted_tail, get-of_entries, Id, id_cmp, has_id, AllAbove}
 use Rattle.xs_group.proofs.Terms.{Ascends, same_id, is_same_id-eq, RowState, Rows, ids_total, is_same_name, owned_ids}
 use Rattle.xs_group.proofs.Terms.{rows_of, is_owner, arith}
 use Rattle.std.specs.List.Sorted.{IsStrictlySortedBy}
@@ -10,39 +10,30 @@ use Rattle.xs_bytes.specs.SortedMap.{get}
 use Rattle.xs_group.proofs.Views.{RowMap}
 
 pub both : (a b : Bool) → T a → T b → T (a && b)
-both true b p q = q
-both false b p q = p
+both a b p q = grind arith
 
 pub first : (a b : Bool) → T (a && b) → T a
-first true b p = tt
-first false b p = p
+first a b p = grind arith
 
 pub second : (a b : Bool) → T (a && b) → T b
-second true b p = p
-second false b p = absurd p
+second a b p = grind arith
 
 module _ {K X : Type 0} (R : K → K → Ordering) where
   below-from : (k : K) (es : List (K × X)) → AllByRecursion (λ y. R k y ≡ Less) (keys_of es) → T (below_all R k es)
   below-from k [] a = tt
-  below-from k (e ∷ es) a = both _ _ (subst (λ r. T (is_lt r)) (sym a.0) tt) (below-from k es a.1)
+  below-from k (e ∷ es) a = grind (arith, a.0, below-from k es a.1)
 
   pub is_sorted-from : (es : List (K × X)) → IsStrictlySortedBy R (keys_of es) → T (is_sorted R es)
   is_sorted-from [] s = tt
-  is_sorted-from (e ∷ es) s = both _ _ (below-from e.0 es (sorted_head R e.0 (keys_of es) s)) (is_sorted-from es (sorted_tail R e.0 (keys_of es) s))
+  is_sorted-from (e ∷ es) s = grind (arith, below-from e.0 es (sorted_head R e.0 (keys_of es) s), is_sorted-from es (sorted_tail R e.0 (keys_of es) s))
 
   below-filter : (p : K × X → Bool) (k : K) (es : List (K × X)) → T (below_all R k es) → T (below_all R k (filter p es))
   below-filter p k [] h = tt
-  below-filter p k (e ∷ es) h = by (p e) (below-filter p k es (second _ _ h)) where
-    by : (t : Bool) → T (below_all R k (filter p es)) → T (below_all R k (cond t (e ∷ filter p es) (filter p es)))
-    by true rest = both _ _ (first _ _ h) rest
-    by false rest = rest
+  below-filter p k (e ∷ es) h = grind (arith, below-filter p k es, h)
 
   pub is_sorted-filter : (p : K × X → Bool) (es : List (K × X)) → T (is_sorted R es) → T (is_sorted R (filter p es))
   is_sorted-filter p [] h = tt
-  is_sorted-filter p (e ∷ es) h = by (p e) (is_sorted-filter p es (second _ _ h)) where
-    by : (t : Bool) → T (is_sorted R (filter p es)) → T (is_sorted R (cond t (e ∷ filter p es) (filter p es)))
-    by true rest = both _ _ (below-filter p e.0 es (first _ _ h)) rest
-    by false rest = rest
+  is_sorted-filter p (e ∷ es) h = grind (arith, is_sorted-filter p es, below-filter p e.0 es, h)
 
 -- ---- the entries of a map that is made of entries in order
 
@@ -63,7 +54,7 @@ keys-units (x ∷ xs) = ap (λ rest. x ∷ rest) (keys-units xs)
 
 below-units : (k : Id) (es : List (Id × RowState)) → below_all id_cmp k (units (keys_of es)) ≡ below_all id_cmp k es
 below-units k [] = refl
-below-units k (e ∷ es) = ap (λ b. is_lt (id_cmp k e.0) && b) (below-units k es)
+below-units k (e ∷ es) = grind (arith, below-units k es)
 
 sorted-units : (es : List (Id × RowState)) → is_sorted id_cmp (units (keys_of es)) ≡ is_sorted id_cmp es
 sorted-units [] = refl
@@ -74,38 +65,23 @@ some-unit a b e = grind arith
 
 find-units : (q : Id) (xs : List Id) → is_some (find id_cmp q (units xs)) ≡ has_id xs q
 find-units q [] = refl
-find-units q (x ∷ xs) = by (is_same_id q x) (find-units q xs) where
-  by : (t : Bool) → is_some (find id_cmp q (units xs)) ≡ has_id xs q → is_some (cond t (Some tt) (find id_cmp q (units xs))) ≡ (t || has_id xs q)
-  by true e = refl
-  by false e = e
+find-units q (x ∷ xs) = grind (arith, find-units q xs)
 
 -- ids in order are known by what they have
 pub same_ids : (xs : List Id) (es : List (Id × RowState)) → IsStrictlySortedBy id_cmp xs → T (is_sorted id_cmp es) → ((q : Id) → has_id xs q ≡ has_id (keys_of es) q) → xs ≡ keys_of es
 same_ids xs es s t is =
     sym (keys-units xs) ∙ ap keys_of (same_entries id_cmp ids_total same_id (units xs) (units (keys_of es))
     (is_sorted-from id_cmp (units xs) (subst (IsStrictlySortedBy id_cmp) (sym (keys-units xs)) s)) (subst T (sym (sorted-units es)) t)
-    (λ q. some-unit _ _ (find-units q xs ∙ is q ∙ sym (find-units q (keys_of es))))) ∙ keys-units (keys_of es)
+    (λ q. grind (arith, find-units q xs, is q, find-units q (keys_of es)))) ∙ keys-units (keys_of es)
 
 find-below : (k : Id) (name : List ℕ) (es : List (Id × RowState)) → T (below_all id_cmp k es) → has_id (keys_of (filter (λ e. is_same_name e.1.consumer name) es)) k ≡ false
 find-below k name [] h = refl
-find-below k name (e ∷ es) h = by (is_same_name e.1.consumer name) (find-below k name es (second _ _ h)) where
-  less : (o : Ordering) → T (is_lt o) → is_eq o ≡ false
-  less o e = grind arith
-
-  by : (t : Bool) → has_id (keys_of (filter (λ e. is_same_name e.1.consumer name) es)) k ≡ false → has_id (keys_of (cond t (e ∷ filter (λ e. is_same_name e.1.consumer name) es) (filter (λ e. is_same_name e.1.consumer name) es))) k ≡ false
-  by true rest = ap (λ b. b || has_id (keys_of (filter (λ e. is_same_name e.1.consumer name) es)) k) (less _ (first _ _ h)) ∙ rest
-  by false rest = rest
+find-below k name (e ∷ es) h = grind (arith, find-below k name es, h)
 
 -- the consumer's ids among rows in order
 pub has_owned : (name : List ℕ) (q : Id) (es : List (Id × RowState)) → T (is_sorted id_cmp es) → has_id (owned_ids name es) q ≡ is_owner (find id_cmp q es) name
 has_owned name q [] h = refl
-has_owned name q (e ∷ es) h = by (is_same_id q e.0) (is_same_name e.1.consumer name) refl refl (has_owned name q es (second _ _ h)) where
-  by : (t u : Bool) → is_same_id q e.0 ≡ t → is_same_name e.1.consumer name ≡ u → has_id (owned_ids name es) q ≡ is_owner (find id_cmp q es) name
-      → has_id (keys_of (cond u (e ∷ filter (λ e. is_same_name e.1.consumer name) es) (filter (λ e. is_same_name e.1.consumer name) es))) q ≡ is_owner (cond t (Some e.1) (find id_cmp q es)) name
-  by true true f g rest = ap (λ b. b || has_id (owned_ids name es) q) f ∙ sym g
-  by true false f g rest = ap (has_id (owned_ids name es)) (is_same_id-eq q e.0 f) ∙ find-below e.0 name es (first _ _ h) ∙ sym g
-  by false true f g rest = ap (λ b. b || has_id (owned_ids name es) q) f ∙ rest
-  by false false f g rest = rest
+has_owned name q (e ∷ es) h = grind (arith, has_owned name q es, is_same_id-eq q e.0, find-below e.0 name es, h)
 
 -- the ids of a consumer, as the index has them
 pub ids-owned : (ids : List Id) (rows : Rows) (name : List ℕ) → IsStrictlySortedBy id_cmp ids → ((x : Id) → has_id ids x ≡ is_owner (get rows x) name) → ids ≡ owned_ids name rows.entries
@@ -124,7 +100,7 @@ is-true b e = grind arith
 
 above-ids : (x : Id) (es : List (Id × RowState)) → T (below_all id_cmp x es) → AllAbove x (map (λ e. e.0) es)
 above-ids x [] h = tt
-above-ids x (e ∷ es) h = (is-true (is_below x e.0) (first _ _ h), above-ids x es (second _ _ h))
+above-ids x (e ∷ es) h = (grind (arith, h), above-ids x es (second _ _ h))
 
 pub ascends-ids : (es : List (Id × RowState)) → T (is_sorted id_cmp es) → Ascends (map (λ e. e.0) es)
 ascends-ids [] h = tt

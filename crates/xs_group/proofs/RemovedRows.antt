@@ -30,9 +30,6 @@ length-change f rows = length-each f rows.entries
 
 -- ---- acknowledgements
 
-same_and : (o : Option RowState) → option_and_then (λ row. Some row) o ≡ o
-same_and o = grind arith
-
 pub acked-none : (rows : Rows) → change (unless_acked []) rows ≡ rows
 acked-none rows = change-nothing (unless_acked []) rows (λ q. grind arith)
 

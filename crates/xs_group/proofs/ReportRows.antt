@@ -1,14 +1,14 @@
 -- What is told of pending rows.
-use Rattle.xs_group.proofs.Terms.{◌≡◌, ℕ, ◌-◌, suc, Bool, true, false, cond, not, ◌&&◌}
+use Rattle.xs_group.proofs.Terms.{◌≡◌, ℕ, ◌-◌, suc, Bool, true, false, cond, ◌&&◌}
 use Rattle.xs_group.proofs.Terms.{leb, List, [], ◌∷◌, map, filter, take, length, Option, Some, None}
-use Rattle.xs_group.proofs.Terms.{sym, ap, ◌∙◌, refl, subst, arith, Ordering, T}
+use Rattle.xs_group.proofs.Terms.{sym, ap, ◌∙◌, refl, subst, arith, T}
 use Rattle.xs_group.proofs.Terms.{AllByRecursion, slice_get, IsStrictlySortedBy, keys_of, IsOrdered}
 use Rattle.xs_group.proofs.Terms.{range_contains, entries_between, BTreeSet, Included, below_all, is_sorted}
-use Rattle.xs_group.proofs.Terms.{same_entries, nat_cmp, is_lt, is_eq, slice_cmp, nat_list_cmp_total}
+use Rattle.xs_group.proofs.Terms.{same_entries, nat_cmp, slice_cmp, nat_list_cmp_total}
 use Rattle.xs_group.proofs.Terms.{exact_bytes, keys, get-of_entries, Id, Range, id_cmp, is_below, is_within}
-use Rattle.xs_group.proofs.Terms.{between-within, filter-filter, and_yes, PendingRow, Selection, RowState, is_same_name}
+use Rattle.xs_group.proofs.Terms.{between-within, filter-filter, PendingRow, Selection, RowState, is_same_name}
 use Rattle.xs_group.proofs.Terms.{idle, owned_ids, ConsumerIndex, names_of, ids_at, indexed_row, rows_of}
-use Rattle.xs_group.proofs.Terms.{last_id, pending_row, is_of, is_selected, below-not_below}
+use Rattle.xs_group.proofs.Terms.{last_id, pending_row, is_selected, below-not_below}
 use Rattle.xs_bytes.specs.SortedMap.{get}
 use Rattle.xs_group.proofs.ByConsumer.{Index, is_same_name-symm, is_same_name-refl}
 use Rattle.xs_group.proofs.Ordered.{is_sorted-from, first, second}
@@ -32,13 +32,11 @@ AreHeld owners es = AllByRecursion (λ e. Some e.1 ≡ ids_at owners e.0) es
 
 held-later : (e : List ℕ × BTreeSet Id) (owners es : ConsumerIndex) → T (below_all (slice_cmp nat_cmp) e.0 es) → AreHeld owners es → AreHeld (e ∷ owners) es
 held-later e owners [] b a = tt
-held-later e owners (f ∷ fs) b a = (a.0 ∙ ap (λ t. cond t (Some e.1) (ids_at owners f.0)) (sym (is_same_name-symm f.0 e.0 ∙ less _ (first _ _ b))), held-later e owners fs (second _ _ b) a.1) where
-  less : (o : Ordering) → T (is_lt o) → is_eq o ≡ false
-  less o e = grind arith
+held-later e owners (f ∷ fs) b a = (grind (arith, a.0, is_same_name-symm f.0 e.0, b), held-later e owners fs (second _ _ b) a.1)
 
 held-sorted : (owners : ConsumerIndex) → T (is_sorted (slice_cmp nat_cmp) owners) → AreHeld owners owners
 held-sorted [] s = tt
-held-sorted (e ∷ es) s = (ap (λ t. cond t (Some e.1) (ids_at es e.0)) (sym (is_same_name-refl e.0)), held-later e es es (first _ _ s) (held-sorted es (second _ _ s)))
+held-sorted (e ∷ es) s = (grind (arith, is_same_name-refl e.0), held-later e es es (first _ _ s) (held-sorted es (second _ _ s)))
 
 pub held-all : (m : Index) → IsOrdered (slice_cmp nat_cmp) m → AreHeld m.entries m.entries
 held-all m o = held-sorted m.entries (is_sorted-from (slice_cmp nat_cmp) m.entries o)
@@ -65,8 +63,7 @@ pub rows-between : (s : Selection) (rows : List (Id × RowState))
     ≡ filter (is_selected s.range s.min_idle s.moment None) rows
 rows-between s rows =
     filter-filter (λ (e : Id × RowState). range_contains id_cmp (Included s.range.low) (Included s.range.high) e.0)
-    (λ e. leb s.min_idle (idle s.moment e.1.time)) (is_selected s.range s.min_idle s.moment None)
-    (λ e. λ i. sym (between-within s.range e.0) i && and_yes (leb s.min_idle (idle s.moment e.1.time)) i) rows
+    (λ e. leb s.min_idle (idle s.moment e.1.time)) (is_selected s.range s.min_idle s.moment None) (λ e. grind (arith, between-within s.range e.0)) rows
 
 -- a row before the others, where there is one
 abbrev pub with_row : Id → Option RowState → List (Id × RowState) → List (Id × RowState)
@@ -115,25 +112,17 @@ asked-owned s name rows ids is =
     ap (λ k. filter is_idle (filter within (listed_rows rows k))) is
     ∙ ap (λ es. filter is_idle (filter within es)) (among-found rows (filter mine all) (found-filter all all mine (found-all all (rows_of rows).sorted)))
     ∙ ap (filter is_idle) (filter-filter mine within (λ e. mine e && within e) (λ e. refl) all)
-    ∙ filter-filter (λ e. mine e && within e) is_idle (is_selected s.range s.min_idle s.moment (Some name)) (λ e. turned (within e) (is_idle e) (mine e)) all where
-      turned : (w i n : Bool) → (w && (i && n)) ≡ ((n && w) && i)
-      turned w i n = grind arith
+    ∙ filter-filter (λ e. mine e && within e) is_idle (is_selected s.range s.min_idle s.moment (Some name)) (λ e. grind arith) all
 
 not_within : (range : Range) → is_below range.high range.low ≡ true → (x : Id) → is_within range x ≡ false
-not_within range h x = by (is_below x range.low) refl where
-  by : (t : Bool) → is_below x range.low ≡ t → (not t && not (is_below range.high x)) ≡ false
-  by true e = refl
-  by false e = ap not (below-not_below range.high range.low x h e)
+not_within range h x = grind (arith, h, below-not_below range.high range.low x h)
 
 pub asked-none : (range : Range) (min now limit : ℕ) (consumer : Option (List ℕ)) (rows : List (Id × RowState)) → is_below range.high range.low ≡ true
     → [] ≡ take limit (map (pending_row now) (filter (is_selected range min now consumer) rows))
-asked-none range min now limit consumer rows h = sym (ap (λ es. take limit (map (pending_row now) es)) (none rows) ∙ nothing limit) where
+asked-none range min now limit consumer rows h = grind (arith, none rows) where
   none : (es : List (Id × RowState)) → filter (is_selected range min now consumer) es ≡ []
   none [] = refl
-  none (e ∷ es) = ap (λ b. cond (b && (leb min (idle now e.1.time) && is_of consumer e.1)) (e ∷ filter (is_selected range min now consumer) es) (filter (is_selected range min now consumer) es)) (not_within range h e.0) ∙ none es
-
-  nothing : (n : ℕ) → take n (map (pending_row now) []) ≡ []
-  nothing n = grind arith
+  none (e ∷ es) = grind (arith, not_within range h e.0, none es)
 
 pub take-none : (n : ℕ) → ◌≡◌ {A = List PendingRow} (take n []) []
 take-none n = grind arith

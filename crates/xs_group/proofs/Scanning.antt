@@ -1,8 +1,8 @@
 -- The scanned part, met one id after another.
 use Rattle.xs_group.proofs.Terms.{◌≡◌, ℕ, ◌+◌, ◌*◌, Bool, true, false, cond, not, ◌&&◌, ◌||◌, leb, List, [], ◌∷◌, ◌++◌}
 use Rattle.xs_group.proofs.Terms.{map, filter, length, drop, Some, sym, ap, ◌∙◌, refl, add-zero, arith, append_assoc}
-use Rattle.xs_group.proofs.Terms.{Ordering, T, below_all, is_sorted, AllByRecursion, range_contains, entries_between}
-use Rattle.xs_group.proofs.Terms.{Included, Unbounded, is_lt, is_eq, Id, id_cmp, is_below}
+use Rattle.xs_group.proofs.Terms.{T, below_all, is_sorted, AllByRecursion, entries_between}
+use Rattle.xs_group.proofs.Terms.{Included, Unbounded, Id, id_cmp}
 use Rattle.xs_group.proofs.Terms.{is_same_id-symm, is_same_id-refl, le-not_below, Scan, Verdict, Rule, row_at, is_taken}
 use Rattle.xs_group.proofs.Terms.{is_removed, is_hit, from_start, prefixes, first_where, scanned_part, first_or_zero}
 use Rattle.xs_group.proofs.Terms.{scan_of, RowState, is_taken_by, is_removed_by, with_taken, with_removed}
@@ -14,9 +14,7 @@ use Rattle.xs_group.proofs.Ordered.{first, second}
 first-mapped : (test : List Id → Bool) (x : Id) (other : List Id) (ls : List (List Id))
     → first_where test (x ∷ other) (map (λ ids. x ∷ ids) ls) ≡ x ∷ first_where (λ ids. test (x ∷ ids)) other ls
 first-mapped test x other [] = refl
-first-mapped test x other (l ∷ ls) = ap (λ rest. cond (test (x ∷ l)) (x ∷ l) rest) (first-mapped test x other ls) ∙ by (test (x ∷ l)) where
-  by : (t : Bool) → cond t (x ∷ l) (x ∷ first_where (λ ids. test (x ∷ ids)) other ls) ≡ x ∷ cond t l (first_where (λ ids. test (x ∷ ids)) other ls)
-  by t = grind arith
+first-mapped test x other (l ∷ ls) = grind (arith, first-mapped test x other ls)
 
 first-same : (p q : List Id → Bool) → ((ids : List Id) → p ids ≡ q ids) → (other : List Id) (ls : List (List Id)) → first_where p other ls ≡ first_where q other ls
 first-same p q is other [] = refl
@@ -26,13 +24,7 @@ module _ (hit : Id → Bool) (limit : ℕ) where
   enough-more : (hits seen : ℕ) (x : Id) (ids : List Id)
       → (leb limit (hits + length (filter hit (x ∷ ids))) || leb (10 * limit) (seen + length (x ∷ ids)))
       ≡ (leb limit ((hits + cond (hit x) 1 0) + length (filter hit ids)) || leb (10 * limit) ((seen + 1) + length ids))
-  enough-more hits seen x ids = λ i. leb limit (one (hit x) i) || leb (10 * limit) (two i) where
-    one : (t : Bool) → hits + length (cond t (x ∷ filter hit ids) (filter hit ids)) ≡ (hits + cond t 1 0) + length (filter hit ids)
-    one true = omega arith
-    one false = omega arith
-
-    two : seen + length (x ∷ ids) ≡ (seen + 1) + length ids
-    two = omega arith
+  enough-more hits seen x ids = grind arith
 
   scanned-from : (hits seen : ℕ) (ids : List Id)
       → first_where (λ p. leb limit (hits + length (filter hit p)) || leb (10 * limit) (seen + length p)) ids (prefixes ids) ≡ scanned_after hit limit hits seen ids
@@ -47,13 +39,11 @@ module _ (hit : Id → Bool) (limit : ℕ) where
       ∙ (λ i. cond (leb limit (add-zero hits i) || leb (10 * limit) (add-zero seen i)) [] (x ∷ scanned_after hit limit (hits + cond (hit x) 1 0) (seen + 1) xs))
 
   pub scanned-after : (ids : List Id) → scanned_part hit limit ids ≡ scanned_after hit limit 0 0 ids
-  scanned-after ids = first-same _ _ (λ p. λ i. leb limit (zero-plus (length (filter hit p)) i) || leb (10 * limit) (zero-plus (length p) i)) ids (prefixes ids) ∙ scanned-from 0 0 ids where
-    zero-plus : (n : ℕ) → n ≡ 0 + n
-    zero-plus n = omega arith
+  scanned-after ids = first-same _ _ (λ p. grind arith) ids (prefixes ids) ∙ scanned-from 0 0 ids
 
   pub scanned-on : (hits seen : ℕ) (x : Id) (xs : List Id) → leb limit hits ≡ false → leb (10 * limit) seen ≡ false
       → scanned_after hit limit hits seen (x ∷ xs) ≡ x ∷ scanned_after hit limit (hits + cond (hit x) 1 0) (seen + 1) xs
-  scanned-on hits seen x xs e f = λ i. cond (e i || f i) [] (x ∷ scanned_after hit limit (hits + cond (hit x) 1 0) (seen + 1) xs)
+  scanned-on hits seen x xs e f = grind (arith, e, f)
 
   pub scanned-enough : (hits seen : ℕ) (x : Id) (xs : List Id) → (leb limit hits || leb (10 * limit) seen) ≡ true → scanned_after hit limit hits seen (x ∷ xs) ≡ []
   scanned-enough hits seen x xs e = λ i. cond (e i) [] (x ∷ scanned_after hit limit (hits + cond (hit x) 1 0) (seen + 1) xs)
@@ -65,47 +55,30 @@ AreFound rows es = AllByRecursion (λ e. Some e.1 ≡ row_at rows e.0) es
 
 found-later : (e : Id × RowState) (rows es : List (Id × RowState)) → T (below_all id_cmp e.0 es) → AreFound rows es → AreFound (e ∷ rows) es
 found-later e rows [] b a = tt
-found-later e rows (f ∷ fs) b a = (a.0 ∙ ap (λ t. cond t (Some e.1) (row_at rows f.0)) (sym (is_same_id-symm f.0 e.0 ∙ less _ (first _ _ b))), found-later e rows fs (second _ _ b) a.1) where
-  less : (o : Ordering) → T (is_lt o) → is_eq o ≡ false
-  less o e = grind arith
+found-later e rows (f ∷ fs) b a = (grind (arith, a.0, is_same_id-symm f.0 e.0, b), found-later e rows fs (second _ _ b) a.1)
 
 pub found-all : (rows : List (Id × RowState)) → T (is_sorted id_cmp rows) → AreFound rows rows
 found-all [] s = tt
-found-all (e ∷ es) s = (ap (λ t. cond t (Some e.1) (row_at es e.0)) (sym (is_same_id-refl e.0)), found-later e es es (first _ _ s) (found-all es (second _ _ s)))
+found-all (e ∷ es) s = (grind (arith, is_same_id-refl e.0), found-later e es es (first _ _ s) (found-all es (second _ _ s)))
 
 pub found-filter : (rows es : List (Id × RowState)) (p : Id × RowState → Bool) → AreFound rows es → AreFound rows (filter p es)
 found-filter rows [] p a = tt
-found-filter rows (e ∷ es) p a = by (p e) (found-filter rows es p a.1) where
-  by : (t : Bool) → AreFound rows (filter p es) → AreFound rows (cond t (e ∷ filter p es) (filter p es))
-  by true rest = (a.0, rest)
-  by false rest = rest
+found-filter rows (e ∷ es) p a = grind (arith, a.0, found-filter rows es p a.1)
 
 and_yes : (t : Bool) → (t && not false) ≡ t
 and_yes t = grind arith
 
 pub keys-between : (start : Id) (rows : List (Id × RowState)) → map (λ e. e.0) (entries_between id_cmp (Included start) Unbounded rows) ≡ from_start start rows
 keys-between start [] = refl
-keys-between start (e ∷ es) = by (range_contains id_cmp (Included start) Unbounded e.0) (not (is_below e.0 start)) (and_yes _ ∙ le-not_below start e.0) (keys-between start es) where
-  by : (s t : Bool) → s ≡ t → map (λ e. e.0) (entries_between id_cmp (Included start) Unbounded es) ≡ from_start start es
-      → map (λ e. e.0) (cond s (e ∷ entries_between id_cmp (Included start) Unbounded es) (entries_between id_cmp (Included start) Unbounded es)) ≡ cond t (e.0 ∷ from_start start es) (from_start start es)
-  by true true k rest = ap (λ r. e.0 ∷ r) rest
-  by true false k rest = cc
-  by false true k rest = cc
-  by false false k rest = rest
+keys-between start (e ∷ es) = grind (arith, keys-between start es, le-not_below start e.0)
 
 -- ---- the claim as it grows
 
 pub taken-on : (v : Verdict) (p : Id → Bool) (ids : List Id) (x : Id) (part : List Id) → p x ≡ is_taken_by v → with_taken v ids x ++ filter p part ≡ ids ++ filter p (x ∷ part)
-taken-on v p ids x part e = by (is_taken_by v) ∙ ap (λ t. ids ++ cond t (x ∷ filter p part) (filter p part)) (sym e) where
-  by : (t : Bool) → cond t (ids ++ x ∷ []) ids ++ filter p part ≡ ids ++ cond t (x ∷ filter p part) (filter p part)
-  by true = append_assoc ids (x ∷ []) (filter p part)
-  by false = refl
+taken-on v p ids x part e = grind (arith, e, append_assoc ids (x ∷ []) (filter p part))
 
 pub removed-on : (v : Verdict) (p : Id → Bool) (ids : List Id) (x : Id) (part : List Id) → p x ≡ is_removed_by v → with_removed v ids x ++ filter p part ≡ ids ++ filter p (x ∷ part)
-removed-on v p ids x part e = by (is_removed_by v) ∙ ap (λ t. ids ++ cond t (x ∷ filter p part) (filter p part)) (sym e) where
-  by : (t : Bool) → cond t (ids ++ x ∷ []) ids ++ filter p part ≡ ids ++ cond t (x ∷ filter p part) (filter p part)
-  by true = append_assoc ids (x ∷ []) (filter p part)
-  by false = refl
+removed-on v p ids x part e = grind (arith, e, append_assoc ids (x ∷ []) (filter p part))
 
 module _ (rows : List (Id × RowState)) (present : List Id) (now : ℕ) (rule : Rule) (start : Id) (limit : ℕ) where
   -- what a scan has found where it ends

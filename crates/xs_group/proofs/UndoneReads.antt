@@ -4,7 +4,7 @@ use Rattle.xs_group.proofs.Terms.{refl, change, Id, Delivery, Rows, GroupState, 
 use Rattle.xs_group.proofs.Terms.{with_rows, own_ids, group_after_delivery, group_after_reread, unless_acked}
 use Rattle.xs_group.proofs.Terms.{PendingList, IsNamed, AreFree, IsConsistentGroup, delivery_of, history_of, new_rows}
 use Rattle.xs_group.proofs.Terms.{kind_of, taken_back, without_made, unmade, row_ids, IsDelivered, IsReread, IsMade}
-use Rattle.xs_group.proofs.Agreeing.{name-again}
+use Rattle.xs_group.proofs.Agreeing.{held-again}
 use Rattle.xs_group.proofs.NewRows.{held-back, out-again, unowned-rows}
 use Rattle.xs_group.proofs.Cursors.{free-above, new_ids-above}
 use Rattle.xs_group.proofs.Touching.{rows-unread}
@@ -18,7 +18,7 @@ without-made : (held : PendingList) (name : List ℕ) → IsNamed held.consumers
     → without_made (not (has_name held.consumers name)) name (record { consumers = with_name held.consumers name; rows = held.rows }) ≡ held
 without-made held name named = by (has_name held.consumers name) refl where
   by : (t : Bool) → has_name held.consumers name ≡ t → without_made (not t) name (record { consumers = with_name held.consumers name; rows = held.rows }) ≡ held
-  by true e = ap (λ names. record { consumers = names; rows = held.rows }) (name-again held.consumers name e)
+  by true e = sym (held-again held name e)
   by false e = held-back held name (unowned-rows held.consumers held.rows name named e) (sym (ap not e))
 
 -- a group with the consumers and the rows that an undoing leaves

@@ -24,9 +24,6 @@ lookup-units (e ∷ es) n = grind (arith, lookup-units es n)
 pub get-names_of : (owners : ConsumerIndex) (n : List ℕ) → get (names_of owners) n ≡ unit_of (ids_at owners n)
 get-names_of owners n = get-of_entries nat_list_cmp_total (map (λ e. (e.0, tt)) owners) n ∙ find-lookup (slice_cmp nat_cmp) n (map (λ e. (e.0, tt)) owners) ∙ lookup-units owners n
 
-some_unit : {X : Type 0} (o : Option X) → is_some (unit_of o) ≡ is_some o
-some_unit o = grind arith
-
 pub has_name-names_of : (owners : ConsumerIndex) (n : List ℕ) → has_name (names_of owners) n ≡ is_some (ids_at owners n)
 has_name-names_of owners n = grind (arith, get-names_of owners n)
 
