@@ -9,9 +9,6 @@ use Rattle.std.specs.List.Sorted.{IsStrictlySortedBy}
 use Rattle.xs_bytes.specs.SortedMap.{get}
 use Rattle.xs_group.proofs.Views.{RowMap}
 
-pub both : (a b : Bool) → T a → T b → T (a && b)
-both a b p q = grind arith
-
 pub first : (a b : Bool) → T (a && b) → T a
 first a b p = grind arith
 
@@ -60,9 +57,6 @@ sorted-units : (es : List (Id × RowState)) → is_sorted id_cmp (units (keys_of
 sorted-units [] = refl
 sorted-units (e ∷ es) = λ i. below-units e.0 es i && sorted-units es i
 
-some-unit : (a b : Option (Unit {0})) → is_some a ≡ is_some b → a ≡ b
-some-unit a b e = grind arith
-
 find-units : (q : Id) (xs : List Id) → is_some (find id_cmp q (units xs)) ≡ has_id xs q
 find-units q [] = refl
 find-units q (x ∷ xs) = grind (arith, find-units q xs)
@@ -94,9 +88,6 @@ unfolding IsStrictlySortedBy
 sorted-none = tt
 
 -- ---- the ids of rows ascend
-
-is-true : (b : Bool) → T b → b ≡ true
-is-true b e = grind arith
 
 above-ids : (x : Id) (es : List (Id × RowState)) → T (below_all id_cmp x es) → AllAbove x (map (λ e. e.0) es)
 above-ids x [] h = tt

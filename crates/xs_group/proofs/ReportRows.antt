@@ -8,7 +8,7 @@ use Rattle.xs_group.proofs.Terms.{same_entries, nat_cmp, slice_cmp, nat_list_cmp
 use Rattle.xs_group.proofs.Terms.{exact_bytes, keys, get-of_entries, Id, Range, id_cmp, is_below, is_within}
 use Rattle.xs_group.proofs.Terms.{between-within, filter-filter, PendingRow, Selection, RowState, is_same_name}
 use Rattle.xs_group.proofs.Terms.{idle, owned_ids, ConsumerIndex, names_of, ids_at, indexed_row, rows_of}
-use Rattle.xs_group.proofs.Terms.{last_id, pending_row, is_selected, below-not_below}
+use Rattle.xs_group.proofs.Terms.{last_id, pending_row, is_selected, below-not_below, is_idle}
 use Rattle.xs_bytes.specs.SortedMap.{get}
 use Rattle.xs_group.proofs.ByConsumer.{Index, is_same_name-symm, is_same_name-refl}
 use Rattle.xs_group.proofs.Ordered.{is_sorted-from, first, second}
@@ -79,20 +79,11 @@ listed_rows rows (x ∷ xs) = with_row x (indexed_row rows x) (listed_rows rows 
 pub among-between : (range : Range) (rows : List (Id × RowState)) (ids : List Id)
     → listed_rows rows (filter (range_contains id_cmp (Included range.low) (Included range.high)) ids) ≡ filter (λ e. is_within range e.0) (listed_rows rows ids)
 among-between range rows [] = refl
-among-between range rows (x ∷ xs) =
-    split (range_contains id_cmp (Included range.low) (Included range.high) x)
-    ∙ ap (λ t. cond t (with_row x (indexed_row rows x) (listed_rows rows (filter (range_contains id_cmp (Included range.low) (Included range.high)) xs))) (listed_rows rows (filter (range_contains id_cmp (Included range.low) (Included range.high)) xs))) (between-within range x)
-    ∙ one (is_within range x) refl (indexed_row rows x) (listed_rows rows (filter (range_contains id_cmp (Included range.low) (Included range.high)) xs)) (listed_rows rows xs) (among-between range rows xs) where
-      split : (t : Bool) → listed_rows rows (cond t (x ∷ filter (range_contains id_cmp (Included range.low) (Included range.high)) xs) (filter (range_contains id_cmp (Included range.low) (Included range.high)) xs))
-          ≡ cond t (with_row x (indexed_row rows x) (listed_rows rows (filter (range_contains id_cmp (Included range.low) (Included range.high)) xs))) (listed_rows rows (filter (range_contains id_cmp (Included range.low) (Included range.high)) xs))
-      split t = grind arith
-
-      one : (t : Bool) → is_within range x ≡ t → (o : Option RowState) (a b : List (Id × RowState)) → a ≡ filter (λ e. is_within range e.0) b
-          → cond t (with_row x o a) a ≡ filter (λ e. is_within range e.0) (with_row x o b)
-      one true e None a b r = r
-      one true e (Some row) a b r = ap (λ rest. (x, row) ∷ rest) r ∙ ap (λ t. cond t ((x, row) ∷ filter (λ e. is_within range e.0) b) (filter (λ e. is_within range e.0) b)) (sym e)
-      one false e None a b r = r
-      one false e (Some row) a b r = r ∙ ap (λ t. cond t ((x, row) ∷ filter (λ e. is_within range e.0) b) (filter (λ e. is_within range e.0) b)) (sym e)
+among-between range rows (x ∷ xs) = one (range_contains id_cmp (Included range.low) (Included range.high) x) (between-within range x) (indexed_row rows x) refl _ _ (among-between range rows xs) where
+  one : (t : Bool) → t ≡ is_within range x → (o : Option RowState) → indexed_row rows x ≡ o → (a : List Id) (b : List (Id × RowState)) → listed_rows rows a ≡ filter (λ e. is_within range e.0) b
+      → listed_rows rows (cond t (x ∷ a) a) ≡ filter (λ e. is_within range e.0) (with_row x o b)
+  one t e None f a b r = grind (arith, e, f, r)
+  one t e (Some row) f a b r = grind (arith, e, f, r)
 
 among-found : (rows es : List (Id × RowState)) → AreFound (rows_of rows).entries es → listed_rows rows (keys_of es) ≡ es
 unfolding get

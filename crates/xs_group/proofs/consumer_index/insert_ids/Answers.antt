@@ -1,5 +1,5 @@
 use Rattle.xs_group.proofs.Terms.{◌||◌, get_or, take, sym, ap, ◌∙◌, take_more, contains, list_any, id_cmp, is_same_id}
-use Rattle.xs_group.proofs.Terms.{has_id}
+use Rattle.xs_group.proofs.Terms.{has_id, is_same_id-symm, arith, keys}
 use Rattle.xs_group.proofs.ByConsumer.{contains-more}
 use Rattle.xs_group.proofs.ChosenIds.{has-more}
 use Rattle.xs_group.proofs.MovedRows.{some-take}
@@ -15,7 +15,5 @@ returns-in_default-clause-err c = (
 pub loop-id-preserved : goal.loop-id-preserved
 loop-id-preserved c =
     let next = take_more c.args.ids.now c.loop-id.id-index (record { ms = 0; seq = 0 }) c.loop-id-test.true in
-    let done = take c.loop-id.id-index c.args.ids.now in
     let id = get_or c.args.ids.now c.loop-id.id-index (record { ms = 0; seq = 0 }) in
-    λ x. contains-more c.loop-id.own c.insert.new.self id (contains id_cmp c.args.own.now x) (has_id done x) x c.in-Ok.ensures.updates (c.loop-id.invariant x)
-    ∙ ap (λ b. contains id_cmp c.args.own.now x || b) (sym (has-more done id x) ∙ ap (λ ids. has_id ids x) (sym next))
+    λ x. grind (arith, next, c.in-Ok.ensures.updates.0 x, is_same_id-symm id x, c.loop-id.invariant x, has-more (take c.loop-id.id-index c.args.ids.now) id x)

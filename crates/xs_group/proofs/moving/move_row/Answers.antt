@@ -1,5 +1,5 @@
 use Rattle.xs_group.proofs.Terms.{◌&&◌, cond, Some, sym, ap, ◌∙◌, not, subst, rules, UpdatesBy, id_cmp, is_same_id}
-use Rattle.xs_group.proofs.Terms.{RowState, is_same_name, claimed_row, holds}
+use Rattle.xs_group.proofs.Terms.{RowState, is_same_name, claimed_row, holds, arith}
 use Rattle.xs_group.proofs.MovedRows.{moved-some, row-moved}
 use Rattle.xs_group.proofs.moving.move_row.Goals as goal
 
@@ -13,5 +13,4 @@ pub returns-clause-agreed : goal.returns-clause-agreed
 returns-clause-agreed c = λ rest apart but.
     moved-some c.args.rows.now (c.get_mut.follows.lender c.claim.new.self) c.args.owners.now.entries c.leave_owner.new.owners.entries c.args.name.now c.args.id rest but
     c.in-Some.entry.now c.claim.new.self (sym c.in-Some.ensures.value) (ap (λ (row : RowState). row.consumer) c.claim.ensures ∙ c.requires)
-    ((c.get_mut.follows.holds c.claim.new.self).3 (search rules))
-    (λ q x. c.leave_owner.ensures.ids q x ∙ ap (λ k. cond (is_same_name k c.args.name.now) (holds c.args.owners.now.entries q x) (holds c.args.owners.now.entries q x && not (is_same_name q k && is_same_id x c.args.id))) c.consumer.ensures)
+    ((c.get_mut.follows.holds c.claim.new.self).3 (search rules)) (λ q x. grind (arith, c.leave_owner.ensures.ids q x, c.consumer.ensures))

@@ -8,15 +8,10 @@ use Rattle.xs_group.proofs.moving.take_back.Goals as goal
 pub loop-id-preserved : goal.loop-id-preserved
 loop-id-preserved c =
     let next = take_more c.args.ids.now c.loop-id.id-index (record { ms = 0; seq = 0 }) c.loop-id-test.true in
-    let done = take c.loop-id.id-index c.args.ids.now in
     let id = get_or c.args.ids.now c.loop-id.id-index (record { ms = 0; seq = 0 }) in
-    let name = c.args.name.now in
-    let rows = c.args.rows.now.entries in
     record {
       names = λ q. c.take_back_one.ensures.names q ∙ c.loop-id.invariant.names q;
-      back = λ q x. c.take_back_one.ensures.ids q x ∙ ap (λ b. b && not (is_same_name q name && (is_same_id x id && not (is_owner (indexed_row rows x) name)))) (c.loop-id.invariant.back q x)
-          ∙ and-more (holds c.args.owners.now.entries q x) (is_same_name q name) (has_id done x) (is_same_id x id) (is_owner (indexed_row rows x) name)
-          ∙ ap (λ b. holds c.args.owners.now.entries q x && not (is_same_name q name && (b && not (is_owner (indexed_row rows x) name)))) (sym (has-more done id x) ∙ ap (λ ids. has_id ids x) (sym next));
+      back = λ q x. grind (arith, next, c.take_back_one.ensures.ids q x, c.loop-id.invariant.back q x, has-more (take c.loop-id.id-index c.args.ids.now) id x);
     }
 
 pub returns-clause-agreed : goal.returns-clause-agreed
