@@ -1,10 +1,10 @@
 -- The two indexes go on holding the same pairs.
-use Rattle.xs_group.proofs.Terms.{◌≡◌, ℕ, Bool, true, false, not, ◌&&◌, ◌||◌, List, [], Some, None}
-use Rattle.xs_group.proofs.Terms.{is_some, Result, Ok, Err, OnErr, sym, ap, ◌∙◌, refl, UpdatesBy, BTreeSet, nat_cmp}
-use Rattle.xs_group.proofs.Terms.{slice_cmp, nat_list_cmp_total, has_key, get-insert_by, Id, id_cmp}
-use Rattle.xs_group.proofs.Terms.{is_same_id, is_same_id-eq, is_same_id-symm, RowState, Rows, Names, is_same_name}
-use Rattle.xs_group.proofs.Terms.{with_name, has_name, rows_of, PendingList, ConsumerIndex, names_of, ids_at}
-use Rattle.xs_group.proofs.Terms.{holds, is_owner, indexed_row, IsAgreed, arith}
+use Rattle.xs_group.proofs.Terms.{◌≡◌, ℕ, Bool, true, false, not, ◌&&◌, ◌||◌, List, [], Some, None, is_some, Result, Ok}
+use Rattle.xs_group.proofs.Terms.{Err, OnErr, sym, ap, ◌∙◌, refl, UpdatesBy, BTreeSet, nat_cmp, slice_cmp}
+use Rattle.xs_group.proofs.Terms.{nat_list_cmp_total, has_key, get-insert_by, Id, id_cmp, is_same_id, is_same_id-eq}
+use Rattle.xs_group.proofs.Terms.{is_same_id-symm, RowState, Rows, Names, is_same_name, with_name, has_name, rows_of}
+use Rattle.xs_group.proofs.Terms.{PendingList, ConsumerIndex, names_of, ids_at, holds, is_owner, indexed_row, IsAgreed}
+use Rattle.xs_group.proofs.Terms.{arith}
 use Rattle.xs_group.proofs.ByConsumer.{Index, is_same_name-eq, is_same_name-symm}
 use Rattle.xs_group.proofs.Views.{RowMap, has_name-names_of, same_names, names-same, get-rows_of}
 
@@ -12,19 +12,22 @@ use Rattle.xs_group.proofs.Views.{RowMap, has_name-names_of, same_names, names-s
 
 pub agreed-joined : (rows : List (Id × RowState)) (m n : Index) (name : List ℕ) (s : BTreeSet Id) → IsAgreed rows m.entries
     → is_some (ids_at m.entries name) ≡ false → s.keys ≡ [] → UpdatesBy (slice_cmp nat_cmp) (slice_cmp nat_cmp name) m n (Some s) → IsAgreed rows n.entries
-agreed-joined rows m n name s agreed none nothing u q x = grind (arith, u.0 q, is_same_name-eq name q, none, nothing, agreed q x)
+agreed-joined rows m n name s agreed none nothing u q x = grind (arith, u.0 q, is_same_name-eq name q, none, nothing,
+    agreed q x)
 
 pub has_name-with_name : (names : Names) (name q : List ℕ) → has_name (with_name names name) q ≡ (is_same_name q name || has_name names q)
 has_name-with_name names name q = grind (arith, get-insert_by nat_list_cmp_total names name tt q)
 
 pub names-joined : (m n : Index) (name : List ℕ) (s : BTreeSet Id) → UpdatesBy (slice_cmp nat_cmp) (slice_cmp nat_cmp name) m n (Some s)
     → names_of n.entries ≡ with_name (names_of m.entries) name
-names-joined m n name s u = same_names _ _ (λ q. grind (arith, has_name-names_of n.entries q, has_name-names_of m.entries q,
+names-joined m n name s u = same_names _ _ (λ q. grind (arith, has_name-names_of n.entries q,
+    has_name-names_of m.entries q,
     has_name-with_name (names_of m.entries) name q, u.0 q, is_same_name-symm name q))
 
 -- a consumer that is there already
 pub name-again : (names : Names) (name : List ℕ) → has_name names name ≡ true → with_name names name ≡ names
-name-again names name there = same_names _ _ (λ q. grind (arith, has_name-with_name names name q, is_same_name-eq q name, there))
+name-again names name there = same_names _ _ (λ q. grind (arith, has_name-with_name names name q,
+    is_same_name-eq q name, there))
 
 -- ---- a row less
 
@@ -33,7 +36,8 @@ pub agreed-taken : (m n : RowMap) (a b : ConsumerIndex) (id : Id) (row : RowStat
     → UpdatesBy id_cmp (id_cmp id) m n None → IsAgreed n.entries b
 agreed-taken m n a b id row agreed found h u q x = h q x ∙ by (is_same_id id x) refl where
   by : (t : Bool) → is_same_id id x ≡ t → (holds a q x && not (is_same_name q row.consumer && is_same_id x id)) ≡ is_owner (indexed_row n.entries x) q
-  by true t = grind (arith, agreed q x, found, u.0 x, is_same_id-eq id x t, is_same_id-symm id x, is_same_name-symm row.consumer q)
+  by true t = grind (arith, agreed q x, found, u.0 x, is_same_id-eq id x t, is_same_id-symm id x,
+      is_same_name-symm row.consumer q)
   by false t = grind (arith, agreed q x, u.2 x t, is_same_id-symm id x)
 
 -- ---- what callers know of a row

@@ -1,8 +1,8 @@
 -- The index by consumer.
-use Rattle.xs_group.proofs.Terms.{◌≡◌, ℕ, Bool, true, false, not, ◌&&◌, ◌||◌, List, Some, None, is_some, sym, ap}
-use Rattle.xs_group.proofs.Terms.{◌∙◌, BTreeMap, UpdatesBy, BTreeSet, nat_cmp, is_eq, eq_by_cmp_equiv, slice_cmp}
-use Rattle.xs_group.proofs.Terms.{nat_list_cmp_total, tied_itself, exact_bytes, Id, id_cmp, is_same_id}
-use Rattle.xs_group.proofs.Terms.{has_id, equal-from, is_same_id-symm, is_same_name, ids_at, holds, arith}
+use Rattle.xs_group.proofs.Terms.{◌≡◌, ℕ, Bool, true, false, not, ◌&&◌, ◌||◌, List, Some, None, is_some, sym, ap, ◌∙◌}
+use Rattle.xs_group.proofs.Terms.{BTreeMap, UpdatesBy, BTreeSet, nat_cmp, is_eq, eq_by_cmp_equiv, slice_cmp}
+use Rattle.xs_group.proofs.Terms.{nat_list_cmp_total, tied_itself, exact_bytes, Id, id_cmp, is_same_id, has_id}
+use Rattle.xs_group.proofs.Terms.{equal-from, is_same_id-symm, is_same_name, ids_at, holds, arith}
 use Rattle.std.specs.BTreeMap as tree
 use Rattle.std.specs.BTreeSet as set
 
@@ -17,11 +17,6 @@ is_same_name-symm a b = (eq_by_cmp_equiv nat_list_cmp_total).symm a b
 
 abbrev pub Index : Type 0
 Index = BTreeMap (List ℕ) (BTreeSet Id)
-
--- an id more in a set
-pub contains-more : (s w : BTreeSet Id) (id : Id) (a h : Bool) (x : Id) → set.Updates id_cmp s w id true → set.contains id_cmp s x ≡ (a || h)
-    → set.contains id_cmp w x ≡ (a || (h || is_same_id x id))
-contains-more s w id a h x v e = grind (arith, v.0 x, is_same_id-symm id x)
 
 and_yes : (b : Bool) → b ≡ (b && true)
 and_yes b = grind arith

@@ -1,11 +1,10 @@
 -- A claim that is carried out.
-use Rattle.xs_group.proofs.Terms.{◌≡◌, ℕ, ◌+◌, Bool, false, cond, not, inl, inr, List, [], ◌∷◌}
-use Rattle.xs_group.proofs.Terms.{map, filter, option_and_then, sym, refl, subst}
-use Rattle.xs_group.proofs.Terms.{T, below_all, is_sorted, change}
-use Rattle.xs_group.proofs.Terms.{Id, id_cmp, is_same_id, is_below, has_id, is_same_id-symm, Claim, Rule, is_taken}
-use Rattle.xs_group.proofs.Terms.{is_hit, without_repeats, from_start, scanned_part, row_after_claim}
-use Rattle.xs_group.proofs.Terms.{RowState, Rows, GroupState, unless_acked, rows_of, indexed_row, moved, scanned_after}
-use Rattle.xs_group.proofs.Terms.{AreDistinct, IsClaimOn, arith}
+use Rattle.xs_group.proofs.Terms.{◌≡◌, ℕ, ◌+◌, Bool, false, cond, not, inl, inr, List, [], ◌∷◌, map, filter}
+use Rattle.xs_group.proofs.Terms.{option_and_then, sym, refl, subst, T, below_all, is_sorted, change, Id, id_cmp}
+use Rattle.xs_group.proofs.Terms.{is_same_id, is_below, has_id, is_same_id-symm, Claim, Rule, is_taken, is_hit}
+use Rattle.xs_group.proofs.Terms.{without_repeats, from_start, scanned_part, row_after_claim, RowState, Rows}
+use Rattle.xs_group.proofs.Terms.{GroupState, unless_acked, rows_of, indexed_row, moved, scanned_after, AreDistinct}
+use Rattle.xs_group.proofs.Terms.{IsClaimOn, arith}
 use Rattle.xs_group.proofs.Ordered.{first, second}
 use Rattle.xs_group.proofs.Views.{same_rows, get-rows_of}
 use Rattle.xs_group.proofs.RemovedRows.{get-changed}
@@ -44,7 +43,8 @@ module _ (hit : Id → Bool) (limit : ℕ) where
 
   apart-scanned : (hits seen : ℕ) (ids : List Id) → AreDistinct ids → AreDistinct (scanned_after hit limit hits seen ids)
   apart-scanned hits seen [] a = tt
-  apart-scanned hits seen (y ∷ ys) a = grind (arith, has-scanned (hits + cond (hit y) 1 0) (seen + 1) y ys a.0, apart-scanned (hits + cond (hit y) 1 0) (seen + 1) ys a.1)
+  apart-scanned hits seen (y ∷ ys) a = grind (arith, has-scanned (hits + cond (hit y) 1 0) (seen + 1) y ys a.0,
+      apart-scanned (hits + cond (hit y) 1 0) (seen + 1) ys a.1)
 
 pub apart-claim : (group : GroupState) (now : ℕ) (rule : Rule) (claim : Claim) → IsClaimOn group now rule claim → AreDistinct claim.take
 apart-claim group now rule claim (inl w) = subst (λ (c : Claim). AreDistinct c.take) (sym w.is) (apart-filter (is_taken group.rows.entries w.present now rule) (without_repeats w.ids) (apart-without_repeats w.ids))
@@ -60,9 +60,13 @@ apart-claim group now rule claim (inr w) =
 
 pub rows-settled : (name : List ℕ) (now : ℕ) (rule : Rule) (claim : Claim) (rows : Rows)
     → change (unless_acked claim.removed) (change (moved name now rule claim.take) rows) ≡ change (row_after_claim name now rule claim) rows
-rows-settled name now rule claim rows = same_rows _ _ (λ q. grind (arith, get-changed (unless_acked claim.removed) (change (moved name now rule claim.take) rows) q,
+rows-settled name now rule claim rows =
+    same_rows _ _ (λ q. grind (arith,
+    get-changed (unless_acked claim.removed) (change (moved name now rule claim.take) rows) q,
     get-changed (moved name now rule claim.take) rows q, get-changed (row_after_claim name now rule claim) rows q))
 
 pub rows-moved : (a b : List (Id × RowState)) (name : List ℕ) (now : ℕ) (rule : Rule) (ids : List Id)
     → ((x : Id) → indexed_row b x ≡ option_and_then (moved name now rule ids x) (indexed_row a x)) → rows_of b ≡ change (moved name now rule ids) (rows_of a)
-rows-moved a b name now rule ids is = same_rows _ _ (λ q. grind (arith, get-rows_of b q, is q, get-rows_of a q, get-changed (moved name now rule ids) (rows_of a) q))
+rows-moved a b name now rule ids is =
+    same_rows _ _ (λ q. grind (arith, get-rows_of b q, is q, get-rows_of a q,
+    get-changed (moved name now rule ids) (rows_of a) q))

@@ -1,9 +1,8 @@
 -- The ids that a claim takes and removes.
-use Rattle.xs_group.proofs.Terms.{◌≡◌, ◌≤◌, ℕ, Bool, cond, not, ◌||◌, List, [], ◌∷◌, ◌++◌, filter}
-use Rattle.xs_group.proofs.Terms.{Option, ap, ◌∙◌, refl, arith, list_any-append, or-false, Id}
-use Rattle.xs_group.proofs.Terms.{is_same_id, has_id, Verdict, Rule, row_at, is_taken}
-use Rattle.xs_group.proofs.Terms.{is_removed, is_hit, without_repeats, RowState, Rows, is_taken_by, is_removed_by}
-use Rattle.xs_group.proofs.Terms.{verdict_of, with_taken, with_removed, hits_of}
+use Rattle.xs_group.proofs.Terms.{◌≡◌, ◌≤◌, ℕ, Bool, cond, not, ◌||◌, List, [], ◌∷◌, ◌++◌, filter, Option, ap, ◌∙◌}
+use Rattle.xs_group.proofs.Terms.{refl, arith, list_any-append, or-false, Id, is_same_id, has_id, Verdict, Rule, row_at}
+use Rattle.xs_group.proofs.Terms.{is_taken, is_removed, is_hit, without_repeats, RowState, Rows, is_taken_by}
+use Rattle.xs_group.proofs.Terms.{is_removed_by, verdict_of, with_taken, with_removed, hits_of}
 use Rattle.xs_bytes.specs.SortedMap.{get}
 
 pub has-more : (ids : List Id) (id q : Id) → has_id (ids ++ id ∷ []) q ≡ (has_id ids q || is_same_id q id)
@@ -17,7 +16,8 @@ filter-more p (x ∷ xs) id = grind (arith, filter-more p xs id)
 
 pub without_repeats-more : (ids : List Id) (id : Id) → without_repeats (ids ++ id ∷ []) ≡ cond (has_id ids id) (without_repeats ids) (without_repeats ids ++ id ∷ [])
 without_repeats-more [] id = refl
-without_repeats-more (x ∷ xs) id = grind (arith, without_repeats-more xs id, filter-more (λ y. not (is_same_id y x)) (without_repeats xs) id)
+without_repeats-more (x ∷ xs) id = grind (arith, without_repeats-more xs id,
+    filter-more (λ y. not (is_same_id y x)) (without_repeats xs) id)
 
 -- ---- verdicts
 

@@ -1,17 +1,14 @@
 -- Rows that go to another consumer.
 use Rattle.xs_group.proofs.Terms.{◌≡◌, ℕ, Bool, true, false, cond, not, ◌&&◌, ◌||◌, List, [], ◌∷◌, ◌++◌, map, take}
-use Rattle.xs_group.proofs.Terms.{Option, Some, option_and_then, ap, ◌∙◌, refl, UpdatesBy, Id}
-use Rattle.xs_group.proofs.Terms.{id_cmp, is_same_id, has_id, is_same_id-eq, is_same_id-symm, Rule, claimed_row}
-use Rattle.xs_group.proofs.Terms.{RowState, is_same_name, ConsumerIndex, holds, is_owner, indexed_row, IsAgreed, moved}
-use Rattle.xs_group.proofs.Terms.{AreAgreedBut, AreSomeOf, arith}
+use Rattle.xs_group.proofs.Terms.{Option, Some, option_and_then, ap, ◌∙◌, refl, UpdatesBy, Id, id_cmp, is_same_id}
+use Rattle.xs_group.proofs.Terms.{has_id, is_same_id-eq, is_same_id-symm, Rule, claimed_row, RowState, is_same_name}
+use Rattle.xs_group.proofs.Terms.{ConsumerIndex, holds, is_owner, indexed_row, IsAgreed, moved, AreAgreedBut, AreSomeOf}
+use Rattle.xs_group.proofs.Terms.{arith}
 use Rattle.xs_group.proofs.ByConsumer.{is_same_name-eq, is_same_name-symm}
 use Rattle.xs_group.proofs.Views.{RowMap}
 use Rattle.xs_group.proofs.NewRows.{among-take}
 
 -- ---- ids that are taken back
-
-pub and-more : (a s h t o : Bool) → ((a && not (s && (h && not o))) && not (s && (t && not o))) ≡ (a && not (s && ((h || t) && not o)))
-and-more a s h t o = grind arith
 
 -- once all are taken back, the indexes agree
 pub agreed-again : (rows : List (Id × RowState)) (a b : ConsumerIndex) (name : List ℕ) (done ids : List Id) → AreSomeOf done ids → AreAgreedBut rows a name done
@@ -25,9 +22,13 @@ module _ (m n : RowMap) (a b : ConsumerIndex) (name : List ℕ) (id : Id) (rest 
       → ((q : List ℕ) → (x : Id) → holds b q x ≡ cond (is_same_name row.consumer name) (holds a q x) (holds a q x && not (is_same_name q row.consumer && is_same_id x id)))
       → AreAgreedBut n.entries b name rest
   moved-some row new found whose u h q x = h q x ∙ by (is_same_id x id) refl where
-    by : (t : Bool) → is_same_id x id ≡ t → cond (is_same_name row.consumer name) (holds a q x) (holds a q x && not (is_same_name q row.consumer && is_same_id x id))
+    by : (t : Bool) → is_same_id x id ≡ t
+        → cond (is_same_name row.consumer name) (holds a q x)
+        (holds a q x && not (is_same_name q row.consumer && is_same_id x id))
         ≡ (is_owner (indexed_row n.entries x) q || (is_same_name q name && has_id rest x))
-    by true e = grind (arith, but q x, found, u.0 x, whose, is_same_id-eq x id e, is_same_id-symm id x, is_same_name-eq row.consumer q, is_same_name-eq q name, is_same_name-symm q row.consumer, is_same_name-symm q name)
+    by true e = grind (arith, but q x, found, u.0 x, whose, is_same_id-eq x id e, is_same_id-symm id x,
+        is_same_name-eq row.consumer q, is_same_name-eq q name, is_same_name-symm q row.consumer,
+        is_same_name-symm q name)
     by false e = grind (arith, but q x, u.2 x, is_same_id-symm id x)
 
 pub names-more : (name : List ℕ) (ids : List Id) (id : Id) → map (λ (x : Id). name) (ids ++ id ∷ []) ≡ map (λ (x : Id). name) ids ++ name ∷ []

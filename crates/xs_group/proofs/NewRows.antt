@@ -1,42 +1,32 @@
 -- Rows that are put.
-use Rattle.xs_group.proofs.Terms.{◌≡◌, ℕ, suc, zero, Bool, true, false, cond, not, List, [], ◌∷◌, ◌++◌, take}
-use Rattle.xs_group.proofs.Terms.{Option, Some, None, refl, false≢true}
-use Rattle.xs_group.proofs.Terms.{UpdatesBy, nat_list_cmp_total, get, remove, change}
-use Rattle.xs_group.proofs.Terms.{insert_by, get-insert_by, get-remove, Id, id_cmp, is_same_id, has_id, is_same_id-symm}
-use Rattle.xs_group.proofs.Terms.{RowState, Rows, Names, ids_total, has_name, with_name, with_rows}
-use Rattle.xs_group.proofs.Terms.{unless_acked, unless_owned, rows_of, indexed_row, ConsumerIndex, AreFree}
-use Rattle.xs_group.proofs.Terms.{IsAgreed, IsNamed, PendingList, AreAgreedBut, arith}
+use Rattle.xs_group.proofs.Terms.{◌≡◌, ℕ, suc, zero, Bool, true, false, cond, not, List, [], ◌∷◌, take}
+use Rattle.xs_group.proofs.Terms.{Some, refl, false≢true, nat_list_cmp_total, get, remove, change}
+use Rattle.xs_group.proofs.Terms.{insert_by, get-insert_by, get-remove, Id, has_id}
+use Rattle.xs_group.proofs.Terms.{RowState, Rows, Names, ids_total, has_name, with_name, with_rows, unless_acked}
+use Rattle.xs_group.proofs.Terms.{unless_owned, rows_of, indexed_row, ConsumerIndex, AreFree, IsAgreed, IsNamed}
+use Rattle.xs_group.proofs.Terms.{PendingList, AreAgreedBut, arith}
 use Rattle.xs_group.proofs.ByConsumer.{is_same_name-eq, is_same_name-refl, is_same_name-symm}
-use Rattle.xs_group.proofs.ChosenIds.{has-more}
-use Rattle.xs_group.proofs.Views.{RowMap, same_rows, same_names, get-rows_of}
+use Rattle.xs_group.proofs.Views.{same_rows, same_names, get-rows_of}
 use Rattle.xs_group.proofs.Agreeing.{has_name-with_name, none-from_free}
 use Rattle.xs_group.proofs.RemovedRows.{get-changed, change-nothing}
 
 pub get-with_rows : (ids : List Id) (row : RowState) (rows : Rows) (q : Id) → get (with_rows ids row rows) q ≡ cond (has_id ids q) (Some row) (get rows q)
 get-with_rows [] row rows q = refl
-get-with_rows (x ∷ xs) row rows q = grind (arith, get-with_rows xs row (insert_by ids_total rows x row) q, get-insert_by ids_total rows x row q)
+get-with_rows (x ∷ xs) row rows q = grind (arith, get-with_rows xs row (insert_by ids_total rows x row) q,
+    get-insert_by ids_total rows x row q)
 
 -- ---- one id after the other
 
-pub row-put : (m n : RowMap) (id : Id) (v : Option RowState) → UpdatesBy id_cmp (id_cmp id) m n v → (x : Id) → indexed_row n.entries x ≡ cond (is_same_id x id) v (indexed_row m.entries x)
-row-put m n id v u x = grind (arith, u.0 x, is_same_id-symm id x)
-
-pub rows-more : (done : List Id) (id x : Id) (v o p : Option RowState) → p ≡ cond (has_id done x) v o → cond (is_same_id x id) v p ≡ cond (has_id (done ++ id ∷ []) x) v o
-rows-more done id x v o p e = grind (arith, e, has-more done id x)
-
 -- ---- all of them
 
--- the rows of ids that had none, once they are out again
-pub none-again : (rows : List (Id × RowState)) (ids done : List Id) (row : RowState) (x : Id) → AreFree (rows_of rows) ids → (has_id done x ≡ true → has_id ids x ≡ true)
-    → cond (has_id done x) None (cond (has_id done x) (Some row) (indexed_row rows x)) ≡ indexed_row rows x
-none-again rows ids done row x free some = grind (arith, some, none-from_free rows x, free x)
-
 pub rows-all : (m n : List (Id × RowState)) (ids : List Id) (row : RowState) → ((x : Id) → indexed_row n x ≡ cond (has_id ids x) (Some row) (indexed_row m x)) → rows_of n ≡ with_rows ids row (rows_of m)
-rows-all m n ids row is = same_rows _ _ (λ q. grind (arith, get-rows_of n q, is q, get-rows_of m q, get-with_rows ids row (rows_of m) q))
+rows-all m n ids row is = same_rows _ _ (λ q. grind (arith, get-rows_of n q, is q, get-rows_of m q,
+    get-with_rows ids row (rows_of m) q))
 
 pub agreed-all : (m n : List (Id × RowState)) (b : ConsumerIndex) (name : List ℕ) (ids : List Id) (row : RowState) → row.consumer ≡ name → AreFree (rows_of m) ids
     → AreAgreedBut m b name ids → ((x : Id) → indexed_row n x ≡ cond (has_id ids x) (Some row) (indexed_row m x)) → IsAgreed n b
-agreed-all m n b name ids row whose free but is q x = grind (arith, but q x, is x, none-from_free m x, free x, is_same_name-symm q name, whose)
+agreed-all m n b name ids row whose free but is q x = grind (arith, but q x, is x, none-from_free m x, free x,
+    is_same_name-symm q name, whose)
 
 -- rows that are what they were
 pub agreed-but : (m n : List (Id × RowState)) (b : ConsumerIndex) (name : List ℕ) (ids : List Id) → AreAgreedBut m b name ids
@@ -51,19 +41,24 @@ among-take (x ∷ xs) (suc i) q e = grind (arith, among-take xs i q, e)
 
 -- rows that are put where none was, and taken out again
 pub out-again : (ids : List Id) (row : RowState) (rows : Rows) → AreFree rows ids → change (unless_acked ids) (with_rows ids row rows) ≡ rows
-out-again ids row rows free = same_rows _ _ (λ q. grind (arith, get-changed (unless_acked ids) (with_rows ids row rows) q, get-with_rows ids row rows q, free q))
+out-again ids row rows free = same_rows _ _ (λ q. grind (arith,
+    get-changed (unless_acked ids) (with_rows ids row rows) q, get-with_rows ids row rows q, free q))
 
 -- ---- a consumer that is put and taken out again
 
 pub out-names : (names : Names) (name : List ℕ) → has_name names name ≡ false → remove (with_name names name) name ≡ names
-out-names names name none = same_names _ _ (λ q. grind (arith, get-remove nat_list_cmp_total (with_name names name) name q, has_name-with_name names name q, is_same_name-eq q name, none))
+out-names names name none = same_names _ _ (λ q. grind (arith,
+    get-remove nat_list_cmp_total (with_name names name) name q, has_name-with_name names name q,
+    is_same_name-eq q name, none))
 
 -- a consumer that isn't there has no rows
 pub unowned-rows : (names : Names) (rows : Rows) (name : List ℕ) → IsNamed names rows → has_name names name ≡ false → change (unless_owned name) rows ≡ rows
-unowned-rows names rows name named none = change-nothing (unless_owned name) rows (λ q. grind (arith, named name q, none))
+unowned-rows names rows name named none =
+    change-nothing (unless_owned name) rows (λ q. grind (arith, named name q, none))
 
 -- without the consumer that was put in, a group is what it was
-pub held-back : (held : PendingList) (name : List ℕ) → change (unless_owned name) held.rows ≡ held.rows → true ≡ not (has_name held.consumers name)
+pub held-back : (held : PendingList) (name : List ℕ) → change (unless_owned name) held.rows ≡ held.rows
+    → true ≡ not (has_name held.consumers name)
     → ◌≡◌ {A = PendingList} (record { consumers = remove (with_name held.consumers name) name; rows = change (unless_owned name) held.rows }) held
 held-back held name unowned new =
     let none : has_name held.consumers name ≡ false = grind (arith, new) in

@@ -1,10 +1,9 @@
 -- Lists and maps in the order of their keys.
-use Rattle.xs_group.proofs.Terms.{◌≡◌, ℕ, Bool, true, false, ◌&&◌, List, [], ◌∷◌, map, filter, Option}
-use Rattle.xs_group.proofs.Terms.{is_some, sym, ap, subst, ◌∙◌, refl, Ordering, T, find, below_all, is_sorted}
-use Rattle.xs_group.proofs.Terms.{same_entries, AllByRecursion, keys_of, IsOrdered, Less, sorted_head}
-use Rattle.xs_group.proofs.Terms.{sorted_tail, get-of_entries, Id, id_cmp, has_id, AllAbove}
-use Rattle.xs_group.proofs.Terms.{Ascends, same_id, is_same_id-eq, RowState, Rows, ids_total, is_same_name, owned_ids}
-use Rattle.xs_group.proofs.Terms.{rows_of, is_owner, arith}
+use Rattle.xs_group.proofs.Terms.{◌≡◌, ℕ, Bool, false, ◌&&◌, List, [], ◌∷◌, map, filter, is_some, sym, ap, subst, ◌∙◌}
+use Rattle.xs_group.proofs.Terms.{refl, Ordering, T, find, below_all, is_sorted, same_entries, AllByRecursion, keys_of}
+use Rattle.xs_group.proofs.Terms.{IsOrdered, Less, sorted_head, sorted_tail, get-of_entries, Id, id_cmp, has_id}
+use Rattle.xs_group.proofs.Terms.{AllAbove, Ascends, same_id, is_same_id-eq, RowState, Rows, ids_total, is_same_name}
+use Rattle.xs_group.proofs.Terms.{owned_ids, rows_of, is_owner, arith}
 use Rattle.std.specs.List.Sorted.{IsStrictlySortedBy}
 use Rattle.xs_bytes.specs.SortedMap.{get}
 use Rattle.xs_group.proofs.Views.{RowMap}
@@ -22,7 +21,8 @@ module _ {K X : Type 0} (R : K → K → Ordering) where
 
   pub is_sorted-from : (es : List (K × X)) → IsStrictlySortedBy R (keys_of es) → T (is_sorted R es)
   is_sorted-from [] s = tt
-  is_sorted-from (e ∷ es) s = grind (arith, below-from e.0 es (sorted_head R e.0 (keys_of es) s), is_sorted-from es (sorted_tail R e.0 (keys_of es) s))
+  is_sorted-from (e ∷ es) s = grind (arith, below-from e.0 es (sorted_head R e.0 (keys_of es) s),
+      is_sorted-from es (sorted_tail R e.0 (keys_of es) s))
 
   below-filter : (p : K × X → Bool) (k : K) (es : List (K × X)) → T (below_all R k es) → T (below_all R k (filter p es))
   below-filter p k [] h = tt

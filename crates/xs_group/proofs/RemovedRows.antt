@@ -1,11 +1,10 @@
 -- Rows that go: acknowledged ones, and those of a consumer that goes.
-use Rattle.xs_group.proofs.Terms.{◌≡◌, ℕ, ◌≤◌, suc, Bool, true, cond, List, [], ◌∷◌, ◌++◌, length, Option}
-use Rattle.xs_group.proofs.Terms.{Some, None, option_and_then, sym, ap, ◌∙◌, refl, arith, BTreeSet, list_any}
-use Rattle.xs_group.proofs.Terms.{nat_list_cmp_total, list_any-append, with_some, each, get, has_key, remove}
-use Rattle.xs_group.proofs.Terms.{empty, get-change, get-remove, get-empty, Id, id_cmp, is_same_id, has_id, same_id}
-use Rattle.xs_group.proofs.Terms.{is_same_id-symm, RowState, Rows, ids_total, is_same_name, unless_acked, unless_owned}
-use Rattle.xs_group.proofs.Terms.{rows_of, ConsumerIndex, names_of, ids_at, has_among, holds, is_owner, indexed_row}
-use Rattle.xs_group.proofs.Terms.{IsAgreed, IsNamed, IsUpTo}
+use Rattle.xs_group.proofs.Terms.{◌≡◌, ℕ, ◌≤◌, suc, Bool, true, cond, List, [], ◌∷◌, ◌++◌, length, Option, Some, None}
+use Rattle.xs_group.proofs.Terms.{option_and_then, sym, ap, ◌∙◌, refl, arith, BTreeSet, list_any, nat_list_cmp_total}
+use Rattle.xs_group.proofs.Terms.{list_any-append, with_some, each, get, has_key, remove, empty, get-change, get-remove}
+use Rattle.xs_group.proofs.Terms.{get-empty, Id, id_cmp, is_same_id, same_id, RowState, Rows}
+use Rattle.xs_group.proofs.Terms.{ids_total, is_same_name, unless_acked, unless_owned, rows_of, ConsumerIndex, names_of}
+use Rattle.xs_group.proofs.Terms.{ids_at, has_among, holds, is_owner, indexed_row, IsAgreed, IsNamed, IsUpTo}
 use Rattle.xs_bytes.specs.SortedMap.{change}
 use Rattle.xs_group.proofs.ByConsumer.{is_same_name-eq, is_same_name-symm}
 use Rattle.xs_group.proofs.Views.{same_rows, same_names, get-rows_of, has_name-names_of}
@@ -34,7 +33,8 @@ pub acked-none : (rows : Rows) → change (unless_acked []) rows ≡ rows
 acked-none rows = change-nothing (unless_acked []) rows (λ q. grind arith)
 
 pub acked-more : (ids : List Id) (id : Id) (rows : Rows) → remove (change (unless_acked ids) rows) id ≡ change (unless_acked (ids ++ id ∷ [])) rows
-acked-more ids id rows = same_rows _ _ (λ q. grind (arith, get-remove ids_total (change (unless_acked ids) rows) id q, get-changed (unless_acked ids) rows q,
+acked-more ids id rows = same_rows _ _ (λ q. grind (arith, get-remove ids_total (change (unless_acked ids) rows) id q,
+    get-changed (unless_acked ids) rows q,
     get-changed (unless_acked (ids ++ id ∷ [])) rows q, list_any-append (is_same_id q) ids (id ∷ [])))
 
 -- ---- a consumer that goes
@@ -42,16 +42,20 @@ acked-more ids id rows = same_rows _ _ (λ q. grind (arith, get-remove ids_total
 module _ (rows new : List (Id × RowState)) (a b : ConsumerIndex) (name : List ℕ) (agreed : IsAgreed rows a)
     (left : (x : Id) → indexed_row new x ≡ cond (holds a name x) None (indexed_row rows x)) where
   pub rows-without : rows_of new ≡ change (unless_owned name) (rows_of rows)
-  rows-without = same_rows _ _ (λ q. grind (arith, get-rows_of new q, left q, agreed name q, get-rows_of rows q, get-changed (unless_owned name) (rows_of rows) q))
+  rows-without = same_rows _ _ (λ q. grind (arith, get-rows_of new q, left q, agreed name q, get-rows_of rows q,
+      get-changed (unless_owned name) (rows_of rows) q))
 
   pub agreed-without : ((q : List ℕ) → ids_at b q ≡ cond (is_same_name name q) None (ids_at a q)) → IsAgreed new b
   agreed-without u q x = ap (λ o. has_among o x) (u q) ∙ by (is_same_name name q) (indexed_row rows x) refl refl where
-    by : (t : Bool) (o : Option RowState) → is_same_name name q ≡ t → indexed_row rows x ≡ o → has_among (cond t None (ids_at a q)) x ≡ is_owner (indexed_row new x) q
+    by : (t : Bool) (o : Option RowState) → is_same_name name q ≡ t → indexed_row rows x ≡ o
+        → has_among (cond t None (ids_at a q)) x ≡ is_owner (indexed_row new x) q
     by t None e f = grind (arith, left x, agreed q x)
-    by t (Some row) e f = grind (arith, left x, agreed name x, agreed q x, is_same_name-eq row.consumer name, is_same_name-eq name q)
+    by t (Some row) e f = grind (arith, left x, agreed name x, agreed q x, is_same_name-eq row.consumer name,
+        is_same_name-eq name q)
 
 pub names-without : (a b : ConsumerIndex) (name : List ℕ) → ((q : List ℕ) → ids_at b q ≡ cond (is_same_name name q) None (ids_at a q)) → names_of b ≡ remove (names_of a) name
-names-without a b name u = same_names _ _ (λ q. grind (arith, has_name-names_of b q, has_name-names_of a q, u q, is_same_name-symm name q,
+names-without a b name u = same_names _ _ (λ q. grind (arith, has_name-names_of b q, has_name-names_of a q, u q,
+    is_same_name-symm name q,
     get-remove nat_list_cmp_total (names_of a) name q))
 
 pub left-none : (rows : List (Id × RowState)) (a : ConsumerIndex) (name : List ℕ) → ids_at a name ≡ None → (x : Id) → indexed_row rows x ≡ cond (holds a name x) None (indexed_row rows x)
@@ -74,7 +78,3 @@ up_to-change f cursor rows up x e = up x (key-change f rows x e)
 
 pub named-agreed : (rows : List (Id × RowState)) (a : ConsumerIndex) → IsAgreed rows a → IsNamed (names_of a) (rows_of rows)
 named-agreed rows a agreed name x e = grind (arith, has_name-names_of a name, agreed name x, get-rows_of rows x, e)
-
--- one row more is out
-pub out-more : (id x : Id) (ids : List Id) (o p : Option RowState) → p ≡ cond (is_same_id id x) None o → cond (has_id ids x) None p ≡ cond (has_id (id ∷ ids) x) None o
-out-more id x ids o p e = grind (arith, is_same_id-symm id x, e)

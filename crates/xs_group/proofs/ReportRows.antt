@@ -1,14 +1,12 @@
 -- What is told of pending rows.
-use Rattle.xs_group.proofs.Terms.{◌≡◌, ℕ, ◌-◌, suc, Bool, true, false, cond, ◌&&◌}
-use Rattle.xs_group.proofs.Terms.{leb, List, [], ◌∷◌, map, filter, take, length, Option, Some, None}
-use Rattle.xs_group.proofs.Terms.{sym, ap, ◌∙◌, refl, subst, arith, T}
-use Rattle.xs_group.proofs.Terms.{AllByRecursion, slice_get, IsStrictlySortedBy, keys_of, IsOrdered}
-use Rattle.xs_group.proofs.Terms.{range_contains, entries_between, BTreeSet, Included, below_all, is_sorted}
-use Rattle.xs_group.proofs.Terms.{same_entries, nat_cmp, slice_cmp, nat_list_cmp_total}
-use Rattle.xs_group.proofs.Terms.{exact_bytes, keys, get-of_entries, Id, Range, id_cmp, is_below, is_within}
-use Rattle.xs_group.proofs.Terms.{between-within, filter-filter, PendingRow, Selection, RowState, is_same_name}
-use Rattle.xs_group.proofs.Terms.{idle, owned_ids, ConsumerIndex, names_of, ids_at, indexed_row, rows_of}
-use Rattle.xs_group.proofs.Terms.{last_id, pending_row, is_selected, below-not_below, is_idle}
+use Rattle.xs_group.proofs.Terms.{◌≡◌, ℕ, ◌-◌, suc, Bool, true, false, cond, ◌&&◌, leb, List, [], ◌∷◌, map, filter}
+use Rattle.xs_group.proofs.Terms.{take, length, Option, Some, None, sym, ap, ◌∙◌, refl, subst, arith, T, AllByRecursion}
+use Rattle.xs_group.proofs.Terms.{slice_get, IsStrictlySortedBy, keys_of, IsOrdered, range_contains, entries_between}
+use Rattle.xs_group.proofs.Terms.{BTreeSet, Included, below_all, is_sorted, same_entries, nat_cmp, slice_cmp}
+use Rattle.xs_group.proofs.Terms.{nat_list_cmp_total, exact_bytes, keys, get-of_entries, Id, Range, id_cmp, is_below}
+use Rattle.xs_group.proofs.Terms.{is_within, between-within, filter-filter, PendingRow, Selection, RowState}
+use Rattle.xs_group.proofs.Terms.{is_same_name, idle, owned_ids, ConsumerIndex, names_of, ids_at, indexed_row, rows_of}
+use Rattle.xs_group.proofs.Terms.{last_id, pending_row, is_selected, below-not_below}
 use Rattle.xs_bytes.specs.SortedMap.{get}
 use Rattle.xs_group.proofs.ByConsumer.{Index, is_same_name-symm, is_same_name-refl}
 use Rattle.xs_group.proofs.Ordered.{is_sorted-from, first, second}
@@ -32,11 +30,13 @@ AreHeld owners es = AllByRecursion (λ e. Some e.1 ≡ ids_at owners e.0) es
 
 held-later : (e : List ℕ × BTreeSet Id) (owners es : ConsumerIndex) → T (below_all (slice_cmp nat_cmp) e.0 es) → AreHeld owners es → AreHeld (e ∷ owners) es
 held-later e owners [] b a = tt
-held-later e owners (f ∷ fs) b a = (grind (arith, a.0, is_same_name-symm f.0 e.0, b), held-later e owners fs (second _ _ b) a.1)
+held-later e owners (f ∷ fs) b a = (grind (arith, a.0, is_same_name-symm f.0 e.0, b),
+    held-later e owners fs (second _ _ b) a.1)
 
 held-sorted : (owners : ConsumerIndex) → T (is_sorted (slice_cmp nat_cmp) owners) → AreHeld owners owners
 held-sorted [] s = tt
-held-sorted (e ∷ es) s = (grind (arith, is_same_name-refl e.0), held-later e es es (first _ _ s) (held-sorted es (second _ _ s)))
+held-sorted (e ∷ es) s = (grind (arith, is_same_name-refl e.0),
+    held-later e es es (first _ _ s) (held-sorted es (second _ _ s)))
 
 pub held-all : (m : Index) → IsOrdered (slice_cmp nat_cmp) m → AreHeld m.entries m.entries
 held-all m o = held-sorted m.entries (is_sorted-from (slice_cmp nat_cmp) m.entries o)
@@ -59,11 +59,13 @@ keys-names_of m o =
 -- ---- rows
 
 pub rows-between : (s : Selection) (rows : List (Id × RowState))
-    → filter (λ e. leb s.min_idle (idle s.moment e.1.time)) (entries_between id_cmp (Included s.range.low) (Included s.range.high) rows)
+    → filter (λ e. leb s.min_idle (idle s.moment e.1.time))
+        (entries_between id_cmp (Included s.range.low) (Included s.range.high) rows)
     ≡ filter (is_selected s.range s.min_idle s.moment None) rows
 rows-between s rows =
     filter-filter (λ (e : Id × RowState). range_contains id_cmp (Included s.range.low) (Included s.range.high) e.0)
-    (λ e. leb s.min_idle (idle s.moment e.1.time)) (is_selected s.range s.min_idle s.moment None) (λ e. grind (arith, between-within s.range e.0)) rows
+    (λ e. leb s.min_idle (idle s.moment e.1.time)) (is_selected s.range s.min_idle s.moment None)
+    (λ e. grind (arith, between-within s.range e.0)) rows
 
 -- a row before the others, where there is one
 abbrev pub with_row : Id → Option RowState → List (Id × RowState) → List (Id × RowState)
@@ -79,8 +81,11 @@ listed_rows rows (x ∷ xs) = with_row x (indexed_row rows x) (listed_rows rows 
 pub among-between : (range : Range) (rows : List (Id × RowState)) (ids : List Id)
     → listed_rows rows (filter (range_contains id_cmp (Included range.low) (Included range.high)) ids) ≡ filter (λ e. is_within range e.0) (listed_rows rows ids)
 among-between range rows [] = refl
-among-between range rows (x ∷ xs) = one (range_contains id_cmp (Included range.low) (Included range.high) x) (between-within range x) (indexed_row rows x) refl _ _ (among-between range rows xs) where
-  one : (t : Bool) → t ≡ is_within range x → (o : Option RowState) → indexed_row rows x ≡ o → (a : List Id) (b : List (Id × RowState)) → listed_rows rows a ≡ filter (λ e. is_within range e.0) b
+among-between range rows (x ∷ xs) =
+    one (range_contains id_cmp (Included range.low) (Included range.high) x) (between-within range x)
+    (indexed_row rows x) refl _ _ (among-between range rows xs) where
+  one : (t : Bool) → t ≡ is_within range x → (o : Option RowState) → indexed_row rows x ≡ o
+      → (a : List Id) (b : List (Id × RowState)) → listed_rows rows a ≡ filter (λ e. is_within range e.0) b
       → listed_rows rows (cond t (x ∷ a) a) ≡ filter (λ e. is_within range e.0) (with_row x o b)
   one t e None f a b r = grind (arith, e, f, r)
   one t e (Some row) f a b r = grind (arith, e, f, r)
@@ -88,11 +93,13 @@ among-between range rows (x ∷ xs) = one (range_contains id_cmp (Included range
 among-found : (rows es : List (Id × RowState)) → AreFound (rows_of rows).entries es → listed_rows rows (keys_of es) ≡ es
 unfolding get
 among-found rows [] a = refl
-among-found rows (e ∷ es) a = (λ i. with_row e.0 (sym (a.0 ∙ get-rows_of rows e.0) i) (listed_rows rows (keys_of es))) ∙ ap (λ rest. e ∷ rest) (among-found rows es a.1)
+among-found rows (e ∷ es) a = (λ i. with_row e.0 (sym (a.0 ∙ get-rows_of rows e.0) i) (listed_rows rows (keys_of es)))
+    ∙ ap (λ rest. e ∷ rest) (among-found rows es a.1)
 
 -- ---- what is asked
 
-pub asked-owned : (s : Selection) (name : List ℕ) (rows : List (Id × RowState)) (ids : List Id) → ids ≡ owned_ids name (rows_of rows).entries
+pub asked-owned : (s : Selection) (name : List ℕ) (rows : List (Id × RowState)) (ids : List Id)
+    → ids ≡ owned_ids name (rows_of rows).entries
     → filter (λ e. leb s.min_idle (idle s.moment e.1.time)) (filter (λ e. is_within s.range e.0) (listed_rows rows ids))
     ≡ filter (is_selected s.range s.min_idle s.moment (Some name)) (rows_of rows).entries
 asked-owned s name rows ids is =
@@ -101,9 +108,11 @@ asked-owned s name rows ids is =
     let within = λ (e : Id × RowState). is_within s.range e.0 in
     let is_idle = λ (e : Id × RowState). leb s.min_idle (idle s.moment e.1.time) in
     ap (λ k. filter is_idle (filter within (listed_rows rows k))) is
-    ∙ ap (λ es. filter is_idle (filter within es)) (among-found rows (filter mine all) (found-filter all all mine (found-all all (rows_of rows).sorted)))
+    ∙ ap (λ es. filter is_idle (filter within es))
+        (among-found rows (filter mine all) (found-filter all all mine (found-all all (rows_of rows).sorted)))
     ∙ ap (filter is_idle) (filter-filter mine within (λ e. mine e && within e) (λ e. refl) all)
-    ∙ filter-filter (λ e. mine e && within e) is_idle (is_selected s.range s.min_idle s.moment (Some name)) (λ e. grind arith) all
+    ∙ filter-filter (λ e. mine e && within e) is_idle (is_selected s.range s.min_idle s.moment (Some name))
+        (λ e. grind arith) all
 
 not_within : (range : Range) → is_below range.high range.low ≡ true → (x : Id) → is_within range x ≡ false
 not_within range h x = grind (arith, h, below-not_below range.high range.low x h)

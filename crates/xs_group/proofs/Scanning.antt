@@ -1,12 +1,11 @@
 -- The scanned part, met one id after another.
 use Rattle.xs_group.proofs.Terms.{◌≡◌, ℕ, ◌+◌, ◌*◌, Bool, true, false, cond, not, ◌&&◌, ◌||◌, leb, List, [], ◌∷◌, ◌++◌}
-use Rattle.xs_group.proofs.Terms.{map, filter, length, drop, Some, sym, ap, ◌∙◌, refl, add-zero, arith, append_assoc}
-use Rattle.xs_group.proofs.Terms.{T, below_all, is_sorted, AllByRecursion, entries_between}
-use Rattle.xs_group.proofs.Terms.{Included, Unbounded, Id, id_cmp}
-use Rattle.xs_group.proofs.Terms.{is_same_id-symm, is_same_id-refl, le-not_below, Scan, Verdict, Rule, row_at, is_taken}
-use Rattle.xs_group.proofs.Terms.{is_removed, is_hit, from_start, prefixes, first_where, scanned_part, first_or_zero}
-use Rattle.xs_group.proofs.Terms.{scan_of, RowState, is_taken_by, is_removed_by, with_taken, with_removed}
-use Rattle.xs_group.proofs.Terms.{scanned_after}
+use Rattle.xs_group.proofs.Terms.{map, filter, length, drop, Some, sym, ap, ◌∙◌, refl, add-zero, arith, append_assoc, T}
+use Rattle.xs_group.proofs.Terms.{below_all, is_sorted, AllByRecursion, entries_between, Included, Unbounded, Id}
+use Rattle.xs_group.proofs.Terms.{id_cmp, is_same_id-symm, is_same_id-refl, le-not_below, Scan, Verdict, Rule, row_at}
+use Rattle.xs_group.proofs.Terms.{is_taken, is_removed, is_hit, from_start, prefixes, first_where, scanned_part}
+use Rattle.xs_group.proofs.Terms.{first_or_zero, scan_of, RowState, is_taken_by, is_removed_by, with_taken}
+use Rattle.xs_group.proofs.Terms.{with_removed, scanned_after}
 use Rattle.xs_group.proofs.Ordered.{first, second}
 
 -- ---- the shortest prefix that is enough
@@ -55,11 +54,13 @@ AreFound rows es = AllByRecursion (λ e. Some e.1 ≡ row_at rows e.0) es
 
 found-later : (e : Id × RowState) (rows es : List (Id × RowState)) → T (below_all id_cmp e.0 es) → AreFound rows es → AreFound (e ∷ rows) es
 found-later e rows [] b a = tt
-found-later e rows (f ∷ fs) b a = (grind (arith, a.0, is_same_id-symm f.0 e.0, b), found-later e rows fs (second _ _ b) a.1)
+found-later e rows (f ∷ fs) b a = (grind (arith, a.0, is_same_id-symm f.0 e.0, b),
+    found-later e rows fs (second _ _ b) a.1)
 
 pub found-all : (rows : List (Id × RowState)) → T (is_sorted id_cmp rows) → AreFound rows rows
 found-all [] s = tt
-found-all (e ∷ es) s = (grind (arith, is_same_id-refl e.0), found-later e es es (first _ _ s) (found-all es (second _ _ s)))
+found-all (e ∷ es) s = (grind (arith, is_same_id-refl e.0),
+    found-later e es es (first _ _ s) (found-all es (second _ _ s)))
 
 pub found-filter : (rows es : List (Id × RowState)) (p : Id × RowState → Bool) → AreFound rows es → AreFound rows (filter p es)
 found-filter rows [] p a = tt

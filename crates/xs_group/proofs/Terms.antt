@@ -2,11 +2,10 @@
 pub use Rattle.std.proofs.Common.{◌≡◌, ℕ, Bool, true, false, cond, not, ◌&&◌, ◌||◌, List, [], Option, Some, None}
 pub use Rattle.std.proofs.Common.{is_some, Result, Ok, Err, OnErr, sym, ap, ◌∙◌, refl, BTreeMap, ◌+◌, ◌*◌, inl, inr}
 pub use Rattle.std.proofs.Common.{leb, ◌∷◌, map, filter, option_and_then, subst, Ordering, ◌≤◌, ◌++◌, arith, suc, zero}
-pub use Rattle.std.proofs.Common.{take, length, ◌-◌, ◌<◌, ◌⊎◌, IsSome, ◌↔◌, append-nil, take_all, drop, add-zero}
-pub use Rattle.std.proofs.Common.{append_assoc, get_or, Vec, Global, rules, IfOk, eqb, ltb}
-pub use Rattle.std.proofs.Math.Bool.{or_assoc, or-false, and-true, and-false}
+pub use Rattle.std.proofs.Common.{take, length, ◌-◌, ◌<◌, append-nil, drop, add-zero, append_assoc, get_or, Vec, Global}
+pub use Rattle.std.proofs.Common.{rules, IfOk, eqb, ltb}
+pub use Rattle.std.proofs.Math.Bool.{or-false}
 pub use Rattle.std.proofs.Math.Dec.{T}
-pub use Rattle.std.proofs.Math.Seq.{take-append_seam}
 pub use Rattle.std.proofs.lemmas.Bool.{false≢true}
 pub use Rattle.std.proofs.lemmas.Bool.Decides.{nat_tests}
 pub use Rattle.std.proofs.lemmas.Cmp.{tied_itself}
@@ -27,14 +26,14 @@ pub use Rattle.std.specs.List.{list_any, AllByRecursion, slice_get}
 pub use Rattle.std.specs.List.Sorted.{IsStrictlySortedBy}
 pub use Rattle.std.specs.Map.{keys_of, lookup}
 pub use Rattle.std.specs.Option.{option_map}
-pub use Rattle.std.specs.Ordering.{nat_cmp, is_eq, is_lt, eq_by_cmp}
+pub use Rattle.std.specs.Ordering.{nat_cmp, is_eq, eq_by_cmp}
 pub use Rattle.std.specs.Vec.Iter.{into_iter_items}
-pub use Rattle.std.specs.declared.cmp.Ordering.TheVariants.{Less, Equal, Greater}
+pub use Rattle.std.specs.declared.cmp.Ordering.TheVariants.{Less}
 pub use Rattle.std.specs.declared.ops.Bound.TheVariants.{Included, Unbounded}
 pub use Rattle.xs_bytes.proofs.SortedMaps.{get-insert_by, get-remove, get-of_entries, get-change, get-empty, same_map}
 pub use Rattle.xs_bytes.specs.Each.{with_some, each}
 pub use Rattle.xs_bytes.specs.SortedMap.{get, has_key, change, remove, insert_by, empty, keys}
-pub use Rattle.xs_stream.proofs.InOrder.{between-within, filter-filter, and_yes, limited-none}
+pub use Rattle.xs_stream.proofs.InOrder.{between-within, filter-filter, limited-none}
 pub use Rattle.xs_stream.proofs.Lending.{is-lent}
 pub use Rattle.xs_stream.proofs.Order.{is_same_id-eq, is_same_id-symm, equal-from, below-not_back, below-irrefl}
 pub use Rattle.xs_stream.proofs.Order.{not_above-trans, same_id, below-not_below, is_same_id-refl, le-not_below}
@@ -45,7 +44,7 @@ pub use Rattle.xs_stream.specs.StreamContent.{fields_at}
 pub use Rattle.xs_stream.specs.declared.id.Id.{Id}
 pub use Rattle.xs_stream.specs.declared.range.Range.{Range}
 pub use Rattle.xs_group.specs.Claims.{Rule, is_taken, is_hit, without_repeats, from_start, scanned_part}
-pub use Rattle.xs_group.specs.Claims.{row_after_claim, claimed_row, row_at, is_idle, is_removed, prefixes, first_where}
+pub use Rattle.xs_group.specs.Claims.{row_after_claim, claimed_row, row_at, is_removed, prefixes, first_where}
 pub use Rattle.xs_group.specs.Claims.{first_or_zero, scan_of}
 pub use Rattle.xs_group.specs.ConsistentGroup.{IsUpTo, IsConsistentGroup}
 pub use Rattle.xs_group.specs.Deliveries.{touch_of, shown_row, shown_rows, touch_set, with_touch, touched_at, set_one}
@@ -53,17 +52,16 @@ pub use Rattle.xs_group.specs.Deliveries.{set_rows, row_ids, delivery_of, histor
 pub use Rattle.xs_group.specs.Deliveries.{without_made, unmade, IsDelivered, IsReread, IsMade}
 pub use Rattle.xs_group.specs.GroupState.{RowState, Rows, Names, is_same_name, with_name, has_name, GroupState}
 pub use Rattle.xs_group.specs.GroupState.{unless_acked, last_of, with_rows, ids_total, unless_owned, owned_ids, idle}
-pub use Rattle.xs_group.specs.GroupState.{redelivered_row, row_after_reread, new_ids, first_row, own_ids}
-pub use Rattle.xs_group.specs.GroupState.{group_after_delivery, group_after_reread}
+pub use Rattle.xs_group.specs.GroupState.{row_after_reread, new_ids, first_row, own_ids, group_after_delivery}
+pub use Rattle.xs_group.specs.GroupState.{group_after_reread}
 pub use Rattle.xs_group.specs.Indexes.{rows_of, PendingList, ConsumerIndex, names_of, ids_at, has_among, holds}
 pub use Rattle.xs_group.specs.Indexes.{is_owner, indexed_row, IsAgreed, AreFree, IsNamed}
-pub use Rattle.xs_group.specs.Report.{first_id, last_id, pending_row, is_of, is_selected, counts_of_owners}
+pub use Rattle.xs_group.specs.Report.{first_id, last_id, pending_row, is_selected, counts_of_owners}
 pub use Rattle.xs_group.specs.Verdict.{moved, scanned_after, AreDistinct, IsClaimOn, is_taken_by, is_removed_by}
 pub use Rattle.xs_group.specs.Verdict.{verdict_of, with_taken, with_removed, hits_of, AreAgreedBut, AreSomeOf}
 pub use Rattle.xs_group.specs.declared.claims.Claim.{Claim}
 pub use Rattle.xs_group.specs.declared.claims.Scan.{Scan}
 pub use Rattle.xs_group.specs.declared.claims.Verdict.{Verdict}
-pub use Rattle.xs_group.specs.declared.claims.Verdict.TheVariants.{Passed, Taken, Removed}
 pub use Rattle.xs_group.specs.declared.delivery.Delivery.{Delivery}
 pub use Rattle.xs_group.specs.declared.delivery.DeliveryRow.{DeliveryRow}
 pub use Rattle.xs_group.specs.declared.delivery.Touch.{Touch}

@@ -1,10 +1,9 @@
 -- Times and counts that are set.
-use Rattle.xs_group.proofs.Terms.{◌≡◌, ℕ, cond, List, [], ◌∷◌, ◌++◌, map, Option, Some}
-use Rattle.xs_group.proofs.Terms.{None, sym, ap, refl, UpdatesBy, get, change, Id, id_cmp}
-use Rattle.xs_group.proofs.Terms.{is_same_id, has_id, is_same_id-eq, is_same_id-symm, Touch, DeliveryRow, RowState}
-use Rattle.xs_group.proofs.Terms.{Rows, row_after_reread, rows_of, ConsumerIndex}
-use Rattle.xs_group.proofs.Terms.{indexed_row, IsAgreed, shown_row, shown_rows, touch_set, with_touch}
-use Rattle.xs_group.proofs.Terms.{touched_at, set_one, set_rows, row_ids, arith}
+use Rattle.xs_group.proofs.Terms.{◌≡◌, ℕ, cond, List, [], ◌∷◌, ◌++◌, map, Option, Some, None, sym, ap, refl, UpdatesBy}
+use Rattle.xs_group.proofs.Terms.{get, change, Id, id_cmp, is_same_id, has_id, is_same_id-eq, is_same_id-symm, Touch}
+use Rattle.xs_group.proofs.Terms.{DeliveryRow, RowState, Rows, row_after_reread, rows_of, ConsumerIndex, indexed_row}
+use Rattle.xs_group.proofs.Terms.{IsAgreed, shown_row, shown_rows, touch_set, with_touch, touched_at, set_one, set_rows}
+use Rattle.xs_group.proofs.Terms.{row_ids, arith}
 use Rattle.xs_group.proofs.Views.{RowMap, get-rows_of, same_rows}
 use Rattle.xs_group.proofs.RemovedRows.{get-changed, change-nothing}
 
@@ -17,11 +16,14 @@ touched (Some touch) (Some row) = Some (with_touch touch row)
 
 pub rows-touched : (m n : RowMap) (id : Id) (touch : Touch) (row : RowState) → indexed_row m.entries id ≡ Some row → UpdatesBy id_cmp (id_cmp id) m n (Some (with_touch touch row))
     → rows_of n.entries ≡ set_one id (Some touch) (rows_of m.entries)
-rows-touched m n id touch row found u = same_rows _ _ (λ q. grind (arith, get-rows_of n.entries q, get-rows_of m.entries q, get-changed (touched_at id touch) (rows_of m.entries) q, u.0 q,
+rows-touched m n id touch row found u =
+    same_rows _ _ (λ q. grind (arith, get-rows_of n.entries q, get-rows_of m.entries q,
+    get-changed (touched_at id touch) (rows_of m.entries) q, u.0 q,
     is_same_id-symm id q, is_same_id-eq q id, found))
 
 pub untouched : (rows : Rows) (id : Id) (touch : Touch) → get rows id ≡ None → rows ≡ set_one id (Some touch) rows
-untouched rows id touch none = sym (change-nothing (touched_at id touch) rows (λ q. grind (arith, is_same_id-eq q id, none)))
+untouched rows id touch none =
+    sym (change-nothing (touched_at id touch) rows (λ q. grind (arith, is_same_id-eq q id, none)))
 
 pub agreed-touched : (m n : RowMap) (a : ConsumerIndex) (id : Id) (touch : Touch) (row : RowState) → IsAgreed m.entries a → indexed_row m.entries id ≡ Some row
     → UpdatesBy id_cmp (id_cmp id) m n (Some (with_touch touch row)) → IsAgreed n.entries a
@@ -41,17 +43,21 @@ get-set_rows : (now : Option ℕ) (make : Id → DeliveryRow) → ((x : Id) → 
     → get (set_rows now (map make ids) rows) q ≡ cond (has_id ids q) (touched (touch_set now (make q)) (get rows q)) (get rows q)
 get-set_rows now make is [] rows q = refl
 get-set_rows now make is (x ∷ xs) rows q =
-    grind (arith, get-set_rows now make is xs (set_one (make x).id (touch_set now (make x)) rows) q, get-set_one (make x).id (touch_set now (make x)) rows q,
+    grind (arith, get-set_rows now make is xs (set_one (make x).id (touch_set now (make x)) rows) q,
+        get-set_one (make x).id (touch_set now (make x)) rows q,
     is x, is_same_id-eq q x, twice (touch_set now (make q)) (get rows q))
 
 -- a read of the consumer's own entries
 pub rows-reread : (now : ℕ) (present ids : List Id) (rows : Rows) → set_rows (Some now) (shown_rows rows present ids) rows ≡ change (row_after_reread now ids present) rows
-rows-reread now present ids rows = same_rows _ _ (λ q. grind (arith, get-set_rows (Some now) (shown_row rows present) (λ x. refl) ids rows q,
+rows-reread now present ids rows =
+    same_rows _ _ (λ q. grind (arith, get-set_rows (Some now) (shown_row rows present) (λ x. refl) ids rows q,
     get-changed (row_after_reread now ids present) rows q))
 
 -- and taken back
 pub rows-unread : (now : ℕ) (present ids : List Id) (rows : Rows) → set_rows None (shown_rows rows present ids) (change (row_after_reread now ids present) rows) ≡ rows
-rows-unread now present ids rows = same_rows _ _ (λ q. grind (arith, get-set_rows None (shown_row rows present) (λ x. refl) ids (change (row_after_reread now ids present) rows) q,
+rows-unread now present ids rows =
+    same_rows _ _ (λ q. grind (arith,
+    get-set_rows None (shown_row rows present) (λ x. refl) ids (change (row_after_reread now ids present) rows) q,
     get-changed (row_after_reread now ids present) rows q))
 
 pub set_rows-more : (now : Option ℕ) (rs : List DeliveryRow) (r : DeliveryRow) (rows : Rows) → set_one r.id (touch_set now r) (set_rows now rs rows) ≡ set_rows now (rs ++ r ∷ []) rows

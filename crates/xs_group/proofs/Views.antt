@@ -1,10 +1,9 @@
 -- The maps that the two indexes are seen as.
-use Rattle.xs_group.proofs.Terms.{◌≡◌, ℕ, cond, List, [], ◌∷◌, map, Option, Some, None, is_some, sym}
-use Rattle.xs_group.proofs.Terms.{ap, ◌∙◌, refl, BTreeMap, Ordering, find, lookup, UpdatesBy, is_at, nat_cmp, eq_by_cmp}
-use Rattle.xs_group.proofs.Terms.{slice_cmp, nat_list_cmp_total, exact_bytes, get, remove, get-of_entries, get-remove}
-use Rattle.xs_group.proofs.Terms.{same_map, Id, id_cmp, same_id, is_same_id-symm, RowState, Rows, Names}
-use Rattle.xs_group.proofs.Terms.{has_name, ids_total, rows_of, ConsumerIndex, names_of, ids_at}
-use Rattle.xs_group.proofs.Terms.{indexed_row, arith}
+use Rattle.xs_group.proofs.Terms.{◌≡◌, ℕ, cond, List, [], ◌∷◌, map, Option, Some, None, is_some, sym, ap, ◌∙◌, refl}
+use Rattle.xs_group.proofs.Terms.{BTreeMap, Ordering, find, lookup, UpdatesBy, is_at, nat_cmp, eq_by_cmp, slice_cmp}
+use Rattle.xs_group.proofs.Terms.{nat_list_cmp_total, exact_bytes, get, remove, get-of_entries, get-remove, same_map}
+use Rattle.xs_group.proofs.Terms.{Id, id_cmp, same_id, is_same_id-symm, RowState, Rows, Names, has_name, ids_total}
+use Rattle.xs_group.proofs.Terms.{rows_of, ConsumerIndex, names_of, ids_at, indexed_row, arith}
 
 pub find-lookup : {K X : Type 0} (R : K → K → Ordering) (q : K) (es : List (K × X)) → find R q es ≡ lookup (is_at (R q)) es
 find-lookup R q [] = refl
@@ -35,7 +34,8 @@ same_names m n is = same_map nat_list_cmp_total exact_bytes m n (λ q. unit_same
 
 -- indexes of the same consumers
 pub names-same : (a b : ConsumerIndex) → ((q : List ℕ) → is_some (ids_at a q) ≡ is_some (ids_at b q)) → names_of a ≡ names_of b
-names-same a b is = same_names (names_of a) (names_of b) (λ q. grind (arith, has_name-names_of a q, is q, has_name-names_of b q))
+names-same a b is = same_names (names_of a) (names_of b) (λ q. grind (arith, has_name-names_of a q, is q,
+    has_name-names_of b q))
 
 pub same_rows : (m n : Rows) → ((q : Id) → get m q ≡ get n q) → m ≡ n
 same_rows m n is = same_map ids_total same_id m n is
@@ -49,4 +49,5 @@ abbrev pub RowMap : Type 0
 RowMap = BTreeMap Id RowState
 
 pub rows-remove : (m n : RowMap) (id : Id) → UpdatesBy id_cmp (id_cmp id) m n None → rows_of n.entries ≡ remove (rows_of m.entries) id
-rows-remove m n id u = same_rows _ _ (λ q. grind (arith, get-rows_of n.entries q, u.0 q, is_same_id-symm id q, get-rows_of m.entries q, get-remove ids_total (rows_of m.entries) id q))
+rows-remove m n id u = same_rows _ _ (λ q. grind (arith, get-rows_of n.entries q, u.0 q, is_same_id-symm id q,
+    get-rows_of m.entries q, get-remove ids_total (rows_of m.entries) id q))

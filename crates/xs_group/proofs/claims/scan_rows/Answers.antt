@@ -19,15 +19,21 @@ loop-id-init c =
     let rows = (rows_of c.args.rows.now.entries).entries in
     let present = ids_of c.args.stream.now.entries in
     let hit = is_hit rows present c.args.terms.now.moment c.args.terms.now.rule in
-    let is : c.into_iter-id-iterator.result ≡ entries_between id_cmp (Included c.args.start) Unbounded rows = c.into_iter-id-iterator.ensures.into_iter_gives ∙ c.range-past.ensures.between tt
-    ∙ ap (entries_between id_cmp (Included c.args.start) Unbounded) (sym (entries-rows_of c.args.rows.now c.range-past.ensures.ordered)) in
+    let is : c.into_iter-id-iterator.result ≡ entries_between id_cmp (Included c.args.start) Unbounded rows =
+        c.into_iter-id-iterator.ensures.into_iter_gives ∙ c.range-past.ensures.between tt
+    ∙ ap (entries_between id_cmp (Included c.args.start) Unbounded)
+        (sym (entries-rows_of c.args.rows.now c.range-past.ensures.ordered)) in
     let all : keys c.into_iter-id-iterator.result ≡ from_start c.args.start rows = ap keys is ∙ keys-between c.args.start rows in
     let few : length c.into_iter-id-iterator.result < 18446744073709551616 = omega (arith, c.range-past.ensures.fits, ap length c.into_iter-id-iterator.ensures.into_iter_gives) in
     record {
       few = omega arith;
       small = omega arith;
-      found = subst (AreFound rows) (sym is) (found-filter rows rows (λ e. range_contains id_cmp (Included c.args.start) Unbounded e.0) (found-all rows (rows_of c.args.rows.now.entries).sorted));
-      taken = (λ i. c.new-found.ensures.take i ++ filter (is_taken rows present c.args.terms.now.moment c.args.terms.now.rule) (scanned_after hit c.args.limit 0 0 (all i)));
+      found = subst (AreFound rows) (sym is)
+          (found-filter rows rows (λ e. range_contains id_cmp (Included c.args.start) Unbounded e.0)
+          (found-all rows (rows_of c.args.rows.now.entries).sorted));
+      taken = (λ i. c.new-found.ensures.take i ++ filter
+          (is_taken rows present c.args.terms.now.moment c.args.terms.now.rule)
+          (scanned_after hit c.args.limit 0 0 (all i)));
       removed = (λ i. c.new-found.ensures.removed i ++ filter (is_removed rows present) (scanned_after hit c.args.limit 0 0 (all i)));
       cursor = ap (λ ks. first_or_zero (drop (length (scanned_after hit c.args.limit 0 0 ks)) ks)) all;
     }

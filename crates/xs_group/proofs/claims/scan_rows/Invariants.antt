@@ -17,7 +17,8 @@ invariant-loop-id l =
       few : l.hits ≤ l.seen;
       small : l.seen + length l.id-iterator < 18446744073709551616;
       found : AreFound rows l.id-iterator;
-      taken : l.found.take.items ++ filter (is_taken rows present l.terms.moment l.terms.rule) more ≡ filter (is_taken rows present l.terms.moment l.terms.rule) part;
+      taken : l.found.take.items ++ filter (is_taken rows present l.terms.moment l.terms.rule) more
+          ≡ filter (is_taken rows present l.terms.moment l.terms.rule) part;
       removed : l.found.removed.items ++ filter (is_removed rows present) more ≡ filter (is_removed rows present) part;
       cursor : first_or_zero (drop (length more) rest) ≡ first_or_zero (drop (length part) all);
     }

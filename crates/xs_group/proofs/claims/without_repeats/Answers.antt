@@ -1,6 +1,6 @@
 use Rattle.xs_group.proofs.Terms.{◌≡◌, ◌+◌, Bool, true, false, cond, ◌||◌, get_or, take, sym, ap, ◌∙◌, ◌++◌, ◌∷◌, []}
-use Rattle.xs_group.proofs.Terms.{Vec, Global, contains, take_more, Id, id_cmp, is_same_id, has_id}
-use Rattle.xs_group.proofs.Terms.{is_same_id-symm, without_repeats, arith}
+use Rattle.xs_group.proofs.Terms.{Vec, Global, contains, take_more, Id, id_cmp, has_id, is_same_id-symm}
+use Rattle.xs_group.proofs.Terms.{without_repeats, arith}
 use Rattle.xs_group.proofs.claims.without_repeats.Goals as goal
 use Rattle.xs_group.proofs.claims.without_repeats.Goals.{then-branch+in_ok-push, else-branch, Joined-branch}
 use Rattle.xs_group.proofs.ChosenIds.{without_repeats-more, has-more, had}
@@ -10,11 +10,10 @@ one b c = grind arith
 
 seen : (c : Joined-branch) → (q : Id) → contains id_cmp c.insert.new.self q ≡ has_id (take (c.loop-id.id-index + 1) c.args.ids.now) q
 seen c q =
-    let done = take c.loop-id.id-index c.args.ids.now in
     let id = get_or c.args.ids.now c.loop-id.id-index (record { ms = 0; seq = 0 }) in
     let next = take_more c.args.ids.now c.loop-id.id-index (record { ms = 0; seq = 0 }) c.loop-id-test.true in
-    c.in_ok-insert.ensures.updates.0 q ∙ one (contains id_cmp c.loop-id.seen q) (is_same_id id q) ∙ ap (λ b. b || is_same_id id q) (c.loop-id.invariant.1 q)
-    ∙ ap (λ b. has_id done q || b) (is_same_id-symm id q) ∙ sym (has-more done id q) ∙ ap (λ ids. has_id ids q) (sym next)
+    grind (arith, next, c.in_ok-insert.ensures.updates.0 q, c.loop-id.invariant.1 q, is_same_id-symm id q,
+        has-more (take c.loop-id.id-index c.args.ids.now) id q)
 
 pub loop-id-preserved : goal.loop-id-preserved
 loop-id-preserved c =

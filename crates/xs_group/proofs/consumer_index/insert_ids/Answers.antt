@@ -1,6 +1,4 @@
-use Rattle.xs_group.proofs.Terms.{◌||◌, get_or, take, sym, ap, ◌∙◌, take_more, contains, list_any, id_cmp, is_same_id}
-use Rattle.xs_group.proofs.Terms.{has_id, is_same_id-symm, arith, keys}
-use Rattle.xs_group.proofs.ByConsumer.{contains-more}
+use Rattle.xs_group.proofs.Terms.{get_or, take, ap, ◌∙◌, take_more, list_any, is_same_id, is_same_id-symm, arith}
 use Rattle.xs_group.proofs.ChosenIds.{has-more}
 use Rattle.xs_group.proofs.MovedRows.{some-take}
 use Rattle.xs_group.proofs.consumer_index.insert_ids.Goals as goal
@@ -16,4 +14,5 @@ pub loop-id-preserved : goal.loop-id-preserved
 loop-id-preserved c =
     let next = take_more c.args.ids.now c.loop-id.id-index (record { ms = 0; seq = 0 }) c.loop-id-test.true in
     let id = get_or c.args.ids.now c.loop-id.id-index (record { ms = 0; seq = 0 }) in
-    λ x. grind (arith, next, c.in-Ok.ensures.updates.0 x, is_same_id-symm id x, c.loop-id.invariant x, has-more (take c.loop-id.id-index c.args.ids.now) id x)
+    λ x. grind (arith, next, c.in-Ok.ensures.updates.0 x, is_same_id-symm id x, c.loop-id.invariant x,
+        has-more (take c.loop-id.id-index c.args.ids.now) id x)

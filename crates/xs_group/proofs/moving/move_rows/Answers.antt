@@ -1,5 +1,5 @@
-use Rattle.xs_group.proofs.Terms.{◌≡◌, map, option_and_then, ◌∷◌, sym, ap, ◌∙◌, subst, into_iter_items, Id, indexed_row}
-use Rattle.xs_group.proofs.Terms.{moved, AreDistinct, AreAgreedBut}
+use Rattle.xs_group.proofs.Terms.{◌≡◌, map, ◌∷◌, sym, ap, ◌∙◌, subst, into_iter_items, Id, indexed_row, AreDistinct}
+use Rattle.xs_group.proofs.Terms.{AreAgreedBut, arith}
 use Rattle.xs_group.proofs.MovedRows.{rows-left, tails}
 use Rattle.xs_group.proofs.moving.move_rows.Goals as goal
 
@@ -15,8 +15,11 @@ loop-share-preserved c =
     record {
       left = tails c.in-Some.share name (into_iter_items c.next.new.self) (map (λ (x : Id). name) rest) (sym steps ∙ inv.left ∙ ap (map (λ (x : Id). name)) todo);
       apart = apart.1;
-      agreed = c.move_row.ensures.agreed rest apart.0 (subst (AreAgreedBut c.loop-share.rows.entries c.loop-share.owners.entries name) todo inv.agreed);
-      rows = λ x. rows-left name c.args.terms.now.moment c.args.terms.now.rule id rest x (indexed_row c.loop-share.rows.entries x) (indexed_row c.move_row.new.rows.entries x) apart.0 (c.move_row.ensures.rows x)
-          ∙ ap (λ ids. option_and_then (moved name c.args.terms.now.moment c.args.terms.now.rule ids x) (indexed_row c.loop-share.rows.entries x)) (sym todo) ∙ inv.rows x;
+      agreed = c.move_row.ensures.agreed rest apart.0
+          (subst (AreAgreedBut c.loop-share.rows.entries c.loop-share.owners.entries name) todo inv.agreed);
+      rows = λ x. grind (arith, rows-left name c.args.terms.now.moment c.args.terms.now.rule id rest x
+          (indexed_row c.loop-share.rows.entries x) (indexed_row c.move_row.new.rows.entries x) apart.0
+          (c.move_row.ensures.rows x),
+          todo, inv.rows x);
       names = λ n. c.move_row.ensures.names n ∙ inv.names n;
     }

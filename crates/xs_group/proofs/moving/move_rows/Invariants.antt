@@ -8,6 +8,8 @@ invariant-loop-share l = record {
   left : into_iter_items l.share-iterator ≡ map (λ x. l.fn.name) l.todo;
   apart : AreDistinct l.todo;
   agreed : AreAgreedBut l.rows.entries l.owners.entries l.fn.name l.todo;
-  rows : (x : Id) → option_and_then (moved l.fn.name l.terms.moment l.terms.rule l.todo x) (indexed_row l.rows.entries x) ≡ option_and_then (moved l.fn.name l.terms.moment l.terms.rule l.fn.ids x) (indexed_row l.fn.rows.entries x);
+  rows : (x : Id) → option_and_then (moved l.fn.name l.terms.moment l.terms.rule l.todo x)
+      (indexed_row l.rows.entries x)
+      ≡ option_and_then (moved l.fn.name l.terms.moment l.terms.rule l.fn.ids x) (indexed_row l.fn.rows.entries x);
   names : (n : List ℕ) → is_some (ids_at l.owners.entries n) ≡ is_some (ids_at l.fn.owners.entries n);
 }

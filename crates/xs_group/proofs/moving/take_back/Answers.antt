@@ -1,8 +1,8 @@
-use Rattle.xs_group.proofs.Terms.{◌≡◌, ◌&&◌, get_or, take, sym, ap, ◌∙◌, not, arith, take_more, is_same_id, has_id}
-use Rattle.xs_group.proofs.Terms.{is_same_name, holds, is_owner, indexed_row}
+use Rattle.xs_group.proofs.Terms.{◌≡◌, ◌&&◌, get_or, take, ap, ◌∙◌, not, arith, take_more, has_id, is_same_name, holds}
+use Rattle.xs_group.proofs.Terms.{is_owner, indexed_row}
 use Rattle.std.proofs.lemmas.List.{take_all}
 use Rattle.xs_group.proofs.ChosenIds.{has-more}
-use Rattle.xs_group.proofs.MovedRows.{and-more, agreed-again}
+use Rattle.xs_group.proofs.MovedRows.{agreed-again}
 use Rattle.xs_group.proofs.moving.take_back.Goals as goal
 
 pub loop-id-preserved : goal.loop-id-preserved
@@ -11,7 +11,8 @@ loop-id-preserved c =
     let id = get_or c.args.ids.now c.loop-id.id-index (record { ms = 0; seq = 0 }) in
     record {
       names = λ q. c.take_back_one.ensures.names q ∙ c.loop-id.invariant.names q;
-      back = λ q x. grind (arith, next, c.take_back_one.ensures.ids q x, c.loop-id.invariant.back q x, has-more (take c.loop-id.id-index c.args.ids.now) id x);
+      back = λ q x. grind (arith, next, c.take_back_one.ensures.ids q x, c.loop-id.invariant.back q x,
+          has-more (take c.loop-id.id-index c.args.ids.now) id x);
     }
 
 pub returns-clause-agreed : goal.returns-clause-agreed

@@ -10,8 +10,10 @@ loop-id-init c =
     let s = c.args.selection.now in
     let is = c.into_iter-id-iterator.ensures.into_iter_gives ∙ c.range-within.ensures.between tt in
     rw (c.in_ok-found.ensures.items) (
-      ap (λ ids. map (pending_row s.moment) (filter (λ e. leb s.min_idle (idle s.moment e.1.time)) (listed_rows c.args.rows.now.entries ids))) is
-          ∙ ap (λ es. map (pending_row s.moment) (filter (λ e. leb s.min_idle (idle s.moment e.1.time)) es)) (among-between s.range c.args.rows.now.entries c.args.ids.now.keys),
+      ap (λ ids. map (pending_row s.moment)
+          (filter (λ e. leb s.min_idle (idle s.moment e.1.time)) (listed_rows c.args.rows.now.entries ids))) is
+          ∙ ap (λ es. map (pending_row s.moment) (filter (λ e. leb s.min_idle (idle s.moment e.1.time)) es))
+              (among-between s.range c.args.rows.now.entries c.args.ids.now.keys),
       omega arith,
     )
 
@@ -19,6 +21,10 @@ pub returns : goal.returns
 returns c = λ name own.
     let s = c.args.selection.now in
     let rows = c.args.rows.now.entries in
-    let ids = ids-owned c.args.ids.now.keys (rows_of rows) name c.range-within.ensures.ordered (λ x. own x ∙ ap (λ o. is_owner o name) (sym (get-rows_of rows x))) in
-    let first : c.loop-id.found.items ≡ take s.limit (map (pending_row s.moment) (filter (λ e. leb s.min_idle (idle s.moment e.1.time)) (filter (λ e. is_within s.range e.0) (listed_rows rows c.args.ids.now.keys)))) = grind (arith, common_steps) in
+    let ids = ids-owned c.args.ids.now.keys (rows_of rows) name c.range-within.ensures.ordered (λ x. own x
+        ∙ ap (λ o. is_owner o name) (sym (get-rows_of rows x))) in
+    let first : c.loop-id.found.items
+        ≡ take s.limit (map (pending_row s.moment)
+        (filter (λ e. leb s.min_idle (idle s.moment e.1.time))
+        (filter (λ e. is_within s.range e.0) (listed_rows rows c.args.ids.now.keys)))) = grind (arith, common_steps) in
     first ∙ ap (λ es. take s.limit (map (pending_row s.moment) es)) (asked-owned s name rows c.args.ids.now.keys ids)

@@ -1,18 +1,15 @@
 use Rattle.xs_group.proofs.Terms.{Some, ap, ◌∙◌, ids_of, with_name, own_ids, row_after_reread, set_rows, shown_rows}
+use Rattle.xs_group.proofs.Terms.{arith}
 use Rattle.xs_group.proofs.group.Group.history.Goals as goal
 use Rattle.xs_group.proofs.RemovedRows.{up_to-change}
 use Rattle.xs_group.proofs.Touching.{rows-reread}
 
 pub returns-clause-ok : goal.returns-clause-ok
-returns-clause-ok c =
-    let held = c.self.inside.pending in
-    let present = ids_of c.args.stream.now.entries in
-    let ids = own_ids c.args.consumer.now c.args.limit c.args.from held.rows.entries in
-    let rows = c.in_ok-rows.ensures ∙ ap (shown_rows held.rows present) (c.as_slice.ensures ∙ c.in_ok-ids.ensures) in
-    let is = c.set_touches.ensures ∙ ap (λ h. record { consumers = h.consumers; rows = set_rows (Some c.args.now) c.as_slice-3.result.now h.rows }) c.in_ok-created.ensures.ok
-    ∙ ap (λ rs. record { consumers = with_name held.consumers c.args.consumer.now; rows = set_rows (Some c.args.now) rs held.rows }) (c.as_slice-3.ensures.value ∙ rows)
-    ∙ ap (λ r. record { consumers = with_name held.consumers c.args.consumer.now; rows = r }) (rows-reread c.args.now present ids held.rows) in
-    rw (← c.self.view_is) (ap (λ h. record { cursor = c.self.inside.cursor; consumers = h.consumers; rows = h.rows }) is)
+returns-clause-ok c = rw (← c.self.view_is) (grind (arith, c.set_touches.ensures, c.in_ok-created.ensures.ok,
+    c.as_slice-3.ensures.value, c.in_ok-rows.ensures, c.as_slice.ensures, c.in_ok-ids.ensures,
+    rows-reread c.args.now (ids_of c.args.stream.now.entries)
+        (own_ids c.args.consumer.now c.args.limit c.args.from c.self.inside.pending.rows.entries)
+        c.self.inside.pending.rows))
 
 pub invariant_of-self-2 : goal.invariant_of-self-2
 invariant_of-self-2 c =

@@ -1,4 +1,4 @@
-use Rattle.xs_group.proofs.Terms.{◌≡◌, sym, ap, ◌∙◌, not, is_some, ids_at, names_of, rows_of, with_name}
+use Rattle.xs_group.proofs.Terms.{◌≡◌, sym, ap, ◌∙◌, not, is_some, ids_at, names_of, rows_of, arith}
 use Rattle.xs_group.proofs.pending.Pending.add_consumer.Goals as goal
 use Rattle.xs_group.proofs.Views.{has_name-names_of}
 use Rattle.xs_group.proofs.Agreeing.{agreed-joined, names-joined, held-again}
@@ -6,7 +6,9 @@ use Rattle.xs_group.proofs.NewRows.{unowned-rows}
 use Rattle.xs_group.proofs.RemovedRows.{named-agreed}
 
 pub returns-then-contains_key-clause-made : goal.returns-then-contains_key-clause-made
-returns-then-contains_key-clause-made c = rw (← c.self.view_is) (ap not (c.if-contains_key.ensures ∙ sym (has_name-names_of c.self.inside.owners.entries c.args.name.now)))
+returns-then-contains_key-clause-made c =
+    rw (← c.self.view_is) (grind (arith, c.if-contains_key.ensures,
+    has_name-names_of c.self.inside.owners.entries c.args.name.now))
 
 pub returns-then-contains_key-clause-ok : goal.returns-then-contains_key-clause-ok
 returns-then-contains_key-clause-ok c =
@@ -23,9 +25,12 @@ pub returns-clause-made : goal.returns-clause-made
 returns-clause-made c = rw (← c.self.view_is) (ap not (c.if-contains_key.ensures ∙ sym (has_name-names_of c.self.inside.owners.entries c.args.name.now)))
 
 pub returns-clause-ok : goal.returns-clause-ok
-returns-clause-ok c = rw (← c.self.view_is) (ap (λ names. record { consumers = names; rows = rows_of c.self.inside.rows.entries })
-    (names-joined c.self.inside.owners c.insert.new.self c.in_ok-text.text c.new.result c.in_ok-insert.ensures.updates ∙ ap (with_name (names_of c.self.inside.owners.entries)) (text_is c)))
+returns-clause-ok c = rw (← c.self.view_is) (grind (arith,
+    names-joined c.self.inside.owners c.insert.new.self c.in_ok-text.text c.new.result c.in_ok-insert.ensures.updates,
+    text_is c))
 
 pub returns-clause-unowned : goal.returns-clause-unowned
-returns-clause-unowned c = rw (← c.self.view_is) (λ made. unowned-rows (names_of c.self.inside.owners.entries) (rows_of c.self.inside.rows.entries) c.args.name.now
-    (named-agreed c.self.inside.rows.entries c.self.inside.owners.entries c.self.invariant) (has_name-names_of c.self.inside.owners.entries c.args.name.now ∙ sym c.if-contains_key.ensures))
+returns-clause-unowned c = rw (← c.self.view_is)
+    (λ made. unowned-rows (names_of c.self.inside.owners.entries) (rows_of c.self.inside.rows.entries) c.args.name.now
+    (named-agreed c.self.inside.rows.entries c.self.inside.owners.entries c.self.invariant)
+        (has_name-names_of c.self.inside.owners.entries c.args.name.now ∙ sym c.if-contains_key.ensures))

@@ -1,14 +1,13 @@
-use Rattle.xs_group.proofs.Terms.{◌≡◌, cond, Some, sym, ap, ◌∙◌, has_key, has_id, Id, has_name, first_row, with_rows}
-use Rattle.xs_group.proofs.Terms.{rows_of, names_of, indexed_row, AreFree}
+use Rattle.xs_group.proofs.Terms.{◌≡◌, cond, Some, has_id, Id, first_row, rows_of, indexed_row, AreFree, arith}
 use Rattle.xs_group.proofs.pending.Pending.put_all.Goals as goal
 use Rattle.xs_group.proofs.pending.Pending.put_all.Goals.{In-Ok}
 use Rattle.xs_group.proofs.Views.{has_name-names_of, names-same, rows-same}
-use Rattle.xs_group.proofs.Agreeing.{held-by, refused-as}
+use Rattle.xs_group.proofs.Agreeing.{refused-as}
 use Rattle.xs_group.proofs.NewRows.{agreed-all, agreed-but, rows-all}
 
 pub add_ids-requires-clause-there : goal.add_ids-requires-clause-there
-add_ids-requires-clause-there c =
-    sym (has_name-names_of c.self.inside.owners.entries c.args.name.now) ∙ ap (λ held. has_name held.consumers c.args.name.now) c.self.view_is ∙ c.requires.there
+add_ids-requires-clause-there c = grind (arith, has_name-names_of c.self.inside.owners.entries c.args.name.now,
+    c.self.view_is, c.requires.there)
 
 pub returns-in_err-add_ids-clause-err : goal.returns-in_err-add_ids-clause-err
 returns-in_err-add_ids-clause-err c = refused-as c.from_residual-in_err-add_ids.result c.add_ids.new.owners.entries c.self.inside.owners.entries
@@ -17,10 +16,10 @@ returns-in_err-add_ids-clause-err c = refused-as c.from_residual-in_err-add_ids.
 -- the rows are of this consumer, since the shared name is its name
 put_is : (c : In-Ok) (x : Id)
     → indexed_row c.put_rows.new.rows.entries x ≡ cond (has_id c.args.ids.now x) (Some (first_row c.args.name.now c.args.now)) (indexed_row c.self.inside.rows.entries x)
-put_is c x = c.in-Ok.ensures.ok x ∙ ap (λ k. cond (has_id c.args.ids.now x) (Some (first_row k c.args.now)) (indexed_row c.self.inside.rows.entries x)) c.in_ok-shared.ensures
+put_is c x = grind (arith, c.in-Ok.ensures.ok x, c.in_ok-shared.ensures)
 
 free : (c : In-Ok) → AreFree (rows_of c.self.inside.rows.entries) c.args.ids.now
-free c x e = ap (λ held. has_key held.rows x) c.self.view_is ∙ c.requires.free x e
+free c x e = grind (arith, c.self.view_is, c.requires.free x e)
 
 pub invariant_of-self-in-Ok : goal.invariant_of-self-in-Ok
 invariant_of-self-in-Ok c =
@@ -36,15 +35,14 @@ take_back-requires c = (
 )
 
 pub returns-in_default-clause-err : goal.returns-in_default-clause-err
-returns-in_default-clause-err c =
-    held-by (names_of c.take_back.new.owners.entries) (names_of c.self.inside.owners.entries) (rows_of c.put_rows.new.rows.entries) (rows_of c.self.inside.rows.entries)
-    (names-same c.take_back.new.owners.entries c.add_ids.new.owners.entries c.take_back.ensures.names
-    ∙ names-same c.add_ids.new.owners.entries c.self.inside.owners.entries c.add_ids.ensures.names)
-    (rows-same c.put_rows.new.rows.entries c.self.inside.rows.entries c.in_default.ensures.err) ∙ c.self.view_is
+returns-in_default-clause-err c = grind (arith,
+    names-same c.take_back.new.owners.entries c.add_ids.new.owners.entries c.take_back.ensures.names,
+    names-same c.add_ids.new.owners.entries c.self.inside.owners.entries c.add_ids.ensures.names,
+    rows-same c.put_rows.new.rows.entries c.self.inside.rows.entries c.in_default.ensures.err, c.self.view_is)
 
 pub returns-clause-ok : goal.returns-clause-ok
-returns-clause-ok c =
-    rw (← c.self.view_is) (held-by (names_of c.add_ids.new.owners.entries) (names_of c.self.inside.owners.entries) (rows_of c.put_rows.new.rows.entries) _
-    (names-same c.add_ids.new.owners.entries c.self.inside.owners.entries c.add_ids.ensures.names)
-    (rows-all c.self.inside.rows.entries c.put_rows.new.rows.entries c.args.ids.now (first_row c.in_ok-shared.shared c.args.now) c.in-Ok.ensures.ok
-    ∙ ap (λ k. with_rows c.args.ids.now (first_row k c.args.now) (rows_of c.self.inside.rows.entries)) c.in_ok-shared.ensures))
+returns-clause-ok c = rw (← c.self.view_is) (grind (arith,
+    names-same c.add_ids.new.owners.entries c.self.inside.owners.entries c.add_ids.ensures.names,
+    c.in_ok-shared.ensures,
+    rows-all c.self.inside.rows.entries c.put_rows.new.rows.entries c.args.ids.now
+        (first_row c.in_ok-shared.shared c.args.now) c.in-Ok.ensures.ok))

@@ -1,5 +1,4 @@
-use Rattle.xs_group.proofs.Terms.{take, sym, ap, ◌∙◌, ◌++◌, ◌∷◌, [], take_more, change, remove, DeliveryRow}
-use Rattle.xs_group.proofs.Terms.{unless_acked, row_ids}
+use Rattle.xs_group.proofs.Terms.{take, sym, ap, take_more, row_ids, arith}
 use Rattle.xs_group.proofs.pending.Pending.take_rows.Goals as goal
 use Rattle.xs_group.proofs.RemovedRows.{acked-none, acked-more}
 use Rattle.xs_group.proofs.Touching.{row_ids-append}
@@ -11,8 +10,6 @@ pub loop-row-preserved : goal.loop-row-preserved
 loop-row-preserved c =
     let row = c.row-item.result in
     let done = take c.loop-row.row-index c.args.rows.now in
-    let next = take_more c.args.rows.now c.loop-row.row-index row c.loop-row-test.true ∙ ap (λ (r : DeliveryRow). done ++ r ∷ []) (sym c.row-item.is) in
-    c.take.ensures ∙ ap (λ held. record { consumers = held.consumers; rows = remove held.rows row.id }) c.loop-row.invariant
-    ∙ ap (λ rows. record { consumers = c.args.self.now.consumers; rows = rows })
-    (acked-more (row_ids done) row.id c.args.self.now.rows ∙ ap (λ ids. change (unless_acked ids) c.args.self.now.rows)
-    (sym (row_ids-append done row) ∙ sym (ap row_ids next)))
+    let next = take_more c.args.rows.now c.loop-row.row-index row c.loop-row-test.true in
+    grind (arith, next, c.row-item.is, c.take.ensures, c.loop-row.invariant,
+        acked-more (row_ids done) row.id c.args.self.now.rows, row_ids-append done row)
