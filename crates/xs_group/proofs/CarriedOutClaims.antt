@@ -43,8 +43,11 @@ module _ (hit : Id → Bool) (limit : ℕ) where
 
   apart-scanned : (hits seen : ℕ) (ids : List Id) → AreDistinct ids → AreDistinct (scanned_after hit limit hits seen ids)
   apart-scanned hits seen [] a = tt
-  apart-scanned hits seen (y ∷ ys) a = grind (arith, has-scanned (hits + cond (hit y) 1 0) (seen + 1) y ys a.0,
-      apart-scanned (hits + cond (hit y) 1 0) (seen + 1) ys a.1)
+  apart-scanned hits seen (y ∷ ys) a = grind (
+    arith,
+    has-scanned (hits + cond (hit y) 1 0) (seen + 1) y ys a.0,
+    apart-scanned (hits + cond (hit y) 1 0) (seen + 1) ys a.1,
+  )
 
 pub apart-claim : (group : GroupState) (now : ℕ) (rule : Rule) (claim : Claim) → IsClaimOn group now rule claim → AreDistinct claim.take
 apart-claim group now rule claim (inl w) = subst (λ (c : Claim). AreDistinct c.take) (sym w.is) (apart-filter (is_taken group.rows.entries w.present now rule) (without_repeats w.ids) (apart-without_repeats w.ids))
@@ -61,12 +64,15 @@ apart-claim group now rule claim (inr w) =
 pub rows-settled : (name : List ℕ) (now : ℕ) (rule : Rule) (claim : Claim) (rows : Rows)
     → change (unless_acked claim.removed) (change (moved name now rule claim.take) rows) ≡ change (row_after_claim name now rule claim) rows
 rows-settled name now rule claim rows =
-    same_rows _ _ (λ q. grind (arith,
-    get-changed (unless_acked claim.removed) (change (moved name now rule claim.take) rows) q,
-    get-changed (moved name now rule claim.take) rows q, get-changed (row_after_claim name now rule claim) rows q))
+    same_rows _ _ (λ q. grind (
+      arith,
+      get-changed (unless_acked claim.removed) (change (moved name now rule claim.take) rows) q,
+      get-changed (moved name now rule claim.take) rows q,
+      get-changed (row_after_claim name now rule claim) rows q,
+    ))
 
 pub rows-moved : (a b : List (Id × RowState)) (name : List ℕ) (now : ℕ) (rule : Rule) (ids : List Id)
     → ((x : Id) → indexed_row b x ≡ option_and_then (moved name now rule ids x) (indexed_row a x)) → rows_of b ≡ change (moved name now rule ids) (rows_of a)
 rows-moved a b name now rule ids is =
-    same_rows _ _ (λ q. grind (arith, get-rows_of b q, is q, get-rows_of a q,
-    get-changed (moved name now rule ids) (rows_of a) q))
+    same_rows _ _ (λ q.
+    grind (arith, get-rows_of b q, is q, get-rows_of a q, get-changed (moved name now rule ids) (rows_of a) q))

@@ -16,8 +16,8 @@ filter-more p (x ∷ xs) id = grind (arith, filter-more p xs id)
 
 pub without_repeats-more : (ids : List Id) (id : Id) → without_repeats (ids ++ id ∷ []) ≡ cond (has_id ids id) (without_repeats ids) (without_repeats ids ++ id ∷ [])
 without_repeats-more [] id = refl
-without_repeats-more (x ∷ xs) id = grind (arith, without_repeats-more xs id,
-    filter-more (λ y. not (is_same_id y x)) (without_repeats xs) id)
+without_repeats-more (x ∷ xs) id =
+    grind (arith, without_repeats-more xs id, filter-more (λ y. not (is_same_id y x)) (without_repeats xs) id)
 
 -- ---- verdicts
 

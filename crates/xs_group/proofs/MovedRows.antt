@@ -26,9 +26,19 @@ module _ (m n : RowMap) (a b : ConsumerIndex) (name : List ℕ) (id : Id) (rest 
         → cond (is_same_name row.consumer name) (holds a q x)
         (holds a q x && not (is_same_name q row.consumer && is_same_id x id))
         ≡ (is_owner (indexed_row n.entries x) q || (is_same_name q name && has_id rest x))
-    by true e = grind (arith, but q x, found, u.0 x, whose, is_same_id-eq x id e, is_same_id-symm id x,
-        is_same_name-eq row.consumer q, is_same_name-eq q name, is_same_name-symm q row.consumer,
-        is_same_name-symm q name)
+    by true e = grind (
+      arith,
+      but q x,
+      found,
+      u.0 x,
+      whose,
+      is_same_id-eq x id e,
+      is_same_id-symm id x,
+      is_same_name-eq row.consumer q,
+      is_same_name-eq q name,
+      is_same_name-symm q row.consumer,
+      is_same_name-symm q name,
+    )
     by false e = grind (arith, but q x, u.2 x, is_same_id-symm id x)
 
 pub names-more : (name : List ℕ) (ids : List Id) (id : Id) → map (λ (x : Id). name) (ids ++ id ∷ []) ≡ map (λ (x : Id). name) ids ++ name ∷ []

@@ -12,21 +12,21 @@ use Rattle.xs_group.proofs.RemovedRows.{get-changed, change-nothing}
 
 pub get-with_rows : (ids : List Id) (row : RowState) (rows : Rows) (q : Id) → get (with_rows ids row rows) q ≡ cond (has_id ids q) (Some row) (get rows q)
 get-with_rows [] row rows q = refl
-get-with_rows (x ∷ xs) row rows q = grind (arith, get-with_rows xs row (insert_by ids_total rows x row) q,
-    get-insert_by ids_total rows x row q)
+get-with_rows (x ∷ xs) row rows q =
+    grind (arith, get-with_rows xs row (insert_by ids_total rows x row) q, get-insert_by ids_total rows x row q)
 
 -- ---- one id after the other
 
 -- ---- all of them
 
 pub rows-all : (m n : List (Id × RowState)) (ids : List Id) (row : RowState) → ((x : Id) → indexed_row n x ≡ cond (has_id ids x) (Some row) (indexed_row m x)) → rows_of n ≡ with_rows ids row (rows_of m)
-rows-all m n ids row is = same_rows _ _ (λ q. grind (arith, get-rows_of n q, is q, get-rows_of m q,
-    get-with_rows ids row (rows_of m) q))
+rows-all m n ids row is = same_rows _ _ (λ q.
+    grind (arith, get-rows_of n q, is q, get-rows_of m q, get-with_rows ids row (rows_of m) q))
 
 pub agreed-all : (m n : List (Id × RowState)) (b : ConsumerIndex) (name : List ℕ) (ids : List Id) (row : RowState) → row.consumer ≡ name → AreFree (rows_of m) ids
     → AreAgreedBut m b name ids → ((x : Id) → indexed_row n x ≡ cond (has_id ids x) (Some row) (indexed_row m x)) → IsAgreed n b
-agreed-all m n b name ids row whose free but is q x = grind (arith, but q x, is x, none-from_free m x, free x,
-    is_same_name-symm q name, whose)
+agreed-all m n b name ids row whose free but is q x =
+    grind (arith, but q x, is x, none-from_free m x, free x, is_same_name-symm q name, whose)
 
 -- rows that are what they were
 pub agreed-but : (m n : List (Id × RowState)) (b : ConsumerIndex) (name : List ℕ) (ids : List Id) → AreAgreedBut m b name ids
@@ -41,15 +41,19 @@ among-take (x ∷ xs) (suc i) q e = grind (arith, among-take xs i q, e)
 
 -- rows that are put where none was, and taken out again
 pub out-again : (ids : List Id) (row : RowState) (rows : Rows) → AreFree rows ids → change (unless_acked ids) (with_rows ids row rows) ≡ rows
-out-again ids row rows free = same_rows _ _ (λ q. grind (arith,
-    get-changed (unless_acked ids) (with_rows ids row rows) q, get-with_rows ids row rows q, free q))
+out-again ids row rows free = same_rows _ _ (λ q.
+    grind (arith, get-changed (unless_acked ids) (with_rows ids row rows) q, get-with_rows ids row rows q, free q))
 
 -- ---- a consumer that is put and taken out again
 
 pub out-names : (names : Names) (name : List ℕ) → has_name names name ≡ false → remove (with_name names name) name ≡ names
-out-names names name none = same_names _ _ (λ q. grind (arith,
-    get-remove nat_list_cmp_total (with_name names name) name q, has_name-with_name names name q,
-    is_same_name-eq q name, none))
+out-names names name none = same_names _ _ (λ q. grind (
+  arith,
+  get-remove nat_list_cmp_total (with_name names name) name q,
+  has_name-with_name names name q,
+  is_same_name-eq q name,
+  none,
+))
 
 -- a consumer that isn't there has no rows
 pub unowned-rows : (names : Names) (rows : Rows) (name : List ℕ) → IsNamed names rows → has_name names name ≡ false → change (unless_owned name) rows ≡ rows

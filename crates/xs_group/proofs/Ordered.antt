@@ -21,8 +21,11 @@ module _ {K X : Type 0} (R : K → K → Ordering) where
 
   pub is_sorted-from : (es : List (K × X)) → IsStrictlySortedBy R (keys_of es) → T (is_sorted R es)
   is_sorted-from [] s = tt
-  is_sorted-from (e ∷ es) s = grind (arith, below-from e.0 es (sorted_head R e.0 (keys_of es) s),
-      is_sorted-from es (sorted_tail R e.0 (keys_of es) s))
+  is_sorted-from (e ∷ es) s = grind (
+    arith,
+    below-from e.0 es (sorted_head R e.0 (keys_of es) s),
+    is_sorted-from es (sorted_tail R e.0 (keys_of es) s),
+  )
 
   below-filter : (p : K × X → Bool) (k : K) (es : List (K × X)) → T (below_all R k es) → T (below_all R k (filter p es))
   below-filter p k [] h = tt

@@ -33,30 +33,45 @@ pub acked-none : (rows : Rows) → change (unless_acked []) rows ≡ rows
 acked-none rows = change-nothing (unless_acked []) rows (λ q. grind arith)
 
 pub acked-more : (ids : List Id) (id : Id) (rows : Rows) → remove (change (unless_acked ids) rows) id ≡ change (unless_acked (ids ++ id ∷ [])) rows
-acked-more ids id rows = same_rows _ _ (λ q. grind (arith, get-remove ids_total (change (unless_acked ids) rows) id q,
-    get-changed (unless_acked ids) rows q,
-    get-changed (unless_acked (ids ++ id ∷ [])) rows q, list_any-append (is_same_id q) ids (id ∷ [])))
+acked-more ids id rows = same_rows _ _ (λ q. grind (
+  arith,
+  get-remove ids_total (change (unless_acked ids) rows) id q,
+  get-changed (unless_acked ids) rows q,
+  get-changed (unless_acked (ids ++ id ∷ [])) rows q,
+  list_any-append (is_same_id q) ids (id ∷ []),
+))
 
 -- ---- a consumer that goes
 
 module _ (rows new : List (Id × RowState)) (a b : ConsumerIndex) (name : List ℕ) (agreed : IsAgreed rows a)
     (left : (x : Id) → indexed_row new x ≡ cond (holds a name x) None (indexed_row rows x)) where
   pub rows-without : rows_of new ≡ change (unless_owned name) (rows_of rows)
-  rows-without = same_rows _ _ (λ q. grind (arith, get-rows_of new q, left q, agreed name q, get-rows_of rows q,
-      get-changed (unless_owned name) (rows_of rows) q))
+  rows-without = same_rows _ _ (λ q. grind (
+    arith,
+    get-rows_of new q,
+    left q,
+    agreed name q,
+    get-rows_of rows q,
+    get-changed (unless_owned name) (rows_of rows) q,
+  ))
 
   pub agreed-without : ((q : List ℕ) → ids_at b q ≡ cond (is_same_name name q) None (ids_at a q)) → IsAgreed new b
   agreed-without u q x = ap (λ o. has_among o x) (u q) ∙ by (is_same_name name q) (indexed_row rows x) refl refl where
     by : (t : Bool) (o : Option RowState) → is_same_name name q ≡ t → indexed_row rows x ≡ o
         → has_among (cond t None (ids_at a q)) x ≡ is_owner (indexed_row new x) q
     by t None e f = grind (arith, left x, agreed q x)
-    by t (Some row) e f = grind (arith, left x, agreed name x, agreed q x, is_same_name-eq row.consumer name,
-        is_same_name-eq name q)
+    by t (Some row) e f =
+        grind (arith, left x, agreed name x, agreed q x, is_same_name-eq row.consumer name, is_same_name-eq name q)
 
 pub names-without : (a b : ConsumerIndex) (name : List ℕ) → ((q : List ℕ) → ids_at b q ≡ cond (is_same_name name q) None (ids_at a q)) → names_of b ≡ remove (names_of a) name
-names-without a b name u = same_names _ _ (λ q. grind (arith, has_name-names_of b q, has_name-names_of a q, u q,
-    is_same_name-symm name q,
-    get-remove nat_list_cmp_total (names_of a) name q))
+names-without a b name u = same_names _ _ (λ q. grind (
+  arith,
+  has_name-names_of b q,
+  has_name-names_of a q,
+  u q,
+  is_same_name-symm name q,
+  get-remove nat_list_cmp_total (names_of a) name q,
+))
 
 pub left-none : (rows : List (Id × RowState)) (a : ConsumerIndex) (name : List ℕ) → ids_at a name ≡ None → (x : Id) → indexed_row rows x ≡ cond (holds a name x) None (indexed_row rows x)
 left-none rows a name none x = ap (λ (o : Option (BTreeSet Id)). cond (has_among o x) None (indexed_row rows x)) (sym none)

@@ -30,13 +30,17 @@ AreHeld owners es = AllByRecursion (λ e. Some e.1 ≡ ids_at owners e.0) es
 
 held-later : (e : List ℕ × BTreeSet Id) (owners es : ConsumerIndex) → T (below_all (slice_cmp nat_cmp) e.0 es) → AreHeld owners es → AreHeld (e ∷ owners) es
 held-later e owners [] b a = tt
-held-later e owners (f ∷ fs) b a = (grind (arith, a.0, is_same_name-symm f.0 e.0, b),
-    held-later e owners fs (second _ _ b) a.1)
+held-later e owners (f ∷ fs) b a = (
+  grind (arith, a.0, is_same_name-symm f.0 e.0, b),
+  held-later e owners fs (second _ _ b) a.1,
+)
 
 held-sorted : (owners : ConsumerIndex) → T (is_sorted (slice_cmp nat_cmp) owners) → AreHeld owners owners
 held-sorted [] s = tt
-held-sorted (e ∷ es) s = (grind (arith, is_same_name-refl e.0),
-    held-later e es es (first _ _ s) (held-sorted es (second _ _ s)))
+held-sorted (e ∷ es) s = (
+  grind (arith, is_same_name-refl e.0),
+  held-later e es es (first _ _ s) (held-sorted es (second _ _ s)),
+)
 
 pub held-all : (m : Index) → IsOrdered (slice_cmp nat_cmp) m → AreHeld m.entries m.entries
 held-all m o = held-sorted m.entries (is_sorted-from (slice_cmp nat_cmp) m.entries o)
@@ -60,7 +64,7 @@ keys-names_of m o =
 
 pub rows-between : (s : Selection) (rows : List (Id × RowState))
     → filter (λ e. leb s.min_idle (idle s.moment e.1.time))
-        (entries_between id_cmp (Included s.range.low) (Included s.range.high) rows)
+    (entries_between id_cmp (Included s.range.low) (Included s.range.high) rows)
     ≡ filter (is_selected s.range s.min_idle s.moment None) rows
 rows-between s rows =
     filter-filter (λ (e : Id × RowState). range_contains id_cmp (Included s.range.low) (Included s.range.high) e.0)
@@ -84,11 +88,11 @@ among-between range rows [] = refl
 among-between range rows (x ∷ xs) =
     one (range_contains id_cmp (Included range.low) (Included range.high) x) (between-within range x)
     (indexed_row rows x) refl _ _ (among-between range rows xs) where
-  one : (t : Bool) → t ≡ is_within range x → (o : Option RowState) → indexed_row rows x ≡ o
-      → (a : List Id) (b : List (Id × RowState)) → listed_rows rows a ≡ filter (λ e. is_within range e.0) b
-      → listed_rows rows (cond t (x ∷ a) a) ≡ filter (λ e. is_within range e.0) (with_row x o b)
-  one t e None f a b r = grind (arith, e, f, r)
-  one t e (Some row) f a b r = grind (arith, e, f, r)
+      one : (t : Bool) → t ≡ is_within range x → (o : Option RowState) → indexed_row rows x ≡ o
+          → (a : List Id) (b : List (Id × RowState)) → listed_rows rows a ≡ filter (λ e. is_within range e.0) b
+          → listed_rows rows (cond t (x ∷ a) a) ≡ filter (λ e. is_within range e.0) (with_row x o b)
+      one t e None f a b r = grind (arith, e, f, r)
+      one t e (Some row) f a b r = grind (arith, e, f, r)
 
 among-found : (rows es : List (Id × RowState)) → AreFound (rows_of rows).entries es → listed_rows rows (keys_of es) ≡ es
 unfolding get
@@ -109,10 +113,10 @@ asked-owned s name rows ids is =
     let is_idle = λ (e : Id × RowState). leb s.min_idle (idle s.moment e.1.time) in
     ap (λ k. filter is_idle (filter within (listed_rows rows k))) is
     ∙ ap (λ es. filter is_idle (filter within es))
-        (among-found rows (filter mine all) (found-filter all all mine (found-all all (rows_of rows).sorted)))
+    (among-found rows (filter mine all) (found-filter all all mine (found-all all (rows_of rows).sorted)))
     ∙ ap (filter is_idle) (filter-filter mine within (λ e. mine e && within e) (λ e. refl) all)
     ∙ filter-filter (λ e. mine e && within e) is_idle (is_selected s.range s.min_idle s.moment (Some name))
-        (λ e. grind arith) all
+    (λ e. grind arith) all
 
 not_within : (range : Range) → is_below range.high range.low ≡ true → (x : Id) → is_within range x ≡ false
 not_within range h x = grind (arith, h, below-not_below range.high range.low x h)

@@ -54,13 +54,17 @@ AreFound rows es = AllByRecursion (λ e. Some e.1 ≡ row_at rows e.0) es
 
 found-later : (e : Id × RowState) (rows es : List (Id × RowState)) → T (below_all id_cmp e.0 es) → AreFound rows es → AreFound (e ∷ rows) es
 found-later e rows [] b a = tt
-found-later e rows (f ∷ fs) b a = (grind (arith, a.0, is_same_id-symm f.0 e.0, b),
-    found-later e rows fs (second _ _ b) a.1)
+found-later e rows (f ∷ fs) b a = (
+  grind (arith, a.0, is_same_id-symm f.0 e.0, b),
+  found-later e rows fs (second _ _ b) a.1,
+)
 
 pub found-all : (rows : List (Id × RowState)) → T (is_sorted id_cmp rows) → AreFound rows rows
 found-all [] s = tt
-found-all (e ∷ es) s = (grind (arith, is_same_id-refl e.0),
-    found-later e es es (first _ _ s) (found-all es (second _ _ s)))
+found-all (e ∷ es) s = (
+  grind (arith, is_same_id-refl e.0),
+  found-later e es es (first _ _ s) (found-all es (second _ _ s)),
+)
 
 pub found-filter : (rows es : List (Id × RowState)) (p : Id × RowState → Bool) → AreFound rows es → AreFound rows (filter p es)
 found-filter rows [] p a = tt

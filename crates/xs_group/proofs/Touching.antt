@@ -17,9 +17,16 @@ touched (Some touch) (Some row) = Some (with_touch touch row)
 pub rows-touched : (m n : RowMap) (id : Id) (touch : Touch) (row : RowState) → indexed_row m.entries id ≡ Some row → UpdatesBy id_cmp (id_cmp id) m n (Some (with_touch touch row))
     → rows_of n.entries ≡ set_one id (Some touch) (rows_of m.entries)
 rows-touched m n id touch row found u =
-    same_rows _ _ (λ q. grind (arith, get-rows_of n.entries q, get-rows_of m.entries q,
-    get-changed (touched_at id touch) (rows_of m.entries) q, u.0 q,
-    is_same_id-symm id q, is_same_id-eq q id, found))
+    same_rows _ _ (λ q. grind (
+      arith,
+      get-rows_of n.entries q,
+      get-rows_of m.entries q,
+      get-changed (touched_at id touch) (rows_of m.entries) q,
+      u.0 q,
+      is_same_id-symm id q,
+      is_same_id-eq q id,
+      found,
+    ))
 
 pub untouched : (rows : Rows) (id : Id) (touch : Touch) → get rows id ≡ None → rows ≡ set_one id (Some touch) rows
 untouched rows id touch none =
@@ -43,22 +50,32 @@ get-set_rows : (now : Option ℕ) (make : Id → DeliveryRow) → ((x : Id) → 
     → get (set_rows now (map make ids) rows) q ≡ cond (has_id ids q) (touched (touch_set now (make q)) (get rows q)) (get rows q)
 get-set_rows now make is [] rows q = refl
 get-set_rows now make is (x ∷ xs) rows q =
-    grind (arith, get-set_rows now make is xs (set_one (make x).id (touch_set now (make x)) rows) q,
-        get-set_one (make x).id (touch_set now (make x)) rows q,
-    is x, is_same_id-eq q x, twice (touch_set now (make q)) (get rows q))
+    grind (
+      arith,
+      get-set_rows now make is xs (set_one (make x).id (touch_set now (make x)) rows) q,
+      get-set_one (make x).id (touch_set now (make x)) rows q,
+      is x,
+      is_same_id-eq q x,
+      twice (touch_set now (make q)) (get rows q),
+    )
 
 -- a read of the consumer's own entries
 pub rows-reread : (now : ℕ) (present ids : List Id) (rows : Rows) → set_rows (Some now) (shown_rows rows present ids) rows ≡ change (row_after_reread now ids present) rows
 rows-reread now present ids rows =
-    same_rows _ _ (λ q. grind (arith, get-set_rows (Some now) (shown_row rows present) (λ x. refl) ids rows q,
-    get-changed (row_after_reread now ids present) rows q))
+    same_rows _ _ (λ q. grind (
+      arith,
+      get-set_rows (Some now) (shown_row rows present) (λ x. refl) ids rows q,
+      get-changed (row_after_reread now ids present) rows q,
+    ))
 
 -- and taken back
 pub rows-unread : (now : ℕ) (present ids : List Id) (rows : Rows) → set_rows None (shown_rows rows present ids) (change (row_after_reread now ids present) rows) ≡ rows
 rows-unread now present ids rows =
-    same_rows _ _ (λ q. grind (arith,
-    get-set_rows None (shown_row rows present) (λ x. refl) ids (change (row_after_reread now ids present) rows) q,
-    get-changed (row_after_reread now ids present) rows q))
+    same_rows _ _ (λ q. grind (
+      arith,
+      get-set_rows None (shown_row rows present) (λ x. refl) ids (change (row_after_reread now ids present) rows) q,
+      get-changed (row_after_reread now ids present) rows q,
+    ))
 
 pub set_rows-more : (now : Option ℕ) (rs : List DeliveryRow) (r : DeliveryRow) (rows : Rows) → set_one r.id (touch_set now r) (set_rows now rs rows) ≡ set_rows now (rs ++ r ∷ []) rows
 set_rows-more now [] r rows = refl

@@ -34,8 +34,8 @@ same_names m n is = same_map nat_list_cmp_total exact_bytes m n (λ q. unit_same
 
 -- indexes of the same consumers
 pub names-same : (a b : ConsumerIndex) → ((q : List ℕ) → is_some (ids_at a q) ≡ is_some (ids_at b q)) → names_of a ≡ names_of b
-names-same a b is = same_names (names_of a) (names_of b) (λ q. grind (arith, has_name-names_of a q, is q,
-    has_name-names_of b q))
+names-same a b is = same_names (names_of a) (names_of b) (λ q.
+    grind (arith, has_name-names_of a q, is q, has_name-names_of b q))
 
 pub same_rows : (m n : Rows) → ((q : Id) → get m q ≡ get n q) → m ≡ n
 same_rows m n is = same_map ids_total same_id m n is
@@ -49,5 +49,11 @@ abbrev pub RowMap : Type 0
 RowMap = BTreeMap Id RowState
 
 pub rows-remove : (m n : RowMap) (id : Id) → UpdatesBy id_cmp (id_cmp id) m n None → rows_of n.entries ≡ remove (rows_of m.entries) id
-rows-remove m n id u = same_rows _ _ (λ q. grind (arith, get-rows_of n.entries q, u.0 q, is_same_id-symm id q,
-    get-rows_of m.entries q, get-remove ids_total (rows_of m.entries) id q))
+rows-remove m n id u = same_rows _ _ (λ q. grind (
+  arith,
+  get-rows_of n.entries q,
+  u.0 q,
+  is_same_id-symm id q,
+  get-rows_of m.entries q,
+  get-remove ids_total (rows_of m.entries) id q,
+))

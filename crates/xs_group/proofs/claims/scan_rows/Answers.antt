@@ -20,9 +20,9 @@ loop-id-init c =
     let present = ids_of c.args.stream.now.entries in
     let hit = is_hit rows present c.args.terms.now.moment c.args.terms.now.rule in
     let is : c.into_iter-id-iterator.result ≡ entries_between id_cmp (Included c.args.start) Unbounded rows =
-        c.into_iter-id-iterator.ensures.into_iter_gives ∙ c.range-past.ensures.between tt
+    c.into_iter-id-iterator.ensures.into_iter_gives ∙ c.range-past.ensures.between tt
     ∙ ap (entries_between id_cmp (Included c.args.start) Unbounded)
-        (sym (entries-rows_of c.args.rows.now c.range-past.ensures.ordered)) in
+    (sym (entries-rows_of c.args.rows.now c.range-past.ensures.ordered)) in
     let all : keys c.into_iter-id-iterator.result ≡ from_start c.args.start rows = ap keys is ∙ keys-between c.args.start rows in
     let few : length c.into_iter-id-iterator.result < 18446744073709551616 = omega (arith, c.range-past.ensures.fits, ap length c.into_iter-id-iterator.ensures.into_iter_gives) in
     record {

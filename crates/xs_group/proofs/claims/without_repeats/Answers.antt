@@ -12,8 +12,14 @@ seen : (c : Joined-branch) → (q : Id) → contains id_cmp c.insert.new.self q 
 seen c q =
     let id = get_or c.args.ids.now c.loop-id.id-index (record { ms = 0; seq = 0 }) in
     let next = take_more c.args.ids.now c.loop-id.id-index (record { ms = 0; seq = 0 }) c.loop-id-test.true in
-    grind (arith, next, c.in_ok-insert.ensures.updates.0 q, c.loop-id.invariant.1 q, is_same_id-symm id q,
-        has-more (take c.loop-id.id-index c.args.ids.now) id q)
+    grind (
+      arith,
+      next,
+      c.in_ok-insert.ensures.updates.0 q,
+      c.loop-id.invariant.1 q,
+      is_same_id-symm id q,
+      has-more (take c.loop-id.id-index c.args.ids.now) id q,
+    )
 
 pub loop-id-preserved : goal.loop-id-preserved
 loop-id-preserved c =

@@ -14,5 +14,11 @@ pub loop-id-preserved : goal.loop-id-preserved
 loop-id-preserved c =
     let next = take_more c.args.ids.now c.loop-id.id-index (record { ms = 0; seq = 0 }) c.loop-id-test.true in
     let id = get_or c.args.ids.now c.loop-id.id-index (record { ms = 0; seq = 0 }) in
-    λ x. grind (arith, next, c.in-Ok.ensures.updates.0 x, is_same_id-symm id x, c.loop-id.invariant x,
-        has-more (take c.loop-id.id-index c.args.ids.now) id x)
+    λ x. grind (
+      arith,
+      next,
+      c.in-Ok.ensures.updates.0 x,
+      is_same_id-symm id x,
+      c.loop-id.invariant x,
+      has-more (take c.loop-id.id-index c.args.ids.now) id x,
+    )

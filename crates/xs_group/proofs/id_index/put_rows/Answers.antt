@@ -5,9 +5,15 @@ use Rattle.xs_group.proofs.ChosenIds.{has-more}
 use Rattle.xs_group.proofs.Agreeing.{none-from_free}
 
 pub returns-in_default-clause-err : goal.returns-in_default-clause-err
-returns-in_default-clause-err c = λ x. grind (arith, c.remove_rows.ensures x,
-    ap (λ rows. indexed_row rows x) c.in_default.ensures.err, c.loop-i.invariant x,
-    none-from_free c.args.rows.now.entries x, c.requires x, among-take c.args.ids.now c.loop-i.i x)
+returns-in_default-clause-err c = λ x. grind (
+  arith,
+  c.remove_rows.ensures x,
+  ap (λ rows. indexed_row rows x) c.in_default.ensures.err,
+  c.loop-i.invariant x,
+  none-from_free c.args.rows.now.entries x,
+  c.requires x,
+  among-take c.args.ids.now c.loop-i.i x,
+)
 
 pub loop-i-preserved : goal.loop-i-preserved
 loop-i-preserved c =

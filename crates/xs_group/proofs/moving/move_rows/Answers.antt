@@ -17,9 +17,13 @@ loop-share-preserved c =
       apart = apart.1;
       agreed = c.move_row.ensures.agreed rest apart.0
           (subst (AreAgreedBut c.loop-share.rows.entries c.loop-share.owners.entries name) todo inv.agreed);
-      rows = λ x. grind (arith, rows-left name c.args.terms.now.moment c.args.terms.now.rule id rest x
-          (indexed_row c.loop-share.rows.entries x) (indexed_row c.move_row.new.rows.entries x) apart.0
-          (c.move_row.ensures.rows x),
-          todo, inv.rows x);
+      rows = λ x. grind (
+        arith,
+        rows-left name c.args.terms.now.moment c.args.terms.now.rule id rest x
+            (indexed_row c.loop-share.rows.entries x) (indexed_row c.move_row.new.rows.entries x) apart.0
+            (c.move_row.ensures.rows x),
+        todo,
+        inv.rows x,
+      );
       names = λ n. c.move_row.ensures.names n ∙ inv.names n;
     }

@@ -11,8 +11,13 @@ loop-id-preserved c =
     let id = get_or c.args.ids.now c.loop-id.id-index (record { ms = 0; seq = 0 }) in
     record {
       names = λ q. c.take_back_one.ensures.names q ∙ c.loop-id.invariant.names q;
-      back = λ q x. grind (arith, next, c.take_back_one.ensures.ids q x, c.loop-id.invariant.back q x,
-          has-more (take c.loop-id.id-index c.args.ids.now) id x);
+      back = λ q x. grind (
+        arith,
+        next,
+        c.take_back_one.ensures.ids q x,
+        c.loop-id.invariant.back q x,
+        has-more (take c.loop-id.id-index c.args.ids.now) id x,
+      );
     }
 
 pub returns-clause-agreed : goal.returns-clause-agreed

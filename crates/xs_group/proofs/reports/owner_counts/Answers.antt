@@ -16,10 +16,10 @@ told_by some name count rest = cond some (record { consumer = name; count = coun
 told-more : (rows : List (Id × RowState)) (owners : ConsumerIndex) (name : List ℕ) (ids : BTreeSet Id)
     (rest : ConsumerIndex) → IsAgreed rows owners
     → Some ids ≡ ids_at owners name → IsStrictlySortedBy id_cmp ids.keys
-        → told_by (ltb 0 (length ids.keys)) name (length ids.keys) (told rows rest) ≡ told rows ((name, ids) ∷ rest)
+    → told_by (ltb 0 (length ids.keys)) name (length ids.keys) (told rows rest) ≡ told rows ((name, ids) ∷ rest)
 told-more rows owners name ids rest agreed held ordered =
     ap (λ own. told_by (ltb 0 (length own)) name (length own) (told rows rest))
-        (owned-some rows owners name ids agreed held ordered)
+    (owned-some rows owners name ids agreed held ordered)
 
 pub loop-name-init : goal.loop-name-init
 loop-name-init c =
@@ -41,9 +41,13 @@ loop-name-preserved-then-count-eq0 c =
     let none : ltb 0 (length ids.keys) ≡ false = grind (arith, nat_tests) in
     record {
       held = held.1;
-      counted = λ rows agreed. grind (arith, none,
-          told-more rows owners name ids c.next.new.self agreed held.0 c.len-count.ensures.ordered, steps,
-          c.loop-name.invariant.counted rows agreed);
+      counted = λ rows agreed. grind (
+        arith,
+        none,
+        told-more rows owners name ids c.next.new.self agreed held.0 c.len-count.ensures.ordered,
+        steps,
+        c.loop-name.invariant.counted rows agreed,
+      );
     }
 
 pub loop-name-preserved : goal.loop-name-preserved
@@ -57,18 +61,28 @@ loop-name-preserved c =
     let some : ltb 0 (length ids.keys) ≡ true = grind (arith, nat_tests) in
     record {
       held = held.1;
-      counted = λ rows agreed. grind (arith, some, c.in_ok-consumer.ensures, c.as_slice.ensures, len,
-          c.in_ok-push.ensures.items,
-          append_assoc c.loop-name.counts.items (record { consumer = name; count =
-              length ids.keys } ∷ []) (told rows c.next.new.self),
-          told-more rows owners name ids c.next.new.self agreed held.0 c.len-count.ensures.ordered, steps,
-              c.loop-name.invariant.counted rows agreed);
+      counted = λ rows agreed. grind (
+        arith,
+        some,
+        c.in_ok-consumer.ensures,
+        c.as_slice.ensures,
+        len,
+        c.in_ok-push.ensures.items,
+        append_assoc c.loop-name.counts.items (record {
+          consumer = name;
+          count =
+              length ids.keys;
+        } ∷ []) (told rows c.next.new.self),
+        told-more rows owners name ids c.next.new.self agreed held.0 c.len-count.ensures.ordered,
+        steps,
+        c.loop-name.invariant.counted rows agreed,
+      );
     }
 
 pub returns : goal.returns
 returns c = λ rows agreed.
     let counts = c.loop-name.counts.items in
     sym (append-nil counts) ∙ ap (λ es. counts ++ told rows es) (sym c.in-None.ensures.steps.0)
-        ∙ c.loop-name.invariant.counted rows agreed
+    ∙ c.loop-name.invariant.counted rows agreed
     ∙ ap (λ names. filter (λ owner. ltb 0 owner.count) (counts_of_owners names (rows_of rows).entries))
-        (sym (keys-names_of c.args.owners.now c.iter-name-items.ensures.ordered))
+    (sym (keys-names_of c.args.owners.now c.iter-name-items.ensures.ordered))

@@ -9,6 +9,6 @@ invariant-loop-name l = record {
   held : AreHeld l.owners.entries l.name-iterator;
   counted : (rows : List (Id × RowState)) → IsAgreed rows l.owners.entries
       → l.counts.items ++ filter (λ owner. ltb 0 owner.count)
-          (counts_of_owners (keys_of l.name-iterator) (rows_of rows).entries)
+      (counts_of_owners (keys_of l.name-iterator) (rows_of rows).entries)
       ≡ filter (λ owner. ltb 0 owner.count) (counts_of_owners (keys_of l.owners.entries) (rows_of rows).entries);
 }

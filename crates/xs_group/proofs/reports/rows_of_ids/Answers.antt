@@ -13,7 +13,7 @@ loop-id-init c =
       ap (λ ids. map (pending_row s.moment)
           (filter (λ e. leb s.min_idle (idle s.moment e.1.time)) (listed_rows c.args.rows.now.entries ids))) is
           ∙ ap (λ es. map (pending_row s.moment) (filter (λ e. leb s.min_idle (idle s.moment e.1.time)) es))
-              (among-between s.range c.args.rows.now.entries c.args.ids.now.keys),
+          (among-between s.range c.args.rows.now.entries c.args.ids.now.keys),
       omega arith,
     )
 
@@ -22,9 +22,9 @@ returns c = λ name own.
     let s = c.args.selection.now in
     let rows = c.args.rows.now.entries in
     let ids = ids-owned c.args.ids.now.keys (rows_of rows) name c.range-within.ensures.ordered (λ x. own x
-        ∙ ap (λ o. is_owner o name) (sym (get-rows_of rows x))) in
+    ∙ ap (λ o. is_owner o name) (sym (get-rows_of rows x))) in
     let first : c.loop-id.found.items
-        ≡ take s.limit (map (pending_row s.moment)
-        (filter (λ e. leb s.min_idle (idle s.moment e.1.time))
-        (filter (λ e. is_within s.range e.0) (listed_rows rows c.args.ids.now.keys)))) = grind (arith, common_steps) in
+    ≡ take s.limit (map (pending_row s.moment)
+    (filter (λ e. leb s.min_idle (idle s.moment e.1.time))
+    (filter (λ e. is_within s.range e.0) (listed_rows rows c.args.ids.now.keys)))) = grind (arith, common_steps) in
     first ∙ ap (λ es. take s.limit (map (pending_row s.moment) es)) (asked-owned s name rows c.args.ids.now.keys ids)

@@ -7,7 +7,7 @@ abbrev pub invariant-loop-id : goal.invariant-loop-id
 invariant-loop-id l =
     let s = l.selection in
     (l.found.items ++ map (pending_row s.moment)
-        (filter (λ e. leb s.min_idle (idle s.moment e.1.time)) (listed_rows l.rows.entries l.id-iterator))
+    (filter (λ e. leb s.min_idle (idle s.moment e.1.time)) (listed_rows l.rows.entries l.id-iterator))
     ≡ map (pending_row s.moment) (filter (λ e. leb s.min_idle (idle s.moment e.1.time))
-        (filter (λ e. is_within s.range e.0) (listed_rows l.rows.entries l.ids.keys))))
+    (filter (λ e. is_within s.range e.0) (listed_rows l.rows.entries l.ids.keys))))
     × (length l.found.items ≤ s.limit)

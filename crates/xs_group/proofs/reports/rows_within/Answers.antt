@@ -11,6 +11,6 @@ loop-id-init c =
       ap (λ es. map (pending_row s.moment) (filter (λ e. leb s.min_idle (idle s.moment e.1.time)) es)) is
           ∙ ap (map (pending_row s.moment)) (rows-between s c.args.rows.now.entries
           ∙ ap (filter (is_selected s.range s.min_idle s.moment None))
-              (sym (entries-rows_of c.args.rows.now c.range-within.ensures.ordered))),
+          (sym (entries-rows_of c.args.rows.now c.range-within.ensures.ordered))),
       omega arith,
     )

@@ -8,5 +8,5 @@ invariant-loop-id l =
     let s = l.selection in
     (l.found.items ++ map (pending_row s.moment) (filter (λ e. leb s.min_idle (idle s.moment e.1.time)) l.id-iterator)
     ≡ map (pending_row s.moment) (filter (is_selected s.range s.min_idle s.moment None)
-        (rows_of l.rows.entries).entries))
+    (rows_of l.rows.entries).entries))
     × (length l.found.items ≤ s.limit)

@@ -5,11 +5,18 @@ use Rattle.xs_group.proofs.RemovedRows.{up_to-change}
 use Rattle.xs_group.proofs.Touching.{rows-reread}
 
 pub returns-clause-ok : goal.returns-clause-ok
-returns-clause-ok c = rw (← c.self.view_is) (grind (arith, c.set_touches.ensures, c.in_ok-created.ensures.ok,
-    c.as_slice-3.ensures.value, c.in_ok-rows.ensures, c.as_slice.ensures, c.in_ok-ids.ensures,
-    rows-reread c.args.now (ids_of c.args.stream.now.entries)
-        (own_ids c.args.consumer.now c.args.limit c.args.from c.self.inside.pending.rows.entries)
-        c.self.inside.pending.rows))
+returns-clause-ok c = rw (← c.self.view_is) (grind (
+  arith,
+  c.set_touches.ensures,
+  c.in_ok-created.ensures.ok,
+  c.as_slice-3.ensures.value,
+  c.in_ok-rows.ensures,
+  c.as_slice.ensures,
+  c.in_ok-ids.ensures,
+  rows-reread c.args.now (ids_of c.args.stream.now.entries)
+      (own_ids c.args.consumer.now c.args.limit c.args.from c.self.inside.pending.rows.entries)
+      c.self.inside.pending.rows,
+))
 
 pub invariant_of-self-2 : goal.invariant_of-self-2
 invariant_of-self-2 c =

@@ -7,8 +7,11 @@ use Rattle.xs_group.proofs.RemovedRows.{named-agreed}
 
 pub returns-then-contains_key-clause-made : goal.returns-then-contains_key-clause-made
 returns-then-contains_key-clause-made c =
-    rw (← c.self.view_is) (grind (arith, c.if-contains_key.ensures,
-    has_name-names_of c.self.inside.owners.entries c.args.name.now))
+    rw (← c.self.view_is) (grind (
+      arith,
+      c.if-contains_key.ensures,
+      has_name-names_of c.self.inside.owners.entries c.args.name.now,
+    ))
 
 pub returns-then-contains_key-clause-ok : goal.returns-then-contains_key-clause-ok
 returns-then-contains_key-clause-ok c =
@@ -25,12 +28,14 @@ pub returns-clause-made : goal.returns-clause-made
 returns-clause-made c = rw (← c.self.view_is) (ap not (c.if-contains_key.ensures ∙ sym (has_name-names_of c.self.inside.owners.entries c.args.name.now)))
 
 pub returns-clause-ok : goal.returns-clause-ok
-returns-clause-ok c = rw (← c.self.view_is) (grind (arith,
-    names-joined c.self.inside.owners c.insert.new.self c.in_ok-text.text c.new.result c.in_ok-insert.ensures.updates,
-    text_is c))
+returns-clause-ok c = rw (← c.self.view_is) (grind (
+  arith,
+  names-joined c.self.inside.owners c.insert.new.self c.in_ok-text.text c.new.result c.in_ok-insert.ensures.updates,
+  text_is c,
+))
 
 pub returns-clause-unowned : goal.returns-clause-unowned
 returns-clause-unowned c = rw (← c.self.view_is)
     (λ made. unowned-rows (names_of c.self.inside.owners.entries) (rows_of c.self.inside.rows.entries) c.args.name.now
     (named-agreed c.self.inside.rows.entries c.self.inside.owners.entries c.self.invariant)
-        (has_name-names_of c.self.inside.owners.entries c.args.name.now ∙ sym c.if-contains_key.ensures))
+    (has_name-names_of c.self.inside.owners.entries c.args.name.now ∙ sym c.if-contains_key.ensures))

@@ -12,5 +12,5 @@ pub returns : goal.returns
 returns c =
     rw (← c.self.view_is) (subst (λ own. IfOk c.limited_above.result (λ ids. ids ≡ limited c.args.limit (filter (λ x. is_below c.args.from x) own)))
     (owned-some c.self.inside.rows.entries c.self.inside.owners.entries c.args.name.now c.in-Some.ids.now
-        c.self.invariant c.in-Some.ensures.value c.limited_above.ensures.ordered)
+    c.self.invariant c.in-Some.ensures.value c.limited_above.ensures.ordered)
     c.limited_above.ensures.above)

@@ -8,7 +8,7 @@ returns-in_default c =
     let own = owned-none c.self.inside.rows.entries c.self.inside.owners.entries c.args.name.now c.self.invariant c.in_default.ensures.value in
     rw (← c.self.view_is) (c.new.ensures.items ∙ sym (take-none c.args.selection.now.limit)
     ∙ ap (λ es. take c.args.selection.now.limit (map (pending_row c.args.selection.now.moment) es))
-        (asked-owned c.args.selection.now c.args.name.now c.self.inside.rows.entries [] own))
+    (asked-owned c.args.selection.now c.args.name.now c.self.inside.rows.entries [] own))
 
 pub returns : goal.returns
 returns c = rw (← c.self.view_is) (c.rows_of_ids.ensures c.args.name.now (λ x.

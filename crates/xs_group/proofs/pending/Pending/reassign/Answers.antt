@@ -5,16 +5,18 @@ use Rattle.xs_group.proofs.Agreeing.{refused-as}
 use Rattle.xs_group.proofs.CarriedOutClaims.{rows-moved}
 
 pub add_ids-requires-clause-there : goal.add_ids-requires-clause-there
-add_ids-requires-clause-there c = grind (arith, has_name-names_of c.self.inside.owners.entries c.args.name.now,
-    c.self.view_is, c.requires.there)
+add_ids-requires-clause-there c =
+    grind (arith, has_name-names_of c.self.inside.owners.entries c.args.name.now, c.self.view_is, c.requires.there)
 
 pub returns-in_err-add_ids-clause-err : goal.returns-in_err-add_ids-clause-err
 returns-in_err-add_ids-clause-err c = refused-as c.from_residual-in_err-add_ids.result c.add_ids.new.owners.entries c.self.inside.owners.entries
     (rows_of c.self.inside.rows.entries) c.args.self.now c.add_ids.ensures.names c.self.view_is
 
 pub returns-clause-ok : goal.returns-clause-ok
-returns-clause-ok c = rw (← c.self.view_is) (grind (arith,
-    names-same c.move_rows.new.owners.entries c.add_ids.new.owners.entries c.move_rows.ensures.names,
-    names-same c.add_ids.new.owners.entries c.self.inside.owners.entries c.add_ids.ensures.names,
-    rows-moved c.self.inside.rows.entries c.move_rows.new.rows.entries c.args.name.now c.args.terms.now.moment
-        c.args.terms.now.rule c.args.ids.now c.move_rows.ensures.rows))
+returns-clause-ok c = rw (← c.self.view_is) (grind (
+  arith,
+  names-same c.move_rows.new.owners.entries c.add_ids.new.owners.entries c.move_rows.ensures.names,
+  names-same c.add_ids.new.owners.entries c.self.inside.owners.entries c.add_ids.ensures.names,
+  rows-moved c.self.inside.rows.entries c.move_rows.new.rows.entries c.args.name.now c.args.terms.now.moment
+      c.args.terms.now.rule c.args.ids.now c.move_rows.ensures.rows,
+))

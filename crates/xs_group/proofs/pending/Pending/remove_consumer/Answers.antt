@@ -8,15 +8,17 @@ pub returns-in_default-clause-rows : goal.returns-in_default-clause-rows
 returns-in_default-clause-rows c =
     let a = c.self.inside.owners.entries in
     let rows = c.self.inside.rows.entries in
-    rw (← c.self.view_is) (grind (arith,
-        names-without a c.remove.new.self.entries c.args.name.now c.remove.ensures.updates.0,
-    rows-without rows rows a a c.args.name.now c.self.invariant
-        (left-none rows a c.args.name.now (sym c.in_default.ensures.value))))
+    rw (← c.self.view_is) (grind (
+      arith,
+      names-without a c.remove.new.self.entries c.args.name.now c.remove.ensures.updates.0,
+      rows-without rows rows a a c.args.name.now c.self.invariant
+          (left-none rows a c.args.name.now (sym c.in_default.ensures.value)),
+    ))
 
 pub returns-in_default-clause-count : goal.returns-in_default-clause-count
 returns-in_default-clause-count c = rw (← c.self.view_is)
     (ap length (owned-none c.self.inside.rows.entries c.self.inside.owners.entries c.args.name.now c.self.invariant
-        c.in_default.ensures.value))
+    c.in_default.ensures.value))
 
 pub invariant_of-self-2 : goal.invariant_of-self-2
 invariant_of-self-2 c =
@@ -37,4 +39,4 @@ returns-clause-rows c =
 pub returns-clause-count : goal.returns-clause-count
 returns-clause-count c = rw (← c.self.view_is) (c.len-count.ensures.len
     ∙ ap length (owned-some c.self.inside.rows.entries c.self.inside.owners.entries c.args.name.now c.in-Some.ids
-        c.self.invariant c.in-Some.ensures.value c.len-count.ensures.ordered))
+    c.self.invariant c.in-Some.ensures.value c.len-count.ensures.ordered))
