@@ -12,8 +12,7 @@ use Rattle.xs_group.proofs.Views.{RowMap, has_name-names_of, same_names, names-s
 
 pub agreed-joined : (rows : List (Id × RowState)) (m n : Index) (name : List ℕ) (s : BTreeSet Id) → IsAgreed rows m.entries
     → is_some (ids_at m.entries name) ≡ false → s.keys ≡ [] → UpdatesBy (slice_cmp nat_cmp) (slice_cmp nat_cmp name) m n (Some s) → IsAgreed rows n.entries
-agreed-joined rows m n name s agreed none nothing u q x =
-    grind (arith, u.0 q, is_same_name-eq name q, none, nothing, agreed q x)
+agreed-joined rows m n name s agreed none nothing u q x = grind (arith, u.0 q, is_same_name-eq name q, agreed q x)
 
 pub has_name-with_name : (names : Names) (name q : List ℕ) → has_name (with_name names name) q ≡ (is_same_name q name || has_name names q)
 has_name-with_name names name q = grind (arith, get-insert_by nat_list_cmp_total names name tt q)
@@ -32,7 +31,7 @@ names-joined m n name s u = same_names _ _ (λ q. grind (
 -- a consumer that is there already
 pub name-again : (names : Names) (name : List ℕ) → has_name names name ≡ true → with_name names name ≡ names
 name-again names name there = same_names _ _ (λ q.
-    grind (arith, has_name-with_name names name q, is_same_name-eq q name, there))
+    grind (arith, has_name-with_name names name q, is_same_name-eq q name))
 
 -- ---- a row less
 
@@ -41,21 +40,14 @@ pub agreed-taken : (m n : RowMap) (a b : ConsumerIndex) (id : Id) (row : RowStat
     → UpdatesBy id_cmp (id_cmp id) m n None → IsAgreed n.entries b
 agreed-taken m n a b id row agreed found h u q x = h q x ∙ by (is_same_id id x) refl where
   by : (t : Bool) → is_same_id id x ≡ t → (holds a q x && not (is_same_name q row.consumer && is_same_id x id)) ≡ is_owner (indexed_row n.entries x) q
-  by true t = grind (
-    arith,
-    agreed q x,
-    found,
-    u.0 x,
-    is_same_id-eq id x t,
-    is_same_id-symm id x,
-    is_same_name-symm row.consumer q,
-  )
+  by true t =
+      grind (arith, agreed q x, u.0 x, is_same_id-eq id x t, is_same_id-symm id x, is_same_name-symm row.consumer q)
   by false t = grind (arith, agreed q x, u.2 x t, is_same_id-symm id x)
 
 -- ---- what callers know of a row
 
 pub none-from_free : (rows : List (Id × RowState)) (id : Id) → has_key (rows_of rows) id ≡ false → indexed_row rows id ≡ None
-none-from_free rows id e = grind (arith, get-rows_of rows id, e)
+none-from_free rows id e = grind (arith, get-rows_of rows id)
 
 pub held-again : (held : PendingList) (name : List ℕ) → has_name held.consumers name ≡ true → held ≡ record { consumers = with_name held.consumers name; rows = held.rows }
 held-again held name there = ap (λ names. record { consumers = names; rows = held.rows }) (sym (name-again held.consumers name there))

@@ -41,4 +41,4 @@ module _ (m n : Index) (name : List ℕ) (s w : BTreeSet Id) (e : tree.get (slic
 -- a consumer that isn't there has nothing to lose
 pub holds-absent : (m n : Index) (name : List ℕ) → n ≡ m → tree.get (slice_cmp nat_cmp) m name ≡ None → (id : Id) (q : List ℕ) (x : Id)
     → holds n.entries q x ≡ (holds m.entries q x && not (is_same_name q name && is_same_id x id))
-holds-absent m n name e none id q x = grind (arith, e, none, is_same_name-eq q name)
+holds-absent m n name e none id q x = grind (arith, is_same_name-eq q name)

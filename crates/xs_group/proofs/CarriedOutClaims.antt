@@ -14,7 +14,7 @@ use Rattle.xs_group.proofs.Scanning.{scanned-after}
 
 has-filter : (p : Id → Bool) (x : Id) (ids : List Id) → has_id ids x ≡ false → has_id (filter p ids) x ≡ false
 has-filter p x [] e = e
-has-filter p x (y ∷ ys) e = grind (arith, has-filter p x ys, e)
+has-filter p x (y ∷ ys) e = grind (arith, has-filter p x ys)
 
 pub apart-filter : (p : Id → Bool) (ids : List Id) → AreDistinct ids → AreDistinct (filter p ids)
 apart-filter p [] a = tt
@@ -30,7 +30,7 @@ apart-without_repeats (x ∷ xs) = (not_kept x (without_repeats xs), apart-filte
 
 above-keys : (x : Id) (es : List (Id × RowState)) → T (below_all id_cmp x es) → has_id (map (λ e. e.0) es) x ≡ false
 above-keys x [] h = refl
-above-keys x (e ∷ es) h = grind (arith, above-keys x es, h)
+above-keys x (e ∷ es) h = grind (arith, above-keys x es)
 
 apart-keys : (es : List (Id × RowState)) → T (is_sorted id_cmp es) → AreDistinct (map (λ e. e.0) es)
 apart-keys [] h = tt
@@ -39,7 +39,7 @@ apart-keys (e ∷ es) h = (above-keys e.0 es (first _ _ h), apart-keys es (secon
 module _ (hit : Id → Bool) (limit : ℕ) where
   has-scanned : (hits seen : ℕ) (x : Id) (ids : List Id) → has_id ids x ≡ false → has_id (scanned_after hit limit hits seen ids) x ≡ false
   has-scanned hits seen x [] e = e
-  has-scanned hits seen x (y ∷ ys) e = grind (arith, has-scanned (hits + cond (hit y) 1 0) (seen + 1) x ys, e)
+  has-scanned hits seen x (y ∷ ys) e = grind (arith, has-scanned (hits + cond (hit y) 1 0) (seen + 1) x ys)
 
   apart-scanned : (hits seen : ℕ) (ids : List Id) → AreDistinct ids → AreDistinct (scanned_after hit limit hits seen ids)
   apart-scanned hits seen [] a = tt

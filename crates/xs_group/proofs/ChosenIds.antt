@@ -27,10 +27,10 @@ row_at-get rows x = refl
 
 module _ (rows : List (Id × RowState)) (present : List Id) (now : ℕ) (rule : Rule) where
   pub taken-verdict : (row : Option RowState) (x : Id) → row ≡ row_at rows x → is_taken rows present now rule x ≡ is_taken_by (verdict_of row (has_id present x) now rule)
-  taken-verdict row x e = grind (arith, e)
+  taken-verdict row x e = grind arith
 
   pub removed-verdict : (row : Option RowState) (x : Id) → row ≡ row_at rows x → is_removed rows present x ≡ is_removed_by (verdict_of row (has_id present x) now rule)
-  removed-verdict row x e = grind (arith, e)
+  removed-verdict row x e = grind arith
 
   pub hits-verdict : (row : Option RowState) (x : Id) → row ≡ row_at rows x → cond (is_hit rows present now rule x) 1 0 ≡ hits_of (verdict_of row (has_id present x) now rule)
   hits-verdict row x e = grind (arith, removed-verdict row x e, taken-verdict row x e)

@@ -29,9 +29,7 @@ module _ (m n : RowMap) (a b : ConsumerIndex) (name : List ℕ) (id : Id) (rest 
     by true e = grind (
       arith,
       but q x,
-      found,
       u.0 x,
-      whose,
       is_same_id-eq x id e,
       is_same_id-symm id x,
       is_same_name-eq row.consumer q,
@@ -51,13 +49,13 @@ some-take ids i q e = among-take ids i q e
 pub row-moved : (m n : RowMap) (id : Id) (row : RowState) (name : List ℕ) (now : ℕ) (rule : Rule) → indexed_row m.entries id ≡ Some row
     → UpdatesBy id_cmp (id_cmp id) m n (Some (claimed_row name now rule row)) → (x : Id)
     → indexed_row n.entries x ≡ cond (is_same_id x id) (option_and_then (moved name now rule (id ∷ []) x) (indexed_row m.entries x)) (indexed_row m.entries x)
-row-moved m n id row name now rule found u x = grind (arith, u.0 x, is_same_id-symm id x, is_same_id-eq x id, found)
+row-moved m n id row name now rule found u x = grind (arith, u.0 x, is_same_id-symm id x, is_same_id-eq x id)
 
 -- what the rest will still do to the rows is what all do
 pub rows-left : (name : List ℕ) (now : ℕ) (rule : Rule) (id : Id) (rest : List Id) (x : Id) (o p : Option RowState) → has_id rest id ≡ false
     → p ≡ cond (is_same_id x id) (option_and_then (moved name now rule (id ∷ []) x) o) o
     → option_and_then (moved name now rule rest x) p ≡ option_and_then (moved name now rule (id ∷ rest) x) o
-rows-left name now rule id rest x o p apart e = grind (arith, e, is_same_id-eq x id, apart)
+rows-left name now rule id rest x o p apart e = grind (arith, is_same_id-eq x id)
 
 pub tails : (a b : List ℕ) (xs ys : List (List ℕ)) → a ∷ xs ≡ b ∷ ys → xs ≡ ys
 tails a b xs ys e = cc

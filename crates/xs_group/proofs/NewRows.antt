@@ -26,7 +26,7 @@ rows-all m n ids row is = same_rows _ _ (λ q.
 pub agreed-all : (m n : List (Id × RowState)) (b : ConsumerIndex) (name : List ℕ) (ids : List Id) (row : RowState) → row.consumer ≡ name → AreFree (rows_of m) ids
     → AreAgreedBut m b name ids → ((x : Id) → indexed_row n x ≡ cond (has_id ids x) (Some row) (indexed_row m x)) → IsAgreed n b
 agreed-all m n b name ids row whose free but is q x =
-    grind (arith, but q x, is x, none-from_free m x, free x, is_same_name-symm q name, whose)
+    grind (arith, but q x, is x, none-from_free m x, free x, is_same_name-symm q name)
 
 -- rows that are what they were
 pub agreed-but : (m n : List (Id × RowState)) (b : ConsumerIndex) (name : List ℕ) (ids : List Id) → AreAgreedBut m b name ids
@@ -37,7 +37,7 @@ pub among-take : (ids : List Id) (i : ℕ) (q : Id) → has_id (take i ids) q �
 among-take [] zero q e = e
 among-take [] (suc i) q e = e
 among-take (x ∷ xs) zero q e = absurd (false≢true e)
-among-take (x ∷ xs) (suc i) q e = grind (arith, among-take xs i q, e)
+among-take (x ∷ xs) (suc i) q e = grind (arith, among-take xs i q)
 
 -- rows that are put where none was, and taken out again
 pub out-again : (ids : List Id) (row : RowState) (rows : Rows) → AreFree rows ids → change (unless_acked ids) (with_rows ids row rows) ≡ rows
@@ -52,20 +52,19 @@ out-names names name none = same_names _ _ (λ q. grind (
   get-remove nat_list_cmp_total (with_name names name) name q,
   has_name-with_name names name q,
   is_same_name-eq q name,
-  none,
 ))
 
 -- a consumer that isn't there has no rows
 pub unowned-rows : (names : Names) (rows : Rows) (name : List ℕ) → IsNamed names rows → has_name names name ≡ false → change (unless_owned name) rows ≡ rows
 unowned-rows names rows name named none =
-    change-nothing (unless_owned name) rows (λ q. grind (arith, named name q, none))
+    change-nothing (unless_owned name) rows (λ q. grind (arith, named name q))
 
 -- without the consumer that was put in, a group is what it was
 pub held-back : (held : PendingList) (name : List ℕ) → change (unless_owned name) held.rows ≡ held.rows
     → true ≡ not (has_name held.consumers name)
     → ◌≡◌ {A = PendingList} (record { consumers = remove (with_name held.consumers name) name; rows = change (unless_owned name) held.rows }) held
 held-back held name unowned new =
-    let none : has_name held.consumers name ≡ false = grind (arith, new) in
+    let none : has_name held.consumers name ≡ false = grind arith in
     λ i. record { consumers = out-names held.consumers name none i; rows = unowned i }
 
 pub name-there : (names : Names) (name : List ℕ) → has_name (with_name names name) name ≡ true

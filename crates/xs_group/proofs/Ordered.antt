@@ -29,11 +29,11 @@ module _ {K X : Type 0} (R : K → K → Ordering) where
 
   below-filter : (p : K × X → Bool) (k : K) (es : List (K × X)) → T (below_all R k es) → T (below_all R k (filter p es))
   below-filter p k [] h = tt
-  below-filter p k (e ∷ es) h = grind (arith, below-filter p k es, h)
+  below-filter p k (e ∷ es) h = grind (arith, below-filter p k es)
 
   pub is_sorted-filter : (p : K × X → Bool) (es : List (K × X)) → T (is_sorted R es) → T (is_sorted R (filter p es))
   is_sorted-filter p [] h = tt
-  is_sorted-filter p (e ∷ es) h = grind (arith, is_sorted-filter p es, below-filter p e.0 es, h)
+  is_sorted-filter p (e ∷ es) h = grind (arith, is_sorted-filter p es, below-filter p e.0 es)
 
 -- ---- the entries of a map that is made of entries in order
 
@@ -73,12 +73,12 @@ same_ids xs es s t is =
 
 find-below : (k : Id) (name : List ℕ) (es : List (Id × RowState)) → T (below_all id_cmp k es) → has_id (keys_of (filter (λ e. is_same_name e.1.consumer name) es)) k ≡ false
 find-below k name [] h = refl
-find-below k name (e ∷ es) h = grind (arith, find-below k name es, h)
+find-below k name (e ∷ es) h = grind (arith, find-below k name es)
 
 -- the consumer's ids among rows in order
 pub has_owned : (name : List ℕ) (q : Id) (es : List (Id × RowState)) → T (is_sorted id_cmp es) → has_id (owned_ids name es) q ≡ is_owner (find id_cmp q es) name
 has_owned name q [] h = refl
-has_owned name q (e ∷ es) h = grind (arith, has_owned name q es, is_same_id-eq q e.0, find-below e.0 name es, h)
+has_owned name q (e ∷ es) h = grind (arith, has_owned name q es, is_same_id-eq q e.0, find-below e.0 name es)
 
 -- the ids of a consumer, as the index has them
 pub ids-owned : (ids : List Id) (rows : Rows) (name : List ℕ) → IsStrictlySortedBy id_cmp ids → ((x : Id) → has_id ids x ≡ is_owner (get rows x) name) → ids ≡ owned_ids name rows.entries
@@ -94,7 +94,7 @@ sorted-none = tt
 
 above-ids : (x : Id) (es : List (Id × RowState)) → T (below_all id_cmp x es) → AllAbove x (map (λ e. e.0) es)
 above-ids x [] h = tt
-above-ids x (e ∷ es) h = (grind (arith, h), above-ids x es (second _ _ h))
+above-ids x (e ∷ es) h = (grind arith, above-ids x es (second _ _ h))
 
 pub ascends-ids : (es : List (Id × RowState)) → T (is_sorted id_cmp es) → Ascends (map (λ e. e.0) es)
 ascends-ids [] h = tt

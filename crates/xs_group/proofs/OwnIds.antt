@@ -7,10 +7,10 @@ use Rattle.xs_group.proofs.Ordered.{ids-owned, sorted-none}
 -- none, of a consumer that isn't there
 pub owned-none : (rows : List (Id × RowState)) (a : ConsumerIndex) (name : List ℕ) → IsAgreed rows a → None ≡ ids_at a name → [] ≡ owned_ids name (rows_of rows).entries
 owned-none rows a name agreed none =
-    ids-owned [] (rows_of rows) name sorted-none (λ x. grind (arith, none, agreed name x, get-rows_of rows x))
+    ids-owned [] (rows_of rows) name sorted-none (λ x. grind (arith, agreed name x, get-rows_of rows x))
 
 -- those of the index
 pub owned-some : (rows : List (Id × RowState)) (a : ConsumerIndex) (name : List ℕ) (ids : BTreeSet Id) → IsAgreed rows a → Some ids ≡ ids_at a name → IsStrictlySortedBy id_cmp ids.keys
     → ids.keys ≡ owned_ids name (rows_of rows).entries
 owned-some rows a name ids agreed some sorted =
-    ids-owned ids.keys (rows_of rows) name sorted (λ x. grind (arith, some, agreed name x, get-rows_of rows x))
+    ids-owned ids.keys (rows_of rows) name sorted (λ x. grind (arith, agreed name x, get-rows_of rows x))

@@ -83,13 +83,13 @@ left-some rows new a name s some is x = is x ∙ ap (λ (o : Option (BTreeSet Id
 -- ---- what holds of every group
 
 pub up_to-empty : (cursor : Id) → IsUpTo cursor empty
-up_to-empty cursor x e = absurd (grind (arith, get-empty {X = RowState} id_cmp x, e))
+up_to-empty cursor x e = absurd (grind (arith, get-empty {X = RowState} id_cmp x))
 
 pub key-change : (f : Id → RowState → Option RowState) (rows : Rows) (x : Id) → has_key (change f rows) x ≡ true → has_key rows x ≡ true
-key-change f rows x e = grind (arith, get-changed f rows x, e)
+key-change f rows x e = grind (arith, get-changed f rows x)
 
 pub up_to-change : (f : Id → RowState → Option RowState) (cursor : Id) (rows : Rows) → IsUpTo cursor rows → IsUpTo cursor (change f rows)
 up_to-change f cursor rows up x e = up x (key-change f rows x e)
 
 pub named-agreed : (rows : List (Id × RowState)) (a : ConsumerIndex) → IsAgreed rows a → IsNamed (names_of a) (rows_of rows)
-named-agreed rows a agreed name x e = grind (arith, has_name-names_of a name, agreed name x, get-rows_of rows x, e)
+named-agreed rows a agreed name x e = grind (arith, has_name-names_of a name, agreed name x, get-rows_of rows x)

@@ -31,7 +31,7 @@ AreHeld owners es = AllByRecursion (λ e. Some e.1 ≡ ids_at owners e.0) es
 held-later : (e : List ℕ × BTreeSet Id) (owners es : ConsumerIndex) → T (below_all (slice_cmp nat_cmp) e.0 es) → AreHeld owners es → AreHeld (e ∷ owners) es
 held-later e owners [] b a = tt
 held-later e owners (f ∷ fs) b a = (
-  grind (arith, a.0, is_same_name-symm f.0 e.0, b),
+  grind (arith, a.0, is_same_name-symm f.0 e.0),
   held-later e owners fs (second _ _ b) a.1,
 )
 
@@ -91,8 +91,8 @@ among-between range rows (x ∷ xs) =
       one : (t : Bool) → t ≡ is_within range x → (o : Option RowState) → indexed_row rows x ≡ o
           → (a : List Id) (b : List (Id × RowState)) → listed_rows rows a ≡ filter (λ e. is_within range e.0) b
           → listed_rows rows (cond t (x ∷ a) a) ≡ filter (λ e. is_within range e.0) (with_row x o b)
-      one t e None f a b r = grind (arith, e, f, r)
-      one t e (Some row) f a b r = grind (arith, e, f, r)
+      one t e None f a b r = grind arith
+      one t e (Some row) f a b r = grind arith
 
 among-found : (rows es : List (Id × RowState)) → AreFound (rows_of rows).entries es → listed_rows rows (keys_of es) ≡ es
 unfolding get
@@ -119,7 +119,7 @@ asked-owned s name rows ids is =
     (λ e. grind arith) all
 
 not_within : (range : Range) → is_below range.high range.low ≡ true → (x : Id) → is_within range x ≡ false
-not_within range h x = grind (arith, h, below-not_below range.high range.low x h)
+not_within range h x = grind (arith, below-not_below range.high range.low x h)
 
 pub asked-none : (range : Range) (min now limit : ℕ) (consumer : Option (List ℕ)) (rows : List (Id × RowState)) → is_below range.high range.low ≡ true
     → [] ≡ take limit (map (pending_row now) (filter (is_selected range min now consumer) rows))

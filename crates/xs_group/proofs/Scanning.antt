@@ -42,7 +42,7 @@ module _ (hit : Id → Bool) (limit : ℕ) where
 
   pub scanned-on : (hits seen : ℕ) (x : Id) (xs : List Id) → leb limit hits ≡ false → leb (10 * limit) seen ≡ false
       → scanned_after hit limit hits seen (x ∷ xs) ≡ x ∷ scanned_after hit limit (hits + cond (hit x) 1 0) (seen + 1) xs
-  scanned-on hits seen x xs e f = grind (arith, e, f)
+  scanned-on hits seen x xs e f = grind arith
 
   pub scanned-enough : (hits seen : ℕ) (x : Id) (xs : List Id) → (leb limit hits || leb (10 * limit) seen) ≡ true → scanned_after hit limit hits seen (x ∷ xs) ≡ []
   scanned-enough hits seen x xs e = λ i. cond (e i) [] (x ∷ scanned_after hit limit (hits + cond (hit x) 1 0) (seen + 1) xs)
@@ -55,7 +55,7 @@ AreFound rows es = AllByRecursion (λ e. Some e.1 ≡ row_at rows e.0) es
 found-later : (e : Id × RowState) (rows es : List (Id × RowState)) → T (below_all id_cmp e.0 es) → AreFound rows es → AreFound (e ∷ rows) es
 found-later e rows [] b a = tt
 found-later e rows (f ∷ fs) b a = (
-  grind (arith, a.0, is_same_id-symm f.0 e.0, b),
+  grind (arith, a.0, is_same_id-symm f.0 e.0),
   found-later e rows fs (second _ _ b) a.1,
 )
 
@@ -80,10 +80,10 @@ keys-between start (e ∷ es) = grind (arith, keys-between start es, le-not_belo
 -- ---- the claim as it grows
 
 pub taken-on : (v : Verdict) (p : Id → Bool) (ids : List Id) (x : Id) (part : List Id) → p x ≡ is_taken_by v → with_taken v ids x ++ filter p part ≡ ids ++ filter p (x ∷ part)
-taken-on v p ids x part e = grind (arith, e, append_assoc ids (x ∷ []) (filter p part))
+taken-on v p ids x part e = grind (arith, append_assoc ids (x ∷ []) (filter p part))
 
 pub removed-on : (v : Verdict) (p : Id → Bool) (ids : List Id) (x : Id) (part : List Id) → p x ≡ is_removed_by v → with_removed v ids x ++ filter p part ≡ ids ++ filter p (x ∷ part)
-removed-on v p ids x part e = grind (arith, e, append_assoc ids (x ∷ []) (filter p part))
+removed-on v p ids x part e = grind (arith, append_assoc ids (x ∷ []) (filter p part))
 
 module _ (rows : List (Id × RowState)) (present : List Id) (now : ℕ) (rule : Rule) (start : Id) (limit : ℕ) where
   -- what a scan has found where it ends

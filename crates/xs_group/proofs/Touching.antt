@@ -25,16 +25,15 @@ rows-touched m n id touch row found u =
       u.0 q,
       is_same_id-symm id q,
       is_same_id-eq q id,
-      found,
     ))
 
 pub untouched : (rows : Rows) (id : Id) (touch : Touch) → get rows id ≡ None → rows ≡ set_one id (Some touch) rows
 untouched rows id touch none =
-    sym (change-nothing (touched_at id touch) rows (λ q. grind (arith, is_same_id-eq q id, none)))
+    sym (change-nothing (touched_at id touch) rows (λ q. grind (arith, is_same_id-eq q id)))
 
 pub agreed-touched : (m n : RowMap) (a : ConsumerIndex) (id : Id) (touch : Touch) (row : RowState) → IsAgreed m.entries a → indexed_row m.entries id ≡ Some row
     → UpdatesBy id_cmp (id_cmp id) m n (Some (with_touch touch row)) → IsAgreed n.entries a
-agreed-touched m n a id touch row agreed found u name x = grind (arith, agreed name x, is_same_id-eq id x, found, u.0 x)
+agreed-touched m n a id touch row agreed found u name x = grind (arith, agreed name x, is_same_id-eq id x, u.0 x)
 
 -- ---- the rows of a read
 

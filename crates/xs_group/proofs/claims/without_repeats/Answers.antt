@@ -14,7 +14,6 @@ seen c q =
     let next = take_more c.args.ids.now c.loop-id.id-index (record { ms = 0; seq = 0 }) c.loop-id-test.true in
     grind (
       arith,
-      next,
       c.in_ok-insert.ensures.updates.0 q,
       c.loop-id.invariant.1 q,
       is_same_id-symm id q,

@@ -19,4 +19,4 @@ pub loop-i-preserved : goal.loop-i-preserved
 loop-i-preserved c =
     let next = take_more c.args.ids.now c.loop-i.i (record { ms = 0; seq = 0 }) c.loop-i-test.true in
     let id = get_or c.args.ids.now c.loop-i.i (record { ms = 0; seq = 0 }) in
-    λ x. grind (arith, next, c.in-Ok.ensures.ok x, c.loop-i.invariant x, has-more (take c.loop-i.i c.args.ids.now) id x)
+    λ x. grind (arith, c.in-Ok.ensures.ok x, c.loop-i.invariant x, has-more (take c.loop-i.i c.args.ids.now) id x)

@@ -8,7 +8,6 @@ loop-id-preserved c =
     let id = get_or c.args.ids.now c.loop-id.id-index (record { ms = 0; seq = 0 }) in
     λ x. grind (
       arith,
-      next,
       c.remove.ensures.updates.0 x,
       is_same_id-symm id x,
       c.loop-id.invariant x,

@@ -16,5 +16,4 @@ returns-clause-agreed c = λ rest apart but.
     c.leave_owner.new.owners.entries c.args.name.now c.args.id rest but
     c.in-Some.entry.now c.claim.new.self (sym c.in-Some.ensures.value)
     (ap (λ (row : RowState). row.consumer) c.claim.ensures ∙ c.requires)
-    ((c.get_mut.follows.holds c.claim.new.self).3 (search rules)) (λ q x.
-    grind (arith, c.leave_owner.ensures.ids q x, c.consumer.ensures))
+    ((c.get_mut.follows.holds c.claim.new.self).3 (search rules)) (λ q x. grind (arith, c.leave_owner.ensures.ids q x))

@@ -22,7 +22,6 @@ loop-share-preserved c =
         rows-left name c.args.terms.now.moment c.args.terms.now.rule id rest x
             (indexed_row c.loop-share.rows.entries x) (indexed_row c.move_row.new.rows.entries x) apart.0
             (c.move_row.ensures.rows x),
-        todo,
         inv.rows x,
       );
       names = λ n. c.move_row.ensures.names n ∙ inv.names n;

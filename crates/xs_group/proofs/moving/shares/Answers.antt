@@ -6,11 +6,4 @@ pub loop-id-preserved : goal.loop-id-preserved
 loop-id-preserved c =
     let next = take_more c.args.ids.now c.loop-id._id-index (record { ms = 0; seq = 0 }) c.loop-id-test.true in
     let id = get_or c.args.ids.now c.loop-id._id-index (record { ms = 0; seq = 0 }) in
-    grind (
-      arith,
-      next,
-      names-more c.args.name.now (take c.loop-id._id-index c.args.ids.now) id,
-      c.in_ok-push.ensures.items,
-      c.in_ok-share.ensures,
-      c.loop-id.invariant,
-    )
+    grind (arith, names-more c.args.name.now (take c.loop-id._id-index c.args.ids.now) id)

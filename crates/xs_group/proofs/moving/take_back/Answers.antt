@@ -13,7 +13,6 @@ loop-id-preserved c =
       names = λ q. c.take_back_one.ensures.names q ∙ c.loop-id.invariant.names q;
       back = λ q x. grind (
         arith,
-        next,
         c.take_back_one.ensures.ids q x,
         c.loop-id.invariant.back q x,
         has-more (take c.loop-id.id-index c.args.ids.now) id x,

@@ -43,9 +43,7 @@ loop-name-preserved-then-count-eq0 c =
       held = held.1;
       counted = λ rows agreed. grind (
         arith,
-        none,
         told-more rows owners name ids c.next.new.self agreed held.0 c.len-count.ensures.ordered,
-        steps,
         c.loop-name.invariant.counted rows agreed,
       );
     }
@@ -63,18 +61,12 @@ loop-name-preserved c =
       held = held.1;
       counted = λ rows agreed. grind (
         arith,
-        some,
-        c.in_ok-consumer.ensures,
-        c.as_slice.ensures,
-        len,
-        c.in_ok-push.ensures.items,
         append_assoc c.loop-name.counts.items (record {
           consumer = name;
           count =
               length ids.keys;
         } ∷ []) (told rows c.next.new.self),
         told-more rows owners name ids c.next.new.self agreed held.0 c.len-count.ensures.ordered,
-        steps,
         c.loop-name.invariant.counted rows agreed,
       );
     }

@@ -7,11 +7,7 @@ use Rattle.xs_group.proofs.RemovedRows.{named-agreed}
 
 pub returns-then-contains_key-clause-made : goal.returns-then-contains_key-clause-made
 returns-then-contains_key-clause-made c =
-    rw (← c.self.view_is) (grind (
-      arith,
-      c.if-contains_key.ensures,
-      has_name-names_of c.self.inside.owners.entries c.args.name.now,
-    ))
+    rw (← c.self.view_is) (grind (arith, has_name-names_of c.self.inside.owners.entries c.args.name.now))
 
 pub returns-then-contains_key-clause-ok : goal.returns-then-contains_key-clause-ok
 returns-then-contains_key-clause-ok c =

@@ -11,19 +11,11 @@ loop-id-preserved c =
     let next = take_more c.args.ids.now c.loop-id.id-index (record { ms = 0; seq = 0 }) c.loop-id-test.true in (
       grind (
         arith,
-        next,
-        c.in_ok-add.ensures.take,
-        c.verdict-verdict.ensures,
-        c.loop-id.invariant.0,
         taken-more rows.entries present c.args.terms.now.moment c.args.terms.now.rule (get rows id) id done
             (row_at-get rows id),
       ),
       grind (
         arith,
-        next,
-        c.in_ok-add.ensures.removed,
-        c.verdict-verdict.ensures,
-        c.loop-id.invariant.1,
         removed-more rows.entries present c.args.terms.now.moment c.args.terms.now.rule (get rows id) id done
             (row_at-get rows id),
       ),

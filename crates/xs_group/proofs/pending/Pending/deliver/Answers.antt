@@ -9,9 +9,6 @@ put_all-requires-clause-there c = ap (λ held. has_name held.consumers c.args.na
 pub returns-then-made-clause-err : goal.returns-then-made-clause-err
 returns-then-made-clause-err c = grind (
   arith,
-  c.remove_consumer.ensures.rows,
-  c.in_default.ensures.err,
-  c.in_ok-made.ensures.ok,
   held-back c.args.self.now c.args.name.now (c.in_ok-made.ensures.unowned c.if-made.true) (sym c.if-made.true
       ∙ c.in_ok-made.ensures.made),
 )
@@ -19,7 +16,5 @@ returns-then-made-clause-err c = grind (
 pub returns-else-made-clause-err : goal.returns-else-made-clause-err
 returns-else-made-clause-err c = grind (
   arith,
-  c.in_default.ensures.err,
-  c.in_ok-made.ensures,
   held-again c.args.self.now c.args.name.now (was_there _ (sym c.if-made.false ∙ c.in_ok-made.ensures.made)),
 )

@@ -6,8 +6,7 @@ use Rattle.xs_group.proofs.Agreeing.{refused-as}
 use Rattle.xs_group.proofs.NewRows.{agreed-all, agreed-but, rows-all}
 
 pub add_ids-requires-clause-there : goal.add_ids-requires-clause-there
-add_ids-requires-clause-there c =
-    grind (arith, has_name-names_of c.self.inside.owners.entries c.args.name.now, c.self.view_is, c.requires.there)
+add_ids-requires-clause-there c = grind (arith, has_name-names_of c.self.inside.owners.entries c.args.name.now)
 
 pub returns-in_err-add_ids-clause-err : goal.returns-in_err-add_ids-clause-err
 returns-in_err-add_ids-clause-err c = refused-as c.from_residual-in_err-add_ids.result c.add_ids.new.owners.entries c.self.inside.owners.entries
@@ -16,10 +15,10 @@ returns-in_err-add_ids-clause-err c = refused-as c.from_residual-in_err-add_ids.
 -- the rows are of this consumer, since the shared name is its name
 put_is : (c : In-Ok) (x : Id)
     → indexed_row c.put_rows.new.rows.entries x ≡ cond (has_id c.args.ids.now x) (Some (first_row c.args.name.now c.args.now)) (indexed_row c.self.inside.rows.entries x)
-put_is c x = grind (arith, c.in-Ok.ensures.ok x, c.in_ok-shared.ensures)
+put_is c x = grind (arith, c.in-Ok.ensures.ok x)
 
 free : (c : In-Ok) → AreFree (rows_of c.self.inside.rows.entries) c.args.ids.now
-free c x e = grind (arith, c.self.view_is, c.requires.free x e)
+free c x e = grind (arith, c.requires.free x e)
 
 pub invariant_of-self-in-Ok : goal.invariant_of-self-in-Ok
 invariant_of-self-in-Ok c =
@@ -40,14 +39,12 @@ returns-in_default-clause-err c = grind (
   names-same c.take_back.new.owners.entries c.add_ids.new.owners.entries c.take_back.ensures.names,
   names-same c.add_ids.new.owners.entries c.self.inside.owners.entries c.add_ids.ensures.names,
   rows-same c.put_rows.new.rows.entries c.self.inside.rows.entries c.in_default.ensures.err,
-  c.self.view_is,
 )
 
 pub returns-clause-ok : goal.returns-clause-ok
 returns-clause-ok c = rw (← c.self.view_is) (grind (
   arith,
   names-same c.add_ids.new.owners.entries c.self.inside.owners.entries c.add_ids.ensures.names,
-  c.in_ok-shared.ensures,
   rows-all c.self.inside.rows.entries c.put_rows.new.rows.entries c.args.ids.now
       (first_row c.in_ok-shared.shared c.args.now) c.in-Ok.ensures.ok,
 ))

@@ -5,8 +5,7 @@ use Rattle.xs_group.proofs.Agreeing.{refused-as}
 use Rattle.xs_group.proofs.CarriedOutClaims.{rows-moved}
 
 pub add_ids-requires-clause-there : goal.add_ids-requires-clause-there
-add_ids-requires-clause-there c =
-    grind (arith, has_name-names_of c.self.inside.owners.entries c.args.name.now, c.self.view_is, c.requires.there)
+add_ids-requires-clause-there c = grind (arith, has_name-names_of c.self.inside.owners.entries c.args.name.now)
 
 pub returns-in_err-add_ids-clause-err : goal.returns-in_err-add_ids-clause-err
 returns-in_err-add_ids-clause-err c = refused-as c.from_residual-in_err-add_ids.result c.add_ids.new.owners.entries c.self.inside.owners.entries

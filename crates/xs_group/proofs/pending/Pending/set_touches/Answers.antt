@@ -6,11 +6,4 @@ pub loop-row-preserved : goal.loop-row-preserved
 loop-row-preserved c =
     let row = c.row-item.result in
     let next = take_more c.args.rows.now c.loop-row.row-index row c.loop-row-test.true in
-    grind (
-      arith,
-      next,
-      c.row-item.is,
-      c.set_row.ensures,
-      c.loop-row.invariant,
-      set_rows-more c.args.now.now (take c.loop-row.row-index c.args.rows.now) row c.args.self.now.rows,
-    )
+    grind (arith, set_rows-more c.args.now.now (take c.loop-row.row-index c.args.rows.now) row c.args.self.now.rows)

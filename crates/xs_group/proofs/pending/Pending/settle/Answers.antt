@@ -10,9 +10,6 @@ reassign-requires-clause-there c = ap (λ held. has_name held.consumers c.args.n
 pub returns-then-made-clause-err : goal.returns-then-made-clause-err
 returns-then-made-clause-err c = grind (
   arith,
-  c.remove_consumer.ensures.rows,
-  c.in_default.ensures.err,
-  c.in_ok-made.ensures.ok,
   held-back c.args.self.now c.args.name.now (c.in_ok-made.ensures.unowned c.if-made.true) (sym c.if-made.true
       ∙ c.in_ok-made.ensures.made),
 )
@@ -20,18 +17,11 @@ returns-then-made-clause-err c = grind (
 pub returns-else-made-clause-err : goal.returns-else-made-clause-err
 returns-else-made-clause-err c = grind (
   arith,
-  c.in_default.ensures.err,
-  c.in_ok-made.ensures,
   held-again c.args.self.now c.args.name.now (was_there _ (sym c.if-made.false ∙ c.in_ok-made.ensures.made)),
 )
 
 pub returns-clause-ok : goal.returns-clause-ok
 returns-clause-ok c = grind (
   arith,
-  c.take_all.ensures,
-  c.as_slice-2.ensures,
-  c.in-Ok.ensures.ok,
-  c.as_slice.ensures,
-  c.in_ok-made.ensures.ok,
   rows-settled c.args.name.now c.args.terms.now.moment c.args.terms.now.rule c.args.claim.now c.args.self.now.rows,
 )

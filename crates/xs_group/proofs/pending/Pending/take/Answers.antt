@@ -9,7 +9,7 @@ returns-in_default c = rw (← c.self.view_is) (held-by (names_of c.self.inside.
 
 pub invariant_of-self : goal.invariant_of-self
 invariant_of-self c = agreed-taken c.self.inside.rows c.remove.new.self c.self.inside.owners.entries c.remove_id.new.owners.entries c.args.id c.in-Some.entry c.self.invariant (sym c.in-Some.ensures.value)
-    (λ q x. grind (arith, c.remove_id.ensures.ids q x, c.consumer.ensures)) c.remove.ensures.updates
+    (λ q x. grind (arith, c.remove_id.ensures.ids q x)) c.remove.ensures.updates
 
 pub returns-in-Some : goal.returns-in-Some
 returns-in-Some c = rw (← c.self.view_is) (held-by (names_of c.remove_id.new.owners.entries) (names_of c.self.inside.owners.entries) _ _

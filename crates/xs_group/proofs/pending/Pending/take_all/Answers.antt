@@ -9,10 +9,4 @@ pub loop-id-preserved : goal.loop-id-preserved
 loop-id-preserved c =
     let next = take_more c.args.ids.now c.loop-id.id-index (record { ms = 0; seq = 0 }) c.loop-id-test.true in
     let id = get_or c.args.ids.now c.loop-id.id-index (record { ms = 0; seq = 0 }) in
-    grind (
-      arith,
-      next,
-      c.take.ensures,
-      c.loop-id.invariant,
-      acked-more (take c.loop-id.id-index c.args.ids.now) id c.args.self.now.rows,
-    )
+    grind (arith, acked-more (take c.loop-id.id-index c.args.ids.now) id c.args.self.now.rows)

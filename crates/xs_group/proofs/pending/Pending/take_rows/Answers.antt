@@ -11,12 +11,4 @@ loop-row-preserved c =
     let row = c.row-item.result in
     let done = take c.loop-row.row-index c.args.rows.now in
     let next = take_more c.args.rows.now c.loop-row.row-index row c.loop-row-test.true in
-    grind (
-      arith,
-      next,
-      c.row-item.is,
-      c.take.ensures,
-      c.loop-row.invariant,
-      acked-more (row_ids done) row.id c.args.self.now.rows,
-      row_ids-append done row,
-    )
+    grind (arith, acked-more (row_ids done) row.id c.args.self.now.rows, row_ids-append done row)
