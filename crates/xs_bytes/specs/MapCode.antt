@@ -8,14 +8,14 @@ use Rattle.std.proofs.Math.Dec.{T_prop}
 use Rattle.xs_bytes.specs.SortedMap.{SortedMap, empty}
 
 -- the entries, where their keys rise
-abbrev pub checked :
+abbrev pub map_if_sorted :
     {K X : Type 0} {R : K → K → Ordering} (es : List (K × X)) (b : Bool) → is_sorted R es ≡ b → SortedMap R X
-checked es true e = record { entries = es; sorted = subst T (sym e) tt }
-checked es false e = empty
+map_if_sorted es true e = record { entries = es; sorted = subst T (sym e) tt }
+map_if_sorted es false e = empty
 
 pub back :
     {K X : Type 0} {R : K → K → Ordering} (m : SortedMap R X) (b : Bool) (e : is_sorted R m.entries ≡ b)
-    → checked m.entries b e ≡ m
+    → map_if_sorted m.entries b e ≡ m
 back {R = R} m true e =
     λ i. record { entries = m.entries; sorted = T_prop (is_sorted R m.entries) (subst T (sym e) tt) m.sorted i }
 back m false e = absurd (subst T e m.sorted)
@@ -23,5 +23,5 @@ back m false e = absurd (subst T e m.sorted)
 -- a code, by which a proof tells maps apart
 abbrev pub coded_map : {K X : Type 0} {R : K → K → Ordering} → Coded K → Coded X → Coded (SortedMap R X)
 coded_map {K} {X} {R} k x =
-    code_by (List (K × X)) (coded_list (coded× k x)) (λ m. m.entries) (λ es. checked es (is_sorted R es) refl)
+    code_by (List (K × X)) (coded_list (coded× k x)) (λ m. m.entries) (λ es. map_if_sorted es (is_sorted R es) refl)
     (λ m. back m (is_sorted R m.entries) refl)

@@ -10,7 +10,7 @@ use Rattle.std.proofs.lemmas.List.{length-map}
 use Rattle.std.proofs.lemmas.Slice.Eq.{bytes_eq-Decides}
 use Rattle.xs_command.specs.declared.command_name.CommandName.{CommandName}
 use Rattle.xs_command.specs.Words.{is_word}
-use Rattle.xs_command.specs.CommandName.{names, among, name_of}
+use Rattle.xs_command.specs.CommandName.{names, name_among, name_of}
 
 length_is : (name word : List ℕ) → is_word name word ≡ true → length word ≡ length name
 unfolding is_word
@@ -41,6 +41,6 @@ finds word keep h [] = refl
 finds word keep h (entry ∷ table) = finds_more word keep h entry table (finds word keep h table)
 
 -- a word is looked for among the names whose length may be its own
-pub name_by_length : (word : List ℕ) (keep : ℕ → Bool) → keep (length word) ≡ true → name_of word ≡ among (filter (λ entry. keep (length entry.0)) names) word
+pub name_by_length : (word : List ℕ) (keep : ℕ → Bool) → keep (length word) ≡ true → name_of word ≡ name_among (filter (λ entry. keep (length entry.0)) names) word
 unfolding name_of
 name_by_length word keep h = ap (option_map (λ entry. entry.1)) (finds word keep h names)

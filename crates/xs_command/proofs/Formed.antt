@@ -19,7 +19,7 @@ use Rattle.xs_command.specs.Words.{Reading, Part, ◌>>=◌, and_then, word, id_
 use Rattle.xs_command.specs.Options.{many}
 use Rattle.xs_command.specs.Syntax.{only, ids, leading_ids}
 use Rattle.xs_command.specs.Trim.{trim_option}
-use Rattle.xs_command.specs.AddId.{add_id_of, add_id, next_in, written, meaning}
+use Rattle.xs_command.specs.AddId.{add_id_of, add_id, next_in, exact_id, meaning}
 use Rattle.xs_command.specs.Fields.{pairs, fields}
 use Rattle.xs_command.specs.Ping.{ping, quit}
 use Rattle.xs_command.specs.Xadd.{xadd, add_option, no_add_options, addition}
@@ -101,7 +101,7 @@ del_formed (k ∷ keys) y e = del_test (nat_lt 0 (length (k ∷ keys))) k keys y
 
 -- ---- XADD
 
-written_sure : (o : Option Id) (x : AddId) → written o ≡ Ok x → IsAddId x
+written_sure : (o : Option Id) (x : AddId) → exact_id o ≡ Ok x → IsAddId x
 written_sure None x e = absurd cc
 written_sure (Some id) x e = written_test id x (is_same_id id zero_id) refl e
   where
@@ -113,7 +113,7 @@ next_sure : (o : Option ℕ) (x : AddId) → next_in o ≡ Ok x → IsAddId x
 next_sure None x e = absurd cc
 next_sure (Some ms) x e = let same : add.AutoSeq ms ≡ x = cc in subst IsAddId same tt
 
-add_id_sure : (star dashed : Bool) (text : List ℕ) (x : AddId) → cond star (Ok add.Auto) (cond dashed (next_in (id_number (take (length text - 2) text))) (written (parse_id text 0))) ≡ Ok x → IsAddId x
+add_id_sure : (star dashed : Bool) (text : List ℕ) (x : AddId) → cond star (Ok add.Auto) (cond dashed (next_in (id_number (take (length text - 2) text))) (exact_id (parse_id text 0))) ≡ Ok x → IsAddId x
 add_id_sure true dashed text x e = let same : add.Auto ≡ x = cc in subst IsAddId same tt
 add_id_sure false true text x e = next_sure (id_number (take (length text - 2) text)) x e
 add_id_sure false false text x e = written_sure (parse_id text 0) x e

@@ -12,13 +12,13 @@ use Rattle.xs_command.specs.Integer.{at_least_zero}
 use Rattle.xs_command.specs.WellFormed.{IsWellFormed}
 use Rattle.xs_command.specs.Words.{Reading, is_word, word, low, high, integer}
 use Rattle.xs_command.specs.Options.{many}
-use Rattle.xs_command.specs.CommandName.{fits}
+use Rattle.xs_command.specs.CommandName.{is_within_bounds}
 use Rattle.xs_command.specs.Syntax.{ids}
 use Rattle.xs_command.specs.Xgroup.{xgroup, group_named, group_syntax, subcommand_word_counts, create, destroy}
 use Rattle.xs_command.specs.Xgroup.{create_consumer}
 use Rattle.xs_command.specs.Xgroup.{delete_consumer, create_option, group_start, subcommand_of}
 use Rattle.xs_command.specs.Xack.{xack}
-use Rattle.xs_command.specs.Xpending.{xpending, form, counted, idle_rows, pending_rows, optional}
+use Rattle.xs_command.specs.Xpending.{xpending, form, with_word_count, idle_rows, pending_rows, optional}
 use Rattle.xs_command.specs.Xclaim.{xclaim, claim_option, plain_rule}
 use Rattle.xs_command.specs.Xautoclaim.{xautoclaim, auto_claim_option, no_claim_options}
 use Rattle.xs_command.proofs.Formed.{Always, after_any, after_sure, only_is, ids_some}
@@ -54,7 +54,7 @@ group_counted sub false words y e = absurd cc
 
 group_named_formed : (sub : Option Subcommand) → Always IsWellFormed (group_named sub)
 group_named_formed None words y e = absurd cc
-group_named_formed (Some sub) words y e = group_counted sub (fits (subcommand_word_counts sub) (length words + 2)) words y e
+group_named_formed (Some sub) words y e = group_counted sub (is_within_bounds (subcommand_word_counts sub) (length words + 2)) words y e
 
 pub xgroup_formed : Always IsWellFormed xgroup
 unfolding xgroup
@@ -88,10 +88,10 @@ tested : (b : Bool) (rows : Reading Command) → Always IsWellFormed rows → (w
 tested true rows h words y e = h words y e
 tested false rows h words y e = absurd cc
 
-counted_formed : (n m : ℕ) (rows : Reading Command) → Always IsWellFormed rows → Always IsWellFormed (counted n m rows)
+counted_formed : (n m : ℕ) (rows : Reading Command) → Always IsWellFormed rows → Always IsWellFormed (with_word_count n m rows)
 counted_formed n m rows h words y e = tested (length words == n || length words == m) rows h words y e
 
-long_formed : (b : Bool) (key group first : List ℕ) (words : List (List ℕ)) (y : Command) → cond b (counted 4 5 (idle_rows key group) words) (counted 3 4 (pending_rows key group 0) (first ∷ words)) ≡ Ok y → IsWellFormed y
+long_formed : (b : Bool) (key group first : List ℕ) (words : List (List ℕ)) (y : Command) → cond b (with_word_count 4 5 (idle_rows key group) words) (with_word_count 3 4 (pending_rows key group 0) (first ∷ words)) ≡ Ok y → IsWellFormed y
 long_formed true key group first words y e = counted_formed 4 5 (idle_rows key group) (idle_rows_formed key group) words y e
 long_formed false key group first words y e = counted_formed 3 4 (pending_rows key group 0) (rows_formed key group 0) (first ∷ words) y e
 

@@ -10,8 +10,8 @@ use Rattle.xs_command.specs.declared.command_name.CommandName.TheVariants.{Xrevr
 use Rattle.xs_command.specs.declared.command_name.CommandName.TheVariants.{Xpending, Xclaim, Xautoclaim, Del}
 use Rattle.xs_command.specs.Words.{Gives, word}
 use Rattle.xs_command.specs.WellFormed.{IsWellFormed}
-use Rattle.xs_command.specs.CommandName.{name_of, word_counts, fits}
-use Rattle.xs_command.specs.Read.{syntax, named, reads}
+use Rattle.xs_command.specs.CommandName.{name_of, word_counts, is_within_bounds}
+use Rattle.xs_command.specs.Read.{syntax, command_by_name, command_of_words}
 use Rattle.xs_command.proofs.Formed.{Always, after_any, ping_formed, quit_formed, xadd_formed, xdel_formed}
 use Rattle.xs_command.proofs.Formed.{xtrim_formed, xlen_formed, xrange_formed, xrevrange_formed, del_formed}
 use Rattle.xs_command.proofs.FormedGroups.{xgroup_formed, xack_formed, xpending_formed, xclaim_formed}
@@ -39,15 +39,15 @@ counted : (name : CommandName) (b : Bool) (words : List (List ℕ)) (y : Command
 counted name true words y e = syntax_formed name words y e
 counted name false words y e = absurd cc
 
-named_formed : (name : Option CommandName) → Always IsWellFormed (named name)
+named_formed : (name : Option CommandName) → Always IsWellFormed (command_by_name name)
 named_formed None words y e = absurd cc
-named_formed (Some name) words y e = counted name (fits (word_counts name) (length words + 1)) words y e
+named_formed (Some name) words y e = counted name (is_within_bounds (word_counts name) (length words + 1)) words y e
 
-reads_formed : Always IsWellFormed reads
-unfolding reads
+reads_formed : Always IsWellFormed command_of_words
+unfolding command_of_words
 reads_formed = after_any IsWellFormed word _ (λ first. named_formed (name_of first))
 
 -- so a function that gives what is read gives a command that is well formed
-pub given_formed : (words : List (List ℕ)) (result : Result Command Refusal) → Gives result (reads words) → IfOk result IsWellFormed
+pub given_formed : (words : List (List ℕ)) (result : Result Command Refusal) → Gives result (command_of_words words) → IfOk result IsWellFormed
 given_formed words (Ok command) h = reads_formed words command h
 given_formed words (Err refusal) h = tt

@@ -16,16 +16,16 @@ next_in None = Err BadId
 next_in (Some ms) = Ok (add.AutoSeq ms)
 
 -- a written id
-abbrev pub written : Option Id → Result AddId Fault
-written None = Err BadId
-written (Some id) = if is_same_id id zero_id then Err ZeroId else Ok (add.Exact id)
+abbrev pub exact_id : Option Id → Result AddId Fault
+exact_id None = Err BadId
+exact_id (Some id) = if is_same_id id zero_id then Err ZeroId else Ok (add.Exact id)
 
 -- `*`, `ms-*`, `ms-seq` or `ms`; a missing sequence is 0
 abbrev pub add_id_of : List ℕ → Result AddId Fault
 add_id_of text =
     if bytes_eq text (codes "*") then Ok add.Auto
     else (if bytes_eq (drop (length text - 2) text) (codes "-*") then next_in (id_number (take (length text - 2) text))
-    else written (parse_id text 0))
+    else exact_id (parse_id text 0))
 
 -- what a word means, or its fault
 abbrev pub meaning : {A : Type 0} → Result A Fault → Part A

@@ -17,16 +17,16 @@ names =
     ∷ (codes "xautoclaim", Xautoclaim) ∷ (codes "del", Del) ∷ []
 
 -- the one of these names that a word is, in upper or lower case
-abbrev pub among : List (List ℕ × CommandName) → List ℕ → Option CommandName
-among table word = option_map (λ entry. entry.1) (find (λ entry. is_word entry.0 word) table)
+abbrev pub name_among : List (List ℕ × CommandName) → List ℕ → Option CommandName
+name_among table word = option_map (λ entry. entry.1) (find (λ entry. is_word entry.0 word) table)
 
 -- the command that a word names
 unfoldable pub name_of : List ℕ → Option CommandName
-name_of word = among names word
+name_of word = name_among names word
 
 -- a length that few names have; most have 4, 6 or 10 letters
-abbrev pub has_another_length : ℕ → Bool
-has_another_length n = not (n == 4 || n == 6 || n == 10)
+abbrev pub has_rare_length : ℕ → Bool
+has_rare_length n = not (n == 4 || n == 6 || n == 10)
 
 -- how many words a command has, its name included: at least the first number, at most the second where there is one
 abbrev pub word_counts : CommandName → ℕ × Option ℕ
@@ -52,5 +52,5 @@ is_at_most None count = true
 is_at_most (Some most) count = nat_le count most
 
 -- so many words are neither too few nor too many
-abbrev pub fits : ℕ × Option ℕ → ℕ → Bool
-fits bounds count = nat_le bounds.0 count && is_at_most bounds.1 count
+abbrev pub is_within_bounds : ℕ × Option ℕ → ℕ → Bool
+is_within_bounds bounds count = nat_le bounds.0 count && is_at_most bounds.1 count

@@ -10,7 +10,7 @@ use Rattle.xs_command.specs.declared.command.Command.{Command}
 use Rattle.xs_command.specs.declared.command.Command.TheVariants as command
 use Rattle.xs_command.specs.declared.command.GroupStart.TheVariants.{Top}
 use Rattle.xs_command.specs.declared.command.ReadFrom.TheVariants.{New, After}
-use Rattle.xs_command.specs.Read.{reads}
+use Rattle.xs_command.specs.Read.{command_of_words}
 
 -- the words of a text, given the first bytes of the first one
 abbrev pub words_behind : List ℕ → List ℕ → List (List ℕ)
@@ -24,11 +24,11 @@ line text = words_behind [] text
 
 -- the line reads as this command
 abbrev pub Spells : List ℕ → Command → Type 0
-Spells text command = reads (line text) ≡ Ok command
+Spells text command = command_of_words (line text) ≡ Ok command
 
 -- the first fault of the line
 abbrev pub HasFault : List ℕ → Fault → Type 0
-HasFault text fault = reads (line text) ≡ Err fault
+HasFault text fault = command_of_words (line text) ≡ Err fault
 
 pub record StreamExamples : Type 0 where
   pub names : HasFault (codes "XREAD k 0") UnknownCommand

@@ -9,13 +9,14 @@ abbrev pub OptionOf : Type 0 → Type 0
 OptionOf S = S → List ℕ → Reading (S × Option (List (List ℕ)))
 
 -- an option that was read whole
-abbrev pub taken : {S : Type 0} → Result (S × List (List ℕ)) Fault → Result (S × Option (List (List ℕ))) Fault
-taken (Ok read) = Ok (read.0, Some read.1)
-taken (Err fault) = Err fault
+abbrev pub with_words_behind :
+    {S : Type 0} → Result (S × List (List ℕ)) Fault → Result (S × Option (List (List ℕ))) Fault
+with_words_behind (Ok read) = Ok (read.0, Some read.1)
+with_words_behind (Err fault) = Err fault
 
 -- the option takes this part
-abbrev pub taking : {S : Type 0} → Part S → Reading (S × Option (List (List ℕ)))
-taking part words = taken (part words)
+abbrev pub option_with : {S : Type 0} → Part S → Reading (S × Option (List (List ℕ)))
+option_with part words = with_words_behind (part words)
 
 -- how options go on after a name: after an option, or at the words if it was none
 abbrev pub option_after :

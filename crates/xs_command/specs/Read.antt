@@ -7,7 +7,7 @@ use Rattle.xs_command.specs.declared.command_name.CommandName.TheVariants.{Ping,
 use Rattle.xs_command.specs.declared.command_name.CommandName.TheVariants.{Xrevrange, Xgroup, Xreadgroup, Xack}
 use Rattle.xs_command.specs.declared.command_name.CommandName.TheVariants.{Xpending, Xclaim, Xautoclaim, Del}
 use Rattle.xs_command.specs.Words.{Reading, ◌>>=◌, word}
-use Rattle.xs_command.specs.CommandName.{name_of, word_counts, fits}
+use Rattle.xs_command.specs.CommandName.{name_of, word_counts, is_within_bounds}
 use Rattle.xs_command.specs.Ping.{ping, quit}
 use Rattle.xs_command.specs.Xadd.{xadd}
 use Rattle.xs_command.specs.Xdel.{xdel}
@@ -41,12 +41,13 @@ syntax Xautoclaim = xautoclaim
 syntax Del = del
 
 -- the words behind a name; their number comes first
-abbrev pub named : Option CommandName → Reading Command
-named None words = Err UnknownCommand
-named (Some name) words = if fits (word_counts name) (length words + 1) then syntax name words else Err Arity
+abbrev pub command_by_name : Option CommandName → Reading Command
+command_by_name None words = Err UnknownCommand
+command_by_name (Some name) words =
+    if is_within_bounds (word_counts name) (length words + 1) then syntax name words else Err Arity
 
 -- a name, and what stands behind it
-unfoldable pub reads : Reading Command
-reads = do
+unfoldable pub command_of_words : Reading Command
+command_of_words = do
   first ← word
-  named (name_of first)
+  command_by_name (name_of first)

@@ -7,7 +7,7 @@ use Rattle.xs_command.specs.declared.command.Command.TheVariants as command
 use Rattle.xs_command.specs.declared.xautoclaim.AutoClaimOptions.{AutoClaimOptions}
 use Rattle.xs_command.specs.Integer.{at_least_zero}
 use Rattle.xs_command.specs.Words.{Reading, ◌>>=◌, value, or_fault, is_word, word, integer, natural, low}
-use Rattle.xs_command.specs.Options.{OptionOf, many, taking}
+use Rattle.xs_command.specs.Options.{OptionOf, many, option_with}
 use Rattle.xs_command.specs.Syntax.{only}
 
 -- a number of at least 1
@@ -22,7 +22,7 @@ no_claim_options = record { limit = 100; just_id = false }
 unfoldable pub auto_claim_option : OptionOf AutoClaimOptions
 auto_claim_option options name words =
     if is_word (codes "count") name
-    then taking (natural >>= λ n. or_fault (positive n) NotInteger >>= λ limit. value (record {
+    then option_with (natural >>= λ n. or_fault (positive n) NotInteger >>= λ limit. value (record {
       limit = limit;
       just_id = options.just_id;
     })) words

@@ -10,7 +10,7 @@ use Rattle.xs_command.specs.declared.integer.Integer.{Integer}
 use Rattle.xs_command.specs.declared.integer.Integer.TheVariants.{Negative, Natural}
 use Rattle.xs_command.specs.Integer.{at_least_zero}
 use Rattle.xs_command.specs.Words.{Reading, ◌>>=◌, value, is_word, word, integer, natural}
-use Rattle.xs_command.specs.Options.{OptionOf, many, taking}
+use Rattle.xs_command.specs.Options.{OptionOf, many, option_with}
 use Rattle.xs_command.specs.Syntax.{only, ids}
 
 -- the rule without options
@@ -36,10 +36,11 @@ with_just_id rule = record { min_idle = rule.min_idle; when = rule.when; retry =
 unfoldable pub claim_option : OptionOf Rule
 claim_option rule name words =
     if is_word (codes "idle") name
-    then taking (integer >>= λ idle. value (with_time rule (time.Idle (at_least_zero idle)))) words
+    then option_with (integer >>= λ idle. value (with_time rule (time.Idle (at_least_zero idle)))) words
     else (if is_word (codes "time") name
-    then taking (integer >>= λ millis. value (with_time rule (claim_time_of millis))) words
-    else (if is_word (codes "retrycount") name then taking (natural >>= λ count. value (with_retry rule count)) words
+    then option_with (integer >>= λ millis. value (with_time rule (claim_time_of millis))) words
+    else (if is_word (codes "retrycount") name
+    then option_with (natural >>= λ count. value (with_retry rule count)) words
     else (if is_word (codes "justid") name then Ok (with_just_id rule, Some words)
     else (if is_word (codes "force") name then Err Unsupported
     else (if is_word (codes "lastid") name then Err Unsupported else Ok (rule, None))))))

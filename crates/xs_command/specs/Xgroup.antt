@@ -13,7 +13,7 @@ use Rattle.xs_command.specs.declared.xgroup.Subcommand.TheVariants.{Create, Dest
 use Rattle.xs_command.specs.declared.xgroup.CreateOptions.{CreateOptions}
 use Rattle.xs_command.specs.Words.{Reading, Part, ◌>>=◌, or_fault, is_word, word}
 use Rattle.xs_command.specs.Options.{OptionOf, many}
-use Rattle.xs_command.specs.CommandName.{fits}
+use Rattle.xs_command.specs.CommandName.{is_within_bounds}
 use Rattle.xs_command.specs.Syntax.{only}
 
 -- the id behind which a new group starts to read; `$` is the top of the stream, and a missing sequence is 0
@@ -94,7 +94,7 @@ group_syntax SetId = λ words. Err Unsupported
 abbrev pub group_named : Option Subcommand → Reading Command
 group_named None words = Err UnknownCommand
 group_named (Some sub) words =
-    if fits (subcommand_word_counts sub) (length words + 2) then group_syntax sub words else Err Arity
+    if is_within_bounds (subcommand_word_counts sub) (length words + 2) then group_syntax sub words else Err Arity
 
 -- XGROUP subcommand ..
 unfoldable pub xgroup : Reading Command

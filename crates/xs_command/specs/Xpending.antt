@@ -35,14 +35,14 @@ idle_rows key group = do
   pending_rows key group (at_least_zero idle)
 
 -- n or m words; any other number is a syntax error
-abbrev pub counted : ℕ → ℕ → Reading Command → Reading Command
-counted n m rows words = if length words == n || length words == m then rows words else Err Syntax
+abbrev pub with_word_count : ℕ → ℕ → Reading Command → Reading Command
+with_word_count n m rows words = if length words == n || length words == m then rows words else Err Syntax
 
 -- the long form, which begins with this word; that there are too many or too few words is found first
 abbrev pub long_form : List ℕ → List ℕ → List ℕ → Reading Command
 long_form key group first words =
-    if is_word (codes "idle") first then counted 4 5 (idle_rows key group) words
-    else counted 3 4 (pending_rows key group 0) (first ∷ words)
+    if is_word (codes "idle") first then with_word_count 4 5 (idle_rows key group) words
+    else with_word_count 3 4 (pending_rows key group 0) (first ∷ words)
 
 -- no more words are the short form, others the long form
 unfoldable pub form : List ℕ → List ℕ → Reading Command

@@ -7,7 +7,7 @@ use Rattle.xs_command.specs.declared.command.Command.TheVariants as command
 use Rattle.xs_command.specs.declared.xrange.ScanOptions.{ScanOptions}
 use Rattle.xs_command.specs.Integer.{at_least_zero}
 use Rattle.xs_command.specs.Words.{Reading, ◌>>=◌, value, is_word, word, integer, low, high}
-use Rattle.xs_command.specs.Options.{OptionOf, many, taking}
+use Rattle.xs_command.specs.Options.{OptionOf, many, option_with}
 use Rattle.xs_command.specs.Syntax.{only}
 
 -- without COUNT there is no limit
@@ -18,7 +18,7 @@ no_limit = record { limit = None }
 unfoldable pub scan_option : OptionOf ScanOptions
 scan_option options name words =
     if is_word (codes "count") name
-    then taking (integer >>= λ count. value (record { limit = Some (at_least_zero count) })) words
+    then option_with (integer >>= λ count. value (record { limit = Some (at_least_zero count) })) words
     else Ok (options, None)
 
 -- the command with these parts

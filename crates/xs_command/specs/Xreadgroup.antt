@@ -10,7 +10,7 @@ use Rattle.xs_command.specs.declared.command.ReadOne.{ReadOne}
 use Rattle.xs_command.specs.declared.xreadgroup.Reader.{Reader}
 use Rattle.xs_command.specs.declared.xreadgroup.ReadOptions.{ReadOptions}
 use Rattle.xs_command.specs.Words.{Reading, Part, ◌>>=◌, value, is_word, word, integer, natural}
-use Rattle.xs_command.specs.Options.{OptionOf, many, taking}
+use Rattle.xs_command.specs.Options.{OptionOf, many, option_with}
 use Rattle.xs_command.specs.Streams.{streams}
 
 -- a number of 0 or below sets no limit
@@ -40,9 +40,10 @@ with_noack options = record { reader = options.reader; limit = options.limit; no
 -- { GROUP group consumer, COUNT n, BLOCK ms, NOACK }; BLOCK means nothing
 unfoldable pub read_option : OptionOf ReadOptions
 read_option options name words =
-    if is_word (codes "group") name then taking (reader >>= λ who. value (with_reader options who)) words
-    else (if is_word (codes "count") name then taking (integer >>= λ n. value (with_limit options (limit_of n))) words
-    else (if is_word (codes "block") name then taking (natural >>= λ millis. value options) words
+    if is_word (codes "group") name then option_with (reader >>= λ who. value (with_reader options who)) words
+    else (if is_word (codes "count") name
+    then option_with (integer >>= λ n. value (with_limit options (limit_of n))) words
+    else (if is_word (codes "block") name then option_with (natural >>= λ millis. value options) words
     else (if is_word (codes "noack") name then Ok (with_noack options, Some words) else Ok (options, None))))
 
 -- the command with these streams

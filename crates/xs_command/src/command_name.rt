@@ -1,6 +1,6 @@
 //! The names of the commands.
 ghost use Rattle.std.specs.Prelude.{◌≡◌, filter, length, ◌==◌};
-ghost use Rattle.xs_command.specs.CommandName.{fits};
+ghost use Rattle.xs_command.specs.CommandName.{is_within_bounds};
 
 use crate::word::Word;
 
@@ -25,7 +25,7 @@ pub(crate) enum CommandName {
 }
 
 impl CommandName {
-    ghost use Rattle.xs_command.specs.CommandName.{names, among, name_of, has_another_length, word_counts};
+    ghost use Rattle.xs_command.specs.CommandName.{names, name_among, name_of, has_rare_length, word_counts};
 
     /// The command that a word names, in upper or lower case.
     pub(crate) fn of(word: &Word<'_>) -> Option<Self>
@@ -46,7 +46,7 @@ impl CommandName {
 
     /// The command whose name has four letters.
     fn of_four(word: &Word<'_>) -> Option<Self>
-        ensures { result ≡ among (filter (λ entry. length entry.0 == 4) names) word.now }
+        ensures { result ≡ name_among (filter (λ entry. length entry.0 == 4) names) word.now }
     {
         if word.is(b"ping") {
             Some(Self::Ping)
@@ -65,7 +65,7 @@ impl CommandName {
 
     /// The command whose name has six letters.
     fn of_six(word: &Word<'_>) -> Option<Self>
-        ensures { result ≡ among (filter (λ entry. length entry.0 == 6) names) word.now }
+        ensures { result ≡ name_among (filter (λ entry. length entry.0 == 6) names) word.now }
     {
         if word.is(b"xrange") {
             Some(Self::Xrange)
@@ -78,7 +78,7 @@ impl CommandName {
 
     /// The command whose name has ten letters.
     fn of_ten(word: &Word<'_>) -> Option<Self>
-        ensures { result ≡ among (filter (λ entry. length entry.0 == 10) names) word.now }
+        ensures { result ≡ name_among (filter (λ entry. length entry.0 == 10) names) word.now }
     {
         if word.is(b"xreadgroup") {
             Some(Self::Xreadgroup)
@@ -89,7 +89,7 @@ impl CommandName {
 
     /// The command whose name has neither four, six nor ten letters.
     fn of_another_length(word: &Word<'_>) -> Option<Self>
-        ensures { result ≡ among (filter (λ entry. has_another_length (length entry.0)) names) word.now }
+        ensures { result ≡ name_among (filter (λ entry. has_rare_length (length entry.0)) names) word.now }
     {
         if word.is(b"xtrim") {
             Some(Self::Xtrim)
@@ -130,7 +130,7 @@ impl CommandName {
 /// Whether so many words are neither too few nor too many: at least the first number, and at most
 /// the second where there is one.
 pub(crate) fn allows(counts: (usize, Option<usize>), count: usize) -> bool
-    ensures { result ≡ fits counts count }
+    ensures { result ≡ is_within_bounds counts count }
 {
     match counts.1 {
         Some(most) => counts.0 <= count && count <= most,

@@ -2,7 +2,7 @@
 ghost use Rattle.std.specs.Prelude.{◌<◌, IfOk, length};
 ghost use Rattle.xs_command.specs.Words.{Gives};
 ghost use Rattle.xs_command.specs.WellFormed.{IsWellFormed};
-ghost use Rattle.xs_command.specs.Read.{reads, syntax};
+ghost use Rattle.xs_command.specs.Read.{command_of_words, syntax};
 
 use crate::command::Command;
 use crate::command_name::{CommandName, allows};
@@ -20,7 +20,7 @@ use xs_resp::{Fault, Request};
 /// word that the command keeps is copied. A refusal for memory says nothing of the words.
 pub fn read_command(alloc: Global, words: &[Bytes]) -> Result<Command, Refusal>
     requires { 0 < length words.now }
-    ensures exact { Gives result (reads words.now) }
+    ensures exact { Gives result (command_of_words words.now) }
     ensures formed { IfOk result IsWellFormed }
 {
     read_words(alloc, &Words::of_list(words))
@@ -29,16 +29,16 @@ pub fn read_command(alloc: Global, words: &[Bytes]) -> Result<Command, Refusal>
 /// As `read_command`, of the words of a request, which are lent from its bytes.
 pub fn read_request(alloc: Global, request: Request<'_>) -> Result<Command, Refusal>
     requires { 0 < length request }
-    ensures exact { Gives result (reads request.entry) }
+    ensures exact { Gives result (command_of_words request.entry) }
     ensures formed { IfOk result IsWellFormed }
 {
     read_words(alloc, &Words::of_request(request))
 }
 
 /// As `read_command`, where no word gives a fault too.
-#[tactic(auto, unfolding(crate::specs::Read::reads))]
+#[tactic(auto, unfolding(crate::specs::Read::command_of_words))]
 fn read_words(alloc: Global, words: &Words<'_>) -> Result<Command, Refusal>
-    ensures { Gives result (reads words.now) }
+    ensures { Gives result (command_of_words words.now) }
 {
     let (first, words) = words.word()?;
     let Some(name) = CommandName::of(&first) else {

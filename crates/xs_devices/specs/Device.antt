@@ -4,8 +4,8 @@ use Rattle.std.specs.Prelude.{Err}
 use Rattle.std.specs.Io.KnownBytes.{Consumes, IsAtEnd}
 
 -- counts stop at the greatest 64-bit number
-abbrev pub capped : ℕ → ℕ
-capped n = min n 18446744073709551615
+abbrev pub counter_at : ℕ → ℕ
+counter_at n = min n 18446744073709551615
 
 -- a read of nothing into a slice that isn't empty
 abbrev pub is_end : {E : Type 0} → Result ℕ E → List ℕ → Bool

@@ -2,7 +2,7 @@
 //! they have answered, whether they have failed, and whether the end was met.
 ghost use Rattle.std.specs.Prelude.{◌≡◌, ℕ, ◌+◌, ◌≤◌, Bool, false, ◌||◌, List, Option, IfOk, length, is_err};
 ghost use Rattle.std.specs.Io.KnownBytes.{ReadConsumes, WriteAppends};
-ghost use Rattle.xs_devices.specs.Device.{capped, is_end, is_failure};
+ghost use Rattle.xs_devices.specs.Device.{counter_at, is_end, is_failure};
 
 use std::io::{Read, Write};
 
@@ -28,7 +28,7 @@ pub trait Source {
     fn read(&mut self, into: &mut [u8]) -> Result<usize, Failed>
         ensures bound { IfOk result (λ n. n ≤ length into.new) }
         ensures bytes { ReadConsumes (rest self.old) (rest self.new) result into.new }
-        ensures counted { calls self.new ≡ capped (calls self.old + 1) }
+        ensures counted { calls self.new ≡ counter_at (calls self.old + 1) }
         ensures fault { broken self.new ≡ (broken self.old || is_err result) }
         ensures end { ended self.new ≡ (ended self.old || is_end result into.old) };
 }
@@ -48,7 +48,7 @@ pub trait Sink {
     fn write(&mut self, from: &[u8]) -> Result<usize, Failed>
         ensures bound { IfOk result (λ n. n ≤ length from.now) }
         ensures bytes { WriteAppends (held self.old) (held self.new) result from.now }
-        ensures counted { calls self.new ≡ capped (calls self.old + 1) }
+        ensures counted { calls self.new ≡ counter_at (calls self.old + 1) }
         ensures fault { broken self.new ≡ (broken self.old || is_failure result from.now) };
 }
 

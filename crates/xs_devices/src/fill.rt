@@ -15,7 +15,7 @@ pub trait Fill {
     ghost use Rattle.std.specs.Prelude.{◌≡◌, ◌≢◌, ◌+◌, ℕ, List, true, IfOk, OnErr, Ok, Err};
     ghost use Rattle.std.specs.Io.KnownBytes.{Keeps};
     ghost use Rattle.xs_devices.specs.declared.fill.FillFault.{FillFault};
-    ghost use Rattle.xs_devices.specs.Device.{capped, Gave};
+    ghost use Rattle.xs_devices.specs.Device.{counter_at, Gave};
 
     /// The same, with these bytes behind its own.
     ghost with_bytes: { Self → List ℕ → Self };
@@ -31,5 +31,5 @@ pub trait Fill {
         ensures err { OnErr result ((self.new ≡ self.old) × Keeps (R.rest reader.old) (R.rest reader.new)) }
         ensures memory { result ≡ Err FillFault.Memory → reader.new ≡ reader.old }
         ensures read { result ≡ Err FillFault.Read → R.broken reader.new ≡ true }
-        ensures counted { result ≢ Err FillFault.Memory → R.calls reader.new ≡ capped (R.calls reader.old + 1) };
+        ensures counted { result ≢ Err FillFault.Memory → R.calls reader.new ≡ counter_at (R.calls reader.old + 1) };
 }

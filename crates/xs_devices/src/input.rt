@@ -1,7 +1,7 @@
 //! The bytes that were read and aren't used yet.
 ghost use Rattle.std.specs.Prelude.{◌≡◌, ◌+◌, ◌≤◌, ◌++◌, [], true, length, take, drop, IfOk, OnOk, OnErr};
 ghost use Rattle.std.specs.Io.KnownBytes.{Consumes, Keeps, IsAtEnd};
-ghost use Rattle.xs_devices.specs.Device.{capped};
+ghost use Rattle.xs_devices.specs.Device.{counter_at};
 
 use crate::device::{Failed, Source};
 use crate::fill::{Fill, FillFault};
@@ -164,7 +164,7 @@ fn read_behind<R: Source>(bytes: &mut Vec<u8>, end: usize, reader: &mut R) -> Re
     ensures bytes { IfOk result (λ n. Consumes (R.rest reader.old) (R.rest reader.new)
         (take n (drop end bytes.new.items))) }
     ensures end { IfOk result (λ n. n ≡ 0 → IsAtEnd (R.rest reader.new) × (R.ended reader.new ≡ true)) }
-    ensures counted { R.calls reader.new ≡ capped (R.calls reader.old + 1) }
+    ensures counted { R.calls reader.new ≡ counter_at (R.calls reader.old + 1) }
     ensures err { OnErr result ((R.broken reader.new ≡ true) × Keeps (R.rest reader.old) (R.rest reader.new)) }
 {
     let (_, behind) = bytes.as_mut_slice().split_at_mut(end);

@@ -3,7 +3,8 @@ use Rattle.xs_group.proofs.Terms.{◌≡◌, ℕ, Bool, true, false, not, ◌&&�
 use Rattle.xs_group.proofs.Terms.{Err, OnErr, sym, ap, ◌∙◌, refl, UpdatesBy, BTreeSet, nat_cmp, slice_cmp}
 use Rattle.xs_group.proofs.Terms.{nat_list_cmp_total, has_key, get-insert_by, Id, id_cmp, is_same_id, is_same_id-eq}
 use Rattle.xs_group.proofs.Terms.{is_same_id-symm, RowState, Rows, Names, is_same_name, with_name, has_name, rows_of}
-use Rattle.xs_group.proofs.Terms.{PendingList, ConsumerIndex, names_of, ids_at, holds, is_owner, indexed_row, IsAgreed}
+use Rattle.xs_group.proofs.Terms.{PendingList, ConsumerIndex, names_of, ids_at, has_pending_id, is_owner, indexed_row}
+use Rattle.xs_group.proofs.Terms.{IsAgreed}
 use Rattle.xs_group.proofs.Terms.{arith}
 use Rattle.xs_group.proofs.ByConsumer.{Index, is_same_name-eq, is_same_name-symm}
 use Rattle.xs_group.proofs.Views.{RowMap, has_name-names_of, same_names, names-same, get-rows_of}
@@ -36,10 +37,10 @@ name-again names name there = same_names _ _ (λ q.
 -- ---- a row less
 
 pub agreed-taken : (m n : RowMap) (a b : ConsumerIndex) (id : Id) (row : RowState) → IsAgreed m.entries a → indexed_row m.entries id ≡ Some row
-    → ((q : List ℕ) → (x : Id) → holds b q x ≡ (holds a q x && not (is_same_name q row.consumer && is_same_id x id)))
+    → ((q : List ℕ) → (x : Id) → has_pending_id b q x ≡ (has_pending_id a q x && not (is_same_name q row.consumer && is_same_id x id)))
     → UpdatesBy id_cmp (id_cmp id) m n None → IsAgreed n.entries b
 agreed-taken m n a b id row agreed found h u q x = h q x ∙ by (is_same_id id x) refl where
-  by : (t : Bool) → is_same_id id x ≡ t → (holds a q x && not (is_same_name q row.consumer && is_same_id x id)) ≡ is_owner (indexed_row n.entries x) q
+  by : (t : Bool) → is_same_id id x ≡ t → (has_pending_id a q x && not (is_same_name q row.consumer && is_same_id x id)) ≡ is_owner (indexed_row n.entries x) q
   by true t =
       grind (arith, agreed q x, u.0 x, is_same_id-eq id x t, is_same_id-symm id x, is_same_name-symm row.consumer q)
   by false t = grind (arith, agreed q x, u.2 x t, is_same_id-symm id x)

@@ -2,7 +2,7 @@
 use Rattle.xs_group.proofs.Terms.{◌≡◌, ℕ, Bool, true, false, not, ◌&&◌, ◌||◌, List, Some, None, is_some, sym, ap, ◌∙◌}
 use Rattle.xs_group.proofs.Terms.{BTreeMap, UpdatesBy, BTreeSet, nat_cmp, is_eq, eq_by_cmp_equiv, slice_cmp}
 use Rattle.xs_group.proofs.Terms.{nat_list_cmp_total, tied_itself, exact_bytes, Id, id_cmp, is_same_id, has_id}
-use Rattle.xs_group.proofs.Terms.{equal-from, is_same_id-symm, is_same_name, ids_at, holds, arith}
+use Rattle.xs_group.proofs.Terms.{equal-from, is_same_id-symm, is_same_name, ids_at, has_pending_id, arith}
 use Rattle.std.specs.BTreeMap as tree
 use Rattle.std.specs.BTreeSet as set
 
@@ -31,14 +31,14 @@ module _ (m n : Index) (name : List ℕ) (s w : BTreeSet Id) (e : tree.get (slic
 
   -- ids more in the set that is found
   pub holds-put : (ids : List Id) → ((x : Id) → set.contains id_cmp w x ≡ (set.contains id_cmp s x || has_id ids x)) → (q : List ℕ) (x : Id)
-      → holds n.entries q x ≡ (holds m.entries q x || (is_same_name q name && has_id ids x))
+      → has_pending_id n.entries q x ≡ (has_pending_id m.entries q x || (is_same_name q name && has_id ids x))
   holds-put ids v q x = grind (arith, u.0 q, found q, v x, is_same_name-symm name q)
 
   -- an id less
-  pub holds-removed : (id : Id) → set.UpdatesBy id_cmp (id_cmp id) s w false → (q : List ℕ) (x : Id) → holds n.entries q x ≡ (holds m.entries q x && not (is_same_name q name && is_same_id x id))
+  pub holds-removed : (id : Id) → set.UpdatesBy id_cmp (id_cmp id) s w false → (q : List ℕ) (x : Id) → has_pending_id n.entries q x ≡ (has_pending_id m.entries q x && not (is_same_name q name && is_same_id x id))
   holds-removed id v q x = grind (arith, u.0 q, found q, v.0 x, is_same_name-symm name q, is_same_id-symm id x)
 
 -- a consumer that isn't there has nothing to lose
 pub holds-absent : (m n : Index) (name : List ℕ) → n ≡ m → tree.get (slice_cmp nat_cmp) m name ≡ None → (id : Id) (q : List ℕ) (x : Id)
-    → holds n.entries q x ≡ (holds m.entries q x && not (is_same_name q name && is_same_id x id))
+    → has_pending_id n.entries q x ≡ (has_pending_id m.entries q x && not (is_same_name q name && is_same_id x id))
 holds-absent m n name e none id q x = grind (arith, is_same_name-eq q name)

@@ -3,7 +3,8 @@ use Rattle.xs_group.proofs.Terms.{◌≡◌, ℕ, ◌+◌, Bool, false, cond, no
 use Rattle.xs_group.proofs.Terms.{option_and_then, sym, refl, subst, T, below_all, is_sorted, change, Id, id_cmp}
 use Rattle.xs_group.proofs.Terms.{is_same_id, is_below, has_id, is_same_id-symm, Claim, Rule, is_taken, is_hit}
 use Rattle.xs_group.proofs.Terms.{without_repeats, from_start, scanned_part, row_after_claim, RowState, Rows}
-use Rattle.xs_group.proofs.Terms.{GroupState, unless_acked, rows_of, indexed_row, moved, scanned_after, AreDistinct}
+use Rattle.xs_group.proofs.Terms.{GroupState, unless_acked, rows_of, indexed_row, row_after_move, ids_scanned_after}
+use Rattle.xs_group.proofs.Terms.{AreDistinct}
 use Rattle.xs_group.proofs.Terms.{IsClaimOn, arith}
 use Rattle.xs_group.proofs.Ordered.{first, second}
 use Rattle.xs_group.proofs.Views.{same_rows, get-rows_of}
@@ -37,11 +38,11 @@ apart-keys [] h = tt
 apart-keys (e ∷ es) h = (above-keys e.0 es (first _ _ h), apart-keys es (second _ _ h))
 
 module _ (hit : Id → Bool) (limit : ℕ) where
-  has-scanned : (hits seen : ℕ) (x : Id) (ids : List Id) → has_id ids x ≡ false → has_id (scanned_after hit limit hits seen ids) x ≡ false
+  has-scanned : (hits seen : ℕ) (x : Id) (ids : List Id) → has_id ids x ≡ false → has_id (ids_scanned_after hit limit hits seen ids) x ≡ false
   has-scanned hits seen x [] e = e
   has-scanned hits seen x (y ∷ ys) e = grind (arith, has-scanned (hits + cond (hit y) 1 0) (seen + 1) x ys)
 
-  apart-scanned : (hits seen : ℕ) (ids : List Id) → AreDistinct ids → AreDistinct (scanned_after hit limit hits seen ids)
+  apart-scanned : (hits seen : ℕ) (ids : List Id) → AreDistinct ids → AreDistinct (ids_scanned_after hit limit hits seen ids)
   apart-scanned hits seen [] a = tt
   apart-scanned hits seen (y ∷ ys) a = grind (
     arith,
@@ -62,17 +63,17 @@ apart-claim group now rule claim (inr w) =
 -- ---- taken first, and then removed
 
 pub rows-settled : (name : List ℕ) (now : ℕ) (rule : Rule) (claim : Claim) (rows : Rows)
-    → change (unless_acked claim.removed) (change (moved name now rule claim.take) rows) ≡ change (row_after_claim name now rule claim) rows
+    → change (unless_acked claim.removed) (change (row_after_move name now rule claim.take) rows) ≡ change (row_after_claim name now rule claim) rows
 rows-settled name now rule claim rows =
     same_rows _ _ (λ q. grind (
       arith,
-      get-changed (unless_acked claim.removed) (change (moved name now rule claim.take) rows) q,
-      get-changed (moved name now rule claim.take) rows q,
+      get-changed (unless_acked claim.removed) (change (row_after_move name now rule claim.take) rows) q,
+      get-changed (row_after_move name now rule claim.take) rows q,
       get-changed (row_after_claim name now rule claim) rows q,
     ))
 
 pub rows-moved : (a b : List (Id × RowState)) (name : List ℕ) (now : ℕ) (rule : Rule) (ids : List Id)
-    → ((x : Id) → indexed_row b x ≡ option_and_then (moved name now rule ids x) (indexed_row a x)) → rows_of b ≡ change (moved name now rule ids) (rows_of a)
+    → ((x : Id) → indexed_row b x ≡ option_and_then (row_after_move name now rule ids x) (indexed_row a x)) → rows_of b ≡ change (row_after_move name now rule ids) (rows_of a)
 rows-moved a b name now rule ids is =
     same_rows _ _ (λ q.
-    grind (arith, get-rows_of b q, is q, get-rows_of a q, get-changed (moved name now rule ids) (rows_of a) q))
+    grind (arith, get-rows_of b q, is q, get-rows_of a q, get-changed (row_after_move name now rule ids) (rows_of a) q))

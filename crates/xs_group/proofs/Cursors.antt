@@ -1,6 +1,6 @@
 -- Ids above a cursor.
 use Rattle.xs_group.proofs.Terms.{◌≡◌, ℕ, suc, zero, true, false, List, [], ◌∷◌, ◌++◌, filter, take, Option, Some, None}
-use Rattle.xs_group.proofs.Terms.{refl, false≢true, Id, is_below, has_id, AllAbove, Ascends, limited, is_same_id-eq}
+use Rattle.xs_group.proofs.Terms.{refl, false≢true, Id, is_below, has_id, AllAbove, Ascends, up_to_limit, is_same_id-eq}
 use Rattle.xs_group.proofs.Terms.{below-not_back, below-irrefl, not_above-trans, RowState, Rows, last_of, with_rows}
 use Rattle.xs_group.proofs.Terms.{AreFree, IsUpTo, arith}
 use Rattle.xs_group.proofs.NewRows.{get-with_rows}
@@ -55,10 +55,10 @@ ascends-take zero ids a = tt
 ascends-take (suc n) [] a = tt
 ascends-take (suc n) (y ∷ ys) a = (above-take y n ys a.0, ascends-take n ys a.1)
 
-pub new_ids-above : (limit : Option ℕ) (c : Id) (ids : List Id) → AllAbove c (limited limit (filter (λ y. is_below c y) ids))
+pub new_ids-above : (limit : Option ℕ) (c : Id) (ids : List Id) → AllAbove c (up_to_limit limit (filter (λ y. is_below c y) ids))
 new_ids-above None c ids = filter-above c ids
 new_ids-above (Some n) c ids = above-take c n (filter (λ y. is_below c y) ids) (filter-above c ids)
 
-pub new_ids-ascend : (limit : Option ℕ) (c : Id) (ids : List Id) → Ascends ids → Ascends (limited limit (filter (λ y. is_below c y) ids))
+pub new_ids-ascend : (limit : Option ℕ) (c : Id) (ids : List Id) → Ascends ids → Ascends (up_to_limit limit (filter (λ y. is_below c y) ids))
 new_ids-ascend None c ids a = ascends-filter c ids a
 new_ids-ascend (Some n) c ids a = ascends-take n (filter (λ y. is_below c y) ids) (ascends-filter c ids a)

@@ -2,7 +2,8 @@
 use Rattle.xs_group.proofs.Terms.{◌≡◌, ℕ, Bool, true, false, cond, not, ◌&&◌, ◌||◌, List, [], ◌∷◌, ◌++◌, map, take}
 use Rattle.xs_group.proofs.Terms.{Option, Some, option_and_then, ap, ◌∙◌, refl, UpdatesBy, Id, id_cmp, is_same_id}
 use Rattle.xs_group.proofs.Terms.{has_id, is_same_id-eq, is_same_id-symm, Rule, claimed_row, RowState, is_same_name}
-use Rattle.xs_group.proofs.Terms.{ConsumerIndex, holds, is_owner, indexed_row, IsAgreed, moved, AreAgreedBut, AreSomeOf}
+use Rattle.xs_group.proofs.Terms.{ConsumerIndex, has_pending_id, is_owner, indexed_row, IsAgreed, row_after_move}
+use Rattle.xs_group.proofs.Terms.{AreAgreedBut, AreSomeOf}
 use Rattle.xs_group.proofs.Terms.{arith}
 use Rattle.xs_group.proofs.ByConsumer.{is_same_name-eq, is_same_name-symm}
 use Rattle.xs_group.proofs.Views.{RowMap}
@@ -12,19 +13,19 @@ use Rattle.xs_group.proofs.NewRows.{among-take}
 
 -- once all are taken back, the indexes agree
 pub agreed-again : (rows : List (Id × RowState)) (a b : ConsumerIndex) (name : List ℕ) (done ids : List Id) → AreSomeOf done ids → AreAgreedBut rows a name done
-    → ((q : List ℕ) → (x : Id) → holds b q x ≡ (holds a q x && not (is_same_name q name && (has_id ids x && not (is_owner (indexed_row rows x) name))))) → IsAgreed rows b
+    → ((q : List ℕ) → (x : Id) → has_pending_id b q x ≡ (has_pending_id a q x && not (is_same_name q name && (has_id ids x && not (is_owner (indexed_row rows x) name))))) → IsAgreed rows b
 agreed-again rows a b name done ids some but h q x = grind (arith, h q x, but q x, some x, is_same_name-eq q name)
 
 -- ---- one row
 
 module _ (m n : RowMap) (a b : ConsumerIndex) (name : List ℕ) (id : Id) (rest : List Id) (but : AreAgreedBut m.entries a name (id ∷ rest)) where
   pub moved-some : (row new : RowState) → indexed_row m.entries id ≡ Some row → new.consumer ≡ name → UpdatesBy id_cmp (id_cmp id) m n (Some new)
-      → ((q : List ℕ) → (x : Id) → holds b q x ≡ cond (is_same_name row.consumer name) (holds a q x) (holds a q x && not (is_same_name q row.consumer && is_same_id x id)))
+      → ((q : List ℕ) → (x : Id) → has_pending_id b q x ≡ cond (is_same_name row.consumer name) (has_pending_id a q x) (has_pending_id a q x && not (is_same_name q row.consumer && is_same_id x id)))
       → AreAgreedBut n.entries b name rest
   moved-some row new found whose u h q x = h q x ∙ by (is_same_id x id) refl where
     by : (t : Bool) → is_same_id x id ≡ t
-        → cond (is_same_name row.consumer name) (holds a q x)
-        (holds a q x && not (is_same_name q row.consumer && is_same_id x id))
+        → cond (is_same_name row.consumer name) (has_pending_id a q x)
+        (has_pending_id a q x && not (is_same_name q row.consumer && is_same_id x id))
         ≡ (is_owner (indexed_row n.entries x) q || (is_same_name q name && has_id rest x))
     by true e = grind (
       arith,
@@ -48,13 +49,13 @@ some-take ids i q e = among-take ids i q e
 
 pub row-moved : (m n : RowMap) (id : Id) (row : RowState) (name : List ℕ) (now : ℕ) (rule : Rule) → indexed_row m.entries id ≡ Some row
     → UpdatesBy id_cmp (id_cmp id) m n (Some (claimed_row name now rule row)) → (x : Id)
-    → indexed_row n.entries x ≡ cond (is_same_id x id) (option_and_then (moved name now rule (id ∷ []) x) (indexed_row m.entries x)) (indexed_row m.entries x)
+    → indexed_row n.entries x ≡ cond (is_same_id x id) (option_and_then (row_after_move name now rule (id ∷ []) x) (indexed_row m.entries x)) (indexed_row m.entries x)
 row-moved m n id row name now rule found u x = grind (arith, u.0 x, is_same_id-symm id x, is_same_id-eq x id)
 
 -- what the rest will still do to the rows is what all do
 pub rows-left : (name : List ℕ) (now : ℕ) (rule : Rule) (id : Id) (rest : List Id) (x : Id) (o p : Option RowState) → has_id rest id ≡ false
-    → p ≡ cond (is_same_id x id) (option_and_then (moved name now rule (id ∷ []) x) o) o
-    → option_and_then (moved name now rule rest x) p ≡ option_and_then (moved name now rule (id ∷ rest) x) o
+    → p ≡ cond (is_same_id x id) (option_and_then (row_after_move name now rule (id ∷ []) x) o) o
+    → option_and_then (row_after_move name now rule rest x) p ≡ option_and_then (row_after_move name now rule (id ∷ rest) x) o
 rows-left name now rule id rest x o p apart e = grind (arith, is_same_id-eq x id)
 
 pub tails : (a b : List ℕ) (xs ys : List (List ℕ)) → a ∷ xs ≡ b ∷ ys → xs ≡ ys

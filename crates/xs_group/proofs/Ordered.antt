@@ -3,7 +3,7 @@ use Rattle.xs_group.proofs.Terms.{◌≡◌, ℕ, Bool, false, ◌&&◌, List, [
 use Rattle.xs_group.proofs.Terms.{refl, Ordering, T, find, below_all, is_sorted, same_entries, AllByRecursion, keys_of}
 use Rattle.xs_group.proofs.Terms.{IsOrdered, Less, sorted_head, sorted_tail, get-of_entries, Id, id_cmp, has_id}
 use Rattle.xs_group.proofs.Terms.{AllAbove, Ascends, same_id, is_same_id-eq, RowState, Rows, ids_total, is_same_name}
-use Rattle.xs_group.proofs.Terms.{owned_ids, rows_of, is_owner, arith}
+use Rattle.xs_group.proofs.Terms.{ids_of_consumer, rows_of, is_owner, arith}
 use Rattle.std.specs.List.Sorted.{IsStrictlySortedBy}
 use Rattle.xs_bytes.specs.SortedMap.{get}
 use Rattle.xs_group.proofs.Views.{RowMap}
@@ -76,12 +76,12 @@ find-below k name [] h = refl
 find-below k name (e ∷ es) h = grind (arith, find-below k name es)
 
 -- the consumer's ids among rows in order
-pub has_owned : (name : List ℕ) (q : Id) (es : List (Id × RowState)) → T (is_sorted id_cmp es) → has_id (owned_ids name es) q ≡ is_owner (find id_cmp q es) name
+pub has_owned : (name : List ℕ) (q : Id) (es : List (Id × RowState)) → T (is_sorted id_cmp es) → has_id (ids_of_consumer name es) q ≡ is_owner (find id_cmp q es) name
 has_owned name q [] h = refl
 has_owned name q (e ∷ es) h = grind (arith, has_owned name q es, is_same_id-eq q e.0, find-below e.0 name es)
 
 -- the ids of a consumer, as the index has them
-pub ids-owned : (ids : List Id) (rows : Rows) (name : List ℕ) → IsStrictlySortedBy id_cmp ids → ((x : Id) → has_id ids x ≡ is_owner (get rows x) name) → ids ≡ owned_ids name rows.entries
+pub ids-owned : (ids : List Id) (rows : Rows) (name : List ℕ) → IsStrictlySortedBy id_cmp ids → ((x : Id) → has_id ids x ≡ is_owner (get rows x) name) → ids ≡ ids_of_consumer name rows.entries
 unfolding get
 ids-owned ids rows name s is = same_ids ids (filter (λ e. is_same_name e.1.consumer name) rows.entries) s
     (is_sorted-filter id_cmp (λ e. is_same_name e.1.consumer name) rows.entries rows.sorted) (λ q. is q ∙ sym (has_owned name q rows.entries rows.sorted))

@@ -4,7 +4,7 @@ use Rattle.xs_group.proofs.Terms.{option_and_then, sym, ap, ◌∙◌, refl, ari
 use Rattle.xs_group.proofs.Terms.{list_any-append, with_some, each, get, has_key, remove, empty, get-change, get-remove}
 use Rattle.xs_group.proofs.Terms.{get-empty, Id, id_cmp, is_same_id, same_id, RowState, Rows}
 use Rattle.xs_group.proofs.Terms.{ids_total, is_same_name, unless_acked, unless_owned, rows_of, ConsumerIndex, names_of}
-use Rattle.xs_group.proofs.Terms.{ids_at, has_among, holds, is_owner, indexed_row, IsAgreed, IsNamed, IsUpTo}
+use Rattle.xs_group.proofs.Terms.{ids_at, has_among, has_pending_id, is_owner, indexed_row, IsAgreed, IsNamed, IsUpTo}
 use Rattle.xs_bytes.specs.SortedMap.{change}
 use Rattle.xs_group.proofs.ByConsumer.{is_same_name-eq, is_same_name-symm}
 use Rattle.xs_group.proofs.Views.{same_rows, same_names, get-rows_of, has_name-names_of}
@@ -44,7 +44,7 @@ acked-more ids id rows = same_rows _ _ (λ q. grind (
 -- ---- a consumer that goes
 
 module _ (rows new : List (Id × RowState)) (a b : ConsumerIndex) (name : List ℕ) (agreed : IsAgreed rows a)
-    (left : (x : Id) → indexed_row new x ≡ cond (holds a name x) None (indexed_row rows x)) where
+    (left : (x : Id) → indexed_row new x ≡ cond (has_pending_id a name x) None (indexed_row rows x)) where
   pub rows-without : rows_of new ≡ change (unless_owned name) (rows_of rows)
   rows-without = same_rows _ _ (λ q. grind (
     arith,
@@ -73,11 +73,11 @@ names-without a b name u = same_names _ _ (λ q. grind (
   get-remove nat_list_cmp_total (names_of a) name q,
 ))
 
-pub left-none : (rows : List (Id × RowState)) (a : ConsumerIndex) (name : List ℕ) → ids_at a name ≡ None → (x : Id) → indexed_row rows x ≡ cond (holds a name x) None (indexed_row rows x)
+pub left-none : (rows : List (Id × RowState)) (a : ConsumerIndex) (name : List ℕ) → ids_at a name ≡ None → (x : Id) → indexed_row rows x ≡ cond (has_pending_id a name x) None (indexed_row rows x)
 left-none rows a name none x = ap (λ (o : Option (BTreeSet Id)). cond (has_among o x) None (indexed_row rows x)) (sym none)
 
 pub left-some : (rows new : List (Id × RowState)) (a : ConsumerIndex) (name : List ℕ) (s : BTreeSet Id) → ids_at a name ≡ Some s
-    → ((x : Id) → indexed_row new x ≡ cond (list_any (is_same_id x) s.keys) None (indexed_row rows x)) → (x : Id) → indexed_row new x ≡ cond (holds a name x) None (indexed_row rows x)
+    → ((x : Id) → indexed_row new x ≡ cond (list_any (is_same_id x) s.keys) None (indexed_row rows x)) → (x : Id) → indexed_row new x ≡ cond (has_pending_id a name x) None (indexed_row rows x)
 left-some rows new a name s some is x = is x ∙ ap (λ (o : Option (BTreeSet Id)). cond (has_among o x) None (indexed_row rows x)) (sym some)
 
 -- ---- what holds of every group

@@ -5,7 +5,8 @@ use Rattle.xs_group.proofs.Terms.{slice_get, IsStrictlySortedBy, keys_of, IsOrde
 use Rattle.xs_group.proofs.Terms.{BTreeSet, Included, below_all, is_sorted, same_entries, nat_cmp, slice_cmp}
 use Rattle.xs_group.proofs.Terms.{nat_list_cmp_total, exact_bytes, keys, get-of_entries, Id, Range, id_cmp, is_below}
 use Rattle.xs_group.proofs.Terms.{is_within, between-within, filter-filter, PendingRow, Selection, RowState}
-use Rattle.xs_group.proofs.Terms.{is_same_name, idle, owned_ids, ConsumerIndex, names_of, ids_at, indexed_row, rows_of}
+use Rattle.xs_group.proofs.Terms.{is_same_name, idle_time, ids_of_consumer, ConsumerIndex, names_of, ids_at}
+use Rattle.xs_group.proofs.Terms.{indexed_row, rows_of}
 use Rattle.xs_group.proofs.Terms.{last_id, pending_row, is_selected, below-not_below}
 use Rattle.xs_bytes.specs.SortedMap.{get}
 use Rattle.xs_group.proofs.ByConsumer.{Index, is_same_name-symm, is_same_name-refl}
@@ -63,12 +64,12 @@ keys-names_of m o =
 -- ---- rows
 
 pub rows-between : (s : Selection) (rows : List (Id × RowState))
-    → filter (λ e. leb s.min_idle (idle s.moment e.1.time))
+    → filter (λ e. leb s.min_idle (idle_time s.moment e.1.time))
     (entries_between id_cmp (Included s.range.low) (Included s.range.high) rows)
     ≡ filter (is_selected s.range s.min_idle s.moment None) rows
 rows-between s rows =
     filter-filter (λ (e : Id × RowState). range_contains id_cmp (Included s.range.low) (Included s.range.high) e.0)
-    (λ e. leb s.min_idle (idle s.moment e.1.time)) (is_selected s.range s.min_idle s.moment None)
+    (λ e. leb s.min_idle (idle_time s.moment e.1.time)) (is_selected s.range s.min_idle s.moment None)
     (λ e. grind (arith, between-within s.range e.0)) rows
 
 -- a row before the others, where there is one
@@ -103,14 +104,14 @@ among-found rows (e ∷ es) a = (λ i. with_row e.0 (sym (a.0 ∙ get-rows_of ro
 -- ---- what is asked
 
 pub asked-owned : (s : Selection) (name : List ℕ) (rows : List (Id × RowState)) (ids : List Id)
-    → ids ≡ owned_ids name (rows_of rows).entries
-    → filter (λ e. leb s.min_idle (idle s.moment e.1.time)) (filter (λ e. is_within s.range e.0) (listed_rows rows ids))
+    → ids ≡ ids_of_consumer name (rows_of rows).entries
+    → filter (λ e. leb s.min_idle (idle_time s.moment e.1.time)) (filter (λ e. is_within s.range e.0) (listed_rows rows ids))
     ≡ filter (is_selected s.range s.min_idle s.moment (Some name)) (rows_of rows).entries
 asked-owned s name rows ids is =
     let all = (rows_of rows).entries in
     let mine = λ (e : Id × RowState). is_same_name e.1.consumer name in
     let within = λ (e : Id × RowState). is_within s.range e.0 in
-    let is_idle = λ (e : Id × RowState). leb s.min_idle (idle s.moment e.1.time) in
+    let is_idle = λ (e : Id × RowState). leb s.min_idle (idle_time s.moment e.1.time) in
     ap (λ k. filter is_idle (filter within (listed_rows rows k))) is
     ∙ ap (λ es. filter is_idle (filter within es))
     (among-found rows (filter mine all) (found-filter all all mine (found-all all (rows_of rows).sorted)))

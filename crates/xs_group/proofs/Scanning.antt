@@ -5,7 +5,7 @@ use Rattle.xs_group.proofs.Terms.{below_all, is_sorted, AllByRecursion, entries_
 use Rattle.xs_group.proofs.Terms.{id_cmp, is_same_id-symm, is_same_id-refl, le-not_below, Scan, Verdict, Rule, row_at}
 use Rattle.xs_group.proofs.Terms.{is_taken, is_removed, is_hit, from_start, prefixes, first_where, scanned_part}
 use Rattle.xs_group.proofs.Terms.{first_or_zero, scan_of, RowState, is_taken_by, is_removed_by, with_taken}
-use Rattle.xs_group.proofs.Terms.{with_removed, scanned_after}
+use Rattle.xs_group.proofs.Terms.{with_removed, ids_scanned_after}
 use Rattle.xs_group.proofs.Ordered.{first, second}
 
 -- ---- the shortest prefix that is enough
@@ -26,7 +26,7 @@ module _ (hit : Id → Bool) (limit : ℕ) where
   enough-more hits seen x ids = grind arith
 
   scanned-from : (hits seen : ℕ) (ids : List Id)
-      → first_where (λ p. leb limit (hits + length (filter hit p)) || leb (10 * limit) (seen + length p)) ids (prefixes ids) ≡ scanned_after hit limit hits seen ids
+      → first_where (λ p. leb limit (hits + length (filter hit p)) || leb (10 * limit) (seen + length p)) ids (prefixes ids) ≡ ids_scanned_after hit limit hits seen ids
   scanned-from hits seen [] = by (leb limit (hits + 0) || leb (10 * limit) (seen + 0)) where
     by : (t : Bool) → ◌≡◌ {A = List Id} (cond t [] []) []
     by true = refl
@@ -35,17 +35,17 @@ module _ (hit : Id → Bool) (limit : ℕ) where
       let rest = first-mapped (λ p. leb limit (hits + length (filter hit p)) || leb (10 * limit) (seen + length p)) x xs (prefixes xs)
       ∙ ap (λ ids. x ∷ ids) (first-same _ _ (enough-more hits seen x) xs (prefixes xs) ∙ scanned-from (hits + cond (hit x) 1 0) (seen + 1) xs) in
       ap (λ more. cond (leb limit (hits + 0) || leb (10 * limit) (seen + 0)) [] more) rest
-      ∙ (λ i. cond (leb limit (add-zero hits i) || leb (10 * limit) (add-zero seen i)) [] (x ∷ scanned_after hit limit (hits + cond (hit x) 1 0) (seen + 1) xs))
+      ∙ (λ i. cond (leb limit (add-zero hits i) || leb (10 * limit) (add-zero seen i)) [] (x ∷ ids_scanned_after hit limit (hits + cond (hit x) 1 0) (seen + 1) xs))
 
-  pub scanned-after : (ids : List Id) → scanned_part hit limit ids ≡ scanned_after hit limit 0 0 ids
+  pub scanned-after : (ids : List Id) → scanned_part hit limit ids ≡ ids_scanned_after hit limit 0 0 ids
   scanned-after ids = first-same _ _ (λ p. grind arith) ids (prefixes ids) ∙ scanned-from 0 0 ids
 
   pub scanned-on : (hits seen : ℕ) (x : Id) (xs : List Id) → leb limit hits ≡ false → leb (10 * limit) seen ≡ false
-      → scanned_after hit limit hits seen (x ∷ xs) ≡ x ∷ scanned_after hit limit (hits + cond (hit x) 1 0) (seen + 1) xs
+      → ids_scanned_after hit limit hits seen (x ∷ xs) ≡ x ∷ ids_scanned_after hit limit (hits + cond (hit x) 1 0) (seen + 1) xs
   scanned-on hits seen x xs e f = grind arith
 
-  pub scanned-enough : (hits seen : ℕ) (x : Id) (xs : List Id) → (leb limit hits || leb (10 * limit) seen) ≡ true → scanned_after hit limit hits seen (x ∷ xs) ≡ []
-  scanned-enough hits seen x xs e = λ i. cond (e i) [] (x ∷ scanned_after hit limit (hits + cond (hit x) 1 0) (seen + 1) xs)
+  pub scanned-enough : (hits seen : ℕ) (x : Id) (xs : List Id) → (leb limit hits || leb (10 * limit) seen) ≡ true → ids_scanned_after hit limit hits seen (x ∷ xs) ≡ []
+  scanned-enough hits seen x xs e = λ i. cond (e i) [] (x ∷ ids_scanned_after hit limit (hits + cond (hit x) 1 0) (seen + 1) xs)
 
 -- ---- the rows of a range are those of the map
 
@@ -88,9 +88,9 @@ removed-on v p ids x part e = grind (arith, append_assoc ids (x ∷ []) (filter 
 module _ (rows : List (Id × RowState)) (present : List Id) (now : ℕ) (rule : Rule) (start : Id) (limit : ℕ) where
   -- what a scan has found where it ends
   pub scan-ended : (cursor : Id) (take removed : List Id)
-      → take ≡ filter (is_taken rows present now rule) (scanned_after (is_hit rows present now rule) limit 0 0 (from_start start rows))
-      → removed ≡ filter (is_removed rows present) (scanned_after (is_hit rows present now rule) limit 0 0 (from_start start rows))
-      → cursor ≡ first_or_zero (drop (length (scanned_after (is_hit rows present now rule) limit 0 0 (from_start start rows))) (from_start start rows))
+      → take ≡ filter (is_taken rows present now rule) (ids_scanned_after (is_hit rows present now rule) limit 0 0 (from_start start rows))
+      → removed ≡ filter (is_removed rows present) (ids_scanned_after (is_hit rows present now rule) limit 0 0 (from_start start rows))
+      → cursor ≡ first_or_zero (drop (length (ids_scanned_after (is_hit rows present now rule) limit 0 0 (from_start start rows))) (from_start start rows))
       → ◌≡◌ {A = Scan} (record { cursor = cursor; claim = record { take = take; removed = removed } }) (scan_of rows present now rule start limit)
   scan-ended cursor take removed t r c =
       let all = from_start start rows in

@@ -39,7 +39,8 @@ pub use Rattle.xs_stream.proofs.Order.{is_same_id-eq, is_same_id-symm, equal-fro
 pub use Rattle.xs_stream.proofs.Order.{not_above-trans, same_id, below-not_below, is_same_id-refl, le-not_below}
 pub use Rattle.xs_stream.proofs.Order.{partial-below}
 pub use Rattle.xs_stream.specs.Id.{id_cmp, is_same_id, has_id, is_below}
-pub use Rattle.xs_stream.specs.StreamContent.{AllAbove, Ascends, limited, is_within, ids_of, AreEntriesOf, IsEntryOf}
+pub use Rattle.xs_stream.specs.StreamContent.{AllAbove, Ascends, up_to_limit, is_within, ids_of, AreEntriesOf}
+pub use Rattle.xs_stream.specs.StreamContent.{IsEntryOf}
 pub use Rattle.xs_stream.specs.StreamContent.{fields_at}
 pub use Rattle.xs_stream.specs.declared.id.Id.{Id}
 pub use Rattle.xs_stream.specs.declared.range.Range.{Range}
@@ -47,17 +48,21 @@ pub use Rattle.xs_group.specs.Claims.{Rule, is_taken, is_hit, without_repeats, f
 pub use Rattle.xs_group.specs.Claims.{row_after_claim, claimed_row, row_at, is_removed, prefixes, first_where}
 pub use Rattle.xs_group.specs.Claims.{first_or_zero, scan_of}
 pub use Rattle.xs_group.specs.ConsistentGroup.{IsUpTo, IsConsistentGroup}
-pub use Rattle.xs_group.specs.Deliveries.{touch_of, shown_row, shown_rows, touch_set, with_touch, touched_at, set_one}
-pub use Rattle.xs_group.specs.Deliveries.{set_rows, row_ids, delivery_of, history_of, new_rows, kind_of, taken_back}
-pub use Rattle.xs_group.specs.Deliveries.{without_made, unmade, IsDelivered, IsReread, IsMade}
+pub use Rattle.xs_group.specs.Deliveries.{touch_of, shown_row, shown_rows, touch_set, with_touch, row_after_touch}
+pub use Rattle.xs_group.specs.Deliveries.{set_one}
+pub use Rattle.xs_group.specs.Deliveries.{set_rows, row_ids, delivery_of, history_of, new_rows, kind_of}
+pub use Rattle.xs_group.specs.Deliveries.{rows_taken_back}
+pub use Rattle.xs_group.specs.Deliveries.{without_new_consumer, list_without_delivery, IsDelivered, IsReread, IsMade}
 pub use Rattle.xs_group.specs.GroupState.{RowState, Rows, Names, is_same_name, with_name, has_name, GroupState}
-pub use Rattle.xs_group.specs.GroupState.{unless_acked, last_of, with_rows, ids_total, unless_owned, owned_ids, idle}
-pub use Rattle.xs_group.specs.GroupState.{row_after_reread, new_ids, first_row, own_ids, group_after_delivery}
+pub use Rattle.xs_group.specs.GroupState.{unless_acked, last_of, with_rows, ids_total, unless_owned, ids_of_consumer}
+pub use Rattle.xs_group.specs.GroupState.{idle_time}
+pub use Rattle.xs_group.specs.GroupState.{row_after_reread, new_ids, first_row, reread_ids, group_after_delivery}
 pub use Rattle.xs_group.specs.GroupState.{group_after_reread}
-pub use Rattle.xs_group.specs.Indexes.{rows_of, PendingList, ConsumerIndex, names_of, ids_at, has_among, holds}
+pub use Rattle.xs_group.specs.Indexes.{rows_of, PendingList, ConsumerIndex, names_of, ids_at, has_among, has_pending_id}
 pub use Rattle.xs_group.specs.Indexes.{is_owner, indexed_row, IsAgreed, AreFree, IsNamed}
 pub use Rattle.xs_group.specs.Report.{first_id, last_id, pending_row, is_selected, counts_of_owners}
-pub use Rattle.xs_group.specs.Verdict.{moved, scanned_after, AreDistinct, IsClaimOn, is_taken_by, is_removed_by}
+pub use Rattle.xs_group.specs.Verdict.{row_after_move, ids_scanned_after, AreDistinct, IsClaimOn, is_taken_by}
+pub use Rattle.xs_group.specs.Verdict.{is_removed_by}
 pub use Rattle.xs_group.specs.Verdict.{verdict_of, with_taken, with_removed, hits_of, AreAgreedBut, AreSomeOf}
 pub use Rattle.xs_group.specs.declared.claims.Claim.{Claim}
 pub use Rattle.xs_group.specs.declared.claims.Scan.{Scan}

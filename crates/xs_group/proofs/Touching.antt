@@ -2,7 +2,8 @@
 use Rattle.xs_group.proofs.Terms.{◌≡◌, ℕ, cond, List, [], ◌∷◌, ◌++◌, map, Option, Some, None, sym, ap, refl, UpdatesBy}
 use Rattle.xs_group.proofs.Terms.{get, change, Id, id_cmp, is_same_id, has_id, is_same_id-eq, is_same_id-symm, Touch}
 use Rattle.xs_group.proofs.Terms.{DeliveryRow, RowState, Rows, row_after_reread, rows_of, ConsumerIndex, indexed_row}
-use Rattle.xs_group.proofs.Terms.{IsAgreed, shown_row, shown_rows, touch_set, with_touch, touched_at, set_one, set_rows}
+use Rattle.xs_group.proofs.Terms.{IsAgreed, shown_row, shown_rows, touch_set, with_touch, row_after_touch, set_one}
+use Rattle.xs_group.proofs.Terms.{set_rows}
 use Rattle.xs_group.proofs.Terms.{row_ids, arith}
 use Rattle.xs_group.proofs.Views.{RowMap, get-rows_of, same_rows}
 use Rattle.xs_group.proofs.RemovedRows.{get-changed, change-nothing}
@@ -21,7 +22,7 @@ rows-touched m n id touch row found u =
       arith,
       get-rows_of n.entries q,
       get-rows_of m.entries q,
-      get-changed (touched_at id touch) (rows_of m.entries) q,
+      get-changed (row_after_touch id touch) (rows_of m.entries) q,
       u.0 q,
       is_same_id-symm id q,
       is_same_id-eq q id,
@@ -29,7 +30,7 @@ rows-touched m n id touch row found u =
 
 pub untouched : (rows : Rows) (id : Id) (touch : Touch) → get rows id ≡ None → rows ≡ set_one id (Some touch) rows
 untouched rows id touch none =
-    sym (change-nothing (touched_at id touch) rows (λ q. grind (arith, is_same_id-eq q id)))
+    sym (change-nothing (row_after_touch id touch) rows (λ q. grind (arith, is_same_id-eq q id)))
 
 pub agreed-touched : (m n : RowMap) (a : ConsumerIndex) (id : Id) (touch : Touch) (row : RowState) → IsAgreed m.entries a → indexed_row m.entries id ≡ Some row
     → UpdatesBy id_cmp (id_cmp id) m n (Some (with_touch touch row)) → IsAgreed n.entries a
@@ -39,7 +40,7 @@ agreed-touched m n a id touch row agreed found u name x = grind (arith, agreed n
 
 get-set_one : (id : Id) (touch : Option Touch) (rows : Rows) (q : Id) → get (set_one id touch rows) q ≡ cond (is_same_id q id) (touched touch (get rows q)) (get rows q)
 get-set_one id None rows q = grind arith
-get-set_one id (Some touch) rows q = grind (arith, get-changed (touched_at id touch) rows q)
+get-set_one id (Some touch) rows q = grind (arith, get-changed (row_after_touch id touch) rows q)
 
 twice : (touch : Option Touch) (row : Option RowState) → touched touch (touched touch row) ≡ touched touch row
 twice touch row = grind arith

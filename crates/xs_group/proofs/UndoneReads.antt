@@ -1,9 +1,10 @@
 -- A read that is taken back.
 use Rattle.xs_group.proofs.Terms.{Option, ◌≡◌, ℕ, Bool, true, false, cond, not, inl, inr, List, [], ◌∷◌, sym, ap, ◌∙◌}
 use Rattle.xs_group.proofs.Terms.{refl, change, Id, Delivery, Rows, GroupState, has_name, with_name, new_ids, first_row}
-use Rattle.xs_group.proofs.Terms.{with_rows, own_ids, group_after_delivery, group_after_reread, unless_acked}
+use Rattle.xs_group.proofs.Terms.{with_rows, reread_ids, group_after_delivery, group_after_reread, unless_acked}
 use Rattle.xs_group.proofs.Terms.{PendingList, IsNamed, AreFree, IsConsistentGroup, delivery_of, history_of, new_rows}
-use Rattle.xs_group.proofs.Terms.{kind_of, taken_back, without_made, unmade, row_ids, IsDelivered, IsReread, IsMade}
+use Rattle.xs_group.proofs.Terms.{kind_of, rows_taken_back, without_new_consumer, list_without_delivery, row_ids}
+use Rattle.xs_group.proofs.Terms.{IsDelivered, IsReread, IsMade}
 use Rattle.xs_group.proofs.Agreeing.{held-again}
 use Rattle.xs_group.proofs.NewRows.{held-back, out-again, unowned-rows}
 use Rattle.xs_group.proofs.Cursors.{free-above, new_ids-above}
@@ -15,16 +16,16 @@ ids-new_rows (x ∷ xs) = ap (λ rest. x ∷ rest) (ids-new_rows xs)
 
 -- the consumer goes where it was made
 without-made : (held : PendingList) (name : List ℕ) → IsNamed held.consumers held.rows
-    → without_made (not (has_name held.consumers name)) name (record { consumers = with_name held.consumers name; rows = held.rows }) ≡ held
+    → without_new_consumer (not (has_name held.consumers name)) name (record { consumers = with_name held.consumers name; rows = held.rows }) ≡ held
 without-made held name named = by (has_name held.consumers name) refl where
-  by : (t : Bool) → has_name held.consumers name ≡ t → without_made (not t) name (record { consumers = with_name held.consumers name; rows = held.rows }) ≡ held
+  by : (t : Bool) → has_name held.consumers name ≡ t → without_new_consumer (not t) name (record { consumers = with_name held.consumers name; rows = held.rows }) ≡ held
   by true e = sym (held-again held name e)
   by false e = held-back held name (unowned-rows held.consumers held.rows name named e) (sym (ap not e))
 
 -- a group with the consumers and the rows that an undoing leaves
 abbrev pub undone : Delivery → GroupState → GroupState
 undone d group =
-    let held = unmade d (record { consumers = group.consumers; rows = group.rows }) in
+    let held = list_without_delivery d (record { consumers = group.consumers; rows = group.rows }) in
     record { cursor = d.cursor_before; consumers = held.consumers; rows = held.rows }
 
 abbrev state_of : Id → PendingList → GroupState
@@ -32,10 +33,10 @@ state_of cursor held = record { cursor = cursor; consumers = held.consumers; row
 
 module _ (before : GroupState) (law : IsConsistentGroup before) where
   back : (d : Delivery) (after : GroupState) (rows : Rows) → d.created ≡ not (has_name before.consumers d.consumer) → d.cursor_before ≡ before.cursor
-      → after.consumers ≡ with_name before.consumers d.consumer → taken_back d.kind d.rows after.rows ≡ before.rows → undone d after ≡ before
+      → after.consumers ≡ with_name before.consumers d.consumer → rows_taken_back d.kind d.rows after.rows ≡ before.rows → undone d after ≡ before
   back d after rows made cursor names back_rows =
-      let h : unmade d (record { consumers = after.consumers; rows = after.rows }) ≡ record { consumers = before.consumers; rows = before.rows } =
-      (λ i. without_made (made i) d.consumer (record { consumers = names i; rows = back_rows i }))
+      let h : list_without_delivery d (record { consumers = after.consumers; rows = after.rows }) ≡ record { consumers = before.consumers; rows = before.rows } =
+      (λ i. without_new_consumer (made i) d.consumer (record { consumers = names i; rows = back_rows i }))
       ∙ without-made (record { consumers = before.consumers; rows = before.rows }) d.consumer law.of_consumers in
       λ i. state_of (cursor i) (h i)
 
@@ -44,9 +45,9 @@ module _ (before : GroupState) (law : IsConsistentGroup before) where
       let ids = new_ids w.limit before.cursor w.ids in
       let free = free-above before.cursor before.rows ids law.up_to_cursor (new_ids-above w.limit before.cursor w.ids) in
       back d after before.rows (ap (λ (k : Delivery). k.created) w.answered) (ap (λ (k : Delivery). k.cursor_before) w.answered) (ap (λ (g : GroupState). g.consumers) w.left)
-      ((λ i. taken_back (w.answered i).kind (w.answered i).rows (w.left i).rows) ∙ by ids free w.noack) where
+      ((λ i. rows_taken_back (w.answered i).kind (w.answered i).rows (w.left i).rows) ∙ by ids free w.noack) where
         by : (ids : List Id) → AreFree before.rows ids → (noack : Bool)
-            → taken_back (kind_of noack) (new_rows ids) (cond noack before.rows (with_rows ids (first_row d.consumer w.now) before.rows)) ≡ before.rows
+            → rows_taken_back (kind_of noack) (new_rows ids) (cond noack before.rows (with_rows ids (first_row d.consumer w.now) before.rows)) ≡ before.rows
         by ids free true = refl
         by ids free false = ap (λ k. change (unless_acked k) (with_rows ids (first_row d.consumer w.now) before.rows)) (ids-new_rows ids)
             ∙ out-again ids (first_row d.consumer w.now) before.rows free
@@ -54,8 +55,8 @@ module _ (before : GroupState) (law : IsConsistentGroup before) where
   unreread : (after : GroupState) (d : Delivery) → IsReread before after d → undone d after ≡ before
   unreread after d w =
       back d after before.rows (ap (λ (k : Delivery). k.created) w.answered) (ap (λ (k : Delivery). k.cursor_before) w.answered) (ap (λ (g : GroupState). g.consumers) w.left)
-      ((λ i. taken_back (w.answered i).kind (w.answered i).rows (w.left i).rows)
-      ∙ rows-unread w.now w.ids (own_ids d.consumer w.limit w.from before.rows.entries) before.rows)
+      ((λ i. rows_taken_back (w.answered i).kind (w.answered i).rows (w.left i).rows)
+      ∙ rows-unread w.now w.ids (reread_ids d.consumer w.limit w.from before.rows.entries) before.rows)
 
 pub undone-before : (before after : GroupState) (d : Delivery) → IsMade before after d → undone d after ≡ before
 undone-before before after d (law, inl w) = undelivered before law after d w

@@ -9,7 +9,7 @@ use Rattle.xs_group.specs.declared.claims.ClaimTime.{ClaimTime}
 use Rattle.xs_group.specs.declared.claims.ClaimTime.TheVariants.{Now, Idle, At}
 use Rattle.xs_group.specs.declared.claims.Claim.{Claim}
 use Rattle.xs_group.specs.declared.claims.Scan.{Scan}
-use Rattle.xs_group.specs.GroupState.{RowState, GroupState, with_name, idle, next_count}
+use Rattle.xs_group.specs.GroupState.{RowState, GroupState, with_name, idle_time, next_count}
 
 -- what a claim asks for: the least idle time, the time and the count that its rows get, and JUSTID
 pub record Rule : Type 0 where
@@ -25,7 +25,7 @@ row_at rows x = find id_cmp x rows
 -- a row that is idle for the least idle time or longer
 abbrev pub is_idle : ℕ → Rule → Option RowState → Bool
 is_idle now rule None = false
-is_idle now rule (Some row) = nat_le rule.min_idle (idle now row.time)
+is_idle now rule (Some row) = nat_le rule.min_idle (idle_time now row.time)
 
 -- a pending entry that is no longer in the stream goes, whatever its idle time
 abbrev pub is_removed : List (Id × RowState) → List Id → Id → Bool

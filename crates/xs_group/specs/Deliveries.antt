@@ -10,7 +10,7 @@ use Rattle.xs_group.specs.declared.delivery.DeliveryKind.{DeliveryKind}
 use Rattle.xs_group.specs.declared.delivery.DeliveryKind.TheVariants.{New, NoAck, History}
 use Rattle.xs_group.specs.declared.delivery.Delivery.{Delivery}
 use Rattle.xs_group.specs.GroupState.{RowState, Rows, GroupState, has_name, with_name, next_count}
-use Rattle.xs_group.specs.GroupState.{new_ids, group_after_delivery, own_ids, group_after_reread, last_of, with_rows}
+use Rattle.xs_group.specs.GroupState.{new_ids, group_after_delivery, reread_ids, group_after_reread, last_of, with_rows}
 use Rattle.xs_group.specs.GroupState.{first_row}
 use Rattle.xs_group.specs.GroupState.{unless_acked, unless_owned}
 use Rattle.xs_group.specs.Indexes.{PendingList}
@@ -24,8 +24,8 @@ abbrev pub new_rows : List Id → List DeliveryRow
 new_rows ids = map new_row ids
 
 -- a group after these ids were delivered
-abbrev pub received : List ℕ → ℕ → Bool → List Id → GroupState → GroupState
-received consumer now noack ids group =
+abbrev pub group_after_read : List ℕ → ℕ → Bool → List Id → GroupState → GroupState
+group_after_read consumer now noack ids group =
     record {
       cursor = last_of group.cursor ids;
       consumers = with_name group.consumers consumer;
@@ -64,7 +64,7 @@ history_of consumer limit from present group =
       created = not (has_name group.consumers consumer);
       cursor_before = group.cursor;
       kind = History;
-      rows = shown_rows group.rows present (own_ids consumer limit from group.rows.entries);
+      rows = shown_rows group.rows present (reread_ids consumer limit from group.rows.entries);
     }
 
 -- a read of new entries made this group of the earlier one, and answered this delivery
@@ -101,12 +101,12 @@ touch_set None row = row.before
 abbrev pub with_touch : Touch → RowState → RowState
 with_touch touch row = record { consumer = row.consumer; time = touch.time; count = touch.count }
 
-abbrev pub touched_at : Id → Touch → Id → RowState → Option RowState
-touched_at id touch x row = if is_same_id x id then Some (with_touch touch row) else Some row
+abbrev pub row_after_touch : Id → Touch → Id → RowState → Option RowState
+row_after_touch id touch x row = if is_same_id x id then Some (with_touch touch row) else Some row
 
 abbrev pub set_one : Id → Option Touch → Rows → Rows
 set_one id None rows = rows
-set_one id (Some touch) rows = change (touched_at id touch) rows
+set_one id (Some touch) rows = change (row_after_touch id touch) rows
 
 -- each of these rows set
 abbrev pub set_rows : Option ℕ → List DeliveryRow → Rows → Rows
@@ -117,22 +117,22 @@ abbrev pub row_ids : List DeliveryRow → List Id
 row_ids rows = map (λ r. r.id) rows
 
 -- rows without what a read did to them
-abbrev pub taken_back : DeliveryKind → List DeliveryRow → Rows → Rows
-taken_back New rows held = change (unless_acked (row_ids rows)) held
-taken_back NoAck rows held = held
-taken_back History rows held = set_rows None rows held
+abbrev pub rows_taken_back : DeliveryKind → List DeliveryRow → Rows → Rows
+rows_taken_back New rows held = change (unless_acked (row_ids rows)) held
+rows_taken_back NoAck rows held = held
+rows_taken_back History rows held = set_rows None rows held
 
 -- without the consumer, where the read made it
-abbrev pub without_made : Bool → List ℕ → PendingList → PendingList
-without_made created consumer held =
+abbrev pub without_new_consumer : Bool → List ℕ → PendingList → PendingList
+without_new_consumer created consumer held =
     if created then record {
       consumers = remove held.consumers consumer;
       rows = change (unless_owned consumer) held.rows;
     } else held
 
-abbrev pub unmade : Delivery → PendingList → PendingList
-unmade delivery held =
-    without_made delivery.created delivery.consumer (record {
+abbrev pub list_without_delivery : Delivery → PendingList → PendingList
+list_without_delivery delivery held =
+    without_new_consumer delivery.created delivery.consumer (record {
       consumers = held.consumers;
-      rows = taken_back delivery.kind delivery.rows held.rows;
+      rows = rows_taken_back delivery.kind delivery.rows held.rows;
     })

@@ -12,8 +12,9 @@ use Rattle.xs_group.specs.GroupState.{GroupState, group_after_delivery, group_af
 use Rattle.xs_group.specs.Indexes.{PendingList, rows_of, is_owner, indexed_row, IsNamed}
 use Rattle.xs_group.specs.ConsistentGroup.{IsUpTo}
 use Rattle.xs_group.specs.Count.{IsCount}
-use Rattle.xs_group.specs.Deliveries.{delivery_of, history_of, set_rows, unmade}
-use Rattle.xs_group.specs.Verdict.{verdict_of, hits_of, with_taken, with_removed, scanned_after, moved, AreDistinct}
+use Rattle.xs_group.specs.Deliveries.{delivery_of, history_of, set_rows, list_without_delivery}
+use Rattle.xs_group.specs.Verdict.{verdict_of, hits_of, with_taken, with_removed, ids_scanned_after, row_after_move}
+use Rattle.xs_group.specs.Verdict.{AreDistinct}
 use Rattle.xs_group.specs.ExamplesRead.{pending, names_in, three, group, present}
 use Rattle.xs_group.specs.ExamplesClaims.{idle_for, row, twelve}
 
@@ -78,19 +79,19 @@ IsAsBefore held = (keys held.consumers ≡ codes "a" ∷ codes "b" ∷ codes "c"
 
 pub record TakenBack : Type 0 where
   pub new_entries_of_a_new_consumer :
-      IsAsBefore (unmade (delivery_of (codes "d") (Some 2) false present group)
+      IsAsBefore (list_without_delivery (delivery_of (codes "d") (Some 2) false present group)
       (held (group_after_delivery (codes "d") 200 (Some 2) false present group)))
   pub new_entries_of_a_known_one :
-      IsAsBefore (unmade (delivery_of (codes "a") None false present group)
+      IsAsBefore (list_without_delivery (delivery_of (codes "a") None false present group)
       (held (group_after_delivery (codes "a") 200 None false present group)))
   pub entries_that_arent_pending :
-      IsAsBefore (unmade (delivery_of (codes "d") None true present group)
+      IsAsBefore (list_without_delivery (delivery_of (codes "d") None true present group)
       (held (group_after_delivery (codes "d") 200 None true present group)))
   pub own_entries :
-      IsAsBefore (unmade (history_of (codes "a") None (at 0 0) present group)
+      IsAsBefore (list_without_delivery (history_of (codes "a") None (at 0 0) present group)
       (held (group_after_reread (codes "a") 200 None (at 0 0) present group)))
   pub nothing_of_a_new_consumer :
-      IsAsBefore (unmade (history_of (codes "d") None (at 0 0) present group)
+      IsAsBefore (list_without_delivery (history_of (codes "d") None (at 0 0) present group)
       (held (group_after_reread (codes "d") 200 None (at 0 0) present group)))
   pub sets_time_and_count :
       (set_rows (Some 200) (gone (at 1 0) 100 1 ∷ own (at 3 0) 120 1 ∷ []) (rows_of three)).entries
@@ -113,16 +114,17 @@ pub record Verdicts : Type 0 where
   pub others_arent_taken : with_taken Removed (at 1 0 ∷ []) (at 2 0) ≡ at 1 0 ∷ []
   pub removed_behind_others : with_removed Removed (at 1 0 ∷ []) (at 2 0) ≡ at 1 0 ∷ at 2 0 ∷ []
   pub others_arent_removed : with_removed Taken (at 1 0 ∷ []) (at 2 0) ≡ at 1 0 ∷ []
-  pub up_to_the_hits : scanned_after (λ x. is_same_id x (at 3 0)) 1 0 0 twelve ≡ at 1 0 ∷ at 2 0 ∷ at 3 0 ∷ []
-  pub up_to_two_hits : scanned_after (λ x. true) 2 0 0 twelve ≡ at 1 0 ∷ at 2 0 ∷ []
+  pub up_to_the_hits : ids_scanned_after (λ x. is_same_id x (at 3 0)) 1 0 0 twelve ≡ at 1 0 ∷ at 2 0 ∷ at 3 0 ∷ []
+  pub up_to_two_hits : ids_scanned_after (λ x. true) 2 0 0 twelve ≡ at 1 0 ∷ at 2 0 ∷ []
   pub up_to_ten_times_as_many :
-      scanned_after (λ x. false) 1 0 0 twelve
+      ids_scanned_after (λ x. false) 1 0 0 twelve
       ≡ at 1 0 ∷ at 2 0 ∷ at 3 0 ∷ at 4 0 ∷ at 5 0 ∷ at 6 0 ∷ at 7 0 ∷ at 8 0 ∷ at 9 0 ∷ at 10 0 ∷ []
   pub moves_those_named :
-      moved (codes "d") 200 (idle_for 0) (at 2 0 ∷ at 1 0 ∷ []) (at 1 0) (row (codes "a") 100 1)
+      row_after_move (codes "d") 200 (idle_for 0) (at 2 0 ∷ at 1 0 ∷ []) (at 1 0) (row (codes "a") 100 1)
       ≡ Some (row (codes "d") 200 2)
   pub leaves_others :
-      moved (codes "d") 200 (idle_for 0) (at 2 0 ∷ []) (at 1 0) (row (codes "a") 100 1) ≡ Some (row (codes "a") 100 1)
+      row_after_move (codes "d") 200 (idle_for 0) (at 2 0 ∷ []) (at 1 0) (row (codes "a") 100 1)
+      ≡ Some (row (codes "a") 100 1)
 
 pub record Lawful : Type 0 where
   pub apart : AreDistinct (at 2 0 ∷ at 1 0 ∷ at 3 0 ∷ [])

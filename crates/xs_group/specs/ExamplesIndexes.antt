@@ -5,9 +5,9 @@ use Rattle.xs_bytes.specs.SortedMap.{keys}
 use Rattle.xs_stream.specs.Examples.{at}
 use Rattle.xs_group.specs.declared.delivery.DeliveryKind.TheVariants as kind
 use Rattle.xs_group.specs.declared.reports.Selection.{Selection}
-use Rattle.xs_group.specs.Indexes.{ConsumerIndex, rows_of, names_of, has_among, holds, AreFree}
-use Rattle.xs_group.specs.Deliveries.{received, taken_back}
-use Rattle.xs_group.specs.Listing.{owners_told, rows_asked}
+use Rattle.xs_group.specs.Indexes.{ConsumerIndex, rows_of, names_of, has_among, has_pending_id, AreFree}
+use Rattle.xs_group.specs.Deliveries.{group_after_read, rows_taken_back}
+use Rattle.xs_group.specs.Listing.{owners_told, selected_rows}
 use Rattle.xs_group.specs.Verdict.{AreSomeOf, AreAgreedBut}
 use Rattle.xs_group.specs.ExamplesRead.{pending, three, group, Is}
 use Rattle.xs_group.specs.ExamplesReport.{owner, told, everything}
@@ -21,11 +21,11 @@ owners =
 
 pub record Indexes : Type 0 where
   pub names : keys (names_of owners) ≡ codes "a" ∷ codes "b" ∷ codes "c" ∷ []
-  pub has_the_first : holds owners (codes "a") (at 1 0) ≡ true
-  pub has_the_last : holds owners (codes "a") (at 3 0) ≡ true
-  pub hasnt_another_s : holds owners (codes "a") (at 2 0) ≡ false
-  pub has_none : holds owners (codes "c") (at 1 0) ≡ false
-  pub isnt_there : holds owners (codes "d") (at 1 0) ≡ false
+  pub has_the_first : has_pending_id owners (codes "a") (at 1 0) ≡ true
+  pub has_the_last : has_pending_id owners (codes "a") (at 3 0) ≡ true
+  pub hasnt_another_s : has_pending_id owners (codes "a") (at 2 0) ≡ false
+  pub has_none : has_pending_id owners (codes "c") (at 1 0) ≡ false
+  pub isnt_there : has_pending_id owners (codes "d") (at 1 0) ≡ false
   pub no_set : has_among None (at 1 0) ≡ false
 
 -- at most so many rows that are idle for so long
@@ -35,27 +35,27 @@ first limit min_idle = record { range = everything; min_idle = min_idle; moment 
 pub record Listed : Type 0 where
   pub owners_of_rows : owners_told group.consumers group.rows ≡ owner (codes "a") 2 ∷ owner (codes "b") 1 ∷ []
   pub idle_for_as_long :
-      rows_asked (first 9 40) None group.rows
+      selected_rows (first 9 40) None group.rows
       ≡ told (at 1 0) (codes "a") 50 1 ∷ told (at 2 0) (codes "b") 40 2 ∷ []
-  pub the_first_of_two : rows_asked (first 1 40) None group.rows ≡ told (at 1 0) (codes "a") 50 1 ∷ []
+  pub the_first_of_two : selected_rows (first 1 40) None group.rows ≡ told (at 1 0) (codes "a") 50 1 ∷ []
   pub of_one_consumer :
-      rows_asked (first 9 0) (Some (codes "a")) group.rows
+      selected_rows (first 9 0) (Some (codes "a")) group.rows
       ≡ told (at 1 0) (codes "a") 50 1 ∷ told (at 3 0) (codes "a") 30 1 ∷ []
   pub the_first_of_a_consumer :
-      rows_asked (first 1 0) (Some (codes "a")) group.rows ≡ told (at 1 0) (codes "a") 50 1 ∷ []
+      selected_rows (first 1 0) (Some (codes "a")) group.rows ≡ told (at 1 0) (codes "a") 50 1 ∷ []
 
 pub record Left : Type 0 where
   pub received_with_rows :
-      Is (received (codes "d") 200 false (at 4 0 ∷ []) group) (at 4 0)
+      Is (group_after_read (codes "d") 200 false (at 4 0 ∷ []) group) (at 4 0)
       (codes "a" ∷ codes "b" ∷ codes "c" ∷ codes "d" ∷ [])
       (pending (at 1 0) (codes "a") 100 1 ∷ pending (at 2 0) (codes "b") 110 2 ∷ pending (at 3 0) (codes "a") 120 1
       ∷ pending (at 4 0) (codes "d") 200 1 ∷ [])
   pub received_with_noack :
-      Is (received (codes "d") 200 true (at 4 0 ∷ []) group) (at 4 0)
+      Is (group_after_read (codes "d") 200 true (at 4 0 ∷ []) group) (at 4 0)
       (codes "a" ∷ codes "b" ∷ codes "c" ∷ codes "d" ∷ []) three
   pub nothing_received :
-      Is (received (codes "b") 200 false [] group) (at 3 0) (codes "a" ∷ codes "b" ∷ codes "c" ∷ []) three
-  pub noack_left_no_row : (taken_back kind.NoAck (own (at 1 0) 90 5 ∷ []) (rows_of three)).entries ≡ three
+      Is (group_after_read (codes "b") 200 false [] group) (at 3 0) (codes "a" ∷ codes "b" ∷ codes "c" ∷ []) three
+  pub noack_left_no_row : (rows_taken_back kind.NoAck (own (at 1 0) 90 5 ∷ []) (rows_of three)).entries ≡ three
   pub free : AreFree (rows_of three) []
   pub not_free : AreFree (rows_of three) (at 9 0 ∷ at 2 0 ∷ []) → ⊥
   pub not_some_of_those : AreSomeOf (at 2 0 ∷ []) (at 3 0 ∷ at 1 0 ∷ []) → ⊥

@@ -6,11 +6,11 @@ use Rattle.xs_bytes.specs.MapOf.{from_entries}
 use Rattle.xs_bytes.specs.SortedMap.{keys}
 use Rattle.xs_stream.specs.declared.id.Id.{Id}
 use Rattle.xs_stream.specs.Examples.{at}
-use Rattle.xs_group.specs.GroupState.{RowState, Names, GroupState, has_name, is_same_name, idle, greatest_count}
+use Rattle.xs_group.specs.GroupState.{RowState, Names, GroupState, has_name, is_same_name, idle_time, greatest_count}
 use Rattle.xs_group.specs.GroupState.{next_count}
 use Rattle.xs_group.specs.GroupState.{new_group}
 use Rattle.xs_group.specs.GroupState.{with_consumer, group_after_ack, without_consumer, new_ids}
-use Rattle.xs_group.specs.GroupState.{last_of, group_after_delivery, owned_ids, own_ids, group_after_reread}
+use Rattle.xs_group.specs.GroupState.{last_of, group_after_delivery, ids_of_consumer, reread_ids, group_after_reread}
 use Rattle.xs_group.specs.Indexes.{rows_of}
 
 abbrev pub pending : Id → List ℕ → ℕ → ℕ → Id × RowState
@@ -42,9 +42,9 @@ Is group cursor consumers rows =
     (group.cursor ≡ cursor) × ((keys group.consumers ≡ consumers) × (group.rows.entries ≡ rows))
 
 pub record Counts : Type 0 where
-  pub idle_for_some_time : idle 150 100 ≡ 50
-  pub not_idle_yet : idle 100 100 ≡ 0
-  pub moment_before_its_time_own : idle 90 100 ≡ 0
+  pub idle_for_some_time : idle_time 150 100 ≡ 50
+  pub not_idle_yet : idle_time 100 100 ≡ 0
+  pub moment_before_its_time_own : idle_time 90 100 ≡ 0
   pub one_delivery_more : next_count 1 ≡ 2
   pub to_the_greatest_count_own : next_count 9223372036854775806 ≡ 9223372036854775807
   pub stops_at_the_greatest_count_own : next_count 9223372036854775807 ≡ 9223372036854775807
@@ -107,13 +107,13 @@ pub record New : Type 0 where
 
 -- XREADGROUP with an id; own: time and count rise with it
 pub record Own : Type 0 where
-  pub of_a_consumer : owned_ids (codes "a") three ≡ at 1 0 ∷ at 3 0 ∷ []
-  pub of_another : owned_ids (codes "b") three ≡ at 2 0 ∷ []
-  pub of_none : owned_ids (codes "c") three ≡ []
-  pub all_of_its_own : own_ids (codes "a") None (at 0 0) three ≡ at 1 0 ∷ at 3 0 ∷ []
-  pub first_of_its_own : own_ids (codes "a") (Some 1) (at 0 0) three ≡ at 1 0 ∷ []
-  pub above_an_id : own_ids (codes "a") None (at 1 0) three ≡ at 3 0 ∷ []
-  pub above_the_last : own_ids (codes "a") None (at 3 0) three ≡ []
+  pub of_a_consumer : ids_of_consumer (codes "a") three ≡ at 1 0 ∷ at 3 0 ∷ []
+  pub of_another : ids_of_consumer (codes "b") three ≡ at 2 0 ∷ []
+  pub of_none : ids_of_consumer (codes "c") three ≡ []
+  pub all_of_its_own : reread_ids (codes "a") None (at 0 0) three ≡ at 1 0 ∷ at 3 0 ∷ []
+  pub first_of_its_own : reread_ids (codes "a") (Some 1) (at 0 0) three ≡ at 1 0 ∷ []
+  pub above_an_id : reread_ids (codes "a") None (at 1 0) three ≡ at 3 0 ∷ []
+  pub above_the_last : reread_ids (codes "a") None (at 3 0) three ≡ []
   pub delivered_again_if_in_the_stream :
       Is (group_after_reread (codes "a") 200 None (at 0 0) present group) (at 3 0)
       (codes "a" ∷ codes "b" ∷ codes "c" ∷ [])

@@ -8,7 +8,7 @@ use Rattle.std.specs.Cmp.Lexicographic.{slice_cmp}
 use Rattle.xs_bytes.specs.SortedMap.{SortedMap, NameMap, empty, insert_by, insert, has_key, change, remove}
 use Rattle.xs_stream.specs.declared.id.Id.{Id}
 use Rattle.xs_stream.specs.Id.{id_cmp, has_id, is_below}
-use Rattle.xs_stream.specs.StreamContent.{limited}
+use Rattle.xs_stream.specs.StreamContent.{up_to_limit}
 
 -- a pending entry: whose it is, and its time and count, of the last delivery or as a claim set them
 pub record RowState : Type 0 where
@@ -43,8 +43,8 @@ abbrev pub is_same_name : List ℕ → List ℕ → Bool
 is_same_name a b = eq_by_cmp (slice_cmp nat_cmp) a b
 
 -- now minus the time of a row, which its last delivery or a claim gave it; 0 if that is later
-abbrev pub idle : ℕ → ℕ → ℕ
-idle now time = now - time
+abbrev pub idle_time : ℕ → ℕ → ℕ
+idle_time now time = now - time
 
 -- a count stops here
 abbrev pub greatest_count : ℕ
@@ -79,7 +79,7 @@ without_consumer consumer group =
 
 -- what `>` delivers: of the ids in the stream those above the cursor, up to the limit
 abbrev pub new_ids : Option ℕ → Id → List Id → List Id
-new_ids limit cursor present = limited limit (filter (λ x. is_below cursor x) present)
+new_ids limit cursor present = up_to_limit limit (filter (λ x. is_below cursor x) present)
 
 -- the last of these ids, or the one before them if there are none
 abbrev pub last_of : Id → List Id → Id
@@ -104,12 +104,12 @@ group_after_delivery consumer now limit noack present group =
     record { cursor = last_of group.cursor ids; consumers = with_name group.consumers consumer; rows = rows }
 
 -- the ids of these rows that a consumer has
-abbrev pub owned_ids : List ℕ → List (Id × RowState) → List Id
-owned_ids consumer rows = map (λ e. e.0) (filter (λ e. is_same_name e.1.consumer consumer) rows)
+abbrev pub ids_of_consumer : List ℕ → List (Id × RowState) → List Id
+ids_of_consumer consumer rows = map (λ e. e.0) (filter (λ e. is_same_name e.1.consumer consumer) rows)
 
 -- what a read of own entries shows: the consumer's pending ids above an id, up to the limit
-abbrev pub own_ids : List ℕ → Option ℕ → Id → List (Id × RowState) → List Id
-own_ids consumer limit from rows = limited limit (filter (λ x. is_below from x) (owned_ids consumer rows))
+abbrev pub reread_ids : List ℕ → Option ℕ → Id → List (Id × RowState) → List Id
+reread_ids consumer limit from rows = up_to_limit limit (filter (λ x. is_below from x) (ids_of_consumer consumer rows))
 
 -- a row that is delivered once more
 abbrev pub redelivered_row : ℕ → RowState → RowState
@@ -123,5 +123,5 @@ row_after_reread now ids present x row =
 -- a group after a read of a consumer's own entries
 abbrev pub group_after_reread : List ℕ → ℕ → Option ℕ → Id → List Id → GroupState → GroupState
 group_after_reread consumer now limit from present group =
-    let rows = change (row_after_reread now (own_ids consumer limit from group.rows.entries) present) group.rows in
+    let rows = change (row_after_reread now (reread_ids consumer limit from group.rows.entries) present) group.rows in
     record group { consumers = with_name group.consumers consumer; rows = rows }

@@ -65,8 +65,8 @@ has_among None x = false
 has_among (Some ids) x = contains id_cmp ids x
 
 -- the index by consumer has the id with this name
-abbrev pub holds : ConsumerIndex → List ℕ → Id → Bool
-holds owners name x = has_among (ids_at owners name) x
+abbrev pub has_pending_id : ConsumerIndex → List ℕ → Id → Bool
+has_pending_id owners name x = has_among (ids_at owners name) x
 
 abbrev pub is_owner : Option RowState → List ℕ → Bool
 is_owner None name = false
@@ -78,7 +78,7 @@ indexed_row rows x = lookup (is_at (id_cmp x)) rows
 
 -- both indexes hold the same pairs
 abbrev pub IsAgreed : List (Id × RowState) → ConsumerIndex → Type 0
-IsAgreed rows owners = (name : List ℕ) → (x : Id) → holds owners name x ≡ is_owner (indexed_row rows x) name
+IsAgreed rows owners = (name : List ℕ) → (x : Id) → has_pending_id owners name x ≡ is_owner (indexed_row rows x) name
 
 -- each row's consumer is one of these
 abbrev pub IsNamed : Names → Rows → Type 0

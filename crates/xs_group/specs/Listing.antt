@@ -12,7 +12,7 @@ abbrev pub owners_told : Names → Rows → List OwnerCount
 owners_told names rows = filter (λ owner. nat_lt 0 owner.count) (counts_of_owners (keys names) rows.entries)
 
 -- the first of the rows that are asked for
-abbrev pub rows_asked : Selection → Option (List ℕ) → Rows → List PendingRow
-rows_asked s consumer rows =
+abbrev pub selected_rows : Selection → Option (List ℕ) → Rows → List PendingRow
+selected_rows s consumer rows =
     let asked = filter (is_selected s.range s.min_idle s.moment consumer) rows.entries in
     take s.limit (map (pending_row s.moment) asked)

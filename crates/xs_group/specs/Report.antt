@@ -8,7 +8,7 @@ use Rattle.xs_stream.specs.StreamContent.{is_within}
 use Rattle.xs_group.specs.declared.reports.OwnerCount.{OwnerCount}
 use Rattle.xs_group.specs.declared.reports.GroupSummary.{GroupSummary}
 use Rattle.xs_group.specs.declared.reports.PendingRow.{PendingRow}
-use Rattle.xs_group.specs.GroupState.{RowState, GroupState, is_same_name, idle, owned_ids}
+use Rattle.xs_group.specs.GroupState.{RowState, GroupState, is_same_name, idle_time, ids_of_consumer}
 
 abbrev pub first_id : List (Id × RowState) → Option Id
 first_id [] = None
@@ -21,11 +21,11 @@ last_id (e ∷ f ∷ es) = last_id (f ∷ es)
 
 -- each of these consumers with the number of its rows
 abbrev pub counts_of_owners : List (List ℕ) → List (Id × RowState) → List OwnerCount
-counts_of_owners names rows = map (λ name. record { consumer = name; count = length (owned_ids name rows) }) names
+counts_of_owners names rows = map (λ name. record { consumer = name; count = length (ids_of_consumer name rows) }) names
 
 -- how many rows a consumer has
 abbrev pub owned_count : List ℕ → GroupState → ℕ
-owned_count consumer group = length (owned_ids consumer group.rows.entries)
+owned_count consumer group = length (ids_of_consumer consumer group.rows.entries)
 
 -- the summary: how many rows, the least and the greatest id, and the consumers that have rows,
 -- in the order of their bytes
@@ -41,12 +41,12 @@ is_of None row = true
 is_of (Some consumer) row = is_same_name row.consumer consumer
 
 abbrev pub pending_row : ℕ → Id × RowState → PendingRow
-pending_row now e = record { id = e.0; consumer = e.1.consumer; idle = idle now e.1.time; count = e.1.count }
+pending_row now e = record { id = e.0; consumer = e.1.consumer; idle = idle_time now e.1.time; count = e.1.count }
 
 -- a row in a range that is idle for long enough, of the consumer where one is named
 abbrev pub is_selected : Range → ℕ → ℕ → Option (List ℕ) → Id × RowState → Bool
 is_selected range min_idle now consumer e =
-    is_within range e.0 && (nat_le min_idle (idle now e.1.time) && is_of consumer e.1)
+    is_within range e.0 && (nat_le min_idle (idle_time now e.1.time) && is_of consumer e.1)
 
 -- XPENDING, the long form: at most `limit` of the selected rows
 abbrev pub pending_of : Range → ℕ → ℕ → ℕ → Option (List ℕ) → GroupState → List PendingRow

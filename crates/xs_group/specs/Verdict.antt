@@ -8,7 +8,7 @@ use Rattle.xs_group.specs.declared.claims.Verdict.{Verdict}
 use Rattle.xs_group.specs.declared.claims.Verdict.TheVariants.{Passed, Taken, Removed}
 use Rattle.xs_group.specs.Claims.{Rule, is_idle, claim_by_ids, scan_of, claimed_row}
 use Rattle.xs_group.specs.GroupState.{RowState, GroupState, is_same_name}
-use Rattle.xs_group.specs.Indexes.{ConsumerIndex, holds, is_owner, indexed_row}
+use Rattle.xs_group.specs.Indexes.{ConsumerIndex, has_pending_id, is_owner, indexed_row}
 
 abbrev pub is_taken_by : Verdict → Bool
 is_taken_by Taken = true
@@ -36,15 +36,15 @@ abbrev pub with_removed : Verdict → List Id → Id → List Id
 with_removed verdict ids id = if is_removed_by verdict then ids ++ id ∷ [] else ids
 
 -- the ids that are scanned after so many hits among so many ids
-abbrev pub scanned_after : (Id → Bool) → ℕ → ℕ → ℕ → List Id → List Id
-scanned_after hit limit hits seen [] = []
-scanned_after hit limit hits seen (x ∷ xs) =
+abbrev pub ids_scanned_after : (Id → Bool) → ℕ → ℕ → ℕ → List Id → List Id
+ids_scanned_after hit limit hits seen [] = []
+ids_scanned_after hit limit hits seen (x ∷ xs) =
     if nat_le limit hits || nat_le (10 * limit) seen then []
-    else x ∷ scanned_after hit limit (hits + (if hit x then 1 else 0)) (seen + 1) xs
+    else x ∷ ids_scanned_after hit limit (hits + (if hit x then 1 else 0)) (seen + 1) xs
 
 -- what becomes of a row where these ids are taken
-abbrev pub moved : List ℕ → ℕ → Rule → List Id → Id → RowState → Option RowState
-moved consumer now rule ids x row = if has_id ids x then Some (claimed_row consumer now rule row) else Some row
+abbrev pub row_after_move : List ℕ → ℕ → Rule → List Id → Id → RowState → Option RowState
+row_after_move consumer now rule ids x row = if has_id ids x then Some (claimed_row consumer now rule row) else Some row
 
 -- no id stands twice
 abbrev pub AreDistinct : List Id → Type 0
@@ -75,5 +75,5 @@ AreSomeOf done ids = (x : Id) → has_id done x ≡ true → has_id ids x ≡ tr
 -- both indexes have the same pairs, but that by consumer has these ids of the consumer as well
 abbrev pub AreAgreedBut : List (Id × RowState) → ConsumerIndex → List ℕ → List Id → Type 0
 AreAgreedBut rows owners name ids =
-    (n : List ℕ) → (x : Id) → holds owners n x
+    (n : List ℕ) → (x : Id) → has_pending_id owners n x
     ≡ (is_owner (indexed_row rows x) n || (is_same_name n name && has_id ids x))

@@ -4,7 +4,7 @@ ghost use Rattle.std.specs.BTreeSet.{contains};
 ghost use Rattle.xs_stream.specs.declared.id.Id.{Id};
 ghost use Rattle.xs_stream.specs.Id.{id_cmp, is_same_id, has_id};
 ghost use Rattle.xs_group.specs.GroupState.{is_same_name};
-ghost use Rattle.xs_group.specs.Indexes.{holds, ids_at, indexed_row};
+ghost use Rattle.xs_group.specs.Indexes.{has_pending_id, ids_at, indexed_row};
 ghost use Rattle.xs_group.specs.Verdict.{AreSomeOf};
 
 use crate::id_index::IdIndex;
@@ -38,11 +38,11 @@ pub(crate) fn put_ids(
 ) -> Result<(), AllocError>
     requires { IsSome (ids_at owners.old.entries name.now) }
     ensures names { (n : List ℕ) → is_some (ids_at owners.new.entries n) ≡ is_some (ids_at owners.old.entries n) }
-    ensures ok { OnOk result ((n : List ℕ) → (x : Id) → holds owners.new.entries n x
-        ≡ (holds owners.old.entries n x || (is_same_name n name.now && has_id ids.now x))) }
+    ensures ok { OnOk result ((n : List ℕ) → (x : Id) → has_pending_id owners.new.entries n x
+        ≡ (has_pending_id owners.old.entries n x || (is_same_name n name.now && has_id ids.now x))) }
     ensures err { OnErr result ((done : List Id) × AreSomeOf done ids.now
-        × ((n : List ℕ) → (x : Id) → holds owners.new.entries n x
-        ≡ (holds owners.old.entries n x || (is_same_name n name.now && has_id done x)))) }
+        × ((n : List ℕ) → (x : Id) → has_pending_id owners.new.entries n x
+        ≡ (has_pending_id owners.old.entries n x || (is_same_name n name.now && has_id done x)))) }
 {
     let Some(own) = owners.get_mut(name) else {
         return Ok(());
@@ -53,8 +53,8 @@ pub(crate) fn put_ids(
 /// Takes an id from a consumer.
 pub(crate) fn remove_id(owners: &mut ConsumerIndex, name: &Bytes, id: Id)
     ensures names { (n : List ℕ) → is_some (ids_at owners.new.entries n) ≡ is_some (ids_at owners.old.entries n) }
-    ensures ids { (n : List ℕ) → (x : Id) → holds owners.new.entries n x
-        ≡ (holds owners.old.entries n x && not (is_same_name n name.now && is_same_id x id)) }
+    ensures ids { (n : List ℕ) → (x : Id) → has_pending_id owners.new.entries n x
+        ≡ (has_pending_id owners.old.entries n x && not (is_same_name n name.now && is_same_id x id)) }
 {
     if let Some(ids) = owners.get_mut(name) {
         ids.remove(&id);

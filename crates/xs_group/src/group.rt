@@ -8,7 +8,7 @@ ghost use Rattle.xs_group.specs.ConsistentGroup.{IsConsistentGroup};
 ghost use Rattle.xs_group.specs.Claims.{claim_by_ids, scan_of, group_after_claim};
 ghost use Rattle.xs_group.specs.Verdict.{IsClaimOn};
 ghost use Rattle.std.specs.Option.{option_map};
-ghost use Rattle.xs_group.specs.Deliveries.{delivery_of, history_of, kind_of, received, IsMade};
+ghost use Rattle.xs_group.specs.Deliveries.{delivery_of, history_of, kind_of, group_after_read, IsMade};
 ghost use Rattle.xs_stream.specs.StreamContent.{ids_of, AllAbove, Ascends};
 
 use crate::claims::{Claim, ClaimRule, ClaimTerms, Scan};
@@ -291,7 +291,7 @@ impl Group {
         requires above { AllAbove self.old.cursor ids.now }
         requires ascends { Ascends ids.now }
         ensures made { IfOk result (λ made. made ≡ not (has_name self.old.consumers consumer.now)) }
-        ensures ok { OnOk result (self.new ≡ received consumer.now now noack ids.now self.old) }
+        ensures ok { OnOk result (self.new ≡ group_after_read consumer.now now noack ids.now self.old) }
         ensures err { OnErr result (self.new ≡ self.old) }
     {
         let last = reading::last_id(self.cursor, ids);

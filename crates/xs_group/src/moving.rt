@@ -4,8 +4,8 @@ ghost use Rattle.std.specs.Prelude.{option_and_then, IfOk, IfSome, if◌then◌e
 ghost use Rattle.xs_stream.specs.declared.id.Id.{Id};
 ghost use Rattle.xs_stream.specs.Id.{is_same_id, has_id};
 ghost use Rattle.xs_group.specs.GroupState.{is_same_name};
-ghost use Rattle.xs_group.specs.Indexes.{holds, ids_at, is_owner, indexed_row, IsAgreed};
-ghost use Rattle.xs_group.specs.Verdict.{moved, AreDistinct, AreAgreedBut, AreSomeOf};
+ghost use Rattle.xs_group.specs.Indexes.{has_pending_id, ids_at, is_owner, indexed_row, IsAgreed};
+ghost use Rattle.xs_group.specs.Verdict.{row_after_move, AreDistinct, AreAgreedBut, AreSomeOf};
 
 use crate::claims::ClaimTerms;
 use crate::consumer_index::{self, ConsumerIndex};
@@ -66,8 +66,8 @@ fn is_row_of(rows: &IdIndex, name: &Bytes, id: Id) -> bool
 /// Takes an id from a consumer, unless its row is that consumer's.
 fn take_back_one(rows: &IdIndex, owners: &mut ConsumerIndex, name: &Bytes, id: Id)
     ensures names { (n : List ℕ) → is_some (ids_at owners.new.entries n) ≡ is_some (ids_at owners.old.entries n) }
-    ensures ids { (n : List ℕ) → (x : Id) → holds owners.new.entries n x
-        ≡ (holds owners.old.entries n x
+    ensures ids { (n : List ℕ) → (x : Id) → has_pending_id owners.new.entries n x
+        ≡ (has_pending_id owners.old.entries n x
         && not (is_same_name n name.now
         && (is_same_id x id && not (is_owner (indexed_row rows.now.entries x) name.now)))) }
 {
@@ -112,9 +112,9 @@ pub(crate) fn add_ids(
 /// Takes an id from the consumer whose it was, unless that is the one who gets it.
 fn leave_owner(owners: &mut ConsumerIndex, old: &Bytes, name: &Bytes, id: Id)
     ensures names { (n : List ℕ) → is_some (ids_at owners.new.entries n) ≡ is_some (ids_at owners.old.entries n) }
-    ensures ids { (n : List ℕ) → (x : Id) → holds owners.new.entries n x
-        ≡ (if is_same_name old.now name.now then holds owners.old.entries n x
-        else (holds owners.old.entries n x && not (is_same_name n old.now && is_same_id x id))) }
+    ensures ids { (n : List ℕ) → (x : Id) → has_pending_id owners.new.entries n x
+        ≡ (if is_same_name old.now name.now then has_pending_id owners.old.entries n x
+        else (has_pending_id owners.old.entries n x && not (is_same_name n old.now && is_same_id x id))) }
 {
     if are_equal_names(old, name) {
         return;
@@ -133,7 +133,7 @@ fn move_row(
 )
     requires { share ≡ name.now }
     ensures rows { (x : Id) → indexed_row rows.new.entries x
-        ≡ (if is_same_id x id then option_and_then (moved name.now terms.now.moment terms.now.rule (id
+        ≡ (if is_same_id x id then option_and_then (row_after_move name.now terms.now.moment terms.now.rule (id
         ∷ []) x) (indexed_row rows.old.entries x) else indexed_row rows.old.entries x) }
     ensures agreed { (rest : List Id) → has_id rest id ≡ false
         → AreAgreedBut rows.old.entries owners.old.entries name.now (id ∷ rest)
@@ -161,7 +161,8 @@ pub(crate) fn move_rows(
     requires apart { AreDistinct ids.now }
     requires agreed { AreAgreedBut rows.old.entries owners.old.entries name.now ids.now }
     ensures rows { (x : Id) → indexed_row rows.new.entries x
-        ≡ option_and_then (moved name.now terms.now.moment terms.now.rule ids.now x) (indexed_row rows.old.entries x) }
+        ≡ option_and_then (row_after_move name.now terms.now.moment terms.now.rule ids.now x)
+        (indexed_row rows.old.entries x) }
     ensures agreed { IsAgreed rows.new.entries owners.new.entries }
     ensures names { (n : List ℕ) → is_some (ids_at owners.new.entries n) ≡ is_some (ids_at owners.old.entries n) }
 {

@@ -3,16 +3,17 @@ ghost use Rattle.std.specs.Prelude.{◌≡◌, not, length, true, false, None, S
 ghost use Rattle.xs_bytes.specs.SortedMap.{empty, get, remove, change};
 ghost use Rattle.xs_stream.specs.Id.{has_id, is_below, zero_id};
 ghost use Rattle.xs_group.specs.Report.{summary_of};
-ghost use Rattle.xs_group.specs.Listing.{rows_asked};
+ghost use Rattle.xs_group.specs.Listing.{selected_rows};
 ghost use Rattle.xs_group.specs.Claims.{claim_among, scan_of, row_after_claim};
-ghost use Rattle.xs_group.specs.Verdict.{verdict_of, moved, AreDistinct};
-ghost use Rattle.xs_group.specs.GroupState.{has_name, with_name, first_row, owned_ids, with_rows, own_ids};
+ghost use Rattle.xs_group.specs.Verdict.{verdict_of, row_after_move, AreDistinct};
+ghost use Rattle.xs_group.specs.GroupState.{has_name, with_name, first_row, ids_of_consumer, with_rows, reread_ids};
 ghost use Rattle.xs_group.specs.GroupState.{unless_acked};
 ghost use Rattle.xs_group.specs.GroupState.{unless_owned};
 ghost use Rattle.xs_group.specs.Indexes.{IsNamed, AreFree};
 ghost use Rattle.xs_stream.specs.StreamContent.{ids_of};
-ghost use Rattle.xs_group.specs.Deliveries.{touch_of, shown_rows, set_one, set_rows, touch_set, row_ids, taken_back};
-ghost use Rattle.xs_group.specs.Deliveries.{unmade};
+ghost use Rattle.xs_group.specs.Deliveries.{touch_of, shown_rows, set_one, set_rows, touch_set, row_ids};
+ghost use Rattle.xs_group.specs.Deliveries.{rows_taken_back};
+ghost use Rattle.xs_group.specs.Deliveries.{list_without_delivery};
 
 use crate::claims::{Claim, ClaimTerms, Found, Scan, Verdict};
 use crate::consumer_index::{self, ConsumerIndex};
@@ -156,7 +157,7 @@ impl Pending {
         from: Id,
         limit: Option<u64>,
     ) -> Result<List<Id>, AllocError>
-        ensures { IfOk result (λ ids. ids ≡ own_ids name.now limit from self.now.rows.entries) }
+        ensures { IfOk result (λ ids. ids ≡ reread_ids name.now limit from self.now.rows.entries) }
     {
         let Some(ids) = self.owners.get(name) else {
             return Ok(List::new(Vec::new(alloc)));
@@ -236,7 +237,7 @@ impl Pending {
 
     /// Takes back what a read did to these rows.
     fn take_back(&mut self, kind: DeliveryKind, rows: &[DeliveryRow])
-        ensures { self.new ≡ record self.old { rows = taken_back kind rows.now self.old.rows } }
+        ensures { self.new ≡ record self.old { rows = rows_taken_back kind rows.now self.old.rows } }
     {
         match kind {
             DeliveryKind::New => self.take_rows(rows),
@@ -247,7 +248,7 @@ impl Pending {
 
     /// Takes back what a read did to the consumers and the rows.
     pub(crate) fn undo(&mut self, delivery: &Delivery)
-        ensures { self.new ≡ unmade delivery.now self.old }
+        ensures { self.new ≡ list_without_delivery delivery.now self.old }
     {
         self.take_back(delivery.kind, delivery.rows.as_slice());
         if !delivery.created {
@@ -312,7 +313,7 @@ impl Pending {
         requires there { has_name self.old.consumers name.now ≡ true }
         requires apart { AreDistinct ids.now }
         ensures ok { OnOk result (self.new ≡ record self.old {
-          rows = change (moved name.now terms.now.moment terms.now.rule ids.now) self.old.rows;
+          rows = change (row_after_move name.now terms.now.moment terms.now.rule ids.now) self.old.rows;
         }) }
         ensures err { OnErr result (self.new ≡ self.old) }
     {
@@ -371,7 +372,7 @@ impl Pending {
         selection: &Selection,
     ) -> Result<Vec<PendingRow>, AllocError>
         requires { is_below selection.now.range.high selection.now.range.low ≡ false }
-        ensures { IfOk result (λ found. found.items ≡ rows_asked selection.now None self.now.rows) }
+        ensures { IfOk result (λ found. found.items ≡ selected_rows selection.now None self.now.rows) }
     {
         reports::rows_within(alloc, &self.rows, selection)
     }
@@ -384,7 +385,7 @@ impl Pending {
         name: &Bytes,
     ) -> Result<Vec<PendingRow>, AllocError>
         requires { is_below selection.now.range.high selection.now.range.low ≡ false }
-        ensures { IfOk result (λ found. found.items ≡ rows_asked selection.now (Some name.now) self.now.rows) }
+        ensures { IfOk result (λ found. found.items ≡ selected_rows selection.now (Some name.now) self.now.rows) }
     {
         let Some(ids) = self.owners.get(name) else {
             return Ok(Vec::new(alloc));
@@ -407,7 +408,7 @@ impl Pending {
           consumers = remove self.old.consumers name.now;
           rows = change (unless_owned name.now) self.old.rows;
         } }
-        ensures count { result ≡ length (owned_ids name.now self.old.rows.entries) }
+        ensures count { result ≡ length (ids_of_consumer name.now self.old.rows.entries) }
     {
         let Some(ids) = self.owners.remove(name) else {
             return 0;

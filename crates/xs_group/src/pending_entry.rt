@@ -1,6 +1,6 @@
 //! A pending entry.
 ghost use Rattle.std.specs.Prelude.{◌≡◌, IfOk};
-ghost use Rattle.xs_group.specs.GroupState.{next_count, idle};
+ghost use Rattle.xs_group.specs.GroupState.{next_count, idle_time};
 ghost use Rattle.xs_group.specs.Claims.{claimed_row, claim_time, claim_count};
 
 use crate::claims::{ClaimTerms, ClaimTime};
@@ -85,7 +85,7 @@ impl PendingEntry {
 
     /// For how many milliseconds the entry is idle: since its last delivery, or the time that a claim gave it.
     pub(crate) fn idle(&self, now: Moment) -> u64
-        ensures { result ≡ idle now self.now.time }
+        ensures { result ≡ idle_time now self.now.time }
     {
         now.get().saturating_sub(self.time.get())
     }

@@ -2,7 +2,7 @@
 ghost use Rattle.std.specs.Prelude.{◌≡◌, IfOk, take, filter};
 ghost use Rattle.std.specs.BTreeSet.{IsOrdered};
 ghost use Rattle.xs_stream.specs.Id.{has_id, id_cmp, is_below};
-ghost use Rattle.xs_stream.specs.StreamContent.{ids_of, limited, AreEntriesOf};
+ghost use Rattle.xs_stream.specs.StreamContent.{ids_of, up_to_limit, AreEntriesOf};
 ghost use Rattle.xs_group.specs.GroupState.{last_of};
 ghost use Rattle.xs_group.specs.Deliveries.{new_rows, touch_set};
 
@@ -69,7 +69,7 @@ pub(crate) fn limited_above(
     limit: Option<u64>,
 ) -> Result<List<Id>, AllocError>
     ensures ordered { IsOrdered id_cmp ids.now }
-    ensures above { IfOk result (λ above. above ≡ limited limit (filter (λ x. is_below from x) ids.now.keys)) }
+    ensures above { IfOk result (λ above. above ≡ up_to_limit limit (filter (λ x. is_below from x) ids.now.keys)) }
 {
     let above = ids_above(alloc, ids, from, limit.unwrap_or(u64::MAX))?;
     Ok(List::new(above))

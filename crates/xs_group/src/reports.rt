@@ -3,7 +3,7 @@ ghost use Rattle.std.specs.Prelude.{IfOk, List, ℕ, None, Some, false, ◌≡�
 ghost use Rattle.std.specs.BTreeSet.{contains};
 ghost use Rattle.xs_group.specs.GroupState.{RowState};
 ghost use Rattle.xs_group.specs.Indexes.{IsAgreed, indexed_row, is_owner, names_of, rows_of};
-ghost use Rattle.xs_group.specs.Listing.{owners_told, rows_asked};
+ghost use Rattle.xs_group.specs.Listing.{owners_told, selected_rows};
 ghost use Rattle.xs_group.specs.Report.{first_id, last_id, pending_row};
 ghost use Rattle.xs_stream.specs.declared.id.Id.{Id};
 ghost use Rattle.xs_stream.specs.Id.{id_cmp, is_below};
@@ -129,7 +129,7 @@ pub(crate) fn rows_within(
     selection: &Selection,
 ) -> Result<Vec<PendingRow>, AllocError>
     requires { is_below selection.now.range.high selection.now.range.low ≡ false }
-    ensures { IfOk result (λ found. found.items ≡ rows_asked selection.now None (rows_of rows.now.entries)) }
+    ensures { IfOk result (λ found. found.items ≡ selected_rows selection.now None (rows_of rows.now.entries)) }
 {
     let mut found = Vec::with_capacity(alloc, FIRST_ROOM.min(selection.limit) as usize)?;
     let Range { low, high } = selection.range;
@@ -156,7 +156,7 @@ pub(crate) fn rows_of_ids(
     requires { is_below selection.now.range.high selection.now.range.low ≡ false }
     ensures { (name : List ℕ)
         → ((x : Id) → contains id_cmp ids.now x ≡ is_owner (indexed_row rows.now.entries x) name)
-        → IfOk result (λ found. found.items ≡ rows_asked selection.now (Some name) (rows_of rows.now.entries)) }
+        → IfOk result (λ found. found.items ≡ selected_rows selection.now (Some name) (rows_of rows.now.entries)) }
 {
     let mut found = Vec::with_capacity(alloc, FIRST_ROOM.min(selection.limit) as usize)?;
     let Range { low, high } = selection.range;

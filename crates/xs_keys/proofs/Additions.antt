@@ -2,7 +2,7 @@
 use Rattle.std.proofs.Common.{◌≡◌, ℕ, true, false, Some, Result, Ok, Err, is_ok, inl, inr, refl}
 use Rattle.std.proofs.lemmas.Bool.{false≢true}
 use Rattle.xs_command.specs.declared.command.AddCommand.{AddCommand}
-use Rattle.xs_keys.specs.Terms.{get, insert, Id, AddError, assigned, StreamState, Reply, Add}
+use Rattle.xs_keys.specs.Terms.{get, insert, Id, AddError, id_of_addition, StreamState, Reply, Add}
 use Rattle.xs_keys.specs.Content.{Content, KeyState}
 use Rattle.xs_keys.specs.ReplyParts.{assigned_reply}
 use Rattle.xs_keys.specs.Step.{Step, is_error}
@@ -19,7 +19,7 @@ pub adds_step : (content : Content) (now : ℕ) (add : AddCommand) (answer : Rep
 adds_step content now add answer key new found (inl done) = inl (record { answer_is = rw found done.0; content_is = rw (found, ← done.1) refl })
 adds_step content now add answer key new found (inr refused) = inr (record {
   takes = refl;
-  no_other = rw found (no_error (assigned now key.stream.top add.id) refused.0);
+  no_other = rw found (no_error (id_of_addition now key.stream.top add.id) refused.0);
   answer_is = refused.1;
   content_is = rw refused.2 (insert-same content add.key key found);
 })

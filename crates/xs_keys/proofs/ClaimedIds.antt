@@ -10,10 +10,10 @@ use Rattle.std.proofs.lemmas.Bool.Decides.{nat_tests}
 use Rattle.xs_stream.specs.Id.{is_below, is_same_id, has_id, zero_id}
 use Rattle.xs_group.specs.declared.claims.Claim.{Claim}
 use Rattle.xs_group.specs.declared.claims.ClaimTime.TheVariants as claim_time
-use Rattle.xs_group.specs.GroupState.{RowState, idle, new_ids}
+use Rattle.xs_group.specs.GroupState.{RowState, idle_time, new_ids}
 use Rattle.xs_group.specs.Claims.{Rule, row_at, is_idle, is_taken, is_removed, is_hit, is_enough, prefixes, first_where}
 use Rattle.xs_group.specs.Claims.{without_repeats, scanned_part, from_start, first_or_zero, claim_among}
-use Rattle.xs_group.specs.Verdict.{AreDistinct, scanned_after}
+use Rattle.xs_group.specs.Verdict.{AreDistinct, ids_scanned_after}
 use Rattle.xs_group.proofs.CarriedOutClaims.{apart-filter, apart-without_repeats}
 use Rattle.xs_group.proofs.Scanning.{scanned-after}
 use Rattle.xs_keys.specs.Terms.{option_map_or, Id, Ascends, AllAbove}
@@ -91,18 +91,18 @@ hits-few r t (x ∷ xs) = by (r x) (t x) (hits-few r t xs) where
   by false false h = h
 
 -- after some hits there are no more than the rest
-few-after : (hit : Id → Bool) (limit hits seen : ℕ) (ids : List Id) → hits ≤ limit → hits + length (filter hit (scanned_after hit limit hits seen ids)) ≤ limit
+few-after : (hit : Id → Bool) (limit hits seen : ℕ) (ids : List Id) → hits ≤ limit → hits + length (filter hit (ids_scanned_after hit limit hits seen ids)) ≤ limit
 few-after hit limit hits seen [] few = omega (arith, few)
 few-after hit limit hits seen (x ∷ xs) few =
     by (nat_le limit hits) refl (nat_le (10 * limit) seen) (few-after hit limit (hits + 1) (seen + 1) xs) (few-after hit limit (hits + 0) (seen + 1) xs) where
       by : (t : Bool) → nat_le limit hits ≡ t → (s : Bool)
-          → (hits + 1 ≤ limit → hits + 1 + length (filter hit (scanned_after hit limit (hits + 1) (seen + 1) xs)) ≤ limit)
-          → (hits + 0 ≤ limit → hits + 0 + length (filter hit (scanned_after hit limit (hits + 0) (seen + 1) xs)) ≤ limit)
-          → hits + length (filter hit (cond (t || s) [] (x ∷ scanned_after hit limit (hits + cond (hit x) 1 0) (seen + 1) xs))) ≤ limit
+          → (hits + 1 ≤ limit → hits + 1 + length (filter hit (ids_scanned_after hit limit (hits + 1) (seen + 1) xs)) ≤ limit)
+          → (hits + 0 ≤ limit → hits + 0 + length (filter hit (ids_scanned_after hit limit (hits + 0) (seen + 1) xs)) ≤ limit)
+          → hits + length (filter hit (cond (t || s) [] (x ∷ ids_scanned_after hit limit (hits + cond (hit x) 1 0) (seen + 1) xs))) ≤ limit
       by true e s one none = omega (arith, few)
       by false e true one none = omega (arith, few)
       by false e false one none = step (hit x) where
-        step : (h : Bool) → hits + length (cond h (x ∷ filter hit (scanned_after hit limit (hits + cond h 1 0) (seen + 1) xs)) (filter hit (scanned_after hit limit (hits + cond h 1 0) (seen + 1) xs))) ≤ limit
+        step : (h : Bool) → hits + length (cond h (x ∷ filter hit (ids_scanned_after hit limit (hits + cond h 1 0) (seen + 1) xs)) (filter hit (ids_scanned_after hit limit (hits + cond h 1 0) (seen + 1) xs))) ≤ limit
         step true = let room : hits + 1 ≤ limit = grind (arith, nat_tests, e) in omega (arith, one room)
         step false = let room : hits + 0 ≤ limit = omega (arith, few) in omega (arith, none room)
 
@@ -331,11 +331,11 @@ module _ (start : Id) (past : List GroupEvent) (asc : PresentAscends past) (even
     by : (row : Option RowState) → row_at (rows start past) x ≡ row → (is_idle event.now (rule_for event.ask) row && has_id event.present x) ≡ true → MayBeTaken start past event x
     by None f t = absurd (false≢true t)
     by (Some row) f t =
-        let test : nat_le (rule_for event.ask).min_idle (idle event.now row.time) ≡ true = first_of (nat_le (rule_for event.ask).min_idle (idle event.now row.time)) (has_id event.present x) t in
+        let test : nat_le (rule_for event.ask).min_idle (idle_time event.now row.time) ≡ true = first_of (nat_le (rule_for event.ask).min_idle (idle_time event.now row.time)) (has_id event.present x) t in
         let old : (rule_for event.ask).min_idle ≤ event.now - row.time = grind (arith, nat_tests, test) in
         record {
           owned = has-owner (ap is_some f);
-          present = second_of (nat_le (rule_for event.ask).min_idle (idle event.now row.time)) (has_id event.present x) t;
+          present = second_of (nat_le (rule_for event.ask).min_idle (idle_time event.now row.time)) (has_id event.present x) t;
           idle = subst (λ (time : ℕ). least_idle event.ask ≤ event.now - time) (is-last-touched start past x row f).0
               (subst (λ (least : ℕ). least ≤ event.now - row.time) (looks event.ask event.now event.present (rows start past)).1 old);
         }

@@ -4,7 +4,7 @@ use Rattle.std.proofs.Common.{option_and_then, ◌&&◌, sym, ap, subst, ◌∙�
 use Rattle.std.proofs.lemmas.Option.{same_Some}
 use Rattle.std.proofs.lemmas.Bool.{false≢true}
 use Rattle.xs_bytes.specs.SortedMap.{get}
-use Rattle.xs_group.specs.GroupState.{RowState, GroupState, is_same_name, has_name, new_ids, first_row, own_ids}
+use Rattle.xs_group.specs.GroupState.{RowState, GroupState, is_same_name, has_name, new_ids, first_row, reread_ids}
 use Rattle.xs_group.specs.GroupState.{redelivered_row}
 use Rattle.xs_group.specs.GroupState.{unless_owned}
 use Rattle.xs_keys.specs.Event.{History}
@@ -94,7 +94,7 @@ module _ (past : List GroupEvent) (now : ℕ) (present : List Id) (a : Id) (es :
 
   of-asked : (ask : GroupAsk) (r : Option RowState) → IsOfConsumers past r → IsOfConsumers (record { now = now; present = present; ask = ask } ∷ past) (row_after_ask ask now present a es x r)
   of-asked (read_new consumer limit noack) r h = λ row e. of-new consumer limit noack (has_id (new_ids limit a present) x) r h row e
-  of-asked (read_own consumer limit from) r h = λ row e. of-own consumer (has_id (own_ids consumer limit from es) x && has_id present x) r h row e
+  of-asked (read_own consumer limit from) r h = λ row e. of-own consumer (has_id (reread_ids consumer limit from es) x && has_id present x) r h row e
   of-asked (acknowledge ids) r h = λ row e. of-ack (has_id ids x) r h row e
   of-asked (create_consumer consumer) r h = λ row e. still false (is_same_name row.consumer consumer) (is_consumer past row.consumer) refl (h row e)
   of-asked (delete_consumer consumer) r h = λ row e. of-leave consumer r h row e

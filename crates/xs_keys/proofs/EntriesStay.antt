@@ -4,7 +4,8 @@ use Rattle.std.proofs.Common.{Some, None, is_some, sym, ap, ◌∙◌, refl}
 use Rattle.std.proofs.lemmas.Bool.{false≢true, and_from, or_left}
 use Rattle.std.proofs.lemmas.List.{append-nil}
 use Rattle.xs_keys.specs.Event.{Event, History}
-use Rattle.xs_keys.specs.Terms.{list_all, option_map, option_map_or, option_or, Id, has_id, assigned, zero_id, ids_of}
+use Rattle.xs_keys.specs.Terms.{list_all, option_map, option_map_or, option_or, Id, has_id, id_of_addition, zero_id}
+use Rattle.xs_keys.specs.Terms.{ids_of}
 use Rattle.xs_keys.specs.Terms.{is_trimmed, is_same_name, Command, Ping, Quit, Add, Delete, TrimTo, Len, Scan}
 use Rattle.xs_keys.specs.Terms.{GroupCreate, GroupDestroy, ConsumerCreate, ConsumerDelete, ReadGroup, Ack, Pending}
 use Rattle.xs_keys.specs.Terms.{PendingRows, Claim, AutoClaim, DropKeys, ReadGroupCommand, ReadOne}
@@ -81,7 +82,7 @@ stays now Quit key stream x = same Quit key (present_in stream) (ids_of (option_
 stays now (Add add) key stream x =
     adds (Add add) key x (add_entry now add.id add.fields add.trim) add.make stream (is_same_name key add.key)
     (λ here past. record {
-      may = λ e. or_left _ _ (and_from (is_same_name key add.key) _ here (trimmed-below (assigned now (top past) add.id) add.fields add.trim (present_entries past) x e));
+      may = λ e. or_left _ _ (and_from (is_same_name key add.key) _ here (trimmed-below (id_of_addition now (top past) add.id) add.fields add.trim (present_entries past) x e));
       must = λ r. absurd (false≢true r);
     })
     (λ ids. refl)

@@ -4,7 +4,7 @@ use Rattle.std.proofs.Common.{Some, None, zero, suc, ap, subst, refl, arith}
 use Rattle.std.proofs.lemmas.Bool.{false≢true}
 use Rattle.xs_stream.specs.Id.{is_below, is_same_id, has_id}
 use Rattle.xs_stream.proofs.Order.{below-not_back}
-use Rattle.xs_keys.specs.Terms.{Id, Ascends, AllUpTo, limited}
+use Rattle.xs_keys.specs.Terms.{Id, Ascends, AllUpTo, up_to_limit}
 use Rattle.xs_keys.specs.Telling.{AreFirst}
 use Rattle.xs_keys.proofs.IdLists.{ascends-limited}
 use Rattle.xs_keys.proofs.IdsAtEvents.{above-has, limited-has}
@@ -30,7 +30,7 @@ take-few zero xs = omega arith
 take-few (suc n) [] = omega arith
 take-few (suc n) (x ∷ xs) = omega (arith, take-few n xs)
 
-pub limited-few : (xs : List Id) (limit : Option ℕ) (n : ℕ) → limit ≡ Some n → length (limited limit xs) ≤ n
+pub limited-few : (xs : List Id) (limit : Option ℕ) (n : ℕ) → limit ≡ Some n → length (up_to_limit limit xs) ≤ n
 limited-few xs None n e = absurd (subst (λ (o : Option ℕ). is_none o) e tt) where
   is_none : Option ℕ → Type 0
   is_none None = Unit {0}
@@ -42,7 +42,7 @@ limited-few xs (Some m) n e = subst (λ (k : ℕ). length (take m xs) ≤ k) (or
     number None = 0
     number (Some k) = k
 
-pub limited-first : (limit : Option ℕ) (xs : List Id) → Ascends xs → AreFirst (λ x. has_id xs x ≡ true) limit (limited limit xs)
+pub limited-first : (limit : Option ℕ) (xs : List Id) → Ascends xs → AreFirst (λ x. has_id xs x ≡ true) limit (up_to_limit limit xs)
 limited-first limit xs asc = record {
   ascend = ascends-limited limit xs asc;
   chosen = limited-has limit xs;
@@ -50,7 +50,7 @@ limited-first limit xs asc = record {
   at_most = limited-few xs limit;
 }
   where
-    full : (limit : Option ℕ) (x : Id) → has_id xs x ≡ true → (has_id (limited limit xs) x ≡ true) ⊎ ((limit ≡ Some (length (limited limit xs))) × AllUpTo x (limited limit xs))
+    full : (limit : Option ℕ) (x : Id) → has_id xs x ≡ true → (has_id (up_to_limit limit xs) x ≡ true) ⊎ ((limit ≡ Some (length (up_to_limit limit xs))) × AllUpTo x (up_to_limit limit xs))
     full None x h = inl h
     full (Some n) x h = by (take-first n xs asc x h) where
       by : (has_id (take n xs) x ≡ true) ⊎ ((n ≡ length (take n xs)) × AllUpTo x (take n xs))

@@ -7,7 +7,7 @@ use Rattle.xs_bytes.specs.SortedMap.{empty, get, change, remove}
 use Rattle.xs_bytes.proofs.SortedMaps.{get-empty}
 use Rattle.xs_group.specs.GroupState.{RowState, Rows, GroupState, Names, is_same_name, has_name, with_name, new_ids}
 use Rattle.xs_group.specs.GroupState.{last_of}
-use Rattle.xs_group.specs.GroupState.{first_row, with_rows, group_after_delivery, own_ids, row_after_reread}
+use Rattle.xs_group.specs.GroupState.{first_row, with_rows, group_after_delivery, reread_ids, row_after_reread}
 use Rattle.xs_group.specs.GroupState.{group_after_reread, new_group, group_after_ack, unless_acked, unless_owned}
 use Rattle.xs_group.specs.GroupState.{without_consumer}
 use Rattle.xs_keys.specs.Terms.{Id, has_id, Ascends, AllAbove, AllUpTo, Rule, row_after_claim, claim_by_ids, scan_of}
@@ -136,8 +136,8 @@ module _ (life : GroupLife) (g : GroupState) (h : IsGroupOfLife g life) (now : �
   step-read_own consumer limit from = record {
     cursor_is = still;
     consumers_are = joins consumer;
-    rows_are = ap (λ es. (change (row_after_reread now (own_ids consumer limit from es) present) g.rows).entries) h.rows_are
-        ∙ changed_rows (row_after_reread now (own_ids consumer limit from (rows life.start life.events)) present);
+    rows_are = ap (λ es. (change (row_after_reread now (reread_ids consumer limit from es) present) g.rows).entries) h.rows_are
+        ∙ changed_rows (row_after_reread now (reread_ids consumer limit from (rows life.start life.events)) present);
   }
 
   step-ack : (ids : List Id) → IsGroupOfLife (group_after_ack ids g) (lived (acknowledge ids))

@@ -5,7 +5,7 @@ use Rattle.std.proofs.lemmas.Bool.{false≢true, and_right}
 use Rattle.xs_stream.specs.Id.{is_below, is_same_id, has_id}
 use Rattle.xs_stream.proofs.Order.{is_same_id-eq, is_same_id-symm, below-not_same, up_to-below, not_above-trans}
 use Rattle.xs_group.specs.GroupState.{new_ids, last_of}
-use Rattle.xs_keys.specs.Terms.{Id, Ascends, AllAbove, AllUpTo, limited}
+use Rattle.xs_keys.specs.Terms.{Id, Ascends, AllAbove, AllUpTo, up_to_limit}
 use Rattle.xs_keys.specs.Life.{greatest}
 
 above-filter : (p : Id → Bool) (a : Id) (xs : List Id) → AllAbove a xs → AllAbove a (filter p xs)
@@ -39,11 +39,11 @@ ascends-take zero xs h = tt
 ascends-take (suc n) [] h = tt
 ascends-take (suc n) (x ∷ xs) h = (above-take n x xs h.0, ascends-take n xs h.1)
 
-above-limited : (limit : Option ℕ) (a : Id) (xs : List Id) → AllAbove a xs → AllAbove a (limited limit xs)
+above-limited : (limit : Option ℕ) (a : Id) (xs : List Id) → AllAbove a xs → AllAbove a (up_to_limit limit xs)
 above-limited None a xs h = h
 above-limited (Some n) a xs h = above-take n a xs h
 
-pub ascends-limited : (limit : Option ℕ) (xs : List Id) → Ascends xs → Ascends (limited limit xs)
+pub ascends-limited : (limit : Option ℕ) (xs : List Id) → Ascends xs → Ascends (up_to_limit limit xs)
 ascends-limited None xs h = h
 ascends-limited (Some n) xs h = ascends-take n xs h
 
@@ -130,7 +130,7 @@ take-up_to (suc n) (y ∷ ys) a x above asc low high =
       by true e g rest = ap (λ b. is_same_id x y || b) (rest e (ap (λ c. is_below c x) (sym g) ∙ high))
       by false e g rest = λ i. is_same_id x y || (not_above y x (take n ys) e (above-take n y ys asc.0) ∙ sym (not_above y x ys e asc.0)) i
 
-pub limited-up_to : (limit : Option ℕ) (xs : List Id) (a x : Id) → AllAbove a xs → Ascends xs → is_below a x ≡ true → is_below (greatest a (limited limit xs)) x ≡ false → has_id (limited limit xs) x ≡ has_id xs x
+pub limited-up_to : (limit : Option ℕ) (xs : List Id) (a x : Id) → AllAbove a xs → Ascends xs → is_below a x ≡ true → is_below (greatest a (up_to_limit limit xs)) x ≡ false → has_id (up_to_limit limit xs) x ≡ has_id xs x
 limited-up_to None xs a x above asc low high = refl
 limited-up_to (Some n) xs a x above asc low high = take-up_to n xs a x above asc low high
 

@@ -7,7 +7,8 @@ use Rattle.xs_stream.specs.Id.{is_below, is_same_id, has_id, zero_id}
 use Rattle.xs_stream.proofs.Order.{is_same_id-refl, up_to-below, not_above-trans}
 use Rattle.xs_stream.proofs.InOrder.{ids_of-append, ids_of-filter}
 use Rattle.xs_keys.specs.Event.{History}
-use Rattle.xs_keys.specs.Terms.{list_all, option_map, option_or, Id, ids_of, AllAbove, AllUpTo, limited, is_same_name}
+use Rattle.xs_keys.specs.Terms.{list_all, option_map, option_or, Id, ids_of, AllAbove, AllUpTo, up_to_limit}
+use Rattle.xs_keys.specs.Terms.{is_same_name}
 use Rattle.xs_keys.specs.Terms.{Command, Ping, Quit, Add, Delete, TrimTo, Len, Scan, GroupCreate, GroupDestroy}
 use Rattle.xs_keys.specs.Terms.{ConsumerCreate, ConsumerDelete, ReadGroup, Ack, Pending, PendingRows, Claim, AutoClaim}
 use Rattle.xs_keys.specs.Terms.{DropKeys, GroupCreateCommand, ReadGroupCommand, ReadOne}
@@ -234,7 +235,7 @@ sees-of past key group changes life k g = subst (λ l. SeesItsKey (Some changes)
 
 -- ---- what was delivered was given
 
-pub limited-has : (limit : Option ℕ) (xs : List Id) (x : Id) → has_id (limited limit xs) x ≡ true → has_id xs x ≡ true
+pub limited-has : (limit : Option ℕ) (xs : List Id) (x : Id) → has_id (up_to_limit limit xs) x ≡ true → has_id xs x ≡ true
 limited-has None xs x e = e
 limited-has (Some n) xs x e = by n xs e where
   by : (n : ℕ) (xs : List Id) → has_id (take n xs) x ≡ true → has_id xs x ≡ true

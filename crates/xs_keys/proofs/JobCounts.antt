@@ -5,7 +5,7 @@ use Rattle.std.proofs.lemmas.Bool.{false≢true, or_left}
 use Rattle.std.proofs.lemmas.List.{length-map}
 use Rattle.xs_stream.specs.Id.{is_below, is_same_id, has_id}
 use Rattle.xs_stream.proofs.Order.{is_same_id-eq, is_same_id-refl, is_same_id-symm, below-not_back}
-use Rattle.xs_group.specs.GroupState.{RowState, is_same_name, new_ids, owned_ids}
+use Rattle.xs_group.specs.GroupState.{RowState, is_same_name, new_ids, ids_of_consumer}
 use Rattle.xs_keys.specs.Event.{History}
 use Rattle.xs_keys.specs.Terms.{Command, GroupState, Reply, Int, NullBulk, get, summary_of, option_map_or, with_some}
 use Rattle.xs_keys.specs.Terms.{Id, ids_of, Ascends, AllAbove}
@@ -78,16 +78,16 @@ ascends-rows start events asc =
     (ascends-where (λ x. is_some (pending_row_at start events x)) (delivered_ids start events) (ascends-delivered start events asc))
 
 -- and those of one consumer's rows are those whose row is its own
-pub owned-among : (name : List ℕ) (row_of : Id → Option RowState) (ids : List Id) → owned_ids name (rows_among row_of ids) ≡ filter (λ x. option_map_or (λ row. is_same_name row.consumer name) (row_of x) false) ids
+pub owned-among : (name : List ℕ) (row_of : Id → Option RowState) (ids : List Id) → ids_of_consumer name (rows_among row_of ids) ≡ filter (λ x. option_map_or (λ row. is_same_name row.consumer name) (row_of x) false) ids
 owned-among name row_of [] = refl
 owned-among name row_of (x ∷ xs) = by (row_of x) (owned-among name row_of xs) where
-  by : (r : Option RowState) → owned_ids name (rows_among row_of xs) ≡ filter (λ y. option_map_or (λ row. is_same_name row.consumer name) (row_of y) false) xs
-      → owned_ids name (with_some x r (rows_among row_of xs))
+  by : (r : Option RowState) → ids_of_consumer name (rows_among row_of xs) ≡ filter (λ y. option_map_or (λ row. is_same_name row.consumer name) (row_of y) false) xs
+      → ids_of_consumer name (with_some x r (rows_among row_of xs))
       ≡ cond (option_map_or (λ row. is_same_name row.consumer name) r false) (x ∷ filter (λ y. option_map_or (λ row. is_same_name row.consumer name) (row_of y) false) xs)
       (filter (λ y. option_map_or (λ row. is_same_name row.consumer name) (row_of y) false) xs)
   by None e = e
   by (Some row) e = mine (is_same_name row.consumer name) e where
-    mine : (t : Bool) → owned_ids name (rows_among row_of xs) ≡ filter (λ y. option_map_or (λ r. is_same_name r.consumer name) (row_of y) false) xs
+    mine : (t : Bool) → ids_of_consumer name (rows_among row_of xs) ≡ filter (λ y. option_map_or (λ r. is_same_name r.consumer name) (row_of y) false) xs
         → map (λ e. e.0) (cond t ((x, row) ∷ filter (λ e. is_same_name e.1.consumer name) (rows_among row_of xs)) (filter (λ e. is_same_name e.1.consumer name) (rows_among row_of xs)))
         ≡ cond t (x ∷ filter (λ y. option_map_or (λ r. is_same_name r.consumer name) (row_of y) false) xs) (filter (λ y. option_map_or (λ r. is_same_name r.consumer name) (row_of y) false) xs)
     mine true f = ap (λ rest. x ∷ rest) f

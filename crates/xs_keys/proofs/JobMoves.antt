@@ -12,7 +12,7 @@ use Rattle.xs_keys.specs.Event.{History}
 use Rattle.xs_command.specs.declared.command.AddCommand.{AddCommand}
 use Rattle.std.proofs.lemmas.Bool.{false≢true, and_from, or_left, or_right}
 use Rattle.std.specs.List.{list_all, list_any, IsDistinct}
-use Rattle.xs_stream.specs.Id.{is_below, is_same_id, has_id, assigned}
+use Rattle.xs_stream.specs.Id.{is_below, is_same_id, has_id, id_of_addition}
 use Rattle.xs_stream.specs.StreamContent.{AllUpTo, ids_of, is_trimmed, count_above}
 use Rattle.xs_group.specs.Claims.{Rule, row_at, is_idle, is_removed, is_taken, claim_among, without_repeats, from_start}
 use Rattle.xs_group.specs.Claims.{is_hit, scanned_part}
@@ -450,24 +450,24 @@ trims-own (Ok id) fields (MaxLen n) es x up new e = ap (nat_le n) (sym count) �
 trim-needed : (now : ℕ) (id : AddId) (fields : List Field) (trim : Option Trim) (past : List StreamEvent) (x : Id) → has_id (ids_of (entries_added_by (add_entry now id fields trim) (top past))) x ≡ true
     → has_id (ids_of (present_entries (add_entry now id fields trim ∷ past))) x ≡ false → option_map_or (λ t. trims_new t x) trim false ≡ true
 trim-needed now id fields trim past x new gone =
-    own trim (second_of (is_ok (assigned now (top past) id)) _ (by (removes_id (add_entry now id fields trim) (top past) (ids_of (present_entries past ++ entry_of (assigned now (top past) id) fields)) x) refl
+    own trim (second_of (is_ok (id_of_addition now (top past) id)) _ (by (removes_id (add_entry now id fields trim) (top past) (ids_of (present_entries past ++ entry_of (id_of_addition now (top past) id) fields)) x) refl
     (sym gone ∙ has_id-present (add_entry now id fields trim ∷ past) x
-    ∙ (λ i. cond (removes_id (add_entry now id fields trim) (top past) (ids_of (present_entries past ++ entry_of (assigned now (top past) id) fields)) x) false (cond (new i) true (is_present past x)) && given i))))
+    ∙ (λ i. cond (removes_id (add_entry now id fields trim) (top past) (ids_of (present_entries past ++ entry_of (id_of_addition now (top past) id) fields)) x) false (cond (new i) true (is_present past x)) && given i))))
   where
     given : has_id (ids_of (added_in (add_entry now id fields trim ∷ past))) x ≡ true
     given = ap (λ ids. has_id ids x) (ids_of-append (added_in past) (entries_added_by (add_entry now id fields trim) (top past)))
         ∙ has_id-append (ids_of (added_in past)) (ids_of (entries_added_by (add_entry now id fields trim) (top past))) x ∙ or_right _ _ new
 
-    by : (d : Bool) → removes_id (add_entry now id fields trim) (top past) (ids_of (present_entries past ++ entry_of (assigned now (top past) id) fields)) x ≡ d → false ≡ (cond d false true && true)
-        → removes_id (add_entry now id fields trim) (top past) (ids_of (present_entries past ++ entry_of (assigned now (top past) id) fields)) x ≡ true
+    by : (d : Bool) → removes_id (add_entry now id fields trim) (top past) (ids_of (present_entries past ++ entry_of (id_of_addition now (top past) id) fields)) x ≡ d → false ≡ (cond d false true && true)
+        → removes_id (add_entry now id fields trim) (top past) (ids_of (present_entries past ++ entry_of (id_of_addition now (top past) id) fields)) x ≡ true
     by true e h = e
     by false e h = absurd (false≢true h)
 
-    own : (trim : Option Trim) → option_map_or (λ t. is_trimmed t (ids_of (present_entries past ++ entry_of (assigned now (top past) id) fields)) x) trim false ≡ true → option_map_or (λ t. trims_new t x) trim false ≡ true
+    own : (trim : Option Trim) → option_map_or (λ t. is_trimmed t (ids_of (present_entries past ++ entry_of (id_of_addition now (top past) id) fields)) x) trim false ≡ true → option_map_or (λ t. trims_new t x) trim false ≡ true
     own None h = h
     own (Some t) h =
-        trims-own (assigned now (top past) id) fields t (present_entries past) x
-        (up_to-next_count (top past) x (ids_of (present_entries past)) (added-above (assigned now (top past) id) fields (top past) x (λ y e. assigned-above now (top past) id y e) new) (up_to-present past)) new h
+        trims-own (id_of_addition now (top past) id) fields t (present_entries past) x
+        (up_to-next_count (top past) x (ids_of (present_entries past)) (added-above (id_of_addition now (top past) id) fields (top past) x (λ y e. assigned-above now (top past) id y e) new) (up_to-present past)) new h
 
 added-first : (now : ℕ) (add : AddCommand) (past : List StreamEvent) (x : Id) → has_id (ids_of (entries_added_by (add_entry now add.id add.fields add.trim) (top past))) x ≡ true
     → (life : GroupLife) (ids : List Id) → has_id (delivered_ids life.start life.events) x ≡ false → IsFirstPlace (Add add) ids x (place_of life (ids_of (present_entries (add_entry now add.id add.fields add.trim ∷ past))) x)
@@ -514,7 +514,7 @@ goes-lived now Quit key group served stream life x formed sees = same Quit key g
 goes-lived now (Add add) key group served stream life x formed sees =
     adds (Add add) key group x (add_entry now add.id add.fields add.trim) add.make stream life (is_same_name key add.key) sees
     (λ here past. record {
-      may = λ e. and_from (is_same_name key add.key) _ here (trimmed-below (assigned now (top past) add.id) add.fields add.trim (present_entries past) x e);
+      may = λ e. and_from (is_same_name key add.key) _ here (trimmed-below (id_of_addition now (top past) add.id) add.fields add.trim (present_entries past) x e);
       must = λ e. absurd (false≢true e);
       settles_none = λ ids name. refl;
       comes = λ e. (here, added-first now add past x e);

@@ -8,7 +8,7 @@ use Rattle.xs_stream.proofs.Order.{is_same_id-eq}
 use Rattle.xs_group.specs.declared.claims.Claim.{Claim}
 use Rattle.xs_group.specs.Claims.{Rule, row_at, is_idle, is_removed, is_taken, claim_among, without_repeats}
 use Rattle.xs_group.specs.Claims.{claim_by_ids, from_start, is_hit, scanned_part, scan_of, row_after_claim, claimed_row}
-use Rattle.xs_group.specs.GroupState.{RowState, is_same_name, new_ids, first_row, own_ids, redelivered_row}
+use Rattle.xs_group.specs.GroupState.{RowState, is_same_name, new_ids, first_row, reread_ids, redelivered_row}
 use Rattle.xs_group.specs.GroupState.{row_after_reread}
 use Rattle.xs_group.specs.GroupState.{unless_acked, unless_owned}
 use Rattle.xs_keys.specs.Terms.{with_some, Id}
@@ -58,7 +58,7 @@ asked-held (read_new consumer limit noack) now present a es x r e = by (has_id (
   by : (t : Bool) → is_some (cond t (cond noack None (Some (first_row consumer now))) r) ≡ true → (t ≡ true) ⊎ (is_some r ≡ true)
   by true e = inl refl
   by false e = inr e
-asked-held (read_own consumer limit from) now present a es x r e = inr (nothing (row_after_reread now (own_ids consumer limit from es) present x) r e)
+asked-held (read_own consumer limit from) now present a es x r e = inr (nothing (row_after_reread now (reread_ids consumer limit from es) present x) r e)
 asked-held (acknowledge ids) now present a es x r e = inr (nothing (unless_acked ids x) r e)
 asked-held (create_consumer consumer) now present a es x r e = inr e
 asked-held (delete_consumer consumer) now present a es x r e = inr (nothing (unless_owned consumer x) r e)
@@ -205,7 +205,7 @@ module _ (start : Id) (past : List GroupEvent) (now : ℕ) (present : List Id) (
   agree-own consumer limit from =
       quiet (read_own consumer limit from) refl
       (settles-none false (is_deletion_of (t (read_own consumer limit from)) (last_assignee start past x)) false refl (removes-none (t (read_own consumer limit from)) (λ _. refl) (last_assignee start past x)) refl)
-      (by (pending_row_at start past x) (has_id (own_ids consumer limit from (rows start past)) x && has_id present x))
+      (by (pending_row_at start past x) (has_id (reread_ids consumer limit from (rows start past)) x && has_id present x))
     where
       by : (r : Option RowState) (b : Bool) → of_row r ≡ of_row (option_and_then (λ row. cond b (Some (redelivered_row now row)) (Some row)) r)
       by None b = refl

@@ -4,7 +4,8 @@ use Rattle.std.proofs.Common.{reverse, Option, Some, None, sym, ap, ◌∙◌, r
 use Rattle.std.proofs.lemmas.List.{take-map, reverse-append, map-append}
 use Rattle.std.proofs.lemmas.Bool.Decides.{nat_tests}
 use Rattle.xs_stream.specs.declared.range.Range.{Range}
-use Rattle.xs_stream.specs.StreamContent.{ids_of, fields_at, Ascends, is_within, ids_within, entries_within, limited}
+use Rattle.xs_stream.specs.StreamContent.{ids_of, fields_at, Ascends, is_within, ids_within, entries_within}
+use Rattle.xs_stream.specs.StreamContent.{up_to_limit}
 use Rattle.xs_stream.specs.StreamContent.{IsEntryOf, AreEntriesOf}
 use Rattle.xs_stream.proofs.Lending.{within-found}
 use Rattle.xs_stream.proofs.InOrder.{ids_of-filter}
@@ -39,7 +40,7 @@ first-mapped f g n xs ys e = sym (take-map f n xs) ∙ ap (take n) e ∙ take-ma
 
 -- the replies for the entries of a range
 pub lent-within : (range : Range) (reversed : Bool) (limit : Option ℕ) (es : Entries) → Ascends (ids_of es)
-    → map present_reply (entries_within range reversed limit es) ≡ map (entry_reply es) (limited limit (ids_within range reversed es))
+    → map present_reply (entries_within range reversed limit es) ≡ map (entry_reply es) (up_to_limit limit (ids_within range reversed es))
 lent-within range false None es a = replies-within range es a
 lent-within range true None es a = reversed-within range es a
 lent-within range false (Some n) es a = first-mapped present_reply (entry_reply es) n _ _ (replies-within range es a)

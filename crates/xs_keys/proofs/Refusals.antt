@@ -6,7 +6,7 @@ use Rattle.std.specs.declared.cmp.Ordering.TheVariants.{Less, Equal, Greater}
 use Rattle.std.proofs.lemmas.Bool.{false≢true}
 use Rattle.std.proofs.lemmas.Cmp.{ranked}
 use Rattle.xs_stream.specs.declared.add.AddId.TheVariants.{Auto, AutoSeq, Exact}
-use Rattle.xs_stream.specs.Id.{id_cmp, is_below, zero_id, assigned}
+use Rattle.xs_stream.specs.Id.{id_cmp, is_below, zero_id, id_of_addition}
 use Rattle.xs_stream.proofs.Order.{same_id}
 use Rattle.xs_command.specs.WellFormed.{IsAddId, IsWellFormed}
 use Rattle.xs_command.specs.declared.command.AddCommand.{AddCommand}
@@ -49,10 +49,10 @@ first-below id other = by (id_cmp zero_id id) refl where
   by Greater e = absurd (never (nat_cmp 0 id.ms) (nat_cmp 0 id.seq) refl refl e)
 
 -- a new stream refuses no id that words give
-never-refused : (now : ℕ) (id : AddId) → IsAddId id → is_error (assigned_reply (assigned now zero_id id)) ≡ false
+never-refused : (now : ℕ) (id : AddId) → IsAddId id → is_error (assigned_reply (id_of_addition now zero_id id)) ≡ false
 never-refused now Auto formed = refl
 never-refused now (AutoSeq ms) formed = by (eqb ms 0) (ltb 0 ms) refl refl where
-  by : (e l : Bool) → eqb ms 0 ≡ e → ltb 0 ms ≡ l → is_error (assigned_reply (assigned now zero_id (AutoSeq ms))) ≡ false
+  by : (e l : Bool) → eqb ms 0 ≡ e → ltb 0 ms ≡ l → is_error (assigned_reply (id_of_addition now zero_id (AutoSeq ms))) ≡ false
   by true l f g = rw f refl
   by false true f g = rw (f, g) refl
   by false false f g = absurd (grind (arith, f, g))
@@ -67,10 +67,10 @@ refused-stream (Err refusal) fields trim stream e = refl
 
 refused-add : (content : Content) (now : ℕ) (add : AddCommand) → IsAddId add.id → is_error (reply content now (Add add)) ≡ true → content_after content now (Add add) ≡ content
 refused-add content now add formed = by (get content add.key) refl add.make where
-  by : (key : Option KeyState) → get content add.key ≡ key → (make : Bool) → is_error (option_map_or (λ k. assigned_reply (assigned now k.stream.top add.id)) (key_or_new make key) NullBulk) ≡ true
+  by : (key : Option KeyState) → get content add.key ≡ key → (make : Bool) → is_error (option_map_or (λ k. assigned_reply (id_of_addition now k.stream.top add.id)) (key_or_new make key) NullBulk) ≡ true
       → after_stream_event content add.key (add_entry now add.id add.fields add.trim) (key_or_new make key) ≡ content
   by (Some key) found make e =
-      ap (λ stream. insert content add.key (record { stream = stream; groups = key.groups })) (refused-stream (assigned now key.stream.top add.id) add.fields add.trim key.stream e)
+      ap (λ stream. insert content add.key (record { stream = stream; groups = key.groups })) (refused-stream (id_of_addition now key.stream.top add.id) add.fields add.trim key.stream e)
       ∙ insert-same content add.key key found
   by None missing true e = absurd (false≢true (sym (never-refused now add.id formed) ∙ e))
   by None missing false e = refl

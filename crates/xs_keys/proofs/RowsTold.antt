@@ -8,7 +8,7 @@ use Rattle.std.proofs.lemmas.List.{take-map}
 use Rattle.xs_stream.specs.Id.{is_below, is_same_id, has_id}
 use Rattle.xs_stream.specs.StreamContent.{Ascends, AllAbove, is_within}
 use Rattle.xs_stream.proofs.Order.{is_same_id-eq, is_same_id-refl, is_same_id-symm, below-not_same}
-use Rattle.xs_group.specs.GroupState.{RowState, idle, is_same_name}
+use Rattle.xs_group.specs.GroupState.{RowState, idle_time, is_same_name}
 use Rattle.xs_group.specs.Claims.{row_at}
 use Rattle.xs_group.specs.Report.{is_of, is_selected, pending_row}
 use Rattle.xs_command.specs.declared.command.PendingRowsCommand.{PendingRowsCommand}
@@ -105,15 +105,15 @@ module _ (asked : PendingRowsCommand) (now : ℕ) (life : GroupLife) (asc : Asce
     by : (r : Option RowState) → row_at (rows life.start life.events) x ≡ r → option_map_or (λ row. is_selected asked.range asked.min_idle now asked.consumer (x, row)) r false ≡ true → IsAskedRow asked now life x
     by None e t = absurd (false≢true t)
     by (Some row) e t =
-        let rest = second_of (is_within asked.range x) (nat_le asked.min_idle (idle now row.time) && is_of asked.consumer row) t in
-        let long : nat_le asked.min_idle (idle now row.time) ≡ true = first_of (nat_le asked.min_idle (idle now row.time)) (is_of asked.consumer row) rest in
+        let rest = second_of (is_within asked.range x) (nat_le asked.min_idle (idle_time now row.time) && is_of asked.consumer row) t in
+        let long : nat_le asked.min_idle (idle_time now row.time) ≡ true = first_of (nat_le asked.min_idle (idle_time now row.time)) (is_of asked.consumer row) rest in
         let old : asked.min_idle ≤ now - row.time = grind (arith, nat_tests, long) in
         record {
           consumer = row.consumer;
           owned = owner-of x row e;
-          within = first_of (is_within asked.range x) (nat_le asked.min_idle (idle now row.time) && is_of asked.consumer row) t;
+          within = first_of (is_within asked.range x) (nat_le asked.min_idle (idle_time now row.time) && is_of asked.consumer row) t;
           long_enough = subst (λ (time : ℕ). asked.min_idle ≤ now - time) (is-last-touched life.start life.events x row e).0 old;
-          named = λ name f. is_same_name-eq row.consumer name (ap (λ o. is_of o row) (sym f) ∙ second_of (nat_le asked.min_idle (idle now row.time)) (is_of asked.consumer row) rest);
+          named = λ name f. is_same_name-eq row.consumer name (ap (λ o. is_of o row) (sym f) ∙ second_of (nat_le asked.min_idle (idle_time now row.time)) (is_of asked.consumer row) rest);
         }
 
   row-asked : (x : Id) → IsAskedRow asked now life x → option_map_or (λ row. test (x, row)) (row_at all x) false ≡ true
@@ -130,11 +130,11 @@ module _ (asked : PendingRowsCommand) (now : ℕ) (life : GroupLife) (asc : Asce
     by None e = absurd (false≢true (has None (ap of_row (sym e ∙ row-found life.start life.events x) ∙ sym (owner-row life.start life.events x) ∙ is.owned)))
     by (Some row) e =
         let old : asked.min_idle ≤ now - row.time = subst (λ (time : ℕ). asked.min_idle ≤ now - time) (sym (is-last-touched life.start life.events x row e).0) is.long_enough in
-        let long : nat_le asked.min_idle (idle now row.time) ≡ true = grind (arith, nat_tests, old) in
+        let long : nat_le asked.min_idle (idle_time now row.time) ≡ true = grind (arith, nat_tests, old) in
         let same : row.consumer ≡ is.consumer = ap (λ (o : Option (List ℕ)). option_map_or (λ n. n) o []) (sym (owner-of x row e) ∙ is.owned) in
         ap (λ r. option_map_or (λ row. is_selected asked.range asked.min_idle now asked.consumer (x, row)) r false) e
-        ∙ and_from (is_within asked.range x) (nat_le asked.min_idle (idle now row.time) && is_of asked.consumer row) is.within
-        (and_from (nat_le asked.min_idle (idle now row.time)) (is_of asked.consumer row) long (named row asked.consumer refl same))
+        ∙ and_from (is_within asked.range x) (nat_le asked.min_idle (idle_time now row.time) && is_of asked.consumer row) is.within
+        (and_from (nat_le asked.min_idle (idle_time now row.time)) (is_of asked.consumer row) long (named row asked.consumer refl same))
 
   tells-rows : (es : List (Id × RowState)) → AreRowsOf all es → TellsEach (TellsRow now life) (map (λ e. e.0) es) (map (λ e. row_reply (pending_row now e)) es)
   tells-rows [] are = tt

@@ -6,7 +6,7 @@ use Rattle.xs_stream.proofs.Order.{is_same_id-refl, below-irrefl, below-not_same
 use Rattle.xs_stream.proofs.Order.{not_above-trans}
 use Rattle.xs_stream.proofs.Assigning.{assigned-above}
 use Rattle.xs_stream.proofs.InOrder.{ids_of-append, ascends-push, ascends-filter, up_to-filter, filter-filter}
-use Rattle.xs_keys.specs.Terms.{option_map_or, Id, Field, Trim, AddError, is_below, has_id, zero_id, assigned}
+use Rattle.xs_keys.specs.Terms.{option_map_or, Id, Field, Trim, AddError, is_below, has_id, zero_id, id_of_addition}
 use Rattle.xs_keys.specs.Terms.{is_trimmed, StreamState, ids_of, Ascends, AllUpTo}
 use Rattle.xs_keys.specs.Life.{StreamEvent, add_entry, delete_entries, trim_entries, greatest, top_of, entry_of}
 use Rattle.xs_keys.specs.Life.{entries_added_by, added_in, top, removes_id, is_present, present_entries, stream_of}
@@ -44,7 +44,7 @@ ascends-entry given t (Ok id) fields above a up = rw (ids_of-append given ((id, 
 ascends-entry given t (Err e) fields above a up = rw (append-nil given) a
 
 ascends-adds : (given : List (Id × List Field)) (t : Id) (change : StreamEvent) → Ascends (ids_of given) → AllUpTo t (ids_of given) → Ascends (ids_of (given ++ entries_added_by change t))
-ascends-adds given t (add_entry now id fields trim) a up = ascends-entry given t (assigned now t id) fields (λ x e. assigned-above now t id x e) a up
+ascends-adds given t (add_entry now id fields trim) a up = ascends-entry given t (id_of_addition now t id) fields (λ x e. assigned-above now t id x e) a up
 ascends-adds given t (delete_entries ids) a up = rw (append-nil given) a
 ascends-adds given t (trim_entries trim) a up = rw (append-nil given) a
 
@@ -75,7 +75,7 @@ not_new t (Ok id) fields x above up = rw (below-not_same x id (up_to-below t x i
 not_new t (Err e) fields x above up = refl
 
 pub adds-not_new : (change : StreamEvent) (t x : Id) → is_below t x ≡ false → has_id (ids_of (entries_added_by change t)) x ≡ false
-adds-not_new (add_entry now id fields trim) t x up = not_new t (assigned now t id) fields x (λ y e. assigned-above now t id y e) up
+adds-not_new (add_entry now id fields trim) t x up = not_new t (id_of_addition now t id) fields x (λ y e. assigned-above now t id y e) up
 adds-not_new (delete_entries ids) t x up = refl
 adds-not_new (trim_entries trim) t x up = refl
 
@@ -102,7 +102,7 @@ entry-is_present d was (Err e) fields = refl
 
 adds-is_present : (change : StreamEvent) (t : Id) (d was : Id → Bool)
     → filter (λ e. cond (d e.0) false (cond (has_id (ids_of (entries_added_by change t)) e.0) true (was e.0))) (entries_added_by change t) ≡ filter (λ e. not (d e.0)) (entries_added_by change t)
-adds-is_present (add_entry now id fields trim) t d was = entry-is_present d was (assigned now t id) fields
+adds-is_present (add_entry now id fields trim) t d was = entry-is_present d was (id_of_addition now t id) fields
 adds-is_present (delete_entries ids) t d was = refl
 adds-is_present (trim_entries trim) t d was = refl
 
@@ -150,12 +150,12 @@ added-present (Err e) fields trim kept = filter-all (kept.entries ++ []) ∙ app
 
 present-after : (change : StreamEvent) (past : List StreamEvent)
     → filter (λ e. not (removes_id change (top past) (ids_of (present_entries past ++ entries_added_by change (top past))) e.0)) (present_entries past ++ entries_added_by change (top past)) ≡ (stream_after change (stream_of past)).entries
-present-after (add_entry now id fields trim) past = added-present (assigned now (top past) id) fields trim (stream_of past)
+present-after (add_entry now id fields trim) past = added-present (id_of_addition now (top past) id) fields trim (stream_of past)
 present-after (delete_entries ids) past = rw (append-nil (present_entries past)) refl
 present-after (trim_entries trim) past = rw (append-nil (present_entries past)) refl
 
 top-after : (change : StreamEvent) (past : List StreamEvent) → top (change ∷ past) ≡ (stream_after change (stream_of past)).top
-top-after (add_entry now id fields trim) past = top-entry (added_in past) (assigned now (top past) id) fields trim (present_entries past) (λ x e. assigned-above now (top past) id x e)
+top-after (add_entry now id fields trim) past = top-entry (added_in past) (id_of_addition now (top past) id) fields trim (present_entries past) (λ x e. assigned-above now (top past) id x e)
 top-after (delete_entries ids) past = ap top_of (append-nil (added_in past))
 top-after (trim_entries trim) past = ap top_of (append-nil (added_in past))
 

@@ -6,10 +6,11 @@ use Rattle.std.proofs.lemmas.Option.{same_Some}
 use Rattle.std.proofs.lemmas.List.{append-nil, length-map}
 use Rattle.std.proofs.lemmas.Bool.{false≢true, or_right, and_from}
 use Rattle.std.specs.List.{flat_map, list_all, list_any, IsDistinct, AllByRecursion}
-use Rattle.xs_stream.specs.Id.{is_below, is_same_id, has_id, zero_id, assigned}
+use Rattle.xs_stream.specs.Id.{is_below, is_same_id, has_id, zero_id, id_of_addition}
 use Rattle.xs_stream.proofs.InOrder.{ids_of-filter, length-filter-le}
 use Rattle.xs_stream.proofs.Order.{is_same_id-eq, is_same_id-refl}
-use Rattle.xs_group.specs.GroupState.{GroupState, RowState, is_same_name, new_ids, own_ids, owned_ids, group_after_ack}
+use Rattle.xs_group.specs.GroupState.{GroupState, RowState, is_same_name, new_ids, reread_ids, ids_of_consumer}
+use Rattle.xs_group.specs.GroupState.{group_after_ack}
 use Rattle.xs_group.specs.GroupState.{unless_acked}
 use Rattle.xs_group.specs.declared.claims.Scan as scans
 use Rattle.xs_group.specs.Claims.{Rule, claim_by_ids, scan_of, claim_among, without_repeats, from_start, scanned_part}
@@ -20,7 +21,7 @@ use Rattle.xs_keys.specs.Event.{History}
 use Rattle.xs_command.specs.WellFormed.{IsWellFormed, keys_of}
 use Rattle.xs_command.specs.declared.command.AddCommand.{AddCommand}
 use Rattle.xs_keys.specs.Terms.{option_map, option_map_or, get, Id, Field, AddError, StreamState, Ascends, ids_of}
-use Rattle.xs_keys.specs.Terms.{fields_at, is_trimmed, limited, Reply, NullBulk, NullArray, Error, Int, NoGroup}
+use Rattle.xs_keys.specs.Terms.{fields_at, is_trimmed, up_to_limit, Reply, NullBulk, NullArray, Error, Int, NoGroup}
 use Rattle.xs_keys.specs.Terms.{Command, Ping, Quit, Add, Delete, TrimTo, Len, Scan, GroupCreate, GroupDestroy}
 use Rattle.xs_keys.specs.Terms.{ConsumerCreate, ConsumerDelete, ReadGroup, Ack, Pending, PendingRows, Claim, AutoClaim}
 use Rattle.xs_keys.specs.Terms.{DropKeys, ReadGroupCommand, ReadOne, ReadFrom, New, After}
@@ -237,7 +238,7 @@ module _ (past : History) (key group : List ℕ) (life : GroupLife) (is : group_
   mine x = option_map_or (λ row. is_same_name row.consumer consumer) (held x) false
 
   own : List Id
-  own = owned_ids consumer (rows life.start life.events)
+  own = ids_of_consumer consumer (rows life.start life.events)
 
   own-are : own ≡ filter (λ x. mine x) (delivered_ids life.start life.events)
   unfolding own mine held
@@ -261,15 +262,15 @@ module _ (past : History) (key group : List ℕ) (life : GroupLife) (is : group_
     by (Some row) e f = rw (e, held-delivered life.start life.events x (ap is_some e)) (and_from (is_same_name row.consumer consumer) true (ap (λ name. is_same_name name consumer) (same_Some row.consumer consumer f) ∙ is_same_name-refl consumer) refl)
 
   -- those that a read shows are the first of them past an id
-  pub shows-first : (from : Id) (limit : Option ℕ) → AreFirst (IsOwnPast (Some life) consumer from) limit (own_ids consumer limit from (rows life.start life.events))
+  pub shows-first : (from : Id) (limit : Option ℕ) → AreFirst (IsOwnPast (Some life) consumer from) limit (reread_ids consumer limit from (rows life.start life.events))
   unfolding own
-  shows-first from limit = first-as (λ x. has_id past_from x ≡ true) (IsOwnPast (Some life) consumer from) limit (limited limit past_from)
+  shows-first from limit = first-as (λ x. has_id past_from x ≡ true) (IsOwnPast (Some life) consumer from) limit (up_to_limit limit past_from)
       (λ x h. let both = sym (has_id-where (λ y. is_below from y) own x) ∙ h in (own-owner x (second_of (is_below from x) (has_id own x) both), first_of (is_below from x) (has_id own x) both))
       (λ x h. has_id-where (λ y. is_below from y) own x ∙ (λ i. h.1 i && owner-own x h.0 i))
       (limited-first limit past_from (ascends-where (λ y. is_below from y) own (subst Ascends (sym own-are) (ascends-where (λ y. mine y) (delivered_ids life.start life.events) (ascends-delivered life.start life.events (present-in-life past key group life is))))))
     where
       past_from : List Id
-      past_from = filter (λ y. is_below from y) (owned_ids consumer (rows life.start life.events))
+      past_from = filter (λ y. is_below from y) (ids_of_consumer consumer (rows life.start life.events))
 
 -- one read of those that are left: its key and its group are as they were before the event
 told-read : (c next : Content) (past : History) (read : ReadGroupCommand) (one : ReadOne) → IsThere c past one.key read.group → get next one.key ≡ get c one.key
@@ -283,13 +284,13 @@ told-read c next past read one t same act asks = by one.from asks where
       rw (same, t.key_is, t.state_is, t.stream_is, t.holds.cursor_is, new_ids-there c past read one.key t act (new refl), t.changes_are)
       (tells-new one.key t.changes (new_ids read.limit (cursor t.life.start t.life.events) (ids_of (present_entries t.changes))) (new_ids-among read.limit (cursor t.life.start t.life.events) (ids_of (present_entries t.changes))))
   by (After id) new =
-      let ids = own_ids read.consumer read.limit id (rows t.life.start t.life.events) in
+      let ids = reread_ids read.consumer read.limit id (rows t.life.start t.life.events) in
       let here : get next one.key ≡ Some t.key = same ∙ t.key_is in (
         ids,
         map (entry_reply (present_entries t.changes)) ids,
         (λ i. option_map_or (parts_of_read read one.key (After id) (entries_in (here i))) (group_in (here i) read.group) [])
             ∙ ap (λ g. option_map_or (parts_of_read read one.key (After id) t.key.stream.entries) g []) t.state_is
-            ∙ (λ i. stream_part one.key (t.stream_is i).entries (own_ids read.consumer read.limit id (t.holds.rows_are i)) ∷ []),
+            ∙ (λ i. stream_part one.key (t.stream_is i).entries (reread_ids read.consumer read.limit id (t.holds.rows_are i)) ∷ []),
         rw t.life_is (shows-first past one.key read.group t.life t.life_is read.consumer id read.limit),
         rw t.changes_are (tells-own t.changes ids),
       )
@@ -335,15 +336,15 @@ told-add past c now add is =
     (sym (is_same_name-refl add.key)) (by add.make (get c add.key) (key_life past add.key) (is add.key))
   where
     by : (make : Bool) (key : Option KeyState) (life : Option (List StreamEvent)) → KeyHolds key life (λ group. group_life past add.key group)
-        → TellsAddition (option_map_or added_in life []) add.fields (option_map_or (λ k. assigned_reply (assigned now k.stream.top add.id)) (key_or_new make key) NullBulk)
+        → TellsAddition (option_map_or added_in life []) add.fields (option_map_or (λ k. assigned_reply (id_of_addition now k.stream.top add.id)) (key_or_new make key) NullBulk)
         (option_map_or added_in (option_map (λ changes. add_entry now add.id add.fields add.trim ∷ changes) (life_or_new make life)) [])
-    by true None None h = told-addition [] add.fields (assigned now zero_id add.id)
+    by true None None h = told-addition [] add.fields (id_of_addition now zero_id add.id)
     by false None None h = inr (inr refl, refl)
     by make None (Some changes) h = absurd h
     by make (Some key) None h = absurd h
     by make (Some key) (Some changes) h =
-        subst (λ top. TellsAddition (added_in changes) add.fields (assigned_reply (assigned now top add.id)) (added_in changes ++ entry_of (assigned now (top_of (added_in changes)) add.id) add.fields))
-        (sym (ap (λ s. s.top) h.0)) (told-addition (added_in changes) add.fields (assigned now (top_of (added_in changes)) add.id))
+        subst (λ top. TellsAddition (added_in changes) add.fields (assigned_reply (id_of_addition now top add.id)) (added_in changes ++ entry_of (id_of_addition now (top_of (added_in changes)) add.id) add.fields))
+        (sym (ap (λ s. s.top) h.0)) (told-addition (added_in changes) add.fields (id_of_addition now (top_of (added_in changes)) add.id))
 
 -- ---- numbers
 

@@ -3,7 +3,8 @@ use Rattle.std.proofs.Common.{◌≡◌, ℕ, Bool, true, false, not, cond, ◌&
 use Rattle.std.proofs.Common.{option_and_then, is_some, ◌⊎◌, inl, inr, sym, ap, subst, ◌∙◌, refl}
 use Rattle.xs_group.specs.declared.claims.Claim.{Claim}
 use Rattle.xs_group.specs.Claims.{Rule, claim_by_ids, scan_of, row_after_claim, claimed_row, claim_time, claim_count}
-use Rattle.xs_group.specs.GroupState.{RowState, is_same_name, new_ids, first_row, own_ids, redelivered_row, next_count}
+use Rattle.xs_group.specs.GroupState.{RowState, is_same_name, new_ids, first_row, reread_ids, redelivered_row}
+use Rattle.xs_group.specs.GroupState.{next_count}
 use Rattle.xs_group.specs.GroupState.{unless_acked, unless_owned}
 use Rattle.xs_keys.specs.Terms.{Id, has_id}
 use Rattle.xs_keys.specs.GroupAsk.{GroupAsk, read_new, read_own, acknowledge, create_consumer, delete_consumer, claim}
@@ -81,7 +82,7 @@ asked-touched (read_new consumer limit noack) now present a es x r time count h 
   by false true = some-has _ _ _ refl refl
   by false false = h
 asked-touched (read_own consumer limit from) now present a es x None time count h = none-has _ _
-asked-touched (read_own consumer limit from) now present a es x (Some row) time count h = by (has_id (own_ids consumer limit from es) x && has_id present x) where
+asked-touched (read_own consumer limit from) now present a es x (Some row) time count h = by (has_id (reread_ids consumer limit from es) x && has_id present x) where
   is : (row.time ≡ time) × (row.count ≡ count)
   is = has-some row time count h
 

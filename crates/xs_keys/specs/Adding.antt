@@ -2,7 +2,7 @@
 use Rattle.std.specs.Prelude.{◌≡◌, ℕ, true, ◌⊎◌, Option, Some, None, Result, Ok, Err, is_ok}
 use Rattle.xs_stream.specs.declared.id.Id.{Id}
 use Rattle.xs_stream.specs.declared.add.AddError.{AddError}
-use Rattle.xs_stream.specs.Id.{printed, assigned}
+use Rattle.xs_stream.specs.Id.{id_text, id_of_addition}
 use Rattle.xs_stream.specs.StreamContent.{StreamState}
 use Rattle.xs_command.specs.declared.command.AddCommand.{AddCommand}
 use Rattle.xs_keys.specs.Terms.{Reply, Error, Memory}
@@ -14,11 +14,11 @@ use Rattle.xs_keys.specs.Event.{Bytes}
 -- an addition to a stream is the model's, or memory ran out where the model refuses nothing, and nothing has changed
 abbrev pub Adds : StreamState → ℕ → AddCommand → Reply → StreamState → Type 0
 Adds old now add answer new =
-    ((answer ≡ assigned_reply (assigned now old.top add.id))
+    ((answer ≡ assigned_reply (id_of_addition now old.top add.id))
     × (new ≡ stream_after (add_entry now add.id add.fields add.trim) old))
-    ⊎ ((is_ok (assigned now old.top add.id) ≡ true) × (answer ≡ Error Memory) × (new ≡ old))
+    ⊎ ((is_ok (id_of_addition now old.top add.id) ≡ true) × (answer ≡ Error Memory) × (new ≡ old))
 
 -- the printed id, where one is assigned
 abbrev pub text_of : Result Id AddError → Option Bytes
-text_of (Ok id) = Some (printed id)
+text_of (Ok id) = Some (id_text id)
 text_of (Err refusal) = None

@@ -11,7 +11,7 @@ use Rattle.xs_group.specs.Claims.{Rule}
 use Rattle.xs_resp.specs.declared.fault.Fault.{Fault}
 use Rattle.xs_keys.specs.Event.{History, event_command}
 use Rattle.xs_command.specs.declared.command.Command.{Command}
-use Rattle.xs_command.specs.Read.{reads}
+use Rattle.xs_command.specs.Read.{command_of_words}
 use Rattle.xs_command.specs.Examples.{line}
 use Rattle.xs_command.specs.ExamplesStreams.{field}
 use Rattle.xs_keys.specs.Life.{StreamEvent, key_life, added_in, top, present_entries, stream_of}
@@ -31,7 +31,7 @@ event now (Err fault) = []
 -- the events of these lines, all at one moment; the newest first
 abbrev pub events : ℕ → List (List ℕ) → History
 events now [] = []
-events now (words ∷ lines) = events now lines ++ event now (reads (line words))
+events now (words ∷ lines) = events now lines ++ event now (command_of_words (line words))
 
 -- what is said of the open life of the key s
 abbrev pub of_key : {A : Type 0} → List (List ℕ) → (List StreamEvent → A) → Option A
@@ -151,7 +151,7 @@ new_of [] lines key group = []
 new_of (e ∷ es) lines key group = ids_delivered_by (events 5 lines) (event_command e) key group
 
 abbrev pub delivers_behind : List (List ℕ) → List ℕ → List ℕ → List ℕ → List Id
-delivers_behind lines words key group = new_of (event 5 (reads (line words))) lines key group
+delivers_behind lines words key group = new_of (event 5 (command_of_words (line words))) lines key group
 
 pub record Events : Type 0 where
   pub delivers_all :
@@ -180,7 +180,7 @@ memory_for [] = None
 memory_for (e ∷ es) = Some (takes_memory (event_command e))
 
 abbrev pub needs : List ℕ → Option Bool
-needs words = memory_for (event 5 (reads (line words)))
+needs words = memory_for (event 5 (command_of_words (line words)))
 
 -- these commands take no memory, and the others may (this server's own)
 pub record Memory : Type 0 where

@@ -6,7 +6,7 @@ use Rattle.xs_stream.specs.declared.id.Id.{Id}
 use Rattle.xs_stream.specs.Examples.{at}
 use Rattle.xs_keys.specs.Event.{History, event_command}
 use Rattle.xs_command.specs.declared.command.Command.{Command}
-use Rattle.xs_command.specs.Read.{reads}
+use Rattle.xs_command.specs.Read.{command_of_words}
 use Rattle.xs_command.specs.Examples.{line}
 use Rattle.xs_keys.specs.JobPlace.{Place, before_start, waiting, dropped, handed_out, pending, settled, StandsAt}
 use Rattle.xs_keys.specs.JobMove.{HasArrow}
@@ -146,11 +146,11 @@ leads_by (e ∷ es) present here there = HasArrow (event_command e) (codes "s") 
 
 -- so do these words, while it is in the stream
 abbrev pub LeadsIt : List ℕ → Place → Place → Type 0
-LeadsIt words here there = leads_by (event 5 (reads (line words))) (at 1 0 ∷ []) here there
+LeadsIt words here there = leads_by (event 5 (command_of_words (line words))) (at 1 0 ∷ []) here there
 
 -- and these, once it was deleted
 abbrev pub LeadsDeleted : List ℕ → Place → Place → Type 0
-LeadsDeleted words here there = leads_by (event 5 (reads (line words))) [] here there
+LeadsDeleted words here there = leads_by (event 5 (command_of_words (line words))) [] here there
 
 abbrev pub with_c : Place
 with_c = pending (codes "c")
@@ -213,10 +213,10 @@ goes_by [] present here there = ⊥
 goes_by (e ∷ es) present here there = MovesAlong (event_command e) (codes "s") (codes "g") present (at 1 0) here there
 
 abbrev pub GoesBy : List ℕ → Option Place → Option Place → Type 0
-GoesBy words here there = goes_by (event 5 (reads (line words))) (at 1 0 ∷ []) here there
+GoesBy words here there = goes_by (event 5 (command_of_words (line words))) (at 1 0 ∷ []) here there
 
 abbrev pub GoesDeleted : List ℕ → Option Place → Option Place → Type 0
-GoesDeleted words here there = goes_by (event 5 (reads (line words))) [] here there
+GoesDeleted words here there = goes_by (event 5 (command_of_words (line words))) [] here there
 
 pub record Comings : Type 0 where
   pub is_given : GoesBy (codes "XADD s 1-0 f v") None (Some waiting)

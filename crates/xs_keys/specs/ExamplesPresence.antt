@@ -5,7 +5,7 @@ use Rattle.xs_stream.specs.declared.id.Id.{Id}
 use Rattle.xs_stream.specs.Examples.{at}
 use Rattle.xs_keys.specs.Event.{History, event_command}
 use Rattle.xs_command.specs.declared.command.Command.{Command}
-use Rattle.xs_command.specs.Read.{reads}
+use Rattle.xs_command.specs.Read.{command_of_words}
 use Rattle.xs_command.specs.Examples.{line}
 use Rattle.xs_keys.specs.Life.{StreamEvent}
 use Rattle.xs_keys.specs.ExamplesHistory.{event}
@@ -18,7 +18,7 @@ of_first (e ∷ es) holds = holds (event_command e)
 
 -- what holds of the command that these words are
 abbrev pub of_words : List ℕ → (Command → Bool) → Bool
-of_words words holds = of_first (event 5 (reads (line words))) holds
+of_words words holds = of_first (event 5 (command_of_words (line words))) holds
 
 -- the words may remove the entry 1-0 from the stream s of these ids, and have to
 abbrev pub may_remove : List ℕ → List Id → Bool

@@ -2,7 +2,7 @@
 -- same lines (XADD, XREADGROUP, XCLAIM, XAUTOCLAIM), and others that it doesn't give.
 use Rattle.std.specs.Prelude.{ℕ, List, [], ◌∷◌, codes}
 use Rattle.xs_keys.specs.Event.{History, event_moment, event_command}
-use Rattle.xs_command.specs.Read.{reads}
+use Rattle.xs_command.specs.Read.{command_of_words}
 use Rattle.xs_command.specs.Examples.{line}
 use Rattle.xs_keys.specs.Terms.{Command, Reply, Error, Int, NoGroup, SmallId, NullArray, NullBulk}
 use Rattle.xs_keys.specs.ReplyParts.{array}
@@ -16,7 +16,7 @@ tells [] lines answer = ⊥
 tells (e ∷ es) lines answer = IsTold (events 5 lines) (event_moment e) (event_command e) answer
 
 abbrev pub Tells : List (List ℕ) → List ℕ → Reply → Type 0
-Tells lines words answer = tells (event 9 (reads (line words))) lines answer
+Tells lines words answer = tells (event 9 (command_of_words (line words))) lines answer
 
 -- 2-0 as it was given
 abbrev pub second : Reply

@@ -4,7 +4,7 @@ use Rattle.std.specs.Prelude.{ℕ, Bool, false, not, List, [], Option, Some, Non
 use Rattle.xs_group.specs.declared.claims.Claim.{Claim}
 use Rattle.xs_keys.specs.Terms.{option_map_or, Id, has_id, Rule, RowState, is_same_name, new_ids, claim_by_ids, scan_of}
 use Rattle.xs_keys.specs.Terms.{zero_id}
-use Rattle.xs_keys.specs.Terms.{first_row, own_ids, row_after_reread, row_after_claim, unless_acked, unless_owned}
+use Rattle.xs_keys.specs.Terms.{first_row, reread_ids, row_after_reread, row_after_claim, unless_acked, unless_owned}
 use Rattle.xs_keys.specs.Event.{Bytes, PendingEntries}
 
 -- what is asked; each but an acknowledgement names a consumer
@@ -79,7 +79,7 @@ abbrev pub row_after_ask : GroupAsk → ℕ → List Id → Id → PendingEntrie
 row_after_ask (read_new consumer limit noack) now present cursor rows x row =
     if has_id (new_ids limit cursor present) x then (if noack then None else Some (first_row consumer now)) else row
 row_after_ask (read_own consumer limit from) now present cursor rows x row =
-    option_and_then (row_after_reread now (own_ids consumer limit from rows) present x) row
+    option_and_then (row_after_reread now (reread_ids consumer limit from rows) present x) row
 row_after_ask (acknowledge ids) now present cursor rows x row = option_and_then (unless_acked ids x) row
 row_after_ask (create_consumer consumer) now present cursor rows x row = row
 row_after_ask (delete_consumer consumer) now present cursor rows x row = option_and_then (unless_owned consumer x) row

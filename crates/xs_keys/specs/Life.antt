@@ -3,7 +3,7 @@ use Rattle.std.specs.Prelude.{ℕ, Bool, List, [], ◌∷◌, Option, Some, None
 use Rattle.std.specs.Prelude.{filter, Result, Ok, Err, is_ok}
 use Rattle.xs_keys.specs.Terms.{option_map, option_map_or, option_or, list_any, Id, AddId, Trim, Field, is_same_name}
 use Rattle.xs_keys.specs.Terms.{Command, Add, Delete, TrimTo, GroupCreate, DropKeys, AddError, is_below, has_id}
-use Rattle.xs_keys.specs.Terms.{zero_id, is_trimmed, assigned, StreamState, ids_of}
+use Rattle.xs_keys.specs.Terms.{zero_id, is_trimmed, id_of_addition, StreamState, ids_of}
 use Rattle.xs_keys.specs.Event.{Bytes, History, Entries, event_moment, event_command}
 
 -- the name is one of these; names of keys, groups and consumers are lists of bytes
@@ -59,7 +59,7 @@ entry_of (Err refusal) fields = []
 
 -- the entries that an event adds to a stream with this top: that of an addition, unless it is refused
 abbrev pub entries_added_by : StreamEvent → Id → Entries
-entries_added_by (add_entry now id fields trim) top = entry_of (assigned now top id) fields
+entries_added_by (add_entry now id fields trim) top = entry_of (id_of_addition now top id) fields
 entries_added_by _ top = []
 
 -- all entries that were ever added in a life, in the order of the events, the deleted ones too
@@ -74,7 +74,7 @@ top past = top_of (added_in past)
 -- an event removes an id: a deletion names it, or it falls to a trim, or to that of an addition that isn't refused
 abbrev pub removes_id : StreamEvent → Id → List Id → Id → Bool
 removes_id (add_entry now id fields trim) top present x =
-    is_ok (assigned now top id) && option_map_or (λ t. is_trimmed t present x) trim false
+    is_ok (id_of_addition now top id) && option_map_or (λ t. is_trimmed t present x) trim false
 removes_id (delete_entries ids) top present x = has_id ids x
 removes_id (trim_entries trim) top present x = is_trimmed trim present x
 

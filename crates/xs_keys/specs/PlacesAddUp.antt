@@ -1,7 +1,7 @@
 -- Each entry has one place in a group, and the numbers of entries at the places add up. (Redis Streams, "Consumer
 -- groups"; XPENDING.)
 use Rattle.std.specs.Prelude.{◌≡◌, ℕ, ◌+◌, Bool, true, false, List, ◌∷◌, filter, map, length, Some, None}
-use Rattle.xs_group.specs.GroupState.{owned_ids}
+use Rattle.xs_group.specs.GroupState.{ids_of_consumer}
 use Rattle.xs_keys.specs.Terms.{Id, is_below, has_id, ids_of, is_same_name, new_ids, Pending, Reply, Int}
 use Rattle.xs_keys.specs.Life.{KeyLife, key_life, added_in, present_entries}
 use Rattle.xs_keys.specs.GroupEvent.{cursor, rows}
@@ -41,7 +41,7 @@ pub record PlacesAddUp (stream : KeyLife) (life : GroupLife) : Type 0 where
       ≡ new_ids None (cursor life.start life.events) (ids_of (present_entries stream))
   pub pending_are : jobs_at is_pending stream life ≡ map (λ e. e.0) (rows life.start life.events)
   pub of_consumers : (consumer : Bytes) →
-      jobs_at (is_same_place (pending consumer)) stream life ≡ owned_ids consumer (rows life.start life.events)
+      jobs_at (is_same_place (pending consumer)) stream life ≡ ids_of_consumer consumer (rows life.start life.events)
   pub add_up : length (filter (λ x. is_below life.start x) (ids_of (added_in stream)))
       ≡ length (jobs_at (is_same_place waiting) stream life) + (length (jobs_at (is_same_place dropped) stream life)
       + (length (jobs_at (is_same_place handed_out) stream life) + (length (rows life.start life.events)

@@ -2,7 +2,7 @@
 use Rattle.std.specs.Prelude.{◌≡◌, ℕ, List, [], ◌∷◌, map, codes, decimal, Result, Ok, Err}
 use Rattle.xs_bytes.specs.SortedMap.{empty}
 use Rattle.xs_keys.specs.Terms.{Fault, Reply, Simple, Error, Int, Bulk, NullArray, Okay, Command}
-use Rattle.xs_command.specs.Read.{reads}
+use Rattle.xs_command.specs.Read.{command_of_words}
 use Rattle.xs_command.specs.Examples.{line}
 use Rattle.xs_keys.specs.Content.{Content}
 use Rattle.xs_keys.specs.ContentAfter.{content_after}
@@ -20,14 +20,15 @@ abbrev pub at : ℕ → Bytes → Reply → PlayedLine
 at now words answer = record { now = now; words = words; answer = answer }
 
 -- the reply to what the words say, and the content after it
-abbrev pub answered : Content → ℕ → Result Command Fault → Reply × Content
-answered content now (Ok command) = (reply content now command, content_after content now command)
-answered content now (Err fault) = (Error fault, content)
+abbrev pub reply_and_content : Content → ℕ → Result Command Fault → Reply × Content
+reply_and_content content now (Ok command) = (reply content now command, content_after content now command)
+reply_and_content content now (Err fault) = (Error fault, content)
 
 -- the replies from a content on
 abbrev pub replies_to : Content → List PlayedLine → List Reply
 replies_to content [] = []
-replies_to content (x ∷ xs) = let one = answered content x.now (reads (line x.words)) in one.0 ∷ replies_to one.1 xs
+replies_to content (x ∷ xs) =
+    let one = reply_and_content content x.now (command_of_words (line x.words)) in one.0 ∷ replies_to one.1 xs
 
 -- each line is answered so
 abbrev pub IsPlayed : List PlayedLine → Type 0

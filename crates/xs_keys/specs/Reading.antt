@@ -6,7 +6,7 @@ use Rattle.xs_resp.specs.ReplyItems.{tokens_of}
 use Rattle.xs_group.specs.declared.delivery.Delivery.{Delivery}
 use Rattle.xs_group.specs.Deliveries.{IsMade}
 use Rattle.xs_keys.specs.declared.xreadgroup.Served.{Served}
-use Rattle.xs_keys.specs.Terms.{option_map_or, get, insert, Id, ids_of, new_ids, own_ids, GroupState, Reply}
+use Rattle.xs_keys.specs.Terms.{option_map_or, get, insert, Id, ids_of, new_ids, reread_ids, GroupState, Reply}
 use Rattle.xs_keys.specs.Terms.{ReadGroupCommand}
 use Rattle.xs_keys.specs.Terms.{ReadOne, ReadFrom, New, After}
 use Rattle.xs_keys.specs.GroupLife.{ask_of_read}
@@ -24,7 +24,7 @@ pub record IsShown (parts : List Reply) (count : ℕ) (before after : List Token
 -- the ids that a read shows
 abbrev pub ids_shown : ReadGroupCommand → ReadFrom → List Id → GroupState → List Id
 ids_shown read New present group = new_ids read.limit group.cursor present
-ids_shown read (After id) present group = own_ids read.consumer read.limit id group.rows.entries
+ids_shown read (After id) present group = reread_ids read.consumer read.limit id group.rows.entries
 
 -- its part of the reply
 abbrev pub part_of : ReadFrom → Bytes → Entries → List Id → List Reply

@@ -1,10 +1,11 @@
 -- The reply to each command, from the content that it meets. (The pages of the commands, "RESP2 Reply".)
 use Rattle.std.specs.Prelude.{ℕ, ◌+◌, ◌-◌, List, [], ◌∷◌, ◌++◌, map, length, Option, if◌then◌else◌}
-use Rattle.xs_keys.specs.Terms.{option_map_or, get, has_key, remove, assigned, ids_of, ids_within, limited, NoGroup}
+use Rattle.xs_keys.specs.Terms.{option_map_or, get, has_key, remove, id_of_addition, ids_of, ids_within, up_to_limit}
+use Rattle.xs_keys.specs.Terms.{NoGroup}
 use Rattle.xs_keys.specs.Terms.{Busy, Reply, Simple, Error, Int, Bulk, NullBulk, Okay, Pong, Command, Ping, Quit, Add}
 use Rattle.xs_keys.specs.Terms.{Delete, TrimTo, Len, Scan, GroupCreate, GroupDestroy, ConsumerCreate, ConsumerDelete}
 use Rattle.xs_keys.specs.Terms.{ReadGroup, Ack, Pending, PendingRows, Claim, AutoClaim, DropKeys, ReadGroupCommand}
-use Rattle.xs_keys.specs.Terms.{ReadOne, ReadFrom, New, After, GroupState, has_name, new_ids, own_ids, claim_by_ids}
+use Rattle.xs_keys.specs.Terms.{ReadOne, ReadFrom, New, After, GroupState, has_name, new_ids, reread_ids, claim_by_ids}
 use Rattle.xs_keys.specs.Terms.{scan_of}
 use Rattle.xs_keys.specs.Terms.{group_after_ack, owned_count, summary_of, pending_of}
 use Rattle.xs_keys.specs.Life.{StreamEvent, delete_entries, trim_entries}
@@ -32,7 +33,7 @@ existing_count (name ∷ names) content =
 abbrev pub parts_of_read : ReadGroupCommand → Bytes → ReadFrom → Entries → GroupState → List Reply
 parts_of_read read key New entries group = new_part key entries (new_ids read.limit group.cursor (ids_of entries))
 parts_of_read read key (After id) entries group =
-    stream_part key entries (own_ids read.consumer read.limit id group.rows.entries) ∷ []
+    stream_part key entries (reread_ids read.consumer read.limit id group.rows.entries) ∷ []
 
 -- the streams of a read in the order written, each as the reads before it leave it
 abbrev pub parts : Content → ℕ → ReadGroupCommand → List ReadOne → List Reply
@@ -47,14 +48,14 @@ abbrev pub reply : Content → ℕ → Command → Reply
 reply content now (Ping message) = option_map_or Bulk message (Simple Pong)
 reply content now Quit = Simple Okay
 reply content now (Add add) =
-    let added : KeyState → Reply = λ k. assigned_reply (assigned now k.stream.top add.id) in
+    let added : KeyState → Reply = λ k. assigned_reply (id_of_addition now k.stream.top add.id) in
     option_map_or added (key_or_new add.make (get content add.key)) NullBulk
 reply content now (Delete name ids) = Int (removed_count (delete_entries ids) (get content name))
 reply content now (TrimTo name trim) = Int (removed_count (trim_entries trim) (get content name))
 reply content now (Len name) = Int (length (entries_in (get content name)))
 reply content now (Scan scan) =
     let entries = entries_in (get content scan.key) in
-    entries_reply entries (limited scan.limit (ids_within scan.range scan.reversed entries))
+    entries_reply entries (up_to_limit scan.limit (ids_within scan.range scan.reversed entries))
 reply content now (DropKeys names) = Int (existing_count names content)
 reply content now (GroupCreate create) =
     reply_of_key (key_or_new create.make (get content create.key))

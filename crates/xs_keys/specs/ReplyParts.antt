@@ -1,6 +1,6 @@
 -- The parts of replies. (The pages of the commands, "RESP2 Reply".)
 use Rattle.std.specs.Prelude.{Bool, List, [], ◌∷◌, map, decimal, Option, Result, Ok, Err, if◌then◌else◌}
-use Rattle.xs_keys.specs.Terms.{flat_map, option_map_or, Id, Field, AddError, printed, fields_at, Fault, SmallId}
+use Rattle.xs_keys.specs.Terms.{flat_map, option_map_or, Id, Field, AddError, id_text, fields_at, Fault, SmallId}
 use Rattle.xs_keys.specs.Terms.{Exhausted, Memory, NoKey, NoGroup, Reply, Error, Int, Bulk, NullBulk, Array, NullArray}
 use Rattle.xs_keys.specs.Terms.{items_of, OwnerCount, GroupSummary, PendingRow, GroupState}
 use Rattle.xs_stream.specs.declared.add.AddError.TheVariants as add_error
@@ -17,7 +17,7 @@ array_or_null [] = NullArray
 array_or_null (r ∷ rs) = array (r ∷ rs)
 
 abbrev pub id_reply : Id → Reply
-id_reply id = Bulk (printed id)
+id_reply id = Bulk (id_text id)
 
 -- the name and the value of a field in turn
 abbrev pub field_replies : Field → List Reply

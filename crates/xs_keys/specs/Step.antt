@@ -39,8 +39,8 @@ pub record OutOfMemory (old : Content) (now : ℕ) (command : Command) (answer :
 abbrev pub Step : Content → ℕ → Command → Reply → Content → Type 0
 Step old now command answer new = Applied old now command answer new ⊎ OutOfMemory old now command answer new
 
--- the same with its arguments in another order: at a moment, of the content before, a command, its answer and the content
--- after
+-- the same with its arguments in another order: at a moment, of the content before, a command, its answer and the
+-- content after
 abbrev pub StepAt : ℕ → Content → Command → Reply → Content → Type 0
 StepAt now old command answer new = Step old now command answer new
 

@@ -8,14 +8,15 @@ pub use Rattle.xs_stream.specs.declared.add.AddId.{AddId}
 pub use Rattle.xs_stream.specs.declared.trim.Trim.{Trim}
 pub use Rattle.xs_stream.specs.declared.field.Field.{Field}
 pub use Rattle.xs_stream.specs.declared.add.AddError.{AddError}
-pub use Rattle.xs_stream.specs.Id.{is_below, has_id, zero_id, printed, assigned}
+pub use Rattle.xs_stream.specs.Id.{is_below, has_id, zero_id, id_text, id_of_addition}
 pub use Rattle.xs_stream.specs.StreamContent.{StreamState}
-pub use Rattle.xs_stream.specs.StreamContent.{ids_of, is_trimmed, trimmed, without, fields_at, ids_within, limited}
+pub use Rattle.xs_stream.specs.StreamContent.{ids_of, is_trimmed, entries_after_trim, without, fields_at, ids_within}
+pub use Rattle.xs_stream.specs.StreamContent.{up_to_limit}
 pub use Rattle.xs_stream.specs.StreamContent.{Ascends, AllUpTo, AllAbove}
 pub use Rattle.xs_group.specs.GroupState.{is_same_name, RowState, GroupState, has_name, new_group, with_consumer}
 pub use Rattle.xs_group.specs.GroupState.{unless_acked, group_after_ack}
 pub use Rattle.xs_group.specs.GroupState.{unless_owned, without_consumer, new_ids, first_row, group_after_delivery}
-pub use Rattle.xs_group.specs.GroupState.{own_ids}
+pub use Rattle.xs_group.specs.GroupState.{reread_ids}
 pub use Rattle.xs_group.specs.GroupState.{row_after_reread}
 pub use Rattle.xs_group.specs.GroupState.{group_after_reread}
 pub use Rattle.xs_group.specs.Claims.{Rule, claim_by_ids, scan_of, row_after_claim, group_after_claim}

@@ -3,7 +3,7 @@
 use Rattle.std.specs.Prelude.{◌≡◌, ℕ, Bool, List, [], ◌∷◌, Some, ◌&&◌, ◌||◌, if◌then◌else◌}
 use Rattle.xs_group.specs.Claims.{row_at, claim_time, claim_count}
 use Rattle.xs_group.specs.GroupState.{next_count}
-use Rattle.xs_keys.specs.Terms.{option_map_or, Id, RowState, has_id, own_ids}
+use Rattle.xs_keys.specs.Terms.{option_map_or, Id, RowState, has_id, reread_ids}
 use Rattle.xs_keys.specs.GroupAsk.{GroupAsk, read_new, read_own, rule_of}
 use Rattle.xs_keys.specs.GroupEvent.{GroupEvent, rows}
 use Rattle.xs_keys.specs.Owner.{is_assigned_by}
@@ -11,7 +11,7 @@ use Rattle.xs_keys.specs.Event.{PendingEntries}
 
 -- the consumer's own pending ids that an ask shows once more, from the rows it meets
 abbrev pub own_ids_shown : GroupAsk → PendingEntries → List Id
-own_ids_shown (read_own consumer limit from) rows = own_ids consumer limit from rows
+own_ids_shown (read_own consumer limit from) rows = reread_ids consumer limit from rows
 own_ids_shown _ rows = []
 
 -- the event delivers the entry once more to the consumer who has it: it is shown, and still in the stream

@@ -1,7 +1,7 @@
 //! XADD.
 ghost use Rattle.std.specs.Prelude.{◌≡◌, Some, Ok, Err, None, true, is_ok, IfOk, OnErr, IsErrOf};
 ghost use Rattle.xs_bytes.specs.SortedMap as map;
-ghost use Rattle.xs_stream.specs.Id.{assigned};
+ghost use Rattle.xs_stream.specs.Id.{id_of_addition};
 ghost use Rattle.xs_command.specs.WellFormed.{IsAddId};
 ghost use Rattle.xs_keys.specs.Life.{add_entry};
 ghost use Rattle.xs_keys.specs.ContentAfter.{stream_after};
@@ -27,12 +27,12 @@ fn try_add(
     now: Moment,
     add: &AddCommand,
 ) -> Result<Bytes, AddError>
-    ensures ok { IfOk result (λ text. (text_of (assigned now stream.old.top add.now.id) ≡ Some text)
+    ensures ok { IfOk result (λ text. (text_of (id_of_addition now stream.old.top add.now.id) ≡ Some text)
         × (stream.new ≡ stream_after (add_entry now add.now.id add.now.fields add.now.trim) stream.old)) }
-    ensures small { IsErrOf result AddError.Small → assigned now stream.old.top add.now.id ≡ Err AddError.Small }
-    ensures exhausted { IsErrOf result AddError.Exhausted → assigned now stream.old.top add.now.id
+    ensures small { IsErrOf result AddError.Small → id_of_addition now stream.old.top add.now.id ≡ Err AddError.Small }
+    ensures exhausted { IsErrOf result AddError.Exhausted → id_of_addition now stream.old.top add.now.id
         ≡ Err AddError.Exhausted }
-    ensures memory { IsErrOf result AddError.Memory → is_ok (assigned now stream.old.top add.now.id) ≡ true }
+    ensures memory { IsErrOf result AddError.Memory → is_ok (id_of_addition now stream.old.top add.now.id) ≡ true }
     ensures err { OnErr result (stream.new ≡ stream.old) }
 {
     let id = match stream.assign(now, add.id) {

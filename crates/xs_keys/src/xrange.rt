@@ -1,6 +1,6 @@
 //! XRANGE and XREVRANGE.
 ghost use Rattle.std.specs.Prelude.{◌≡◌, IfOk};
-ghost use Rattle.xs_stream.specs.StreamContent.{limited, ids_within};
+ghost use Rattle.xs_stream.specs.StreamContent.{up_to_limit, ids_within};
 ghost use Rattle.xs_keys.specs.ReplyParts.{entries_reply};
 ghost use Rattle.xs_keys.specs.Step.{StepAtAnyTime};
 
@@ -14,7 +14,7 @@ use xs_stream::Stream;
 /// The entries of a range of a stream.
 fn range_shown(alloc: Global, stream: &Stream, command: &ScanCommand) -> Result<Reply, AllocError>
     ensures { let entries = stream.now.entries in
-        let ids = limited command.now.limit (ids_within command.now.range command.now.reversed entries) in
+        let ids = up_to_limit command.now.limit (ids_within command.now.range command.now.reversed entries) in
         IfOk result (λ reply. reply ≡ entries_reply entries ids) }
 {
     stream.lawful();

@@ -16,24 +16,24 @@ request-later : (bytes more : List ℕ) (found : Found) → request bytes ≡ Ok
 request-later bytes more found e = subst (λ o. Keeps o (request (bytes ++ more))) e (request-keeps bytes more)
 
 -- what rests, fed a piece
-rests-fed : (outcome : Outcome Found) (bytes piece : List ℕ) (old new : Held) (first : List (List (List ℕ))) → Keeps outcome (request (bytes ++ piece)) → Rests outcome bytes old → ReadsHeld (with_piece old piece) first new → Reads (bytes ++ piece) first new
-rests-fed (Ok (Some found)) bytes piece old new first k r h = absurd r
-rests-fed (Ok None) bytes piece old new first k r h = subst (λ o. ReadsHeld (with_piece o piece) first new) r h
-rests-fed (Err wrong) bytes piece old new first k r h =
+rests-with-more : (outcome : Outcome Found) (bytes piece : List ℕ) (old new : Held) (first : List (List (List ℕ))) → Keeps outcome (request (bytes ++ piece)) → Rests outcome bytes old → ReadsHeld (with_piece old piece) first new → Reads (bytes ++ piece) first new
+rests-with-more (Ok (Some found)) bytes piece old new first k r h = absurd r
+rests-with-more (Ok None) bytes piece old new first k r h = subst (λ o. ReadsHeld (with_piece o piece) first new) r h
+rests-with-more (Err wrong) bytes piece old new first k r h =
     let failed = subst (λ o. ReadsHeld (with_piece o piece) first new) r h in
     subst (λ ts. Reads (bytes ++ piece) ts new) (sym failed.0) (subst (λ o. Rests o (bytes ++ piece) new) (sym k) failed.1)
 
 -- requests before a piece and behind it
-reads-fed : (done : List (List (List ℕ))) (bytes piece : List ℕ) (old new : Held) (first : List (List (List ℕ))) → Reads bytes done old → ReadsHeld (with_piece old piece) first new → Reads (bytes ++ piece) (done ++ first) new
-reads-fed [] bytes piece old new first r h = rests-fed (request bytes) bytes piece old new first (request-keeps bytes piece) r h
-reads-fed (words ∷ done) bytes piece old new first r h =
+reads-with-more : (done : List (List (List ℕ))) (bytes piece : List ℕ) (old new : Held) (first : List (List (List ℕ))) → Reads bytes done old → ReadsHeld (with_piece old piece) first new → Reads (bytes ++ piece) (done ++ first) new
+reads-with-more [] bytes piece old new first r h = rests-with-more (request bytes) bytes piece old new first (request-keeps bytes piece) r h
+reads-with-more (words ∷ done) bytes piece old new first r h =
     let found : Found = record { words = words; end = r.0 } in
     let whole = (r.1).0 in
     let within = (request-read bytes found whole).within in (
       r.0,
       (
         request-later bytes piece found whole,
-        subst (λ b. Reads b (done ++ first) new) (sym (drop-append-le r.0 bytes piece within)) (reads-fed done (drop r.0 bytes) piece old new first (r.1).1 h),
+        subst (λ b. Reads b (done ++ first) new) (sym (drop-append-le r.0 bytes piece within)) (reads-with-more done (drop r.0 bytes) piece old new first (r.1).1 h),
       ),
     )
 
@@ -43,7 +43,7 @@ pieces-joined [] bytes done requests old new r h =
     subst (λ b. Reads b (done ++ requests) new) (sym (append-nil bytes))
     (subst (λ rs. Reads bytes rs new) (sym (ap (λ rs. done ++ rs) h.0 ∙ append-nil done)) (subst (λ o. Reads bytes done o) (sym h.1) r))
 pieces-joined (piece ∷ pieces) bytes done requests old new r h =
-    let more = pieces-joined pieces (bytes ++ piece) (done ++ h.first) h.others h.between new (reads-fed done bytes piece old h.between h.first r h.reads) h.further in
+    let more = pieces-joined pieces (bytes ++ piece) (done ++ h.first) h.others h.between new (reads-with-more done bytes piece old h.between h.first r h.reads) h.further in
     subst (λ b. Reads b (done ++ requests) new) (append_assoc bytes piece (concat pieces))
     (subst (λ rs. Reads ((bytes ++ piece) ++ concat pieces) rs new) (append_assoc done h.first h.others ∙ ap (λ rs. done ++ rs) (sym h.all)) more)
 

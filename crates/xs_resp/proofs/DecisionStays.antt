@@ -10,7 +10,7 @@ use Rattle.xs_resp.specs.declared.read_fault.ProtocolFault.TheVariants.{Shape}
 use Rattle.xs_resp.specs.Outcome.{Keeps}
 use Rattle.xs_resp.specs.HeaderPart.{marker, number_in}
 use Rattle.xs_resp.specs.Header.{is_not_cr, text_len, within_limit, line_at, header}
-use Rattle.xs_resp.specs.Reading.{closed, bulk_string}
+use Rattle.xs_resp.specs.Reading.{span_before_crlf, bulk_string}
 use Rattle.xs_resp.proofs.Outcomes.{Keeps-same, Keeps-bind}
 
 -- the text before the first CR doesn't get shorter
@@ -65,12 +65,12 @@ header-keeps part (byte ∷ line) more =
       | false ↦ refl
     ]
 
-closed-keeps : (start end : ℕ) (rest more : List ℕ) → Keeps (closed start end rest) (closed start end (rest ++ more))
+closed-keeps : (start end : ℕ) (rest more : List ℕ) → Keeps (span_before_crlf start end rest) (span_before_crlf start end (rest ++ more))
 closed-keeps start end [] more = tt
-closed-keeps start end (cr ∷ []) [] = Keeps-same (closed start end (cr ∷ [])) _ refl
+closed-keeps start end (cr ∷ []) [] = Keeps-same (span_before_crlf start end (cr ∷ [])) _ refl
 closed-keeps start end (cr ∷ []) (lf ∷ more) =
-    elim (eqb cr 13) as (λ b. Keeps (cond b (Ok None) (Err Shape)) (cond b (closed start end (13 ∷ lf ∷ more)) (Err Shape))) [ true ↦ tt | false ↦ refl ]
-closed-keeps start end (cr ∷ lf ∷ rest) more = Keeps-same (closed start end (cr ∷ lf ∷ rest)) _ refl
+    elim (eqb cr 13) as (λ b. Keeps (cond b (Ok None) (Err Shape)) (cond b (span_before_crlf start end (13 ∷ lf ∷ more)) (Err Shape))) [ true ↦ tt | false ↦ refl ]
+closed-keeps start end (cr ∷ lf ∷ rest) more = Keeps-same (span_before_crlf start end (cr ∷ lf ∷ rest)) _ refl
 
 pub word-keeps : (bytes more : List ℕ) → Keeps (bulk_string bytes) (bulk_string (bytes ++ more))
 unfolding bulk_string

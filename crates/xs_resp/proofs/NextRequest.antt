@@ -9,7 +9,8 @@ use Rattle.xs_resp.specs.declared.read_fault.ReadFault.TheVariants.{Memory}
 use Rattle.xs_resp.specs.Grammar.{Spells, SpellsAll}
 use Rattle.xs_resp.specs.Outcome.{Outcome, Keeps}
 use Rattle.xs_resp.specs.Reading.{Found, request, words_in}
-use Rattle.xs_resp.specs.HeldBytes.{Held, HasNext, Next, NextOf, Ready, ReadyOf, Skips, with_piece, front_of, held_length}
+use Rattle.xs_resp.specs.HeldBytes.{Held, HasNext, Next, NextOf, Ready, ReadyOf, Skips, with_piece, front_of}
+use Rattle.xs_resp.specs.HeldBytes.{held_length}
 use Rattle.xs_resp.proofs.Decisions.{request-read, request-keeps}
 use Rattle.xs_resp.proofs.Skipping.{skip-left}
 
@@ -110,9 +111,9 @@ pub ready-wrong : (old : Held) (bytes : List ℕ) (fault : ReadFault) (new : Hel
 ready-wrong old bytes fault new is ready = wrong-of bytes (request bytes) fault new refl (subst (λ h. Ready h (Err fault) new) is ready)
 
 -- a piece more
-pub fed-length : (old : Held) (got : List ℕ) → held_length (with_piece old got) ≤ held_length old + length got
-fed-length (Ok bytes) got = omega (arith, length-append bytes got)
-fed-length (Err wrong) got = omega arith
+pub with-piece-length : (old : Held) (got : List ℕ) → held_length (with_piece old got) ≤ held_length old + length got
+with-piece-length (Ok bytes) got = omega (arith, length-append bytes got)
+with-piece-length (Err wrong) got = omega arith
 
 -- ---- requests that were taken one after the other
 

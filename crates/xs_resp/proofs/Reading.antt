@@ -9,7 +9,7 @@ use Rattle.xs_resp.specs.declared.header.Header.{Header}
 use Rattle.xs_resp.specs.HeaderPart.{marker, limit, number_in}
 use Rattle.xs_resp.specs.Header.{text_len, within_limit, line_at, header}
 use Rattle.xs_resp.specs.declared.word.Span.{Span}
-use Rattle.xs_resp.specs.Reading.{closed, bulk_string}
+use Rattle.xs_resp.specs.Reading.{span_before_crlf, bulk_string}
 use Rattle.xs_resp.proofs.Outcomes.{bind-ok}
 
 -- a test that chose this outcome
@@ -73,7 +73,7 @@ pub record IsClosed (start end : ℕ) (rest : List ℕ) (span : Span) : Type 0 w
   pub tail : List ℕ
   pub whole : rest ≡ 13 ∷ 10 ∷ tail
 
-pub closed-ok : (start end : ℕ) (rest : List ℕ) (span : Span) → closed start end rest ≡ Ok (Some span) → IsClosed start end rest span
+pub closed-ok : (start end : ℕ) (rest : List ℕ) (span : Span) → span_before_crlf start end rest ≡ Ok (Some span) → IsClosed start end rest span
 closed-ok start end [] span e = absurd (cc)
 closed-ok start end (cr ∷ []) span e =
     elim (chosen (eqb cr 13) _ _ _ e) [ inl w ↦ absurd (cc) | inr w ↦ absurd (cc) ]

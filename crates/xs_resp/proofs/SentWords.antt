@@ -12,7 +12,7 @@ use Rattle.xs_resp.specs.Line.{line, crlf}
 use Rattle.xs_resp.specs.HeaderPart.{limit}
 use Rattle.xs_resp.specs.Outcome.{◌>>=◌}
 use Rattle.xs_resp.specs.Header.{header}
-use Rattle.xs_resp.specs.Reading.{closed, bulk_string, text_in}
+use Rattle.xs_resp.specs.Reading.{span_before_crlf, bulk_string, text_in}
 use Rattle.xs_resp.specs.Grammar.{sent_word, LacksCrlf, WordFault}
 use Rattle.xs_resp.proofs.Outcomes.{bind-err}
 use Rattle.xs_resp.proofs.Reading.{chosen, header_ends, word-ok}
@@ -55,7 +55,7 @@ word-read bytes span e =
     }
 
 -- a line end that is missing
-closed-fault : (start end : ℕ) (rest : List ℕ) (wrong : ProtocolFault) → closed start end rest ≡ Err wrong → (Shape ≡ wrong) × LacksCrlf rest
+closed-fault : (start end : ℕ) (rest : List ℕ) (wrong : ProtocolFault) → span_before_crlf start end rest ≡ Err wrong → (Shape ≡ wrong) × LacksCrlf rest
 closed-fault start end [] wrong e = absurd (cc)
 closed-fault start end (cr ∷ []) wrong e =
     elim (chosen (eqb cr 13) _ _ _ e) [ inl w ↦ absurd (cc) | inr w ↦ (cc, eqb-false cr 13 w.0) ]
@@ -65,7 +65,7 @@ closed-fault start end (cr ∷ lf ∷ rest) wrong e =
       | inr w ↦ (cc, inl (eqb-false cr 13 w.0))
     ]
 
-closed-err : (start end : ℕ) (rest : List ℕ) → LacksCrlf rest → closed start end rest ≡ Err Shape
+closed-err : (start end : ℕ) (rest : List ℕ) → LacksCrlf rest → span_before_crlf start end rest ≡ Err Shape
 closed-err start end [] missing = absurd missing
 closed-err start end (cr ∷ []) missing = cond-false (eqb cr 13) _ _ (ne_eqb cr 13 missing)
 closed-err start end (cr ∷ lf ∷ rest) (inl missing) = cond-false (eqb cr 13) _ _ (ne_eqb cr 13 missing)
@@ -107,19 +107,19 @@ word-fault bytes wrong e =
     ]
 
 -- a line of a size, and what stands behind that many bytes
-behind-line : (text rest : List ℕ) → length text ≤ limit Size → bulk_string (line 36 (length text) ++ (text ++ rest)) ≡ closed (length (line 36 (length text))) (length (line 36 (length text)) + length text) rest
+behind-line : (text rest : List ℕ) → length text ≤ limit Size → bulk_string (line 36 (length text) ++ (text ++ rest)) ≡ span_before_crlf (length (line 36 (length text))) (length (line 36 (length text)) + length text) rest
 unfolding bulk_string
 behind-line text rest h =
     let n = length text in
     let head = line 36 n in
     let end = length head in
-    ap (λ o. o >>= λ (k : Header). closed k.end (k.end + k.number) (drop (k.end + k.number) (head ++ (text ++ rest)))) (header-line Size n (text ++ rest) h (omega arith))
-    ∙ ap (closed end (end + n)) (ap (drop (end + n)) (sym (append_assoc head text rest)) ∙ drop_at (head ++ text) rest (end + n) (length-append head text))
+    ap (λ o. o >>= λ (k : Header). span_before_crlf k.end (k.end + k.number) (drop (k.end + k.number) (head ++ (text ++ rest)))) (header-line Size n (text ++ rest) h (omega arith))
+    ∙ ap (span_before_crlf end (end + n)) (ap (drop (end + n)) (sym (append_assoc head text rest)) ∙ drop_at (head ++ text) rest (end + n) (length-append head text))
 
 -- and the other way
 pub word-err : (bytes : List ℕ) (wrong : ProtocolFault) → WordFault bytes wrong → bulk_string bytes ≡ Err wrong
 unfolding bulk_string
-word-err bytes wrong (inl f) = ap (λ o. o >>= λ (h : Header). closed h.end (h.end + h.number) (drop (h.end + h.number) bytes)) (header-err Size bytes wrong f)
+word-err bytes wrong (inl f) = ap (λ o. o >>= λ (h : Header). span_before_crlf h.end (h.end + h.number) (drop (h.end + h.number) bytes)) (header-err Size bytes wrong f)
 word-err bytes wrong (inr f) =
     ap bulk_string (f.1).whole ∙ behind-line (f.1).text (f.1).rest (f.1).size ∙ closed-err _ _ (f.1).rest (f.1).missing ∙ ap (λ w. Err w) (sym f.0)
 

@@ -5,7 +5,7 @@ use Rattle.xs_resp.specs.declared.read_fault.ProtocolFault.TheVariants.{Length, 
 use Rattle.xs_resp.specs.declared.read_fault.ReadFault.TheVariants as fault
 use Rattle.xs_resp.specs.Outcome.{Outcome}
 use Rattle.xs_resp.specs.Reading.{Found, request}
-use Rattle.xs_resp.specs.HeldBytes.{with_piece, front_of, held_length, is_partial, HasNext, Next, Ready, Skips}
+use Rattle.xs_resp.specs.HeldBytes.{with_piece, front_of, held_length, holds_bytes, HasNext, Next, Ready, Skips}
 use Rattle.xs_resp.specs.Examples.{wire}
 
 -- these words, in so many bytes
@@ -74,9 +74,9 @@ pub record Reader : Type 0 where
   pub a_failed_reader : with_piece (Err Limit) (codes "23") ≡ Err Limit
   pub four_bytes : held_length (Ok (codes "PING")) ≡ 4
   pub none_of_a_failed_reader : held_length (Err Shape) ≡ 0
-  pub partial : is_partial (Ok (codes "*")) ≡ true
-  pub empty : is_partial (Ok []) ≡ false
-  pub failed : is_partial (Err Length) ≡ false
+  pub partial : holds_bytes (Ok (codes "*")) ≡ true
+  pub empty : holds_bytes (Ok []) ≡ false
+  pub failed : holds_bytes (Err Length) ≡ false
   pub gives_a_request :
       Next (Ok (wire (codes "*1^$4^PING^*0"))) (Ok (Some (codes "PING" ∷ []))) (Ok (codes "*0"))
   pub holds_a_request_without_memory :

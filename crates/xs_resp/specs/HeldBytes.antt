@@ -24,9 +24,9 @@ held_length (Ok bytes) = length bytes
 held_length (Err wrong) = 0
 
 -- whether bytes are held
-abbrev pub is_partial : Held → Bool
-is_partial (Ok bytes) = not (length bytes == 0)
-is_partial (Err wrong) = false
+abbrev pub holds_bytes : Held → Bool
+holds_bytes (Ok bytes) = not (length bytes == 0)
+holds_bytes (Err wrong) = false
 
 -- the next request of bytes: its words, and the bytes behind it; or out of memory, unchanged;
 -- nothing yet, unchanged; or a fault, which is held from then on

@@ -13,15 +13,15 @@ pub record Found : Type 0 where
   pub end : ℕ
 
 -- the span from start to end, if CR LF follows it
-abbrev pub closed : ℕ → ℕ → List ℕ → Outcome Span
-closed start end [] = Ok None
-closed start end (cr ∷ []) = if cr == 13 then Ok None else Err Shape
-closed start end (cr ∷ lf ∷ rest) =
+abbrev pub span_before_crlf : ℕ → ℕ → List ℕ → Outcome Span
+span_before_crlf start end [] = Ok None
+span_before_crlf start end (cr ∷ []) = if cr == 13 then Ok None else Err Shape
+span_before_crlf start end (cr ∷ lf ∷ rest) =
     if cr == 13 then (if lf == 10 then Ok (Some (record { start = start; end = end })) else Err Shape) else Err Shape
 
 -- a header, that many bytes, and CR LF
 unfoldable pub bulk_string : List ℕ → Outcome Span
-bulk_string bytes = header Size bytes >>= λ h. closed h.end (h.end + h.number) (drop (h.end + h.number) bytes)
+bulk_string bytes = header Size bytes >>= λ h. span_before_crlf h.end (h.end + h.number) (drop (h.end + h.number) bytes)
 
 -- the bytes of a word
 abbrev pub text_in : List ℕ → Span → List ℕ

@@ -43,7 +43,7 @@ impl Model for Requests {
 
 impl Requests {
     ghost use Rattle.std.specs.Prelude.{◌≡◌, ◌≢◌, List, ℕ, [], None, IfOk, Ok};
-    ghost use Rattle.xs_resp.specs.HeldBytes.{with_piece, front_of, is_partial, HasNext, Next, Ready, Skips};
+    ghost use Rattle.xs_resp.specs.HeldBytes.{with_piece, front_of, holds_bytes, HasNext, Next, Ready, Skips};
 
     /// A reader that holds nothing.
     pub fn new(alloc: Global) -> Self
@@ -148,7 +148,7 @@ impl Requests {
 
     /// Whether bytes are held. A failed reader holds none.
     pub fn partial(&self) -> bool
-        ensures { result ≡ is_partial self.now }
+        ensures { result ≡ holds_bytes self.now }
     {
         match self.state {
             State::Failed(_) => false,

@@ -1,6 +1,6 @@
 //! The words of a request (RESP protocol specification, version 2).
 ghost use Rattle.std.specs.Prelude.{◌≡◌, ◌≤◌, ◌+◌, length, drop, IfOk, IfSome};
-ghost use Rattle.xs_resp.specs.Reading.{closed, bulk_string};
+ghost use Rattle.xs_resp.specs.Reading.{span_before_crlf, bulk_string};
 
 use crate::header::{Part, read_header};
 use crate::read_fault::ProtocolFault;
@@ -41,7 +41,7 @@ pub fn read_word(bytes: &[u8]) -> Result<Option<Span>, ProtocolFault>
 
 /// Reads the line end behind the bytes of a word, which stand between these indices.
 fn read_closing(start: usize, end: usize, rest: &[u8]) -> Result<Option<Span>, ProtocolFault>
-    ensures { result ≡ closed start end rest.now }
+    ensures { result ≡ span_before_crlf start end rest.now }
 {
     match rest {
         [] | [b'\r'] => Ok(None),

@@ -7,7 +7,7 @@ use Rattle.xs_resp.specs.Reading.{Found, request}
 use Rattle.xs_resp.specs.HeldBytes.{Held, Next}
 use Rattle.xs_resp.proofs.NextRequest.{took, next-words}
 use Rattle.xs_command.specs.declared.command.Command.{Command}
-use Rattle.xs_command.specs.Read.{reads}
+use Rattle.xs_command.specs.Read.{command_of_words}
 use Rattle.xs_server.specs.Answering.{Answered}
 use Rattle.xs_server.specs.Exchange.{Exchange, Run, AreAnswered, is_quit}
 use Rattle.xs_server.specs.Serve.{PortFails}
@@ -88,7 +88,7 @@ one-answered Replies old new bytes before held words reply is_last empty is next
 
 -- the port answers none
 pub port-fails : {P : Type 0} (Fails : P → Command → P → Type 0) (old new : P) (bytes : List ℕ) (found : Found) (words : List (List ℕ)) (command : Command)
-    → request bytes ≡ Ok (Some found) → found.words ≡ words → reads words ≡ Ok command → Fails old command new → PortFails Fails old new bytes
+    → request bytes ≡ Ok (Some found) → found.words ≡ words → command_of_words words ≡ Ok command → Fails old command new → PortFails Fails old new bytes
 port-fails Fails old new bytes found words command next is reads_as fails =
     let t = took bytes [] bytes [] found refl refl next in
     record {

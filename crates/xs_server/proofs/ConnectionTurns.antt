@@ -19,7 +19,7 @@ use Rattle.xs_server.specs.declared.connections.ending.Ending.{Ending}
 use Rattle.xs_server.specs.declared.connections.ending.Ending.TheVariants as ending
 use Rattle.xs_server.specs.declared.connections.ending.ServeFault.{ServeFault}
 use Rattle.xs_server.specs.declared.connections.ending.ServeFault.TheVariants as serve_fault
-use Rattle.xs_devices.specs.Device.{capped}
+use Rattle.xs_devices.specs.Device.{counter_at}
 use Rattle.xs_server.specs.Machine.{itself, reader, writer, EndsOncePaid}
 use Rattle.xs_server.specs.Exchange.{Exchange, AreAnswered, texts, is_quit}
 use Rattle.xs_server.specs.Serve.{WrittenTo, IsPart, PortFails, Ends, ServesConnection}
@@ -41,7 +41,7 @@ sent-more exchanges exchange sent owed replies w is = ap (λ o. sent ++ o) is �
 
 -- the last answer is written, of which a part was
 written-more : (exchanges : List Exchange) (exchange : Exchange) (sent part owed : List ℕ) (replies more : ℕ) → WrittenTo exchanges part sent replies → text exchange.answer ≡ part ++ owed → is_quit exchange.asked ≡ false
-    → more ≡ capped (replies + 1) → WrittenTo (exchanges ++ exchange ∷ []) [] (sent ++ owed) more
+    → more ≡ counter_at (replies + 1) → WrittenTo (exchanges ++ exchange ∷ []) [] (sent ++ owed) more
 written-more exchanges exchange sent part owed replies more w is other counted =
     let len = length-append exchanges (exchange ∷ []) in (
       list_any-append (λ (e : Exchange). is_quit e.asked) exchanges (exchange ∷ []) ∙ ap (λ b. b || (is_quit exchange.asked || false)) w.0 ∙ ap (λ b. b || false) other,
@@ -99,9 +99,9 @@ module _ {P : Type 0} (Replies : P → Command → Reply → P → Type 0) where
   }
 
   -- more is read
-  pub stands-fed : (old new : P) (read sent got : List ℕ) (connection later : Connection) → ConnectionStands Replies old new read sent connection → later.requests ≡ with_piece connection.requests got
+  pub stands-with-more : (old new : P) (read sent got : List ℕ) (connection later : Connection) → ConnectionStands Replies old new read sent connection → later.requests ≡ with_piece connection.requests got
       → bytes_left later.owed ≡ bytes_left connection.owed → later.replies ≡ connection.replies → ConnectionStands Replies old new (read ++ got) sent later
-  stands-fed old new read sent got connection later s is same counted =
+  stands-with-more old new read sent got connection later s is same counted =
       let a = s.answered in
       record {
         exchanges = s.exchanges;
@@ -141,7 +141,7 @@ module _ {P : Type 0} (Replies : P → Command → Reply → P → Type 0) where
 
   -- all that is owed is written
   pub stands-paid : (old new : P) (read sent front : List ℕ) (connection later : Connection) → ConnectionStands Replies old new read sent connection → bytes_left connection.owed ≡ front → 0 < length front
-      → later.requests ≡ connection.requests → bytes_left later.owed ≡ [] → later.replies ≡ capped (connection.replies + 1) → ConnectionStands Replies old new read (sent ++ front) later
+      → later.requests ≡ connection.requests → bytes_left later.owed ≡ [] → later.replies ≡ counter_at (connection.replies + 1) → ConnectionStands Replies old new read (sent ++ front) later
   stands-paid old new read sent front connection later s is some same none counted = record {
     exchanges = s.exchanges ++ s.last;
     last = [];

@@ -8,7 +8,7 @@ use Rattle.xs_command.specs.declared.command.Command.{Command}
 use Rattle.xs_command.proofs.FormedReads.{given_formed}
 use Rattle.xs_keys.specs.Event.{History}
 use Rattle.xs_keys.specs.Content.{Content, IsContent}
-use Rattle.xs_devices.specs.Device.{capped}
+use Rattle.xs_devices.specs.Device.{counter_at}
 use Rattle.xs_server.specs.Line.{line_of}
 use Rattle.xs_server.specs.Answering.{Answered, IsAnswer}
 use Rattle.xs_keys.specs.EachReply.{Follows, AreReplied}
@@ -99,8 +99,8 @@ is-script lines out past script =
 
 -- ---- counts
 
-pub capped-more : (n : ℕ) (lines : List (List ℕ)) (line : List ℕ) → n ≡ capped (length lines) → capped (n + 1) ≡ capped (length (lines ++ line ∷ []))
+pub capped-more : (n : ℕ) (lines : List (List ℕ)) (line : List ℕ) → n ≡ counter_at (length lines) → counter_at (n + 1) ≡ counter_at (length (lines ++ line ∷ []))
 capped-more n lines line e = let len = length-append lines (line ∷ []) in omega arith
 
-pub capped-sent : (n m : ℕ) (sent part : List ℕ) → n ≡ capped (length sent) → m ≡ capped (n + length part) → m ≡ capped (length (sent ++ part))
+pub capped-sent : (n m : ℕ) (sent part : List ℕ) → n ≡ counter_at (length sent) → m ≡ counter_at (n + length part) → m ≡ counter_at (length (sent ++ part))
 capped-sent n m sent part e f = let len = length-append sent part in omega arith

@@ -14,7 +14,7 @@ use Rattle.xs_server.specs.declared.script.machine.Script.{Script as Machine}
 use Rattle.xs_server.specs.declared.script.fault.ScriptFault.{ScriptFault}
 use Rattle.xs_server.specs.declared.script.fault.ScriptFault.TheVariants as fault
 use Rattle.xs_server.specs.Answering.{IsAnswer}
-use Rattle.xs_devices.specs.Device.{capped}
+use Rattle.xs_devices.specs.Device.{counter_at}
 use Rattle.xs_server.specs.Line.{is_line_end, script_lines, line_of, line_limit}
 use Rattle.xs_server.specs.Machine.{Cause, input, reader, writer}
 use Rattle.xs_server.specs.Script.{Script, IsScript, with_end}
@@ -46,14 +46,14 @@ few-after : (held line rest : List ℕ) → IsFew held → held ≡ line ++ 10 �
 few-after held line rest few e none = λ next more is other.
     omega (arith, few line rest e none, ap length is, length-append next (10 ∷ more))
 
-few-fed : (held got : List ℕ) → list_any is_line_end held ≡ false → length got ≤ piece → IsFew (held ++ got)
-few-fed held got none small = λ line rest e other. omega (arith, few-behind held got line rest e none, small)
+few-with-more : (held got : List ℕ) → list_any is_line_end held ≡ false → length got ≤ piece → IsFew (held ++ got)
+few-with-more held got none small = λ line rest e other. omega (arith, few-behind held got line rest e none, small)
 
 -- ---- how a script goes on
 
 -- one line more is answered
 pub stands-more : (read sent : List ℕ) (script later : Machine) (old new : Content) (line : List ℕ) (answer : Reply) → ScriptStands read sent script old → script.held ≡ line ++ 10 ∷ later.held → list_any is_line_end line ≡ false
-    → IsSomeAnd (line_of line) (λ request. IsAnswer (StepAt request.0) old request.1 answer new) → later.owed.items ≡ script.owed.items ++ text answer → later.number ≡ capped (script.number + 1)
+    → IsSomeAnd (line_of line) (λ request. IsAnswer (StepAt request.0) old request.1 answer new) → later.owed.items ≡ script.owed.items ++ text answer → later.number ≡ counter_at (script.number + 1)
     → later.written ≡ script.written → ScriptStands read sent later new
 stands-more read sent script later old new line answer s is none serves owes numbered same =
     let next = served-line s.lines line (sent ++ script.owed.items) s.past old new answer s.content s.said serves in
@@ -70,22 +70,22 @@ stands-more read sent script later old new line answer s is none serves owes num
     }
 
 -- more is read
-pub stands-fed : (read sent got : List ℕ) (script later : Machine) (keyspace : Content) → ScriptStands read sent script keyspace → list_any is_line_end script.held ≡ false → length got ≤ piece → later.held ≡ script.held ++ got
+pub stands-with-more : (read sent got : List ℕ) (script later : Machine) (keyspace : Content) → ScriptStands read sent script keyspace → list_any is_line_end script.held ≡ false → length got ≤ piece → later.held ≡ script.held ++ got
     → later.owed.items ≡ script.owed.items → later.number ≡ script.number → later.written ≡ script.written → ScriptStands (read ++ got) sent later keyspace
-stands-fed read sent got script later keyspace s none small is same numbered counted = record {
+stands-with-more read sent got script later keyspace s none small is same numbered counted = record {
   lines = s.lines;
   past = s.past;
   said = subst (λ (o : List ℕ). Script [] s.lines (sent ++ o) s.past) (sym same) s.said;
   content = s.content;
   is_read = subst (λ (h : List ℕ). IsRead (read ++ got) s.lines h) (sym is) (read-more read s.lines script.held got s.is_read);
-  few = subst (λ (h : List ℕ). IsFew h) (sym is) (few-fed script.held got none small);
+  few = subst (λ (h : List ℕ). IsFew h) (sym is) (few-with-more script.held got none small);
   number = numbered ∙ s.number;
   written = counted ∙ s.written;
 }
 
 -- what is owed is written
 pub stands-paid : (read sent : List ℕ) (script later : Machine) (keyspace : Content) → ScriptStands read sent script keyspace → later.held ≡ script.held → later.owed.items ≡ [] → later.number ≡ script.number
-    → later.written ≡ capped (script.written + length script.owed.items) → ScriptStands read (sent ++ script.owed.items) later keyspace
+    → later.written ≡ counter_at (script.written + length script.owed.items) → ScriptStands read (sent ++ script.owed.items) later keyspace
 stands-paid read sent script later keyspace s same none numbered counted = record {
   lines = s.lines;
   past = s.past;
@@ -112,8 +112,8 @@ pub all-said : (read sent : List ℕ) (script : Machine) (keyspace : Content) (s
 all-said read sent script keyspace s = is-script s.lines (sent ++ script.owed.items) s.past s.said
 
 -- the writer fails within the replies to these lines
-pub replies-broken : (read sent owed : List ℕ) (written : ℕ) (lines after : List (List ℕ)) → IsScript lines (sent ++ owed) → script_lines read ≡ lines ++ after → written ≡ capped (length sent)
-    → (count : ℕ) → count < length owed → RunsBy writer (Err (fault.Write (capped (written + count)))) read (sent ++ take count owed)
+pub replies-broken : (read sent owed : List ℕ) (written : ℕ) (lines after : List (List ℕ)) → IsScript lines (sent ++ owed) → script_lines read ≡ lines ++ after → written ≡ counter_at (length sent)
+    → (count : ℕ) → count < length owed → RunsBy writer (Err (fault.Write (counter_at (written + count)))) read (sent ++ take count owed)
 replies-broken read sent owed written lines after said are counted count few =
     let part = length-take-le count owed (omega (arith, few)) in (
       λ rest ended met. (
@@ -125,50 +125,50 @@ replies-broken read sent owed written lines after said are counted count few =
           drop count owed,
           said,
           ap (λ o. sent ++ o) (sym (take-append-drop count owed)) ∙ sym (append_assoc sent (take count owed) (drop count owed)),
-          capped-sent written (capped (written + count)) sent (take count owed) counted (ap (λ n. capped (written + n)) (sym part)),
+          capped-sent written (counter_at (written + count)) sent (take count owed) counted (ap (λ n. counter_at (written + n)) (sym part)),
         ),
       ),
       inr refl,
     )
 
 pub stands-broken : (read sent : List ℕ) (script : Machine) (keyspace : Content) → ScriptStands read sent script keyspace
-    → (count : ℕ) → count < length script.owed.items → RunsBy writer (Err (fault.Write (capped (script.written + count)))) read (sent ++ take count script.owed.items)
+    → (count : ℕ) → count < length script.owed.items → RunsBy writer (Err (fault.Write (counter_at (script.written + count)))) read (sent ++ take count script.owed.items)
 stands-broken read sent script keyspace s =
     replies-broken read sent script.owed.items script.written s.lines (script_lines script.held) (all-said read sent script keyspace s) (read-lines read s.lines script.held s.is_read) s.written
 
-total : (sent owed : List ℕ) (written : ℕ) → written ≡ capped (length sent) → capped (written + length owed) ≡ capped (length (sent ++ owed))
-total sent owed written counted = capped-sent written (capped (written + length owed)) sent owed counted refl
+total : (sent owed : List ℕ) (written : ℕ) → written ≡ counter_at (length sent) → counter_at (written + length owed) ≡ counter_at (length (sent ++ owed))
+total sent owed written counted = capped-sent written (counter_at (written + length owed)) sent owed counted refl
 
-module _ (read sent owed : List ℕ) (lines : List (List ℕ)) (written : ℕ) (said : IsScript lines (sent ++ owed)) (counted : written ≡ capped (length sent)) where
+module _ (read sent owed : List ℕ) (lines : List (List ℕ)) (written : ℕ) (said : IsScript lines (sent ++ owed)) (counted : written ≡ counter_at (length sent)) where
   abbrev Ends : Cause → Result ℕ ScriptFault → Type 0
   Ends cause end =
-      RunsBy cause end read (sent ++ owed) × ((count : ℕ) → count < length owed → RunsBy writer (Err (fault.Write (capped (written + count)))) read (sent ++ take count owed))
+      RunsBy cause end read (sent ++ owed) × ((count : ℕ) → count < length owed → RunsBy writer (Err (fault.Write (counter_at (written + count)))) read (sent ++ take count owed))
 
   -- the line in hand is no script line
   pub ends-wrong : (cause : Cause) (number : ℕ) (line behind : List ℕ) → IsInHand read lines line behind
-      → ((rest : Option (List ℕ)) (ended : Bool) → (cause ≡ input → IsAtEnd rest × (ended ≡ true)) → IsReadOut line behind rest ended) → line_of line ≡ None → number ≡ capped (length lines)
-      → Ends cause (Err (fault.Line (capped (number + 1)) (capped (written + length owed))))
+      → ((rest : Option (List ℕ)) (ended : Bool) → (cause ≡ input → IsAtEnd rest × (ended ≡ true)) → IsReadOut line behind rest ended) → line_of line ≡ None → number ≡ counter_at (length lines)
+      → Ends cause (Err (fault.Line (counter_at (number + 1)) (counter_at (written + length owed))))
   ends-wrong cause number line behind hand out wrong numbered = (
     (λ rest ended met. (lines, line, behind, hand, out rest ended met, wrong, omega (arith, numbered), (said, total sent owed written counted)), inl refl),
     replies-broken read sent owed written lines (script_lines (line ++ behind)) said (read-lines read lines (line ++ behind) (hand.0, hand.1)) counted,
   )
 
   -- memory ran out
-  pub ends-memory : (cause : Cause) (line behind : List ℕ) → IsInHand read lines line behind → length behind ≤ piece + 1 → Ends cause (Err (fault.Memory (capped (written + length owed))))
+  pub ends-memory : (cause : Cause) (line behind : List ℕ) → IsInHand read lines line behind → length behind ≤ piece + 1 → Ends cause (Err (fault.Memory (counter_at (written + length owed))))
   ends-memory cause line behind hand few = (
     (λ rest ended met. (lines, line, behind, hand, few, (said, total sent owed written counted)), inl refl),
     replies-broken read sent owed written lines (script_lines (line ++ behind)) said (read-lines read lines (line ++ behind) (hand.0, hand.1)) counted,
   )
 
   -- no more can be read
-  pub ends-read : (line : List ℕ) → IsInHand read lines line [] → Ends reader (Err (fault.Read (capped (written + length owed))))
+  pub ends-read : (line : List ℕ) → IsInHand read lines line [] → Ends reader (Err (fault.Read (counter_at (written + length owed))))
   ends-read line hand = (
     (λ rest ended met. (lines, line, hand, (said, total sent owed written counted)), inr refl),
     replies-broken read sent owed written lines (script_lines (line ++ [])) said (read-lines read lines (line ++ []) (hand.0, hand.1)) counted,
   )
 
   -- all lines are answered
-  pub ends-well : script_lines read ≡ lines → Ends input (Ok (capped (written + length owed)))
+  pub ends-well : script_lines read ≡ lines → Ends input (Ok (counter_at (written + length owed)))
   ends-well all = (
     (λ rest ended met. (subst (λ (ls : List (List ℕ)). IsScript ls (sent ++ owed)) (sym all) said, total sent owed written counted), inr refl),
     replies-broken read sent owed written lines [] said (all ∙ sym (append-nil lines)) counted,

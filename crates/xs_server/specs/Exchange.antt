@@ -42,5 +42,5 @@ is_quit (Some Quit) = true
 is_quit _ = false
 
 -- a QUIT was asked
-abbrev pub quits : List Exchange → Bool
-quits exchanges = list_any (λ exchange. is_quit exchange.asked) exchanges
+abbrev pub has_quit : List Exchange → Bool
+has_quit exchanges = list_any (λ exchange. is_quit exchange.asked) exchanges

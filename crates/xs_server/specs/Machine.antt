@@ -4,7 +4,7 @@ use Rattle.std.specs.Borrow.{Lends, MutBor, Fml, RattleType}
 use Rattle.std.specs.Io.KnownBytes.{IsAtEnd}
 use Rattle.xs_server.specs.declared.machines.machine.Turn.{Turn}
 use Rattle.xs_server.specs.declared.machines.machine.Turn.TheVariants.{Ends}
-use Rattle.xs_devices.specs.Device.{capped}
+use Rattle.xs_devices.specs.Device.{counter_at}
 
 -- why a machine is driven no further
 pub data Cause : Type 0 where
@@ -22,7 +22,7 @@ abbrev pub HasCause : Cause → Option (List ℕ) → Bool → Bool → ℕ → 
 HasCause itself rest ended broken before calls unwritten = Unit {0}
 HasCause input rest ended broken before calls unwritten = IsAtEnd rest × (ended ≡ true)
 HasCause reader rest ended broken before calls unwritten =
-    (broken ≡ true) ⊎ (capped calls ≡ capped (before + reads_limit))
+    (broken ≡ true) ⊎ (counter_at calls ≡ counter_at (before + reads_limit))
 HasCause writer rest ended broken before calls unwritten = unwritten ≡ true
 
 -- after a turn a machine stands, or it has ended

@@ -8,19 +8,19 @@ use Rattle.xs_keys.specs.Content.{Content, IsContent}
 use Rattle.xs_server.specs.declared.script.machine.Script.{Script as Machine}
 use Rattle.xs_server.specs.declared.script.fault.ScriptFault.{ScriptFault}
 use Rattle.xs_server.specs.declared.script.fault.ScriptFault.TheVariants.{Line, Read, Write, Memory}
-use Rattle.xs_devices.specs.Device.{capped}
+use Rattle.xs_devices.specs.Device.{counter_at}
 use Rattle.xs_server.specs.Line.{is_line_end, script_lines, line_of, line_limit}
 use Rattle.xs_server.specs.Machine.{Cause, itself, input, reader, writer}
 use Rattle.xs_server.specs.Script.{Script, IsScript, with_end, AreLines}
 
 -- the replies to these lines are sent, so many bytes
 abbrev pub Sent : List (List ℕ) → List ℕ → ℕ → Type 0
-Sent lines sent written = IsScript lines sent × (written ≡ capped (length sent))
+Sent lines sent written = IsScript lines sent × (written ≡ counter_at (length sent))
 
 -- a prefix of the replies to these lines is sent, so many bytes
 abbrev pub PartSent : List (List ℕ) → List ℕ → ℕ → Type 0
 PartSent lines sent written =
-    (whole rest : List ℕ) × IsScript lines whole × (whole ≡ sent ++ rest) × (written ≡ capped (length sent))
+    (whole rest : List ℕ) × IsScript lines whole × (whole ≡ sent ++ rest) × (written ≡ counter_at (length sent))
 
 -- these whole lines were read, then the line in hand as far as it was looked at, and then what stands behind it
 abbrev pub IsInHand : List ℕ → List (List ℕ) → List ℕ → List ℕ → Type 0
@@ -42,7 +42,7 @@ abbrev pub ScriptEndsBy : ScriptFault → List ℕ → List ℕ → Option (List
 ScriptEndsBy (Line number written) read sent rest ended =
     (lines : List (List ℕ)) × (line behind : List ℕ) × IsInHand read lines line behind
     × IsReadOut line behind rest ended
-    × (line_of line ≡ None) × (number ≡ capped (length lines + 1)) × Sent lines sent written
+    × (line_of line ≡ None) × (number ≡ counter_at (length lines + 1)) × Sent lines sent written
 ScriptEndsBy (Read written) read sent rest ended =
     (lines : List (List ℕ)) × (line : List ℕ) × IsInHand read lines line [] × Sent lines sent written
 ScriptEndsBy (Write written) read sent rest ended =
@@ -72,8 +72,8 @@ pub record ScriptStands (read sent : List ℕ) (script : Machine) (keyspace : Co
   pub content : IsContent keyspace past
   pub is_read : IsRead read lines script.held
   pub few : IsFew script.held
-  pub number : script.number ≡ capped (length lines)
-  pub written : script.written ≡ capped (length sent)
+  pub number : script.number ≡ counter_at (length lines)
+  pub written : script.written ≡ counter_at (length sent)
 
 -- nothing is read, answered or owed
 pub record IsNewScript (script : Machine) : Type 0 where

@@ -8,23 +8,23 @@ use Rattle.xs_resp.specs.declared.read_fault.ProtocolFault.{ProtocolFault}
 use Rattle.xs_resp.specs.ReplyText.{text}
 use Rattle.xs_resp.specs.Grammar.{Spells, FaultIn, IsOpen}
 use Rattle.xs_command.specs.declared.command.Command.{Command}
-use Rattle.xs_command.specs.Read.{reads}
+use Rattle.xs_command.specs.Read.{command_of_words}
 use Rattle.xs_server.specs.declared.connections.ending.Ending.{Ending}
 use Rattle.xs_server.specs.declared.connections.ending.Ending.TheVariants as ending
 use Rattle.xs_server.specs.declared.connections.ending.ServeFault.{ServeFault}
 use Rattle.xs_server.specs.declared.connections.ending.ServeFault.TheVariants as fault
-use Rattle.xs_devices.specs.Device.{capped}
+use Rattle.xs_devices.specs.Device.{counter_at}
 use Rattle.xs_server.specs.Machine.{Cause, itself, input, reader, writer}
-use Rattle.xs_server.specs.Exchange.{Exchange, AreAnswered, texts, is_quit, quits}
+use Rattle.xs_server.specs.Exchange.{Exchange, AreAnswered, texts, is_quit, has_quit}
 
 -- the answers are written, and none of them is to a QUIT
 abbrev pub Written : List Exchange → List ℕ → Type 0
-Written exchanges sent = (quits exchanges ≡ false) × (sent ≡ texts exchanges)
+Written exchanges sent = (has_quit exchanges ≡ false) × (sent ≡ texts exchanges)
 
 -- so many answers are written whole, none of them to a QUIT, and behind them this part of a text
 abbrev pub WrittenTo : List Exchange → List ℕ → List ℕ → ℕ → Type 0
 WrittenTo exchanges part sent replies =
-    (quits exchanges ≡ false) × (sent ≡ texts exchanges ++ part) × (replies ≡ capped (length exchanges))
+    (has_quit exchanges ≡ false) × (sent ≡ texts exchanges ++ part) × (replies ≡ counter_at (length exchanges))
 
 -- a text that lacks some bytes of the whole one
 abbrev pub IsPart : List ℕ → List ℕ → Type 0
@@ -36,9 +36,9 @@ ConnectionEndsBy ending.Closed rest exchanges sent = (rest ≡ []) × Written ex
 ConnectionEndsBy ending.Cut rest exchanges sent = (rest ≢ []) × IsOpen rest × Written exchanges sent
 ConnectionEndsBy ending.Quit rest exchanges sent =
     (before : List Exchange) × (last : Exchange) × (exchanges ≡ before ++ last ∷ [])
-    × (quits before ≡ false) × (is_quit last.asked ≡ true) × (sent ≡ texts exchanges)
+    × (has_quit before ≡ false) × (is_quit last.asked ≡ true) × (sent ≡ texts exchanges)
 ConnectionEndsBy ending.Protocol rest exchanges sent =
-    (wrong : ProtocolFault) × FaultIn rest wrong × (quits exchanges ≡ false)
+    (wrong : ProtocolFault) × FaultIn rest wrong × (has_quit exchanges ≡ false)
     × (sent ≡ texts exchanges ++ text (Error Protocol))
 
 -- a writer failed within the text of the last answer, or within that of the protocol error
@@ -61,7 +61,7 @@ pub record PortFails {P : Type 0} (Fails : P → Command → P → Type 0) (last
   pub command : Command
   pub rest_is : rest ≡ first ++ others
   pub spelled : Spells first words
-  pub reads_as : reads words ≡ Ok command
+  pub reads_as : command_of_words words ≡ Ok command
   pub fails : Fails last command new
 
 -- how a connection ends, the port with it

@@ -6,7 +6,8 @@ use Rattle.xs_stream.specs.declared.add.AddId.{AddId}
 use Rattle.xs_stream.specs.declared.add.AddId.TheVariants.{Auto, AutoSeq, Exact}
 use Rattle.xs_stream.specs.declared.add.AddError.{AddError}
 use Rattle.xs_stream.specs.declared.add.AddError.TheVariants.{Small, Exhausted}
-use Rattle.xs_stream.specs.Id.{is_below, is_same_id, greatest_number, greatest_id, assigned, assigned_above, successor}
+use Rattle.xs_stream.specs.Id.{is_below, is_same_id, greatest_number, greatest_id, id_of_addition, id_of_addition_above}
+use Rattle.xs_stream.specs.Id.{successor}
 
 -- later milliseconds are above
 below-later : (m n s t : ℕ) → m < n → is_below (record { ms = m; seq = s }) (record { ms = n; seq = t }) ≡ true
@@ -32,7 +33,7 @@ successor-above top = by (ltb top.seq greatest_number) refl where
 to_below : (top id given : Id) → ◌≡◌ {A = Result Id AddError} (Ok id) (Ok given) → is_below top id ≡ true → is_below top given ≡ true
 to_below top id given e h = subst (λ x. is_below top x ≡ true) (ok-inj id given e) h
 
-pub assigned_above-above : (now : ℕ) (top : Id) (add : AddId) (given : Id) → assigned_above now top add ≡ Ok given → is_below top given ≡ true
+pub assigned_above-above : (now : ℕ) (top : Id) (add : AddId) (given : Id) → id_of_addition_above now top add ≡ Ok given → is_below top given ≡ true
 assigned_above-above now top Auto given e = by (ltb top.ms now) refl (ok-inj _ _ e) where
   by : (t : Bool) → ltb top.ms now ≡ t → cond t (record { ms = now; seq = 0 }) (successor top) ≡ given → is_below top given ≡ true
   by true f h = subst (λ x. is_below top x ≡ true) h (below-later top.ms now top.seq 0 (grind (arith, nat_tests)))
@@ -51,8 +52,8 @@ assigned_above-above now top (Exact id) given e = by (is_below top id) refl e wh
   by true f h = to_below top id given h f
   by false f h = cc
 
-pub assigned-above : (now : ℕ) (top : Id) (add : AddId) (given : Id) → assigned now top add ≡ Ok given → is_below top given ≡ true
+pub assigned-above : (now : ℕ) (top : Id) (add : AddId) (given : Id) → id_of_addition now top add ≡ Ok given → is_below top given ≡ true
 assigned-above now top add given e = by (is_same_id top greatest_id) e where
-  by : (t : Bool) → cond t (Err Exhausted) (assigned_above now top add) ≡ Ok given → is_below top given ≡ true
+  by : (t : Bool) → cond t (Err Exhausted) (id_of_addition_above now top add) ≡ Ok given → is_below top given ≡ true
   by true h = cc
   by false h = assigned_above-above now top add given h

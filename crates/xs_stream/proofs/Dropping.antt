@@ -11,8 +11,8 @@ use Rattle.xs_stream.specs.declared.id.Id.{Id}
 use Rattle.xs_stream.specs.declared.field.Field.{Field}
 use Rattle.xs_stream.specs.declared.trim.Trim.TheVariants.{MinId}
 use Rattle.xs_stream.specs.Id.{is_below, is_same_id}
-use Rattle.xs_stream.specs.StreamContent.{ids_of, AllAbove, AllUpTo, Ascends, trimmed}
-use Rattle.xs_stream.specs.Blocks.{listed, AreFiled}
+use Rattle.xs_stream.specs.StreamContent.{ids_of, AllAbove, AllUpTo, Ascends, entries_after_trim}
+use Rattle.xs_stream.specs.Blocks.{entries_of_blocks, AreFiled}
 use Rattle.xs_stream.proofs.Order.{is_same_id-refl, up_to-below, not_below-above}
 
 abbrev Entries : Type 0
@@ -42,13 +42,13 @@ drop-past (suc n) (x ∷ xs) ys h =
     drop-past n xs ys (omega arith) ∙ sym (ap (λ k. drop k ys) less)
 
 -- a block that goes whole
-pub drop-popped : (count : ℕ) (es : Entries) (bs : Blocks) (newest : Entries) → length es ≤ count → drop (count - length es) (listed bs ++ newest) ≡ drop count ((es ++ listed bs) ++ newest)
-drop-popped count es bs newest h = sym (ap (drop count) (append_assoc es (listed bs) newest) ∙ drop-past count es (listed bs ++ newest) h)
+pub drop-popped : (count : ℕ) (es : Entries) (bs : Blocks) (newest : Entries) → length es ≤ count → drop (count - length es) (entries_of_blocks bs ++ newest) ≡ drop count ((es ++ entries_of_blocks bs) ++ newest)
+drop-popped count es bs newest h = sym (ap (drop count) (append_assoc es (entries_of_blocks bs) newest) ∙ drop-past count es (entries_of_blocks bs ++ newest) h)
 
 -- a block of which some entries go
-pub drop-within : (count : ℕ) (es : Entries) (bs : Blocks) (newest : Entries) → count ≤ length es → (drop count es ++ listed bs) ++ newest ≡ drop count ((es ++ listed bs) ++ newest)
+pub drop-within : (count : ℕ) (es : Entries) (bs : Blocks) (newest : Entries) → count ≤ length es → (drop count es ++ entries_of_blocks bs) ++ newest ≡ drop count ((es ++ entries_of_blocks bs) ++ newest)
 drop-within count es bs newest h =
-    append_assoc (drop count es) (listed bs) newest ∙ sym (ap (drop count) (append_assoc es (listed bs) newest) ∙ drop-append-le count es (listed bs ++ newest) h)
+    append_assoc (drop count es) (entries_of_blocks bs) newest ∙ sym (ap (drop count) (append_assoc es (entries_of_blocks bs) newest) ∙ drop-append-le count es (entries_of_blocks bs ++ newest) h)
 
 up_to-drop : (x : Id) (n : ℕ) (es : Entries) → AllUpTo x (ids_of es) → AllUpTo x (ids_of (drop n es))
 up_to-drop x zero es up = up
@@ -75,9 +75,9 @@ module _ (older : Blocks) (under : Id) (es : Entries) (bs : Blocks) (is : older 
   pub lent-first : (fs : Entries) → Some fs ≡ lookup (is_same_id under) older → fs ≡ es
   lent-first fs e = let same : ◌≡◌ {A = Option Entries} (Some fs) (Some es) = e ∙ found-first in cc
 
-  pub first-counted : (newest : Entries) → length es ≤ length (listed older ++ newest)
+  pub first-counted : (newest : Entries) → length es ≤ length (entries_of_blocks older ++ newest)
   first-counted newest =
-      omega (arith, ap (λ cs. length (listed cs ++ newest)) is, length-append (es ++ listed bs) newest, length-append es (listed bs))
+      omega (arith, ap (λ cs. length (entries_of_blocks cs ++ newest)) is, length-append (es ++ entries_of_blocks bs) newest, length-append es (entries_of_blocks bs))
 
   pub never-absent : ◌≡◌ {A = Option Entries} None (lookup (is_same_id under) older) → ⊥
   never-absent e = let never : ◌≡◌ {A = Option Entries} None (Some es) = e ∙ found-first in cc
@@ -93,26 +93,26 @@ none_kept low under (e ∷ es) up h = rw (up_to-below under e.0 low up.0 h) (non
 
 -- a trim keeps none of a block that is filed below its id
 pub trimmed-popped : (low under : Id) (es : Entries) (bs : Blocks) (newest : Entries) → AllUpTo under (ids_of es) → is_below under low ≡ true
-    → trimmed (MinId low) (listed bs ++ newest) ≡ trimmed (MinId low) ((es ++ listed bs) ++ newest)
+    → entries_after_trim (MinId low) (entries_of_blocks bs ++ newest) ≡ entries_after_trim (MinId low) ((es ++ entries_of_blocks bs) ++ newest)
 trimmed-popped low under es bs newest up h =
-    sym (ap (filter (λ (e : Id × List Field). not (is_below e.0 low))) (append_assoc es (listed bs) newest) ∙ filter-append (λ (e : Id × List Field). not (is_below e.0 low)) es (listed bs ++ newest)
-    ∙ ap (λ rest. rest ++ filter (λ (e : Id × List Field). not (is_below e.0 low)) (listed bs ++ newest)) (none_kept low under es up h))
+    sym (ap (filter (λ (e : Id × List Field). not (is_below e.0 low))) (append_assoc es (entries_of_blocks bs) newest) ∙ filter-append (λ (e : Id × List Field). not (is_below e.0 low)) es (entries_of_blocks bs ++ newest)
+    ∙ ap (λ rest. rest ++ filter (λ (e : Id × List Field). not (is_below e.0 low)) (entries_of_blocks bs ++ newest)) (none_kept low under es up h))
 
 ascends-behind : (es fs : Entries) → Ascends (ids_of (es ++ fs)) → Ascends (ids_of fs)
 ascends-behind [] fs a = a
 ascends-behind (e ∷ es) fs a = ascends-behind es fs a.1
 
-pub ascends-popped : (es : Entries) (bs : Blocks) (newest : Entries) → Ascends (ids_of ((es ++ listed bs) ++ newest)) → Ascends (ids_of (listed bs ++ newest))
-ascends-popped es bs newest a = ascends-behind es (listed bs ++ newest) (subst (λ (fs : Entries). Ascends (ids_of fs)) (append_assoc es (listed bs) newest) a)
+pub ascends-popped : (es : Entries) (bs : Blocks) (newest : Entries) → Ascends (ids_of ((es ++ entries_of_blocks bs) ++ newest)) → Ascends (ids_of (entries_of_blocks bs ++ newest))
+ascends-popped es bs newest a = ascends-behind es (entries_of_blocks bs ++ newest) (subst (λ (fs : Entries). Ascends (ids_of fs)) (append_assoc es (entries_of_blocks bs) newest) a)
 
 none_later : (low under : Id) (es : Entries) → AllAbove under (ids_of es) → is_below under low ≡ false → filter (λ e. is_below e.0 low) es ≡ []
 none_later low under [] a h = refl
 none_later low under (e ∷ es) a h = rw (not_below-above under low e.0 h a.0) (none_later low under es a.1 h)
 
 -- where the first block isn't filed below an id, only its own entries may be below it
-pub counted-first : (low under : Id) (es : Entries) (bs : Blocks) (newest : Entries) → AllAbove under (ids_of (listed bs ++ newest)) → is_below under low ≡ false
-    → length (filter (λ e. is_below e.0 low) es) ≡ length (filter (λ e. is_below e.0 low) ((es ++ listed bs) ++ newest))
+pub counted-first : (low under : Id) (es : Entries) (bs : Blocks) (newest : Entries) → AllAbove under (ids_of (entries_of_blocks bs ++ newest)) → is_below under low ≡ false
+    → length (filter (λ e. is_below e.0 low) es) ≡ length (filter (λ e. is_below e.0 low) ((es ++ entries_of_blocks bs) ++ newest))
 counted-first low under es bs newest above h =
-    sym (ap (λ (fs : Entries). length (filter (λ e. is_below e.0 low) fs)) (append_assoc es (listed bs) newest)
-    ∙ ap length (filter-append (λ (e : Id × List Field). is_below e.0 low) es (listed bs ++ newest) ∙ ap (λ rest. filter (λ e. is_below e.0 low) es ++ rest) (none_later low under (listed bs ++ newest) above h)
+    sym (ap (λ (fs : Entries). length (filter (λ e. is_below e.0 low) fs)) (append_assoc es (entries_of_blocks bs) newest)
+    ∙ ap length (filter-append (λ (e : Id × List Field). is_below e.0 low) es (entries_of_blocks bs ++ newest) ∙ ap (λ rest. filter (λ e. is_below e.0 low) es ++ rest) (none_later low under (entries_of_blocks bs ++ newest) above h)
     ∙ append-nil (filter (λ e. is_below e.0 low) es)))

@@ -16,7 +16,7 @@ use Rattle.xs_stream.specs.declared.id.Id.{Id}
 use Rattle.xs_stream.specs.declared.field.Field.{Field}
 use Rattle.xs_stream.specs.Id.{id_cmp, is_below, is_same_id}
 use Rattle.xs_stream.specs.StreamContent.{ids_of, AllAbove, AllUpTo, fields_at}
-use Rattle.xs_stream.specs.Blocks.{listed, AreFiled}
+use Rattle.xs_stream.specs.Blocks.{entries_of_blocks, AreFiled}
 use Rattle.xs_stream.proofs.Order.{is_same_id-eq, is_same_id-refl, is_same_id-symm, below-not_same, below-irrefl}
 use Rattle.xs_stream.proofs.Order.{up_to-below}
 use Rattle.xs_stream.proofs.Order.{above-greater, below-not_below, le-not_below}
@@ -96,13 +96,13 @@ other_id id under other h k = by (is_same_id under other) refl where
 -- ---- the block of an id
 
 -- an entry is in the first block that is filed under its id or above it, or else among the newest
-pub fields-block : (id : Id) (bs : Blocks) (newest : Entries) → AreFiled bs newest → fields_at (listed bs ++ newest) id ≡ fields_at (unwrap_or (lookup (λ under. not (is_below under id)) bs) newest) id
+pub fields-block : (id : Id) (bs : Blocks) (newest : Entries) → AreFiled bs newest → fields_at (entries_of_blocks bs ++ newest) id ≡ fields_at (unwrap_or (lookup (λ under. not (is_below under id)) bs) newest) id
 fields-block id [] newest filed = refl
 fields-block id (b ∷ bs) newest filed = rw append_assoc (by (fields-block id bs newest filed.1) (is_below b.0 id) refl) where
-  by : fields_at (listed bs ++ newest) id ≡ fields_at (unwrap_or (lookup (λ under. not (is_below under id)) bs) newest) id
-      → (t : Bool) → is_below b.0 id ≡ t → fields_at (b.1 ++ (listed bs ++ newest)) id ≡ fields_at (unwrap_or (lookup (λ under. not (is_below under id)) (b ∷ bs)) newest) id
-  by rest true is = rw is (lookup-skip (is_same_id id) b.1 (listed bs ++ newest) (none_up_to id b.0 b.1 filed.0.up_to_id is) ∙ rest)
-  by rest false is = rw is (lookup-within (is_same_id id) b.1 (listed bs ++ newest) (none_above id b.0 (listed bs ++ newest) filed.0.later_above is))
+  by : fields_at (entries_of_blocks bs ++ newest) id ≡ fields_at (unwrap_or (lookup (λ under. not (is_below under id)) bs) newest) id
+      → (t : Bool) → is_below b.0 id ≡ t → fields_at (b.1 ++ (entries_of_blocks bs ++ newest)) id ≡ fields_at (unwrap_or (lookup (λ under. not (is_below under id)) (b ∷ bs)) newest) id
+  by rest true is = rw is (lookup-skip (is_same_id id) b.1 (entries_of_blocks bs ++ newest) (none_up_to id b.0 b.1 filed.0.up_to_id is) ∙ rest)
+  by rest false is = rw is (lookup-within (is_same_id id) b.1 (entries_of_blocks bs ++ newest) (none_above id b.0 (entries_of_blocks bs ++ newest) filed.0.later_above is))
 
 -- ---- what a walk through the blocks meets first
 
@@ -182,10 +182,10 @@ module _ (test : Id → Bool) where
     by later false is = later (rw is at h)
 
 -- the first of all entries is that of the first block
-pub first-entry : (bs : Blocks) (b : Id × Entries) (newest : Entries) → AreFiled bs newest → slice_get bs 0 ≡ Some b → slice_get (listed bs ++ newest) 0 ≡ slice_get b.1 0
+pub first-entry : (bs : Blocks) (b : Id × Entries) (newest : Entries) → AreFiled bs newest → slice_get bs 0 ≡ Some b → slice_get (entries_of_blocks bs ++ newest) 0 ≡ slice_get b.1 0
 first-entry [] b newest filed h = let no = h in cc
 first-entry (c ∷ cs) b newest filed h = by c.1 refl filed.0.has_entries where
-  by : (es : Entries) → c.1 ≡ es → 0 < length c.1 → slice_get ((c.1 ++ listed cs) ++ newest) 0 ≡ slice_get b.1 0
+  by : (es : Entries) → c.1 ≡ es → 0 < length c.1 → slice_get ((c.1 ++ entries_of_blocks cs) ++ newest) 0 ≡ slice_get b.1 0
   by [] is some = absurd (omega (arith, ap length is))
   by (e ∷ es) is some = let same : c ≡ b = cc in let own : b.1 ≡ e ∷ es = sym (ap (λ (d : Id × Entries). d.1) same) ∙ is in rw (is, own) refl
 
@@ -275,40 +275,40 @@ module _ (id : Id) where
 
   -- as many are gone as from the block
   pub length-without : (bs : Blocks) (under : Id) (es : Entries) → lookup_entry (λ k. not (is_below k id)) bs ≡ Some (under, es)
-      → length (listed (blocks_without id bs)) + length es ≡ length (listed bs) + length (remove_entry (is_same_id id) es)
+      → length (entries_of_blocks (blocks_without id bs)) + length es ≡ length (entries_of_blocks bs) + length (remove_entry (is_same_id id) es)
   length-without [] under es h = let no = h in absurd (cc)
   length-without (b ∷ bs) under es h = by (length-without bs under es) (is_below b.0 id) refl where
-    within : (left : Entries) → length (listed (elim left as (λ fs. Blocks) [ [] ↦ bs | (f ∷ fs) ↦ (b.0, f ∷ fs) ∷ bs ])) ≡ length left + length (listed bs)
+    within : (left : Entries) → length (entries_of_blocks (elim left as (λ fs. Blocks) [ [] ↦ bs | (f ∷ fs) ↦ (b.0, f ∷ fs) ∷ bs ])) ≡ length left + length (entries_of_blocks bs)
     within [] = omega arith
-    within (f ∷ fs) = length-append (f ∷ fs) (listed bs)
+    within (f ∷ fs) = length-append (f ∷ fs) (entries_of_blocks bs)
 
-    by : (lookup_entry (λ k. not (is_below k id)) bs ≡ Some (under, es) → length (listed (blocks_without id bs)) + length es ≡ length (listed bs) + length (remove_entry (is_same_id id) es))
-        → (t : Bool) → is_below b.0 id ≡ t → length (listed (blocks_without id (b ∷ bs))) + length es ≡ length (b.1 ++ listed bs) + length (remove_entry (is_same_id id) es)
+    by : (lookup_entry (λ k. not (is_below k id)) bs ≡ Some (under, es) → length (entries_of_blocks (blocks_without id bs)) + length es ≡ length (entries_of_blocks bs) + length (remove_entry (is_same_id id) es))
+        → (t : Bool) → is_below b.0 id ≡ t → length (entries_of_blocks (blocks_without id (b ∷ bs))) + length es ≡ length (b.1 ++ entries_of_blocks bs) + length (remove_entry (is_same_id id) es)
     by rest true is =
         let later = rest (rw is at h) in
-        rw is (omega (arith, length-append b.1 (listed (blocks_without id bs)), length-append b.1 (listed bs), later))
+        rw is (omega (arith, length-append b.1 (entries_of_blocks (blocks_without id bs)), length-append b.1 (entries_of_blocks bs), later))
     by rest false is =
         let first : Some b ≡ Some (under, es) = rw is at h in
         let same : b ≡ (under, es) = cc in
         let own : b.1 ≡ es = ap (λ (c : Id × Entries). c.1) same in
-        rw is (omega (arith, within (remove_entry (is_same_id id) b.1), ap (λ (fs : Entries). length (remove_entry (is_same_id id) fs)) own, ap length own, length-append b.1 (listed bs)))
+        rw is (omega (arith, within (remove_entry (is_same_id id) b.1), ap (λ (fs : Entries). length (remove_entry (is_same_id id) fs)) own, ap length own, length-append b.1 (entries_of_blocks bs)))
 
   -- the entries are those without that one
   pub listed-without : (bs : Blocks) (newest : Entries) (b : Id × Entries) → lookup_entry (λ k. not (is_below k id)) bs ≡ Some b → AreFiled bs newest
-      → listed (blocks_without id bs) ++ newest ≡ remove_entry (is_same_id id) (listed bs ++ newest)
+      → entries_of_blocks (blocks_without id bs) ++ newest ≡ remove_entry (is_same_id id) (entries_of_blocks bs ++ newest)
   listed-without [] newest b h filed = let no = h in cc
   listed-without (c ∷ cs) newest b h filed = rw append_assoc (by (λ k. listed-without cs newest b k filed.1) (is_below c.0 id) refl) where
-    within : (left : Entries) → remove_entry (is_same_id id) c.1 ≡ left → listed (elim left as (λ es. Blocks) [ [] ↦ cs | (e ∷ es) ↦ (c.0, e ∷ es) ∷ cs ]) ++ newest ≡ left ++ (listed cs ++ newest)
+    within : (left : Entries) → remove_entry (is_same_id id) c.1 ≡ left → entries_of_blocks (elim left as (λ es. Blocks) [ [] ↦ cs | (e ∷ es) ↦ (c.0, e ∷ es) ∷ cs ]) ++ newest ≡ left ++ (entries_of_blocks cs ++ newest)
     within [] is = refl
-    within (e ∷ es) is = append_assoc (e ∷ es) (listed cs) newest
+    within (e ∷ es) is = append_assoc (e ∷ es) (entries_of_blocks cs) newest
 
-    by : (lookup_entry (λ k. not (is_below k id)) cs ≡ Some b → listed (blocks_without id cs) ++ newest ≡ remove_entry (is_same_id id) (listed cs ++ newest))
-        → (t : Bool) → is_below c.0 id ≡ t → listed (blocks_without id (c ∷ cs)) ++ newest ≡ remove_entry (is_same_id id) (c.1 ++ (listed cs ++ newest))
+    by : (lookup_entry (λ k. not (is_below k id)) cs ≡ Some b → entries_of_blocks (blocks_without id cs) ++ newest ≡ remove_entry (is_same_id id) (entries_of_blocks cs ++ newest))
+        → (t : Bool) → is_below c.0 id ≡ t → entries_of_blocks (blocks_without id (c ∷ cs)) ++ newest ≡ remove_entry (is_same_id id) (c.1 ++ (entries_of_blocks cs ++ newest))
     by rest true is =
-        let skip = remove-skip (is_same_id id) c.1 (listed cs ++ newest) (none_up_to id c.0 c.1 filed.0.up_to_id is) in
-        rw is (append_assoc c.1 (listed (blocks_without id cs)) newest ∙ ap (λ others. c.1 ++ others) (rest (rw is at h)) ∙ sym skip)
+        let skip = remove-skip (is_same_id id) c.1 (entries_of_blocks cs ++ newest) (none_up_to id c.0 c.1 filed.0.up_to_id is) in
+        rw is (append_assoc c.1 (entries_of_blocks (blocks_without id cs)) newest ∙ ap (λ others. c.1 ++ others) (rest (rw is at h)) ∙ sym skip)
     by rest false is =
-        let here = remove-within (is_same_id id) c.1 (listed cs ++ newest) (none_above id c.0 (listed cs ++ newest) filed.0.later_above is) in
+        let here = remove-within (is_same_id id) c.1 (entries_of_blocks cs ++ newest) (none_above id c.0 (entries_of_blocks cs ++ newest) filed.0.later_above is) in
         rw is (within (remove_entry (is_same_id id) c.1) refl ∙ sym here)
 
   pub filed-without : (bs : Blocks) (newest : Entries) (b : Id × Entries) → lookup_entry (λ k. not (is_below k id)) bs ≡ Some b → AreFiled bs newest → AreFiled (blocks_without id bs) newest
@@ -326,13 +326,13 @@ module _ (id : Id) where
     )
 
     by : (lookup_entry (λ k. not (is_below k id)) cs ≡ Some b → AreFiled (blocks_without id cs) newest)
-        → (lookup_entry (λ k. not (is_below k id)) cs ≡ Some b → listed (blocks_without id cs) ++ newest ≡ remove_entry (is_same_id id) (listed cs ++ newest))
+        → (lookup_entry (λ k. not (is_below k id)) cs ≡ Some b → entries_of_blocks (blocks_without id cs) ++ newest ≡ remove_entry (is_same_id id) (entries_of_blocks cs ++ newest))
         → (t : Bool) → is_below c.0 id ≡ t → AreFiled (blocks_without id (c ∷ cs)) newest
     by rest list true is = rw is (
       record {
         has_entries = filed.0.has_entries;
         up_to_id = filed.0.up_to_id;
-        later_above = subst (λ es. AllAbove c.0 (ids_of es)) (sym (list (rw is at h))) (above-remove (is_same_id id) c.0 (listed cs ++ newest) filed.0.later_above);
+        later_above = subst (λ es. AllAbove c.0 (ids_of es)) (sym (list (rw is at h))) (above-remove (is_same_id id) c.0 (entries_of_blocks cs ++ newest) filed.0.later_above);
       },
       rest (rw is at h),
     )
@@ -352,27 +352,27 @@ module _ (id : Id) where
 
   -- where no block has the entry it may be among the newest
   pub listed-newest : (bs : Blocks) (newest : Entries) → lookup_entry (λ k. not (is_below k id)) bs ≡ None → AreFiled bs newest
-      → listed bs ++ remove_entry (is_same_id id) newest ≡ remove_entry (is_same_id id) (listed bs ++ newest)
+      → entries_of_blocks bs ++ remove_entry (is_same_id id) newest ≡ remove_entry (is_same_id id) (entries_of_blocks bs ++ newest)
   listed-newest [] newest h filed = refl
   listed-newest (c ∷ cs) newest h filed =
-      append_assoc c.1 (listed cs) (remove_entry (is_same_id id) newest) ∙ by (λ k. listed-newest cs newest k filed.1) (is_below c.0 id) refl
-      ∙ sym (ap (remove_entry (is_same_id id)) (append_assoc c.1 (listed cs) newest)) where
-        by : (lookup_entry (λ k. not (is_below k id)) cs ≡ None → listed cs ++ remove_entry (is_same_id id) newest ≡ remove_entry (is_same_id id) (listed cs ++ newest))
-            → (t : Bool) → is_below c.0 id ≡ t → c.1 ++ (listed cs ++ remove_entry (is_same_id id) newest) ≡ remove_entry (is_same_id id) (c.1 ++ (listed cs ++ newest))
-        by rest true is = ap (λ others. c.1 ++ others) (rest (rw is at h)) ∙ sym (remove-skip (is_same_id id) c.1 (listed cs ++ newest) (none_up_to id c.0 c.1 filed.0.up_to_id is))
+      append_assoc c.1 (entries_of_blocks cs) (remove_entry (is_same_id id) newest) ∙ by (λ k. listed-newest cs newest k filed.1) (is_below c.0 id) refl
+      ∙ sym (ap (remove_entry (is_same_id id)) (append_assoc c.1 (entries_of_blocks cs) newest)) where
+        by : (lookup_entry (λ k. not (is_below k id)) cs ≡ None → entries_of_blocks cs ++ remove_entry (is_same_id id) newest ≡ remove_entry (is_same_id id) (entries_of_blocks cs ++ newest))
+            → (t : Bool) → is_below c.0 id ≡ t → c.1 ++ (entries_of_blocks cs ++ remove_entry (is_same_id id) newest) ≡ remove_entry (is_same_id id) (c.1 ++ (entries_of_blocks cs ++ newest))
+        by rest true is = ap (λ others. c.1 ++ others) (rest (rw is at h)) ∙ sym (remove-skip (is_same_id id) c.1 (entries_of_blocks cs ++ newest) (none_up_to id c.0 c.1 filed.0.up_to_id is))
         by rest false is = let no = rw is at h in cc
 
   pub filed-newest : (bs : Blocks) (newest : Entries) → lookup_entry (λ k. not (is_below k id)) bs ≡ None → AreFiled bs newest → AreFiled bs (remove_entry (is_same_id id) newest)
   filed-newest [] newest h filed = tt
   filed-newest (c ∷ cs) newest h filed = by (λ k. filed-newest cs newest k filed.1) (λ k. listed-newest cs newest k filed.1) (is_below c.0 id) refl where
     by : (lookup_entry (λ k. not (is_below k id)) cs ≡ None → AreFiled cs (remove_entry (is_same_id id) newest))
-        → (lookup_entry (λ k. not (is_below k id)) cs ≡ None → listed cs ++ remove_entry (is_same_id id) newest ≡ remove_entry (is_same_id id) (listed cs ++ newest))
+        → (lookup_entry (λ k. not (is_below k id)) cs ≡ None → entries_of_blocks cs ++ remove_entry (is_same_id id) newest ≡ remove_entry (is_same_id id) (entries_of_blocks cs ++ newest))
         → (t : Bool) → is_below c.0 id ≡ t → AreFiled (c ∷ cs) (remove_entry (is_same_id id) newest)
     by rest list true is = (
       record {
         has_entries = filed.0.has_entries;
         up_to_id = filed.0.up_to_id;
-        later_above = subst (λ es. AllAbove c.0 (ids_of es)) (sym (list (rw is at h))) (above-remove (is_same_id id) c.0 (listed cs ++ newest) filed.0.later_above);
+        later_above = subst (λ es. AllAbove c.0 (ids_of es)) (sym (list (rw is at h))) (above-remove (is_same_id id) c.0 (entries_of_blocks cs ++ newest) filed.0.later_above);
       },
       rest (rw is at h),
     )
@@ -393,20 +393,20 @@ up_to-behind x [] fs a = a
 up_to-behind x (e ∷ es) fs a = up_to-behind x es fs a.1
 
 -- a block that is filed under the top goes behind the others
-pub insert-newest : (top : Id) (bs : Blocks) (newest : Entries) → AreFiled bs newest → AllUpTo top (ids_of (listed bs ++ newest)) → (length newest ≡ 0 → ⊥) → insert_entry id_cmp bs top newest ≡ bs ++ (top, newest) ∷ []
+pub insert-newest : (top : Id) (bs : Blocks) (newest : Entries) → AreFiled bs newest → AllUpTo top (ids_of (entries_of_blocks bs ++ newest)) → (length newest ≡ 0 → ⊥) → insert_entry id_cmp bs top newest ≡ bs ++ (top, newest) ∷ []
 insert-newest top bs [] filed up some = absurd (some refl)
 insert-newest top bs (e ∷ es) filed up some = by bs filed up where
-  by : (cs : Blocks) → AreFiled cs (e ∷ es) → AllUpTo top (ids_of (listed cs ++ e ∷ es)) → insert_entry id_cmp cs top (e ∷ es) ≡ cs ++ (top, e ∷ es) ∷ []
+  by : (cs : Blocks) → AreFiled cs (e ∷ es) → AllUpTo top (ids_of (entries_of_blocks cs ++ e ∷ es)) → insert_entry id_cmp cs top (e ∷ es) ≡ cs ++ (top, e ∷ es) ∷ []
   by [] filed up = refl
   by (c ∷ cs) filed up =
-      let under : is_below c.0 top ≡ true = below-not_below c.0 e.0 top (above-later c.0 (listed cs) e es filed.0.later_above) (up_to-later top (c.1 ++ listed cs) e es up) in
-      rw (above-greater c.0 top under) (ap (λ rest. c ∷ rest) (by cs filed.1 (up_to-behind top c.1 (listed cs ++ e ∷ es) (rw append_assoc at up))))
+      let under : is_below c.0 top ≡ true = below-not_below c.0 e.0 top (above-later c.0 (entries_of_blocks cs) e es filed.0.later_above) (up_to-later top (c.1 ++ entries_of_blocks cs) e es up) in
+      rw (above-greater c.0 top under) (ap (λ rest. c ∷ rest) (by cs filed.1 (up_to-behind top c.1 (entries_of_blocks cs ++ e ∷ es) (rw append_assoc at up))))
 
-pub listed-filed : (top : Id) (bs : Blocks) (newest : Entries) → listed (bs ++ (top, newest) ∷ []) ++ [] ≡ listed bs ++ newest
+pub listed-filed : (top : Id) (bs : Blocks) (newest : Entries) → entries_of_blocks (bs ++ (top, newest) ∷ []) ++ [] ≡ entries_of_blocks bs ++ newest
 listed-filed top [] newest = append-nil (newest ++ []) ∙ append-nil newest
-listed-filed top (b ∷ bs) newest = append_assoc b.1 (listed (bs ++ (top, newest) ∷ [])) [] ∙ ap (λ rest. b.1 ++ rest) (listed-filed top bs newest) ∙ sym (append_assoc b.1 (listed bs) newest)
+listed-filed top (b ∷ bs) newest = append_assoc b.1 (entries_of_blocks (bs ++ (top, newest) ∷ [])) [] ∙ ap (λ rest. b.1 ++ rest) (listed-filed top bs newest) ∙ sym (append_assoc b.1 (entries_of_blocks bs) newest)
 
-pub filed-filed : (top : Id) (bs : Blocks) (newest : Entries) → AreFiled bs newest → AllUpTo top (ids_of (listed bs ++ newest)) → (length newest ≡ 0 → ⊥) → AreFiled (bs ++ (top, newest) ∷ []) []
+pub filed-filed : (top : Id) (bs : Blocks) (newest : Entries) → AreFiled bs newest → AllUpTo top (ids_of (entries_of_blocks bs ++ newest)) → (length newest ≡ 0 → ⊥) → AreFiled (bs ++ (top, newest) ∷ []) []
 filed-filed top [] newest filed up some = (record { has_entries = some_of newest some; up_to_id = up; later_above = tt }, tt) where
   some_of : (es : Entries) → (length es ≡ 0 → ⊥) → 0 < length es
   some_of es h = grind arith
@@ -416,7 +416,7 @@ filed-filed top (b ∷ bs) newest filed up some = (
     up_to_id = filed.0.up_to_id;
     later_above = subst (λ es. AllAbove b.0 (ids_of es)) (sym (listed-filed top bs newest)) filed.0.later_above;
   },
-  filed-filed top bs newest filed.1 (up_to-behind top b.1 (listed bs ++ newest) (rw append_assoc at up)) some,
+  filed-filed top bs newest filed.1 (up_to-behind top b.1 (entries_of_blocks bs ++ newest) (rw append_assoc at up)) some,
 )
 
 -- what is filed under the top isn't above it
@@ -428,12 +428,12 @@ keys-filed top (b ∷ bs) newest up = (up.0, keys-filed top bs newest up.1)
 pub filed-push : (top id : Id) (fields : List Field) (bs : Blocks) (newest : Entries) → AreFiled bs newest → AllUpTo top (keys_of bs) → is_below top id ≡ true → AreFiled bs (newest ++ (id, fields) ∷ [])
 filed-push top id fields [] newest filed up h = tt
 filed-push top id fields (b ∷ bs) newest filed up h =
-    let ids : ids_of (listed bs ++ (newest ++ (id, fields) ∷ [])) ≡ ids_of (listed bs ++ newest) ++ id ∷ [] =
-    ap ids_of (sym (append_assoc (listed bs) newest ((id, fields) ∷ []))) ∙ ids_of-append (listed bs ++ newest) ((id, fields) ∷ []) in (
+    let ids : ids_of (entries_of_blocks bs ++ (newest ++ (id, fields) ∷ [])) ≡ ids_of (entries_of_blocks bs ++ newest) ++ id ∷ [] =
+    ap ids_of (sym (append_assoc (entries_of_blocks bs) newest ((id, fields) ∷ []))) ∙ ids_of-append (entries_of_blocks bs ++ newest) ((id, fields) ∷ []) in (
       record {
         has_entries = filed.0.has_entries;
         up_to_id = filed.0.up_to_id;
-        later_above = subst (AllAbove b.0) (sym ids) (above-push b.0 (ids_of (listed bs ++ newest)) id filed.0.later_above (up_to-below top b.0 id up.0 h));
+        later_above = subst (AllAbove b.0) (sym ids) (above-push b.0 (ids_of (entries_of_blocks bs ++ newest)) id filed.0.later_above (up_to-below top b.0 id up.0 h));
       },
       filed-push top id fields bs newest filed.1 up.1 h,
     )

@@ -14,7 +14,7 @@ use Rattle.std.specs.BTreeMap.Range.{range_contains}
 use Rattle.std.specs.declared.ops.Bound.TheVariants.{Included}
 use Rattle.xs_stream.specs.declared.range.Range.{Range}
 use Rattle.xs_stream.specs.StreamContent.{is_within, count_above, StreamState, ids_of, AllAbove, Ascends, AllUpTo}
-use Rattle.xs_stream.specs.StreamContent.{without, trimmed, limited}
+use Rattle.xs_stream.specs.StreamContent.{without, entries_after_trim, up_to_limit}
 use Rattle.xs_stream.specs.declared.id.Id.{Id}
 use Rattle.xs_stream.specs.declared.field.Field.{Field}
 use Rattle.xs_stream.specs.declared.trim.Trim.TheVariants.{MaxLen, MinId}
@@ -145,10 +145,10 @@ none_counted low x [] h a = refl
 none_counted low x (e ∷ es) h a = rw (not_below-above x low e.0 h a.0) (none_counted low x es h a.1)
 
 -- MINID drops as many from the front as there are below it
-pub trimmed-min_id : (low : Id) (es : List (Id × List Field)) → Ascends (ids_of es) → trimmed (MinId low) es ≡ drop (length (filter (λ e. is_below e.0 low) es)) es
+pub trimmed-min_id : (low : Id) (es : List (Id × List Field)) → Ascends (ids_of es) → entries_after_trim (MinId low) es ≡ drop (length (filter (λ e. is_below e.0 low) es)) es
 trimmed-min_id low [] a = refl
 trimmed-min_id low (e ∷ es) a = by (trimmed-min_id low es a.1) (is_below e.0 low) refl where
-  by : trimmed (MinId low) es ≡ drop (length (filter (λ f. is_below f.0 low) es)) es → (t : Bool) → is_below e.0 low ≡ t → cond (not t) (e ∷ trimmed (MinId low) es) (trimmed (MinId low) es) ≡ drop (length (cond t (e ∷ filter (λ f. is_below f.0 low) es) (filter (λ f. is_below f.0 low) es))) (e ∷ es)
+  by : entries_after_trim (MinId low) es ≡ drop (length (filter (λ f. is_below f.0 low) es)) es → (t : Bool) → is_below e.0 low ≡ t → cond (not t) (e ∷ entries_after_trim (MinId low) es) (entries_after_trim (MinId low) es) ≡ drop (length (cond t (e ∷ filter (λ f. is_below f.0 low) es) (filter (λ f. is_below f.0 low) es))) (e ∷ es)
   by rest true h = rest
   by rest false h = rw (none_counted low e.0 es h a.0) (ap (λ rest. e ∷ rest) (none_below low e.0 es h a.0))
 
@@ -172,7 +172,7 @@ keep_later n e all (f ∷ fs) a =
     rw (below-not_back e.0 f.0 a.0) (ap (λ rest. cond (not (leb n (count_above f.0 (ids_of all)))) (f ∷ rest) rest) (keep_later n e all fs a.1))
 
 -- MAXLEN drops from the front what is too many
-pub trimmed-max_len : (n : ℕ) (es : List (Id × List Field)) → Ascends (ids_of es) → trimmed (MaxLen n) es ≡ drop (length es - n) es
+pub trimmed-max_len : (n : ℕ) (es : List (Id × List Field)) → Ascends (ids_of es) → entries_after_trim (MaxLen n) es ≡ drop (length es - n) es
 trimmed-max_len n [] a = sym (drop-nil (0 - n))
 trimmed-max_len n (e ∷ es) a = rw (count_above-first e es a.0, keep_later n e es es a.0) (by (trimmed-max_len n es a.1) (leb n (length es)) refl) where
   by : filter (λ f. not (leb n (count_above f.0 (ids_of es)))) es ≡ drop (length es - n) es → (t : Bool) → leb n (length es) ≡ t → cond (not t) (e ∷ filter (λ f. not (leb n (count_above f.0 (ids_of es)))) es) (filter (λ f. not (leb n (count_above f.0 (ids_of es)))) es) ≡ drop (suc (length es) - n) (e ∷ es)
@@ -234,7 +234,7 @@ none-first [] h = refl
 none-first (e ∷ es) h = let no = h in cc
 
 -- where the first isn't below low a trim to it keeps all
-pub trimmed-from : (low id : Id) (es : List (Id × List Field)) → Ascends (ids_of es) → option_map (λ e. e.0) (slice_get es 0) ≡ Some id → is_below id low ≡ false → trimmed (MinId low) es ≡ es
+pub trimmed-from : (low id : Id) (es : List (Id × List Field)) → Ascends (ids_of es) → option_map (λ e. e.0) (slice_get es 0) ≡ Some id → is_below id low ≡ false → entries_after_trim (MinId low) es ≡ es
 trimmed-from low id [] a h k = refl
 trimmed-from low id (e ∷ es) a h k =
     let same : e.0 ≡ id = cc in
@@ -242,7 +242,7 @@ trimmed-from low id (e ∷ es) a h k =
     rw first (ap (λ rest. e ∷ rest) (none_below low e.0 es first a.0))
 
 -- where it is below low the trim drops it
-pub trimmed-later : (low id : Id) (es : List (Id × List Field)) → option_map (λ e. e.0) (slice_get es 0) ≡ Some id → is_below id low ≡ true → trimmed (MinId low) (drop 1 es) ≡ trimmed (MinId low) es
+pub trimmed-later : (low id : Id) (es : List (Id × List Field)) → option_map (λ e. e.0) (slice_get es 0) ≡ Some id → is_below id low ≡ true → entries_after_trim (MinId low) (drop 1 es) ≡ entries_after_trim (MinId low) es
 trimmed-later low id [] h k = refl
 trimmed-later low id (e ∷ es) h k =
     let same : e.0 ≡ id = cc in
@@ -278,7 +278,7 @@ pub within-none : (range : Range) → is_below range.high range.low ≡ true →
 within-none range h [] = refl
 within-none range h (x ∷ xs) = rw (not_within range h x) (within-none range h xs)
 
-pub limited-none : (limit : Option ℕ) → limited limit [] ≡ []
+pub limited-none : (limit : Option ℕ) → up_to_limit limit [] ≡ []
 limited-none None = refl
 limited-none (Some n) = drop-take n where
   drop-take : (n : ℕ) → ◌≡◌ {A = List Id} (take n []) []

@@ -6,7 +6,7 @@ use Rattle.xs_stream.specs.declared.id.Id.{Id}
 use Rattle.xs_stream.specs.declared.field.Field.{Field}
 use Rattle.xs_stream.specs.Id.{is_below, is_same_id}
 use Rattle.xs_stream.specs.StreamContent.{ids_of, AllAbove, AllUpTo}
-use Rattle.xs_stream.specs.Blocks.{listed, AreFiled}
+use Rattle.xs_stream.specs.Blocks.{entries_of_blocks, AreFiled}
 use Rattle.xs_stream.proofs.Order.{is_same_id-eq, is_same_id-refl, is_same_id-symm, below-not_same, below-not_back}
 use Rattle.xs_stream.proofs.Order.{below-irrefl}
 use Rattle.xs_stream.proofs.Order.{below-trans, below-not_below}
@@ -29,14 +29,14 @@ joined under (b ∷ bs) = cond (is_same_id under b.0) (with_next b bs) (b ∷ jo
 
 -- ---- the same entries
 
-listed-with_next : (b : Id × Entries) (bs : Blocks) → listed (with_next b bs) ≡ b.1 ++ listed bs
+listed-with_next : (b : Id × Entries) (bs : Blocks) → entries_of_blocks (with_next b bs) ≡ b.1 ++ entries_of_blocks bs
 listed-with_next b [] = refl
-listed-with_next b (c ∷ cs) = append_assoc b.1 c.1 (listed cs)
+listed-with_next b (c ∷ cs) = append_assoc b.1 c.1 (entries_of_blocks cs)
 
-pub listed-joined : (under : Id) (bs : Blocks) → listed (joined under bs) ≡ listed bs
+pub listed-joined : (under : Id) (bs : Blocks) → entries_of_blocks (joined under bs) ≡ entries_of_blocks bs
 listed-joined under [] = refl
 listed-joined under (b ∷ bs) = by (listed-joined under bs) (is_same_id under b.0) where
-  by : listed (joined under bs) ≡ listed bs → (t : Bool) → listed (cond t (with_next b bs) (b ∷ joined under bs)) ≡ b.1 ++ listed bs
+  by : entries_of_blocks (joined under bs) ≡ entries_of_blocks bs → (t : Bool) → entries_of_blocks (cond t (with_next b bs) (b ∷ joined under bs)) ≡ b.1 ++ entries_of_blocks bs
   by rest true = listed-with_next b bs
   by rest false = ap (λ es. b.1 ++ es) rest
 
@@ -49,7 +49,7 @@ up_to-append x (e ∷ es) fs up more = (up.0, up_to-append x es fs up.1 more)
 -- a block is filed below the next one
 below-next : (b c : Id × Entries) (cs : Blocks) (newest : Entries) → AreFiled (b ∷ (c ∷ cs)) newest → is_below b.0 c.0 ≡ true
 below-next b c cs newest filed = by c.1 filed.1.0.has_entries filed.1.0.up_to_id filed.0.later_above where
-  by : (es : Entries) → 0 < length es → AllUpTo c.0 (ids_of es) → AllAbove b.0 (ids_of ((es ++ listed cs) ++ newest)) → is_below b.0 c.0 ≡ true
+  by : (es : Entries) → 0 < length es → AllUpTo c.0 (ids_of es) → AllAbove b.0 (ids_of ((es ++ entries_of_blocks cs) ++ newest)) → is_below b.0 c.0 ≡ true
   by [] some up above = absurd (omega arith)
   by (e ∷ es) some up above = below-not_below b.0 e.0 c.0 above.0 up.0
 

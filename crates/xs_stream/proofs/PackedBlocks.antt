@@ -19,7 +19,7 @@ use Rattle.xs_stream.specs.PackedText.{text_code, first_text, after_text}
 use Rattle.xs_stream.specs.Packed.{names_code, has_names, body_fields, entry_code, entry_id, entry_body, entry_in}
 use Rattle.xs_stream.specs.Packed.{after_entry, packed_entries, after_entries, entries_code, block_entries}
 use Rattle.xs_stream.specs.Packed.{shares_names}
-use Rattle.xs_stream.specs.Packed.{body_code, field_code, mark_of, ms_code, rebased_code, all_rebased, IsPacked}
+use Rattle.xs_stream.specs.Packed.{body_code, field_code, mark_of, ms_code, rebased_code, rebased_codes, IsPacked}
 use Rattle.xs_stream.proofs.Order.{is_same_id-eq, is_same_id-refl}
 use Rattle.xs_stream.proofs.PackedCodes.{first_number-code, entries_in-whole, entry_id-code, entry_body-code}
 use Rattle.xs_stream.proofs.PackedCodes.{after_entry-code, length-entries_in, first_text-code, after_text-code}
@@ -254,28 +254,28 @@ unshared-code base names (e ∷ es) h =
 
 -- ---- another base
 
-rebased-step : (base from count : ℕ) (bytes : List ℕ) → 0 < count → all_rebased base from count bytes ≡ rebased_code base from bytes ++ all_rebased base from (count - 1) (after_entry bytes)
+rebased-step : (base from count : ℕ) (bytes : List ℕ) → 0 < count → rebased_codes base from count bytes ≡ rebased_code base from bytes ++ rebased_codes base from (count - 1) (after_entry bytes)
 rebased-step base from zero bytes h = absurd (omega arith)
 rebased-step base from (suc count) bytes h = let e : suc count - 1 ≡ count = omega arith in rw e refl
 
-module _ (base from count i : ℕ) (rest all out : List ℕ) (was : all ≡ out ++ all_rebased base from (count - i) rest) where
+module _ (base from count i : ℕ) (rest all out : List ℕ) (was : all ≡ out ++ rebased_codes base from (count - i) rest) where
   -- one more is appended
   pub rebased-passed : (id : Id) (body next out2 : List ℕ) → i < count → id ≡ entry_id from rest → body ≡ entry_body rest → next ≡ after_entry rest
-      → out2 ≡ out ++ (ms_code base id.ms ++ (number_code id.seq ++ text_code body)) → all ≡ out2 ++ all_rebased base from (count - (i + 1)) next
+      → out2 ≡ out ++ (ms_code base id.ms ++ (number_code id.seq ++ text_code body)) → all ≡ out2 ++ rebased_codes base from (count - (i + 1)) next
   rebased-passed id body next out2 h is own on e =
       let less : count - (i + 1) ≡ count - i - 1 = omega arith in
       let code = ms_code base id.ms ++ (number_code id.seq ++ text_code body) in
-      let left = all_rebased base from (count - (i + 1)) next in
-      let step : all_rebased base from (count - i) rest ≡ code ++ left = rebased-step base from (count - i) rest (omega arith) ∙ rw (is, own, on, less) refl in
+      let left = rebased_codes base from (count - (i + 1)) next in
+      let step : rebased_codes base from (count - i) rest ≡ code ++ left = rebased-step base from (count - i) rest (omega arith) ∙ rw (is, own, on, less) refl in
       was ∙ ap (λ b. out ++ b) step ∙ sym (append_assoc out code left) ∙ ap (λ b. b ++ left) (sym e)
 
   -- none is left
   pub rebased-all : count ≤ i → all ≡ out
   rebased-all h =
       let none : count - i ≡ 0 = omega arith in
-      was ∙ ap (λ n. out ++ all_rebased base from n rest) none ∙ append-nil out
+      was ∙ ap (λ n. out ++ rebased_codes base from n rest) none ∙ append-nil out
 
-pub rebased-code : (base from : ℕ) (names : List ℕ) (es : List (Id × List Field)) → from < 2 ^ 64 → all_rebased base from (length es) (entries_code from names es) ≡ entries_code base names es
+pub rebased-code : (base from : ℕ) (names : List ℕ) (es : List (Id × List Field)) → from < 2 ^ 64 → rebased_codes base from (length es) (entries_code from names es) ≡ entries_code base names es
 unfolding entry_code
 rebased-code base from names [] fits = refl
 rebased-code base from names (e ∷ es) fits =
@@ -475,15 +475,15 @@ module _ (base count start : ℕ) (bytes : List ℕ) (packed : IsPacked base cou
 
   -- the entries of another block with the same names, behind these
   pub taken-code : (from count2 start2 : ℕ) (bytes2 : List ℕ) → IsPacked from count2 start2 bytes2 → first_text bytes2 ≡ first_text bytes
-      → (new rest : List ℕ) → rest ≡ drop start2 bytes2 → new ≡ bytes ++ all_rebased base from count2 rest
+      → (new rest : List ℕ) → rest ≡ drop start2 bytes2 → new ≡ bytes ++ rebased_codes base from count2 rest
       → new ≡ (text_code (first_text bytes) ++ gap) ++ entries_code base (first_text bytes) (block_entries base count start bytes ++ block_entries from count2 start2 bytes2)
   taken-code from count2 start2 bytes2 packed2 same new rest is e =
       let names = first_text bytes in
       let es = block_entries base count start bytes in
       let es2 = block_entries from count2 start2 bytes2 in
-      let code : all_rebased base from count2 rest ≡ entries_code base names es2 =
-      ap (all_rebased base from count2) (is ∙ packed2.coded ∙ ap (λ ns. entries_code from ns es2) same)
-      ∙ ap (λ n. all_rebased base from n (entries_code from names es2)) (sym (length-block_entries from count2 start2 bytes2)) ∙ rebased-code base from names es2 packed2.base_fits in
+      let code : rebased_codes base from count2 rest ≡ entries_code base names es2 =
+      ap (rebased_codes base from count2) (is ∙ packed2.coded ∙ ap (λ ns. entries_code from ns es2) same)
+      ∙ ap (λ n. rebased_codes base from n (entries_code from names es2)) (sym (length-block_entries from count2 start2 bytes2)) ∙ rebased-code base from names es2 packed2.base_fits in
       e ∙ ap (λ b. bytes ++ b) code ∙ ap (λ b. b ++ entries_code base names es2) opened ∙ append_assoc (text_code names ++ gap) (entries_code base names es) (entries_code base names es2)
       ∙ ap (λ b. (text_code names ++ gap) ++ b) (sym (flat_map-append (λ (e : Id × List Field). entry_code base (has_names names e.1) e) es es2))
 

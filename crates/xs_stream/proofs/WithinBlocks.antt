@@ -15,7 +15,7 @@ use Rattle.xs_stream.specs.declared.field.Field.{Field}
 use Rattle.xs_stream.specs.declared.range.Range.{Range}
 use Rattle.xs_stream.specs.Id.{id_cmp, is_below}
 use Rattle.xs_stream.specs.StreamContent.{ids_of, AllAbove, AllUpTo, is_within}
-use Rattle.xs_stream.specs.Blocks.{listed, AreFiled, end_under, end_at}
+use Rattle.xs_stream.specs.Blocks.{entries_of_blocks, AreFiled, end_under, end_at}
 use Rattle.xs_stream.proofs.Order.{ids_total, below-irrefl, below-not_back, up_to-below, below-not_below}
 use Rattle.xs_stream.proofs.Order.{not_above-trans, le-not_below}
 use Rattle.xs_stream.proofs.InOrder.{ids_of-append, and_yes}
@@ -51,9 +51,9 @@ module _ (range : Range) where
       and_no false = refl
 
 -- what is above an id is so in some of the blocks too
-pub above-some : (x : Id) (test : Id × Entries → Bool) (bs : Blocks) (newest : Entries) → AllAbove x (ids_of (listed bs ++ newest)) → AllAbove x (ids_of (listed (filter test bs) ++ newest))
+pub above-some : (x : Id) (test : Id × Entries → Bool) (bs : Blocks) (newest : Entries) → AllAbove x (ids_of (entries_of_blocks bs ++ newest)) → AllAbove x (ids_of (entries_of_blocks (filter test bs) ++ newest))
 above-some x test [] newest a = a
-above-some x test (b ∷ bs) newest a = by (test b) (above-some x test bs newest (behind b.1 (listed bs ++ newest) all)) where
+above-some x test (b ∷ bs) newest a = by (test b) (above-some x test bs newest (behind b.1 (entries_of_blocks bs ++ newest) all)) where
   behind : (es fs : Entries) → AllAbove x (ids_of (es ++ fs)) → AllAbove x (ids_of fs)
   behind [] fs a = a
   behind (e ∷ es) fs a = behind es fs a.1
@@ -62,11 +62,11 @@ above-some x test (b ∷ bs) newest a = by (test b) (above-some x test bs newest
   before [] fs gs a rest = rest
   before (e ∷ es) fs gs a rest = (a.0, before es fs gs a.1 rest)
 
-  all : AllAbove x (ids_of (b.1 ++ (listed bs ++ newest)))
+  all : AllAbove x (ids_of (b.1 ++ (entries_of_blocks bs ++ newest)))
   all = rw append_assoc at a
 
-  by : (t : Bool) → AllAbove x (ids_of (listed (filter test bs) ++ newest)) → AllAbove x (ids_of (listed (cond t (b ∷ filter test bs) (filter test bs)) ++ newest))
-  by true rest = rw append_assoc (before b.1 (listed bs ++ newest) (listed (filter test bs) ++ newest) all rest)
+  by : (t : Bool) → AllAbove x (ids_of (entries_of_blocks (filter test bs) ++ newest)) → AllAbove x (ids_of (entries_of_blocks (cond t (b ∷ filter test bs) (filter test bs)) ++ newest))
+  by true rest = rw append_assoc (before b.1 (entries_of_blocks bs ++ newest) (entries_of_blocks (filter test bs) ++ newest) all rest)
   by false rest = rest
 
 pub not_true : (t : Bool) → not t ≡ true → t ≡ false
@@ -90,27 +90,27 @@ filed-some test (b ∷ bs) newest filed = by (test b) (filed-some test bs newest
 
 module _ (range : Range) where
   -- a block that the walk meets, and one that it doesn't
-  met : (b : Id × Entries) (bs cs : Blocks) (newest : Entries) → within range (listed cs ++ newest) ≡ within range (listed bs ++ newest) → within range (listed (b ∷ cs) ++ newest) ≡ within range (listed (b ∷ bs) ++ newest)
+  met : (b : Id × Entries) (bs cs : Blocks) (newest : Entries) → within range (entries_of_blocks cs ++ newest) ≡ within range (entries_of_blocks bs ++ newest) → within range (entries_of_blocks (b ∷ cs) ++ newest) ≡ within range (entries_of_blocks (b ∷ bs) ++ newest)
   met b bs cs newest rest =
-      ap (within range) (append_assoc b.1 (listed cs) newest) ∙ within-append range b.1 (listed cs ++ newest) ∙ ap (λ ids. within range b.1 ++ ids) rest
-      ∙ sym (ap (within range) (append_assoc b.1 (listed bs) newest) ∙ within-append range b.1 (listed bs ++ newest))
+      ap (within range) (append_assoc b.1 (entries_of_blocks cs) newest) ∙ within-append range b.1 (entries_of_blocks cs ++ newest) ∙ ap (λ ids. within range b.1 ++ ids) rest
+      ∙ sym (ap (within range) (append_assoc b.1 (entries_of_blocks bs) newest) ∙ within-append range b.1 (entries_of_blocks bs ++ newest))
 
-  unmet : (b : Id × Entries) (bs cs : Blocks) (newest : Entries) → within range b.1 ≡ [] → within range (listed cs ++ newest) ≡ within range (listed bs ++ newest) → within range (listed cs ++ newest) ≡ within range (listed (b ∷ bs) ++ newest)
+  unmet : (b : Id × Entries) (bs cs : Blocks) (newest : Entries) → within range b.1 ≡ [] → within range (entries_of_blocks cs ++ newest) ≡ within range (entries_of_blocks bs ++ newest) → within range (entries_of_blocks cs ++ newest) ≡ within range (entries_of_blocks (b ∷ bs) ++ newest)
   unmet b bs cs newest none rest =
-      rest ∙ ap (λ ids. ids ++ within range (listed bs ++ newest)) (sym none) ∙ sym (ap (within range) (append_assoc b.1 (listed bs) newest) ∙ within-append range b.1 (listed bs ++ newest))
+      rest ∙ ap (λ ids. ids ++ within range (entries_of_blocks bs ++ newest)) (sym none) ∙ sym (ap (within range) (append_assoc b.1 (entries_of_blocks bs) newest) ∙ within-append range b.1 (entries_of_blocks bs ++ newest))
 
   -- a walk with no end
-  pub walk-open : (bs : Blocks) (newest : Entries) → AreFiled bs newest → within range (listed (entries_between id_cmp (Included range.low) Unbounded bs) ++ newest) ≡ within range (listed bs ++ newest)
+  pub walk-open : (bs : Blocks) (newest : Entries) → AreFiled bs newest → within range (entries_of_blocks (entries_between id_cmp (Included range.low) Unbounded bs) ++ newest) ≡ within range (entries_of_blocks bs ++ newest)
   walk-open [] newest filed = refl
   walk-open (b ∷ bs) newest filed = rw (and_yes (is_le (id_cmp range.low b.0)), le-not_below range.low b.0) (by (walk-open bs newest filed.1) (is_below b.0 range.low) refl) where
-    by : within range (listed (entries_between id_cmp (Included range.low) Unbounded bs) ++ newest) ≡ within range (listed bs ++ newest) → (t : Bool) → is_below b.0 range.low ≡ t
-        → within range (listed (cond (not t) (b ∷ entries_between id_cmp (Included range.low) Unbounded bs) (entries_between id_cmp (Included range.low) Unbounded bs)) ++ newest) ≡ within range (listed (b ∷ bs) ++ newest)
+    by : within range (entries_of_blocks (entries_between id_cmp (Included range.low) Unbounded bs) ++ newest) ≡ within range (entries_of_blocks bs ++ newest) → (t : Bool) → is_below b.0 range.low ≡ t
+        → within range (entries_of_blocks (cond (not t) (b ∷ entries_between id_cmp (Included range.low) Unbounded bs) (entries_between id_cmp (Included range.low) Unbounded bs)) ++ newest) ≡ within range (entries_of_blocks (b ∷ bs) ++ newest)
     by rest true is = unmet b bs (entries_between id_cmp (Included range.low) Unbounded bs) newest (none-up_to range b.0 b.1 filed.0.up_to_id is) rest
     by rest false is = met b bs (entries_between id_cmp (Included range.low) Unbounded bs) newest rest
 
   -- a walk that ends at the first block that is filed under the high end or above it
   walk-closed : (bs : Blocks) (newest : Entries) (end : Id) → AreFiled bs newest → is_below range.high range.low ≡ false → lookup_key (λ under. not (is_below under range.high)) bs ≡ Some end
-      → within range (listed (entries_between id_cmp (Included range.low) (Included end) bs) ++ newest) ≡ within range (listed bs ++ newest)
+      → within range (entries_of_blocks (entries_between id_cmp (Included range.low) (Included end) bs) ++ newest) ≡ within range (entries_of_blocks bs ++ newest)
   walk-closed [] newest end filed forward h = refl
   walk-closed (b ∷ bs) newest end filed forward h =
       rw (le-not_below range.low b.0) (by (walk-closed bs newest end filed.1 forward) (passes bs end) (is_below b.0 range.high) refl) where
@@ -119,17 +119,17 @@ module _ (range : Range) where
             let entry = entry-of_key (λ under. not (is_below under range.high)) cs key found in
             entry-passes (λ under. not (is_below under range.high)) cs (key, entry.0) entry.1
 
-        by : (lookup_key (λ under. not (is_below under range.high)) bs ≡ Some end → within range (listed (entries_between id_cmp (Included range.low) (Included end) bs) ++ newest) ≡ within range (listed bs ++ newest))
+        by : (lookup_key (λ under. not (is_below under range.high)) bs ≡ Some end → within range (entries_of_blocks (entries_between id_cmp (Included range.low) (Included end) bs) ++ newest) ≡ within range (entries_of_blocks bs ++ newest))
             → (lookup_key (λ under. not (is_below under range.high)) bs ≡ Some end → not (is_below end range.high) ≡ true)
             → (t : Bool) → is_below b.0 range.high ≡ t
-            → within range (listed (cond (not (is_below b.0 range.low) && not (is_below end b.0)) (b ∷ entries_between id_cmp (Included range.low) (Included end) bs) (entries_between id_cmp (Included range.low) (Included end) bs)) ++ newest) ≡ within range (listed (b ∷ bs) ++ newest)
+            → within range (entries_of_blocks (cond (not (is_below b.0 range.low) && not (is_below end b.0)) (b ∷ entries_between id_cmp (Included range.low) (Included end) bs) (entries_between id_cmp (Included range.low) (Included end) bs)) ++ newest) ≡ within range (entries_of_blocks (b ∷ bs) ++ newest)
         by rest passed true is =
             let later : lookup_key (λ under. not (is_below under range.high)) bs ≡ Some end = rw is at h in
             let open_end : is_below end range.high ≡ false = not_true _ (passed later) in
             let before_end : is_below end b.0 ≡ false = below-not_back b.0 end (below-not_below b.0 range.high end is open_end) in
             rw before_end (start (is_below b.0 range.low) refl (rest later)) where
-              start : (t : Bool) → is_below b.0 range.low ≡ t → within range (listed (entries_between id_cmp (Included range.low) (Included end) bs) ++ newest) ≡ within range (listed bs ++ newest)
-                  → within range (listed (cond (not t && true) (b ∷ entries_between id_cmp (Included range.low) (Included end) bs) (entries_between id_cmp (Included range.low) (Included end) bs)) ++ newest) ≡ within range (listed (b ∷ bs) ++ newest)
+              start : (t : Bool) → is_below b.0 range.low ≡ t → within range (entries_of_blocks (entries_between id_cmp (Included range.low) (Included end) bs) ++ newest) ≡ within range (entries_of_blocks bs ++ newest)
+                  → within range (entries_of_blocks (cond (not t && true) (b ∷ entries_between id_cmp (Included range.low) (Included end) bs) (entries_between id_cmp (Included range.low) (Included end) bs)) ++ newest) ≡ within range (entries_of_blocks (b ∷ bs) ++ newest)
               start true under others = unmet b bs (entries_between id_cmp (Included range.low) (Included end) bs) newest (none-up_to range b.0 b.1 filed.0.up_to_id under) others
               start false under others = met b bs (entries_between id_cmp (Included range.low) (Included end) bs) newest others
         by rest passed false is =
@@ -138,15 +138,15 @@ module _ (range : Range) where
             let from_low : is_below b.0 range.low ≡ false = not_above-trans b.0 range.high range.low is forward in
             let at_end : is_below end b.0 ≡ false = ap (λ x. is_below x b.0) (sym same) ∙ below-irrefl b.0 in
             let cs = entries_between id_cmp (Included range.low) (Included end) bs in
-            let none_later = none-above range b.0 (listed bs ++ newest) filed.0.later_above is in
-            let none_met = none-above range b.0 (listed cs ++ newest) (above-some b.0 (λ c. range_contains id_cmp (Included range.low) (Included end) c.0) bs newest filed.0.later_above) is in
+            let none_later = none-above range b.0 (entries_of_blocks bs ++ newest) filed.0.later_above is in
+            let none_met = none-above range b.0 (entries_of_blocks cs ++ newest) (above-some b.0 (λ c. range_contains id_cmp (Included range.low) (Included end) c.0) bs newest filed.0.later_above) is in
             rw (from_low, at_end) (met b bs cs newest (none_met ∙ sym none_later))
 
   -- the walk of a range meets all that is within it, but for the newest
   pub walk-within : (bs : Blocks) (newest : Entries) → AreFiled bs newest → is_below range.high range.low ≡ false
-      → within range (listed (entries_between id_cmp (Included range.low) (end_at range.high bs) bs) ++ newest) ≡ within range (listed bs ++ newest)
+      → within range (entries_of_blocks (entries_between id_cmp (Included range.low) (end_at range.high bs) bs) ++ newest) ≡ within range (entries_of_blocks bs ++ newest)
   walk-within bs newest filed forward = by (lookup_key (λ under. not (is_below under range.high)) bs) refl where
-    by : (key : Option Id) → lookup_key (λ under. not (is_below under range.high)) bs ≡ key → within range (listed (entries_between id_cmp (Included range.low) (end_under key) bs) ++ newest) ≡ within range (listed bs ++ newest)
+    by : (key : Option Id) → lookup_key (λ under. not (is_below under range.high)) bs ≡ key → within range (entries_of_blocks (entries_between id_cmp (Included range.low) (end_under key) bs) ++ newest) ≡ within range (entries_of_blocks bs ++ newest)
     by None is = walk-open bs newest filed
     by (Some end) is = walk-closed bs newest end filed forward is
 
@@ -177,31 +177,31 @@ take-take_append (suc n) (x ∷ xs) ys = ap (λ rest. x ∷ rest) (take-take_app
 pub take-full : {X : Type 0} → (n : ℕ) (xs ys zs : List X) → n ≤ length xs → take n (xs ++ ys) ≡ take n (xs ++ zs)
 take-full n xs ys zs full = take-append-le n xs ys full ∙ sym (take-append-le n xs zs full)
 
-pub listed-push : (bs : Blocks) (b : Id × Entries) → listed (bs ++ b ∷ []) ≡ listed bs ++ b.1
+pub listed-push : (bs : Blocks) (b : Id × Entries) → entries_of_blocks (bs ++ b ∷ []) ≡ entries_of_blocks bs ++ b.1
 listed-push [] b = append-nil b.1
-listed-push (c ∷ cs) b = ap (λ rest. c.1 ++ rest) (listed-push cs b) ∙ sym (append_assoc c.1 (listed cs) b.1)
+listed-push (c ∷ cs) b = ap (λ rest. c.1 ++ rest) (listed-push cs b) ∙ sym (append_assoc c.1 (entries_of_blocks cs) b.1)
 
 module _ (range : Range) (n : ℕ) where
   -- one block more, from the low end up
   pub up-more : (ids : List Id) (b : Id × Entries) (bs : Blocks) (newest : Entries)
-      → take n (take n (ids ++ within range b.1) ++ within range (listed bs ++ newest)) ≡ take n (ids ++ within range (listed (b ∷ bs) ++ newest))
+      → take n (take n (ids ++ within range b.1) ++ within range (entries_of_blocks bs ++ newest)) ≡ take n (ids ++ within range (entries_of_blocks (b ∷ bs) ++ newest))
   up-more ids b bs newest =
-      take-take_append n (ids ++ within range b.1) (within range (listed bs ++ newest))
-      ∙ ap (take n) (append_assoc ids (within range b.1) (within range (listed bs ++ newest))
-      ∙ ap (λ rest. ids ++ rest) (sym (ap (within range) (append_assoc b.1 (listed bs) newest) ∙ within-append range b.1 (listed bs ++ newest))))
+      take-take_append n (ids ++ within range b.1) (within range (entries_of_blocks bs ++ newest))
+      ∙ ap (take n) (append_assoc ids (within range b.1) (within range (entries_of_blocks bs ++ newest))
+      ∙ ap (λ rest. ids ++ rest) (sym (ap (within range) (append_assoc b.1 (entries_of_blocks bs) newest) ∙ within-append range b.1 (entries_of_blocks bs ++ newest))))
 
   -- one block more, from the high end down
   pub down-more : (ids : List Id) (bs : Blocks) (b : Id × Entries)
-      → take n (take n (ids ++ reverse (within range b.1)) ++ reverse (within range (listed bs))) ≡ take n (ids ++ reverse (within range (listed (bs ++ b ∷ []))))
+      → take n (take n (ids ++ reverse (within range b.1)) ++ reverse (within range (entries_of_blocks bs))) ≡ take n (ids ++ reverse (within range (entries_of_blocks (bs ++ b ∷ []))))
   down-more ids bs b =
-      take-take_append n (ids ++ reverse (within range b.1)) (reverse (within range (listed bs)))
-      ∙ ap (take n) (append_assoc ids (reverse (within range b.1)) (reverse (within range (listed bs)))
+      take-take_append n (ids ++ reverse (within range b.1)) (reverse (within range (entries_of_blocks bs)))
+      ∙ ap (take n) (append_assoc ids (reverse (within range b.1)) (reverse (within range (entries_of_blocks bs)))
       ∙ ap (λ rest. ids ++ rest) (sym (ap (λ es. reverse (within range es)) (listed-push bs b) ∙ turned bs b.1))) where
-        turned : (cs : Blocks) (es : Entries) → reverse (within range (listed cs ++ es)) ≡ reverse (within range es) ++ reverse (within range (listed cs))
-        turned cs es = ap reverse (within-append range (listed cs) es) ∙ reverse-append (within range (listed cs)) (within range es)
+        turned : (cs : Blocks) (es : Entries) → reverse (within range (entries_of_blocks cs ++ es)) ≡ reverse (within range es) ++ reverse (within range (entries_of_blocks cs))
+        turned cs es = ap reverse (within-append range (entries_of_blocks cs) es) ∙ reverse-append (within range (entries_of_blocks cs)) (within range es)
 
   -- the newest come first, from the high end down
-  pub down-newest : (bs : Blocks) (newest : Entries) → take n (take n (reverse (within range newest)) ++ reverse (within range (listed bs))) ≡ take n (reverse (within range (listed bs ++ newest)))
+  pub down-newest : (bs : Blocks) (newest : Entries) → take n (take n (reverse (within range newest)) ++ reverse (within range (entries_of_blocks bs))) ≡ take n (reverse (within range (entries_of_blocks bs ++ newest)))
   down-newest bs newest =
-      take-take_append n (reverse (within range newest)) (reverse (within range (listed bs)))
-      ∙ ap (take n) (sym (ap reverse (within-append range (listed bs) newest) ∙ reverse-append (within range (listed bs)) (within range newest)))
+      take-take_append n (reverse (within range newest)) (reverse (within range (entries_of_blocks bs)))
+      ∙ ap (take n) (sym (ap reverse (within-append range (entries_of_blocks bs) newest) ∙ reverse-append (within range (entries_of_blocks bs)) (within range newest)))

@@ -12,12 +12,12 @@ use Rattle.xs_stream.specs.StreamContent.{ids_of, AllAbove, AllUpTo}
 use Rattle.xs_stream.specs.ConsistentStream.{IsValidStream}
 
 -- the entries of blocks, one block after the other
-abbrev pub listed : List (Id × List (Id × List Field)) → List (Id × List Field)
-listed blocks = flat_map (λ b. b.1) blocks
+abbrev pub entries_of_blocks : List (Id × List (Id × List Field)) → List (Id × List Field)
+entries_of_blocks blocks = flat_map (λ b. b.1) blocks
 
 -- all entries, in their order
 abbrev pub all_of : Entries → List (Id × List Field)
-all_of entries = listed entries.older.entries ++ entries.newest
+all_of entries = entries_of_blocks entries.older.entries ++ entries.newest
 
 -- a block has entries, none of them above the id under which it is filed, and all later ones are above that id
 pub record IsFiled (block : Id × List (Id × List Field)) (later : List (Id × List Field)) : Type 0 where
@@ -27,7 +27,7 @@ pub record IsFiled (block : Id × List (Id × List Field)) (later : List (Id × 
 
 abbrev pub AreFiled : List (Id × List (Id × List Field)) → List (Id × List Field) → Type 0
 AreFiled [] newest = Unit {0}
-AreFiled (b ∷ bs) newest = IsFiled b (listed bs ++ newest) × AreFiled bs newest
+AreFiled (b ∷ bs) newest = IsFiled b (entries_of_blocks bs ++ newest) × AreFiled bs newest
 
 -- each block is filed, and the count is that of the entries
 pub record IsLaidDown (entries : Entries) : Type 0 where
@@ -47,14 +47,14 @@ BeginsFrom low [] = Unit {0}
 BeginsFrom low (b ∷ bs) = is_below b.0 low ≡ false
 
 -- the ids under which blocks are filed
-abbrev pub filed_under : Entries → List Id
-filed_under entries = keys_of entries.older.entries
+abbrev pub block_ids : Entries → List Id
+block_ids entries = keys_of entries.older.entries
 
 -- what holds inside of a stream: it is valid, its entries are laid down, and none of those ids is above the top
 pub record IsSound (top : Id) (entries : Entries) : Type 0 where
   pub valid : IsValidStream (record { top = top; entries = all_of entries })
   pub laid_down : IsLaidDown entries
-  pub filed_up_to_top : AllUpTo top (filed_under entries)
+  pub filed_up_to_top : AllUpTo top (block_ids entries)
 
 abbrev pub end_under : Option Id → Bound Id
 end_under None = Unbounded

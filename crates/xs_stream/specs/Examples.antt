@@ -4,8 +4,8 @@ use Rattle.std.specs.Prelude.{◌≡◌, ℕ, ◌+◌, ◌^◌, true, false, [],
 use Rattle.xs_stream.specs.declared.id.Id.{Id}
 use Rattle.xs_stream.specs.declared.add.AddId.TheVariants.{Auto, AutoSeq, Exact}
 use Rattle.xs_stream.specs.declared.add.AddError.TheVariants.{Small, Exhausted}
-use Rattle.xs_stream.specs.Id.{is_below, is_same_id, has_id, greatest_number, zero_id, greatest_id, printed, successor}
-use Rattle.xs_stream.specs.Id.{assigned}
+use Rattle.xs_stream.specs.Id.{is_below, is_same_id, has_id, greatest_number, zero_id, greatest_id, id_text, successor}
+use Rattle.xs_stream.specs.Id.{id_of_addition}
 use Rattle.xs_stream.specs.IdText.{next_id, previous_id, id_number, parse_id}
 use Rattle.xs_stream.specs.RangeText.{low_end, high_end, range_between}
 use Rattle.xs_stream.specs.ConsistentStream.{IsId, AllIds}
@@ -29,9 +29,9 @@ pub record Order : Type 0 where
 
 pub record Bounds : Type 0 where
   pub numbers_of_64_bits : greatest_number + 1 ≡ 2 ^ 64
-  pub the_least : printed zero_id ≡ codes "0-0"
-  pub the_greatest : printed greatest_id ≡ codes "18446744073709551615-18446744073709551615"
-  pub as_printed : printed (at 1526919030474 55) ≡ codes "1526919030474-55"
+  pub the_least : id_text zero_id ≡ codes "0-0"
+  pub the_greatest : id_text greatest_id ≡ codes "18446744073709551615-18446744073709551615"
+  pub as_printed : id_text (at 1526919030474 55) ≡ codes "1526919030474-55"
 
 -- both numbers have 64 bits
 pub record Numbers : Type 0 where
@@ -61,31 +61,33 @@ pub record Neighbours : Type 0 where
 
 -- XADD with `*`, `ms-*` and an id
 pub record Assigned : Type 0 where
-  pub now_is_later : assigned 1000 (at 999 5) Auto ≡ Ok (at 1000 0)
-  pub now_again : assigned 1000 (at 1000 5) Auto ≡ Ok (at 1000 6)
-  pub now_is_earlier : assigned 900 (at 1000 5) Auto ≡ Ok (at 1000 6)
-  pub now_at_the_last_sequence : assigned 5 (at 5 18446744073709551615) Auto ≡ Ok (at 6 0)
-  pub first_at_moment_zero : assigned 0 zero_id Auto ≡ Ok (at 0 1)
-  pub first_at_moment_one : assigned 1 zero_id Auto ≡ Ok (at 1 0)
-  pub next_in_its_millisecond : assigned 1 (at 1526919030474 55) (AutoSeq 1526919030474) ≡ Ok (at 1526919030474 56)
-  pub first_in_millisecond_zero : assigned 5 zero_id (AutoSeq 0) ≡ Ok (at 0 1)
-  pub first_in_a_later_one : assigned 1 (at 4 7) (AutoSeq 5) ≡ Ok (at 5 0)
-  pub first_in_a_later_one_of_a_new_stream : assigned 1 zero_id (AutoSeq 5) ≡ Ok (at 5 0)
-  pub none_in_an_earlier_one : assigned 9 (at 4 7) (AutoSeq 3) ≡ Err Small
-  pub last_in_its_millisecond : assigned 1 (at 5 18446744073709551614) (AutoSeq 5) ≡ Ok (at 5 18446744073709551615)
-  pub no_more_in_its_millisecond : assigned 1 (at 5 18446744073709551615) (AutoSeq 5) ≡ Err Small
-  pub written_above : assigned 1 (at 4 7) (Exact (at 4 8)) ≡ Ok (at 4 8)
-  pub written_for_a_new_stream : assigned 9 zero_id (Exact (at 5 0)) ≡ Ok (at 5 0)
-  pub written_at_the_top : assigned 1 (at 4 7) (Exact (at 4 7)) ≡ Err Small
-  pub written_below : assigned 9 (at 4 7) (Exact (at 4 6)) ≡ Err Small
-  pub written_in_a_later_one : assigned 1 (at 4 7) (Exact (at 5 0)) ≡ Ok (at 5 0)
-  pub written_in_an_earlier_one : assigned 9 (at 4 7) (Exact (at 3 9)) ≡ Err Small
-  pub next_is_the_greatest : assigned 1 (at 18446744073709551615 18446744073709551614) Auto ≡ Ok greatest_id
+  pub now_is_later : id_of_addition 1000 (at 999 5) Auto ≡ Ok (at 1000 0)
+  pub now_again : id_of_addition 1000 (at 1000 5) Auto ≡ Ok (at 1000 6)
+  pub now_is_earlier : id_of_addition 900 (at 1000 5) Auto ≡ Ok (at 1000 6)
+  pub now_at_the_last_sequence : id_of_addition 5 (at 5 18446744073709551615) Auto ≡ Ok (at 6 0)
+  pub first_at_moment_zero : id_of_addition 0 zero_id Auto ≡ Ok (at 0 1)
+  pub first_at_moment_one : id_of_addition 1 zero_id Auto ≡ Ok (at 1 0)
+  pub next_in_its_millisecond :
+      id_of_addition 1 (at 1526919030474 55) (AutoSeq 1526919030474) ≡ Ok (at 1526919030474 56)
+  pub first_in_millisecond_zero : id_of_addition 5 zero_id (AutoSeq 0) ≡ Ok (at 0 1)
+  pub first_in_a_later_one : id_of_addition 1 (at 4 7) (AutoSeq 5) ≡ Ok (at 5 0)
+  pub first_in_a_later_one_of_a_new_stream : id_of_addition 1 zero_id (AutoSeq 5) ≡ Ok (at 5 0)
+  pub none_in_an_earlier_one : id_of_addition 9 (at 4 7) (AutoSeq 3) ≡ Err Small
+  pub last_in_its_millisecond :
+      id_of_addition 1 (at 5 18446744073709551614) (AutoSeq 5) ≡ Ok (at 5 18446744073709551615)
+  pub no_more_in_its_millisecond : id_of_addition 1 (at 5 18446744073709551615) (AutoSeq 5) ≡ Err Small
+  pub written_above : id_of_addition 1 (at 4 7) (Exact (at 4 8)) ≡ Ok (at 4 8)
+  pub written_for_a_new_stream : id_of_addition 9 zero_id (Exact (at 5 0)) ≡ Ok (at 5 0)
+  pub written_at_the_top : id_of_addition 1 (at 4 7) (Exact (at 4 7)) ≡ Err Small
+  pub written_below : id_of_addition 9 (at 4 7) (Exact (at 4 6)) ≡ Err Small
+  pub written_in_a_later_one : id_of_addition 1 (at 4 7) (Exact (at 5 0)) ≡ Ok (at 5 0)
+  pub written_in_an_earlier_one : id_of_addition 9 (at 4 7) (Exact (at 3 9)) ≡ Err Small
+  pub next_is_the_greatest : id_of_addition 1 (at 18446744073709551615 18446744073709551614) Auto ≡ Ok greatest_id
   pub the_greatest_written :
-      assigned 1 (at 18446744073709551615 18446744073709551614) (Exact greatest_id) ≡ Ok greatest_id
-  pub none_behind_the_greatest : assigned 1 greatest_id Auto ≡ Err Exhausted
-  pub no_sequence_behind_the_greatest : assigned 1 greatest_id (AutoSeq 18446744073709551615) ≡ Err Exhausted
-  pub written_behind_the_greatest : assigned 1 greatest_id (Exact (at 1 1)) ≡ Err Exhausted
+      id_of_addition 1 (at 18446744073709551615 18446744073709551614) (Exact greatest_id) ≡ Ok greatest_id
+  pub none_behind_the_greatest : id_of_addition 1 greatest_id Auto ≡ Err Exhausted
+  pub no_sequence_behind_the_greatest : id_of_addition 1 greatest_id (AutoSeq 18446744073709551615) ≡ Err Exhausted
+  pub written_behind_the_greatest : id_of_addition 1 greatest_id (Exact (at 1 1)) ≡ Err Exhausted
 
 -- ids in words; own: at most twenty digits and no sign
 pub record Texts : Type 0 where

@@ -4,8 +4,9 @@ use Rattle.xs_stream.specs.declared.id.Id.{Id}
 use Rattle.xs_stream.specs.declared.field.Field.{Field}
 use Rattle.xs_stream.specs.declared.range.Range.{Range}
 use Rattle.xs_stream.specs.declared.trim.Trim.TheVariants.{MaxLen, MinId}
-use Rattle.xs_stream.specs.StreamContent.{ids_of, Ascends, AllAbove, AllUpTo, fields_at, without, count_above, trimmed}
-use Rattle.xs_stream.specs.StreamContent.{is_within, limited, ids_within}
+use Rattle.xs_stream.specs.StreamContent.{ids_of, Ascends, AllAbove, AllUpTo, fields_at, without, count_above}
+use Rattle.xs_stream.specs.StreamContent.{entries_after_trim}
+use Rattle.xs_stream.specs.StreamContent.{is_within, up_to_limit, ids_within}
 use Rattle.xs_stream.specs.Examples.{at}
 
 abbrev pub a_field : Field
@@ -45,17 +46,17 @@ pub record Entries : Type 0 where
 pub record Trims : Type 0 where
   pub above_the_first : count_above (at 1 1) (ids_of four) ≡ 3
   pub above_the_last : count_above (at 3 0) (ids_of four) ≡ 0
-  pub keeps_the_two_greatest : ids_of (trimmed (MaxLen 2) four) ≡ at 2 1 ∷ at 3 0 ∷ []
-  pub keeps_the_greatest : ids_of (trimmed (MaxLen 1) four) ≡ at 3 0 ∷ []
-  pub keeps_none : trimmed (MaxLen 0) four ≡ []
-  pub keeps_as_many_as_there_are : trimmed (MaxLen 4) four ≡ four
-  pub keeps_more_than_there_are : trimmed (MaxLen 5) four ≡ four
-  pub drops_those_below : ids_of (trimmed (MinId (at 1 2)) four) ≡ at 1 2 ∷ at 2 1 ∷ at 3 0 ∷ []
-  pub drops_those_of_earlier_milliseconds : ids_of (trimmed (MinId (at 2 0)) four) ≡ at 2 1 ∷ at 3 0 ∷ []
-  pub drops_within_a_millisecond : ids_of (trimmed (MinId (at 2 2)) four) ≡ at 3 0 ∷ []
-  pub drops_none : trimmed (MinId (at 0 0)) four ≡ four
-  pub drops_all : trimmed (MinId (at 3 1)) four ≡ []
-  pub fields_stay : trimmed (MaxLen 1) four ≡ (at 3 0, a_field ∷ []) ∷ []
+  pub keeps_the_two_greatest : ids_of (entries_after_trim (MaxLen 2) four) ≡ at 2 1 ∷ at 3 0 ∷ []
+  pub keeps_the_greatest : ids_of (entries_after_trim (MaxLen 1) four) ≡ at 3 0 ∷ []
+  pub keeps_none : entries_after_trim (MaxLen 0) four ≡ []
+  pub keeps_as_many_as_there_are : entries_after_trim (MaxLen 4) four ≡ four
+  pub keeps_more_than_there_are : entries_after_trim (MaxLen 5) four ≡ four
+  pub drops_those_below : ids_of (entries_after_trim (MinId (at 1 2)) four) ≡ at 1 2 ∷ at 2 1 ∷ at 3 0 ∷ []
+  pub drops_those_of_earlier_milliseconds : ids_of (entries_after_trim (MinId (at 2 0)) four) ≡ at 2 1 ∷ at 3 0 ∷ []
+  pub drops_within_a_millisecond : ids_of (entries_after_trim (MinId (at 2 2)) four) ≡ at 3 0 ∷ []
+  pub drops_none : entries_after_trim (MinId (at 0 0)) four ≡ four
+  pub drops_all : entries_after_trim (MinId (at 3 1)) four ≡ []
+  pub fields_stay : entries_after_trim (MaxLen 1) four ≡ (at 3 0, a_field ∷ []) ∷ []
 
 pub record Ranges : Type 0 where
   pub low_end_belongs : is_within (between (at 1 2) (at 2 1)) (at 1 2) ≡ true
@@ -66,7 +67,7 @@ pub record Ranges : Type 0 where
   pub from_the_greatest : ids_within (between (at 1 2) (at 2 1)) true four ≡ at 2 1 ∷ at 1 2 ∷ []
   pub one_id : ids_within (between (at 2 1) (at 2 1)) false four ≡ at 2 1 ∷ []
   pub ends_the_other_way : ids_within (between (at 3 0) (at 1 1)) true four ≡ []
-  pub no_limit : limited None (ids_of four) ≡ ids_of four
-  pub at_most_two : limited (Some 2) (ids_of four) ≡ at 1 1 ∷ at 1 2 ∷ []
-  pub at_most_none : limited (Some 0) (ids_of four) ≡ []
-  pub fewer_than_the_limit : limited (Some 5) (ids_of four) ≡ ids_of four
+  pub no_limit : up_to_limit None (ids_of four) ≡ ids_of four
+  pub at_most_two : up_to_limit (Some 2) (ids_of four) ≡ at 1 1 ∷ at 1 2 ∷ []
+  pub at_most_none : up_to_limit (Some 0) (ids_of four) ≡ []
+  pub fewer_than_the_limit : up_to_limit (Some 5) (ids_of four) ≡ ids_of four

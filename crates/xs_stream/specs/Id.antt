@@ -34,8 +34,8 @@ abbrev pub greatest_id : Id
 greatest_id = record { ms = greatest_number; seq = greatest_number }
 
 -- `ms-seq`
-abbrev pub printed : Id → List ℕ
-printed id = decimal id.ms ++ 45 ∷ decimal id.seq
+abbrev pub id_text : Id → List ℕ
+id_text id = decimal id.ms ++ 45 ∷ decimal id.seq
 
 -- the successor of an id that isn't the greatest
 abbrev pub successor : Id → Id
@@ -45,14 +45,14 @@ successor id =
     else record { ms = id.ms + 1; seq = 0 }
 
 -- the id of an addition, if the top isn't the greatest id
-abbrev pub assigned_above : ℕ → Id → AddId → Result Id AddError
-assigned_above now top Auto = Ok (if nat_lt top.ms now then record { ms = now; seq = 0 } else successor top)
-assigned_above now top (AutoSeq ms) =
+abbrev pub id_of_addition_above : ℕ → Id → AddId → Result Id AddError
+id_of_addition_above now top Auto = Ok (if nat_lt top.ms now then record { ms = now; seq = 0 } else successor top)
+id_of_addition_above now top (AutoSeq ms) =
     if ms == top.ms
     then (if nat_lt top.seq greatest_number then Ok (record { ms = ms; seq = top.seq + 1 }) else Err Small)
     else (if nat_lt top.ms ms then Ok (record { ms = ms; seq = 0 }) else Err Small)
-assigned_above now top (Exact id) = if is_below top id then Ok id else Err Small
+id_of_addition_above now top (Exact id) = if is_below top id then Ok id else Err Small
 
 -- the id that an addition at this moment gets in a stream with this top
-abbrev pub assigned : ℕ → Id → AddId → Result Id AddError
-assigned now top id = if is_same_id top greatest_id then Err Exhausted else assigned_above now top id
+abbrev pub id_of_addition : ℕ → Id → AddId → Result Id AddError
+id_of_addition now top id = if is_same_id top greatest_id then Err Exhausted else id_of_addition_above now top id

@@ -95,10 +95,10 @@ rebased_code base from bytes =
     ms_code base (entry_id from bytes).ms ++ (number_code (entry_id from bytes).seq ++ text_code (entry_body bytes))
 
 -- this many of them
-abbrev pub all_rebased : ℕ → ℕ → ℕ → List ℕ → List ℕ
-all_rebased base from zero bytes = []
-all_rebased base from (suc count) bytes =
-    rebased_code base from bytes ++ all_rebased base from count (after_entry bytes)
+abbrev pub rebased_codes : ℕ → ℕ → ℕ → List ℕ → List ℕ
+rebased_codes base from zero bytes = []
+rebased_codes base from (suc count) bytes =
+    rebased_code base from bytes ++ rebased_codes base from count (after_entry bytes)
 
 -- one of this many entries has the names that stand elsewhere
 abbrev pub shares_names : ℕ → List ℕ → Bool

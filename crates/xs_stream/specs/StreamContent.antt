@@ -50,16 +50,16 @@ is_trimmed (MaxLen n) ids x = nat_le n (count_above x ids)
 is_trimmed (MinId low) ids x = is_below x low
 
 -- the entries that a trim keeps
-abbrev pub trimmed : Trim → List (Id × List Field) → List (Id × List Field)
-trimmed trim entries = filter (λ e. not (is_trimmed trim (ids_of entries) e.0)) entries
+abbrev pub entries_after_trim : Trim → List (Id × List Field) → List (Id × List Field)
+entries_after_trim trim entries = filter (λ e. not (is_trimmed trim (ids_of entries) e.0)) entries
 
 -- both ends belong to a range
 abbrev pub is_within : Range → Id → Bool
 is_within range id = not (is_below id range.low) && not (is_below range.high id)
 
-abbrev pub limited : Option ℕ → List Id → List Id
-limited None ids = ids
-limited (Some n) ids = take n ids
+abbrev pub up_to_limit : Option ℕ → List Id → List Id
+up_to_limit None ids = ids
+up_to_limit (Some n) ids = take n ids
 
 -- the ids within a range, in their order or from the greatest down
 abbrev pub ids_within : Range → Bool → List (Id × List Field) → List Id

@@ -6,9 +6,10 @@ ghost use Rattle.std.specs.Map.{lookup_key, remove_entry};
 ghost use Rattle.xs_stream.specs.declared.id.Id.{Id};
 ghost use Rattle.xs_stream.specs.declared.trim.Trim.TheVariants.{MinId};
 ghost use Rattle.xs_stream.specs.Id.{is_below, is_same_id};
-ghost use Rattle.xs_stream.specs.StreamContent.{is_within, ids_of, fields_at, without, trimmed, Ascends, AllUpTo};
+ghost use Rattle.xs_stream.specs.StreamContent.{is_within, ids_of, fields_at, without, entries_after_trim, Ascends};
+ghost use Rattle.xs_stream.specs.StreamContent.{AllUpTo};
 ghost use Rattle.xs_stream.specs.ConsistentStream.{AllIds};
-ghost use Rattle.xs_stream.specs.Blocks.{all_of, AreFiled, BeginsFrom, IsLaidDown, filed_under, end_at, HasJoined};
+ghost use Rattle.xs_stream.specs.Blocks.{all_of, AreFiled, BeginsFrom, IsLaidDown, block_ids, end_at, HasJoined};
 
 use crate::block::Block;
 use crate::entry::Entry;
@@ -40,7 +41,7 @@ impl Entries {
     pub(crate) fn new(alloc: Global) -> Self
         ensures none { all_of result ≡ [] }
         ensures laid_down { IsLaidDown result }
-        ensures filed_under { filed_under result ≡ [] }
+        ensures filed_under { block_ids result ≡ [] }
     {
         Self {
             older: BTreeMap::new(alloc),
@@ -106,11 +107,11 @@ impl Entries {
     fn make_room(&mut self, top: Id, values: u64) -> Result<(), AllocError>
         requires laid_down { IsLaidDown self.old }
         requires up_to_top { AllUpTo top (ids_of (all_of self.old)) }
-        requires filed_up_to_top { AllUpTo top (filed_under self.old) }
+        requires filed_up_to_top { AllUpTo top (block_ids self.old) }
         ensures room { OnOk result (length self.new.newest < 128) }
         ensures same { all_of self.new ≡ all_of self.old }
         ensures laid_down { IsLaidDown self.new }
-        ensures filed_up_to_top { AllUpTo top (filed_under self.new) }
+        ensures filed_up_to_top { AllUpTo top (block_ids self.new) }
     {
         if self.newest.has_room(values) {
             return Ok(());
@@ -131,12 +132,12 @@ impl Entries {
     pub(crate) fn push(&mut self, top: Id, id: Id, fields: &[Field]) -> Result<(), AllocError>
         requires laid_down { IsLaidDown self.old }
         requires up_to_top { AllUpTo top (ids_of (all_of self.old)) }
-        requires filed_up_to_top { AllUpTo top (filed_under self.old) }
+        requires filed_up_to_top { AllUpTo top (block_ids self.old) }
         requires above { is_below top id ≡ true }
         ensures ok { OnOk result (all_of self.new ≡ all_of self.old ++ (id, fields.now) ∷ []) }
         ensures err { OnErr result (all_of self.new ≡ all_of self.old) }
         ensures laid_down { IsLaidDown self.new }
-        ensures filed_up_to_top { AllUpTo top (filed_under self.new) }
+        ensures filed_up_to_top { AllUpTo top (block_ids self.new) }
     {
         let Some(len) = self.len.checked_add(1) else {
             return Err(AllocError);
@@ -174,7 +175,7 @@ impl Entries {
         requires { AreFiled self.old.older.entries self.old.newest }
         ensures same { all_of self.new ≡ all_of self.old }
         ensures filed { AreFiled self.new.older.entries self.new.newest }
-        ensures filed_up_to_top { (top : Id) → AllUpTo top (filed_under self.old) → AllUpTo top (filed_under self.new) }
+        ensures filed_up_to_top { (top : Id) → AllUpTo top (block_ids self.old) → AllUpTo top (block_ids self.new) }
         ensures len { self.new.len ≡ self.old.len }
     {
         let Some(next) = self.block_after(under) else {
@@ -199,7 +200,7 @@ impl Entries {
         requires { AreFiled self.old.older.entries self.old.newest }
         ensures same { all_of self.new ≡ all_of self.old }
         ensures filed { AreFiled self.new.older.entries self.new.newest }
-        ensures filed_up_to_top { (top : Id) → AllUpTo top (filed_under self.old) → AllUpTo top (filed_under self.new) }
+        ensures filed_up_to_top { (top : Id) → AllUpTo top (block_ids self.old) → AllUpTo top (block_ids self.new) }
         ensures len { self.new.len ≡ self.old.len }
     {
         self.join_next(under);
@@ -213,7 +214,7 @@ impl Entries {
         requires { AreFiled self.old.older.entries self.old.newest }
         ensures same { all_of self.new ≡ all_of self.old }
         ensures filed { AreFiled self.new.older.entries self.new.newest }
-        ensures filed_up_to_top { (top : Id) → AllUpTo top (filed_under self.old) → AllUpTo top (filed_under self.new) }
+        ensures filed_up_to_top { (top : Id) → AllUpTo top (block_ids self.old) → AllUpTo top (block_ids self.new) }
         ensures len { self.new.len ≡ self.old.len }
     {
         self.join_around(under);
@@ -238,7 +239,7 @@ impl Entries {
         requires under { lookup_key (λ under. not (is_below under id)) self.old.older.entries ≡ Some under }
         ensures entries { all_of self.new ≡ remove_entry (is_same_id id) (all_of self.old) }
         ensures filed { AreFiled self.new.older.entries self.new.newest }
-        ensures filed_up_to_top { (top : Id) → AllUpTo top (filed_under self.old) → AllUpTo top (filed_under self.new) }
+        ensures filed_up_to_top { (top : Id) → AllUpTo top (block_ids self.old) → AllUpTo top (block_ids self.new) }
         ensures count { length (all_of self.new) + (if result.0 then 1 else 0) ≡ length (all_of self.old) }
         ensures len { self.new.len ≡ self.old.len }
     {
@@ -258,7 +259,7 @@ impl Entries {
         requires { AreFiled self.old.older.entries self.old.newest }
         ensures entries { all_of self.new ≡ remove_entry (is_same_id id) (all_of self.old) }
         ensures filed { AreFiled self.new.older.entries self.new.newest }
-        ensures filed_up_to_top { (top : Id) → AllUpTo top (filed_under self.old) → AllUpTo top (filed_under self.new) }
+        ensures filed_up_to_top { (top : Id) → AllUpTo top (block_ids self.old) → AllUpTo top (block_ids self.new) }
         ensures count { length (all_of self.new) + (if result then 1 else 0) ≡ length (all_of self.old) }
         ensures len { self.new.len ≡ self.old.len }
     {
@@ -279,7 +280,7 @@ impl Entries {
         requires { IsLaidDown self.old }
         ensures entries { all_of self.new ≡ remove_entry (is_same_id id) (all_of self.old) }
         ensures laid_down { IsLaidDown self.new }
-        ensures filed_up_to_top { (top : Id) → AllUpTo top (filed_under self.old) → AllUpTo top (filed_under self.new) }
+        ensures filed_up_to_top { (top : Id) → AllUpTo top (block_ids self.old) → AllUpTo top (block_ids self.new) }
     {
         if self.take(id) {
             self.len -= 1;
@@ -292,7 +293,7 @@ impl Entries {
         requires ascends { Ascends (ids_of (all_of self.old)) }
         ensures entries { all_of self.new ≡ without ids.now (all_of self.old) }
         ensures laid_down { IsLaidDown self.new }
-        ensures filed_up_to_top { (top : Id) → AllUpTo top (filed_under self.old) → AllUpTo top (filed_under self.new) }
+        ensures filed_up_to_top { (top : Id) → AllUpTo top (block_ids self.old) → AllUpTo top (block_ids self.new) }
     {
         for id in ids {
             self.remove(*id);
@@ -305,7 +306,7 @@ impl Entries {
         requires laid_down { IsLaidDown self.old }
         ensures entries { drop result (all_of self.new) ≡ drop count (all_of self.old) }
         ensures laid_down { IsLaidDown self.new }
-        ensures filed_up_to_top { (top : Id) → AllUpTo top (filed_under self.old) → AllUpTo top (filed_under self.new) }
+        ensures filed_up_to_top { (top : Id) → AllUpTo top (block_ids self.old) → AllUpTo top (block_ids self.new) }
         ensures fewer { result + length self.new.older.entries < count + length self.old.older.entries }
     {
         let Some((under, block)) = self.older.first_key_value() else {
@@ -333,7 +334,7 @@ impl Entries {
         requires { IsLaidDown self.old }
         ensures entries { all_of self.new ≡ drop count (all_of self.old) }
         ensures laid_down { IsLaidDown self.new }
-        ensures filed_up_to_top { (top : Id) → AllUpTo top (filed_under self.old) → AllUpTo top (filed_under self.new) }
+        ensures filed_up_to_top { (top : Id) → AllUpTo top (block_ids self.old) → AllUpTo top (block_ids self.new) }
     {
         let mut left = count;
         while left > 0 {
@@ -345,10 +346,11 @@ impl Entries {
     fn drop_block_below(&mut self, low: Id) -> bool
         requires laid_down { IsLaidDown self.old }
         requires ascends { Ascends (ids_of (all_of self.old)) }
-        ensures kept { trimmed (MinId low) (all_of self.new) ≡ trimmed (MinId low) (all_of self.old) }
+        ensures kept { entries_after_trim (MinId low) (all_of self.new)
+            ≡ entries_after_trim (MinId low) (all_of self.old) }
         ensures ascends { Ascends (ids_of (all_of self.new)) }
         ensures laid_down { IsLaidDown self.new }
-        ensures filed_up_to_top { (top : Id) → AllUpTo top (filed_under self.old) → AllUpTo top (filed_under self.new) }
+        ensures filed_up_to_top { (top : Id) → AllUpTo top (block_ids self.old) → AllUpTo top (block_ids self.new) }
         ensures fewer { result ≡ true → length self.new.older.entries < length self.old.older.entries }
         ensures from { result ≡ false → BeginsFrom low self.new.older.entries }
     {
@@ -380,9 +382,9 @@ impl Entries {
     fn drop_below(&mut self, low: Id)
         requires laid_down { IsLaidDown self.old }
         requires ascends { Ascends (ids_of (all_of self.old)) }
-        ensures entries { all_of self.new ≡ trimmed (MinId low) (all_of self.old) }
+        ensures entries { all_of self.new ≡ entries_after_trim (MinId low) (all_of self.old) }
         ensures laid_down { IsLaidDown self.new }
-        ensures filed_up_to_top { (top : Id) → AllUpTo top (filed_under self.old) → AllUpTo top (filed_under self.new) }
+        ensures filed_up_to_top { (top : Id) → AllUpTo top (block_ids self.old) → AllUpTo top (block_ids self.new) }
     {
         while self.drop_block_below(low) {}
         let count = self.count_below(low);
@@ -393,9 +395,9 @@ impl Entries {
     pub(crate) fn trim(&mut self, trim: Trim)
         requires laid_down { IsLaidDown self.old }
         requires ascends { Ascends (ids_of (all_of self.old)) }
-        ensures entries { all_of self.new ≡ trimmed trim (all_of self.old) }
+        ensures entries { all_of self.new ≡ entries_after_trim trim (all_of self.old) }
         ensures laid_down { IsLaidDown self.new }
-        ensures filed_up_to_top { (top : Id) → AllUpTo top (filed_under self.old) → AllUpTo top (filed_under self.new) }
+        ensures filed_up_to_top { (top : Id) → AllUpTo top (block_ids self.old) → AllUpTo top (block_ids self.new) }
     {
         match trim {
             Trim::MaxLen(most) => self.drop_first(surplus(self.len, most)),

@@ -1,6 +1,6 @@
 //! Entry ids (Redis Streams, "Entry IDs"): milliseconds and a sequence, in this order.
 ghost use Rattle.std.specs.Prelude.{◌≡◌, ◌<◌, ◌==◌, ◌++◌, IfOk, IfSome, OnOk, OnErr, length, take, vec_len, position};
-ghost use Rattle.xs_stream.specs.Id.{printed};
+ghost use Rattle.xs_stream.specs.Id.{id_text};
 ghost use Rattle.xs_stream.specs.IdText.{next_id, previous_id, id_number, parse_id};
 
 use itoa::Buffer;
@@ -84,7 +84,7 @@ impl Id {
 
     /// Appends the printed id, `ms-seq`. `out` is unchanged on refusal.
     pub fn write(&self, out: &mut Vec<u8>) -> Result<(), AllocError>
-        ensures ok { OnOk result (out.new.items ≡ out.old.items ++ printed self.now) }
+        ensures ok { OnOk result (out.new.items ≡ out.old.items ++ id_text self.now) }
         ensures err { OnErr result (out.new.items ≡ out.old.items) }
     {
         let before = out.len();
@@ -99,7 +99,7 @@ impl Id {
 
     /// The printed id.
     pub fn text(&self, alloc: Global) -> Result<Bytes, AllocError>
-        ensures { IfOk result (λ text. text ≡ printed self.now) }
+        ensures { IfOk result (λ text. text ≡ id_text self.now) }
     {
         let mut ms = Buffer::new();
         let mut seq = Buffer::new();
@@ -110,7 +110,7 @@ impl Id {
 
     /// As `write`, but a refusal may leave a part behind.
     fn write_parts(&self, out: &mut Vec<u8>) -> Result<(), AllocError>
-        ensures ok { OnOk result (out.new.items ≡ out.old.items ++ printed self.now) }
+        ensures ok { OnOk result (out.new.items ≡ out.old.items ++ id_text self.now) }
         ensures err { OnErr result (take (vec_len out.old) out.new.items ≡ out.old.items) }
     {
         push_decimal(out, self.ms)?;

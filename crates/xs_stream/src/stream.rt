@@ -2,9 +2,9 @@
 ghost use Rattle.std.specs.Prelude.{◌≡◌, ◌↔◌, ◌+◌, ◌-◌, ◌++◌, ◌∷◌, [], true, Ok};
 ghost use Rattle.std.specs.Prelude.{Err, IfOk, OnOk, OnErr, IsErrOf, length};
 ghost use Rattle.std.specs.Prelude.{filter};
-ghost use Rattle.xs_stream.specs.Id.{zero_id, is_below, assigned};
-ghost use Rattle.xs_stream.specs.StreamContent.{ids_of, fields_at, without, trimmed};
-ghost use Rattle.xs_stream.specs.StreamContent.{ids_within, entries_within, limited, AreEntriesOf};
+ghost use Rattle.xs_stream.specs.Id.{zero_id, is_below, id_of_addition};
+ghost use Rattle.xs_stream.specs.StreamContent.{ids_of, fields_at, without, entries_after_trim};
+ghost use Rattle.xs_stream.specs.StreamContent.{ids_within, entries_within, up_to_limit, AreEntriesOf};
 ghost use Rattle.xs_stream.specs.ConsistentStream.{IsValidStream};
 
 use crate::add::{AddError, AddId};
@@ -80,7 +80,7 @@ impl Stream {
 
     /// The id that an addition would get now, which is above the top (XADD).
     pub fn assign(&self, now: Moment, id: AddId) -> Result<Id, AddError>
-        ensures given { result ≡ assigned now self.now.top id }
+        ensures given { result ≡ id_of_addition now self.now.top id }
         ensures above { IfOk result (λ given. is_below self.now.top given ≡ true) }
     {
         assigned_id(now, self.top, id)
@@ -104,10 +104,10 @@ impl Stream {
 
     /// Adds an entry above all that were ever added (XADD). The stream is unchanged on each error.
     pub fn add(&mut self, now: Moment, id: AddId, fields: &[Field]) -> Result<Id, AddError>
-        ensures ok { IfOk result (λ given. (assigned now self.old.top id ≡ Ok given)
+        ensures ok { IfOk result (λ given. (id_of_addition now self.old.top id ≡ Ok given)
             × (self.new ≡ record { top = given; entries = self.old.entries ++ (given, fields.now) ∷ [] })) }
-        ensures small { IsErrOf result AddError.Small ↔ (assigned now self.old.top id ≡ Err AddError.Small) }
-        ensures exhausted { IsErrOf result AddError.Exhausted ↔ (assigned now self.old.top id
+        ensures small { IsErrOf result AddError.Small ↔ (id_of_addition now self.old.top id ≡ Err AddError.Small) }
+        ensures exhausted { IsErrOf result AddError.Exhausted ↔ (id_of_addition now self.old.top id
             ≡ Err AddError.Exhausted) }
         ensures err { OnErr result (self.new ≡ self.old) }
     {
@@ -130,7 +130,7 @@ impl Stream {
 
     /// Trims exactly, and says how many entries went (XTRIM).
     pub fn trim(&mut self, trim: Trim) -> u64
-        ensures entries { self.new ≡ record self.old { entries = trimmed trim self.old.entries } }
+        ensures entries { self.new ≡ record self.old { entries = entries_after_trim trim self.old.entries } }
         ensures count { result + length self.new.entries ≡ length self.old.entries }
     {
         let before = self.entries.len();
@@ -146,7 +146,7 @@ impl Stream {
         limit: Option<u64>,
         reversed: bool,
     ) -> Result<List<Id>, AllocError>
-        ensures { IfOk result (λ ids. ids ≡ limited limit (ids_within range reversed self.now.entries)) }
+        ensures { IfOk result (λ ids. ids ≡ up_to_limit limit (ids_within range reversed self.now.entries)) }
     {
         if range.high < range.low {
             return Ok(List::new(Vec::new(alloc)));
@@ -222,7 +222,8 @@ impl Stream {
         cursor: Id,
         limit: Option<u64>,
     ) -> Result<List<Id>, AllocError>
-        ensures { IfOk result (λ ids. ids ≡ limited limit (filter (λ x. is_below cursor x) (ids_of self.now.entries))) }
+        ensures { IfOk result (λ ids. ids
+            ≡ up_to_limit limit (filter (λ x. is_below cursor x) (ids_of self.now.entries))) }
     {
         let ids = self
             .entries
@@ -233,7 +234,7 @@ impl Stream {
 
 /// The id that an addition gets in a stream with this top.
 fn assigned_id(now: Moment, top: Id, id: AddId) -> Result<Id, AddError>
-    ensures { result ≡ assigned now top id }
+    ensures { result ≡ id_of_addition now top id }
 {
     let Some(after) = top.next() else {
         return Err(AddError::Exhausted);

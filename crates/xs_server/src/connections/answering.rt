@@ -1,7 +1,7 @@
 //! The answer to the words of a request: their command is asked of a port.
 ghost use Rattle.std.specs.Prelude.{◌≡◌, ◌<◌, true, Option, IfOk, OnErr, Ok, length};
 ghost use Rattle.xs_command.specs.declared.command.Command.{Command};
-ghost use Rattle.xs_command.specs.Read.{reads};
+ghost use Rattle.xs_command.specs.Read.{command_of_words};
 ghost use Rattle.xs_command.specs.WellFormed.{IsWellFormed};
 ghost use Rattle.xs_command.specs.Words.{Gives};
 ghost use Rattle.xs_server.specs.Answering.{Answered};
@@ -25,7 +25,7 @@ pub struct Said {
 /// try.
 fn command_of(alloc: Global, reserve: &mut Reserve, words: Request<'_>) -> Result<Command, Refusal>
     requires { 0 < length words }
-    ensures exact { Gives result (reads words.entry) }
+    ensures exact { Gives result (command_of_words words.entry) }
     ensures formed { IfOk result IsWellFormed }
 {
     match read_request(alloc, words.again()) {
@@ -51,7 +51,7 @@ pub fn answer<P: Port, T: Wait>(
     ensures ok { IfOk result (λ said. (asked : Option Command)
         × Answered P.replies port.old words.entry asked said.reply port.new
         × (said.quits ≡ is_quit asked)) }
-    ensures err { OnErr result ((command : Command) × (reads words.entry ≡ Ok command)
+    ensures err { OnErr result ((command : Command) × (command_of_words words.entry ≡ Ok command)
         × P.fails port.old command port.new × (P.gone port.new ≡ true)) }
 {
     match command_of(alloc, reserve, words) {

@@ -1,7 +1,7 @@
 //! A connection over a reader and a writer.
 ghost use Rattle.std.specs.Prelude.{◌≡◌, ◌+◌, ◌≤◌, List, ℕ, Err, true};
 ghost use Rattle.std.specs.Io.KnownBytes.{Appends, Consumes};
-ghost use Rattle.xs_devices.specs.Device.{capped};
+ghost use Rattle.xs_devices.specs.Device.{counter_at};
 ghost use Rattle.xs_server.specs.Machine.{HasCause, reads_limit};
 ghost use Rattle.xs_server.specs.Serve.{ServesConnection, cause_of_connection};
 
@@ -29,7 +29,7 @@ pub fn serve<R: Source, W: Sink, P: Port, T: Wait>(
     ensures serves { (read sent : List ℕ)
         × Consumes (R.rest reader.old) (R.rest reader.new) read × Appends (W.held writer.old) (W.held writer.new) sent
         × ServesConnection P.replies P.fails result port.old port.new read sent }
-    ensures reads { capped (R.calls reader.new) ≤ R.calls reader.old + reads_limit }
+    ensures reads { counter_at (R.calls reader.new) ≤ R.calls reader.old + reads_limit }
     ensures cause { HasCause (cause_of_connection result) (R.rest reader.new) (R.ended reader.new) (R.broken reader.new)
         (R.calls reader.old) (R.calls reader.new) (W.broken writer.new) }
     ensures gone { (replies : ℕ) → result ≡ Err (ServeFault.Port replies) → P.gone port.new ≡ true }
@@ -51,7 +51,7 @@ pub fn serve_with<R: Source, W: Sink, P: Port, T: Wait>(
     ensures serves { (read sent : List ℕ)
         × Consumes (R.rest reader.old) (R.rest reader.new) read × Appends (W.held writer.old) (W.held writer.new) sent
         × ServesConnection P.replies P.fails result port.old port.new read sent }
-    ensures reads { capped (R.calls reader.new) ≤ R.calls reader.old + reads_limit }
+    ensures reads { counter_at (R.calls reader.new) ≤ R.calls reader.old + reads_limit }
     ensures cause { HasCause (cause_of_connection result) (R.rest reader.new) (R.ended reader.new) (R.broken reader.new)
         (R.calls reader.old) (R.calls reader.new) (W.broken writer.new) }
     ensures gone { (replies : ℕ) → result ≡ Err (ServeFault.Port replies) → P.gone port.new ≡ true }

@@ -2,7 +2,7 @@
 ghost use Rattle.std.specs.Prelude.{◌≡◌, ◌+◌, ◌*◌, ◌<◌, ◌≤◌, ◌⊎◌, ◌++◌, [], Bool, ℕ, List, true, length, take};
 ghost use Rattle.std.specs.Prelude.{OnOk, OnErr, IfErr, MatchResult};
 ghost use Rattle.std.specs.Io.KnownBytes.{Appends, Consumes};
-ghost use Rattle.xs_devices.specs.Device.{capped};
+ghost use Rattle.xs_devices.specs.Device.{counter_at};
 ghost use Rattle.xs_server.specs.Machine.{Cause, HasCause, EndsOncePaid, reads_limit};
 
 use crate::machines::machine::{Machine, Turn};
@@ -25,10 +25,10 @@ fn come<S, T, M: Machine<S, T>, R: Source>(
         × MatchResult result (λ _. M.stands first (read ++ got) sent machine.new service.new)
         (λ end. (cause : Cause) × EndsOncePaid M.has_ended (M.breaks machine.new) cause end
         first (read ++ got) sent (M.owes machine.new) service.new
-        × ((before : ℕ) (broken : Bool) → capped (R.calls reader.old + left.old) ≡ capped (before + reads_limit)
+        × ((before : ℕ) (broken : Bool) → counter_at (R.calls reader.old + left.old) ≡ counter_at (before + reads_limit)
         → HasCause cause (R.rest reader.new) (R.ended reader.new) (R.broken reader.new)
         before (R.calls reader.new) broken)) }
-    ensures counted { capped (R.calls reader.new + left.new) ≡ capped (R.calls reader.old + left.old) }
+    ensures counted { counter_at (R.calls reader.new + left.new) ≡ counter_at (R.calls reader.old + left.old) }
     ensures less { OnOk result (left.new * 65537 + M.held machine.new < left.old * 65537 + M.held machine.old) }
 {
     match machine.advance(rt, service) {
@@ -140,7 +140,7 @@ pub fn drive<S, T, M: Machine<S, T>, R: Source, W: Sink>(
         × M.has_ended cause result service.old read sent service.new
         × HasCause cause (R.rest reader.new) (R.ended reader.new) (R.broken reader.new)
         (R.calls reader.old) (R.calls reader.new) (W.broken writer.new) }
-    ensures reads { capped (R.calls reader.new) ≤ R.calls reader.old + reads_limit }
+    ensures reads { counter_at (R.calls reader.new) ≤ R.calls reader.old + reads_limit }
 {
     let mut left = READS;
     'turns: loop {

@@ -12,9 +12,9 @@ pub enum Turn<E> {
     Ends(E),
 }
 
-/// A machine with no IO: it lends what bytes are read into, each of its turns may ask a service of type `S`, and it owes
-/// bytes, which are paid piece by piece. What its turns need to wait, if they may, is of type `T`. A machine that has ended owes its
-/// last bytes, and has no further turn.
+/// A machine with no IO: it lends what bytes are read into, each of its turns may ask a service of type `S`, and it
+/// owes bytes, which are paid piece by piece. What its turns need to wait, if they may, is of type `T`. A machine that
+/// has ended owes its last bytes, and has no further turn.
 pub trait Machine<S, T> {
     ghost use Rattle.std.specs.Prelude.{◌≡◌, ◌+◌, ◌<◌, ◌≤◌, ◌++◌, [], ℕ, List, length, take};
     ghost use Rattle.std.specs.Borrow.{sem};

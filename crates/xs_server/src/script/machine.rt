@@ -1,7 +1,7 @@
 //! A script, with no IO of its own: each of its turns answers a line.
 ghost use Rattle.std.specs.Prelude.{◌≡◌, ◌≤◌, ◌+◌, ℕ, [], false, length, Err};
 ghost use Rattle.std.specs.List.{list_any};
-ghost use Rattle.xs_devices.specs.Device.{capped};
+ghost use Rattle.xs_devices.specs.Device.{counter_at};
 ghost use Rattle.xs_server.specs.Line.{is_line_end, line_limit};
 ghost use Rattle.xs_server.specs.ScriptMachine.{IsNewScript, RunsBy, ScriptStands};
 
@@ -43,15 +43,15 @@ impl Script {
 
     /// How many bytes are written once all that is owed is.
     fn total(&self) -> u64
-        ensures { result ≡ capped (self.now.written + length self.now.owed.items) }
+        ensures { result ≡ counter_at (self.now.written + length self.now.owed.items) }
     {
         self.written.saturating_add(self.owed.len() as u64)
     }
 
     /// The end where the line in hand is no script line.
     fn line_error(&self) -> Result<u64, ScriptFault>
-        ensures { result ≡ Err (ScriptFault.Line (capped (self.now.number + 1))
-            (capped (self.now.written + length self.now.owed.items))) }
+        ensures { result ≡ Err (ScriptFault.Line (counter_at (self.now.number + 1))
+            (counter_at (self.now.written + length self.now.owed.items))) }
     {
         Err(ScriptFault::Line {
             number: self.number.saturating_add(1),
@@ -61,7 +61,7 @@ impl Script {
 
     /// The end where memory runs out.
     fn out_of_memory(&self) -> Result<u64, ScriptFault>
-        ensures { result ≡ Err (ScriptFault.Memory (capped (self.now.written + length self.now.owed.items))) }
+        ensures { result ≡ Err (ScriptFault.Memory (counter_at (self.now.written + length self.now.owed.items))) }
     {
         Err(ScriptFault::Memory {
             written: self.total(),
@@ -95,7 +95,7 @@ impl Machine<Keyspace, ()> for Script {
 
     ghost has_ended = { λ cause end first read sent keyspace. RunsBy cause end read sent };
 
-    ghost breaks = { λ script count. Err (ScriptFault.Write (capped (script.written + count))) };
+    ghost breaks = { λ script count. Err (ScriptFault.Write (counter_at (script.written + count))) };
 
     fn advance(&mut self, _rt: &(), keyspace: &mut Keyspace) -> Turn<Result<u64, ScriptFault>> {
         let Some(at) = self.held.line_end() else {

@@ -1,7 +1,7 @@
 //! A script over a reader and a writer.
 ghost use Rattle.std.specs.Prelude.{◌+◌, ◌≤◌, List, ℕ};
 ghost use Rattle.std.specs.Io.KnownBytes.{Appends, Consumes};
-ghost use Rattle.xs_devices.specs.Device.{capped};
+ghost use Rattle.xs_devices.specs.Device.{counter_at};
 ghost use Rattle.xs_server.specs.Machine.{HasCause, reads_limit};
 ghost use Rattle.xs_server.specs.ScriptMachine.{Runs, cause_of_script};
 
@@ -22,7 +22,7 @@ pub fn run_script<R: Source, W: Sink>(
     ensures runs { (read sent : List ℕ) × Consumes (R.rest reader.old) (R.rest reader.new) read
         × Appends (W.held writer.old) (W.held writer.new) sent
         × Runs result read sent (R.rest reader.new) (R.ended reader.new) }
-    ensures reads { capped (R.calls reader.new) ≤ R.calls reader.old + reads_limit }
+    ensures reads { counter_at (R.calls reader.new) ≤ R.calls reader.old + reads_limit }
     ensures cause { HasCause (cause_of_script result) (R.rest reader.new) (R.ended reader.new) (R.broken reader.new)
         (R.calls reader.old) (R.calls reader.new) (W.broken writer.new) }
 {

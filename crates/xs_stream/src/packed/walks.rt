@@ -6,7 +6,7 @@ ghost use Rattle.std.specs.Map.{remove_entry};
 ghost use Rattle.std.specs.Option.{is_some};
 ghost use Rattle.xs_stream.specs.Id.{is_same_id, is_below};
 ghost use Rattle.xs_stream.specs.StreamContent.{is_within, ids_of, fields_at};
-ghost use Rattle.xs_stream.specs.Packed.{after_entries, block_entries, shares_names, all_rebased};
+ghost use Rattle.xs_stream.specs.Packed.{after_entries, block_entries, shares_names, rebased_codes};
 ghost use Rattle.xs_stream.specs.PassedEntries.{packed_ids, AllBelow};
 
 use crate::entry::Entry;
@@ -224,7 +224,7 @@ pub(crate) fn push_rebased(
     count: usize,
     bytes: &[u8],
 ) -> Result<(), AllocError>
-    ensures ok { OnOk result (out.new.items ≡ out.old.items ++ all_rebased base from count bytes.now) }
+    ensures ok { OnOk result (out.new.items ≡ out.old.items ++ rebased_codes base from count bytes.now) }
     ensures err { OnErr result (take (vec_len out.old) out.new.items ≡ out.old.items) }
 {
     let mut rest = bytes;

@@ -2,7 +2,7 @@ use Rattle.xs_group.proofs.Terms.{◌≡◌, ◌+◌, ◌*◌, ◌<◌, ◌≤�
 use Rattle.xs_group.proofs.Terms.{false, cond, leb, Some, sym, ap, ◌∙◌, subst, arith, append-nil, nat_tests}
 use Rattle.xs_group.proofs.Terms.{range_contains, entries_between, Included, Unbounded, Id, id_cmp, has_id, ids_of}
 use Rattle.xs_group.proofs.Terms.{RowState, is_taken, is_removed, is_hit, from_start, first_or_zero, rows_of}
-use Rattle.xs_group.proofs.Terms.{verdict_of, with_taken, with_removed, hits_of, scanned_after}
+use Rattle.xs_group.proofs.Terms.{verdict_of, with_taken, with_removed, hits_of, ids_scanned_after}
 use Rattle.xs_group.proofs.ChosenIds.{taken-verdict, removed-verdict, hits-verdict, one_most}
 use Rattle.xs_group.proofs.Ordered.{entries-rows_of}
 use Rattle.xs_group.proofs.Scanning.{AreFound, found-all, found-filter, keys-between, scanned-on, scanned-enough}
@@ -33,9 +33,9 @@ loop-id-init c =
           (found-all rows (rows_of c.args.rows.now.entries).sorted));
       taken = (λ i. c.new-found.ensures.take i ++ filter
           (is_taken rows present c.args.terms.now.moment c.args.terms.now.rule)
-          (scanned_after hit c.args.limit 0 0 (all i)));
-      removed = (λ i. c.new-found.ensures.removed i ++ filter (is_removed rows present) (scanned_after hit c.args.limit 0 0 (all i)));
-      cursor = ap (λ ks. first_or_zero (drop (length (scanned_after hit c.args.limit 0 0 ks)) ks)) all;
+          (ids_scanned_after hit c.args.limit 0 0 (all i)));
+      removed = (λ i. c.new-found.ensures.removed i ++ filter (is_removed rows present) (ids_scanned_after hit c.args.limit 0 0 (all i)));
+      cursor = ap (λ ks. first_or_zero (drop (length (ids_scanned_after hit c.args.limit 0 0 ks)) ks)) all;
     }
 
 pub loop-id-preserved : goal.loop-id-preserved
@@ -55,10 +55,10 @@ loop-id-preserved c =
     let no_ids : leb (10 * limit) c.loop-id.seen ≡ false = grind (arith, nat_tests) in
     let v = verdict_of (Some row) (has_id present id) now rule in
     let hits : cond (hit id) 1 0 ≡ c.hits-hits.result = hits-verdict rows present now rule (Some row) id found.0 ∙ ap hits_of (sym c.judge-verdict.ensures) ∙ sym c.hits-hits.ensures in
-    let on : scanned_after hit limit c.loop-id.hits c.loop-id.seen (keys c.loop-id.id-iterator) ≡ id ∷ scanned_after hit limit (c.loop-id.hits + c.hits-hits.result) (c.loop-id.seen + 1) (keys c.next.new.self) =
-    ap (λ es. scanned_after hit limit c.loop-id.hits c.loop-id.seen (keys es)) steps ∙ scanned-on hit limit c.loop-id.hits c.loop-id.seen id (keys c.next.new.self) no_hits no_ids
-    ∙ ap (λ h. id ∷ scanned_after hit limit (c.loop-id.hits + h) (c.loop-id.seen + 1) (keys c.next.new.self)) hits in
-    let more = scanned_after hit limit (c.loop-id.hits + c.hits-hits.result) (c.loop-id.seen + 1) (keys c.next.new.self) in
+    let on : ids_scanned_after hit limit c.loop-id.hits c.loop-id.seen (keys c.loop-id.id-iterator) ≡ id ∷ ids_scanned_after hit limit (c.loop-id.hits + c.hits-hits.result) (c.loop-id.seen + 1) (keys c.next.new.self) =
+    ap (λ es. ids_scanned_after hit limit c.loop-id.hits c.loop-id.seen (keys es)) steps ∙ scanned-on hit limit c.loop-id.hits c.loop-id.seen id (keys c.next.new.self) no_hits no_ids
+    ∙ ap (λ h. id ∷ ids_scanned_after hit limit (c.loop-id.hits + h) (c.loop-id.seen + 1) (keys c.next.new.self)) hits in
+    let more = ids_scanned_after hit limit (c.loop-id.hits + c.hits-hits.result) (c.loop-id.seen + 1) (keys c.next.new.self) in
     let one : c.hits-hits.result ≤ 1 = one_most v _ (c.hits-hits.ensures ∙ ap hits_of c.judge-verdict.ensures) in
     let lengths = ap length steps in
     record {
@@ -88,8 +88,8 @@ returns-then-hits-limit c =
       | then-hits-limit-via-then-hits-limit w ↦ grind (arith, nat_tests)
       | then-hits-limit-via-else-hits-limit+then-seen-limit w ↦ grind (arith, nat_tests)
     ] in
-    let stop : scanned_after hit limit c.loop-id.hits c.loop-id.seen (keys c.loop-id.id-iterator) ≡ [] =
-    ap (λ es. scanned_after hit limit c.loop-id.hits c.loop-id.seen (keys es)) steps ∙ scanned-enough hit limit c.loop-id.hits c.loop-id.seen c.in-Some.id.now (keys c.next.new.self) enough in
+    let stop : ids_scanned_after hit limit c.loop-id.hits c.loop-id.seen (keys c.loop-id.id-iterator) ≡ [] =
+    ap (λ es. ids_scanned_after hit limit c.loop-id.hits c.loop-id.seen (keys es)) steps ∙ scanned-enough hit limit c.loop-id.hits c.loop-id.seen c.in-Some.id.now (keys c.next.new.self) enough in
     ap (λ claim. record { cursor = c.in-Some.id.now; claim = claim }) c.into_claim.ensures
     ∙ scan-ended rows present now rule c.args.start limit c.in-Some.id.now c.loop-id.found.take.items c.loop-id.found.removed.items
     (sym (append-nil c.loop-id.found.take.items) ∙ ap (λ p. c.loop-id.found.take.items ++ filter (is_taken rows present now rule) p) (sym stop) ∙ inv.taken)
@@ -106,7 +106,7 @@ returns c =
     let hit = is_hit rows present now rule in
     let inv = c.loop-id.invariant in
     let none : c.loop-id.id-iterator ≡ [] = c.in-None.ensures.steps.0 in
-    let stop : scanned_after hit limit c.loop-id.hits c.loop-id.seen (keys c.loop-id.id-iterator) ≡ [] = ap (λ es. scanned_after hit limit c.loop-id.hits c.loop-id.seen (keys es)) none in
+    let stop : ids_scanned_after hit limit c.loop-id.hits c.loop-id.seen (keys c.loop-id.id-iterator) ≡ [] = ap (λ es. ids_scanned_after hit limit c.loop-id.hits c.loop-id.seen (keys es)) none in
     ap (λ claim. record { cursor = record { ms = 0; seq = 0 }; claim = claim }) c.into_claim-2.ensures
     ∙ scan-ended rows present now rule c.args.start limit (record { ms = 0; seq = 0 }) c.loop-id.found.take.items c.loop-id.found.removed.items
     (sym (append-nil c.loop-id.found.take.items) ∙ ap (λ p. c.loop-id.found.take.items ++ filter (is_taken rows present now rule) p) (sym stop) ∙ inv.taken)

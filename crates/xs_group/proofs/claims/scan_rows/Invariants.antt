@@ -1,5 +1,5 @@
 use Rattle.xs_group.proofs.Terms.{◌≡◌, ◌+◌, ◌<◌, ◌≤◌, ◌++◌, map, filter, length, drop, ids_of, is_taken, is_removed}
-use Rattle.xs_group.proofs.Terms.{is_hit, from_start, first_or_zero, rows_of, scanned_after}
+use Rattle.xs_group.proofs.Terms.{is_hit, from_start, first_or_zero, rows_of, ids_scanned_after}
 use Rattle.xs_group.proofs.Scanning.{AreFound}
 use Rattle.xs_group.proofs.claims.scan_rows.Given as goal
 
@@ -10,9 +10,9 @@ invariant-loop-id l =
     let present = ids_of l.stream.entries in
     let hit = is_hit rows present l.terms.moment l.terms.rule in
     let all = from_start l.fn.start rows in
-    let part = scanned_after hit l.limit 0 0 all in
+    let part = ids_scanned_after hit l.limit 0 0 all in
     let rest = map (λ e. e.0) l.id-iterator in
-    let more = scanned_after hit l.limit l.hits l.seen rest in
+    let more = ids_scanned_after hit l.limit l.hits l.seen rest in
     record {
       few : l.hits ≤ l.seen;
       small : l.seen + length l.id-iterator < 18446744073709551616;

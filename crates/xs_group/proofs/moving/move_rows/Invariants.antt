@@ -1,5 +1,5 @@
 use Rattle.xs_group.proofs.Terms.{◌≡◌, ℕ, List, map, is_some, option_and_then, into_iter_items, Id, ids_at, indexed_row}
-use Rattle.xs_group.proofs.Terms.{moved, AreDistinct, AreAgreedBut}
+use Rattle.xs_group.proofs.Terms.{row_after_move, AreDistinct, AreAgreedBut}
 use Rattle.xs_group.proofs.moving.move_rows.Given as goal
 
 -- what is left to do makes of the rows what all was to make of them
@@ -8,8 +8,8 @@ invariant-loop-share l = record {
   left : into_iter_items l.share-iterator ≡ map (λ x. l.fn.name) l.todo;
   apart : AreDistinct l.todo;
   agreed : AreAgreedBut l.rows.entries l.owners.entries l.fn.name l.todo;
-  rows : (x : Id) → option_and_then (moved l.fn.name l.terms.moment l.terms.rule l.todo x)
+  rows : (x : Id) → option_and_then (row_after_move l.fn.name l.terms.moment l.terms.rule l.todo x)
       (indexed_row l.rows.entries x)
-      ≡ option_and_then (moved l.fn.name l.terms.moment l.terms.rule l.fn.ids x) (indexed_row l.fn.rows.entries x);
+      ≡ option_and_then (row_after_move l.fn.name l.terms.moment l.terms.rule l.fn.ids x) (indexed_row l.fn.rows.entries x);
   names : (n : List ℕ) → is_some (ids_at l.owners.entries n) ≡ is_some (ids_at l.fn.owners.entries n);
 }

@@ -1,4 +1,5 @@
-use Rattle.xs_group.proofs.Terms.{◌≡◌, ◌&&◌, get_or, take, ap, ◌∙◌, not, arith, take_more, has_id, is_same_name, holds}
+use Rattle.xs_group.proofs.Terms.{◌≡◌, ◌&&◌, get_or, take, ap, ◌∙◌, not, arith, take_more, has_id, is_same_name}
+use Rattle.xs_group.proofs.Terms.{has_pending_id}
 use Rattle.xs_group.proofs.Terms.{is_owner, indexed_row}
 use Rattle.std.proofs.lemmas.List.{take_all}
 use Rattle.xs_group.proofs.ChosenIds.{has-more}
@@ -25,4 +26,4 @@ returns-clause-agreed c =
     let rows = c.args.rows.now.entries in
     let all : take c.loop-id.id-index c.args.ids.now ≡ c.args.ids.now = take_all c.loop-id.id-index c.args.ids.now (omega arith) in
     agreed-again rows c.args.owners.now.entries c.loop-id.owners.entries name c.requires.0 c.args.ids.now c.requires.1 c.requires.2
-    (λ q x. c.loop-id.invariant.back q x ∙ ap (λ ids. holds c.args.owners.now.entries q x && not (is_same_name q name && (has_id ids x && not (is_owner (indexed_row rows x) name)))) all)
+    (λ q x. c.loop-id.invariant.back q x ∙ ap (λ ids. has_pending_id c.args.owners.now.entries q x && not (is_same_name q name && (has_id ids x && not (is_owner (indexed_row rows x) name)))) all)

@@ -1,4 +1,5 @@
-use Rattle.xs_group.proofs.Terms.{◌≡◌, ◌&&◌, ℕ, List, take, is_some, not, Id, has_id, is_same_name, holds, ids_at}
+use Rattle.xs_group.proofs.Terms.{◌≡◌, ◌&&◌, ℕ, List, take, is_some, not, Id, has_id, is_same_name, has_pending_id}
+use Rattle.xs_group.proofs.Terms.{ids_at}
 use Rattle.xs_group.proofs.Terms.{is_owner, indexed_row}
 use Rattle.xs_group.proofs.moving.take_back.Given as goal
 
@@ -6,6 +7,6 @@ use Rattle.xs_group.proofs.moving.take_back.Given as goal
 abbrev pub invariant-loop-id : goal.invariant-loop-id
 invariant-loop-id l = record {
   names : (n : List ℕ) → is_some (ids_at l.owners.entries n) ≡ is_some (ids_at l.fn.owners.entries n);
-  back : (n : List ℕ) → (x : Id) → holds l.owners.entries n x
-      ≡ (holds l.fn.owners.entries n x && not (is_same_name n l.name && (has_id (take l.id-index l.ids) x && not (is_owner (indexed_row l.rows.entries x) l.name))));
+  back : (n : List ℕ) → (x : Id) → has_pending_id l.owners.entries n x
+      ≡ (has_pending_id l.fn.owners.entries n x && not (is_same_name n l.name && (has_id (take l.id-index l.ids) x && not (is_owner (indexed_row l.rows.entries x) l.name))));
 }

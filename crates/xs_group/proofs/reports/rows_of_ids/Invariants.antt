@@ -1,4 +1,4 @@
-use Rattle.xs_group.proofs.Terms.{◌≡◌, ◌≤◌, ◌++◌, map, filter, length, leb, is_within, idle, pending_row}
+use Rattle.xs_group.proofs.Terms.{◌≡◌, ◌≤◌, ◌++◌, map, filter, length, leb, is_within, idle_time, pending_row}
 use Rattle.xs_group.proofs.ReportRows.{listed_rows}
 use Rattle.xs_group.proofs.reports.rows_of_ids.Given as goal
 
@@ -7,7 +7,7 @@ abbrev pub invariant-loop-id : goal.invariant-loop-id
 invariant-loop-id l =
     let s = l.selection in
     (l.found.items ++ map (pending_row s.moment)
-    (filter (λ e. leb s.min_idle (idle s.moment e.1.time)) (listed_rows l.rows.entries l.id-iterator))
-    ≡ map (pending_row s.moment) (filter (λ e. leb s.min_idle (idle s.moment e.1.time))
+    (filter (λ e. leb s.min_idle (idle_time s.moment e.1.time)) (listed_rows l.rows.entries l.id-iterator))
+    ≡ map (pending_row s.moment) (filter (λ e. leb s.min_idle (idle_time s.moment e.1.time))
     (filter (λ e. is_within s.range e.0) (listed_rows l.rows.entries l.ids.keys))))
     × (length l.found.items ≤ s.limit)

@@ -1,4 +1,4 @@
-use Rattle.xs_group.proofs.Terms.{◌≡◌, ◌≤◌, ◌++◌, None, map, filter, length, leb, idle, rows_of, pending_row}
+use Rattle.xs_group.proofs.Terms.{◌≡◌, ◌≤◌, ◌++◌, None, map, filter, length, leb, idle_time, rows_of, pending_row}
 use Rattle.xs_group.proofs.Terms.{is_selected}
 use Rattle.xs_group.proofs.reports.rows_within.Given as goal
 
@@ -6,7 +6,7 @@ use Rattle.xs_group.proofs.reports.rows_within.Given as goal
 abbrev pub invariant-loop-id : goal.invariant-loop-id
 invariant-loop-id l =
     let s = l.selection in
-    (l.found.items ++ map (pending_row s.moment) (filter (λ e. leb s.min_idle (idle s.moment e.1.time)) l.id-iterator)
+    (l.found.items ++ map (pending_row s.moment) (filter (λ e. leb s.min_idle (idle_time s.moment e.1.time)) l.id-iterator)
     ≡ map (pending_row s.moment) (filter (is_selected s.range s.min_idle s.moment None)
     (rows_of l.rows.entries).entries))
     × (length l.found.items ≤ s.limit)

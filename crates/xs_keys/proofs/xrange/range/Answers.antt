@@ -4,11 +4,11 @@ use Rattle.xs_stream.specs.declared.range.Range.{Range}
 use Rattle.xs_resp.specs.Token.{Token}
 use Rattle.xs_resp.specs.Items.{Items}
 use Rattle.xs_resp.proofs.Wholeness.{filled}
-use Rattle.xs_keys.specs.Terms.{limited, ids_within, Array}
+use Rattle.xs_keys.specs.Terms.{up_to_limit, ids_within, Array}
 use Rattle.xs_keys.proofs.xrange.range.Goals as goal
 
 -- a missing key has no entries to show
-none : (limit : Option ℕ) (range : Range) (reversed : Bool) → limited limit (ids_within range reversed []) ≡ []
+none : (limit : Option ℕ) (range : Range) (reversed : Bool) → up_to_limit limit (ids_within range reversed []) ≡ []
 none None range true = refl
 none None range false = refl
 none (Some n) range true = take-nil n

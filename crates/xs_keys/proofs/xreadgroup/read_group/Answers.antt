@@ -2,7 +2,7 @@ use Rattle.std.proofs.Common.{◌≡◌, ap, ◌∙◌}
 use Rattle.std.proofs.lemmas.Result.{IfOk-weaker}
 use Rattle.xs_group.specs.declared.delivery.Delivery.{Delivery}
 use Rattle.xs_group.specs.Deliveries.{row_ids, delivery_of, history_of}
-use Rattle.xs_keys.specs.Terms.{ids_of, new_ids, own_ids}
+use Rattle.xs_keys.specs.Terms.{ids_of, new_ids, reread_ids}
 use Rattle.xs_keys.proofs.ReadSteps.{ids-new, ids-shown}
 use Rattle.xs_keys.proofs.xreadgroup.read_group.Goals as goal
 
@@ -19,5 +19,5 @@ returns-in-After-clause-rows c =
     let read = c.args.read.now in
     let present = ids_of c.args.stream.now.entries in
     let group = c.args.group.now in
-    rw c.in-After.is (IfOk-weaker c.history.result (λ d. d ≡ history_of read.consumer read.limit c.in-After.id present group) (λ d. row_ids d.rows ≡ own_ids read.consumer read.limit c.in-After.id group.rows.entries)
-    (λ d e. ap (λ (k : Delivery). row_ids k.rows) e ∙ ids-shown group.rows present (own_ids read.consumer read.limit c.in-After.id group.rows.entries)) c.history.ensures.answer)
+    rw c.in-After.is (IfOk-weaker c.history.result (λ d. d ≡ history_of read.consumer read.limit c.in-After.id present group) (λ d. row_ids d.rows ≡ reread_ids read.consumer read.limit c.in-After.id group.rows.entries)
+    (λ d e. ap (λ (k : Delivery). row_ids k.rows) e ∙ ids-shown group.rows present (reread_ids read.consumer read.limit c.in-After.id group.rows.entries)) c.history.ensures.answer)

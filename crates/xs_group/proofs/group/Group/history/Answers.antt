@@ -1,4 +1,4 @@
-use Rattle.xs_group.proofs.Terms.{Some, ap, ◌∙◌, ids_of, with_name, own_ids, row_after_reread, set_rows, shown_rows}
+use Rattle.xs_group.proofs.Terms.{Some, ap, ◌∙◌, ids_of, with_name, reread_ids, row_after_reread, set_rows, shown_rows}
 use Rattle.xs_group.proofs.Terms.{arith}
 use Rattle.xs_group.proofs.group.Group.history.Goals as goal
 use Rattle.xs_group.proofs.RemovedRows.{up_to-change}
@@ -14,7 +14,7 @@ returns-clause-ok c = rw (← c.self.view_is) (grind (
   c.as_slice.ensures,
   c.in_ok-ids.ensures,
   rows-reread c.args.now (ids_of c.args.stream.now.entries)
-      (own_ids c.args.consumer.now c.args.limit c.args.from c.self.inside.pending.rows.entries)
+      (reread_ids c.args.consumer.now c.args.limit c.args.from c.self.inside.pending.rows.entries)
       c.self.inside.pending.rows,
 ))
 
@@ -22,7 +22,7 @@ pub invariant_of-self-2 : goal.invariant_of-self-2
 invariant_of-self-2 c =
     let held = c.self.inside.pending in
     let present = ids_of c.args.stream.now.entries in
-    let ids = own_ids c.args.consumer.now c.args.limit c.args.from held.rows.entries in
+    let ids = reread_ids c.args.consumer.now c.args.limit c.args.from held.rows.entries in
     let rows = c.in_ok-rows.ensures ∙ ap (shown_rows held.rows present) (c.as_slice.ensures ∙ c.in_ok-ids.ensures) in
     let is = c.set_touches.ensures ∙ ap (λ h. record { consumers = h.consumers; rows = set_rows (Some c.args.now) c.as_slice-3.result.now h.rows }) c.in_ok-created.ensures.ok
     ∙ ap (λ rs. record { consumers = with_name held.consumers c.args.consumer.now; rows = set_rows (Some c.args.now) rs held.rows }) (c.as_slice-3.ensures.value ∙ rows)

@@ -3,7 +3,7 @@ use Rattle.std.proofs.lemmas.List.{append-nil, take_all}
 use Rattle.std.specs.BTreeMap.Range.{entries_between}
 use Rattle.std.specs.declared.ops.Bound.TheVariants.{Included}
 use Rattle.xs_stream.specs.Id.{id_cmp}
-use Rattle.xs_stream.specs.Blocks.{listed, end_at}
+use Rattle.xs_stream.specs.Blocks.{entries_of_blocks, end_at}
 use Rattle.xs_stream.proofs.WithinBlocks.{walk-forward, take-full}
 use Rattle.xs_stream.proofs.WithinEntries.{within, walk-within, down-more, down-newest}
 use Rattle.xs_stream.proofs.entries.Entries.entries_down.Goals as goal
@@ -28,19 +28,19 @@ loop-under-preserved c =
     let ids = c.loop-under.shown.items in
     let left = c.next.new.self.iter in
     record {
-      all = ap (λ found. take c.args.most (found ++ reverse (within c.args.range (listed left)))) c.in_ok-push_entries_down-2.ensures
+      all = ap (λ found. take c.args.most (found ++ reverse (within c.args.range (entries_of_blocks left)))) c.in_ok-push_entries_down-2.ensures
           ∙ down-more c.args.range c.args.most ids left (c.in-Some._under.now, c.in-Some.block.now)
-          ∙ ap (λ bs. take c.args.most (ids ++ reverse (within c.args.range (listed bs)))) (sym c.in-Some.ensures.steps) ∙ c.loop-under.invariant.all;
+          ∙ ap (λ bs. take c.args.most (ids ++ reverse (within c.args.range (entries_of_blocks bs)))) (sym c.in-Some.ensures.steps) ∙ c.loop-under.invariant.all;
       few = omega (arith, ap length c.in_ok-push_entries_down-2.ensures, length-take c.args.most (ids ++ reverse (within c.args.range c.in-Some.block.now)));
     }
 
 pub returns : goal.returns
 returns c =
     let ids = c.loop-under.shown.items in
-    let rest = reverse (within c.args.range (listed c.loop-under._under-iterator.iter)) in
+    let rest = reverse (within c.args.range (entries_of_blocks c.loop-under._under-iterator.iter)) in
     let few = take_all c.args.most ids c.loop-under.invariant.few in
     let whole = ap (take c.args.most) (append-nil ids) in
     sym few ∙ sym whole ∙ elim c.match-next.branch [
-      | in-None w ↦ ap (λ bs. take c.args.most (ids ++ reverse (within c.args.range (listed bs)))) (sym w.in-None.ensures.steps.0) ∙ c.loop-under.invariant.all
+      | in-None w ↦ ap (λ bs. take c.args.most (ids ++ reverse (within c.args.range (entries_of_blocks bs)))) (sym w.in-None.ensures.steps.0) ∙ c.loop-under.invariant.all
       | in-Some+then-len-most w ↦ take-full c.args.most ids [] rest (omega arith) ∙ c.loop-under.invariant.all
     ]

@@ -1,7 +1,7 @@
 use Rattle.std.proofs.Common.{◌≡◌, ◌≤◌, false, [], ◌++◌, length, take, sym, ap, ◌∙◌, arith, subst, length-take}
 use Rattle.std.proofs.lemmas.List.{append-nil, take_all}
 use Rattle.xs_stream.specs.Id.{is_below}
-use Rattle.xs_stream.specs.Blocks.{listed, AreFiled}
+use Rattle.xs_stream.specs.Blocks.{entries_of_blocks, AreFiled}
 use Rattle.xs_stream.proofs.Order.{partial-le, le-not_below}
 use Rattle.xs_stream.proofs.WithinEntries.{within, walk-open, none-above, up-more}
 use Rattle.xs_stream.proofs.WithinBlocks.{filed-some, not_true, take-full}
@@ -24,9 +24,9 @@ loop-under-preserved c =
     let newest = c.args.self.now.newest in
     let left = c.next.new.self in
     record {
-      all = ap (λ found. take c.args.most (found ++ within c.args.range (listed left ++ newest))) c.in_ok-push_entries_up.ensures
+      all = ap (λ found. take c.args.most (found ++ within c.args.range (entries_of_blocks left ++ newest))) c.in_ok-push_entries_up.ensures
           ∙ up-more c.args.range c.args.most ids (c.in-Some.under.now, c.in-Some.block.now) left newest
-          ∙ ap (λ bs. take c.args.most (ids ++ within c.args.range (listed bs ++ newest))) (sym c.in-Some.ensures.steps) ∙ c.loop-under.invariant.all;
+          ∙ ap (λ bs. take c.args.most (ids ++ within c.args.range (entries_of_blocks bs ++ newest))) (sym c.in-Some.ensures.steps) ∙ c.loop-under.invariant.all;
       few = omega (arith, ap length c.in_ok-push_entries_up.ensures, length-take c.args.most (ids ++ within c.args.range c.in-Some.block.now));
       filed = (subst (λ bs. AreFiled bs newest) c.in-Some.ensures.steps c.loop-under.invariant.filed).1;
     }
@@ -38,10 +38,10 @@ returns-then-le c =
     let newest = c.args.self.now.newest in
     let left = c.next.new.self in
     let found = c.push_entries_up.new.shown.items in
-    let rest = within c.args.range (listed left ++ newest) in
+    let rest = within c.args.range (entries_of_blocks left ++ newest) in
     let more = ap (λ xs. take c.args.most (xs ++ rest)) c.in_ok-push_entries_up.ensures
     ∙ up-more c.args.range c.args.most ids (c.in-Some.under.now, c.in-Some.block.now) left newest
-    ∙ ap (λ bs. take c.args.most (ids ++ within c.args.range (listed bs ++ newest))) (sym c.in-Some.ensures.steps) ∙ c.loop-under.invariant.all in
+    ∙ ap (λ bs. take c.args.most (ids ++ within c.args.range (entries_of_blocks bs ++ newest))) (sym c.in-Some.ensures.steps) ∙ c.loop-under.invariant.all in
     let filed = subst (λ bs. AreFiled bs newest) c.in-Some.ensures.steps c.loop-under.invariant.filed in
     let few : length found ≤ c.args.most = omega (arith, ap length c.in_ok-push_entries_up.ensures, length-take c.args.most (ids ++ within c.args.range c.in-Some.block.now)) in
     let whole = sym (take_all c.args.most found few) ∙ sym (ap (take c.args.most) (append-nil found)) in
@@ -49,7 +49,7 @@ returns-then-le c =
       | then-le-via-then-le w ↦
           let past : is_below c.in-Some.under.now c.args.range.high ≡ false =
           not_true _ (sym (le-not_below c.args.range.high c.in-Some.under.now) ∙ sym (partial-le _ _) ∙ sym (w.if-le.ensures)) in
-          ap (λ others. take c.args.most (found ++ others)) (sym (none-above c.args.range c.in-Some.under.now (listed left ++ newest) filed.0.later_above past))
+          ap (λ others. take c.args.most (found ++ others)) (sym (none-above c.args.range c.in-Some.under.now (entries_of_blocks left ++ newest) filed.0.later_above past))
       | then-le-via-else-le+then-len-most w ↦ take-full c.args.most found [] rest (omega arith)
     ] ∙ more
 
@@ -57,4 +57,4 @@ pub returns : goal.returns
 returns c =
     let ids = c.loop-under.shown.items in
     let newest = c.args.self.now.newest in
-    c.in_ok-push_entries_up-2.ensures ∙ ap (λ bs. take c.args.most (ids ++ within c.args.range (listed bs ++ newest))) (sym c.in-None.ensures.steps.0) ∙ c.loop-under.invariant.all
+    c.in_ok-push_entries_up-2.ensures ∙ ap (λ bs. take c.args.most (ids ++ within c.args.range (entries_of_blocks bs ++ newest))) (sym c.in-None.ensures.steps.0) ∙ c.loop-under.invariant.all

@@ -3,7 +3,7 @@ use Rattle.std.specs.BTreeMap.{insert_entry}
 use Rattle.xs_stream.specs.declared.id.Id.{Id}
 use Rattle.xs_stream.specs.declared.field.Field.{Field}
 use Rattle.xs_stream.specs.Id.{id_cmp}
-use Rattle.xs_stream.specs.Blocks.{listed}
+use Rattle.xs_stream.specs.Blocks.{entries_of_blocks}
 use Rattle.std.proofs.lemmas.Bool.Decides.{nat_tests}
 use Rattle.xs_stream.proofs.FiledBlocks.{insert-newest, listed-filed, filed-filed, keys-filed}
 use Rattle.xs_stream.proofs.entries.Entries.make_room.Goals as goal
@@ -22,7 +22,7 @@ filed c =
 emptied : (c : goal.Joined-insert-2) → ◌≡◌ {A = List (Id × List Field)} c.replace-full.new.dest []
 emptied c = c.replace-full.ensures.after ∙ c.with_room.ensures
 
-same : (c : goal.Joined-insert-2) → listed c.insert.new.self.entries ++ c.replace-full.new.dest ≡ listed c.args.self.now.older.entries ++ c.args.self.now.newest
+same : (c : goal.Joined-insert-2) → entries_of_blocks c.insert.new.self.entries ++ c.replace-full.new.dest ≡ entries_of_blocks c.args.self.now.older.entries ++ c.args.self.now.newest
 same c = rw (filed c, emptied c) (listed-filed c.args.top c.args.self.now.older.entries c.args.self.now.newest)
 
 pub returns-in-Ok-clause-same : goal.returns-in-Ok-clause-same

@@ -3,7 +3,7 @@ use Rattle.std.specs.Map.{lookup, lookup_entry, remove_entry}
 use Rattle.xs_stream.specs.declared.id.Id.{Id}
 use Rattle.xs_stream.specs.declared.field.Field.{Field}
 use Rattle.xs_stream.specs.Id.{is_below, is_same_id}
-use Rattle.xs_stream.specs.Blocks.{listed}
+use Rattle.xs_stream.specs.Blocks.{entries_of_blocks}
 use Rattle.xs_stream.proofs.FiledBlocks.{same-under, entry-of_key, lent-entry, blocks_without, set-left, removed-left}
 use Rattle.xs_stream.proofs.FiledBlocks.{listed-without, length-without, filed-without, keys-without}
 use Rattle.xs_stream.proofs.entries.Entries.take_from.Goals as goal
@@ -45,7 +45,7 @@ returns-then-is_empty-clause-count c =
     let left = blocks_without c.args.id all.older.entries in
     let from = length-without c.args.id all.older.entries c.args.under c.in-Some.block.now (lent c) in
     let own = ap length c.remove-removed.ensures.entries in
-    rw (gone c) (omega (arith, length-append (listed left) all.newest, length-append (listed all.older.entries) all.newest, from, own, c.remove-removed.ensures.count))
+    rw (gone c) (omega (arith, length-append (entries_of_blocks left) all.newest, length-append (entries_of_blocks all.older.entries) all.newest, from, own, c.remove-removed.ensures.count))
 
 -- ---- the block has other entries
 
@@ -72,4 +72,4 @@ returns-else-is_empty-clause-count c =
     let left = blocks_without c.args.id all.older.entries in
     let from = length-without c.args.id all.older.entries c.args.under c.in-Some.block.now (lent-2 c) in
     let own = ap length c.remove-removed.ensures.entries in
-    rw (fewer c) (omega (arith, length-append (listed left) all.newest, length-append (listed all.older.entries) all.newest, from, own, c.remove-removed.ensures.count))
+    rw (fewer c) (omega (arith, length-append (entries_of_blocks left) all.newest, length-append (entries_of_blocks all.older.entries) all.newest, from, own, c.remove-removed.ensures.count))

@@ -7,7 +7,8 @@ use Rattle.xs_stream.specs.StreamContent.{fields_at}
 use Rattle.xs_stream.specs.PackedText.{first_text}
 use Rattle.xs_stream.specs.Packed.{packed_entries, after_entry, after_entries, entry_in, block_entries}
 use Rattle.xs_stream.proofs.PackedBlocks.{after_entries-more, lookup-passed, lookup-found, removed-passed}
-use Rattle.xs_stream.proofs.PackedBlocks.{removed-found, take-passed, drop-passed, length-after_entry, length-after_entries, joined}
+use Rattle.xs_stream.proofs.PackedBlocks.{removed-found, take-passed, drop-passed, length-after_entry}
+use Rattle.xs_stream.proofs.PackedBlocks.{length-after_entries, joined}
 use Rattle.xs_stream.proofs.PassedEntries.{lookup-start, removed-start}
 use Rattle.xs_stream.proofs.packed.walks.place_of.Goals as goal
 

@@ -1,5 +1,5 @@
 use Rattle.std.proofs.Common.{◌≡◌, ◌-◌, ◌++◌, sym, ap, take_all, arith}
-use Rattle.xs_stream.specs.Packed.{all_rebased}
+use Rattle.xs_stream.specs.Packed.{rebased_codes}
 use Rattle.xs_stream.proofs.PackedCodes.{kept-first, kept-more, on_err-holds}
 use Rattle.xs_stream.proofs.PackedBlocks.{rebased-passed, rebased-all}
 use Rattle.xs_stream.proofs.packed.walks.push_rebased.Goals as goal
@@ -8,7 +8,7 @@ pub loop-init : goal.loop-init
 loop-init c =
     let all : c.args.count - 0 ≡ c.args.count = omega arith in
     record {
-      all = sym (ap (λ n. c.args.out.now.items ++ all_rebased c.args.base c.args.from n c.args.bytes.now) all);
+      all = sym (ap (λ n. c.args.out.now.items ++ rebased_codes c.args.base c.args.from n c.args.bytes.now) all);
       before = take_all _ c.args.out.now.items (omega (arith, c.args.out.now.ok.0));
     }
 

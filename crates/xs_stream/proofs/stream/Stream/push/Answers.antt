@@ -1,7 +1,7 @@
 use Rattle.std.proofs.Common.{◌≡◌, true, arith}
 use Rattle.xs_stream.specs.Id.{is_below}
 use Rattle.xs_stream.specs.ConsistentStream.{IsId}
-use Rattle.xs_stream.specs.Blocks.{all_of, filed_under}
+use Rattle.xs_stream.specs.Blocks.{all_of, block_ids}
 use Rattle.xs_stream.proofs.InOrder.{valid-push, up_to-higher}
 use Rattle.xs_stream.proofs.stream.Stream.push.Goals as goal
 
@@ -13,5 +13,5 @@ invariant_of-self c =
     record {
       valid = rw c.in-Ok.ensures.ok (valid-push (record { top = inside.top; entries = all_of inside.entries }) c.args.id c.args.fields.now c.self.invariant.valid above fits);
       laid_down = c.push.ensures.laid_down;
-      filed_up_to_top = up_to-higher (filed_under c.push.new.self) inside.top c.args.id c.push.ensures.filed_up_to_top above;
+      filed_up_to_top = up_to-higher (block_ids c.push.new.self) inside.top c.args.id c.push.ensures.filed_up_to_top above;
     }

@@ -1,7 +1,7 @@
 use Rattle.std.proofs.Common.{◌≡◌, true, false, Bool, List, [], sym, ◌∙◌, refl, reverse, ap, if◌then◌else◌}
 use Rattle.xs_stream.specs.declared.id.Id.{Id}
 use Rattle.xs_stream.specs.Id.{is_below}
-use Rattle.xs_stream.specs.StreamContent.{ids_of, limited}
+use Rattle.xs_stream.specs.StreamContent.{ids_of, up_to_limit}
 use Rattle.xs_stream.proofs.Order.{partial-below}
 use Rattle.xs_stream.proofs.InOrder.{within-none, limited-none}
 use Rattle.xs_stream.proofs.stream.Stream.range.Goals as goal
@@ -14,5 +14,5 @@ pub returns-then-lt : goal.returns-then-lt
 returns-then-lt c =
     let above : is_below c.args.range.high c.args.range.low ≡ true = sym (partial-below _ _) ∙ sym (c.if-lt.ensures) in
     let none = within-none c.args.range above (ids_of c.args.self.now.entries) in
-    c.new-then-lt.ensures ∙ c.new.ensures.items ∙ sym (ap (λ ids. limited c.args.limit (if c.args.reversed then reverse ids else ids)) none
-    ∙ ap (limited c.args.limit) (turned-none c.args.reversed) ∙ limited-none c.args.limit)
+    c.new-then-lt.ensures ∙ c.new.ensures.items ∙ sym (ap (λ ids. up_to_limit c.args.limit (if c.args.reversed then reverse ids else ids)) none
+    ∙ ap (up_to_limit c.args.limit) (turned-none c.args.reversed) ∙ limited-none c.args.limit)
