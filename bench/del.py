@@ -1,7 +1,7 @@
 #!/usr/bin/env python3
 """Times XTRIM and DEL of a great stream beside a real Redis 7.0, over TCP, in one run.
 
-    del.py [--entries N] [--rounds N] PROGRAM      needs redis-server
+    del.py [--entries N] [--rounds N] [--only WORD] PROGRAM      needs redis-server
 
 Each command is asked of `PROGRAM serve` and of a redis-server that keeps nothing on disk, in turn, each time of a
 stream that pipelined XADDs have filled anew, with entries of one field of 60 bytes. A line tells the milliseconds that a
@@ -66,15 +66,18 @@ def main():
     asked = argparse.ArgumentParser(description=__doc__, formatter_class=argparse.RawDescriptionHelpFormatter)
     asked.add_argument("--entries", type=int, default=1_000_000)
     asked.add_argument("--rounds", type=int, default=3)
+    asked.add_argument("--only", default="")
     asked.add_argument("program", metavar="PROGRAM")
     given = asked.parse_args()
     filling = additions(given.entries)
-    servers = [Server(PORT, given.program, "serve", "--port", str(PORT), "--workers", "4", "--each", "100000000"),
+    servers = [Server(PORT, given.program, "serve", "--port", str(PORT), "--workers", "4", "--each", "1000000"),
                Server(PORT + 1, "redis-server", "--port", str(PORT + 1), "--save", "", "--appendonly", "no")]
     try:
         for title, *words in (("XTRIM to a half", b"XTRIM", b"s", b"MAXLEN", b"%d" % (given.entries // 2)),
                               ("XTRIM to a tenth", b"XTRIM", b"s", b"MAXLEN", b"%d" % (given.entries // 10)),
                               ("DEL", b"DEL", b"s")):
+            if given.only not in title:
+                continue
             here, redis = zip(*[[server.time(filling, words) for server in servers] for _ in range(given.rounds)])
             ratio = statistics.median(here) / statistics.median(redis)
             print(f"{title:18} {spread(here):26} {spread(redis):26} {ratio:.2f}", flush=True)
