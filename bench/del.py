@@ -5,7 +5,7 @@
 
 Each command is asked of `PROGRAM serve` and of a redis-server that keeps nothing on disk, in turn, each time of a
 stream that pipelined XADDs have filled anew, with entries of one field of 60 bytes. A line tells the milliseconds that a
-client waits, here and of Redis, the middle one of the rounds with the least and the greatest, and the ratio of the two.
+client waits, here and of Redis: the median of the rounds, with the least and the greatest, and the ratio of the two.
 """
 import argparse
 import socket
