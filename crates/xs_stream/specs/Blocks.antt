@@ -1,5 +1,5 @@
 -- How a stream lays down its entries: in blocks, each filed under an id, and behind them the newest ones.
-use Rattle.std.specs.Prelude.{◌≡◌, ◌<◌, not, false, List, [], ◌∷◌, ◌++◌, length, Option, Some, None}
+use Rattle.std.specs.Prelude.{◌≡◌, ◌<◌, ◌^◌, not, false, List, [], ◌∷◌, ◌++◌, length, Option, Some, None}
 use Rattle.std.specs.List.{flat_map}
 use Rattle.std.specs.Map.{keys_of, lookup, lookup_key, set_value}
 use Rattle.std.specs.declared.ops.Bound.{Bound}
@@ -29,10 +29,11 @@ abbrev pub AreFiled : List (Id × List (Id × List Field)) → List (Id × List 
 AreFiled [] newest = Unit {0}
 AreFiled (b ∷ bs) newest = IsFiled b (entries_of_blocks bs ++ newest) × AreFiled bs newest
 
--- each block is filed, and the count is that of the entries
+-- each block is filed, the count is that of the entries, and a signed number of 64 bits can tell it
 pub record IsLaidDown (entries : Entries) : Type 0 where
   pub filed : AreFiled entries.older.entries entries.newest
   pub counted : entries.len ≡ length (all_of entries)
+  pub small : entries.len < 2 ^ 63
 
 -- a block has gone in front of the one under an id
 abbrev pub HasJoined : Id → List (Id × List Field) → List (Id × List (Id × List Field))

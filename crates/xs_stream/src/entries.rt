@@ -24,6 +24,9 @@ use std::collections::BTreeMap;
 use std::mem;
 use std::ops::Bound;
 
+/// No stream has more entries: replies tell their number, and an integer reply is a signed number of 64 bits.
+const MOST_ENTRIES: usize = 9_223_372_036_854_775_807;
+
 /// The entries of a stream. What is added comes to the newest. Once these fill a block, it is filed under the top of
 /// the stream as it is then: none of its entries is above that id, and all later ones are.
 #[derive(Drop)]
@@ -139,15 +142,15 @@ impl Entries {
         ensures laid_down { IsLaidDown self.new }
         ensures filed_up_to_top { AllUpTo top (block_ids self.new) }
     {
-        let Some(len) = self.len.checked_add(1) else {
+        if self.len >= MOST_ENTRIES {
             return Err(AllocError);
-        };
+        }
         let Some(values) = values_size(fields) else {
             return Err(AllocError);
         };
         self.make_room(top, values)?;
         self.newest.push(id, values, fields)?;
-        self.len = len;
+        self.len += 1;
         Ok(())
     }
 

@@ -1,5 +1,5 @@
 //! A stream: its top id and its entries, in the order of their ids.
-ghost use Rattle.std.specs.Prelude.{◌≡◌, ◌↔◌, ◌+◌, ◌-◌, ◌++◌, ◌∷◌, [], true, Ok};
+ghost use Rattle.std.specs.Prelude.{◌≡◌, ◌↔◌, ◌+◌, ◌-◌, ◌^◌, ◌<◌, ◌++◌, ◌∷◌, [], true, Ok};
 ghost use Rattle.std.specs.Prelude.{Err, IfOk, OnOk, OnErr, IsErrOf, length};
 ghost use Rattle.std.specs.Prelude.{filter};
 ghost use Rattle.xs_stream.specs.Id.{zero_id, is_below, id_of_addition};
@@ -66,7 +66,8 @@ impl Stream {
 
     /// How many entries there are.
     pub fn len(&self) -> usize
-        ensures { result ≡ length self.now.entries }
+        ensures count { result ≡ length self.now.entries }
+        ensures small { result < 2 ^ 63 }
     {
         self.entries.len()
     }
@@ -122,6 +123,7 @@ impl Stream {
     pub fn delete(&mut self, ids: &[Id]) -> u64
         ensures entries { self.new ≡ record self.old { entries = without ids.now self.old.entries } }
         ensures count { result + length self.new.entries ≡ length self.old.entries }
+        ensures small { result < 2 ^ 63 }
     {
         let before = self.entries.len();
         self.entries.remove_all(ids);
@@ -132,6 +134,7 @@ impl Stream {
     pub fn trim(&mut self, trim: Trim) -> u64
         ensures entries { self.new ≡ record self.old { entries = entries_after_trim trim self.old.entries } }
         ensures count { result + length self.new.entries ≡ length self.old.entries }
+        ensures small { result < 2 ^ 63 }
     {
         let before = self.entries.len();
         self.entries.trim(trim);

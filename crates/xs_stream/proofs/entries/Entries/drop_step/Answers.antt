@@ -55,4 +55,5 @@ returns-clause-laid_down c =
     record {
       filed = subst (λ bs. AreFiled bs all.newest) (sym (shorter c)) (filed-within c.args.count c.in-Some.under.now c.in-Some.block.now (first c).0 all.newest (few c) (subst (λ bs. AreFiled bs all.newest) (first c).1 c.requires.laid_down.filed));
       counted = omega (arith, c.requires.laid_down.counted, ap length (entries c), length-drop c.args.count (entries_of_blocks all.older.entries ++ all.newest));
+      small = omega (arith, c.requires.laid_down.small);
     }

@@ -34,6 +34,7 @@ returns-in-Ok-clause-laid_down c =
     record {
       filed = rw (filed c, emptied c) (filed-filed c.args.top all.older.entries all.newest c.requires.laid_down.filed c.requires.up_to_top (some c));
       counted = c.requires.laid_down.counted ∙ ap length (sym (same c));
+      small = c.requires.laid_down.small;
     }
 
 pub returns-in-Ok-clause-filed_up_to_top : goal.returns-in-Ok-clause-filed_up_to_top
