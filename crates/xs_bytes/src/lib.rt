@@ -6,7 +6,9 @@ pub mod decimal;
 pub mod examples;
 pub mod list;
 mod short;
+pub mod u63;
 
 pub use bytes::Bytes;
 pub use decimal::{decimal_text, natural, number, push_decimal};
 pub use list::List;
+pub use u63::U63;

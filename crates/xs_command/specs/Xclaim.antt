@@ -2,7 +2,7 @@
 use Rattle.std.specs.Prelude.{ℕ, true, false, codes, Some, None, Ok, Err, if◌then◌else◌}
 use Rattle.xs_group.specs.declared.claims.ClaimTime.{ClaimTime}
 use Rattle.xs_group.specs.declared.claims.ClaimTime.TheVariants as time
-use Rattle.xs_group.specs.Claims.{Rule}
+use Rattle.xs_group.specs.declared.claims.ClaimRule.{ClaimRule}
 use Rattle.xs_resp.specs.declared.fault.Fault.TheVariants.{Syntax, Unsupported}
 use Rattle.xs_command.specs.declared.command.Command.{Command}
 use Rattle.xs_command.specs.declared.command.Command.TheVariants as command
@@ -14,7 +14,7 @@ use Rattle.xs_command.specs.Options.{OptionOf, many, option_with}
 use Rattle.xs_command.specs.Syntax.{only, ids}
 
 -- the rule without options
-abbrev pub plain_rule : ℕ → Rule
+abbrev pub plain_rule : ℕ → ClaimRule
 plain_rule min_idle = record { min_idle = min_idle; when = time.Now; retry = None; just_id = false }
 
 -- a moment that was written; one below 0 is that of the claim
@@ -22,18 +22,18 @@ abbrev pub claim_time_of : Integer → ClaimTime
 claim_time_of Negative = time.Now
 claim_time_of (Natural millis) = time.At millis
 
-abbrev pub with_time : Rule → ClaimTime → Rule
+abbrev pub with_time : ClaimRule → ClaimTime → ClaimRule
 with_time rule when = record { min_idle = rule.min_idle; when = when; retry = rule.retry; just_id = rule.just_id }
 
-abbrev pub with_retry : Rule → ℕ → Rule
+abbrev pub with_retry : ClaimRule → ℕ → ClaimRule
 with_retry rule count =
     record { min_idle = rule.min_idle; when = rule.when; retry = Some count; just_id = rule.just_id }
 
-abbrev pub with_just_id : Rule → Rule
+abbrev pub with_just_id : ClaimRule → ClaimRule
 with_just_id rule = record { min_idle = rule.min_idle; when = rule.when; retry = rule.retry; just_id = true }
 
 -- { IDLE ms, TIME ms, RETRYCOUNT n, JUSTID }; the last of IDLE and TIME counts, and FORCE and LASTID aren't supported
-unfoldable pub claim_option : OptionOf Rule
+unfoldable pub claim_option : OptionOf ClaimRule
 claim_option rule name words =
     if is_word (codes "idle") name
     then option_with (integer >>= λ idle. value (with_time rule (time.Idle (at_least_zero idle)))) words

@@ -10,6 +10,7 @@ use crate::refusal::Refusal;
 use crate::word::Word;
 use crate::words::Words;
 use std::alloc::Global;
+use xs_bytes::U63;
 use xs_group::{ClaimRule, ClaimTime};
 use xs_resp::Fault;
 
@@ -37,7 +38,7 @@ impl Options for ClaimRule {
         }
         if name.is(b"retrycount") {
             let (count, words) = words.natural()?;
-            rule.retry = Some(count);
+            rule.retry = Some(U63::new(count));
             return Ok((rule, Some(words)));
         }
         if name.is(b"justid") {

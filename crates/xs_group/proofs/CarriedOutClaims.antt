@@ -1,7 +1,7 @@
 -- A claim that is carried out.
 use Rattle.xs_group.proofs.Terms.{◌≡◌, ℕ, ◌+◌, Bool, false, cond, not, inl, inr, List, [], ◌∷◌, map, filter}
 use Rattle.xs_group.proofs.Terms.{option_and_then, sym, refl, subst, T, below_all, is_sorted, change, Id, id_cmp}
-use Rattle.xs_group.proofs.Terms.{is_same_id, is_below, has_id, is_same_id-symm, Claim, Rule, is_taken, is_hit}
+use Rattle.xs_group.proofs.Terms.{is_same_id, is_below, has_id, is_same_id-symm, Claim, ClaimRule, is_taken, is_hit}
 use Rattle.xs_group.proofs.Terms.{without_repeats, from_start, scanned_part, row_after_claim, RowState, Rows}
 use Rattle.xs_group.proofs.Terms.{GroupState, unless_acked, rows_of, indexed_row, row_after_move, ids_scanned_after}
 use Rattle.xs_group.proofs.Terms.{AreDistinct}
@@ -50,7 +50,7 @@ module _ (hit : Id → Bool) (limit : ℕ) where
     apart-scanned (hits + cond (hit y) 1 0) (seen + 1) ys a.1,
   )
 
-pub apart-claim : (group : GroupState) (now : ℕ) (rule : Rule) (claim : Claim) → IsClaimOn group now rule claim → AreDistinct claim.take
+pub apart-claim : (group : GroupState) (now : ℕ) (rule : ClaimRule) (claim : Claim) → IsClaimOn group now rule claim → AreDistinct claim.take
 apart-claim group now rule claim (inl w) = subst (λ (c : Claim). AreDistinct c.take) (sym w.is) (apart-filter (is_taken group.rows.entries w.present now rule) (without_repeats w.ids) (apart-without_repeats w.ids))
 apart-claim group now rule claim (inr w) =
     let rows = group.rows.entries in
@@ -62,7 +62,7 @@ apart-claim group now rule claim (inr w) =
 
 -- ---- taken first, and then removed
 
-pub rows-settled : (name : List ℕ) (now : ℕ) (rule : Rule) (claim : Claim) (rows : Rows)
+pub rows-settled : (name : List ℕ) (now : ℕ) (rule : ClaimRule) (claim : Claim) (rows : Rows)
     → change (unless_acked claim.removed) (change (row_after_move name now rule claim.take) rows) ≡ change (row_after_claim name now rule claim) rows
 rows-settled name now rule claim rows =
     same_rows _ _ (λ q. grind (
@@ -72,7 +72,7 @@ rows-settled name now rule claim rows =
       get-changed (row_after_claim name now rule claim) rows q,
     ))
 
-pub rows-moved : (a b : List (Id × RowState)) (name : List ℕ) (now : ℕ) (rule : Rule) (ids : List Id)
+pub rows-moved : (a b : List (Id × RowState)) (name : List ℕ) (now : ℕ) (rule : ClaimRule) (ids : List Id)
     → ((x : Id) → indexed_row b x ≡ option_and_then (row_after_move name now rule ids x) (indexed_row a x)) → rows_of b ≡ change (row_after_move name now rule ids) (rows_of a)
 rows-moved a b name now rule ids is =
     same_rows _ _ (λ q.

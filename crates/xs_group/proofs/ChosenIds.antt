@@ -1,6 +1,6 @@
 -- The ids that a claim takes and removes.
 use Rattle.xs_group.proofs.Terms.{◌≡◌, ◌≤◌, ℕ, Bool, cond, not, ◌||◌, List, [], ◌∷◌, ◌++◌, filter, Option, ap, ◌∙◌}
-use Rattle.xs_group.proofs.Terms.{refl, arith, list_any-append, or-false, Id, is_same_id, has_id, Verdict, Rule, row_at}
+use Rattle.xs_group.proofs.Terms.{refl, arith, list_any-append, or-false, Id, is_same_id, has_id, Verdict, ClaimRule, row_at}
 use Rattle.xs_group.proofs.Terms.{is_taken, is_removed, is_hit, without_repeats, RowState, Rows, is_taken_by}
 use Rattle.xs_group.proofs.Terms.{is_removed_by, verdict_of, with_taken, with_removed, hits_of}
 use Rattle.xs_bytes.specs.SortedMap.{get}
@@ -25,7 +25,7 @@ pub row_at-get : (rows : Rows) (x : Id) → get rows x ≡ row_at rows.entries x
 unfolding get
 row_at-get rows x = refl
 
-module _ (rows : List (Id × RowState)) (present : List Id) (now : ℕ) (rule : Rule) where
+module _ (rows : List (Id × RowState)) (present : List Id) (now : ℕ) (rule : ClaimRule) where
   pub taken-verdict : (row : Option RowState) (x : Id) → row ≡ row_at rows x → is_taken rows present now rule x ≡ is_taken_by (verdict_of row (has_id present x) now rule)
   taken-verdict row x e = grind arith
 

@@ -1,7 +1,7 @@
 -- Rows that go to another consumer.
 use Rattle.xs_group.proofs.Terms.{◌≡◌, ℕ, Bool, true, false, cond, not, ◌&&◌, ◌||◌, List, [], ◌∷◌, ◌++◌, map, take}
 use Rattle.xs_group.proofs.Terms.{Option, Some, option_and_then, ap, ◌∙◌, refl, UpdatesBy, Id, id_cmp, is_same_id}
-use Rattle.xs_group.proofs.Terms.{has_id, is_same_id-eq, is_same_id-symm, Rule, claimed_row, RowState, is_same_name}
+use Rattle.xs_group.proofs.Terms.{has_id, is_same_id-eq, is_same_id-symm, ClaimRule, claimed_row, RowState, is_same_name}
 use Rattle.xs_group.proofs.Terms.{ConsumerIndex, has_pending_id, is_owner, indexed_row, IsAgreed, row_after_move}
 use Rattle.xs_group.proofs.Terms.{AreAgreedBut, AreSomeOf}
 use Rattle.xs_group.proofs.Terms.{arith}
@@ -47,13 +47,13 @@ names-more name (x ∷ xs) id = ap (λ (rest : List (List ℕ)). name ∷ rest) 
 pub some-take : (ids : List Id) (i : ℕ) → AreSomeOf (take i ids) ids
 some-take ids i q e = among-take ids i q e
 
-pub row-moved : (m n : RowMap) (id : Id) (row : RowState) (name : List ℕ) (now : ℕ) (rule : Rule) → indexed_row m.entries id ≡ Some row
+pub row-moved : (m n : RowMap) (id : Id) (row : RowState) (name : List ℕ) (now : ℕ) (rule : ClaimRule) → indexed_row m.entries id ≡ Some row
     → UpdatesBy id_cmp (id_cmp id) m n (Some (claimed_row name now rule row)) → (x : Id)
     → indexed_row n.entries x ≡ cond (is_same_id x id) (option_and_then (row_after_move name now rule (id ∷ []) x) (indexed_row m.entries x)) (indexed_row m.entries x)
 row-moved m n id row name now rule found u x = grind (arith, u.0 x, is_same_id-symm id x, is_same_id-eq x id)
 
 -- what the rest will still do to the rows is what all do
-pub rows-left : (name : List ℕ) (now : ℕ) (rule : Rule) (id : Id) (rest : List Id) (x : Id) (o p : Option RowState) → has_id rest id ≡ false
+pub rows-left : (name : List ℕ) (now : ℕ) (rule : ClaimRule) (id : Id) (rest : List Id) (x : Id) (o p : Option RowState) → has_id rest id ≡ false
     → p ≡ cond (is_same_id x id) (option_and_then (row_after_move name now rule (id ∷ []) x) o) o
     → option_and_then (row_after_move name now rule rest x) p ≡ option_and_then (row_after_move name now rule (id ∷ rest) x) o
 rows-left name now rule id rest x o p apart e = grind (arith, is_same_id-eq x id)

@@ -2,7 +2,7 @@
 use Rattle.xs_group.proofs.Terms.{◌≡◌, ℕ, ◌+◌, ◌*◌, Bool, true, false, cond, not, ◌&&◌, ◌||◌, leb, List, [], ◌∷◌, ◌++◌}
 use Rattle.xs_group.proofs.Terms.{map, filter, length, drop, Some, sym, ap, ◌∙◌, refl, add-zero, arith, append_assoc, T}
 use Rattle.xs_group.proofs.Terms.{below_all, is_sorted, AllByRecursion, entries_between, Included, Unbounded, Id}
-use Rattle.xs_group.proofs.Terms.{id_cmp, is_same_id-symm, is_same_id-refl, le-not_below, Scan, Verdict, Rule, row_at}
+use Rattle.xs_group.proofs.Terms.{id_cmp, is_same_id-symm, is_same_id-refl, le-not_below, Scan, Verdict, ClaimRule, row_at}
 use Rattle.xs_group.proofs.Terms.{is_taken, is_removed, is_hit, from_start, prefixes, first_where, scanned_part}
 use Rattle.xs_group.proofs.Terms.{first_or_zero, scan_of, RowState, is_taken_by, is_removed_by, with_taken}
 use Rattle.xs_group.proofs.Terms.{with_removed, ids_scanned_after}
@@ -85,7 +85,7 @@ taken-on v p ids x part e = grind (arith, append_assoc ids (x ∷ []) (filter p 
 pub removed-on : (v : Verdict) (p : Id → Bool) (ids : List Id) (x : Id) (part : List Id) → p x ≡ is_removed_by v → with_removed v ids x ++ filter p part ≡ ids ++ filter p (x ∷ part)
 removed-on v p ids x part e = grind (arith, append_assoc ids (x ∷ []) (filter p part))
 
-module _ (rows : List (Id × RowState)) (present : List Id) (now : ℕ) (rule : Rule) (start : Id) (limit : ℕ) where
+module _ (rows : List (Id × RowState)) (present : List Id) (now : ℕ) (rule : ClaimRule) (start : Id) (limit : ℕ) where
   -- what a scan has found where it ends
   pub scan-ended : (cursor : Id) (take removed : List Id)
       → take ≡ filter (is_taken rows present now rule) (ids_scanned_after (is_hit rows present now rule) limit 0 0 (from_start start rows))

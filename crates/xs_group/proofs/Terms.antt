@@ -44,7 +44,8 @@ pub use Rattle.xs_stream.specs.StreamContent.{IsEntryOf}
 pub use Rattle.xs_stream.specs.StreamContent.{fields_at}
 pub use Rattle.xs_stream.specs.declared.id.Id.{Id}
 pub use Rattle.xs_stream.specs.declared.range.Range.{Range}
-pub use Rattle.xs_group.specs.Claims.{Rule, is_taken, is_hit, without_repeats, from_start, scanned_part}
+pub use Rattle.xs_group.specs.Claims.{is_taken, is_hit, without_repeats, from_start, scanned_part}
+pub use Rattle.xs_group.specs.declared.claims.ClaimRule.{ClaimRule}
 pub use Rattle.xs_group.specs.Claims.{row_after_claim, claimed_row, row_at, is_removed, prefixes, first_where}
 pub use Rattle.xs_group.specs.Claims.{first_or_zero, scan_of}
 pub use Rattle.xs_group.specs.ConsistentGroup.{IsUpTo, IsConsistentGroup}

@@ -5,25 +5,19 @@ use Rattle.std.specs.FinMap.Entries.{find}
 use Rattle.xs_bytes.specs.SortedMap.{change}
 use Rattle.xs_stream.specs.declared.id.Id.{Id}
 use Rattle.xs_stream.specs.Id.{id_cmp, is_below, is_same_id, has_id, zero_id}
+use Rattle.xs_group.specs.declared.claims.ClaimRule.{ClaimRule}
 use Rattle.xs_group.specs.declared.claims.ClaimTime.{ClaimTime}
 use Rattle.xs_group.specs.declared.claims.ClaimTime.TheVariants.{Now, Idle, At}
 use Rattle.xs_group.specs.declared.claims.Claim.{Claim}
 use Rattle.xs_group.specs.declared.claims.Scan.{Scan}
 use Rattle.xs_group.specs.GroupState.{RowState, GroupState, with_name, idle_time, next_count}
 
--- what a claim asks for: the least idle time, the time and the count that its rows get, and JUSTID
-pub record Rule : Type 0 where
-  pub min_idle : ℕ
-  pub when : ClaimTime
-  pub retry : Option ℕ
-  pub just_id : Bool
-
 -- the row of an id
 abbrev pub row_at : List (Id × RowState) → Id → Option RowState
 row_at rows x = find id_cmp x rows
 
 -- a row that is idle for the least idle time or longer
-abbrev pub is_idle : ℕ → Rule → Option RowState → Bool
+abbrev pub is_idle : ℕ → ClaimRule → Option RowState → Bool
 is_idle now rule None = false
 is_idle now rule (Some row) = nat_le rule.min_idle (idle_time now row.time)
 
@@ -32,11 +26,11 @@ abbrev pub is_removed : List (Id × RowState) → List Id → Id → Bool
 is_removed rows present x = is_some (row_at rows x) && not (has_id present x)
 
 -- a pending entry in the stream is taken where it is idle enough
-abbrev pub is_taken : List (Id × RowState) → List Id → ℕ → Rule → Id → Bool
+abbrev pub is_taken : List (Id × RowState) → List Id → ℕ → ClaimRule → Id → Bool
 is_taken rows present now rule x = is_idle now rule (row_at rows x) && has_id present x
 
 -- what a claim makes of these ids
-abbrev pub claim_among : List (Id × RowState) → List Id → ℕ → Rule → List Id → Claim
+abbrev pub claim_among : List (Id × RowState) → List Id → ℕ → ClaimRule → List Id → Claim
 claim_among rows present now rule ids =
     record { take = filter (is_taken rows present now rule) ids; removed = filter (is_removed rows present) ids }
 
@@ -46,7 +40,7 @@ without_repeats [] = []
 without_repeats (x ∷ xs) = x ∷ filter (λ y. not (is_same_id y x)) (without_repeats xs)
 
 -- XCLAIM
-abbrev pub claim_by_ids : List (Id × RowState) → List Id → ℕ → Rule → List Id → Claim
+abbrev pub claim_by_ids : List (Id × RowState) → List Id → ℕ → ClaimRule → List Id → Claim
 claim_by_ids rows present now rule ids = claim_among rows present now rule (without_repeats ids)
 
 -- the pending ids from a start upwards
@@ -54,7 +48,7 @@ abbrev pub from_start : Id → List (Id × RowState) → List Id
 from_start start rows = filter (λ x. not (is_below x start)) (map (λ e. e.0) rows)
 
 -- an id that a scan claims or removes
-abbrev pub is_hit : List (Id × RowState) → List Id → ℕ → Rule → Id → Bool
+abbrev pub is_hit : List (Id × RowState) → List Id → ℕ → ClaimRule → Id → Bool
 is_hit rows present now rule x = is_removed rows present x || is_taken rows present now rule x
 
 -- as many hits as asked for, or ten times as many ids
@@ -81,7 +75,7 @@ first_or_zero [] = zero_id
 first_or_zero (x ∷ xs) = x
 
 -- XAUTOCLAIM: the claim over the scanned part, and the least pending id past it
-abbrev pub scan_of : List (Id × RowState) → List Id → ℕ → Rule → Id → ℕ → Scan
+abbrev pub scan_of : List (Id × RowState) → List Id → ℕ → ClaimRule → Id → ℕ → Scan
 scan_of rows present now rule start limit =
     let ids = from_start start rows in
     let part = scanned_part (is_hit rows present now rule) limit ids in
@@ -98,19 +92,19 @@ abbrev pub claim_count : Option ℕ → Bool → ℕ → ℕ
 claim_count (Some retry) just_id count = retry
 claim_count None just_id count = if just_id then count else next_count count
 
-abbrev pub claimed_row : List ℕ → ℕ → Rule → RowState → RowState
+abbrev pub claimed_row : List ℕ → ℕ → ClaimRule → RowState → RowState
 claimed_row consumer now rule row =
     let count = claim_count rule.retry rule.just_id row.count in
     record { consumer = consumer; time = claim_time rule.when now; count = count }
 
 -- what becomes of a row by a claim
-abbrev pub row_after_claim : List ℕ → ℕ → Rule → Claim → Id → RowState → Option RowState
+abbrev pub row_after_claim : List ℕ → ℕ → ClaimRule → Claim → Id → RowState → Option RowState
 row_after_claim consumer now rule claim x row =
     if has_id claim.removed x then None
     else (if has_id claim.take x then Some (claimed_row consumer now rule row) else Some row)
 
 -- a group after a claim: the consumer is there, removed rows go, and taken rows are the consumer's
-abbrev pub group_after_claim : List ℕ → ℕ → Rule → Claim → GroupState → GroupState
+abbrev pub group_after_claim : List ℕ → ℕ → ClaimRule → Claim → GroupState → GroupState
 group_after_claim consumer now rule claim group =
     let rows = change (row_after_claim consumer now rule claim) group.rows in
     record group { consumers = with_name group.consumers consumer; rows = rows }

@@ -6,14 +6,15 @@ use Rattle.xs_stream.specs.Id.{is_same_id}
 use Rattle.xs_stream.specs.Examples.{at}
 use Rattle.xs_group.specs.declared.claims.ClaimTime.TheVariants as time
 use Rattle.xs_group.specs.GroupState.{RowState}
-use Rattle.xs_group.specs.Claims.{Rule, is_idle, is_removed, is_taken, without_repeats, claim_by_ids, from_start}
+use Rattle.xs_group.specs.Claims.{is_idle, is_removed, is_taken, without_repeats, claim_by_ids, from_start}
+use Rattle.xs_group.specs.declared.claims.ClaimRule.{ClaimRule}
 use Rattle.xs_group.specs.Claims.{is_hit, prefixes}
 use Rattle.xs_group.specs.Claims.{scanned_part, first_or_zero, scan_of, claim_time, claim_count, claimed_row}
 use Rattle.xs_group.specs.Claims.{group_after_claim}
 use Rattle.xs_group.specs.ExamplesRead.{pending, three, group, Is}
 
 -- a claim of what is idle for so long, without options
-abbrev pub idle_for : ℕ → Rule
+abbrev pub idle_for : ℕ → ClaimRule
 idle_for min_idle = record { min_idle = min_idle; when = time.Now; retry = None; just_id = false }
 
 -- the ids in the stream: the second of the three is deleted

@@ -11,7 +11,6 @@ use Rattle.xs_group.specs.declared.claims.Verdict.TheVariants.{Passed, Taken, Re
 use Rattle.xs_group.specs.GroupState.{GroupState, group_after_delivery, group_after_reread}
 use Rattle.xs_group.specs.Indexes.{PendingList, rows_of, is_owner, indexed_row, IsNamed}
 use Rattle.xs_group.specs.ConsistentGroup.{IsUpTo}
-use Rattle.xs_group.specs.Count.{IsCount}
 use Rattle.xs_group.specs.Deliveries.{delivery_of, history_of, set_rows, list_without_delivery}
 use Rattle.xs_group.specs.Verdict.{verdict_of, hits_of, with_taken, with_removed, ids_scanned_after, row_after_move}
 use Rattle.xs_group.specs.Verdict.{AreDistinct}
@@ -135,6 +134,3 @@ pub record Lawful : Type 0 where
   pub nobody : is_owner (indexed_row three (at 4 0)) (codes "a") ≡ false
   pub above_the_cursor : IsUpTo (at 2 9) (rows_of three) → ⊥
   pub of_no_consumer : IsNamed (names_in (codes "a" ∷ codes "c" ∷ [])) (rows_of three) → ⊥
-  pub greatest_count : IsCount (Some 9223372036854775807)
-  pub too_great_a_count : IsCount (Some 9223372036854775808) → ⊥
-  pub no_count : IsCount None

@@ -6,7 +6,6 @@ pub mod ConsistentGroup
 pub mod Deliveries
 pub mod Verdict
 pub mod Listing
-pub mod Count
 pub mod ExamplesRead
 pub mod ExamplesClaims
 pub mod ExamplesReport

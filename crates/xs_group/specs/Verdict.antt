@@ -6,7 +6,8 @@ use Rattle.xs_stream.specs.Id.{has_id}
 use Rattle.xs_group.specs.declared.claims.Claim.{Claim}
 use Rattle.xs_group.specs.declared.claims.Verdict.{Verdict}
 use Rattle.xs_group.specs.declared.claims.Verdict.TheVariants.{Passed, Taken, Removed}
-use Rattle.xs_group.specs.Claims.{Rule, is_idle, claim_by_ids, scan_of, claimed_row}
+use Rattle.xs_group.specs.Claims.{is_idle, claim_by_ids, scan_of, claimed_row}
+use Rattle.xs_group.specs.declared.claims.ClaimRule.{ClaimRule}
 use Rattle.xs_group.specs.GroupState.{RowState, GroupState, is_same_name}
 use Rattle.xs_group.specs.Indexes.{ConsumerIndex, has_pending_id, is_owner, indexed_row}
 
@@ -24,7 +25,7 @@ hits_of Passed = 0
 hits_of _ = 1
 
 -- the verdict on a row, or on an id that has none
-abbrev pub verdict_of : Option RowState → Bool → ℕ → Rule → Verdict
+abbrev pub verdict_of : Option RowState → Bool → ℕ → ClaimRule → Verdict
 verdict_of None present now rule = Passed
 verdict_of (Some row) present now rule =
     if present then (if is_idle now rule (Some row) then Taken else Passed) else Removed
@@ -43,7 +44,7 @@ ids_scanned_after hit limit hits seen (x ∷ xs) =
     else x ∷ ids_scanned_after hit limit (hits + (if hit x then 1 else 0)) (seen + 1) xs
 
 -- what becomes of a row where these ids are taken
-abbrev pub row_after_move : List ℕ → ℕ → Rule → List Id → Id → RowState → Option RowState
+abbrev pub row_after_move : List ℕ → ℕ → ClaimRule → List Id → Id → RowState → Option RowState
 row_after_move consumer now rule ids x row = if has_id ids x then Some (claimed_row consumer now rule row) else Some row
 
 -- no id stands twice
@@ -52,20 +53,20 @@ AreDistinct [] = Unit {0}
 AreDistinct (x ∷ xs) = (has_id xs x ≡ false) × AreDistinct xs
 
 -- a claim that was found by ids
-pub record IsFound (group : GroupState) (now : ℕ) (rule : Rule) (claim : Claim) : Type 0 where
+pub record IsFound (group : GroupState) (now : ℕ) (rule : ClaimRule) (claim : Claim) : Type 0 where
   pub present : List Id
   pub ids : List Id
   pub is : claim ≡ claim_by_ids group.rows.entries present now rule ids
 
 -- a claim that was found by a scan
-pub record IsScanned (group : GroupState) (now : ℕ) (rule : Rule) (claim : Claim) : Type 0 where
+pub record IsScanned (group : GroupState) (now : ℕ) (rule : ClaimRule) (claim : Claim) : Type 0 where
   pub present : List Id
   pub start : Id
   pub limit : ℕ
   pub is : claim ≡ (scan_of group.rows.entries present now rule start limit).claim
 
 -- a claim on a group as it stands
-abbrev pub IsClaimOn : GroupState → ℕ → Rule → Claim → Type 0
+abbrev pub IsClaimOn : GroupState → ℕ → ClaimRule → Claim → Type 0
 IsClaimOn group now rule claim = IsFound group now rule claim ⊎ IsScanned group now rule claim
 
 -- each of these ids is among those

@@ -11,9 +11,8 @@ use crate::pending_entry::PendingEntry;
 use crate::reading;
 use std::alloc::{AllocError, Global};
 use std::collections::BTreeSet;
-use std::marker::Model;
 use std::ops::Bound;
-use xs_bytes::List;
+use xs_bytes::{List, U63};
 use xs_stream::{Id, Moment, Stream};
 
 /// The time that a claimed entry gets, from which its idle time is counted.
@@ -34,24 +33,10 @@ pub struct ClaimRule {
     pub min_idle: u64,
     /// The time that it gets.
     pub when: ClaimTime,
-    /// The count of deliveries that it gets, at most 9223372036854775807. With None the count goes
-    /// up by one, unless `just_id` is set.
-    pub retry: Option<u64>,
+    /// The count of deliveries that it gets. With None the count goes up by one, unless `just_id` is set.
+    pub retry: Option<U63>,
     /// The reply has ids alone, and the count stays.
     pub just_id: bool,
-}
-
-impl Model for ClaimRule {
-    ghost use Rattle.xs_group.specs.Claims.{Rule};
-    ghost use Rattle.xs_group.specs.Count.{IsCount};
-
-    ghost Value = { Rule };
-
-    ghost view = { λ r. record { min_idle = r.min_idle; when = r.when; retry = r.retry; just_id = r.just_id } };
-
-    ghost invariant = { λ r. IsCount r.retry };
-
-    ghost inverse = { λ r. record { min_idle = r.min_idle; when = r.when; retry = r.retry; just_id = r.just_id } };
 }
 
 /// By what an entry is claimed.

@@ -1,5 +1,5 @@
 //! What a read of a group delivers (Redis, XREADGROUP).
-use xs_bytes::{Bytes, List};
+use xs_bytes::{Bytes, List, U63};
 use xs_stream::{Id, Moment};
 
 /// When an entry was last delivered to its consumer, and how often it has been.
@@ -8,7 +8,7 @@ pub struct Touch {
     /// The moment from which its idle time is counted.
     pub time: Moment,
     /// How often it was delivered.
-    pub count: u64,
+    pub count: U63,
 }
 
 /// An entry that a read delivered or showed.

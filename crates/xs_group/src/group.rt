@@ -1,5 +1,5 @@
 //! A consumer group: its cursor, its consumers, and what is pending.
-ghost use Rattle.std.specs.Prelude.{◌≡◌, ◌+◌, not, length, IfOk, OnOk, OnErr};
+ghost use Rattle.std.specs.Prelude.{◌≡◌, ◌<◌, ◌+◌, ◌^◌, not, length, IfOk, OnOk, OnErr};
 ghost use Rattle.xs_group.specs.GroupState.{GroupState, has_name, with_consumer, new_group, group_after_ack};
 ghost use Rattle.xs_group.specs.GroupState.{without_consumer, group_after_delivery};
 ghost use Rattle.xs_group.specs.GroupState.{group_after_reread};
@@ -79,6 +79,7 @@ impl Group {
     pub fn ack(&mut self, ids: &[Id]) -> u64
         ensures rows { self.new ≡ group_after_ack ids.now self.old }
         ensures count { result + length self.new.rows.entries ≡ length self.old.rows.entries }
+        ensures small { result < 2 ^ 63 }
     {
         let before = self.pending.len();
         self.pending.take_all(ids);
@@ -99,6 +100,7 @@ impl Group {
     pub fn remove_consumer(&mut self, consumer: &Bytes) -> u64
         ensures rows { self.new ≡ without_consumer consumer.now self.old }
         ensures count { result ≡ owned_count consumer.now self.old }
+        ensures small { result < 2 ^ 63 }
     {
         self.pending.remove_consumer(consumer)
     }

@@ -8,6 +8,7 @@ ghost use Rattle.xs_group.specs.Indexes.{rows_of, indexed_row, AreFree};
 use crate::name::Name;
 use crate::pending_entry::PendingEntry;
 use std::alloc::AllocError;
+use xs_bytes::U63;
 use xs_maps::SmallMap;
 use xs_stream::{Id, Moment};
 
@@ -21,7 +22,7 @@ fn put_row(rows: &mut IdIndex, name: &Name, now: Moment, id: Id) -> Result<(), A
     ensures err { OnErr result (rows.new.entries ≡ rows.old.entries) }
 {
     let consumer = name.share()?;
-    rows.insert(id, PendingEntry::new(consumer, now, 1))
+    rows.insert(id, PendingEntry::new(consumer, now, U63::new(1)))
 }
 
 /// Takes the rows of these ids out. It takes no memory.

@@ -1,5 +1,5 @@
 //! The consumers and the pending entries, in two indexes: by id, and by consumer.
-ghost use Rattle.std.specs.Prelude.{◌≡◌, not, length, true, false, None, Some, IfOk, OnOk, OnErr};
+ghost use Rattle.std.specs.Prelude.{◌≡◌, ◌<◌, ◌^◌, not, length, true, false, None, Some, IfOk, OnOk, OnErr};
 ghost use Rattle.xs_bytes.specs.SortedMap.{empty, get, remove, change};
 ghost use Rattle.xs_stream.specs.Id.{has_id, is_below, zero_id};
 ghost use Rattle.xs_group.specs.Report.{summary_of};
@@ -25,7 +25,7 @@ use crate::reports::{GroupSummary, PendingRow, Selection};
 use crate::{claims, moving, reading, reports};
 use std::alloc::{AllocError, Global};
 use std::marker::Model;
-use xs_bytes::{Bytes, List};
+use xs_bytes::{Bytes, List, U63};
 use xs_maps::{SmallMap, SmallSet};
 use xs_stream::{Id, Moment, Stream};
 
@@ -355,10 +355,10 @@ impl Pending {
         ensures { IfOk result (λ summary. summary
             ≡ summary_of (record { cursor = zero_id; consumers = self.now.consumers; rows = self.now.rows })) }
     {
-        let total = self.rows.len() as u64;
+        let total = self.rows.len();
         let owners = reports::owner_counts(alloc, &self.owners)?;
         Ok(GroupSummary {
-            total,
+            total: U63::new(total as u64),
             least: reports::least(&self.rows),
             greatest: reports::greatest(&self.rows),
             owners: List::new(owners),
@@ -409,6 +409,7 @@ impl Pending {
           rows = change (unless_owned name.now) self.old.rows;
         } }
         ensures count { result ≡ length (ids_of_consumer name.now self.old.rows.entries) }
+        ensures small { result < 2 ^ 63 }
     {
         let Some(ids) = self.owners.remove(name) else {
             return 0;
@@ -420,7 +421,8 @@ impl Pending {
 
     /// How many entries are pending.
     pub(crate) fn len(&self) -> usize
-        ensures { result ≡ length self.now.rows.entries }
+        ensures value { result ≡ length self.now.rows.entries }
+        ensures small { result < 2 ^ 63 }
     {
         self.rows.len()
     }

@@ -1,5 +1,5 @@
 //! A pending entry.
-ghost use Rattle.std.specs.Prelude.{◌≡◌, IfOk};
+ghost use Rattle.std.specs.Prelude.{◌≡◌, ◌<◌, ◌^◌, IfOk};
 ghost use Rattle.xs_group.specs.GroupState.{next_count, idle_time};
 ghost use Rattle.xs_group.specs.Claims.{claimed_row, claim_time, claim_count};
 
@@ -8,20 +8,21 @@ use crate::delivery::Touch;
 use crate::name::Name;
 use std::alloc::AllocError;
 use std::marker::Model;
-use xs_bytes::Bytes;
+use xs_bytes::{Bytes, U63};
 use xs_stream::Moment;
 
 /// The greatest count of deliveries.
 const GREATEST_COUNT: u64 = 9_223_372_036_854_775_807;
 
 /// One delivery more.
-pub(crate) fn next_count(count: u64) -> u64
+pub(crate) fn next_count(count: U63) -> U63
     ensures { result ≡ next_count count }
 {
+    let count = count.get();
     if count < GREATEST_COUNT {
-        return count + 1;
+        return U63::new(count + 1);
     }
-    GREATEST_COUNT
+    U63::new(GREATEST_COUNT)
 }
 
 /// A pending entry: whose it is, when it was last delivered, and how often.
@@ -29,7 +30,7 @@ pub(crate) fn next_count(count: u64) -> u64
 pub(crate) struct PendingEntry {
     consumer: Name,
     time: Moment,
-    count: u64,
+    count: U63,
 }
 
 impl Model for PendingEntry {
@@ -44,7 +45,7 @@ impl Model for PendingEntry {
 }
 
 impl PendingEntry {
-    pub(crate) fn new(consumer: Name, time: Moment, count: u64) -> Self
+    pub(crate) fn new(consumer: Name, time: Moment, count: U63) -> Self
         ensures { result ≡ record { consumer = consumer; time = time; count = count } }
     {
         Self {
@@ -85,7 +86,8 @@ impl PendingEntry {
 
     /// For how many milliseconds the entry is idle: since its last delivery, or the time that a claim gave it.
     pub(crate) fn idle(&self, now: Moment) -> u64
-        ensures { result ≡ idle_time now self.now.time }
+        ensures value { result ≡ idle_time now self.now.time }
+        ensures small { result < 2 ^ 63 }
     {
         now.get().saturating_sub(self.time.get())
     }
@@ -118,7 +120,7 @@ fn claim_time(when: ClaimTime, now: Moment) -> Moment
 }
 
 /// The count that a claimed entry gets.
-fn claim_count(retry: Option<u64>, just_id: bool, count: u64) -> u64
+fn claim_count(retry: Option<U63>, just_id: bool, count: U63) -> U63
     ensures { result ≡ claim_count retry just_id count }
 {
     if let Some(retry) = retry {

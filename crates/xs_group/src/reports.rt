@@ -13,7 +13,7 @@ use crate::id_index::IdIndex;
 use crate::pending_entry::PendingEntry;
 use std::alloc::{AllocError, Global};
 use std::ops::Bound;
-use xs_bytes::{Bytes, List};
+use xs_bytes::{Bytes, List, U63};
 use xs_maps::SmallSet;
 use xs_stream::{Id, Moment, Range};
 
@@ -30,7 +30,7 @@ pub struct OwnerCount {
 #[derive(Debug, Drop)]
 pub struct GroupSummary {
     /// How many entries are pending.
-    pub total: u64,
+    pub total: U63,
     /// The least of their ids.
     pub least: Option<Id>,
     /// The greatest of them.
@@ -47,9 +47,9 @@ pub struct PendingRow {
     /// Its consumer.
     pub consumer: Bytes,
     /// For how many milliseconds it is idle: since its last delivery, or the time that a claim gave it.
-    pub idle: u64,
+    pub idle: U63,
     /// How often it was delivered.
-    pub count: u64,
+    pub count: U63,
 }
 
 /// Which pending entries the long form tells.
@@ -114,7 +114,7 @@ fn told(alloc: Global, now: Moment, id: Id, entry: &PendingEntry) -> Result<Pend
     Ok(PendingRow {
         id,
         consumer,
-        idle: entry.idle(now),
+        idle: U63::new(entry.idle(now)),
         count: touch.count,
     })
 }

@@ -3,7 +3,8 @@ use Rattle.std.proofs.Common.{◌≡◌, ℕ, true, false, List, ◌∷◌, Opti
 use Rattle.std.proofs.Common.{◌∙◌, refl}
 use Rattle.std.proofs.lemmas.Bool.{false≢true}
 use Rattle.xs_group.specs.declared.claims.Claim.{Claim}
-use Rattle.xs_group.specs.Claims.{Rule, row_after_claim}
+use Rattle.xs_group.specs.Claims.{row_after_claim}
+use Rattle.xs_group.specs.declared.claims.ClaimRule.{ClaimRule}
 use Rattle.xs_keys.specs.Terms.{Id, has_id, RowState}
 use Rattle.xs_keys.specs.GroupAsk.{GroupAsk, claim, auto_claim}
 use Rattle.xs_keys.specs.GroupEvent.{GroupEvent, claim_of_event, pending_row_at, rows}
@@ -11,22 +12,22 @@ use Rattle.xs_keys.specs.RepliesTell.{IsAssigned}
 use Rattle.xs_keys.proofs.Owners.{claimed-over, owner-row, row-found, of_row}
 
 -- what becomes of the owner of a row by a claim
-taken-row : (consumer : List ℕ) (now : ℕ) (rule : Rule) (c : Claim) (x : Id) (r : Option RowState) → has_id c.take x ≡ true → has_id c.removed x ≡ false → is_some r ≡ true
+taken-row : (consumer : List ℕ) (now : ℕ) (rule : ClaimRule) (c : Claim) (x : Id) (r : Option RowState) → has_id c.take x ≡ true → has_id c.removed x ≡ false → is_some r ≡ true
     → of_row (option_and_then (row_after_claim consumer now rule c x) r) ≡ Some consumer
 taken-row consumer now rule c x None t f some = absurd (false≢true some)
 taken-row consumer now rule c x (Some row) t f some = rw (f, t) refl
 
-removed-row : (consumer : List ℕ) (now : ℕ) (rule : Rule) (c : Claim) (x : Id) (r : Option RowState) → has_id c.removed x ≡ true
+removed-row : (consumer : List ℕ) (now : ℕ) (rule : ClaimRule) (c : Claim) (x : Id) (r : Option RowState) → has_id c.removed x ≡ true
     → of_row (option_and_then (row_after_claim consumer now rule c x) r) ≡ None
 removed-row consumer now rule c x None t = refl
 removed-row consumer now rule c x (Some row) t = rw t refl
 
-other-row : (consumer : List ℕ) (now : ℕ) (rule : Rule) (c : Claim) (x : Id) (r : Option RowState) → has_id c.take x ≡ false → has_id c.removed x ≡ false
+other-row : (consumer : List ℕ) (now : ℕ) (rule : ClaimRule) (c : Claim) (x : Id) (r : Option RowState) → has_id c.take x ≡ false → has_id c.removed x ≡ false
     → of_row (option_and_then (row_after_claim consumer now rule c x) r) ≡ of_row r
 other-row consumer now rule c x None t f = refl
 other-row consumer now rule c x (Some row) t f = rw (f, t) refl
 
-module _ (start : Id) (past : List GroupEvent) (now : ℕ) (present : List Id) (consumer : List ℕ) (rule : Rule) where
+module _ (start : Id) (past : List GroupEvent) (now : ℕ) (present : List Id) (consumer : List ℕ) (rule : ClaimRule) where
   abbrev pub event : GroupAsk → GroupEvent
   event ask = record { now = now; present = present; ask = ask }
 

@@ -11,7 +11,8 @@ use Rattle.xs_stream.specs.Id.{is_below, is_same_id, has_id, zero_id}
 use Rattle.xs_group.specs.declared.claims.Claim.{Claim}
 use Rattle.xs_group.specs.declared.claims.ClaimTime.TheVariants as claim_time
 use Rattle.xs_group.specs.GroupState.{RowState, idle_time, new_ids}
-use Rattle.xs_group.specs.Claims.{Rule, row_at, is_idle, is_taken, is_removed, is_hit, is_enough, prefixes, first_where}
+use Rattle.xs_group.specs.Claims.{row_at, is_idle, is_taken, is_removed, is_hit, is_enough, prefixes, first_where}
+use Rattle.xs_group.specs.declared.claims.ClaimRule.{ClaimRule}
 use Rattle.xs_group.specs.Claims.{without_repeats, scanned_part, from_start, first_or_zero, claim_among}
 use Rattle.xs_group.specs.Verdict.{AreDistinct, ids_scanned_after}
 use Rattle.xs_group.proofs.CarriedOutClaims.{apart-filter, apart-without_repeats}
@@ -47,7 +48,7 @@ looked_at (auto_claim consumer rule from limit) now present all = scanned_part (
 looked_at _ now present all = []
 
 -- the rule of a claim, or one that doesn't matter
-abbrev rule_for : GroupAsk → Rule
+abbrev rule_for : GroupAsk → ClaimRule
 rule_for ask = option_map_or (λ rule. rule) (rule_of ask) (record { min_idle = 0; when = claim_time.Now; retry = None; just_id = false })
 
 -- what is claimed is claimed among those
@@ -128,7 +129,7 @@ ascends-first (p ∷ ps) rest asc = (above ps asc.0, ascends-first ps rest asc.1
 abbrev AreRows : List (Id × RowState) → Type 0
 AreRows all = Ascends (map (λ e. e.0) all) × AreNotZero (map (λ e. e.0) all)
 
-module _ (all : List (Id × RowState)) (are : AreRows all) (now : ℕ) (present : List Id) (consumer : List ℕ) (rule : Rule) (from : Id) (limit : ℕ) where
+module _ (all : List (Id × RowState)) (are : AreRows all) (now : ℕ) (present : List Id) (consumer : List ℕ) (rule : ClaimRule) (from : Id) (limit : ℕ) where
   this : GroupEvent
   this = record { now = now; present = present; ask = auto_claim consumer rule from limit }
 
@@ -248,7 +249,7 @@ goes-far (claim consumer rule ids) now present all are = inl refl
 goes-far (auto_claim consumer rule from limit) now present all are = far-enough all are now present consumer rule from limit
 
 -- a scan takes and removes no more than its COUNT
-within : (all : List (Id × RowState)) (now : ℕ) (present : List Id) (rule : Rule) (from : Id) (limit : ℕ)
+within : (all : List (Id × RowState)) (now : ℕ) (present : List Id) (rule : ClaimRule) (from : Id) (limit : ℕ)
     → length (filter (is_taken all present now rule) (scanned_part (is_hit all present now rule) limit (from_start from all)))
     + length (filter (is_removed all present) (scanned_part (is_hit all present now rule) limit (from_start from all))) ≤ limit
 within all now present rule from limit =
@@ -280,7 +281,7 @@ module _ (start : Id) (past : List GroupEvent) (asc : PresentAscends past) (even
   met : List (Id × RowState)
   met = rows start past
 
-  asked_rule : Rule
+  asked_rule : ClaimRule
   asked_rule = rule_for event.ask
 
   looked : List Id

@@ -1,18 +1,20 @@
 -- The map of entries as the code keeps it, and the map by names that it is seen as.
 use Rattle.std.proofs.Common.{◌≡◌, ℕ, true, cond, List, [], ◌∷◌, Option, Some, None, is_some, inl, inr, sym, ap, ◌∙◌}
-use Rattle.std.proofs.Common.{refl, BTreeMap, MutBor}
+use Rattle.std.proofs.Common.{refl, BTreeMap, MutBor, ◌+◌, length}
 use Rattle.std.specs.Option.{ghost_name_of, option_copied_mut}
-use Rattle.std.specs.FinMap.Entries.{find}
+use Rattle.std.specs.FinMap.Entries.{find, same_entries, length_without}
 use Rattle.xs_bytes.proofs.SortedMaps.{get-of_entries}
 use Rattle.std.specs.Map.{lookup}
 use Rattle.std.specs.BTreeMap as tree
-use Rattle.std.specs.BTreeMap.{UpdatesBy, is_at}
+use Rattle.std.specs.BTreeMap.{UpdatesBy, IsOrdered, is_at}
 use Rattle.std.specs.Ordering.{nat_cmp}
 use Rattle.std.specs.Cmp.{eq_by_cmp_equiv}
 use Rattle.std.specs.Cmp.Lexicographic.{slice_cmp, nat_list_cmp_total}
 use Rattle.xs_bytes.specs.MapOf.{from_entries}
-use Rattle.xs_keys.specs.Terms.{get, insert, remove, is_same_name}
-use Rattle.xs_keys.proofs.NameMaps.{same_map, get-insert, get-remove}
+use Rattle.xs_group.proofs.Ordered.{is_sorted-from}
+use Rattle.xs_bytes.specs.SortedMap.{NameMap, get, has_key, insert, remove}
+use Rattle.xs_keys.specs.Terms.{is_same_name}
+use Rattle.xs_keys.proofs.NameMaps.{name_exact, same_map, get-insert, get-remove}
 use borrow.Follows.Closed.{read_of}
 
 module _ {X : Type 0} where
@@ -23,6 +25,19 @@ module _ {X : Type 0} where
   -- a name is found in the value as it is found in the map
   pub get-entries : (m : BTreeMap (List ℕ) X) (q : List ℕ) → get (from_entries m.entries) q ≡ tree.get (slice_cmp nat_cmp) m q
   get-entries m q = get-of_entries nat_list_cmp_total m.entries q ∙ find-lookup q m.entries
+
+  -- the value has the map's entries
+  pub entries-entries : (m : BTreeMap (List ℕ) X) → IsOrdered (slice_cmp nat_cmp) m → (from_entries m.entries).entries ≡ m.entries
+  unfolding get
+  entries-entries m ordered =
+      let made = from_entries m.entries in
+      same_entries (slice_cmp nat_cmp) nat_list_cmp_total name_exact made.entries m.entries made.sorted (is_sorted-from (slice_cmp nat_cmp) m.entries ordered)
+      (λ q. get-of_entries nat_list_cmp_total m.entries q)
+
+-- taking a name out leaves one entry less if it is there
+pub length-remove : {X : Type 0} (m : NameMap X) (name : List ℕ) → cond (has_key m name) 1 0 + length (remove m name).entries ≡ length m.entries
+unfolding get remove
+length-remove m name = length_without (slice_cmp nat_cmp) nat_list_cmp_total name m.entries m.sorted
 
 turned : (a b : List ℕ) → is_same_name a b ≡ is_same_name b a
 turned a b = (eq_by_cmp_equiv nat_list_cmp_total).symm a b

@@ -8,7 +8,7 @@ use Rattle.xs_group.specs.GroupState.{RowState, GroupState, is_same_name, has_na
 use Rattle.xs_group.specs.GroupState.{redelivered_row}
 use Rattle.xs_group.specs.GroupState.{unless_owned}
 use Rattle.xs_keys.specs.Event.{History}
-use Rattle.xs_keys.specs.Terms.{with_some, Id, has_id, Ascends, AllAbove, AllUpTo, Command}
+use Rattle.xs_keys.specs.Terms.{with_some, Id, has_id, Ascends, AllAbove, AllUpTo}
 use Rattle.xs_keys.specs.Life.{StreamEvent, key_life, stream_of}
 use Rattle.xs_keys.specs.GroupAsk.{GroupAsk, read_new, read_own, acknowledge, create_consumer, delete_consumer, claim}
 use Rattle.xs_keys.specs.GroupAsk.{auto_claim, row_after_ask}
@@ -28,7 +28,8 @@ use Rattle.xs_keys.proofs.Owners.{row-found}
 use Rattle.xs_keys.proofs.NameMaps.{is_same_name-refl, is_same_name-eq}
 use Rattle.xs_keys.proofs.IdsAtEvents.{up_to-has}
 use Rattle.xs_keys.proofs.ClaimedIds.{row-listed}
-use Rattle.xs_group.specs.Claims.{Rule, row_at, claim_by_ids, scan_of, claimed_row}
+use Rattle.xs_group.specs.Claims.{row_at, claim_by_ids, scan_of, claimed_row}
+use Rattle.xs_group.specs.declared.claims.ClaimRule.{ClaimRule}
 
 above-among : (a : Id) (row_of : Id → Option RowState) (xs : List Id) → AllAbove a xs → AllAbove a (row_ids (rows_among row_of xs))
 above-among a row_of [] h = tt
@@ -84,7 +85,7 @@ module _ (past : List GroupEvent) (now : ℕ) (present : List Id) (a : Id) (es :
         let same = ap (λ p. p.consumer) (same_Some o row f) in
         still (is_same_name row.consumer consumer) false (is_consumer past row.consumer) (ap (λ n. is_same_name n consumer) (sym same) ∙ i) (ap (is_consumer past) (sym same) ∙ h o refl)
 
-  of-claim : (consumer : List ℕ) (rule : Rule) (gone taken : Bool) (r : Option RowState) → IsOfConsumers past r → (row : RowState)
+  of-claim : (consumer : List ℕ) (rule : ClaimRule) (gone taken : Bool) (r : Option RowState) → IsOfConsumers past r → (row : RowState)
       → option_and_then (λ o. cond gone None (cond taken (Some (claimed_row consumer now rule o)) (Some o))) r ≡ Some row
       → cond (is_same_name row.consumer consumer) true (is_consumer past row.consumer) ≡ true
   of-claim consumer rule gone taken None h row e = absurd (false≢true (ap is_some e))

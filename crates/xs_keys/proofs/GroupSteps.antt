@@ -10,7 +10,7 @@ use Rattle.xs_group.specs.GroupState.{last_of}
 use Rattle.xs_group.specs.GroupState.{first_row, with_rows, group_after_delivery, reread_ids, row_after_reread}
 use Rattle.xs_group.specs.GroupState.{group_after_reread, new_group, group_after_ack, unless_acked, unless_owned}
 use Rattle.xs_group.specs.GroupState.{without_consumer}
-use Rattle.xs_keys.specs.Terms.{Id, has_id, Ascends, AllAbove, AllUpTo, Rule, row_after_claim, claim_by_ids, scan_of}
+use Rattle.xs_keys.specs.Terms.{Id, has_id, Ascends, AllAbove, AllUpTo, ClaimRule, row_after_claim, claim_by_ids, scan_of}
 use Rattle.xs_keys.specs.Life.{greatest}
 use Rattle.xs_keys.specs.GroupAsk.{GroupAsk, read_new, read_own, acknowledge, create_consumer, delete_consumer, claim}
 use Rattle.xs_keys.specs.GroupAsk.{auto_claim}
@@ -156,7 +156,7 @@ module _ (life : GroupLife) (g : GroupState) (h : IsGroupOfLife g life) (now : �
     rows_are = changed_rows (unless_owned consumer);
   }
 
-  step-claim : (consumer : List ℕ) (rule : Rule) (ids : List Id) → IsGroupOfLife (group_after now present (claim consumer rule ids) g) (lived (claim consumer rule ids))
+  step-claim : (consumer : List ℕ) (rule : ClaimRule) (ids : List Id) → IsGroupOfLife (group_after now present (claim consumer rule ids) g) (lived (claim consumer rule ids))
   unfolding event lived
   step-claim consumer rule ids = record {
     cursor_is = still;
@@ -165,7 +165,7 @@ module _ (life : GroupLife) (g : GroupState) (h : IsGroupOfLife g life) (now : �
         ∙ changed_rows (row_after_claim consumer now rule (claim_by_ids (rows life.start life.events) present now rule ids));
   }
 
-  step-auto_claim : (consumer : List ℕ) (rule : Rule) (start : Id) (limit : ℕ) → IsGroupOfLife (group_after now present (auto_claim consumer rule start limit) g) (lived (auto_claim consumer rule start limit))
+  step-auto_claim : (consumer : List ℕ) (rule : ClaimRule) (start : Id) (limit : ℕ) → IsGroupOfLife (group_after now present (auto_claim consumer rule start limit) g) (lived (auto_claim consumer rule start limit))
   unfolding event lived
   step-auto_claim consumer rule start limit = record {
     cursor_is = still;

@@ -7,7 +7,7 @@ use Rattle.xs_stream.specs.Id.{is_below, is_same_id, has_id}
 use Rattle.xs_stream.proofs.Order.{is_same_id-eq, is_same_id-refl, is_same_id-symm, below-not_back}
 use Rattle.xs_group.specs.GroupState.{RowState, is_same_name, new_ids, ids_of_consumer}
 use Rattle.xs_keys.specs.Event.{History}
-use Rattle.xs_keys.specs.Terms.{Command, GroupState, Reply, Int, NullBulk, get, summary_of, option_map_or, with_some}
+use Rattle.xs_keys.specs.Terms.{GroupState, Reply, Int, NullBulk, get, summary_of, option_map_or, with_some}
 use Rattle.xs_keys.specs.Terms.{Id, ids_of, Ascends, AllAbove}
 use Rattle.xs_keys.specs.Life.{StreamEvent, key_life, added_in, present_entries}
 use Rattle.xs_keys.specs.GroupEvent.{GroupEvent, delivered_ids, cursor, rows_among, pending_row_at, rows}

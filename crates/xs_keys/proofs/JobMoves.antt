@@ -14,7 +14,8 @@ use Rattle.std.proofs.lemmas.Bool.{false≢true, and_from, or_left, or_right}
 use Rattle.std.specs.List.{list_all, list_any, IsDistinct}
 use Rattle.xs_stream.specs.Id.{is_below, is_same_id, has_id, id_of_addition}
 use Rattle.xs_stream.specs.StreamContent.{AllUpTo, ids_of, is_trimmed, count_above}
-use Rattle.xs_group.specs.Claims.{Rule, row_at, is_idle, is_removed, is_taken, claim_among, without_repeats, from_start}
+use Rattle.xs_group.specs.Claims.{row_at, is_idle, is_removed, is_taken, claim_among, without_repeats, from_start}
+use Rattle.xs_group.specs.declared.claims.ClaimRule.{ClaimRule}
 use Rattle.xs_group.specs.Claims.{is_hit, scanned_part}
 use Rattle.xs_command.specs.WellFormed.{IsWellFormed, keys_of}
 use Rattle.xs_command.specs.declared.command.ClaimCommand.{ClaimCommand}
@@ -291,12 +292,12 @@ leave-causes k g consumer key group here ids x now = record {
   must = λ es found name e. or_left _ _ (second_of (is_same_name key k && is_same_name group g) (is_same_name name consumer) (or_false _ e));
 }
 
-among-taken : (es : List (Id × RowState)) (present : List Id) (now : ℕ) (rule : Rule) (ids : List Id) (x : Id) → has_id (claim_among es present now rule ids).take x ≡ true → (has_id ids x ≡ true) × (has_id present x ≡ true)
+among-taken : (es : List (Id × RowState)) (present : List Id) (now : ℕ) (rule : ClaimRule) (ids : List Id) (x : Id) → has_id (claim_among es present now rule ids).take x ≡ true → (has_id ids x ≡ true) × (has_id present x ≡ true)
 among-taken es present now rule ids x e =
     let f = sym (has_id-where (is_taken es present now rule) ids x) ∙ e in
     (second_of (is_taken es present now rule x) (has_id ids x) f, second_of (is_idle now rule (row_at es x)) (has_id present x) (first_of (is_taken es present now rule x) (has_id ids x) f))
 
-among-removed : (es : List (Id × RowState)) (present : List Id) (now : ℕ) (rule : Rule) (ids : List Id) (x : Id) → has_id (claim_among es present now rule ids).removed x ≡ true → (has_id ids x ≡ true) × (not (has_id present x) ≡ true)
+among-removed : (es : List (Id × RowState)) (present : List Id) (now : ℕ) (rule : ClaimRule) (ids : List Id) (x : Id) → has_id (claim_among es present now rule ids).removed x ≡ true → (has_id ids x ≡ true) × (not (has_id present x) ≡ true)
 among-removed es present now rule ids x e =
     let f = sym (has_id-where (is_removed es present) ids x) ∙ e in
     (second_of (is_removed es present x) (has_id ids x) f, second_of (is_some (row_at es x)) (not (has_id present x)) (first_of (is_removed es present x) (has_id ids x) f))

@@ -6,7 +6,8 @@ use Rattle.std.proofs.lemmas.Bool.{false≢true, or_left, or_right}
 use Rattle.xs_stream.specs.Id.{is_below, is_same_id, has_id}
 use Rattle.xs_stream.proofs.Order.{is_same_id-eq}
 use Rattle.xs_group.specs.declared.claims.Claim.{Claim}
-use Rattle.xs_group.specs.Claims.{Rule, row_at, is_idle, is_removed, is_taken, claim_among, without_repeats}
+use Rattle.xs_group.specs.Claims.{row_at, is_idle, is_removed, is_taken, claim_among, without_repeats}
+use Rattle.xs_group.specs.declared.claims.ClaimRule.{ClaimRule}
 use Rattle.xs_group.specs.Claims.{claim_by_ids, from_start, is_hit, scanned_part, scan_of, row_after_claim, claimed_row}
 use Rattle.xs_group.specs.GroupState.{RowState, is_same_name, new_ids, first_row, reread_ids, redelivered_row}
 use Rattle.xs_group.specs.GroupState.{row_after_reread}
@@ -102,7 +103,7 @@ row-found start events x = find-among (λ y. pending_row_at start events y) (del
 
 -- ---- what a claim takes and removes
 
-has_id-claim : (es : List (Id × RowState)) (present : List Id) (now : ℕ) (rule : Rule) (ids : List Id) (x : Id)
+has_id-claim : (es : List (Id × RowState)) (present : List Id) (now : ℕ) (rule : ClaimRule) (ids : List Id) (x : Id)
     → (has_id (claim_among es present now rule ids).take x ≡ (is_taken es present now rule x && has_id ids x))
     × (has_id (claim_among es present now rule ids).removed x ≡ (is_removed es present x && has_id ids x))
 has_id-claim es present now rule ids x = (has_id-where (is_taken es present now rule) ids x, has_id-where (is_removed es present) ids x)
@@ -111,11 +112,11 @@ has_id-claim es present now rule ids x = (has_id-where (is_taken es present now 
 IsOver : List (Id × RowState) → Id → Claim → Type 0
 IsOver es x c = has_id c.take x ≡ true → (is_some (row_at es x) ≡ true) × (has_id c.removed x ≡ false)
 
-taken-has : (now : ℕ) (rule : Rule) (r : Option RowState) → is_idle now rule r ≡ true → is_some r ≡ true
+taken-has : (now : ℕ) (rule : ClaimRule) (r : Option RowState) → is_idle now rule r ≡ true → is_some r ≡ true
 taken-has now rule None e = absurd (false≢true e)
 taken-has now rule (Some row) e = refl
 
-over : (es : List (Id × RowState)) (present : List Id) (now : ℕ) (rule : Rule) (ids : List Id) (x : Id) → IsOver es x (claim_among es present now rule ids)
+over : (es : List (Id × RowState)) (present : List Id) (now : ℕ) (rule : ClaimRule) (ids : List Id) (x : Id) → IsOver es x (claim_among es present now rule ids)
 unfolding IsOver
 over es present now rule ids x e =
     let taken = first_of (is_taken es present now rule x) (has_id ids x) (sym (has_id-claim es present now rule ids x).0 ∙ e) in
@@ -260,7 +261,7 @@ module _ (start : Id) (past : List GroupEvent) (now : ℕ) (present : List Id) (
           owned false = refl
 
   -- a claim
-  agree-claims : (consumer : List ℕ) (rule : Rule) (c : Claim) → IsOver (rows start past) x c → (s : Bool) → s ≡ has_id c.removed x
+  agree-claims : (consumer : List ℕ) (rule : ClaimRule) (c : Claim) → IsOver (rows start past) x c → (s : Bool) → s ≡ has_id c.removed x
       → cond (has_id c.take x) (Some consumer) (cond s None (owner start past x)) ≡ of_row (option_and_then (row_after_claim consumer now rule c x) (pending_row_at start past x))
   unfolding IsOver
   agree-claims consumer rule c over_rows s e = ap (λ b. cond (has_id c.take x) (Some consumer) (cond b None (owner start past x))) e ∙ ap (λ o. cond (has_id c.take x) (Some consumer) (cond (has_id c.removed x) None o)) ih
@@ -276,14 +277,14 @@ module _ (start : Id) (past : List GroupEvent) (now : ℕ) (present : List Id) (
       by (Some row) true false h = refl
       by (Some row) false false h = refl
 
-  agree-claim : (consumer : List ℕ) (rule : Rule) (ids : List Id) → Agrees (claim consumer rule ids)
+  agree-claim : (consumer : List ℕ) (rule : ClaimRule) (ids : List Id) → Agrees (claim consumer rule ids)
   unfolding Agrees t
   agree-claim consumer rule ids =
       owner-step start past (t (claim consumer rule ids)) x
       ∙ agree-claims consumer rule (claim_by_ids (rows start past) present now rule ids) (asked-over (claim consumer rule ids) now present (rows start past) x)
       (may_settle_entry start past (t (claim consumer rule ids)) x) (none_or (is_deletion_of (t (claim consumer rule ids)) (last_assignee start past x)) _ (removes-none (t (claim consumer rule ids)) (λ _. refl) (last_assignee start past x)))
 
-  agree-auto_claim : (consumer : List ℕ) (rule : Rule) (from : Id) (limit : ℕ) → Agrees (auto_claim consumer rule from limit)
+  agree-auto_claim : (consumer : List ℕ) (rule : ClaimRule) (from : Id) (limit : ℕ) → Agrees (auto_claim consumer rule from limit)
   unfolding Agrees t
   agree-auto_claim consumer rule from limit =
       owner-step start past (t (auto_claim consumer rule from limit)) x

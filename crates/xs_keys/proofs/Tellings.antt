@@ -13,7 +13,8 @@ use Rattle.xs_group.specs.GroupState.{GroupState, RowState, is_same_name, new_id
 use Rattle.xs_group.specs.GroupState.{group_after_ack}
 use Rattle.xs_group.specs.GroupState.{unless_acked}
 use Rattle.xs_group.specs.declared.claims.Scan as scans
-use Rattle.xs_group.specs.Claims.{Rule, claim_by_ids, scan_of, claim_among, without_repeats, from_start, scanned_part}
+use Rattle.xs_group.specs.Claims.{claim_by_ids, scan_of, claim_among, without_repeats, from_start, scanned_part}
+use Rattle.xs_group.specs.declared.claims.ClaimRule.{ClaimRule}
 use Rattle.xs_group.specs.Claims.{is_hit, is_taken, is_idle, row_at}
 use Rattle.xs_group.specs.Report.{is_selected, pending_row, summary_of}
 use Rattle.xs_group.proofs.RemovedRows.{length-change}
@@ -134,7 +135,7 @@ new_ids-among limit a present x h =
     let above = limited-has limit (filter (λ y. is_below a y) present) x h in
     second_of (is_below a x) (has_id present x) (sym (has_id-where (λ y. is_below a y) present x) ∙ above)
 
-taken-among : (es : List (Id × RowState)) (present : List Id) (now : ℕ) (rule : Rule) (ids : List Id) → AreAmong (claim_among es present now rule ids).take present
+taken-among : (es : List (Id × RowState)) (present : List Id) (now : ℕ) (rule : ClaimRule) (ids : List Id) → AreAmong (claim_among es present now rule ids).take present
 taken-among es present now rule ids x h =
     let taken = first_of (is_taken es present now rule x) (has_id ids x) (sym (has_id-where (is_taken es present now rule) ids x) ∙ h) in
     second_of (is_idle now rule (row_at es x)) (has_id present x) taken
@@ -197,7 +198,7 @@ missing c past name group is gone = by (get c name) (key_life past name) (is nam
   by (Some key) None holds = absurd holds
 
 -- what XCLAIM tells
-told-claim : (c : Content) (past : History) (now : ℕ) (name group consumer : List ℕ) (rule : Rule) (ids : List Id) (t : IsThere c past name group)
+told-claim : (c : Content) (past : History) (now : ℕ) (name group consumer : List ℕ) (rule : ClaimRule) (ids : List Id) (t : IsThere c past name group)
     → TakenIs rule.just_id (added_at past name) (scan_at past now name group (claim consumer rule ids)).claim.take
     (taken_reply rule.just_id t.key.stream.entries (claim_by_ids t.state.rows.entries (ids_of t.key.stream.entries) now rule ids).take)
 told-claim c past now name group consumer rule ids t =
@@ -206,7 +207,7 @@ told-claim c past now name group consumer rule ids t =
     (taken-among (rows t.life.start t.life.events) (ids_of (present_entries t.changes)) now rule (without_repeats ids)))
 
 -- what XAUTOCLAIM tells
-told-scan : (c : Content) (past : History) (now : ℕ) (name group consumer : List ℕ) (rule : Rule) (start : Id) (limit : ℕ) (t : IsThere c past name group)
+told-scan : (c : Content) (past : History) (now : ℕ) (name group consumer : List ℕ) (rule : ClaimRule) (start : Id) (limit : ℕ) (t : IsThere c past name group)
     → TakenIs rule.just_id (added_at past name) (scan_at past now name group (auto_claim consumer rule start limit)).claim.take
     (taken_reply rule.just_id t.key.stream.entries (scan_of t.state.rows.entries (ids_of t.key.stream.entries) now rule start limit).claim.take)
 told-scan c past now name group consumer rule start limit t =
@@ -217,7 +218,7 @@ told-scan c past now name group consumer rule start limit t =
     (taken-among es present now rule (scanned_part (is_hit es present now rule) limit (from_start start es))))
 
 -- and where it goes on, and what it removes
-scan-is : (c : Content) (past : History) (now : ℕ) (name group consumer : List ℕ) (rule : Rule) (start : Id) (limit : ℕ) (t : IsThere c past name group)
+scan-is : (c : Content) (past : History) (now : ℕ) (name group consumer : List ℕ) (rule : ClaimRule) (start : Id) (limit : ℕ) (t : IsThere c past name group)
     → scan_of t.state.rows.entries (ids_of t.key.stream.entries) now rule start limit ≡ scan_at past now name group (auto_claim consumer rule start limit)
 scan-is c past now name group consumer rule start limit t = rw (t.changes_are, t.life_is, t.holds.rows_are, t.stream_is) refl
 

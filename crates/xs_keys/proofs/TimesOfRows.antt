@@ -2,7 +2,8 @@
 use Rattle.std.proofs.Common.{◌≡◌, ℕ, Bool, true, false, not, cond, ◌&&◌, ◌||◌, List, [], ◌∷◌, Option, Some, None}
 use Rattle.std.proofs.Common.{option_and_then, is_some, ◌⊎◌, inl, inr, sym, ap, subst, ◌∙◌, refl}
 use Rattle.xs_group.specs.declared.claims.Claim.{Claim}
-use Rattle.xs_group.specs.Claims.{Rule, claim_by_ids, scan_of, row_after_claim, claimed_row, claim_time, claim_count}
+use Rattle.xs_group.specs.Claims.{claim_by_ids, scan_of, row_after_claim, claimed_row, claim_time, claim_count}
+use Rattle.xs_group.specs.declared.claims.ClaimRule.{ClaimRule}
 use Rattle.xs_group.specs.GroupState.{RowState, is_same_name, new_ids, first_row, reread_ids, redelivered_row}
 use Rattle.xs_group.specs.GroupState.{next_count}
 use Rattle.xs_group.specs.GroupState.{unless_acked, unless_owned}
@@ -45,7 +46,7 @@ Touched ask now present a es x r time count =
     let touch = asked_touch ask now present a es x in
     Has (row_after_ask ask now present a es x r) (cond touch (time_of_touch ask now) time) (cond touch (count_of_touch ask count) count)
 
-claim-has : (consumer : List ℕ) (now : ℕ) (rule : Rule) (c : Claim) (x : Id) (r : Option RowState) (time count : ℕ) → Has r time count
+claim-has : (consumer : List ℕ) (now : ℕ) (rule : ClaimRule) (c : Claim) (x : Id) (r : Option RowState) (time count : ℕ) → Has r time count
     → Has (option_and_then (row_after_claim consumer now rule c x) r) (cond (has_id c.take x) (claim_time rule.when now) time) (cond (has_id c.take x) (claim_count rule.retry rule.just_id count) count)
 claim-has consumer now rule c x None time count h = none-has _ _
 claim-has consumer now rule c x (Some row) time count h = by (has_id c.removed x) (has_id c.take x) where

@@ -3,7 +3,7 @@ use Rattle.std.specs.Prelude.{◌≡◌, ◌⊎◌, ℕ, ◌≤◌, ◌+◌, ◌
 use Rattle.std.specs.Prelude.{map, filter, length, is_some}
 use Rattle.xs_stream.specs.Id.{is_same_id}
 use Rattle.xs_group.specs.Verdict.{AreDistinct}
-use Rattle.xs_keys.specs.Terms.{option_map_or, Id, Rule, is_below, has_id, zero_id}
+use Rattle.xs_keys.specs.Terms.{option_map_or, Id, ClaimRule, is_below, has_id, zero_id}
 use Rattle.xs_keys.specs.GroupAsk.{GroupAsk, claim, auto_claim, rule_of}
 use Rattle.xs_keys.specs.GroupEvent.{GroupEvent, claim_of_event, scan_end_of_event, rows}
 use Rattle.xs_keys.specs.Owner.{is_taken_by_claim, is_removed_by_claim, owner}
@@ -60,7 +60,7 @@ MayStop event rows =
 -- a scan takes and removes no more than its COUNT
 abbrev pub IsWithinCount : GroupEvent → PendingEntries → Type 0
 IsWithinCount event rows =
-    (consumer : Bytes) (rule : Rule) (start : Id) (limit : ℕ) → event.ask ≡ auto_claim consumer rule start limit
+    (consumer : Bytes) (rule : ClaimRule) (start : Id) (limit : ℕ) → event.ask ≡ auto_claim consumer rule start limit
     → length (claim_of_event event rows).take + length (claim_of_event event rows).removed ≤ limit
 
 -- the claim asks for the entry: an XCLAIM names it, or an XAUTOCLAIM scans it

@@ -1,5 +1,5 @@
 -- The content of the keyspace, and which content a history leaves.
-use Rattle.std.specs.Prelude.{◌≡◌, List, Option, Some, None}
+use Rattle.std.specs.Prelude.{◌≡◌, Option, Some, None}
 use Rattle.xs_keys.specs.Terms.{NameMap, get, StreamState, GroupState, has_name}
 use Rattle.xs_keys.specs.Life.{KeyLife, key_life, stream_of}
 use Rattle.xs_keys.specs.GroupEvent.{cursor, is_consumer, rows}

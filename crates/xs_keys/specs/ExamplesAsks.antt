@@ -6,7 +6,7 @@ use Rattle.std.specs.Prelude.{◌≡◌, ℕ, Bool, true, false, List, [], ◌�
 use Rattle.xs_stream.specs.declared.id.Id.{Id}
 use Rattle.xs_stream.specs.Examples.{at}
 use Rattle.xs_group.specs.declared.claims.ClaimTime.TheVariants as time
-use Rattle.xs_group.specs.Claims.{Rule}
+use Rattle.xs_group.specs.declared.claims.ClaimRule.{ClaimRule}
 use Rattle.xs_group.specs.GroupState.{RowState}
 use Rattle.xs_group.specs.ExamplesRead.{pending}
 use Rattle.xs_keys.specs.GroupAsk.{GroupAsk, read_new, read_own, acknowledge, create_consumer, claim, auto_claim}
@@ -74,16 +74,16 @@ pub record Asked : Type 0 where
 abbrev pub reread_by_a : GroupAsk
 reread_by_a = read_own (codes "a") None (at 0 0)
 
-abbrev pub claims : Rule → GroupAsk
+abbrev pub claims : ClaimRule → GroupAsk
 claims rule = claim (codes "b") rule (at 2 0 ∷ [])
 
-abbrev pub of_an_hour : Rule
+abbrev pub of_an_hour : ClaimRule
 of_an_hour = record { min_idle = 3600000; when = time.At 120; retry = Some 7; just_id = false }
 
-abbrev pub ids_alone : Rule
+abbrev pub ids_alone : ClaimRule
 ids_alone = record { min_idle = 0; when = time.Idle 30; retry = None; just_id = true }
 
-abbrev pub now_and_ids_alone : Rule
+abbrev pub now_and_ids_alone : ClaimRule
 now_and_ids_alone = record { min_idle = 0; when = time.Now; retry = None; just_id = true }
 
 pub record Touches : Type 0 where

@@ -6,7 +6,7 @@ use Rattle.std.specs.Prelude.{◌≡◌, ℕ, true, false, List, [], ◌∷◌, 
 use Rattle.xs_stream.specs.declared.id.Id.{Id}
 use Rattle.xs_stream.specs.Examples.{at}
 use Rattle.xs_group.specs.declared.claims.ClaimTime.TheVariants as time
-use Rattle.xs_group.specs.Claims.{Rule}
+use Rattle.xs_group.specs.declared.claims.ClaimRule.{ClaimRule}
 use Rattle.xs_group.specs.ExamplesRead.{pending}
 use Rattle.xs_keys.specs.GroupAsk.{GroupAsk, read_new, read_own, acknowledge, create_consumer, delete_consumer, claim}
 use Rattle.xs_keys.specs.GroupAsk.{auto_claim}
@@ -34,7 +34,7 @@ event now ask = event_over (at 1 0 ∷ at 2 0 ∷ at 3 0 ∷ []) now ask
 abbrev pub event_without : ℕ → GroupAsk → GroupEvent
 event_without now ask = event_over (at 1 0 ∷ at 3 0 ∷ []) now ask
 
-abbrev pub any_idle_time : Rule
+abbrev pub any_idle_time : ClaimRule
 any_idle_time = record { min_idle = 0; when = time.Now; retry = None; just_id = false }
 
 -- a reads both entries at 100; b reads them with NOACK; a reads one of them

@@ -7,7 +7,7 @@ use Rattle.xs_stream.specs.declared.id.Id.{Id}
 use Rattle.xs_stream.specs.StreamContent.{ids_of}
 use Rattle.xs_stream.specs.Examples.{at}
 use Rattle.xs_group.specs.declared.claims.ClaimTime.TheVariants as time
-use Rattle.xs_group.specs.Claims.{Rule}
+use Rattle.xs_group.specs.declared.claims.ClaimRule.{ClaimRule}
 use Rattle.xs_resp.specs.declared.fault.Fault.{Fault}
 use Rattle.xs_keys.specs.Event.{History, event_command}
 use Rattle.xs_command.specs.declared.command.Command.{Command}
@@ -205,7 +205,7 @@ pub record Memory : Type 0 where
   pub xautoclaim : needs (codes "XAUTOCLAIM s g a 0 0") ≡ Some true
   pub del : needs (codes "DEL s") ≡ Some false
 
-abbrev pub any_idle_time : Rule
+abbrev pub any_idle_time : ClaimRule
 any_idle_time = record { min_idle = 0; when = time.Now; retry = None; just_id = false }
 
 -- what replies tell

@@ -4,7 +4,7 @@ use Rattle.std.specs.Prelude.{ℕ, List, [], ◌∷◌, codes}
 use Rattle.xs_keys.specs.Event.{History, event_moment, event_command}
 use Rattle.xs_command.specs.Read.{command_of_words}
 use Rattle.xs_command.specs.Examples.{line}
-use Rattle.xs_keys.specs.Terms.{Command, Reply, Error, Int, NoGroup, SmallId, NullArray, NullBulk}
+use Rattle.xs_keys.specs.Terms.{Reply, Error, Int, NoGroup, SmallId, NullArray, NullBulk}
 use Rattle.xs_keys.specs.ReplyParts.{array}
 use Rattle.xs_keys.specs.RepliesTell.{IsTold}
 use Rattle.xs_keys.specs.PlayedLines.{name, id, entry, stream}

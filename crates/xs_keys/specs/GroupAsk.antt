@@ -2,7 +2,7 @@
 -- (Redis, XREADGROUP, XACK, XGROUP CREATECONSUMER and DELCONSUMER, XCLAIM, XAUTOCLAIM.)
 use Rattle.std.specs.Prelude.{ℕ, Bool, false, not, List, [], Option, Some, None, option_and_then, if◌then◌else◌}
 use Rattle.xs_group.specs.declared.claims.Claim.{Claim}
-use Rattle.xs_keys.specs.Terms.{option_map_or, Id, has_id, Rule, RowState, is_same_name, new_ids, claim_by_ids, scan_of}
+use Rattle.xs_keys.specs.Terms.{option_map_or, Id, has_id, ClaimRule, RowState, is_same_name, new_ids, claim_by_ids, scan_of}
 use Rattle.xs_keys.specs.Terms.{zero_id}
 use Rattle.xs_keys.specs.Terms.{first_row, reread_ids, row_after_reread, row_after_claim, unless_acked, unless_owned}
 use Rattle.xs_keys.specs.Event.{Bytes, PendingEntries}
@@ -14,8 +14,8 @@ pub data GroupAsk : Type 0 where
   acknowledge : List Id → GroupAsk  -- XACK
   create_consumer : Bytes → GroupAsk  -- XGROUP CREATECONSUMER
   delete_consumer : Bytes → GroupAsk  -- XGROUP DELCONSUMER
-  claim : Bytes → Rule → List Id → GroupAsk  -- XCLAIM
-  auto_claim : Bytes → Rule → Id → ℕ → GroupAsk  -- XAUTOCLAIM: from a start, at most so many
+  claim : Bytes → ClaimRule → List Id → GroupAsk  -- XCLAIM
+  auto_claim : Bytes → ClaimRule → Id → ℕ → GroupAsk  -- XAUTOCLAIM: from a start, at most so many
 
 -- the new ids that an ask delivers, from the ids in the stream and the cursor
 abbrev pub new_ids_of_ask : GroupAsk → List Id → Id → List Id
@@ -49,7 +49,7 @@ consumer_of (claim consumer rule ids) = Some consumer
 consumer_of (auto_claim consumer rule start limit) = Some consumer
 
 -- the rule of a claim
-abbrev pub rule_of : GroupAsk → Option Rule
+abbrev pub rule_of : GroupAsk → Option ClaimRule
 rule_of (claim consumer rule ids) = Some rule
 rule_of (auto_claim consumer rule start limit) = Some rule
 rule_of _ = None

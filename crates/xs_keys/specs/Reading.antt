@@ -6,12 +6,12 @@ use Rattle.xs_resp.specs.ReplyItems.{tokens_of}
 use Rattle.xs_group.specs.declared.delivery.Delivery.{Delivery}
 use Rattle.xs_group.specs.Deliveries.{IsMade}
 use Rattle.xs_keys.specs.declared.xreadgroup.Served.{Served}
-use Rattle.xs_keys.specs.Terms.{option_map_or, get, insert, Id, ids_of, new_ids, reread_ids, GroupState, Reply}
+use Rattle.xs_keys.specs.Terms.{option_map_or, get, insert, Id, new_ids, reread_ids, GroupState, Reply}
 use Rattle.xs_keys.specs.Terms.{ReadGroupCommand}
 use Rattle.xs_keys.specs.Terms.{ReadOne, ReadFrom, New, After}
 use Rattle.xs_keys.specs.GroupLife.{ask_of_read}
 use Rattle.xs_keys.specs.Content.{Content, KeyState}
-use Rattle.xs_keys.specs.ContentAfter.{after_ask, entries_in, group_after, group_in, with_group}
+use Rattle.xs_keys.specs.ContentAfter.{after_ask, entries_in, group_in, with_group}
 use Rattle.xs_keys.specs.ReplyParts.{stream_part, new_part}
 use Rattle.xs_keys.specs.Reply.{parts_of_read}
 use Rattle.xs_keys.specs.Event.{Bytes, Entries}

@@ -19,7 +19,8 @@ pub use Rattle.xs_group.specs.GroupState.{unless_owned, without_consumer, new_id
 pub use Rattle.xs_group.specs.GroupState.{reread_ids}
 pub use Rattle.xs_group.specs.GroupState.{row_after_reread}
 pub use Rattle.xs_group.specs.GroupState.{group_after_reread}
-pub use Rattle.xs_group.specs.Claims.{Rule, claim_by_ids, scan_of, row_after_claim, group_after_claim}
+pub use Rattle.xs_group.specs.Claims.{claim_by_ids, scan_of, row_after_claim, group_after_claim}
+pub use Rattle.xs_group.specs.declared.claims.ClaimRule.{ClaimRule}
 pub use Rattle.xs_group.specs.declared.reports.OwnerCount.{OwnerCount}
 pub use Rattle.xs_group.specs.declared.reports.GroupSummary.{GroupSummary}
 pub use Rattle.xs_group.specs.declared.reports.PendingRow.{PendingRow}

@@ -1,11 +1,11 @@
 //! DEL.
-ghost use Rattle.std.specs.Prelude.{◌≡◌};
+ghost use Rattle.std.specs.Prelude.{◌≡◌, ◌<◌, ◌^◌};
 ghost use Rattle.xs_keys.specs.ContentAfter.{without_keys};
 ghost use Rattle.xs_keys.specs.Reply.{existing_count};
 ghost use Rattle.xs_keys.specs.Step.{StepAtAnyTime};
 
 use crate::keys::Keys;
-use xs_bytes::{Bytes, List};
+use xs_bytes::{Bytes, List, U63};
 use xs_command::Command;
 use xs_resp::Reply;
 
@@ -13,19 +13,18 @@ use xs_resp::Reply;
 fn remove_all(keys: &mut Keys, names: &[Bytes]) -> u64
     ensures content { keys.new ≡ without_keys names.now keys.old }
     ensures count { result ≡ existing_count names.now keys.old }
+    ensures small { result < 2 ^ 63 }
 {
-    let mut count = 0;
+    let before = keys.len();
     for name in names {
-        if keys.remove(name).is_some() {
-            count += 1;
-        }
+        let _ = keys.remove(name);
     }
-    count
+    (before - keys.len()) as u64
 }
 
 /// Removes keys with their groups, and says how many of them there were, each counted once.
 pub fn delete(keys: &mut Keys, names: &List<Bytes>) -> Reply
     ensures { StepAtAnyTime keys.old (Command.DropKeys names.now) result keys.new }
 {
-    Reply::Int(remove_all(keys, names.as_slice()))
+    Reply::Int(U63::new(remove_all(keys, names.as_slice())))
 }

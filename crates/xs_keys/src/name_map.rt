@@ -1,5 +1,5 @@
 //! Maps by names.
-ghost use Rattle.std.specs.Prelude.{◌≡◌, OnOk, OnErr};
+ghost use Rattle.std.specs.Prelude.{◌≡◌, ◌<◌, ◌^◌, length, OnOk, OnErr};
 ghost use Rattle.std.specs.Borrow.{sem};
 ghost use Rattle.std.specs.Option.{option_copied, option_copied_mut};
 ghost use Rattle.xs_bytes.specs.SortedMap.{empty, get, has_key, insert, remove};
@@ -53,6 +53,14 @@ impl<V> NameMap<V> {
         ensures value { option_copied_mut result ≡ get self.old name.now }
     {
         self.entries.get_mut(name)
+    }
+
+    /// How many names have a value.
+    pub fn len(&self) -> usize
+        ensures value { result ≡ length self.now.entries }
+        ensures small { result < 2 ^ 63 }
+    {
+        self.entries.len()
     }
 
     /// Whether the name has a value.

@@ -2,7 +2,7 @@
 ghost use Rattle.xs_keys.specs.Step.{StepAtAnyTime};
 
 use crate::keys::Keys;
-use xs_bytes::{Bytes, List};
+use xs_bytes::{Bytes, List, U63};
 use xs_command::Command;
 use xs_resp::Reply;
 use xs_stream::Id;
@@ -13,10 +13,10 @@ pub fn acknowledge(keys: &mut Keys, key: &Bytes, group: &Bytes, ids: &List<Id>) 
     ensures { StepAtAnyTime keys.old (Command.Ack key.now group.now ids.now) result keys.new }
 {
     let Some(slot) = keys.get_mut(key) else {
-        return Reply::Int(0);
+        return Reply::Int(U63::new(0));
     };
     let Some(group) = slot.groups.get_mut(group) else {
-        return Reply::Int(0);
+        return Reply::Int(U63::new(0));
     };
-    Reply::Int(group.ack(ids.as_slice()))
+    Reply::Int(U63::new(group.ack(ids.as_slice())))
 }

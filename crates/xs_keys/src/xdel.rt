@@ -2,7 +2,7 @@
 ghost use Rattle.xs_keys.specs.Step.{StepAtAnyTime};
 
 use crate::keys::Keys;
-use xs_bytes::{Bytes, List};
+use xs_bytes::{Bytes, List, U63};
 use xs_command::Command;
 use xs_resp::Reply;
 use xs_stream::Id;
@@ -12,7 +12,7 @@ pub fn delete(keys: &mut Keys, key: &Bytes, ids: &List<Id>) -> Reply
     ensures { StepAtAnyTime keys.old (Command.Delete key.now ids.now) result keys.new }
 {
     match keys.get_mut(key) {
-        Some(slot) => Reply::Int(slot.stream.delete(ids.as_slice())),
-        None => Reply::Int(0),
+        Some(slot) => Reply::Int(U63::new(slot.stream.delete(ids.as_slice()))),
+        None => Reply::Int(U63::new(0)),
     }
 }

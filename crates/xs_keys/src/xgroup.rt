@@ -11,7 +11,7 @@ use crate::keys::{Groups, Keys, Slot};
 use crate::name_map::NameMap;
 use crate::reserve::Reserve;
 use std::alloc::{AllocError, Global};
-use xs_bytes::Bytes;
+use xs_bytes::{Bytes, U63};
 use xs_command::{Command, GroupCreateCommand, GroupStart};
 use xs_group::Group;
 use xs_resp::{Fault, Reply, Simple};
@@ -123,7 +123,7 @@ pub fn create(
 fn one_where(is: bool) -> Reply
     ensures { result ≡ Reply.Int (if is then 1 else 0) }
 {
-    if is { Reply::Int(1) } else { Reply::Int(0) }
+    Reply::Int(U63::new(u64::from(is)))
 }
 
 /// XGROUP DESTROY.
@@ -170,5 +170,5 @@ pub fn delete_consumer(keys: &mut Keys, key: &Bytes, group: &Bytes, consumer: &B
     let Some(group) = slot.groups.get_mut(group) else {
         return Reply::Error(Fault::NoGroup);
     };
-    Reply::Int(group.remove_consumer(consumer))
+    Reply::Int(U63::new(group.remove_consumer(consumer)))
 }

@@ -2,7 +2,7 @@
 ghost use Rattle.xs_keys.specs.Step.{StepAtAnyTime};
 
 use crate::keys::Keys;
-use xs_bytes::Bytes;
+use xs_bytes::{Bytes, U63};
 use xs_command::Command;
 use xs_resp::Reply;
 
@@ -11,7 +11,7 @@ pub fn len(keys: &Keys, key: &Bytes) -> Reply
     ensures { StepAtAnyTime keys.now (Command.Len key.now) result keys.now }
 {
     match keys.get(key) {
-        Some(slot) => Reply::Int(slot.stream.len() as u64),
-        None => Reply::Int(0),
+        Some(slot) => Reply::Int(U63::new(slot.stream.len() as u64)),
+        None => Reply::Int(U63::new(0)),
     }
 }

@@ -2,7 +2,7 @@
 ghost use Rattle.xs_keys.specs.Step.{StepAtAnyTime};
 
 use crate::keys::Keys;
-use xs_bytes::Bytes;
+use xs_bytes::{Bytes, U63};
 use xs_command::Command;
 use xs_resp::Reply;
 use xs_stream::Trim;
@@ -12,7 +12,7 @@ pub fn trim(keys: &mut Keys, key: &Bytes, trim: Trim) -> Reply
     ensures { StepAtAnyTime keys.old (Command.TrimTo key.now trim) result keys.new }
 {
     match keys.get_mut(key) {
-        Some(slot) => Reply::Int(slot.stream.trim(trim)),
-        None => Reply::Int(0),
+        Some(slot) => Reply::Int(U63::new(slot.stream.trim(trim))),
+        None => Reply::Int(U63::new(0)),
     }
 }

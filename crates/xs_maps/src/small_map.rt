@@ -50,6 +50,7 @@ impl<K: Ord, V> SmallMap<K, V> {
     /// How many entries there are.
     pub fn len(&self) -> usize
         ensures len { result ≡ btree_map_len self.now }
+        ensures small { result < 2 ^ 63 }
         ensures ordered { IsOrdered K.cmp self.now }
     {
         match &self.form {

@@ -1,5 +1,5 @@
 //! A set in the order of its keys.
-ghost use Rattle.std.specs.Prelude.{◌≡◌, ◌<◌, ◌↔◌, true, false, slice_get, Some, IsSome, IfSome, IsTrue, OnOk, OnErr};
+ghost use Rattle.std.specs.Prelude.{◌≡◌, ◌<◌, ◌^◌, ◌↔◌, true, false, slice_get, Some, IsSome, IfSome, IsTrue, OnOk, OnErr};
 ghost use Rattle.std.specs.BTreeMap.Range.{IsLeBy, IsLtBy};
 ghost use Rattle.std.specs.BTreeSet.{btree_set_len, contains, keys_between, IsEmpty, IsOrdered, IsUnchanged, Updates};
 ghost use Rattle.std.specs.BTreeSet.{UpdatesBy};
@@ -40,6 +40,7 @@ impl<K: Ord> SmallSet<K> {
     /// How many keys there are.
     pub fn len(&self) -> usize
         ensures len { result ≡ btree_set_len self.now }
+        ensures small { result < 2 ^ 63 }
         ensures ordered { IsOrdered K.cmp self.now }
     {
         self.map.len()

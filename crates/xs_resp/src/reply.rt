@@ -4,7 +4,7 @@ ghost use Rattle.std.specs.Prelude.{◌≡◌, ◌==◌};
 use crate::fault::Fault;
 use crate::tokens::Tokens;
 use std::marker::Model;
-use xs_bytes::Bytes;
+use xs_bytes::{Bytes, U63};
 
 /// A simple string.
 #[derive(Clone, Copy, Debug, PartialEq, Eq)]
@@ -22,8 +22,8 @@ pub enum Reply {
     Simple(Simple),
     /// An error.
     Error(Fault),
-    /// An integer.
-    Int(u64),
+    /// An integer. RESP2's are signed numbers of 64 bits; none of these is negative.
+    Int(U63),
     /// A bulk string.
     Bulk(Bytes),
     /// The null bulk string.

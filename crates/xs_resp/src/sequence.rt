@@ -49,7 +49,7 @@ impl<'a> Sequence<'a> {
         match reply {
             Reply::Simple(simple) => Self::single(Mark::Simple(*simple)),
             Reply::Error(fault) => Self::single(Mark::Error(*fault)),
-            Reply::Int(number) => Self::single(Mark::Int(*number)),
+            Reply::Int(number) => Self::single(Mark::Int(number.get())),
             Reply::Bulk(bytes) => Self {
                 first: Mark::Bulk(bytes.len()),
                 marks: &[],

@@ -8,6 +8,7 @@ use crate::mark::Mark;
 use crate::reply::Simple;
 use std::alloc::{AllocError, Global};
 use std::marker::Model;
+use xs_bytes::U63;
 
 /// How many bytes of room the string of a token is given.
 const STRING_ROOM: usize = 16;
@@ -77,11 +78,11 @@ impl Tokens {
     }
 
     /// Appends an integer.
-    pub fn push_int(&mut self, number: u64) -> Result<(), AllocError>
+    pub fn push_int(&mut self, number: U63) -> Result<(), AllocError>
         ensures ok { OnOk result (self.new ≡ self.old ++ token.Int number ∷ []) }
         ensures err { OnErr result (self.new ≡ self.old) }
     {
-        self.push_mark(Mark::Int(number))
+        self.push_mark(Mark::Int(number.get()))
     }
 
     /// Appends a bulk string.

@@ -35,7 +35,7 @@ fn write_reply(reply: &Reply, out: &mut Vec<u8>) -> Result<(), AllocError>
     match reply {
         Reply::Simple(simple) => write_simple(*simple, out),
         Reply::Error(fault) => write_fault(*fault, out),
-        Reply::Int(number) => write_line(b':', *number, out),
+        Reply::Int(number) => write_line(b':', number.get(), out),
         Reply::Bulk(bytes) => write_bulk(bytes.as_slice(), out),
         Reply::NullBulk => out.extend_from_slice(b"$-1\r\n"),
         Reply::Array(items) => write_items(items, out),

@@ -117,7 +117,7 @@ fn serves_one_call_after_the_other(rt: HostRuntime) -> Result<(), Fail> {
     );
     let mut keyspace = summary.keyspace;
     let reply = keyspace.apply(clock.moment, &read(alloc, "XLEN s")?);
-    assert!(rt; matches!(reply, Reply::Int(2)));
+    assert!(rt; matches!(reply, Reply::Int(length) if length.get() == 2));
     Ok(())
 }
 

@@ -70,7 +70,7 @@ fn length(
         return Ok(None);
     };
     match answer.reply {
-        Reply::Int(length) => Ok(Some((answer.place, length))),
+        Reply::Int(length) => Ok(Some((answer.place, length.get()))),
         _ => Ok(None),
     }
 }

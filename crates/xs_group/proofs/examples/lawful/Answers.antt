@@ -16,7 +16,4 @@ returns c =
       nobody = refl;
       above_the_cursor = λ h. subst T (h (at 3 0) refl) tt;
       of_no_consumer = λ h. subst T (sym (h (codes "b") (at 2 0) refl)) tt;
-      greatest_count = grind arith;
-      too_great_a_count = λ h. omega (arith, h 9223372036854775808 refl);
-      no_count = grind arith;
     }

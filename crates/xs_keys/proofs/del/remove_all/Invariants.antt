@@ -1,4 +1,4 @@
-use Rattle.std.proofs.Common.{◌≡◌, ◌+◌, ◌≤◌, drop}
+use Rattle.std.proofs.Common.{◌≡◌, ◌+◌, drop, length}
 use Rattle.xs_keys.specs.ContentAfter.{without_keys}
 use Rattle.xs_keys.specs.Reply.{existing_count}
 use Rattle.xs_keys.proofs.del.remove_all.Given as goal
@@ -6,6 +6,6 @@ use Rattle.xs_keys.proofs.del.remove_all.Given as goal
 -- what is left to do leads to what all would
 abbrev pub invariant-loop-name : goal.invariant-loop-name
 invariant-loop-name l =
-    (without_keys (drop l.name-index l.names) l.keys ≡ without_keys l.names l.initial.keys)
-    × (l.count + existing_count (drop l.name-index l.names) l.keys ≡ existing_count l.names l.initial.keys)
-    × (l.count ≤ l.name-index)
+    let rest = drop l.name-index l.names in
+    (without_keys rest l.keys ≡ without_keys l.names l.initial.keys)
+    × (length l.initial.keys.entries + existing_count rest l.keys ≡ length l.keys.entries + existing_count l.names l.initial.keys)

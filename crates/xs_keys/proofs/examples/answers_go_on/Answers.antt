@@ -1,6 +1,6 @@
-use Rattle.std.proofs.Common.{ℕ, List, [], ◌∷◌, None, refl, inl}
+use Rattle.std.proofs.Common.{ℕ, [], ◌∷◌, None, refl, inl}
 use Rattle.xs_keys.specs.Event.{History}
-use Rattle.xs_keys.specs.Terms.{Command, Ping, Simple, Pong}
+use Rattle.xs_keys.specs.Terms.{Ping, Simple, Pong}
 use Rattle.xs_keys.specs.Content.{IsContent}
 use Rattle.xs_keys.specs.EachReply.{Follows}
 use Rattle.xs_keys.specs.ExamplesHeadline.{ping}
