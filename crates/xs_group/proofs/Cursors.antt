@@ -33,14 +33,6 @@ last-more c (y ∷ ys) x = last-more y ys x
 
 -- ---- the ids that are delivered
 
-above-filter : (c x : Id) (ids : List Id) → AllAbove x ids → AllAbove x (filter (λ y. is_below c y) ids)
-above-filter c x [] a = tt
-above-filter c x (y ∷ ys) a = grind (arith, a.0, above-filter c x ys a.1)
-
-ascends-filter : (c : Id) (ids : List Id) → Ascends ids → Ascends (filter (λ y. is_below c y) ids)
-ascends-filter c [] a = tt
-ascends-filter c (y ∷ ys) a = grind (arith, above-filter c y ys a.0, ascends-filter c ys a.1)
-
 filter-above : (c : Id) (ids : List Id) → AllAbove c (filter (λ y. is_below c y) ids)
 filter-above c [] = tt
 filter-above c (y ∷ ys) = grind (arith, filter-above c ys)
@@ -50,15 +42,6 @@ above-take x zero ids a = tt
 above-take x (suc n) [] a = tt
 above-take x (suc n) (y ∷ ys) a = (a.0, above-take x n ys a.1)
 
-ascends-take : (n : ℕ) (ids : List Id) → Ascends ids → Ascends (take n ids)
-ascends-take zero ids a = tt
-ascends-take (suc n) [] a = tt
-ascends-take (suc n) (y ∷ ys) a = (above-take y n ys a.0, ascends-take n ys a.1)
-
 pub new_ids-above : (limit : Option ℕ) (c : Id) (ids : List Id) → AllAbove c (up_to_limit limit (filter (λ y. is_below c y) ids))
 new_ids-above None c ids = filter-above c ids
 new_ids-above (Some n) c ids = above-take c n (filter (λ y. is_below c y) ids) (filter-above c ids)
-
-pub new_ids-ascend : (limit : Option ℕ) (c : Id) (ids : List Id) → Ascends ids → Ascends (up_to_limit limit (filter (λ y. is_below c y) ids))
-new_ids-ascend None c ids a = ascends-filter c ids a
-new_ids-ascend (Some n) c ids a = ascends-take n (filter (λ y. is_below c y) ids) (ascends-filter c ids a)

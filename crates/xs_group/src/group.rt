@@ -122,7 +122,6 @@ impl Group {
             ≡ group_after_delivery consumer.now now limit noack (ids_of stream.now.entries) self.old) }
         ensures err { OnErr result (self.new ≡ self.old) }
     {
-        stream.lawful();
         let cursor_before = self.cursor;
         let ids = stream.past(alloc, cursor_before, limit)?;
         let rows = reading::new_rows(alloc, ids.as_slice())?;

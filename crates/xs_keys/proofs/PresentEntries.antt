@@ -4,10 +4,9 @@ use Rattle.std.proofs.Common.{reverse, Option, Some, None, sym, ap, ◌∙◌, r
 use Rattle.std.proofs.lemmas.List.{take-map, reverse-append, map-append}
 use Rattle.std.proofs.lemmas.Bool.Decides.{nat_tests}
 use Rattle.xs_stream.specs.declared.range.Range.{Range}
-use Rattle.xs_stream.specs.StreamContent.{ids_of, fields_at, Ascends, is_within, ids_within, entries_within}
+use Rattle.xs_stream.specs.StreamContent.{ids_of, fields_at, is_within, ids_within, all_within, entries_within}
 use Rattle.xs_stream.specs.StreamContent.{up_to_limit}
 use Rattle.xs_stream.specs.StreamContent.{IsEntryOf, AreEntriesOf}
-use Rattle.xs_stream.proofs.Lending.{within-found}
 use Rattle.xs_stream.proofs.InOrder.{ids_of-filter}
 use Rattle.xs_keys.specs.Terms.{Id, Field}
 use Rattle.xs_keys.specs.ReplyParts.{entry_reply, present_reply}
@@ -27,24 +26,21 @@ map-reverse f (x ∷ xs) =
     ap (map f) (reverse-append (x ∷ []) xs) ∙ map-append f (reverse xs) (x ∷ []) ∙ ap (λ front. front ++ f x ∷ []) (map-reverse f xs)
     ∙ sym (reverse-append (f x ∷ []) (map f xs))
 
-replies-within : (range : Range) (es : Entries) → Ascends (ids_of es) → map present_reply (filter (λ e. is_within range e.0) es) ≡ map (entry_reply es) (filter (is_within range) (ids_of es))
-replies-within range es a =
-    map-found es (filter (λ e. is_within range e.0) es) (within-found range es a) ∙ ap (map (entry_reply es)) (ids_of-filter (is_within range) es)
+all-ids : (range : Range) (reversed : Bool) (es : Entries) → ids_of (all_within range reversed es) ≡ ids_within range reversed es
+all-ids range false es = ids_of-filter (is_within range) es
+all-ids range true es =
+    map-reverse (λ (e : Id × List Field). e.0) (filter (λ e. is_within range e.0) es) ∙ ap reverse (ids_of-filter (is_within range) es)
 
-reversed-within : (range : Range) (es : Entries) → Ascends (ids_of es) → map present_reply (reverse (filter (λ e. is_within range e.0) es)) ≡ map (entry_reply es) (reverse (filter (is_within range) (ids_of es)))
-reversed-within range es a =
-    map-reverse present_reply (filter (λ e. is_within range e.0) es) ∙ ap reverse (replies-within range es a) ∙ sym (map-reverse (entry_reply es) (filter (is_within range) (ids_of es)))
-
-first-mapped : {X Y Z : Type 0} (f : X → Z) (g : Y → Z) (n : ℕ) (xs : List X) (ys : List Y) → map f xs ≡ map g ys → map f (take n xs) ≡ map g (take n ys)
-first-mapped f g n xs ys e = sym (take-map f n xs) ∙ ap (take n) e ∙ take-map g n ys
+ids-within : (range : Range) (reversed : Bool) (limit : Option ℕ) (es : Entries) → ids_of (entries_within range reversed limit es) ≡ up_to_limit limit (ids_within range reversed es)
+ids-within range reversed None es = all-ids range reversed es
+ids-within range reversed (Some n) es =
+    sym (take-map (λ (e : Id × List Field). e.0) n (all_within range reversed es)) ∙ ap (take n) (all-ids range reversed es)
 
 -- the replies for the entries of a range
-pub lent-within : (range : Range) (reversed : Bool) (limit : Option ℕ) (es : Entries) → Ascends (ids_of es)
+pub lent-within : (range : Range) (reversed : Bool) (limit : Option ℕ) (es : Entries) → AreEntriesOf es (entries_within range reversed limit es)
     → map present_reply (entries_within range reversed limit es) ≡ map (entry_reply es) (up_to_limit limit (ids_within range reversed es))
-lent-within range false None es a = replies-within range es a
-lent-within range true None es a = reversed-within range es a
-lent-within range false (Some n) es a = first-mapped present_reply (entry_reply es) n _ _ (replies-within range es a)
-lent-within range true (Some n) es a = first-mapped present_reply (entry_reply es) n _ _ (reversed-within range es a)
+lent-within range reversed limit es found =
+    map-found es (entries_within range reversed limit es) found ∙ ap (map (entry_reply es)) (ids-within range reversed limit es)
 
 same-id : (a b : Id) → (eqb a.ms b.ms && eqb a.seq b.seq) ≡ true → a ≡ b
 same-id a b e =

@@ -17,7 +17,6 @@ fn range_shown(alloc: Global, stream: &Stream, command: &ScanCommand) -> Result<
         let ids = up_to_limit command.now.limit (ids_within command.now.range command.now.reversed entries) in
         IfOk result (λ reply. reply ≡ entries_reply entries ids) }
 {
-    stream.lawful();
     let entries = stream.entries(alloc, command.range, command.limit, command.reversed)?;
     lent_entries(alloc, entries.as_slice())
 }

@@ -1,6 +1,7 @@
 -- Entries that a stream lends are found by their ids.
 use Rattle.std.proofs.Common.{ℕ, ◌<◌, zero, suc, get_or, length, arith, Bool, true, false, cond, List, [], ◌∷◌, filter}
-use Rattle.std.proofs.Common.{take, Some, refl}
+use Rattle.std.proofs.Common.{take, reverse, Option, Some, None, refl}
+use mathlib.Core.List.{reverse_aux}
 use Rattle.xs_stream.specs.declared.id.Id.{Id}
 use Rattle.xs_stream.specs.declared.field.Field.{Field}
 use Rattle.xs_stream.specs.declared.range.Range.{Range}
@@ -33,14 +34,23 @@ found-take zero entries fs found = tt
 found-take (suc n) entries [] found = tt
 found-take (suc n) entries (f ∷ fs) found = (found.0, found-take n entries fs found.1)
 
--- ---- those within a range
+found-reverse : (entries fs : Entries) → AreEntriesOf entries fs → AreEntriesOf entries (reverse fs)
+found-reverse entries fs found = onto fs [] found tt where
+  onto : (fs gs : Entries) → AreEntriesOf entries fs → AreEntriesOf entries gs → AreEntriesOf entries (reverse_aux fs gs)
+  onto [] gs found more = more
+  onto (f ∷ fs) gs found more = onto fs (f ∷ gs) found.1 (found.0, more)
 
-pub within-found : (range : Range) (es : Entries) → Ascends (ids_of es) → AreEntriesOf es (filter (λ e. is_within range e.0) es)
-within-found range es a = found-filter (λ e. is_within range e.0) es es (all-found es a)
+-- those within a range are found by their ids
+pub within-found : (range : Range) (reversed : Bool) (limit : Option ℕ) (es : Entries) → Ascends (ids_of es) → AreEntriesOf es (entries_within range reversed limit es)
+within-found range reversed limit es a = by reversed limit where
+  found : AreEntriesOf es (filter (λ e. is_within range e.0) es)
+  found = found-filter (λ e. is_within range e.0) es es (all-found es a)
 
--- the first ones of a range are found by their ids too
-pub first-found : (range : Range) (n : ℕ) (es : Entries) → Ascends (ids_of es) → AreEntriesOf es (entries_within range false (Some n) es)
-first-found range n es a = found-take n es (filter (λ e. is_within range e.0) es) (within-found range es a)
+  by : (reversed : Bool) (limit : Option ℕ) → AreEntriesOf es (entries_within range reversed limit es)
+  by false None = found
+  by false (Some n) = found-take n es _ found
+  by true None = found-reverse es _ found
+  by true (Some n) = found-take n es _ (found-reverse es _ found)
 
 -- ---- one of those that are lent
 

@@ -1,14 +1,15 @@
 -- The ids above a cursor are those of a range.
-use Rattle.std.proofs.Common.{◌≡◌, ℕ, ◌+◌, ◌<◌, Bool, true, false, not, ◌&&◌, ◌||◌, cond, ltb, eqb, List, [], ◌∷◌}
-use Rattle.std.proofs.Common.{filter, Option, Some, None, sym, ap, ◌∙◌, refl, arith}
+use Rattle.std.proofs.Common.{◌≡◌, ℕ, zero, suc, ◌+◌, ◌<◌, Bool, true, false, not, ◌&&◌, ◌||◌, cond, ltb, eqb, List, [], ◌∷◌}
+use Rattle.std.proofs.Common.{filter, take, Option, Some, None, sym, ap, ◌∙◌, refl, subst, arith}
 use Rattle.std.proofs.lemmas.Bool.Decides.{nat_tests}
 use Rattle.std.specs.Ordering.{nat_cmp, is_lt}
 use Rattle.xs_stream.specs.declared.id.Id.{Id}
+use Rattle.xs_stream.specs.declared.field.Field.{Field}
 use Rattle.xs_stream.specs.Id.{is_below, greatest_number, greatest_id}
 use Rattle.xs_stream.specs.IdText.{next_id}
-use Rattle.xs_stream.specs.StreamContent.{is_within}
+use Rattle.xs_stream.specs.StreamContent.{ids_of, AllAbove, Ascends, is_within}
 use Rattle.xs_stream.specs.ConsistentStream.{IsId, AllIds}
-use Rattle.xs_stream.proofs.InOrder.{and_yes}
+use Rattle.xs_stream.proofs.InOrder.{and_yes, ascends-filter, ids_of-filter}
 
 lt-ltb : (s t : ℕ) → is_lt (nat_cmp s t) ≡ ltb s t
 lt-ltb s t = by (ltb s t) (eqb s t) refl refl where
@@ -76,3 +77,19 @@ past-within cursor low ids h fit = filter-same (is_within (record { low = low; h
 
 pub past-none : (cursor : Id) (ids : List Id) → next_id cursor ≡ None → AllIds ids → filter (λ x. is_below cursor x) ids ≡ []
 past-none cursor ids h fit = filter-none (λ x. is_below cursor x) ids (λ x fits. none-above cursor x h fits) fit
+
+-- ---- they ascend
+
+above-take : (x : Id) (n : ℕ) (ids : List Id) → AllAbove x ids → AllAbove x (take n ids)
+above-take x zero ids a = tt
+above-take x (suc n) [] a = tt
+above-take x (suc n) (y ∷ ys) a = (a.0, above-take x n ys a.1)
+
+ascends-take : (n : ℕ) (ids : List Id) → Ascends ids → Ascends (take n ids)
+ascends-take zero ids a = tt
+ascends-take (suc n) [] a = tt
+ascends-take (suc n) (y ∷ ys) a = (above-take y n ys a.0, ascends-take n ys a.1)
+
+pub past-ascends : (n : ℕ) (cursor : Id) (es : List (Id × List Field)) → Ascends (ids_of es) → Ascends (take n (filter (λ x. is_below cursor x) (ids_of es)))
+past-ascends n cursor es a =
+    ascends-take n _ (subst Ascends (ids_of-filter (λ x. is_below cursor x) es) (ascends-filter (λ e. is_below cursor e.0) es a))

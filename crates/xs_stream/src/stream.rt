@@ -4,7 +4,7 @@ ghost use Rattle.std.specs.Prelude.{Err, IfOk, OnOk, OnErr, IsErrOf, length};
 ghost use Rattle.std.specs.Prelude.{filter};
 ghost use Rattle.xs_stream.specs.Id.{zero_id, is_below, id_of_addition};
 ghost use Rattle.xs_stream.specs.StreamContent.{ids_of, fields_at, without, entries_after_trim};
-ghost use Rattle.xs_stream.specs.StreamContent.{ids_within, entries_within, up_to_limit, AreEntriesOf};
+ghost use Rattle.xs_stream.specs.StreamContent.{ids_within, entries_within, up_to_limit, AreEntriesOf, Ascends};
 ghost use Rattle.xs_stream.specs.ConsistentStream.{IsValidStream};
 
 use crate::add::{AddError, AddId};
@@ -164,7 +164,7 @@ impl Stream {
     }
 
     /// The entries of a range, from its low end up or from its high end down, at most `limit` of them. They are lent:
-    /// none is copied, and none is looked for again.
+    /// none is copied, and each is the one that is looked up by its id.
     pub fn entries(
         &self,
         alloc: Global,
@@ -172,7 +172,8 @@ impl Stream {
         limit: Option<u64>,
         reversed: bool,
     ) -> Result<List<Entry<'_>>, AllocError>
-        ensures { IfOk result (λ entries. entries ≡ entries_within range reversed limit self.now.entries) }
+        ensures entries { IfOk result (λ entries. entries ≡ entries_within range reversed limit self.now.entries) }
+        ensures found { IfOk result (λ entries. AreEntriesOf self.now.entries entries) }
     {
         if range.high < range.low {
             return Ok(List::new(Vec::new(alloc)));
@@ -195,7 +196,6 @@ impl Stream {
     ) -> Result<List<Entry<'_>>, AllocError>
         ensures { IfOk result (λ entries. AreEntriesOf self.now.entries entries) }
     {
-        self.lawful();
         let range = Range {
             low: first,
             high: Id::GREATEST,
@@ -225,8 +225,9 @@ impl Stream {
         cursor: Id,
         limit: Option<u64>,
     ) -> Result<List<Id>, AllocError>
-        ensures { IfOk result (λ ids. ids
+        ensures ids { IfOk result (λ ids. ids
             ≡ up_to_limit limit (filter (λ x. is_below cursor x) (ids_of self.now.entries))) }
+        ensures ascends { IfOk result Ascends }
     {
         let ids = self
             .entries
