@@ -1,6 +1,6 @@
 -- Entries that a walk passes over, since their ids are below the one from which it looks on.
 use Rattle.std.proofs.Common.{◌≡◌, ℕ, ◌+◌, ◌-◌, ◌≤◌, suc, zero, true, false, List, ◌∷◌, ◌++◌}
-use Rattle.std.proofs.Common.{filter, take, drop, sym, ap, ◌∙◌, refl, arith, add-one}
+use Rattle.std.proofs.Common.{filter, take, drop, ap, ◌∙◌, refl, arith, add-one}
 use Rattle.std.specs.Map.{remove_entry}
 use Rattle.xs_stream.specs.declared.id.Id.{Id}
 use Rattle.xs_stream.specs.declared.range.Range.{Range}
@@ -65,19 +65,19 @@ module _ (base : ℕ) (names : List ℕ) (range : Range) where
       rw (outside (entry_id base bytes) all.0, e) (ids_within-behind count n (after_entry bytes) (omega arith) all.1)
 
 -- so a walk may begin behind them
-module _ (base count start n : ℕ) (bytes from rest : List ℕ) (few : n ≤ count) (at : from ≡ drop start bytes) (left : rest ≡ after_entries n from) where
-  pub lookup-start : (id : Id) → AllBelow id (packed_ids base n from) → fields_at (block_entries base count start bytes) id ≡ fields_at (packed_entries base (first_text bytes) (count - n) rest) id
-  lookup-start id all = rw (left, sym at) (lookup-behind base (first_text bytes) id count n from few all)
+module _ (base count start n : ℕ) (bytes rest : List ℕ) (few : n ≤ count) (left : rest ≡ after_entries n (drop start bytes)) where
+  pub lookup-start : (id : Id) → AllBelow id (packed_ids base n (drop start bytes)) → fields_at (block_entries base count start bytes) id ≡ fields_at (packed_entries base (first_text bytes) (count - n) rest) id
+  lookup-start id all = rw left (lookup-behind base (first_text bytes) id count n (drop start bytes) few all)
 
-  pub removed-start : (id : Id) → AllBelow id (packed_ids base n from)
+  pub removed-start : (id : Id) → AllBelow id (packed_ids base n (drop start bytes))
       → remove_entry (is_same_id id) (block_entries base count start bytes)
       ≡ take n (block_entries base count start bytes) ++ remove_entry (is_same_id id) (packed_entries base (first_text bytes) (count - n) rest)
-  removed-start id all = rw (left, sym at) (removed-behind base (first_text bytes) id count n from few all)
+  removed-start id all = rw left (removed-behind base (first_text bytes) id count n (drop start bytes) few all)
 
-  pub within-start : (range : Range) → AllBelow range.low (packed_ids base n from)
+  pub within-start : (range : Range) → AllBelow range.low (packed_ids base n (drop start bytes))
       → filter (λ e. is_within range e.0) (block_entries base count start bytes) ≡ filter (λ e. is_within range e.0) (packed_entries base (first_text bytes) (count - n) rest)
-  within-start range all = rw (left, sym at) (within-behind base (first_text bytes) range count n from few all)
+  within-start range all = rw left (within-behind base (first_text bytes) range count n (drop start bytes) few all)
 
-  pub ids_within-start : (range : Range) → AllBelow range.low (packed_ids base n from)
+  pub ids_within-start : (range : Range) → AllBelow range.low (packed_ids base n (drop start bytes))
       → filter (is_within range) (ids_of (block_entries base count start bytes)) ≡ filter (is_within range) (ids_of (packed_entries base (first_text bytes) (count - n) rest))
-  ids_within-start range all = rw (left, sym at) (ids_within-behind base (first_text bytes) range count n from few all)
+  ids_within-start range all = rw left (ids_within-behind base (first_text bytes) range count n (drop start bytes) few all)

@@ -1,8 +1,13 @@
--- Entries that a walk passes over at once, since they are below the id that it looks for.
+-- The entries over which a walk goes, and those that it passes over at once, since they are below its id.
 use Rattle.std.specs.Prelude.{◌≡◌, ℕ, zero, suc, true, List, [], ◌∷◌}
 use Rattle.xs_stream.specs.declared.id.Id.{Id}
+use Rattle.xs_stream.specs.declared.field.Field.{Field}
+use Rattle.xs_stream.specs.declared.packed.walks.PackedEntries.{PackedEntries}
 use Rattle.xs_stream.specs.Id.{is_below}
-use Rattle.xs_stream.specs.Packed.{entry_id, after_entry}
+use Rattle.xs_stream.specs.Packed.{block_entries, entry_id, after_entry}
+
+abbrev pub entries_in : PackedEntries → List (Id × List Field)
+entries_in packed = block_entries packed.base packed.count packed.start packed.bytes.now
 
 -- the ids of this many entries
 abbrev pub packed_ids : ℕ → ℕ → List ℕ → List Id

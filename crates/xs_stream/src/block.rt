@@ -7,6 +7,7 @@ ghost use Rattle.std.specs.Map.{remove_entry};
 ghost use Rattle.xs_stream.specs.Id.{is_same_id, is_below};
 ghost use Rattle.xs_stream.specs.StreamContent.{is_within, ids_of, fields_at};
 ghost use Rattle.xs_stream.specs.Packed.{names_code, has_names, field_code, entry_code};
+ghost use Rattle.xs_stream.specs.PassedEntries.{entries_in};
 ghost use Rattle.xs_stream.specs.PackedText.{text_code, first_text, after_text};
 
 use crate::entry::Entry;
@@ -17,10 +18,7 @@ use crate::packed::fields::PackedFields;
 use crate::packed::gap::{cut, take_out};
 use crate::packed::number::after;
 use crate::packed::text::read_text;
-use crate::packed::walks::{
-    after_entries, count_below, fields_of, place_of, push_all_entries, push_all_ids, push_entries,
-    push_ids, push_rebased, shares_names,
-};
+use crate::packed::walks::{PackedEntries, after_entries, push_rebased};
 use crate::range::Range;
 use std::alloc::{AllocError, Global};
 use std::marker::Model;
@@ -237,11 +235,24 @@ impl Block {
         }
     }
 
+    /// Its entries as they are packed.
+    #[inline(always)]
+    fn packed(&self) -> PackedEntries<'_>
+        ensures { entries_in result ≡ self.now }
+    {
+        PackedEntries {
+            base: self.base,
+            count: self.count,
+            start: self.start,
+            bytes: self.bytes.as_slice(),
+        }
+    }
+
     /// The fields of an entry.
     pub(crate) fn get(&self, id: Id) -> Option<PackedFields<'_>>
         ensures { result ≡ fields_at self.now id }
     {
-        fields_of(self.base, self.count, self.start, self.bytes.as_slice(), id)
+        self.packed().fields_of(id)
     }
 
     /// Takes the entry with this id out, and says whether there was one.
@@ -249,8 +260,13 @@ impl Block {
         ensures entries { self.new ≡ remove_entry (is_same_id id) self.old }
         ensures count { length self.new + (if result then 1 else 0) ≡ length self.old }
     {
-        let bytes = self.bytes.as_slice();
-        let Some(place) = place_of(self.base, self.count, self.start, bytes, id) else {
+        let entries = PackedEntries {
+            base: self.base,
+            count: self.count,
+            start: self.start,
+            bytes: self.bytes.as_slice(),
+        };
+        let Some(place) = entries.place_of(id) else {
             return false;
         };
         if self.count == 1 {
@@ -338,7 +354,13 @@ impl Block {
         if self.start <= quarter {
             return;
         }
-        if shares_names(self.base, self.count, self.start, bytes) {
+        let entries = PackedEntries {
+            base: self.base,
+            count: self.count,
+            start: self.start,
+            bytes,
+        };
+        if entries.shares_names() {
             self.cut_gap(quarter);
         } else {
             drop_front(&mut self.bytes, self.start);
@@ -362,13 +384,7 @@ impl Block {
     pub(crate) fn count_below(&self, low: Id) -> usize
         ensures { result ≡ length (filter (λ e. is_below e.0 low) self.now) }
     {
-        count_below(
-            self.base,
-            self.count,
-            self.start,
-            self.bytes.as_slice(),
-            low,
-        )
+        self.packed().count_below(low)
     }
 
     /// Appends the ids within a range, in their order, as long as there are fewer than `most` in all.
@@ -382,15 +398,7 @@ impl Block {
         ensures { OnOk result (ids.new.items
             ≡ take most (ids.old.items ++ filter (is_within range) (ids_of self.now))) }
     {
-        push_ids(
-            self.base,
-            self.count,
-            self.start,
-            self.bytes.as_slice(),
-            ids,
-            range,
-            most,
-        )
+        self.packed().push_ids(ids, range, most)
     }
 
     /// Appends the entries within a range, in their order, as long as there are fewer than `most` in all.
@@ -404,15 +412,7 @@ impl Block {
         ensures { OnOk result (shown.new.items
             ≡ take most (shown.old.items ++ filter (λ e. is_within range e.0) self.now)) }
     {
-        push_entries(
-            self.base,
-            self.count,
-            self.start,
-            self.bytes.as_slice(),
-            shown,
-            range,
-            most,
-        )
+        self.packed().push_entries(shown, range, most)
     }
 
     /// Appends the ids within a range, from the last one down, as long as there are fewer than `most` in all.
@@ -427,14 +427,7 @@ impl Block {
             ≡ take most (ids.old.items ++ reverse (filter (is_within range) (ids_of self.now)))) }
     {
         let from = ids.len();
-        push_all_ids(
-            self.base,
-            self.count,
-            self.start,
-            self.bytes.as_slice(),
-            ids,
-            range,
-        )?;
+        self.packed().push_all_ids(ids, range)?;
         reverse_from(ids, from);
         ids.truncate(most as usize);
         Ok(())
@@ -452,14 +445,7 @@ impl Block {
             ≡ take most (shown.old.items ++ reverse (filter (λ e. is_within range e.0) self.now))) }
     {
         let from = shown.len();
-        push_all_entries(
-            self.base,
-            self.count,
-            self.start,
-            self.bytes.as_slice(),
-            shown,
-            range,
-        )?;
+        self.packed().push_all_entries(shown, range)?;
         reverse_from(shown, from);
         shown.truncate(most as usize);
         Ok(())

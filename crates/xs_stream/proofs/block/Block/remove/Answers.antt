@@ -11,19 +11,19 @@ use Rattle.xs_stream.proofs.block.Block.remove.Goals as goal
 pub returns-in_default-clause-entries : goal.returns-in_default-clause-entries
 returns-in_default-clause-entries c =
     let inside = c.self.inside in
-    let absent = rw (c.as_slice-bytes.ensures.value) at c.in_default.ensures.found in
+    let absent = rw (c.as_slice.ensures.value) at c.in_default.ensures.found in
     rw (← c.self.view_is) (sym (remove-absent c.args.id (block_entries inside.base inside.count inside.start inside.bytes.items) (sym absent)))
 
 pub take_out-self-inside-requires-clause-begin : goal.take_out-self-inside-requires-clause-begin
 take_out-self-inside-requires-clause-begin c =
     let start = c.self.inside.start in
-    let bytes = c.as_slice-bytes.result.now in
-    omega (arith, c.in-Some.ensures.from, length-after_entries c.in-Some.place.index (drop start bytes), length-drop start bytes, c.self.invariant.inside, ap length c.as_slice-bytes.ensures.value)
+    let bytes = c.as_slice.result.now in
+    omega (arith, c.in-Some.ensures.from, length-after_entries c.in-Some.place.index (drop start bytes), length-drop start bytes, c.self.invariant.inside, ap length c.as_slice.ensures.value)
 
 pub take_out-self-inside-requires-clause-forward : goal.take_out-self-inside-requires-clause-forward
 take_out-self-inside-requires-clause-forward c =
     let i = c.in-Some.place.index in
-    let bytes = c.as_slice-bytes.result.now in
+    let bytes = c.as_slice.result.now in
     omega (arith, c.in-Some.ensures.from, c.in-Some.ensures.to, after_entries-one_less i (drop c.self.inside.start bytes))
 
 some : (c : goal.After-self-2-1) → 0 < c.self.inside.count
@@ -41,8 +41,8 @@ code c =
     let place = c.in-Some.place in
     let taken = c.take_out-self-inside in
     let where_at : ℕ → List ℕ → ℕ = λ i b. length b - length (after_entries i (drop inside.start b)) in
-    let from = c.in-Some.ensures.from ∙ ap (where_at place.index) c.as_slice-bytes.ensures.value in
-    let to = c.in-Some.ensures.to ∙ ap (where_at (place.index + 1)) c.as_slice-bytes.ensures.value in
+    let from = c.in-Some.ensures.from ∙ ap (where_at place.index) c.as_slice.ensures.value in
+    let to = c.in-Some.ensures.to ∙ ap (where_at (place.index + 1)) c.as_slice.ensures.value in
     let rest = taken.ensures.rest ∙ ap (λ n. drop inside.start (remove_range bytes n place.to)) from ∙ ap (λ n. drop inside.start (remove_range bytes (where_at place.index bytes) n)) to in
     next_count-code inside.base inside.count inside.start bytes c.self.invariant (some c) taken.result taken.new.bytes.items taken.ensures.begin (within c) taken.ensures.front place.index c.in-Some.ensures.index rest
 
@@ -68,7 +68,7 @@ left c =
 
 pub returns-clause-entries : goal.returns-clause-entries
 returns-clause-entries c =
-    let removed = rw (c.as_slice-bytes.ensures.value) at c.in-Some.ensures.removed in
+    let removed = rw (c.as_slice.ensures.value) at c.in-Some.ensures.removed in
     rw (← c.self.view_is) (c.compact.ensures ∙ left c.before.before ∙ sym removed)
 
 pub returns-clause-count : goal.returns-clause-count

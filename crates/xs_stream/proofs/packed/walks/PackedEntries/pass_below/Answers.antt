@@ -1,15 +1,15 @@
-use Rattle.std.proofs.Common.{◌≡◌, ◌+◌, ◌<◌, ◌≤◌, ◌∙◌, true, sym, ap, subst, arith, refl}
+use Rattle.std.proofs.Common.{◌≡◌, ◌+◌, ◌<◌, ◌≤◌, ◌∙◌, true, sym, ap, subst, arith, drop}
 use Rattle.xs_stream.specs.Id.{is_below}
 use Rattle.xs_stream.specs.Packed.{after_entry, after_entries, entry_id}
 use Rattle.xs_stream.specs.PassedEntries.{packed_ids, AllBelow}
 use Rattle.xs_stream.proofs.Order.{earlier-below}
 use Rattle.xs_stream.proofs.PackedBlocks.{after_entries-more}
 use Rattle.xs_stream.proofs.PassedEntries.{below-more}
-use Rattle.xs_stream.proofs.packed.walks.pass_below.Goals as goal
+use Rattle.xs_stream.proofs.packed.walks.PackedEntries.pass_below.Goals as goal
 
 pub loop-passed-init : goal.loop-passed-init
 loop-passed-init c = record {
-  rest = refl;
+  rest = c.after-rest.ensures;
   below = tt;
 }
 
@@ -21,7 +21,7 @@ returns-in_default-after_early_entry-clause-below c = c.loop-passed.invariant.be
 
 pub loop-passed-preserved : goal.loop-passed-preserved
 loop-passed-preserved c =
-    let base = c.args.base in let low = c.args.low in let bytes = c.args.bytes.now in let passed = c.loop-passed.passed in
+    let base = c.args.self.now.base in let low = c.args.low in let bytes = drop c.args.self.now.start c.args.self.now.bytes.now in let passed = c.loop-passed.passed in
     let was = c.loop-passed.invariant in
     let next = c.in-Some-after_early_entry.ensures in
     let in_time : base + c.min-ms.result ≤ low.ms = omega (arith, c.min-ms.ensures, c.in-Some.ensures.0, c.in-Some.ensures.1) in
@@ -36,10 +36,10 @@ loop-passed-preserved c =
 
 pub returns-clause-rest : goal.returns-clause-rest
 returns-clause-rest c =
-    let all : c.loop-passed.passed ≡ c.args.count = omega (arith, c.loop-passed-test.false, c.loop-passed.auto.passed-end) in
-    c.loop-passed.invariant.rest ∙ ap (λ n. after_entries n c.args.bytes.now) all
+    let all : c.loop-passed.passed ≡ c.args.self.now.count = omega (arith, c.loop-passed-test.false, c.loop-passed.auto.passed-end) in
+    c.loop-passed.invariant.rest ∙ ap (λ n. after_entries n (drop c.args.self.now.start c.args.self.now.bytes.now)) all
 
 pub returns-clause-below : goal.returns-clause-below
 returns-clause-below c =
-    let all : c.loop-passed.passed ≡ c.args.count = omega (arith, c.loop-passed-test.false, c.loop-passed.auto.passed-end) in
-    subst (λ n. AllBelow c.args.low (packed_ids c.args.base n c.args.bytes.now)) all c.loop-passed.invariant.below
+    let all : c.loop-passed.passed ≡ c.args.self.now.count = omega (arith, c.loop-passed-test.false, c.loop-passed.auto.passed-end) in
+    subst (λ n. AllBelow c.args.low (packed_ids c.args.self.now.base n (drop c.args.self.now.start c.args.self.now.bytes.now))) all c.loop-passed.invariant.below

@@ -10,16 +10,16 @@ use Rattle.xs_stream.proofs.PackedBlocks.{after_entries-more, lookup-passed, loo
 use Rattle.xs_stream.proofs.PackedBlocks.{removed-found, take-passed, drop-passed, length-after_entry}
 use Rattle.xs_stream.proofs.PackedBlocks.{length-after_entries, joined}
 use Rattle.xs_stream.proofs.PassedEntries.{lookup-start, removed-start}
-use Rattle.xs_stream.proofs.packed.walks.place_of.Goals as goal
+use Rattle.xs_stream.proofs.packed.walks.PackedEntries.place_of.Goals as goal
 
 pub loop-index-init : goal.loop-index-init
 loop-index-init c =
     let passed = c.pass_below-passed in
     record {
-      rest = passed.ensures.rest ∙ ap (after_entries passed.result.0) c.after.ensures;
-      lookup = lookup-start c.args.base c.args.count c.args.start passed.result.0 c.args.bytes.now c.after.result.now passed.result.1.now passed.ensures.few c.after.ensures passed.ensures.rest c.args.id passed.ensures.below;
-      removed = removed-start c.args.base c.args.count c.args.start passed.result.0 c.args.bytes.now c.after.result.now passed.result.1.now passed.ensures.few c.after.ensures passed.ensures.rest c.args.id passed.ensures.below;
-      short = omega (arith, ap length passed.ensures.rest, length-after_entries passed.result.0 c.after.result.now, ap length c.after.ensures, length-drop c.args.start c.args.bytes.now);
+      rest = passed.ensures.rest;
+      lookup = lookup-start c.args.self.now.base c.args.self.now.count c.args.self.now.start passed.result.0 c.args.self.now.bytes.now passed.result.1.now passed.ensures.few passed.ensures.rest c.args.id passed.ensures.below;
+      removed = removed-start c.args.self.now.base c.args.self.now.count c.args.self.now.start passed.result.0 c.args.self.now.bytes.now passed.result.1.now passed.ensures.few passed.ensures.rest c.args.id passed.ensures.below;
+      short = omega (arith, ap length passed.ensures.rest, length-after_entries passed.result.0 (drop c.args.self.now.start c.args.self.now.bytes.now), length-drop c.args.self.now.start c.args.self.now.bytes.now);
     }
 
 pub overflow_sub-to : goal.overflow_sub-to
@@ -28,13 +28,13 @@ overflow_sub-to c =
 
 pub returns-then-eq-clause-to : goal.returns-then-eq-clause-to
 returns-then-eq-clause-to c =
-    let bytes = c.args.bytes.now in
-    let next = c.read_entry-entry.ensures.rest ∙ ap after_entry c.loop-index.invariant.rest ∙ sym (after_entries-more c.loop-index.index (drop c.args.start bytes)) in
+    let bytes = c.args.self.now.bytes.now in
+    let next = c.read_entry-entry.ensures.rest ∙ ap after_entry c.loop-index.invariant.rest ∙ sym (after_entries-more c.loop-index.index (drop c.args.self.now.start bytes)) in
     ap (λ rest. length bytes - length rest) next
 
 pub returns-then-eq-clause-removed : goal.returns-then-eq-clause-removed
 returns-then-eq-clause-removed c =
-    let base = c.args.base in let start = c.args.start in let count = c.args.count in let i = c.loop-index.index in let id = c.args.id in let bytes = c.args.bytes.now in
+    let base = c.args.self.now.base in let start = c.args.self.now.start in let count = c.args.self.now.count in let i = c.loop-index.index in let id = c.args.id in let bytes = c.args.self.now.bytes.now in
     let names = first_text bytes in
     let entry = c.read_entry-entry in
     let was = c.loop-index.invariant in
@@ -46,13 +46,13 @@ pub returns-then-eq-clause-found : goal.returns-then-eq-clause-found
 returns-then-eq-clause-found c =
     let entry = c.read_entry-entry in
     sym (ap is_some (c.loop-index.invariant.lookup
-    ∙ lookup-found c.args.base (first_text c.args.bytes.now) c.args.count c.loop-index.index c.args.id entry.result.id c.loop-index.rest.now c.loop-index-test.true entry.ensures.id (sym c.eq.ensures ∙ c.if-eq.true)))
+    ∙ lookup-found c.args.self.now.base (first_text c.args.self.now.bytes.now) c.args.self.now.count c.loop-index.index c.args.id entry.result.id c.loop-index.rest.now c.loop-index-test.true entry.ensures.id (sym c.eq.ensures ∙ c.if-eq.true)))
 
 pub loop-index-preserved : goal.loop-index-preserved
 loop-index-preserved c =
     let entry = c.read_entry-entry in
     let other = sym c.eq.ensures ∙ c.if-eq.false in
-    let base = c.args.base in let start = c.args.start in let count = c.args.count in let i = c.loop-index.index in let id = c.args.id in let bytes = c.args.bytes.now in
+    let base = c.args.self.now.base in let start = c.args.self.now.start in let count = c.args.self.now.count in let i = c.loop-index.index in let id = c.args.id in let bytes = c.args.self.now.bytes.now in
     let names = first_text bytes in
     let rest = drop start bytes in
     let was = c.loop-index.invariant in

@@ -1,7 +1,0 @@
-use Rattle.std.proofs.Common.{◌≡◌, ◌-◌, drop}
-use Rattle.xs_stream.specs.Packed.{shares_names}
-use Rattle.xs_stream.proofs.packed.walks.shares_names.Given as goal
-
--- it is decided by those left
-abbrev pub invariant-loop : goal.invariant-loop
-invariant-loop l = shares_names l.count (drop l.start l.bytes) ≡ shares_names (l.count - l.counter) l.rest
