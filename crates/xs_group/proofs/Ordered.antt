@@ -3,7 +3,7 @@ use Rattle.xs_group.proofs.Terms.{◌≡◌, ℕ, Bool, false, ◌&&◌, List, [
 use Rattle.xs_group.proofs.Terms.{refl, Ordering, T, find, below_all, is_sorted, same_entries, AllByRecursion, keys_of}
 use Rattle.xs_group.proofs.Terms.{IsOrdered, Less, sorted_head, sorted_tail, get-of_entries, Id, id_cmp, has_id}
 use Rattle.xs_group.proofs.Terms.{AllAbove, Ascends, same_id, is_same_id-eq, RowState, Rows, ids_total, is_same_name}
-use Rattle.xs_group.proofs.Terms.{ids_of_consumer, rows_of, is_owner, arith}
+use Rattle.xs_group.proofs.Terms.{ids_of_consumer, rows_of, is_owner, arith, PendingList, IsUpTo, IsNamed, IsConsistentGroup}
 use Rattle.std.specs.List.Sorted.{IsStrictlySortedBy}
 use Rattle.xs_bytes.specs.SortedMap.{get}
 use Rattle.xs_group.proofs.Views.{RowMap}
@@ -99,3 +99,9 @@ above-ids x (e ∷ es) h = (grind arith, above-ids x es (second _ _ h))
 pub ascends-ids : (es : List (Id × RowState)) → T (is_sorted id_cmp es) → Ascends (map (λ e. e.0) es)
 ascends-ids [] h = tt
 ascends-ids (e ∷ es) h = (above-ids e.0 es (first _ _ h), ascends-ids es (second _ _ h))
+
+-- ---- a consistent group
+
+pub is-consistent : (cursor : Id) (held : PendingList) → IsUpTo cursor held.rows → IsNamed held.consumers held.rows
+    → IsConsistentGroup (record { cursor = cursor; consumers = held.consumers; rows = held.rows })
+is-consistent cursor held up named = record { ascends = ascends-ids held.rows.entries held.rows.sorted; up_to_cursor = up; of_consumers = named }

@@ -54,13 +54,6 @@ impl Group {
         }
     }
 
-    /// What holds of every group: no row is above the cursor, and each row's consumer is there.
-    pub fn lawful(&self)
-        ensures { IsConsistentGroup self.now }
-    {
-        self.pending.lawful();
-    }
-
     /// The last id delivered, or at first the id that the group began with.
     pub fn cursor(&self) -> Id
         ensures { result ≡ self.now.cursor }
@@ -118,6 +111,7 @@ impl Group {
     ) -> Result<Delivery, AllocError>
         ensures answer { IfOk result (λ d. d
             ≡ delivery_of consumer.now limit noack (ids_of stream.now.entries) self.old) }
+        ensures made { IfOk result (λ d. IsMade self.old self.new d) }
         ensures ok { OnOk result (self.new
             ≡ group_after_delivery consumer.now now limit noack (ids_of stream.now.entries) self.old) }
         ensures err { OnErr result (self.new ≡ self.old) }
@@ -149,6 +143,7 @@ impl Group {
     ) -> Result<Delivery, AllocError>
         ensures answer { IfOk result (λ d. d
             ≡ history_of consumer.now limit from (ids_of stream.now.entries) self.old) }
+        ensures made { IfOk result (λ d. IsMade self.old self.new d) }
         ensures ok { OnOk result (self.new
             ≡ group_after_reread consumer.now now limit from (ids_of stream.now.entries) self.old) }
         ensures err { OnErr result (self.new ≡ self.old) }
@@ -291,6 +286,7 @@ impl Group {
     ) -> Result<bool, AllocError>
         requires above { AllAbove self.old.cursor ids.now }
         requires ascends { Ascends ids.now }
+        ensures consistent { OnOk result (IsConsistentGroup self.old) }
         ensures made { IfOk result (λ made. made ≡ not (has_name self.old.consumers consumer.now)) }
         ensures ok { OnOk result (self.new ≡ group_after_read consumer.now now noack ids.now self.old) }
         ensures err { OnErr result (self.new ≡ self.old) }

@@ -67,6 +67,7 @@ impl Pending {
 
     /// Puts a consumer in, and says whether it is new. A new one has no rows.
     pub(crate) fn add_consumer(&mut self, alloc: Global, name: &Bytes) -> Result<bool, AllocError>
+        ensures named { OnOk result (IsNamed self.old.consumers self.old.rows) }
         ensures made { IfOk result (λ made. made ≡ not (has_name self.old.consumers name.now)) }
         ensures unowned { IfOk result (λ made. made ≡ true
             → change (unless_owned name.now) self.old.rows ≡ self.old.rows) }
@@ -132,6 +133,7 @@ impl Pending {
         ids: &[Id],
     ) -> Result<bool, AllocError>
         requires { AreFree self.old.rows ids.now }
+        ensures named { OnOk result (IsNamed self.old.consumers self.old.rows) }
         ensures made { IfOk result (λ made. made ≡ not (has_name self.old.consumers name.now)) }
         ensures ok { OnOk result (self.new ≡ record {
           consumers = with_name self.old.consumers name.now;
@@ -425,13 +427,5 @@ impl Pending {
         ensures small { result < 2 ^ 63 }
     {
         self.rows.len()
-    }
-
-    /// What holds always: each row's consumer is there.
-    pub(crate) fn lawful(&self)
-        ensures { IsNamed self.now.consumers self.now.rows }
-    {
-        // A look at a field brings in what holds of all of them.
-        let _ = &self.rows;
     }
 }

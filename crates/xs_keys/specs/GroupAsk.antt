@@ -2,7 +2,8 @@
 -- (Redis, XREADGROUP, XACK, XGROUP CREATECONSUMER and DELCONSUMER, XCLAIM, XAUTOCLAIM.)
 use Rattle.std.specs.Prelude.{ℕ, Bool, false, not, List, [], Option, Some, None, option_and_then, if◌then◌else◌}
 use Rattle.xs_group.specs.declared.claims.Claim.{Claim}
-use Rattle.xs_keys.specs.Terms.{option_map_or, Id, has_id, ClaimRule, RowState, is_same_name, new_ids, claim_by_ids, scan_of}
+use Rattle.xs_keys.specs.Terms.{option_map_or, Id, has_id, ClaimRule, RowState, is_same_name, new_ids, claim_by_ids}
+use Rattle.xs_keys.specs.Terms.{scan_of}
 use Rattle.xs_keys.specs.Terms.{zero_id}
 use Rattle.xs_keys.specs.Terms.{first_row, reread_ids, row_after_reread, row_after_claim, unless_acked, unless_owned}
 use Rattle.xs_keys.specs.Event.{Bytes, PendingEntries}

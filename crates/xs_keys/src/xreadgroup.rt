@@ -44,7 +44,6 @@ fn read_group(
     ensures made { IfOk result (λ d. IsMade group.old group.new d) }
     ensures err { OnErr result (group.new ≡ group.old) }
 {
-    group.lawful();
     match from {
         ReadFrom::New => group.deliver(alloc, stream, &read.consumer, now, read.limit, read.noack),
         ReadFrom::After(id) => group.history(alloc, stream, &read.consumer, now, id, read.limit),

@@ -1,5 +1,6 @@
 //! A set in the order of its keys.
-ghost use Rattle.std.specs.Prelude.{◌≡◌, ◌<◌, ◌^◌, ◌↔◌, true, false, slice_get, Some, IsSome, IfSome, IsTrue, OnOk, OnErr};
+ghost use Rattle.std.specs.Prelude.{◌≡◌, ◌<◌, ◌^◌, ◌↔◌, true, false, slice_get, Some, IsSome, IfSome, IsTrue, OnOk};
+ghost use Rattle.std.specs.Prelude.{OnErr};
 ghost use Rattle.std.specs.BTreeMap.Range.{IsLeBy, IsLtBy};
 ghost use Rattle.std.specs.BTreeSet.{btree_set_len, contains, keys_between, IsEmpty, IsOrdered, IsUnchanged, Updates};
 ghost use Rattle.std.specs.BTreeSet.{UpdatesBy};

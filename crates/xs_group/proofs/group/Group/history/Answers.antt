@@ -1,7 +1,9 @@
 use Rattle.xs_group.proofs.Terms.{Some, ap, ◌∙◌, ids_of, with_name, reread_ids, row_after_reread, set_rows, shown_rows}
-use Rattle.xs_group.proofs.Terms.{arith}
+use Rattle.xs_group.proofs.Terms.{arith, common_steps}
 use Rattle.xs_group.proofs.group.Group.history.Goals as goal
 use Rattle.xs_group.proofs.RemovedRows.{up_to-change}
+use Rattle.xs_group.proofs.UndoneReads.{made-history}
+use Rattle.xs_group.proofs.Ordered.{is-consistent}
 use Rattle.xs_group.proofs.Touching.{rows-reread}
 
 pub returns-clause-ok : goal.returns-clause-ok
@@ -28,3 +30,12 @@ invariant_of-self-2 c =
     ∙ ap (λ rs. record { consumers = with_name held.consumers c.args.consumer.now; rows = set_rows (Some c.args.now) rs held.rows }) (c.as_slice-3.ensures.value ∙ rows)
     ∙ ap (λ r. record { consumers = with_name held.consumers c.args.consumer.now; rows = r }) (rows-reread c.args.now present ids held.rows) in
     rw is (up_to-change (row_after_reread c.args.now ids present) c.self.inside.cursor held.rows c.self.invariant)
+
+pub returns-clause-answer : goal.returns-clause-answer
+returns-clause-answer c = grind (arith, common_steps)
+
+pub returns-clause-made : goal.returns-clause-made
+returns-clause-made c =
+    let consistent = is-consistent c.self.inside.cursor c.self.inside.pending c.self.invariant c.in_ok-created.ensures.named in
+    made-history c.args.self.now _ _ c.args.consumer.now c.args.now c.args.limit c.args.from (ids_of c.args.stream.now.entries)
+    (rw (← c.self.view_is) consistent) (returns-clause-ok c) (returns-clause-answer c)

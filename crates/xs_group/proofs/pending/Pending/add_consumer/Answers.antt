@@ -35,3 +35,9 @@ returns-clause-unowned c = rw (← c.self.view_is)
     (λ made. unowned-rows (names_of c.self.inside.owners.entries) (rows_of c.self.inside.rows.entries) c.args.name.now
     (named-agreed c.self.inside.rows.entries c.self.inside.owners.entries c.self.invariant)
     (has_name-names_of c.self.inside.owners.entries c.args.name.now ∙ sym c.if-contains_key.ensures))
+
+pub returns-then-contains_key-clause-named : goal.returns-then-contains_key-clause-named
+returns-then-contains_key-clause-named c = rw (← c.self.view_is) (named-agreed c.self.inside.rows.entries c.self.inside.owners.entries c.self.invariant)
+
+pub returns-clause-named : goal.returns-clause-named
+returns-clause-named c = rw (← c.self.view_is) (named-agreed c.self.inside.rows.entries c.self.inside.owners.entries c.self.invariant)
