@@ -3,12 +3,12 @@ use Rattle.std.proofs.Common.{◌≡◌, ℕ, ◌+◌, ◌-◌, ◌≤◌, suc, 
 use Rattle.std.proofs.Common.{filter, take, drop, ap, ◌∙◌, refl, arith, add-one}
 use Rattle.std.specs.Map.{remove_entry}
 use Rattle.xs_stream.specs.declared.id.Id.{Id}
+use Rattle.xs_stream.specs.declared.packed.walks.PackedEntries.{PackedEntries}
 use Rattle.xs_stream.specs.declared.range.Range.{Range}
 use Rattle.xs_stream.specs.Id.{is_below, is_same_id}
 use Rattle.xs_stream.specs.StreamContent.{fields_at, ids_of, is_within}
 use Rattle.xs_stream.specs.Packed.{entry_id, entry_in, after_entry, packed_entries, after_entries}
-use Rattle.xs_stream.specs.Packed.{block_entries}
-use Rattle.xs_stream.specs.PassedEntries.{packed_ids, AllBelow}
+use Rattle.xs_stream.specs.PassedEntries.{entries_in, packed_ids, AllBelow}
 use Rattle.xs_stream.specs.PackedText.{first_text}
 use Rattle.xs_stream.proofs.Order.{below-not_same, is_same_id-symm}
 
@@ -65,19 +65,19 @@ module _ (base : ℕ) (names : List ℕ) (range : Range) where
       rw (outside (entry_id base bytes) all.0, e) (ids_within-behind count n (after_entry bytes) (omega arith) all.1)
 
 -- so a walk may begin behind them
-module _ (base count start n : ℕ) (bytes rest : List ℕ) (few : n ≤ count) (left : rest ≡ after_entries n (drop start bytes)) where
-  pub lookup-start : (id : Id) → AllBelow id (packed_ids base n (drop start bytes)) → fields_at (block_entries base count start bytes) id ≡ fields_at (packed_entries base (first_text bytes) (count - n) rest) id
-  lookup-start id all = rw left (lookup-behind base (first_text bytes) id count n (drop start bytes) few all)
+module _ (packed : PackedEntries) (n : ℕ) (rest : List ℕ) (few : n ≤ packed.count) (left : rest ≡ after_entries n (drop packed.start packed.bytes.now)) where
+  pub lookup-start : (id : Id) → AllBelow id (packed_ids packed.base n (drop packed.start packed.bytes.now)) → fields_at (entries_in packed) id ≡ fields_at (packed_entries packed.base (first_text packed.bytes.now) (packed.count - n) rest) id
+  lookup-start id all = rw left (lookup-behind packed.base (first_text packed.bytes.now) id packed.count n (drop packed.start packed.bytes.now) few all)
 
-  pub removed-start : (id : Id) → AllBelow id (packed_ids base n (drop start bytes))
-      → remove_entry (is_same_id id) (block_entries base count start bytes)
-      ≡ take n (block_entries base count start bytes) ++ remove_entry (is_same_id id) (packed_entries base (first_text bytes) (count - n) rest)
-  removed-start id all = rw left (removed-behind base (first_text bytes) id count n (drop start bytes) few all)
+  pub removed-start : (id : Id) → AllBelow id (packed_ids packed.base n (drop packed.start packed.bytes.now))
+      → remove_entry (is_same_id id) (entries_in packed)
+      ≡ take n (entries_in packed) ++ remove_entry (is_same_id id) (packed_entries packed.base (first_text packed.bytes.now) (packed.count - n) rest)
+  removed-start id all = rw left (removed-behind packed.base (first_text packed.bytes.now) id packed.count n (drop packed.start packed.bytes.now) few all)
 
-  pub within-start : (range : Range) → AllBelow range.low (packed_ids base n (drop start bytes))
-      → filter (λ e. is_within range e.0) (block_entries base count start bytes) ≡ filter (λ e. is_within range e.0) (packed_entries base (first_text bytes) (count - n) rest)
-  within-start range all = rw left (within-behind base (first_text bytes) range count n (drop start bytes) few all)
+  pub within-start : (range : Range) → AllBelow range.low (packed_ids packed.base n (drop packed.start packed.bytes.now))
+      → filter (λ e. is_within range e.0) (entries_in packed) ≡ filter (λ e. is_within range e.0) (packed_entries packed.base (first_text packed.bytes.now) (packed.count - n) rest)
+  within-start range all = rw left (within-behind packed.base (first_text packed.bytes.now) range packed.count n (drop packed.start packed.bytes.now) few all)
 
-  pub ids_within-start : (range : Range) → AllBelow range.low (packed_ids base n (drop start bytes))
-      → filter (is_within range) (ids_of (block_entries base count start bytes)) ≡ filter (is_within range) (ids_of (packed_entries base (first_text bytes) (count - n) rest))
-  ids_within-start range all = rw left (ids_within-behind base (first_text bytes) range count n (drop start bytes) few all)
+  pub ids_within-start : (range : Range) → AllBelow range.low (packed_ids packed.base n (drop packed.start packed.bytes.now))
+      → filter (is_within range) (ids_of (entries_in packed)) ≡ filter (is_within range) (ids_of (packed_entries packed.base (first_text packed.bytes.now) (packed.count - n) rest))
+  ids_within-start range all = rw left (ids_within-behind packed.base (first_text packed.bytes.now) range packed.count n (drop packed.start packed.bytes.now) few all)

@@ -81,10 +81,10 @@ impl<'a> PackedEntries<'a> {
     /// Where the first entry with this id stands.
     pub(crate) fn place_of(&self, id: Id) -> Option<Place>
         ensures index { IfSome result (λ p. p.index < self.now.count) }
-        ensures from { IfSome result (λ p. p.from
-            ≡ length self.now.bytes.now - length (after_entries p.index (drop self.now.start self.now.bytes.now))) }
-        ensures to { IfSome result (λ p. p.to
-            ≡ length self.now.bytes.now - length (after_entries (p.index + 1) (drop self.now.start self.now.bytes.now))) }
+        ensures from { IfSome result (λ p. p.from ≡ length self.now.bytes.now
+            - length (after_entries p.index (drop self.now.start self.now.bytes.now))) }
+        ensures to { IfSome result (λ p. p.to ≡ length self.now.bytes.now
+            - length (after_entries (p.index + 1) (drop self.now.start self.now.bytes.now))) }
         ensures removed { IfSome result (λ p. remove_entry (is_same_id id) (entries_in self.now)
             ≡ remove (entries_in self.now) p.index) }
         ensures found { is_some result ≡ is_some (fields_at (entries_in self.now) id) }

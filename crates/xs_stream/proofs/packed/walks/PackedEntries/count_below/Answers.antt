@@ -9,18 +9,18 @@ use Rattle.xs_stream.proofs.packed.walks.PackedEntries.count_below.Goals.{then-l
 pub loop-preserved : goal.loop-preserved
 loop-preserved c =
     let entry = c.read_entry-entry in
-    let names = first_text c.args.self.now.bytes.now in
+    let packed = c.args.self.now in let names = first_text packed.bytes.now in
     let low = c.args.low in
     elim c.if-lt.branch [
       | then-lt w ↦
-          let taken = count-taken (λ x. is_below x low) c.args.self.now.base names c.args.self.now.count c.loop.counter entry.result.id c.loop.rest.now entry.result.rest.now c.loop-test.true entry.ensures.id entry.ensures.rest
+          let taken = count-taken (λ x. is_below x low) packed.base names packed.count c.loop.counter entry.result.id c.loop.rest.now entry.result.rest.now c.loop-test.true entry.ensures.id entry.ensures.rest
           (sym (partial-below _ _) ∙ sym c.lt.ensures ∙ w.if-lt.true) in
           record {
             all = omega (arith, w.below-is, taken, c.loop.invariant.all);
             few = omega (arith, w.below-is, c.loop.invariant.few);
           }
       | else-lt w ↦
-          let left = count-left (λ x. is_below x low) c.args.self.now.base names c.args.self.now.count c.loop.counter entry.result.id c.loop.rest.now entry.result.rest.now c.loop-test.true entry.ensures.id entry.ensures.rest
+          let left = count-left (λ x. is_below x low) packed.base names packed.count c.loop.counter entry.result.id c.loop.rest.now entry.result.rest.now c.loop-test.true entry.ensures.id entry.ensures.rest
           (sym (partial-below _ _) ∙ sym c.lt.ensures ∙ w.if-lt.false) in
           record {
             all = omega (arith, w.below-is, left, c.loop.invariant.all);

@@ -9,18 +9,18 @@ use Rattle.xs_stream.proofs.packed.walks.PackedEntries.fields_of.Goals as goal
 pub loop-init : goal.loop-init
 loop-init c =
     let passed = c.pass_below-passed in
-    lookup-start c.args.self.now.base c.args.self.now.count c.args.self.now.start passed.result.0 c.args.self.now.bytes.now passed.result.1.now passed.ensures.few passed.ensures.rest c.args.id passed.ensures.below
+    lookup-start c.args.self.now passed.result.0 passed.result.1.now passed.ensures.few passed.ensures.rest c.args.id passed.ensures.below
 
 pub loop-preserved : goal.loop-preserved
 loop-preserved c =
     let entry = c.read_entry-entry in
-    let names = first_text c.args.self.now.bytes.now in
-    c.loop.invariant ∙ lookup-passed c.args.self.now.base names c.args.self.now.count c.loop.counter c.args.id entry.result.id c.loop.rest.now c.loop-test.true entry.ensures.id (sym c.eq.ensures ∙ c.if-eq.false)
-    ∙ ap (λ rest. fields_at (packed_entries c.args.self.now.base names (c.args.self.now.count - (c.loop.counter + 1)) rest) c.args.id) (sym entry.ensures.rest)
+    let packed = c.args.self.now in let names = first_text packed.bytes.now in
+    c.loop.invariant ∙ lookup-passed packed.base names packed.count c.loop.counter c.args.id entry.result.id c.loop.rest.now c.loop-test.true entry.ensures.id (sym c.eq.ensures ∙ c.if-eq.false)
+    ∙ ap (λ rest. fields_at (packed_entries packed.base names (packed.count - (c.loop.counter + 1)) rest) c.args.id) (sym entry.ensures.rest)
 
 pub returns-then-eq : goal.returns-then-eq
 returns-then-eq c =
     let entry = c.read_entry-entry in
-    let names = first_text c.args.self.now.bytes.now in
-    sym (c.loop.invariant ∙ lookup-found c.args.self.now.base names c.args.self.now.count c.loop.counter c.args.id entry.result.id c.loop.rest.now c.loop-test.true entry.ensures.id (sym c.eq.ensures ∙ c.if-eq.true)
+    let packed = c.args.self.now in let names = first_text packed.bytes.now in
+    sym (c.loop.invariant ∙ lookup-found packed.base names packed.count c.loop.counter c.args.id entry.result.id c.loop.rest.now c.loop-test.true entry.ensures.id (sym c.eq.ensures ∙ c.if-eq.true)
     ∙ ap (λ body. Some (body_fields names body)) (sym entry.ensures.body) ∙ ap (λ ns. Some (body_fields ns entry.result.body.now)) (sym c.read_text.ensures.text) ∙ ap Some (sym c.new.ensures))

@@ -21,7 +21,7 @@ returns-in_default-after_early_entry-clause-below c = c.loop-passed.invariant.be
 
 pub loop-passed-preserved : goal.loop-passed-preserved
 loop-passed-preserved c =
-    let base = c.args.self.now.base in let low = c.args.low in let bytes = drop c.args.self.now.start c.args.self.now.bytes.now in let passed = c.loop-passed.passed in
+    let packed = c.args.self.now in let base = packed.base in let low = c.args.low in let bytes = drop packed.start packed.bytes.now in let passed = c.loop-passed.passed in
     let was = c.loop-passed.invariant in
     let next = c.in-Some-after_early_entry.ensures in
     let in_time : base + c.min-ms.result ≤ low.ms = omega (arith, c.min-ms.ensures, c.in-Some.ensures.0, c.in-Some.ensures.1) in
@@ -36,10 +36,12 @@ loop-passed-preserved c =
 
 pub returns-clause-rest : goal.returns-clause-rest
 returns-clause-rest c =
-    let all : c.loop-passed.passed ≡ c.args.self.now.count = omega (arith, c.loop-passed-test.false, c.loop-passed.auto.passed-end) in
-    c.loop-passed.invariant.rest ∙ ap (λ n. after_entries n (drop c.args.self.now.start c.args.self.now.bytes.now)) all
+    let packed = c.args.self.now in
+    let all : c.loop-passed.passed ≡ packed.count = omega (arith, c.loop-passed-test.false, c.loop-passed.auto.passed-end) in
+    c.loop-passed.invariant.rest ∙ ap (λ n. after_entries n (drop packed.start packed.bytes.now)) all
 
 pub returns-clause-below : goal.returns-clause-below
 returns-clause-below c =
-    let all : c.loop-passed.passed ≡ c.args.self.now.count = omega (arith, c.loop-passed-test.false, c.loop-passed.auto.passed-end) in
-    subst (λ n. AllBelow c.args.low (packed_ids c.args.self.now.base n (drop c.args.self.now.start c.args.self.now.bytes.now))) all c.loop-passed.invariant.below
+    let packed = c.args.self.now in
+    let all : c.loop-passed.passed ≡ packed.count = omega (arith, c.loop-passed-test.false, c.loop-passed.auto.passed-end) in
+    subst (λ n. AllBelow c.args.low (packed_ids packed.base n (drop packed.start packed.bytes.now))) all c.loop-passed.invariant.below

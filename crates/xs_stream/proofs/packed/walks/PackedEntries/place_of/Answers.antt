@@ -14,12 +14,13 @@ use Rattle.xs_stream.proofs.packed.walks.PackedEntries.place_of.Goals as goal
 
 pub loop-index-init : goal.loop-index-init
 loop-index-init c =
+    let packed = c.args.self.now in
     let passed = c.pass_below-passed in
     record {
       rest = passed.ensures.rest;
-      lookup = lookup-start c.args.self.now.base c.args.self.now.count c.args.self.now.start passed.result.0 c.args.self.now.bytes.now passed.result.1.now passed.ensures.few passed.ensures.rest c.args.id passed.ensures.below;
-      removed = removed-start c.args.self.now.base c.args.self.now.count c.args.self.now.start passed.result.0 c.args.self.now.bytes.now passed.result.1.now passed.ensures.few passed.ensures.rest c.args.id passed.ensures.below;
-      short = omega (arith, ap length passed.ensures.rest, length-after_entries passed.result.0 (drop c.args.self.now.start c.args.self.now.bytes.now), length-drop c.args.self.now.start c.args.self.now.bytes.now);
+      lookup = lookup-start packed passed.result.0 passed.result.1.now passed.ensures.few passed.ensures.rest c.args.id passed.ensures.below;
+      removed = removed-start packed passed.result.0 passed.result.1.now passed.ensures.few passed.ensures.rest c.args.id passed.ensures.below;
+      short = omega (arith, ap length passed.ensures.rest, length-after_entries passed.result.0 (drop packed.start packed.bytes.now), length-drop packed.start packed.bytes.now);
     }
 
 pub overflow_sub-to : goal.overflow_sub-to
@@ -34,7 +35,7 @@ returns-then-eq-clause-to c =
 
 pub returns-then-eq-clause-removed : goal.returns-then-eq-clause-removed
 returns-then-eq-clause-removed c =
-    let base = c.args.self.now.base in let start = c.args.self.now.start in let count = c.args.self.now.count in let i = c.loop-index.index in let id = c.args.id in let bytes = c.args.self.now.bytes.now in
+    let packed = c.args.self.now in let base = packed.base in let start = packed.start in let count = packed.count in let i = c.loop-index.index in let id = c.args.id in let bytes = packed.bytes.now in
     let names = first_text bytes in
     let entry = c.read_entry-entry in
     let was = c.loop-index.invariant in
@@ -44,15 +45,17 @@ returns-then-eq-clause-removed c =
 
 pub returns-then-eq-clause-found : goal.returns-then-eq-clause-found
 returns-then-eq-clause-found c =
+    let packed = c.args.self.now in
     let entry = c.read_entry-entry in
     sym (ap is_some (c.loop-index.invariant.lookup
-    ∙ lookup-found c.args.self.now.base (first_text c.args.self.now.bytes.now) c.args.self.now.count c.loop-index.index c.args.id entry.result.id c.loop-index.rest.now c.loop-index-test.true entry.ensures.id (sym c.eq.ensures ∙ c.if-eq.true)))
+    ∙ lookup-found packed.base (first_text packed.bytes.now) packed.count c.loop-index.index c.args.id entry.result.id c.loop-index.rest.now c.loop-index-test.true entry.ensures.id (sym c.eq.ensures ∙ c.if-eq.true)))
 
 pub loop-index-preserved : goal.loop-index-preserved
 loop-index-preserved c =
+    let packed = c.args.self.now in
     let entry = c.read_entry-entry in
     let other = sym c.eq.ensures ∙ c.if-eq.false in
-    let base = c.args.self.now.base in let start = c.args.self.now.start in let count = c.args.self.now.count in let i = c.loop-index.index in let id = c.args.id in let bytes = c.args.self.now.bytes.now in
+    let base = packed.base in let start = packed.start in let count = packed.count in let i = c.loop-index.index in let id = c.args.id in let bytes = packed.bytes.now in
     let names = first_text bytes in
     let rest = drop start bytes in
     let was = c.loop-index.invariant in

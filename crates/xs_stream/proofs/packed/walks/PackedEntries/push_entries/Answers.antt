@@ -13,25 +13,25 @@ pub loop-init : goal.loop-init
 loop-init c =
     let passed = c.pass_below-passed in
     record {
-      all = ap (λ es. take c.args.most (c.args.shown.now.items ++ es)) (within-start c.args.self.now.base c.args.self.now.count c.args.self.now.start passed.result.0 c.args.self.now.bytes.now passed.result.1.now passed.ensures.few passed.ensures.rest c.args.range passed.ensures.below);
+      all = ap (λ es. take c.args.most (c.args.shown.now.items ++ es)) (within-start c.args.self.now passed.result.0 passed.result.1.now passed.ensures.few passed.ensures.rest c.args.range passed.ensures.below);
       few = c.requires;
     }
 
 pub loop-preserved : goal.loop-preserved
 loop-preserved c =
     let entry = c.read_entry-entry in
-    let names = first_text c.args.self.now.bytes.now in
+    let packed = c.args.self.now in let names = first_text packed.bytes.now in
     elim c.if-contains.branch [
       | then-contains+in_ok-push w ↦
           let fields = w.new.ensures ∙ ap (λ n. body_fields n entry.result.body.now) c.read_text.ensures.text ∙ ap (body_fields names) entry.ensures.body in
           record {
-            all = shown-taken (λ x. is_within c.args.range x) c.args.self.now.base names c.args.self.now.count c.loop.counter entry.result.id c.loop.rest.now entry.result.rest.now c.loop-test.true entry.ensures.id entry.ensures.rest
+            all = shown-taken (λ x. is_within c.args.range x) packed.base names packed.count c.loop.counter entry.result.id c.loop.rest.now entry.result.rest.now c.loop-test.true entry.ensures.id entry.ensures.rest
                 c.args.most w.new.result _ c.loop.shown.items c.if-contains.shown.items (sym c.contains.ensures ∙ w.if-contains.true) fields
                 (ap (λ x. x.items) w.shown-is ∙ w.in_ok-push.ensures.items ∙ ap (λ (e : Id × List Field). c.loop.shown.items ++ e ∷ []) w.new-then-contains.ensures) c.loop.invariant.all;
             few = omega (arith, ap (λ x. x.len) w.shown-is, w.in_ok-push.ensures.len, c.len.ensures, c.if-len-most.false, c.if-contains.shown.ok.0);
           }
       | else-contains w ↦ record {
-        all = shown-left (λ x. is_within c.args.range x) c.args.self.now.base names c.args.self.now.count c.loop.counter entry.result.id c.loop.rest.now entry.result.rest.now c.loop-test.true entry.ensures.id entry.ensures.rest
+        all = shown-left (λ x. is_within c.args.range x) packed.base names packed.count c.loop.counter entry.result.id c.loop.rest.now entry.result.rest.now c.loop-test.true entry.ensures.id entry.ensures.rest
             c.args.most _ c.loop.shown.items c.if-contains.shown.items (sym c.contains.ensures ∙ w.if-contains.false) (ap (λ x. x.items) w.shown-is) c.loop.invariant.all;
         few = omega (arith, ap (λ x. length x.items) w.shown-is, c.loop.invariant.few);
       }
