@@ -4,7 +4,7 @@ Each work is done in turn by `PROGRAM script`, fed through a pipe, and by a redi
 nothing on disk and is fed over a Unix socket by bench/feed.c. Time and processor time are those from the end of the
 filling, where a work has one, to the end of the work: the program has then read all that it was given and waits for
 more. The feeders' own processor time isn't counted, nor is the way to the end of a process. The peak is that of the
-whole. The machines are shared, so the ratio of the two is what counts; of N runs the table has the middle one with the
+whole. The machines are shared, so the ratio of the two is what counts; of N runs the table has the median with the
 least and the greatest, and the ratio of the two least ones.
 
 With --instructions both run under valgrind, once, and what it counts from the end of the filling to the end of the work

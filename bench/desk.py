@@ -10,12 +10,12 @@ many, 20,000 by itself, so that the start of its thread doesn't count. Beside th
 Rust ask for the same over channels of std::sync::mpsc, one for all calls and one for the answers of each, or under one
 Mutex (bench/desk/beside.rs). All are run in turn, with each number of lanes. The table tells calls a second, processor
 time for a call, of the whole process up to the last reply, and how long a call waited: in the middle, at 99 % and at
-worst. Each is the middle one of the runs, with the least and the greatest; at worst it is the greatest of all. With
+worst. Each is the median of the runs, with the least and the greatest; at worst it is the greatest of all. With
 --busy so many other processes only count meanwhile. --spins tries other numbers in place of the one of waiting.rt.
 
 With --beside the desk alone runs in pairs, once with A lanes and once with B, which of them first in turn, and all lanes
-together have the same number of calls in both. Told are the rates, and B by A: the middle one of the pairs, with the
-least and the greatest, and between which two of them the middle one of endless pairs lies by 95 % or more.
+together have the same number of calls in both. Told are the rates, and B by A: the median of the pairs, with the
+least and the greatest, and between which two of them the median of endless pairs lies by 95 % or more.
 
 A virtual machine has less than its processors where its host gives them to others. What the host took the kernel tells
 (`steal` in /proc/stat), and a run of which it took more than a hundredth is made anew.
@@ -132,7 +132,7 @@ def measure(sides, numbers, asked):
 
 
 def middle_lies(values):
-    """Two of the values, in their order, between which the middle one of endless such values lies by 95 % or more."""
+    """Two of the values, in their order, between which the median of endless such values lies by 95 % or more."""
     ranked, below, at = sorted(values), 0.0, 0
     while 2 * (below + math.comb(len(ranked), at) / 2 ** len(ranked)) <= 0.05:
         below += math.comb(len(ranked), at) / 2 ** len(ranked)
@@ -143,7 +143,7 @@ def middle_lies(values):
 def measure_beside(sides, numbers, asked):
     """The two numbers of lanes in turn, so often as runs are asked for."""
     print("| Who asks for what | Calls in a run | Calls a second, lanes: " + " | ".join(map(str, numbers))
-          + " | the second by the first | the middle one lies |\n|---|---|---|---|---|---|", flush=True)
+          + " | the second by the first | the median lies |\n|---|---|---|---|---|---|", flush=True)
     for name, words in sides.items():
         rates = {lanes: [] for lanes in numbers}
         for turn in range(asked.runs):

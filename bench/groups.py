@@ -11,7 +11,7 @@ takes is taken off the deliveries, and what stream and deliveries take off the o
 where the group is left in memory, since removals leave nothing to free.
 
 A run does all works of both programs in turn. On a shared machine a program can take half as much again from one run to
-the next, so the least of all runs is told beside the middle one.
+the next, so the least of all runs is told beside the median.
 """
 import argparse
 import os

@@ -10,7 +10,7 @@ redis-server that keeps nothing on disk, in turn; both are started anew for each
 and the keys are removed and filled before each work. Each connection sends 10,000 requests at least (200 of 100 KB),
 since a lane whose call was slow parks without a yield in its next thousand. Client and server share the machine. A line of the table tells
 requests a second, processor time of the server for a request, the ratios of both to Redis, and latencies in the middle,
-at 99 % and at 99.9 %: the middle one of the runs, with the least and the greatest. Before the table stands what an idle
+at 99 % and at 99.9 %: the median of the runs, with the least and the greatest. Before the table stands what an idle
 server takes, with 50 connections that have been served. With --busy so many other processes only count meanwhile.
 """
 import argparse
@@ -131,7 +131,7 @@ def spread(values, form):
 
 
 def latencies(asked):
-    """In the middle, at 99 % and at 99.9 %: the middle ones of the runs."""
+    """The median, at 99 % and at 99.9 %: the medians of the runs."""
     return " / ".join(f"{statistics.median(one.latencies[place] for one in asked):,.0f}" for place in range(3))
 
 

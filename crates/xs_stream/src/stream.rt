@@ -5,7 +5,6 @@ ghost use Rattle.std.specs.Prelude.{filter};
 ghost use Rattle.xs_stream.specs.Id.{zero_id, is_below, id_of_addition};
 ghost use Rattle.xs_stream.specs.StreamContent.{ids_of, fields_at, without, entries_after_trim};
 ghost use Rattle.xs_stream.specs.StreamContent.{ids_within, entries_within, up_to_limit, AreEntriesOf, Ascends};
-ghost use Rattle.xs_stream.specs.ConsistentStream.{IsValidStream};
 
 use crate::add::{AddError, AddId};
 use crate::entries::Entries;
@@ -47,14 +46,6 @@ impl Stream {
             top: Id::ZERO,
             entries: Entries::new(alloc),
         }
-    }
-
-    /// What holds of every stream: the ids ascend, and none is above the top.
-    pub fn lawful(&self)
-        ensures { IsValidStream self.now }
-    {
-        // A look at a field brings in what holds of the whole stream.
-        let _ = &self.top;
     }
 
     /// The greatest id ever added, or `0-0`. Deletions and trims leave it.
