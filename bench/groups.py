@@ -63,12 +63,12 @@ def measure(programs, size, runs):
                 peaks[who][work] = max(peaks[who][work], peak)
             if len(set(told.values())) != 1:
                 raise SystemExit(f"{size} {work} told {told}")
-    least, middle = (
+    least, median = (
         {who: {work: by(times[who][work]) for work in WORKS} for who in programs} for by in (min, statistics.median)
     )
     for work in WORKS:
         (low, low_plain), (mid, mid_plain) = (
-            [taken_off(by[who], work) for who in ("here", "plain")] for by in (least, middle)
+            [taken_off(by[who], work) for who in ("here", "plain")] for by in (least, median)
         )
         print(f"| {size:,} | {work} | {low:.2f}, {mid:.2f} | {low_plain:.2f}, {mid_plain:.2f} "
               f"| {ratio(low, low_plain)}, {ratio(mid, mid_plain)} "
@@ -97,7 +97,7 @@ def main():
             print("| Entries | Work | here, millions | plain Rust, millions | ratio |")
             print("|---|---|---|---|---|")
         else:
-            print("| Entries | Work | here, s: least, middle | plain Rust, s: least, middle | ratio: least, middle "
+            print("| Entries | Work | here, s: least, median | plain Rust, s: least, median | ratio: least, median "
                   "| here, peak MiB | plain, peak MiB |")
             print("|---|---|---|---|---|---|---|")
         for size in SIZES:

@@ -131,7 +131,7 @@ def spread(values, form):
 
 
 def latencies(asked):
-    """The median, at 99 % and at 99.9 %: the medians of the runs."""
+    """At 50 %, at 99 % and at 99.9 %: the medians of the runs."""
     return " / ".join(f"{statistics.median(one.latencies[place] for one in asked):,.0f}" for place in range(3))
 
 
