@@ -1,4 +1,4 @@
-use Rattle.xs_group.proofs.Terms.{refl, sym, subst, arith}
+use Rattle.xs_group.proofs.Terms.{refl, sym, subst}
 use Rattle.std.specs.Prelude.{T, codes}
 use Rattle.xs_stream.specs.Examples.{at}
 use Rattle.xs_bytes.specs.SortedMap.{empty, get, insert_by}
