@@ -3,8 +3,7 @@ ghost use Rattle.std.specs.Prelude.{◌≡◌, ◌<◌, ◌^◌};
 
 use std::marker::Model;
 
-/// A number from 0 to 9223372036854775807, which a signed integer of 64 bits can hold. The integers that Redis takes
-/// and tells are such.
+/// A number from 0 to 9223372036854775807: one that a signed integer of 64 bits can hold. Integers in replies are such.
 #[derive(Clone, Copy, Debug, PartialEq, Eq, PartialOrd, Ord)]
 pub struct U63 {
     value: u64,
@@ -23,7 +22,10 @@ impl Model for U63 {
 }
 
 impl U63 {
-    /// This number.
+    /// The greatest one.
+    pub const MAX: u64 = 9_223_372_036_854_775_807;
+
+    /// The number, which is below 2^63.
     pub fn new(value: u64) -> U63
         requires { value < 2 ^ 63 }
         ensures { result ≡ value }

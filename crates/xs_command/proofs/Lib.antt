@@ -9,5 +9,4 @@ pub mod FormedReads
 pub mod DistinctKeys
 pub mod NameSteps
 pub mod StreamSteps
-pub mod SmallIntegers
 pub mod Computing

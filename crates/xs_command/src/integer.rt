@@ -1,15 +1,15 @@
 //! Whole numbers in the words of a command.
 ghost use Rattle.std.specs.Prelude.{◌≡◌};
 
-use xs_bytes::natural;
+use xs_bytes::{U63, natural};
 
 /// An integer of a command. No command uses a negative number's value.
 #[derive(Clone, Copy, Debug, PartialEq, Eq)]
 pub(crate) enum Integer {
     /// A number below 0.
     Negative,
-    /// A number from 0 to 9223372036854775807.
-    Natural(u64),
+    /// Any other number.
+    Natural(U63),
 }
 
 impl Integer {
@@ -23,7 +23,10 @@ impl Integer {
         let (first, digits) = text.split_first()?;
         if *first != b'-' {
             let value = natural(text)?;
-            return (value < 1 << 63).then_some(Self::Natural(value));
+            if value > U63::MAX {
+                return None;
+            }
+            return Some(Self::Natural(U63::new(value)));
         }
         let size = natural(digits)?;
         (0 < size && size <= 1 << 63).then_some(Self::Negative)
@@ -35,7 +38,7 @@ impl Integer {
     {
         match self {
             Self::Negative => 0,
-            Self::Natural(value) => value,
+            Self::Natural(value) => value.get(),
         }
     }
 }

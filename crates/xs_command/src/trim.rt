@@ -54,7 +54,7 @@ fn read_max_len(words: Words<'_>) -> Result<(Trim, Words<'_>), Fault>
     ensures { result ≡ max_len words.entry }
 {
     let (count, words) = words.behind_sign().natural()?;
-    Ok((Trim::MaxLen(count), words))
+    Ok((Trim::MaxLen(count.get()), words))
 }
 
 /// What stands behind MINID.

@@ -9,7 +9,7 @@ use crate::refusal::Refusal;
 use crate::word::Word;
 use std::alloc::{AllocError, Global};
 use std::marker::Model;
-use xs_bytes::{Bytes, List};
+use xs_bytes::{Bytes, List, U63};
 use xs_resp::{Fault, Request};
 use xs_stream::Id;
 use xs_stream::range::{parse_high, parse_low};
@@ -150,9 +150,8 @@ impl<'a> Words<'a> {
 
     /// The next word, an integer of at least 0.
     #[tactic(auto, unfolding(crate::specs::Words::natural))]
-    pub(crate) fn natural(&self) -> Result<(u64, Words<'a>), Fault>
-        ensures value { result ≡ natural self.now }
-        ensures small { IfOk result (λ read. read.0 < 2 ^ 63) }
+    pub(crate) fn natural(&self) -> Result<(U63, Words<'a>), Fault>
+        ensures { result ≡ natural self.now }
     {
         let (integer, words) = self.integer()?;
         match integer {

@@ -34,6 +34,7 @@ impl Options for AutoClaimOptions {
         let Self { limit, just_id } = self;
         if name.is(b"count") {
             let (limit, words) = words.natural()?;
+            let limit = limit.get();
             if limit == 0 {
                 return Err(Refusal::Said(Fault::NotInteger));
             }

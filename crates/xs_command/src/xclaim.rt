@@ -10,7 +10,6 @@ use crate::refusal::Refusal;
 use crate::word::Word;
 use crate::words::Words;
 use std::alloc::Global;
-use xs_bytes::U63;
 use xs_group::{ClaimRule, ClaimTime};
 use xs_resp::Fault;
 
@@ -38,7 +37,7 @@ impl Options for ClaimRule {
         }
         if name.is(b"retrycount") {
             let (count, words) = words.natural()?;
-            rule.retry = Some(U63::new(count));
+            rule.retry = Some(count);
             return Ok((rule, Some(words)));
         }
         if name.is(b"justid") {
@@ -58,7 +57,7 @@ fn time_of(time: Integer) -> ClaimTime
 {
     match time {
         Integer::Negative => ClaimTime::Now,
-        Integer::Natural(millis) => ClaimTime::At(millis),
+        Integer::Natural(millis) => ClaimTime::At(millis.get()),
     }
 }
 

@@ -83,7 +83,7 @@ fn limit_of(count: Integer) -> Option<u64>
 {
     match count {
         Integer::Negative => None,
-        Integer::Natural(count) => (count != 0).then_some(count),
+        Integer::Natural(count) => (count.get() != 0).then_some(count.get()),
     }
 }
 

@@ -125,7 +125,7 @@ pub record Verdicts : Type 0 where
       row_after_move (codes "d") 200 (idle_for 0) (at 2 0 ∷ []) (at 1 0) (row (codes "a") 100 1)
       ≡ Some (row (codes "a") 100 1)
 
-pub record Lawful : Type 0 where
+pub record Consistent : Type 0 where
   pub apart : AreDistinct (at 2 0 ∷ at 1 0 ∷ at 3 0 ∷ [])
   pub not_apart : AreDistinct (at 2 0 ∷ at 1 0 ∷ at 2 0 ∷ []) → ⊥
   pub not_apart_at_the_end : AreDistinct (at 2 0 ∷ at 1 0 ∷ at 1 0 ∷ []) → ⊥

@@ -35,7 +35,7 @@ pub struct ClaimRule {
     pub when: ClaimTime,
     /// The count of deliveries that it gets. With None the count goes up by one, unless `just_id` is set.
     pub retry: Option<U63>,
-    /// The reply has ids alone, and the count stays.
+    /// The reply has ids alone, and without `retry` the count stays.
     pub just_id: bool,
 }
 

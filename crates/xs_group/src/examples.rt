@@ -3,7 +3,7 @@
 
 ghost use Rattle.xs_group.specs.ExamplesRead.{Counts, Consumers, Acknowledged, New, Own};
 ghost use Rattle.xs_group.specs.ExamplesClaims.{ByIds, ByScan, TimesAndCounts, Settled};
-ghost use Rattle.xs_group.specs.ExamplesDelivered.{Answers, TakenBack, Verdicts, Lawful};
+ghost use Rattle.xs_group.specs.ExamplesDelivered.{Answers, TakenBack, Verdicts, Consistent};
 ghost use Rattle.xs_group.specs.ExamplesIndexes.{Indexes, Listed, Left};
 ghost use Rattle.xs_group.specs.ExamplesReport.{Summaries, Rows};
 
@@ -78,8 +78,8 @@ pub fn verdicts()
 {}
 
 /// What holds of every group.
-pub fn lawful()
-    ensures { Lawful }
+pub fn consistent()
+    ensures { Consistent }
 {}
 
 /// The index by consumer.

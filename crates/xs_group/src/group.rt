@@ -4,7 +4,7 @@ ghost use Rattle.xs_group.specs.GroupState.{GroupState, has_name, with_consumer,
 ghost use Rattle.xs_group.specs.GroupState.{without_consumer, group_after_delivery};
 ghost use Rattle.xs_group.specs.GroupState.{group_after_reread};
 ghost use Rattle.xs_group.specs.Report.{owned_count, summary_of, pending_of};
-ghost use Rattle.xs_group.specs.ConsistentGroup.{IsConsistentGroup};
+ghost use Rattle.xs_group.specs.ConsistentGroup.{IsConsistentGroup, IsUpTo};
 ghost use Rattle.xs_group.specs.Claims.{claim_by_ids, scan_of, group_after_claim};
 ghost use Rattle.xs_group.specs.Verdict.{IsClaimOn};
 ghost use Rattle.std.specs.Option.{option_map};
@@ -56,7 +56,8 @@ impl Group {
 
     /// The last id delivered, or at first the id that the group began with.
     pub fn cursor(&self) -> Id
-        ensures { result ≡ self.now.cursor }
+        ensures value { result ≡ self.now.cursor }
+        ensures up_to_cursor { IsUpTo self.now.cursor self.now.rows }
     {
         self.cursor
     }
@@ -111,7 +112,7 @@ impl Group {
     ) -> Result<Delivery, AllocError>
         ensures answer { IfOk result (λ d. d
             ≡ delivery_of consumer.now limit noack (ids_of stream.now.entries) self.old) }
-        ensures made { IfOk result (λ d. IsMade self.old self.new d) }
+        ensures undoable { IfOk result (λ d. IsMade self.old self.new d) }
         ensures ok { OnOk result (self.new
             ≡ group_after_delivery consumer.now now limit noack (ids_of stream.now.entries) self.old) }
         ensures err { OnErr result (self.new ≡ self.old) }
@@ -143,7 +144,7 @@ impl Group {
     ) -> Result<Delivery, AllocError>
         ensures answer { IfOk result (λ d. d
             ≡ history_of consumer.now limit from (ids_of stream.now.entries) self.old) }
-        ensures made { IfOk result (λ d. IsMade self.old self.new d) }
+        ensures undoable { IfOk result (λ d. IsMade self.old self.new d) }
         ensures ok { OnOk result (self.new
             ≡ group_after_reread consumer.now now limit from (ids_of stream.now.entries) self.old) }
         ensures err { OnErr result (self.new ≡ self.old) }

@@ -11,18 +11,14 @@ use std::marker::Model;
 use xs_bytes::{Bytes, U63};
 use xs_stream::Moment;
 
-/// The greatest count of deliveries.
-const GREATEST_COUNT: u64 = 9_223_372_036_854_775_807;
-
-/// One delivery more.
+/// The count after one delivery more; the greatest one stays.
 pub(crate) fn next_count(count: U63) -> U63
     ensures { result ≡ next_count count }
 {
-    let count = count.get();
-    if count < GREATEST_COUNT {
-        return U63::new(count + 1);
+    if count.get() < U63::MAX {
+        return U63::new(count.get() + 1);
     }
-    U63::new(GREATEST_COUNT)
+    count
 }
 
 /// A pending entry: whose it is, when it was last delivered, and how often.

@@ -119,7 +119,7 @@ pub fn create(
     }
 }
 
-/// One or none.
+/// 1 if it is so, else 0.
 fn one_where(is: bool) -> Reply
     ensures { result ≡ Reply.Int (if is then 1 else 0) }
 {

@@ -8,7 +8,7 @@ use Rattle.xs_stream.specs.declared.range.Range.{Range}
 use Rattle.xs_stream.specs.Id.{is_below, is_same_id}
 use Rattle.xs_stream.specs.StreamContent.{fields_at, ids_of, is_within}
 use Rattle.xs_stream.specs.Packed.{entry_id, entry_in, after_entry, packed_entries, after_entries}
-use Rattle.xs_stream.specs.PassedEntries.{entries_in, packed_ids, AllBelow}
+use Rattle.xs_stream.specs.PassedEntries.{unpacked_entries, packed_ids, AllBelow}
 use Rattle.xs_stream.specs.PackedText.{first_text}
 use Rattle.xs_stream.proofs.Order.{below-not_same, is_same_id-symm}
 
@@ -66,18 +66,18 @@ module _ (base : ℕ) (names : List ℕ) (range : Range) where
 
 -- so a walk may begin behind them
 module _ (packed : PackedEntries) (n : ℕ) (rest : List ℕ) (few : n ≤ packed.count) (left : rest ≡ after_entries n (drop packed.start packed.bytes.now)) where
-  pub lookup-start : (id : Id) → AllBelow id (packed_ids packed.base n (drop packed.start packed.bytes.now)) → fields_at (entries_in packed) id ≡ fields_at (packed_entries packed.base (first_text packed.bytes.now) (packed.count - n) rest) id
+  pub lookup-start : (id : Id) → AllBelow id (packed_ids packed.base n (drop packed.start packed.bytes.now)) → fields_at (unpacked_entries packed) id ≡ fields_at (packed_entries packed.base (first_text packed.bytes.now) (packed.count - n) rest) id
   lookup-start id all = rw left (lookup-behind packed.base (first_text packed.bytes.now) id packed.count n (drop packed.start packed.bytes.now) few all)
 
   pub removed-start : (id : Id) → AllBelow id (packed_ids packed.base n (drop packed.start packed.bytes.now))
-      → remove_entry (is_same_id id) (entries_in packed)
-      ≡ take n (entries_in packed) ++ remove_entry (is_same_id id) (packed_entries packed.base (first_text packed.bytes.now) (packed.count - n) rest)
+      → remove_entry (is_same_id id) (unpacked_entries packed)
+      ≡ take n (unpacked_entries packed) ++ remove_entry (is_same_id id) (packed_entries packed.base (first_text packed.bytes.now) (packed.count - n) rest)
   removed-start id all = rw left (removed-behind packed.base (first_text packed.bytes.now) id packed.count n (drop packed.start packed.bytes.now) few all)
 
   pub within-start : (range : Range) → AllBelow range.low (packed_ids packed.base n (drop packed.start packed.bytes.now))
-      → filter (λ e. is_within range e.0) (entries_in packed) ≡ filter (λ e. is_within range e.0) (packed_entries packed.base (first_text packed.bytes.now) (packed.count - n) rest)
+      → filter (λ e. is_within range e.0) (unpacked_entries packed) ≡ filter (λ e. is_within range e.0) (packed_entries packed.base (first_text packed.bytes.now) (packed.count - n) rest)
   within-start range all = rw left (within-behind packed.base (first_text packed.bytes.now) range packed.count n (drop packed.start packed.bytes.now) few all)
 
   pub ids_within-start : (range : Range) → AllBelow range.low (packed_ids packed.base n (drop packed.start packed.bytes.now))
-      → filter (is_within range) (ids_of (entries_in packed)) ≡ filter (is_within range) (ids_of (packed_entries packed.base (first_text packed.bytes.now) (packed.count - n) rest))
+      → filter (is_within range) (ids_of (unpacked_entries packed)) ≡ filter (is_within range) (ids_of (packed_entries packed.base (first_text packed.bytes.now) (packed.count - n) rest))
   ids_within-start range all = rw left (ids_within-behind packed.base (first_text packed.bytes.now) range packed.count n (drop packed.start packed.bytes.now) few all)

@@ -6,8 +6,9 @@ use Rattle.xs_stream.specs.declared.packed.walks.PackedEntries.{PackedEntries}
 use Rattle.xs_stream.specs.Id.{is_below}
 use Rattle.xs_stream.specs.Packed.{block_entries, entry_id, after_entry}
 
-abbrev pub entries_in : PackedEntries → List (Id × List Field)
-entries_in packed = block_entries packed.base packed.count packed.start packed.bytes.now
+-- packed entries as a list
+abbrev pub unpacked_entries : PackedEntries → List (Id × List Field)
+unpacked_entries packed = block_entries packed.base packed.count packed.start packed.bytes.now
 
 -- the ids of this many entries
 abbrev pub packed_ids : ℕ → ℕ → List ℕ → List Id

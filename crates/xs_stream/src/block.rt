@@ -7,7 +7,7 @@ ghost use Rattle.std.specs.Map.{remove_entry};
 ghost use Rattle.xs_stream.specs.Id.{is_same_id, is_below};
 ghost use Rattle.xs_stream.specs.StreamContent.{is_within, ids_of, fields_at};
 ghost use Rattle.xs_stream.specs.Packed.{names_code, has_names, field_code, entry_code};
-ghost use Rattle.xs_stream.specs.PassedEntries.{entries_in};
+ghost use Rattle.xs_stream.specs.PassedEntries.{unpacked_entries};
 ghost use Rattle.xs_stream.specs.PackedText.{text_code, first_text, after_text};
 
 use crate::entry::Entry;
@@ -42,7 +42,7 @@ const BESIDE_VALUES: u64 = 12;
 /// Entries that stand next to each other in a stream, in the order of their ids. A contract sees the list of them.
 #[derive(Drop)]
 pub(crate) struct Block {
-    /// The milliseconds of its first entry.
+    /// The milliseconds of the entry that was the first, from which those of all are counted.
     base: u64,
     /// How many entries there are.
     count: usize,
@@ -238,7 +238,7 @@ impl Block {
     /// Its entries as they are packed.
     #[inline(always)]
     fn packed(&self) -> PackedEntries<'_>
-        ensures { entries_in result ≡ self.now }
+        ensures { unpacked_entries result ≡ self.now }
     {
         PackedEntries {
             base: self.base,
@@ -260,6 +260,7 @@ impl Block {
         ensures entries { self.new ≡ remove_entry (is_same_id id) self.old }
         ensures count { length self.new + (if result then 1 else 0) ≡ length self.old }
     {
+        // The contract of `packed` tells the entries; this needs where they lie.
         let entries = PackedEntries {
             base: self.base,
             count: self.count,
@@ -354,6 +355,7 @@ impl Block {
         if self.start <= quarter {
             return;
         }
+        // Not by `packed`, as in `remove`.
         let entries = PackedEntries {
             base: self.base,
             count: self.count,

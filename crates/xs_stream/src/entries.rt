@@ -23,9 +23,10 @@ use std::alloc::{AllocError, Global};
 use std::collections::BTreeMap;
 use std::mem;
 use std::ops::Bound;
+use xs_bytes::U63;
 
-/// No stream has more entries: replies tell their number, and an integer reply is a signed number of 64 bits.
-const MOST_ENTRIES: usize = 9_223_372_036_854_775_807;
+/// No stream has more entries, since replies tell their number as `U63`.
+const MOST_IN_STREAM: usize = U63::MAX as usize;
 
 /// The entries of a stream. What is added comes to the newest. Once these fill a block, it is filed under the top of
 /// the stream as it is then: none of its entries is above that id, and all later ones are.
@@ -142,7 +143,7 @@ impl Entries {
         ensures laid_down { IsLaidDown self.new }
         ensures filed_up_to_top { AllUpTo top (block_ids self.new) }
     {
-        if self.len >= MOST_ENTRIES {
+        if self.len >= MOST_IN_STREAM {
             return Err(AllocError);
         }
         let Some(values) = values_size(fields) else {

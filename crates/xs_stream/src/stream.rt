@@ -4,7 +4,8 @@ ghost use Rattle.std.specs.Prelude.{Err, IfOk, OnOk, OnErr, IsErrOf, length};
 ghost use Rattle.std.specs.Prelude.{filter};
 ghost use Rattle.xs_stream.specs.Id.{zero_id, is_below, id_of_addition};
 ghost use Rattle.xs_stream.specs.StreamContent.{ids_of, fields_at, without, entries_after_trim};
-ghost use Rattle.xs_stream.specs.StreamContent.{ids_within, entries_within, up_to_limit, AreEntriesOf, Ascends};
+ghost use Rattle.xs_stream.specs.StreamContent.{ids_within, entries_within, up_to_limit, AreEntriesOf};
+ghost use Rattle.xs_stream.specs.StreamContent.{Ascends, AllUpTo};
 
 use crate::add::{AddError, AddId};
 use crate::entries::Entries;
@@ -50,14 +51,15 @@ impl Stream {
 
     /// The greatest id ever added, or `0-0`. Deletions and trims leave it.
     pub fn top(&self) -> Id
-        ensures { result ≡ self.now.top }
+        ensures value { result ≡ self.now.top }
+        ensures greatest { AllUpTo self.now.top (ids_of self.now.entries) }
     {
         self.top
     }
 
     /// How many entries there are.
     pub fn len(&self) -> usize
-        ensures count { result ≡ length self.now.entries }
+        ensures value { result ≡ length self.now.entries }
         ensures small { result < 2 ^ 63 }
     {
         self.entries.len()
@@ -155,7 +157,7 @@ impl Stream {
     }
 
     /// The entries of a range, from its low end up or from its high end down, at most `limit` of them. They are lent:
-    /// none is copied, and each is the one that is looked up by its id.
+    /// none is copied, and each is what `get` finds at its id.
     pub fn entries(
         &self,
         alloc: Global,
@@ -178,7 +180,7 @@ impl Stream {
         Ok(List::new(entries))
     }
 
-    /// At most so many entries, from an id on. They are lent, and each is the one that is looked up by its id.
+    /// At most so many entries, from an id on. They are lent, and each is what `get` finds at its id.
     pub fn entries_from(
         &self,
         alloc: Global,

@@ -7,7 +7,7 @@ ghost use Rattle.std.specs.Option.{is_some};
 ghost use Rattle.xs_stream.specs.Id.{is_same_id, is_below};
 ghost use Rattle.xs_stream.specs.StreamContent.{is_within, ids_of, fields_at};
 ghost use Rattle.xs_stream.specs.Packed.{after_entries, shares_names, rebased_codes};
-ghost use Rattle.xs_stream.specs.PassedEntries.{packed_ids, AllBelow, entries_in};
+ghost use Rattle.xs_stream.specs.PassedEntries.{packed_ids, AllBelow, unpacked_entries};
 
 use crate::entry::Entry;
 use crate::id::Id;
@@ -21,12 +21,15 @@ use std::alloc::AllocError;
 /// Where an entry stands.
 #[derive(Drop)]
 pub(crate) struct Place {
+    /// How many entries lie before it.
     pub(crate) index: usize,
+    /// Where its first byte lies.
     pub(crate) from: usize,
+    /// Where the bytes behind it begin.
     pub(crate) to: usize,
 }
 
-/// The entries of a block, as they are packed.
+/// The packed entries of a block. They are walked from the first one on.
 #[derive(Drop)]
 pub(crate) struct PackedEntries<'a> {
     /// The milliseconds over which they are packed.
@@ -64,7 +67,7 @@ impl<'a> PackedEntries<'a> {
 
     /// The fields of an entry.
     pub(crate) fn fields_of(&self, id: Id) -> Option<PackedFields<'a>>
-        ensures { result ≡ fields_at (entries_in self.now) id }
+        ensures { result ≡ fields_at (unpacked_entries self.now) id }
     {
         let (passed, mut rest) = self.pass_below(id);
         for _ in passed..self.count {
@@ -85,9 +88,9 @@ impl<'a> PackedEntries<'a> {
             - length (after_entries p.index (drop self.now.start self.now.bytes.now))) }
         ensures to { IfSome result (λ p. p.to ≡ length self.now.bytes.now
             - length (after_entries (p.index + 1) (drop self.now.start self.now.bytes.now))) }
-        ensures removed { IfSome result (λ p. remove_entry (is_same_id id) (entries_in self.now)
-            ≡ remove (entries_in self.now) p.index) }
-        ensures found { is_some result ≡ is_some (fields_at (entries_in self.now) id) }
+        ensures removed { IfSome result (λ p. remove_entry (is_same_id id) (unpacked_entries self.now)
+            ≡ remove (unpacked_entries self.now) p.index) }
+        ensures found { is_some result ≡ is_some (fields_at (unpacked_entries self.now) id) }
     {
         let (passed, mut rest) = self.pass_below(id);
         for index in passed..self.count {
@@ -104,7 +107,7 @@ impl<'a> PackedEntries<'a> {
 
     /// How many entries have ids below this one.
     pub(crate) fn count_below(&self, low: Id) -> usize
-        ensures { result ≡ length (filter (λ e. is_below e.0 low) (entries_in self.now)) }
+        ensures { result ≡ length (filter (λ e. is_below e.0 low) (unpacked_entries self.now)) }
     {
         let mut rest = after(self.bytes, self.start);
         let mut below = 0;
@@ -127,7 +130,7 @@ impl<'a> PackedEntries<'a> {
     ) -> Result<(), AllocError>
         requires { length ids.old.items ≤ most }
         ensures { OnOk result (ids.new.items
-            ≡ take most (ids.old.items ++ filter (is_within range) (ids_of (entries_in self.now)))) }
+            ≡ take most (ids.old.items ++ filter (is_within range) (ids_of (unpacked_entries self.now)))) }
     {
         let (passed, mut rest) = self.pass_below(range.low);
         for _ in passed..self.count {
@@ -146,7 +149,7 @@ impl<'a> PackedEntries<'a> {
     /// Appends the ids within a range.
     pub(crate) fn push_all_ids(&self, ids: &mut Vec<Id>, range: Range) -> Result<(), AllocError>
         ensures { OnOk result (ids.new.items
-            ≡ ids.old.items ++ filter (is_within range) (ids_of (entries_in self.now))) }
+            ≡ ids.old.items ++ filter (is_within range) (ids_of (unpacked_entries self.now))) }
     {
         ids.reserve(self.count)?;
         let mut rest = after(self.bytes, self.start);
@@ -169,7 +172,7 @@ impl<'a> PackedEntries<'a> {
     ) -> Result<(), AllocError>
         requires { length shown.old.items ≤ most }
         ensures { OnOk result (shown.new.items
-            ≡ take most (shown.old.items ++ filter (λ e. is_within range e.0) (entries_in self.now))) }
+            ≡ take most (shown.old.items ++ filter (λ e. is_within range e.0) (unpacked_entries self.now))) }
     {
         let (names, _) = read_text(self.bytes);
         let (passed, mut rest) = self.pass_below(range.low);
@@ -193,7 +196,7 @@ impl<'a> PackedEntries<'a> {
         range: Range,
     ) -> Result<(), AllocError>
         ensures { OnOk result (shown.new.items
-            ≡ shown.old.items ++ filter (λ e. is_within range e.0) (entries_in self.now)) }
+            ≡ shown.old.items ++ filter (λ e. is_within range e.0) (unpacked_entries self.now)) }
     {
         let (names, _) = read_text(self.bytes);
         shown.reserve(self.count)?;
@@ -208,7 +211,7 @@ impl<'a> PackedEntries<'a> {
         Ok(())
     }
 
-    /// Whether one of the entries has the names that the block has once.
+    /// Whether an entry takes its names from the front of the block.
     pub(crate) fn shares_names(&self) -> bool
         ensures { result ≡ shares_names self.now.count (drop self.now.start self.now.bytes.now) }
     {

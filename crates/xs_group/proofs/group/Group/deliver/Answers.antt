@@ -22,7 +22,7 @@ returns-clause-answer c =
 pub returns-clause-ok : goal.returns-clause-ok
 returns-clause-ok c = search rules
 
-pub returns-clause-made : goal.returns-clause-made
-returns-clause-made c =
+pub returns-clause-undoable : goal.returns-clause-undoable
+returns-clause-undoable c =
     made-delivery c.args.self.now _ _ c.args.consumer.now c.args.now c.args.limit c.args.noack (ids_of c.args.stream.now.entries)
     c.in_ok-created.ensures.consistent (returns-clause-ok c) (returns-clause-answer c)

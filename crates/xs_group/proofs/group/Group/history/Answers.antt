@@ -34,8 +34,8 @@ invariant_of-self-2 c =
 pub returns-clause-answer : goal.returns-clause-answer
 returns-clause-answer c = grind (arith, common_steps)
 
-pub returns-clause-made : goal.returns-clause-made
-returns-clause-made c =
+pub returns-clause-undoable : goal.returns-clause-undoable
+returns-clause-undoable c =
     let consistent = is-consistent c.self.inside.cursor c.self.inside.pending c.self.invariant c.in_ok-created.ensures.named in
     made-history c.args.self.now _ _ c.args.consumer.now c.args.now c.args.limit c.args.from (ids_of c.args.stream.now.entries)
     (rw (← c.self.view_is) consistent) (returns-clause-ok c) (returns-clause-answer c)

@@ -11,5 +11,5 @@ returns-clause-laid_down c =
     record {
       filed = rw c.in_ok-push.ensures.ok (filed-push c.args.top c.args.id c.args.fields.now made.older.entries made.newest c.make_room.ensures.laid_down.filed c.make_room.ensures.filed_up_to_top c.requires.above);
       counted = rw (c.in_ok-push.ensures.ok, ← behind) (omega (arith, length_push (entries_of_blocks made.older.entries ++ made.newest) (c.args.id, c.args.fields.now), c.make_room.ensures.laid_down.counted));
-      small = omega (arith, ap length c.make_room.ensures.same, c.requires.laid_down.counted, c.make_room.ensures.laid_down.counted, c.if-self-ge-MOST_ENTRIES.false);
+      small = omega (arith, ap length c.make_room.ensures.same, c.requires.laid_down.counted, c.make_room.ensures.laid_down.counted, c.if-self-ge-MOST_IN_STREAM.false);
     }

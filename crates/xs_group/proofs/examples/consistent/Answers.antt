@@ -2,7 +2,7 @@ use Rattle.xs_group.proofs.Terms.{refl, sym, subst}
 use Rattle.std.specs.Prelude.{T, codes}
 use Rattle.xs_stream.specs.Examples.{at}
 use Rattle.xs_bytes.specs.SortedMap.{empty, get, insert_by}
-use Rattle.xs_group.proofs.examples.lawful.Goals as goal
+use Rattle.xs_group.proofs.examples.consistent.Goals as goal
 
 pub returns : goal.returns
 unfolding empty get insert_by
