@@ -69,9 +69,17 @@ fn length(
     let Some(answer) = trial.call(0, clock, command) else {
         return Ok(None);
     };
-    match answer.reply {
-        Reply::Int(length) => Ok(Some((answer.place, length.get()))),
-        _ => Ok(None),
+    let Some(length) = number_of(&answer.reply) else {
+        return Ok(None);
+    };
+    Ok(Some((answer.place, length)))
+}
+
+/// The number that a reply tells.
+fn number_of(reply: &Reply) -> Option<u64> {
+    match reply {
+        Reply::Int(number) => Some(number.get()),
+        _ => None,
     }
 }
 
