@@ -13,7 +13,8 @@ neighbour's, a letter of a text. Then it
 checks the examples of the crate alone (`rt check --only examples`), some seconds for each turn. A turn that no example
 refuses is shown; one that isn't well typed, or that a proof within specs/ refuses, isn't counted. The last line is
 'N refused, M passed, K not read'. With --together it tries so many turns in one check, which takes a third of the time:
-each turned file, with the files and the examples above it, stands beside the others under names of its own. It may run
+each turned file, with the files and the examples above it, stands beside the others under names of its own. Of a file
+whose examples break under another name as it is, since their proofs name it, each turn is tried alone. It may run
 for hours, and belongs to no gate. With --by-hand it tries the slips of slips.txt instead, which are made by hand.
 """
 import argparse
@@ -54,8 +55,13 @@ SIBLINGS = [
 HOMES = {
     "Rattle.std.specs.Prelude": [
         "nat_le", "nat_lt", "true", "false", "take", "drop", "[]", "◌&&◌", "◌||◌", "◌∷◌", "◌==◌", "◌+◌", "◌-◌", "◌++◌",
-        "bytes_eq", "length", "filter", "Some", "None", "if◌then◌else◌"],
+        "bytes_eq", "length", "filter", "Some", "None", "Ok", "Err", "not", "codes", "List", "ℕ", "Bool", "Result",
+        "if◌then◌else◌"],
     "Rattle.std.specs.List": ["list_any", "list_all"],
+    "Rattle.std.specs.Option": ["option_map_or"],
+    "Rattle.std.specs.Str": ["str_eq_ignore_ascii_case"],
+    "Rattle.xs_command.specs.Words": ["is_word"],
+    "Rattle.xs_resp.specs.declared.fault.Fault": ["Fault"],
     "Rattle.xs_resp.specs.declared.fault.Fault.TheVariants": [
         "Syntax", "Arity", "BadId", "NotInteger", "ZeroId", "Unsupported", "UnknownCommand", "SmallId", "NoKey",
         "NoGroup", "Busy"],
@@ -65,8 +71,8 @@ HOMES = {
     "Rattle.xs_stream.specs.Id": ["zero_id", "greatest_id", "is_below"],
 }
 # what an option is before its words are read
-FORGOTTEN = {"make": "true", "trim": "None", "reader": "None", "limit": "None", "noack": "false", "retry": "None",
-             "just_id": "false", "min_idle": "0", "when": "time.Now"}
+FORGOTTEN = {"make": "true", "trim": "None", "reader": "None", "limit": "None", "block": "None", "noack": "false",
+             "retry": "None", "just_id": "false", "min_idle": "0", "when": "time.Now"}
 BEGINS = re.compile(r"^(?:abbrev|unfoldable) pub (\S+) *:", re.M)
 STOPS = [" then ", " else ", " in ", ";", " ≡ ", " ↦ ", "\n  pub ", " ++ "]
 
@@ -311,6 +317,8 @@ class Examples:
             homes.update({word.strip(): home for word in (words or other).split(",")})
         functions = re.findall(r"((?:^///.*\n)+^pub fn (\w+)\(\)\n    ensures \{ (\w+)\S* \}\n\{\}\n)", text, re.M)
         self.functions = {name: (body, homes[said]) for body, name, said in functions}
+        # whether a file's examples pass when it has another name and nothing is turned
+        self.passing = {}
 
     def above(self, file):
         """The file, and those that use it or one of these."""
@@ -352,7 +360,19 @@ class Examples:
 
 
 def judge_together(examples, found):
-    """The verdict of each of these turns, from one check."""
+    """The verdict of each of these turns, from one check. Where examples break as soon as a file has another name, turned
+    or not, its turns are judged alone."""
+    untried = sorted({file for file, _ in found} - set(examples.passing))
+    texts = [(file, turned.text) for file, turned in found]
+    said, names = checked_together(examples, texts + [(file, examples.specs[file[:-5]]) for file in untried])
+    verdicts = [verdict_of(said, turn, wanted) for turn, wanted in enumerate(names)]
+    examples.passing.update(zip(untried, (verdict == "passed" for verdict in verdicts[len(found):])))
+    return [verdict if examples.passing[file] else judge(examples.crate, file, turned)
+            for (file, turned), verdict in zip(found, verdicts)]
+
+
+def checked_together(examples, texts):
+    """What a check of all these files beside each other says, and the names of the examples of each."""
     crate = examples.crate
     kept = tempfile.mkdtemp(prefix="kept")
     parts = ["specs", "src", "proofs"]
@@ -361,18 +381,17 @@ def judge_together(examples, found):
     try:
         lib, root = os.path.join(crate, "specs", "Lib.antt"), os.path.join(crate, "src", "examples.rt")
         names = []
-        for turn, (file, turned) in enumerate(found):
-            files, wanted = examples.put(turn, file[:-5], turned.text)
+        for turn, (file, text) in enumerate(texts):
+            files, wanted = examples.put(turn, file[:-5], text)
             write(lib, text_of(lib) + "".join(f"pub mod {name}\n" for name in files))
             write(root, text_of(root) + f"\npub mod v{turn};\n")
             names.append(wanted)
-        said = checked(crate)
+        return checked(crate), names
     finally:
         for part in parts:
             shutil.rmtree(os.path.join(crate, part))
             shutil.move(os.path.join(kept, part), os.path.join(crate, part))
         os.rmdir(kept)
-    return [verdict_of(said, turn, wanted) for turn, wanted in enumerate(names)]
 
 
 def verdict_of(said, turn, wanted):
@@ -394,12 +413,12 @@ def copied(folder):
         yield folder
 
 
-def judged(crate, found, asked):
+def judged(crate, found, examples, asked):
     """The verdict of each."""
     if asked.list:
         return ["passed" for turn in found]
     if asked.together > 1:
-        return judge_together(Examples(crate), found)
+        return judge_together(examples, found)
     return [judge(crate, file, turn) for file, turn in found]
 
 
@@ -415,11 +434,12 @@ def tell(folder, asked):
     """Tries the slips that are asked for in this copy, and tells what passed."""
     counts = {"refused": 0, "passed": 0, "not read": 0}
     crate = os.path.join(folder, "crates", asked.crate)
+    examples = Examples(crate)
     found = list(by_hand(asked) if asked.by_hand else slips(crate, asked))
     found = found[asked.first:asked.first + asked.most:asked.step]
     for place in range(0, len(found), asked.together):
         part = found[place:place + asked.together]
-        for (file, turn), verdict in zip(part, judged(crate, part, asked)):
+        for (file, turn), verdict in zip(part, judged(crate, part, examples, asked)):
             counts[verdict] += 1
             if verdict == "passed" or asked.by_hand and verdict != "refused":
                 print(verdict + ":" if asked.by_hand else "", f"{file} {turn.name}: {turn.shown}", flush=True)

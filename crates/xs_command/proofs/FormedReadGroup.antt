@@ -93,7 +93,7 @@ streams_are words reads e = even_reads (nat_lt 0 (length words) && length words 
 
 group_read_formed : (who : Reader) (options : ReadOptions) (read : Result (List ReadOne) Fault) → ((reads : List ReadOne) → read ≡ Ok reads → AreReads reads) → (y : Command) → read_group who options read ≡ Ok y → IsWellFormed y
 group_read_formed who options (Ok reads) h y e =
-    let made : Command = command.ReadGroup (record { group = who.group; consumer = who.consumer; limit = options.limit; noack = options.noack; reads = reads }) in
+    let made : Command = command.ReadGroup (record { group = who.group; consumer = who.consumer; limit = options.limit; block = options.block; noack = options.noack; reads = reads }) in
     let same : made ≡ y = cc in subst IsWellFormed same (h reads refl)
 group_read_formed who options (Err fault) h y e = absurd cc
 

@@ -101,6 +101,7 @@ pub record GroupExamples : Type 0 where
         group = codes "g";
         consumer = codes "c";
         limit = None;
+        block = Some 9;
         noack = false;
         reads = record { key = codes "a"; from = New }
             ∷ record { key = codes "b"; from = After (record { ms = 1; seq = 2 }) } ∷ [];

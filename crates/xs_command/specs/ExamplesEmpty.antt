@@ -34,6 +34,7 @@ pub record EmptyWords : Type 0 where
         group = [];
         consumer = [];
         limit = None;
+        block = None;
         noack = false;
         reads = record { key = []; from = New } ∷ [];
       }))

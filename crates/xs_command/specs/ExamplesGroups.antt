@@ -22,9 +22,19 @@ creates start make = command.GroupCreate (record { key = codes "k"; group = code
 abbrev pub each : List ℕ → ReadFrom → ReadOne
 each key start = record { key = key; from = start }
 
+abbrev pub blocks_group : Option ℕ → Option ℕ → Bool → List ReadOne → Command
+blocks_group limit block noack reads =
+    command.ReadGroup (record {
+      group = codes "g";
+      consumer = codes "c";
+      limit = limit;
+      block = block;
+      noack = noack;
+      reads = reads;
+    })
+
 abbrev pub reads_group : Option ℕ → Bool → List ReadOne → Command
-reads_group limit noack reads =
-    command.ReadGroup (record { group = codes "g"; consumer = codes "c"; limit = limit; noack = noack; reads = reads })
+reads_group limit noack reads = blocks_group limit None noack reads
 
 abbrev pub tells : ℕ → Id → Id → ℕ → Option (List ℕ) → Command
 tells min_idle low high limit consumer =
@@ -66,6 +76,19 @@ pub record Groups : Type 0 where
   pub make_twice_own : Spells (codes "XGROUP CREATE k g $ mkstream MKSTREAM") (creates start.Top true)
   pub no_end_of_a_range : HasFault (codes "XGROUP CREATE k g -") BadId
   pub not_all : HasFault (codes "XGROUP CREATE k g +") BadId
+  pub not_behind_an_id : HasFault (codes "XGROUP CREATE k g (1") BadId
+  pub not_as_a_read : HasFault (codes "XGROUP CREATE k g >") BadId
+  pub no_two_signs : HasFault (codes "XGROUP CREATE k g $$") BadId
+  pub names_as_options :
+      Spells (codes "XGROUP CREATE MKSTREAM MKSTREAM 5")
+      (command.GroupCreate (record {
+        key = codes "MKSTREAM";
+        group = codes "MKSTREAM";
+        start = start.At (at 5 0);
+        make = false;
+      }))
+  pub names_as_subcommands :
+      Spells (codes "XGROUP DESTROY CREATE DESTROY") (command.GroupDestroy (codes "CREATE") (codes "DESTROY"))
   pub another_option : HasFault (codes "XGROUP CREATE k g $ FORCE") Syntax
   pub words_left : HasFault (codes "XGROUP CREATE k g $ MKSTREAM 5") Syntax
   pub entries_read : HasFault (codes "XGROUP CREATE k g $ MKSTREAM entriesread 5") Unsupported
@@ -91,12 +114,28 @@ pub record Reads : Type 0 where
       Spells (codes "XREADGROUP GROUP g c COUNT -1 STREAMS k >") (reads_group None false (each (codes "k") New ∷ []))
   pub noack :
       Spells (codes "XREADGROUP GROUP g c NOACK STREAMS k >") (reads_group None true (each (codes "k") New ∷ []))
+  pub noack_twice :
+      Spells (codes "XREADGROUP GROUP g c NOACK NOACK STREAMS k >")
+      (reads_group None true (each (codes "k") New ∷ []))
+  pub noack_apart :
+      Spells (codes "XREADGROUP NOACK GROUP g c COUNT 1 NOACK STREAMS k >")
+      (reads_group (Some 1) true (each (codes "k") New ∷ []))
+  pub no_block : Spells (codes "XREADGROUP GROUP g c STREAMS k 0") (blocks_group None None false (each (codes "k") (After (at 0 0)) ∷ []))
+  pub the_last_block :
+      Spells (codes "XREADGROUP block 7 GROUP g c BLOCK 9 STREAMS k >")
+      (blocks_group None (Some 9) false (each (codes "k") New ∷ []))
+  pub block_before_each_option :
+      Spells (codes "XREADGROUP BLOCK 7 GROUP g c COUNT 2 NOACK STREAMS k >")
+      (blocks_group (Some 2) (Some 7) true (each (codes "k") New ∷ []))
+  pub block_behind_each_option :
+      Spells (codes "XREADGROUP NOACK COUNT 2 GROUP g c BLOCK 7 STREAMS k >")
+      (blocks_group (Some 2) (Some 7) true (each (codes "k") New ∷ []))
   pub noack_and_then_options :
       Spells (codes "XREADGROUP noack COUNT 2 block 0 GROUP h d GROUP g c STREAMS k 5")
-      (reads_group (Some 2) true (each (codes "k") (After (at 5 0)) ∷ []))
+      (blocks_group (Some 2) (Some 0) true (each (codes "k") (After (at 5 0)) ∷ []))
   pub seven_options :
       Spells (codes "XREADGROUP GROUP h d BLOCK 1 COUNT 9 BLOCK 0 NOACK GROUP g c COUNT 2 STREAMS k >")
-      (reads_group (Some 2) true (each (codes "k") New ∷ []))
+      (blocks_group (Some 2) (Some 0) true (each (codes "k") New ∷ []))
   pub three_streams :
       Spells (codes "XREADGROUP GROUP g c STREAMS b a c > 1-2 0")
       (reads_group None false (each (codes "b") New ∷ each (codes "a") (After (at 1 2))
@@ -104,7 +143,24 @@ pub record Reads : Type 0 where
   pub the_greatest_id_own :
       Spells (codes "XREADGROUP GROUP g c STREAMS k 18446744073709551615-18446744073709551615")
       (reads_group None false (each (codes "k") (After greatest_id) ∷ []))
+  pub names_as_options :
+      Spells (codes "XREADGROUP GROUP GROUP STREAMS STREAMS STREAMS >")
+      (command.ReadGroup (record {
+        group = codes "GROUP";
+        consumer = codes "STREAMS";
+        limit = None;
+        block = None;
+        noack = false;
+        reads = each (codes "STREAMS") New ∷ [];
+      }))
+  pub keys_in_another_case :
+      Spells (codes "XREADGROUP GROUP g c STREAMS a A > >")
+      (reads_group None false (each (codes "a") New ∷ each (codes "A") New ∷ []))
   pub from_the_top : HasFault (codes "XREADGROUP GROUP g c STREAMS k $") BadId
+  pub from_the_least_end : HasFault (codes "XREADGROUP GROUP g c STREAMS k -") BadId
+  pub from_the_greatest_end : HasFault (codes "XREADGROUP GROUP g c STREAMS k +") BadId
+  pub from_behind_an_id : HasFault (codes "XREADGROUP GROUP g c STREAMS k (1") BadId
+  pub from_two_signs : HasFault (codes "XREADGROUP GROUP g c STREAMS k >>") BadId
   pub second_from_nowhere : HasFault (codes "XREADGROUP GROUP g c STREAMS a b > x") BadId
   pub first_and_third_alike : HasFault (codes "XREADGROUP GROUP g c STREAMS a b a > > >") Unsupported
   pub alike_before_an_id : HasFault (codes "XREADGROUP GROUP g c STREAMS a a x y") Unsupported
@@ -117,11 +173,18 @@ pub record Reads : Type 0 where
   pub no_consumer : HasFault (codes "XREADGROUP COUNT 1 BLOCK 0 GROUP g") Syntax
   pub count_is_none : HasFault (codes "XREADGROUP GROUP g c COUNT x STREAMS k >") NotInteger
   pub block_is_none : HasFault (codes "XREADGROUP GROUP g c BLOCK x STREAMS k >") NotInteger
+  pub block_past_the_greatest :
+      HasFault (codes "XREADGROUP GROUP g c BLOCK 9223372036854775808 STREAMS k >") NotInteger
+  pub second_block_below_zero : HasFault (codes "XREADGROUP GROUP g c BLOCK 7 BLOCK -1 STREAMS k >") NotInteger
 
 pub record Pending : Type 0 where
   pub acknowledged :
       Spells (codes "xack k g 3 1-2 3-0") (command.Ack (codes "k") (codes "g") (at 3 0 ∷ at 1 2 ∷ at 3 0 ∷ []))
   pub second_is_none : HasFault (codes "XACK k g 1 x") BadId
+  pub the_least_end : HasFault (codes "XACK k g -") BadId
+  pub the_greatest_end : HasFault (codes "XACK k g +") BadId
+  pub behind_an_id : HasFault (codes "XACK k g (1") BadId
+  pub the_least_end_behind_an_id : HasFault (codes "XACK k g 1 -") BadId
   pub summary : Spells (codes "xpending k g") (command.Pending (codes "k") (codes "g"))
   pub rows : Spells (codes "XPENDING k g - + 10") (tells 0 zero_id greatest_id 10 None)
   pub rows_of_a_consumer :
@@ -130,6 +193,10 @@ pub record Pending : Type 0 where
   pub rows_that_are_idle : Spells (codes "XPENDING k g idle 7 - + 10") (tells 7 zero_id greatest_id 10 None)
   pub idle_below_zero_own :
       Spells (codes "XPENDING k g IDLE -7 - + 10 c") (tells 0 zero_id greatest_id 10 (Some (codes "c")))
+  pub rows_of_a_consumer_named_idle :
+      Spells (codes "XPENDING k g - + 10 IDLE") (tells 0 zero_id greatest_id 10 (Some (codes "IDLE")))
+  pub idle_rows_of_a_consumer_named_idle :
+      Spells (codes "XPENDING k g IDLE 7 - + 10 IDLE") (tells 7 zero_id greatest_id 10 (Some (codes "IDLE")))
   pub four_words : HasFault (codes "XPENDING k g -") Syntax
   pub five_words : HasFault (codes "XPENDING k g x y") Syntax
   pub eight_words_without_idle : HasFault (codes "XPENDING k g - + 1 c d") Syntax
@@ -156,6 +223,21 @@ pub record Claims : Type 0 where
   pub the_last_retry :
       Spells (codes "XCLAIM k g c 7 1 RETRYCOUNT 5 RETRYCOUNT 9") (claims 7 time.Now (Some 9) false (at 1 0 ∷ []))
   pub just_ids : Spells (codes "XCLAIM k g c 7 1 justid") (claims 7 time.Now None true (at 1 0 ∷ []))
+  pub just_ids_twice : Spells (codes "XCLAIM k g c 7 1 JUSTID JUSTID") (claims 7 time.Now None true (at 1 0 ∷ []))
+  pub just_ids_apart :
+      Spells (codes "XCLAIM k g c 7 1 JUSTID IDLE 5 JUSTID") (claims 7 (time.Idle 5) None true (at 1 0 ∷ []))
+  pub the_last_of_two_times : Spells (codes "XCLAIM k g c 7 1 TIME 5 TIME 9") (claims 7 (time.At 9) None false (at 1 0 ∷ []))
+  pub the_last_of_two_idle_times :
+      Spells (codes "XCLAIM k g c 7 1 IDLE 5 IDLE 9") (claims 7 (time.Idle 9) None false (at 1 0 ∷ []))
+  pub a_consumer_named_justid :
+      Spells (codes "XCLAIM k g JUSTID 7 1")
+      (command.Claim (record {
+        key = codes "k";
+        group = codes "g";
+        consumer = codes "JUSTID";
+        rule = record { min_idle = 7; when = time.Now; retry = None; just_id = false };
+        ids = at 1 0 ∷ [];
+      }))
   pub options_in_another_order :
       Spells (codes "XCLAIM k g c 7 1 JUSTID RETRYCOUNT 5 IDLE 9") (claims 7 (time.Idle 9) (Some 5) true (at 1 0 ∷ []))
   pub and_in_a_third :
@@ -168,6 +250,9 @@ pub record Claims : Type 0 where
       (claims 7 time.Now None false (map (λ n. at n 0) (1 ∷ 2 ∷ 3 ∷ 4 ∷ 5 ∷ 6 ∷ 7 ∷ [])))
   pub min_idle_is_none : HasFault (codes "XCLAIM k g c x y") NotInteger
   pub another_option : HasFault (codes "XCLAIM k g c 7 1 x") Syntax
+  pub no_id_by_a_least_end_own : HasFault (codes "XCLAIM k g c 7 -") BadId
+  pub no_id_by_a_bracket_own : HasFault (codes "XCLAIM k g c 7 (1") BadId
+  pub a_least_end_is_no_option : HasFault (codes "XCLAIM k g c 7 1 -") Syntax
   pub an_id_behind_options : HasFault (codes "XCLAIM k g c 7 1 JUSTID 2") Syntax
   pub no_time : HasFault (codes "XCLAIM k g c 7 1 TIME") Syntax
   pub time_is_none : HasFault (codes "XCLAIM k g c 7 1 TIME x") NotInteger
@@ -179,11 +264,14 @@ pub record Claims : Type 0 where
 pub record Scans : Type 0 where
   pub from_the_least : Spells (codes "XAUTOCLAIM k g c 7 0") (claims_from 7 false (at 0 0) 100)
   pub from_the_least_end : Spells (codes "XAUTOCLAIM k g c 7 -") (claims_from 7 false (at 0 0) 100)
+  pub from_the_greatest_end : Spells (codes "XAUTOCLAIM k g c 7 +") (claims_from 7 false greatest_id 100)
   pub from_a_millisecond : Spells (codes "xautoclaim k g c 7 5") (claims_from 7 false (at 5 0) 100)
   pub min_idle_below_zero_own : Spells (codes "XAUTOCLAIM k g c -7 5-3") (claims_from 0 false (at 5 3) 100)
   pub at_most_one : Spells (codes "XAUTOCLAIM k g c 7 5-3 count 1") (claims_from 7 false (at 5 3) 1)
   pub at_most_two_own : Spells (codes "XAUTOCLAIM k g c 7 5-3 COUNT 1 COUNT 2") (claims_from 7 false (at 5 3) 2)
   pub just_ids : Spells (codes "XAUTOCLAIM k g c 7 5-3 justid COUNT 9") (claims_from 7 true (at 5 3) 9)
+  pub just_ids_twice : Spells (codes "XAUTOCLAIM k g c 7 5-3 JUSTID JUSTID") (claims_from 7 true (at 5 3) 100)
+  pub just_ids_apart : Spells (codes "XAUTOCLAIM k g c 7 5-3 JUSTID COUNT 9 JUSTID") (claims_from 7 true (at 5 3) 9)
   pub six_options :
       Spells (codes "XAUTOCLAIM k g c 7 5-3 COUNT 9 COUNT 8 COUNT 7 COUNT 6 JUSTID COUNT 1")
       (claims_from 7 true (at 5 3) 1)
@@ -193,4 +281,5 @@ pub record Scans : Type 0 where
   pub min_idle_is_none : HasFault (codes "XAUTOCLAIM k g c x y") NotInteger
   pub start_is_none : HasFault (codes "XAUTOCLAIM k g c 7 x") BadId
   pub nothing_above : HasFault (codes "XAUTOCLAIM k g c 7 (+") BadId
+  pub not_from_the_top : HasFault (codes "XAUTOCLAIM k g c 7 $") BadId
   pub another_option : HasFault (codes "XAUTOCLAIM k g c 7 5-3 FORCE") Syntax

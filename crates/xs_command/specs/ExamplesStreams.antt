@@ -74,12 +74,27 @@ pub record Additions : Type 0 where
   pub maxlen_exact : Spells (codes "XADD k MAXLEN = 5 * f v") (adds (Some (MaxLen 5)) Auto)
   pub minid : Spells (codes "XADD k minid 5 3-* f v") (adds (Some (MinId (at 5 0))) (AutoSeq 3))
   pub minid_about_exact_own : Spells (codes "XADD k MINID ~ 5-2 * f v") (adds (Some (MinId (at 5 2))) Auto)
+  pub key_and_field_named_as_options :
+      Spells (codes "XADD NOMKSTREAM * MAXLEN 5")
+      (command.Add (record {
+        key = codes "NOMKSTREAM";
+        make = true;
+        trim = None;
+        id = Auto;
+        fields = field (codes "MAXLEN") (codes "5") ∷ [];
+      }))
+  pub no_stream_made_behind_a_trim_by_id :
+      Spells (codes "XADD k MINID 5 NOMKSTREAM * f v") (adds_to_a_stream (Some (MinId (at 5 0))))
+  pub no_stream_made_on_both_sides :
+      Spells (codes "XADD k NOMKSTREAM MINID 5 NOMKSTREAM * f v") (adds_to_a_stream (Some (MinId (at 5 0))))
   pub fields_named_as_options : HasFault (codes "XADD k * MAXLEN 5 f") Arity
   pub maxlen_twice : HasFault (codes "XADD k MAXLEN 3 MAXLEN 3 * f v") Syntax
   pub minid_twice : HasFault (codes "XADD k MINID 3 MAXLEN 3 * f v") Syntax
   pub maxlen_below_zero : HasFault (codes "XADD k MAXLEN -1 * f v") NotInteger
   pub maxlen_is_an_id : HasFault (codes "XADD k MAXLEN 3-1 * f v") NotInteger
   pub minid_is_none : HasFault (codes "XADD k MINID x * f v") BadId
+  pub minid_is_an_end : HasFault (codes "XADD k MINID - * f v") BadId
+  pub minid_behind_an_id : HasFault (codes "XADD k MINID (5 * f v") BadId
   pub two_signs : HasFault (codes "XADD k MAXLEN = = 5 * f v") NotInteger
   pub limit_alone : HasFault (codes "XADD k LIMIT 5 * f v") Unsupported
   pub no_id : HasFault (codes "XADD k f v g w") BadId
@@ -91,17 +106,25 @@ pub record Removals : Type 0 where
   pub one_id : Spells (codes "xdel k 1-2") (command.Delete (codes "k") (at 1 2 ∷ []))
   pub first_is_none : HasFault (codes "XDEL k x 1") BadId
   pub last_is_none : HasFault (codes "XDEL k 1 2 -") BadId
+  pub the_least_end : HasFault (codes "XDEL k -") BadId
+  pub the_greatest_end : HasFault (codes "XDEL k +") BadId
+  pub behind_an_id : HasFault (codes "XDEL k (1") BadId
   pub maxlen : Spells (codes "XTRIM k MAXLEN 5") (command.TrimTo (codes "k") (MaxLen 5))
   pub maxlen_about : Spells (codes "xtrim k maxlen ~ 0") (command.TrimTo (codes "k") (MaxLen 0))
   pub minid : Spells (codes "XTRIM k MINID 5-1") (command.TrimTo (codes "k") (MinId (at 5 1)))
   pub no_threshold : HasFault (codes "XTRIM k MAXLEN =") Syntax
   pub two_signs : HasFault (codes "XTRIM k MINID = ~ 5") BadId
   pub no_trim : HasFault (codes "XTRIM k 5 6") Syntax
+  pub no_stream_made_before_a_trim : HasFault (codes "XTRIM k NOMKSTREAM MAXLEN 5") Syntax
+  pub no_stream_made_behind_a_trim : HasFault (codes "XTRIM k MAXLEN 5 NOMKSTREAM") Syntax
+  pub threshold_is_an_end : HasFault (codes "XTRIM k MINID +") BadId
   pub two_trims : HasFault (codes "XTRIM k MAXLEN 5 MINID 6") Syntax
   pub words_left : HasFault (codes "XTRIM k MAXLEN 5 6") Syntax
   pub limit : HasFault (codes "XTRIM k MAXLEN 5 LIMIT 6") Unsupported
   pub no_id : HasFault (codes "XTRIM k MINID = x") BadId
   pub one_key : Spells (codes "DEL a") (command.DropKeys (codes "a" ∷ []))
+  pub keys_in_another_case : Spells (codes "DEL a A") (command.DropKeys (codes "a" ∷ codes "A" ∷ []))
+  pub a_key_named_as_the_command : Spells (codes "DEL DEL") (command.DropKeys (codes "DEL" ∷ []))
   pub three_keys : Spells (codes "del b a b") (command.DropKeys (codes "b" ∷ codes "a" ∷ codes "b" ∷ []))
 
 pub record Scans : Type 0 where
@@ -116,6 +139,8 @@ pub record Scans : Type 0 where
       Spells (codes "XRANGE k - + COUNT 9 COUNT 8 COUNT 7 COUNT 6 COUNT 5 COUNT 1") (scans zero_id greatest_id (Some 1))
   pub ends_the_other_way : Spells (codes "XRANGE k + -") (scans greatest_id zero_id None)
   pub low_is_none : HasFault (codes "XRANGE k x +") BadId
+  pub low_is_the_top : HasFault (codes "XRANGE k $ +") BadId
+  pub high_is_a_read : HasFault (codes "XRANGE k - >") BadId
   pub high_is_none : HasFault (codes "XRANGE k - x") BadId
   pub nothing_above : HasFault (codes "XRANGE k (18446744073709551615-18446744073709551615 +") BadId
   pub no_count : HasFault (codes "XRANGE k - + COUNT") Syntax

@@ -19,7 +19,7 @@ limit_of Negative = None
 limit_of (Natural n) = if n == 0 then None else Some n
 
 abbrev pub no_read_options : ReadOptions
-no_read_options = record { reader = None; limit = None; noack = false }
+no_read_options = record { reader = None; limit = None; block = None; noack = false }
 
 -- GROUP group consumer
 unfoldable pub reader : Part Reader
@@ -29,21 +29,27 @@ reader = do
   value (record { group = group; consumer = consumer })
 
 abbrev pub with_reader : ReadOptions → Reader → ReadOptions
-with_reader options who = record { reader = Some who; limit = options.limit; noack = options.noack }
+with_reader options who =
+    record { reader = Some who; limit = options.limit; block = options.block; noack = options.noack }
 
 abbrev pub with_limit : ReadOptions → Option ℕ → ReadOptions
-with_limit options limit = record { reader = options.reader; limit = limit; noack = options.noack }
+with_limit options limit =
+    record { reader = options.reader; limit = limit; block = options.block; noack = options.noack }
+
+abbrev pub with_block : ReadOptions → ℕ → ReadOptions
+with_block options millis =
+    record { reader = options.reader; limit = options.limit; block = Some millis; noack = options.noack }
 
 abbrev pub with_noack : ReadOptions → ReadOptions
-with_noack options = record { reader = options.reader; limit = options.limit; noack = true }
+with_noack options = record { reader = options.reader; limit = options.limit; block = options.block; noack = true }
 
--- { GROUP group consumer, COUNT n, BLOCK ms, NOACK }; BLOCK means nothing
+-- { GROUP group consumer, COUNT n, BLOCK ms, NOACK }
 unfoldable pub read_option : OptionOf ReadOptions
 read_option options name words =
     if is_word (codes "group") name then option_with (reader >>= λ who. value (with_reader options who)) words
     else (if is_word (codes "count") name
     then option_with (integer >>= λ n. value (with_limit options (limit_of n))) words
-    else (if is_word (codes "block") name then option_with (natural >>= λ millis. value options) words
+    else (if is_word (codes "block") name then option_with (natural >>= λ millis. value (with_block options millis)) words
     else (if is_word (codes "noack") name then Ok (with_noack options, Some words) else Ok (options, None))))
 
 -- the command with these streams
@@ -53,6 +59,7 @@ read_group who options (Ok reads) =
       group = who.group;
       consumer = who.consumer;
       limit = options.limit;
+      block = options.block;
       noack = options.noack;
       reads = reads;
     }))

@@ -150,6 +150,8 @@ pub struct ReadGroupCommand {
     pub consumer: Bytes,
     /// At most so many entries of each stream.
     pub limit: Option<u64>,
+    /// How many milliseconds it may wait for new entries, 0 for as long as it takes. The model doesn't look at it.
+    pub block: Option<u64>,
     /// What is delivered doesn't become pending.
     pub noack: bool,
     /// One stream or more, each once.

@@ -28,6 +28,7 @@ pub(crate) struct Reader {
 pub(crate) struct ReadOptions {
     reader: Option<Reader>,
     limit: Option<u64>,
+    block: Option<u64>,
     noack: bool,
 }
 
@@ -36,7 +37,7 @@ impl Options for ReadOptions {
 
     ghost option = { read_option };
 
-    /// `GROUP group consumer`, `COUNT n`, `BLOCK ms` or `NOACK`. BLOCK means nothing.
+    /// `GROUP group consumer`, `COUNT n`, `BLOCK ms` or `NOACK`.
     #[tactic(auto, unfolding(crate::specs::Xreadgroup::read_option))]
     fn option<'a>(
         self,
@@ -56,7 +57,8 @@ impl Options for ReadOptions {
             return Ok((options, Some(words)));
         }
         if name.is(b"block") {
-            let (_, words) = words.natural()?;
+            let (millis, words) = words.natural()?;
+            options.block = Some(millis.get());
             return Ok((options, Some(words)));
         }
         if name.is(b"noack") {
@@ -95,6 +97,7 @@ pub(crate) fn read(alloc: Global, words: &Words<'_>) -> Result<Command, Refusal>
     let none = ReadOptions {
         reader: None,
         limit: None,
+        block: None,
         noack: false,
     };
     let (options, words) = read_options(alloc, none, words.again())?;
@@ -112,6 +115,7 @@ fn read_command(alloc: Global, options: ReadOptions, words: Words<'_>) -> Result
     let ReadOptions {
         reader,
         limit,
+        block,
         noack,
     } = options;
     let Some(Reader { group, consumer }) = reader else {
@@ -122,6 +126,7 @@ fn read_command(alloc: Global, options: ReadOptions, words: Words<'_>) -> Result
         group,
         consumer,
         limit,
+        block,
         noack,
         reads,
     }))

@@ -18,6 +18,7 @@ pub mod ConsistentContents
 pub mod Lives
 pub mod CodeMaps
 pub mod NameMaps
+pub mod NothingNew
 pub mod Owners
 pub mod PresentEntries
 pub mod ReadSteps

@@ -272,6 +272,20 @@ pub record Claims : Type 0 where
       at 100 (codes "XREADGROUP GROUP g c STREAMS s >") (array (stream (codes "s") (entry 1 0 ∷ entry 2 0 ∷ []) ∷ [])) ∷
       at 110 (codes "XAUTOCLAIM s g d 10 2-0") (array (id 0 0 ∷ array (entry 2 0 ∷ []) ∷ array [] ∷ [])) ∷
       [])
+  -- JUSTID tells the ids alone, and takes no entry that is gone
+  pub claims_of_gone_entries_by_their_ids : IsPlayed (
+      at 1 (codes "XADD s 1-0 f v") (id 1 0) ∷
+      at 1 (codes "XADD s 2-0 f v") (id 2 0) ∷
+      at 1 (codes "XADD s 3-0 f v") (id 3 0) ∷
+      at 1 (codes "XGROUP CREATE s g 0") ok ∷
+      at 1 (codes "XREADGROUP GROUP g c STREAMS s >")
+      (array (stream (codes "s") (entry 1 0 ∷ entry 2 0 ∷ entry 3 0 ∷ []) ∷ [])) ∷
+      at 1 (codes "XDEL s 1-0 2-0") (Int 2) ∷
+      at 1 (codes "XCLAIM s g d 0 1-0 3-0 JUSTID") (array (id 3 0 ∷ [])) ∷
+      at 1 (codes "XAUTOCLAIM s g d 0 0 COUNT 1 JUSTID") (array (id 3 0 ∷ array [] ∷ array (id 2 0 ∷ []) ∷ [])) ∷
+      at 1 (codes "XPENDING s g")
+      (array (Int 1 ∷ id 3 0 ∷ id 3 0 ∷ array (array (name (codes "d") ∷ number 1 ∷ []) ∷ []) ∷ [])) ∷
+      [])
 
 pub record Lives : Type 0 where
   -- a consumer is removed
@@ -333,6 +347,106 @@ pub record Lives : Type 0 where
       at 3 (codes "XGROUP CREATE s g 0 MKSTREAM") (Error Busy) ∷
       at 3 (codes "XREADGROUP GROUP g d STREAMS s >") NullArray ∷
       at 3 (codes "XACK s g 1-0") (Int 1) ∷
+      [])
+
+-- what is left when the last one of something goes
+pub record Remains : Type 0 where
+  -- a stream stays without an entry, with its top
+  pub a_stream_without_an_entry : IsPlayed (
+      at 1 (codes "XADD s 5-0 f v") (id 5 0) ∷
+      at 1 (codes "XDEL s 5-0") (Int 1) ∷
+      at 1 (codes "XRANGE s - +") (array []) ∷
+      at 1 (codes "XADD s NOMKSTREAM 5-0 f v") (Error SmallId) ∷
+      at 1 (codes "XGROUP CREATE s g $") ok ∷
+      at 1 (codes "XADD s NOMKSTREAM 6-0 f v") (id 6 0) ∷
+      at 1 (codes "XTRIM s MAXLEN 0") (Int 1) ∷
+      at 1 (codes "XADD s NOMKSTREAM 6-0 f v") (Error SmallId) ∷
+      at 1 (codes "XREADGROUP GROUP g c STREAMS s >") NullArray ∷
+      at 1 (codes "XTRIM s MINID 9") (Int 0) ∷
+      at 1 (codes "DEL s") (Int 1) ∷
+      [])
+  pub a_stream_that_an_addition_trims : IsPlayed (
+      at 1 (codes "XADD s MAXLEN 0 5-0 f v") (id 5 0) ∷
+      at 1 (codes "XLEN s") (Int 0) ∷
+      at 1 (codes "XADD s NOMKSTREAM 5-0 f v") (Error SmallId) ∷
+      at 1 (codes "XGROUP CREATE s g 0") ok ∷
+      at 1 (codes "DEL s") (Int 1) ∷
+      [])
+  -- and without a group
+  pub a_stream_without_a_group : IsPlayed (
+      at 1 (codes "XGROUP CREATE s g $ MKSTREAM") ok ∷
+      at 1 (codes "XGROUP DESTROY s g") (Int 1) ∷
+      at 1 (codes "XGROUP DESTROY s g") (Int 0) ∷
+      at 1 (codes "XADD s NOMKSTREAM 1-0 f v") (id 1 0) ∷
+      at 1 (codes "XGROUP CREATE s g 0") ok ∷
+      at 1 (codes "XGROUP DESTROY s g") (Int 1) ∷
+      at 1 (codes "XRANGE s - +") (array (entry 1 0 ∷ [])) ∷
+      at 1 (codes "XDEL s 1-0") (Int 1) ∷
+      at 1 (codes "DEL s") (Int 1) ∷
+      at 1 (codes "DEL s") (Int 0) ∷
+      [])
+  -- a group stays without a consumer, with its cursor
+  pub a_group_without_a_consumer : IsPlayed (
+      at 1 (codes "XADD s 1-0 f v") (id 1 0) ∷
+      at 1 (codes "XGROUP CREATE s g 0") ok ∷
+      at 2 (codes "XREADGROUP GROUP g c STREAMS s >") (array (stream (codes "s") (entry 1 0 ∷ []) ∷ [])) ∷
+      at 2 (codes "XGROUP DELCONSUMER s g c") (Int 1) ∷
+      at 2 (codes "XGROUP DELCONSUMER s g c") (Int 0) ∷
+      at 2 (codes "XPENDING s g") (array (Int 0 ∷ NullBulk ∷ NullBulk ∷ NullArray ∷ [])) ∷
+      at 2 (codes "XGROUP CREATE s g 0") (Error Busy) ∷
+      at 2 (codes "XREADGROUP GROUP g d STREAMS s >") NullArray ∷
+      at 2 (codes "XGROUP DESTROY s g") (Int 1) ∷
+      [])
+  -- a consumer stays without a pending entry
+  pub a_consumer_without_a_row : IsPlayed (
+      at 1 (codes "XADD s 1-0 f v") (id 1 0) ∷
+      at 1 (codes "XADD s 2-0 f v") (id 2 0) ∷
+      at 1 (codes "XGROUP CREATE s g 0") ok ∷
+      at 2 (codes "XREADGROUP GROUP g c COUNT 1 STREAMS s >") (array (stream (codes "s") (entry 1 0 ∷ []) ∷ [])) ∷
+      at 2 (codes "XACK s g 1-0") (Int 1) ∷
+      at 2 (codes "XGROUP CREATECONSUMER s g c") (Int 0) ∷
+      at 2 (codes "XREADGROUP GROUP g d COUNT 1 STREAMS s >") (array (stream (codes "s") (entry 2 0 ∷ []) ∷ [])) ∷
+      at 2 (codes "XCLAIM s g c 0 2-0 JUSTID") (array (id 2 0 ∷ [])) ∷
+      at 2 (codes "XGROUP CREATECONSUMER s g d") (Int 0) ∷
+      at 2 (codes "XDEL s 2-0") (Int 1) ∷
+      at 2 (codes "XAUTOCLAIM s g d 0 0") (array (id 0 0 ∷ array [] ∷ array (id 2 0 ∷ []) ∷ [])) ∷
+      at 2 (codes "XGROUP CREATECONSUMER s g c") (Int 0) ∷
+      at 2 (codes "XGROUP CREATE s g 0") (Error Busy) ∷
+      [])
+  -- the others stay
+  pub the_other_group : IsPlayed (
+      at 1 (codes "XADD s 1-0 f v") (id 1 0) ∷
+      at 1 (codes "XGROUP CREATE s g 0") ok ∷
+      at 1 (codes "XGROUP CREATE s h 0") ok ∷
+      at 2 (codes "XREADGROUP GROUP h c STREAMS s >") (array (stream (codes "s") (entry 1 0 ∷ []) ∷ [])) ∷
+      at 2 (codes "XGROUP DESTROY s g") (Int 1) ∷
+      at 2 (codes "XPENDING s g") (Error NoGroup) ∷
+      at 2 (codes "XACK s h 1-0") (Int 1) ∷
+      [])
+  pub the_other_consumer : IsPlayed (
+      at 1 (codes "XADD s 1-0 f v") (id 1 0) ∷
+      at 1 (codes "XADD s 2-0 f v") (id 2 0) ∷
+      at 1 (codes "XGROUP CREATE s g 0") ok ∷
+      at 2 (codes "XREADGROUP GROUP g c COUNT 1 STREAMS s >") (array (stream (codes "s") (entry 1 0 ∷ []) ∷ [])) ∷
+      at 2 (codes "XREADGROUP GROUP g d STREAMS s >") (array (stream (codes "s") (entry 2 0 ∷ []) ∷ [])) ∷
+      at 2 (codes "XGROUP DELCONSUMER s g c") (Int 1) ∷
+      at 2 (codes "XPENDING s g")
+      (array (Int 1 ∷ id 2 0 ∷ id 2 0 ∷ array (array (name (codes "d") ∷ number 1 ∷ []) ∷ []) ∷ [])) ∷
+      at 2 (codes "XGROUP CREATECONSUMER s g d") (Int 0) ∷
+      at 2 (codes "XGROUP CREATECONSUMER s g c") (Int 1) ∷
+      [])
+  -- what asks a missing key doesn't make it
+  pub no_key_by_an_ask : IsPlayed (
+      at 1 (codes "XDEL s 1") (Int 0) ∷
+      at 1 (codes "XTRIM s MAXLEN 0") (Int 0) ∷
+      at 1 (codes "XACK s g 1") (Int 0) ∷
+      at 1 (codes "XREADGROUP GROUP g c STREAMS s >") (Error NoGroup) ∷
+      at 1 (codes "XCLAIM s g c 0 1") (Error NoGroup) ∷
+      at 1 (codes "XAUTOCLAIM s g c 0 0") (Error NoGroup) ∷
+      at 1 (codes "XPENDING s g") (Error NoGroup) ∷
+      at 1 (codes "XGROUP DELCONSUMER s g c") (Error NoKey) ∷
+      at 1 (codes "XLEN s") (Int 0) ∷
+      at 1 (codes "DEL s") (Int 0) ∷
       [])
 
 pub record Reads : Type 0 where

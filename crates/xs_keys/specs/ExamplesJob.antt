@@ -158,6 +158,7 @@ pub record Arrows : Type 0 where
   pub by_a_deletion : LeadsIt (codes "XDEL s 2-0 1-0") waiting dropped
   pub by_a_trim : LeadsIt (codes "XTRIM s MINID 2") waiting dropped
   pub by_an_addition_that_trims : LeadsIt (codes "XADD s MAXLEN 1 * f v") waiting dropped
+  pub by_an_addition_that_trims_below : LeadsIt (codes "XADD s MINID 2 * f v") waiting dropped
   pub by_a_read : LeadsIt read_by_c waiting with_c
   pub by_a_read_of_two : LeadsIt (codes "XREADGROUP GROUP g c STREAMS t s > >") waiting with_c
   pub by_a_read_with_noack : LeadsIt (codes "XREADGROUP GROUP g c NOACK STREAMS s >") waiting handed_out
@@ -175,6 +176,7 @@ pub record NoArrows : Type 0 where
   pub kept_by_a_trim : LeadsIt (codes "XTRIM s MAXLEN 1") waiting dropped → ⊥
   pub at_the_least_id : LeadsIt (codes "XTRIM s MINID 1") waiting dropped → ⊥
   pub kept_beside_an_addition : LeadsIt (codes "XADD s MAXLEN 2 * f v") waiting dropped → ⊥
+  pub at_the_least_id_of_an_addition : LeadsIt (codes "XADD s MINID 1 * f v") waiting dropped → ⊥
   pub an_addition_alone : LeadsIt (codes "XADD s * f v") waiting dropped → ⊥
   pub read_by_another : LeadsIt (codes "XREADGROUP GROUP g d STREAMS s >") waiting with_c → ⊥
   pub read_with_noack : LeadsIt (codes "XREADGROUP GROUP g c NOACK STREAMS s >") waiting with_c → ⊥

@@ -14,6 +14,7 @@ pub mod ContentAfter
 pub mod ReplyParts
 pub mod Reply
 pub mod Step
+pub mod Waiting
 pub mod Telling
 pub mod ReadsTell
 pub mod RepliesTell
@@ -42,3 +43,4 @@ pub mod ExamplesReplies
 pub mod ExamplesTelling
 pub mod ExamplesJob
 pub mod ExamplesPresence
+pub mod ExamplesWaiting

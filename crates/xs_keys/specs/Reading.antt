@@ -1,5 +1,5 @@
 -- What the contracts of reads of groups say within the code.
-use Rattle.std.specs.Prelude.{◌≡◌, ℕ, List, [], ◌∷◌, ◌++◌, length, Some}
+use Rattle.std.specs.Prelude.{◌≡◌, ℕ, ◌==◌, List, [], ◌∷◌, ◌++◌, length, Option, Some, None, if◌then◌else◌}
 use Rattle.std.specs.List.{flat_map}
 use Rattle.xs_resp.specs.Token.{Token}
 use Rattle.xs_resp.specs.ReplyItems.{tokens_of}
@@ -61,3 +61,8 @@ AreMade group reads [] first last = last ≡ first
 AreMade group [] (d ∷ ds) first last = ⊥
 AreMade group (one ∷ more) (d ∷ ds) first last =
     (next : Content) × IsMadeAt group one.key first next d × AreMade group more ds next last
+
+-- a limit of one, unless the limit is zero
+abbrev pub at_most_one : Option ℕ → Option ℕ
+at_most_one None = Some 1
+at_most_one (Some n) = if n == 0 then Some 0 else Some 1

@@ -1,7 +1,7 @@
 //! Examples of what clients see, computed from the definitions of the model.
 #![tactic(auto, unfolding(crate::proofs::Computing::example_functions))]
 
-ghost use Rattle.xs_keys.specs.Examples.{Streams, Words, Deliveries, Claims, Lives, Reads, Reports, Edges};
+ghost use Rattle.xs_keys.specs.Examples.{Streams, Words, Deliveries, Claims, Lives, Remains, Reads, Reports, Edges};
 ghost use Rattle.xs_keys.specs.ExamplesHistory as history;
 ghost use Rattle.xs_keys.specs.ExamplesGroupEvents as group_events;
 ghost use Rattle.xs_keys.specs.ExamplesAsks as asked;
@@ -11,6 +11,7 @@ ghost use Rattle.xs_keys.specs.ExamplesJob as job;
 ghost use Rattle.xs_keys.specs.ExamplesPresence as presence;
 ghost use Rattle.xs_keys.specs.ExamplesReplies.{ToldAdditions, ToldReads, ToldClaims, ToldNumbers};
 ghost use Rattle.xs_keys.specs.ExamplesTelling as telling;
+ghost use Rattle.xs_keys.specs.ExamplesWaiting as waiting;
 
 /// Ids, ranges and trims.
 pub fn streams()
@@ -35,6 +36,11 @@ pub fn claims()
 /// Consumers, groups and keys that end, and begin again.
 pub fn lives()
     ensures { Lives }
+{}
+
+/// What is left when the last one of something goes.
+pub fn remains()
+    ensures { Remains }
 {}
 
 /// Reads without pending, and of several streams.
@@ -202,6 +208,11 @@ pub fn removals_from_a_stream()
     ensures { presence.Removals }
 {}
 
+/// What may begin the life of a job.
+pub fn beginnings_of_a_job()
+    ensures { presence.Beginnings }
+{}
+
 /// What makes a group.
 pub fn creations_of_a_group()
     ensures { presence.Creations }
@@ -215,4 +226,19 @@ pub fn lasting_lives()
 /// Which entries stand where.
 pub fn books_of_a_group()
     ensures { job.Books }
+{}
+
+/// Which reads find nothing.
+pub fn reads_that_find_nothing()
+    ensures { waiting.NothingNew }
+{}
+
+/// When the reply is the null array.
+pub fn null_replies()
+    ensures { waiting.NullReplies }
+{}
+
+/// How long a command may wait.
+pub fn blocks()
+    ensures { waiting.Blocks }
 {}

@@ -14,7 +14,7 @@ use crate::{
 };
 use std::alloc::{AllocError, Global};
 use std::marker::Model;
-use xs_command::Command;
+use xs_command::{Command, ReadGroupCommand};
 use xs_resp::{Fault, Reply, Simple};
 use xs_stream::Moment;
 
@@ -41,6 +41,9 @@ impl Model for Keyspace {
 }
 
 impl Keyspace {
+    ghost use Rattle.std.specs.Prelude.{false};
+    ghost use Rattle.xs_keys.specs.Waiting.{IsAnsweredNull, IsAnsweredOtherwise};
+
     /// The empty keyspace. It takes no memory.
     pub fn new(alloc: Global) -> Self
         ensures { result ≡ map.empty }
@@ -71,6 +74,16 @@ impl Keyspace {
         ensures { Step self.old now command result self.new }
     {
         self.apply(now, &command)
+    }
+
+    /// Whether the reply to a read would be the null array, so that the read may wait.
+    #[tactic(auto, using(crate::proofs::NothingNew::answers))]
+    pub fn finds_nothing(&self, read: &ReadGroupCommand) -> Result<bool, AllocError>
+        ensures null { IfOk result (λ nothing. nothing ≡ true → IsAnsweredNull self.now (Command.ReadGroup read.now)) }
+        ensures other { IfOk result (λ nothing. nothing ≡ false
+            → IsAnsweredOtherwise self.now (Command.ReadGroup read.now)) }
+    {
+        xreadgroup::finds_nothing(&self.keys, self.alloc, read)
     }
 
     /// Applies commands at their moments, in order. A refusal means that nothing was applied; a command

@@ -1,5 +1,5 @@
 //! XREADGROUP.
-ghost use Rattle.std.specs.Prelude.{◌≡◌, ◌++◌, true, is_some, map, IfOk, OnOk, OnErr};
+ghost use Rattle.std.specs.Prelude.{◌≡◌, ◌++◌, ◌==◌, true, is_some, map, length, IfOk, OnOk, OnErr};
 ghost use Rattle.std.specs.List.{flat_map};
 ghost use Rattle.xs_bytes.specs.SortedMap.{get};
 ghost use Rattle.xs_stream.specs.StreamContent.{ids_of};
@@ -10,8 +10,10 @@ ghost use Rattle.xs_keys.specs.ContentAfter.{group_after, group_in, has_all_grou
 ghost use Rattle.xs_resp.specs.ReplyItems.{tokens_of};
 ghost use Rattle.xs_keys.specs.ReplyParts.{array_or_null, entry_reply, stream_part};
 ghost use Rattle.xs_keys.specs.Reply.{parts};
-ghost use Rattle.xs_keys.specs.Reading.{ids_shown, part_of, IsShown, IsServedAt, IsMadeAt, AreMade};
+ghost use Rattle.xs_keys.specs.Reading.{ids_shown, part_of, IsShown, IsServedAt, IsMadeAt, AreMade, at_most_one};
 ghost use Rattle.xs_keys.specs.Step.{Step};
+ghost use Rattle.xs_keys.specs.Waiting.{finds_none_in, finds_nothing};
+ghost use Rattle.xs_group.specs.GroupState.{new_ids};
 
 use crate::keys::{Keys, group_at};
 use crate::showing::{ENTRY_TOKENS, push_along};
@@ -20,7 +22,7 @@ use xs_bytes::Bytes;
 use xs_command::{Command, ReadFrom, ReadGroupCommand, ReadOne};
 use xs_group::{Delivery, DeliveryRow, Group};
 use xs_resp::{Fault, Replies, Reply, Tokens};
-use xs_stream::{Moment, Stream};
+use xs_stream::{Id, Moment, Stream};
 
 /// A read of one group: what takes it back, and how many parts of the reply it has, none or one.
 #[derive(Drop)]
@@ -225,4 +227,69 @@ pub fn read(keys: &mut Keys, alloc: Global, now: Moment, read: &ReadGroupCommand
         Ok(reply) => reply,
         Err(AllocError) => Reply::Error(Fault::Memory),
     }
+}
+
+/// One, unless the limit is zero: the first new entry says whether a read delivers any.
+fn at_most_one(limit: Option<u64>) -> Option<u64>
+    ensures { result ≡ at_most_one limit }
+{
+    let Some(count) = limit else {
+        return Some(1);
+    };
+    if count == 0 {
+        return Some(0);
+    }
+    Some(1)
+}
+
+/// Whether a read past this cursor would deliver nothing.
+#[tactic(auto, using(crate::proofs::NothingNew::first_decides))]
+fn has_none_past(
+    stream: &Stream,
+    alloc: Global,
+    cursor: Id,
+    limit: Option<u64>,
+) -> Result<bool, AllocError>
+    ensures { IfOk result (λ none. none ≡ (length (new_ids limit cursor (ids_of stream.now.entries)) == 0)) }
+{
+    let first = stream.past(alloc, cursor, at_most_one(limit))?;
+    Ok(first.is_empty())
+}
+
+/// Whether one key is read from `>`, the group is there, and nothing is new to it.
+fn finds_none(
+    keys: &Keys,
+    alloc: Global,
+    read: &ReadGroupCommand,
+    one: &ReadOne,
+) -> Result<bool, AllocError>
+    ensures { IfOk result (λ none. none ≡ finds_none_in read.now one.now (get keys.now one.now.key)) }
+{
+    let ReadFrom::New = one.from else {
+        return Ok(false);
+    };
+    let Some(slot) = keys.get(&one.key) else {
+        return Ok(false);
+    };
+    let Some(group) = slot.groups.get(&read.group) else {
+        return Ok(false);
+    };
+    has_none_past(&slot.stream, alloc, group.cursor(), read.limit)
+}
+
+/// Whether each key is read from `>`, each group is there, and nothing is new to any. Memory is taken only at a key that
+/// has something new.
+pub fn finds_nothing(
+    keys: &Keys,
+    alloc: Global,
+    read: &ReadGroupCommand,
+) -> Result<bool, AllocError>
+    ensures { IfOk result (λ nothing. nothing ≡ finds_nothing keys.now read.now) }
+{
+    for one in read.reads.as_slice() {
+        if !finds_none(keys, alloc, read, one)? {
+            return Ok(false);
+        }
+    }
+    Ok(true)
 }
