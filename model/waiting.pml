@@ -32,6 +32,9 @@ bool lane_sleeps[LANES], lane_token[LANES];
 /* Which lanes are at rest, by bits that the keeper stores, and which of them gave notice. */
 byte resting, notices;
 
+/* The word above the notices: there may be one. */
+bool noticed;
+
 /* The keeper has been dropped. */
 bool gone;
 
@@ -81,8 +84,8 @@ active proctype Keeper() {
         :: !is_last
         fi;
         if
-        :: atomic { notices != 0 -> lanes = lanes | notices; notices = 0 }; resting = ALL & ~lanes
-        :: notices == 0
+        :: atomic { noticed -> noticed = false }; atomic { lanes = lanes | notices; notices = 0 }; resting = ALL & ~lanes
+        :: !noticed
         fi;
         if
 #if WRONG == 3
@@ -122,7 +125,11 @@ active proctype Keeper() {
 /* Tells the keeper of a call, or of room for an answer. */
 inline give_notice() {
     if
-    :: atomic { resting & bit(lane) -> skip }; notices = notices | bit(lane)
+#if WRONG == 8
+    :: atomic { resting & bit(lane) -> skip }; noticed = true; notices = notices | bit(lane)
+#else
+    :: atomic { resting & bit(lane) -> skip }; notices = notices | bit(lane); noticed = true
+#endif
     :: !(resting & bit(lane))
     fi;
     if

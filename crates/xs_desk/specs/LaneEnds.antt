@@ -1,13 +1,15 @@
 -- A lane from the keeper's side.
-use Rattle.std.specs.Prelude.{◌≡◌, ℕ, ◌+◌, ◌^◌, ◌⊎◌, List, [], ◌∷◌, ◌++◌, length, map}
+use Rattle.std.specs.Prelude.{◌≡◌, ℕ, true, ◌+◌, ◌^◌, ◌⊎◌, List, [], ◌∷◌, ◌++◌, length, map, is_some}
+use mathlib.Core.List.{IsPrefix}
 use Rattle.rtrb.specs.Ring.{sent, received, known_items, known_free}
 use Rattle.xs_command.specs.declared.command.Command.{Command}
 use Rattle.xs_command.specs.WellFormed.{IsWellFormed}
 use Rattle.xs_keys.specs.Content.{Content}
 use Rattle.xs_keys.specs.Step.{Step}
+use Rattle.xs_keys.specs.Waiting.{block_of, IsAnsweredNull}
 use Rattle.xs_desk.specs.declared.answer.Answer.{Answer}
 use Rattle.xs_desk.specs.declared.lane_end.Look.{Look}
-use Rattle.xs_desk.specs.declared.lane_end.Look.TheVariants.{Idle, Served, Exhausted}
+use Rattle.xs_desk.specs.declared.lane_end.Look.TheVariants.{Idle, Blocked, Served, Exhausted}
 use Rattle.xs_desk.specs.declared.lane_end.LaneEnd.{LaneEnd}
 use Rattle.xs_desk.specs.History.{LaneOf, Desk}
 use Rattle.xs_desk.specs.Rings.{producer_ring, consumer_ring}
@@ -51,10 +53,24 @@ pub record Answers {C : Type 0} (gives : C → ℕ → C → Type 0) (old new : 
 -- what came of a look: nothing has changed, or one call was answered; or no further place is left
 abbrev pub Looks : {C : Type 0} → (C → ℕ → C → Type 0) → Look → Scene C → Scene C → Type 0
 Looks gives Idle old new = new ≡ old
+Looks gives (Blocked _) old new = new ≡ old
 Looks gives (Served _) old new = Answers gives old new
 Looks gives Exhausted old new = (new ≡ old) × (old.place + 1 ≡ 2 ^ 64)
 
--- a look that finds nothing saw no call, or no room for its answer
-abbrev pub FindsNothing : Look → LaneEnd → Type 0
-FindsNothing Idle lane_end = (length (known_items lane_end.calls) ≡ 0) ⊎ (known_free lane_end.answers ≡ 0)
-FindsNothing _ lane_end = Unit {0}
+-- the next of these calls is a read with BLOCK, which would now be answered with the null array
+abbrev pub MayWait : Content → List Command → Type 0
+MayWait content calls =
+    (command : Command) × IsPrefix (command ∷ []) calls × (is_some (block_of command) ≡ true)
+    × IsAnsweredNull content command
+
+-- a look that finds nothing saw no call, or no room for its answer; one that lets a call wait saw that it may
+abbrev pub FindsNothing : Look → Content → LaneEnd → Type 0
+FindsNothing Idle keyspace lane_end = (length (known_items lane_end.calls) ≡ 0) ⊎ (known_free lane_end.answers ≡ 0)
+FindsNothing (Blocked _) keyspace lane_end = MayWait keyspace (known_items lane_end.calls)
+FindsNothing _ keyspace lane_end = Unit {0}
+
+-- a call was served, or no place is left
+abbrev pub IsService : Look → Type 0
+IsService (Served _) = Unit {0}
+IsService Exhausted = Unit {0}
+IsService _ = ⊥

@@ -1,5 +1,5 @@
 -- A new desk, and why there is none.
-use Rattle.std.specs.Prelude.{◌≡◌, ℕ, ◌+◌, ◌<◌, ◌⊎◌, List, [], ◌∷◌}
+use Rattle.std.specs.Prelude.{◌≡◌, ℕ, ◌+◌, ◌<◌, ◌≤◌, ◌⊎◌, List, [], ◌∷◌}
 use Rattle.xs_desk.specs.declared.opening.DeskError.{DeskError}
 use Rattle.xs_desk.specs.declared.opening.DeskError.TheVariants.{Lanes, Depth, Memory}
 use Rattle.xs_desk.specs.History.{LaneOf}
@@ -22,15 +22,15 @@ AreNew k depth [] [] = Unit {0}
 AreNew k depth (lane ∷ lanes) (client ∷ clients) = IsNewLane k depth lane client × AreNew (k + 1) depth lanes clients
 AreNew k depth _ _ = ⊥
 
--- the numbers of lanes and of places that a desk may have
-abbrev pub IsLaneCount : ℕ → Type 0
-IsLaneCount n = (0 < n) × (n < 65)
+-- the numbers of lanes that a desk with at most so many may have, and the numbers of places
+abbrev pub IsLaneCount : ℕ → ℕ → Type 0
+IsLaneCount most n = (0 < n) × (n ≤ most)
 
 abbrev pub IsDepth : ℕ → Type 0
 IsDepth depth = (0 < depth) × (depth < 65537)
 
 -- the lanes are too many or none; else the places are; else memory ran out
-abbrev pub IsDeskError : ℕ → ℕ → DeskError → Type 0
-IsDeskError n depth Lanes = (n ≡ 0) ⊎ (64 < n)
-IsDeskError n depth Depth = IsLaneCount n × ((depth ≡ 0) ⊎ (65536 < depth))
-IsDeskError n depth Memory = IsLaneCount n × IsDepth depth
+abbrev pub IsDeskError : ℕ → ℕ → ℕ → DeskError → Type 0
+IsDeskError most n depth Lanes = (n ≡ 0) ⊎ (most < n)
+IsDeskError most n depth Depth = IsLaneCount most n × ((depth ≡ 0) ⊎ (65536 < depth))
+IsDeskError most n depth Memory = IsLaneCount most n × IsDepth depth

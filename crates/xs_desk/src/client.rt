@@ -9,6 +9,7 @@ use std::alloc::Global;
 use std::marker::Model;
 use std::sync::atomic::{AtomicBool, Ordering};
 use std::sync::{Arc, Wait};
+use std::time::{Clock, Duration};
 use xs_command::Command;
 
 /// There is no room for the command, or no further ticket. It hands the command back.
@@ -141,6 +142,21 @@ impl Client {
     /// at once, for another `take`.
     pub fn idle<R: Wait>(&self, rt: &R) {
         self.backoff.snooze(rt);
+    }
+
+    /// Whether `idle` waits for the keeper now, and doesn't come back at once.
+    pub fn will_sleep(&self) -> bool {
+        self.backoff.may_sleep()
+    }
+
+    /// Waits as `idle` does, and no longer than this time. It says whether it has waited so long.
+    pub fn idle_for<R: Wait + Clock>(&self, rt: &R, time: Duration) -> bool {
+        self.backoff.snooze_for(rt, time)
+    }
+
+    /// Lets none of the calls made so far wait any longer: the keeper answers those that do as if their time were over.
+    pub fn hurry(&self) {
+        self.registration.hurry(self.ticket);
     }
 
     /// Whether the keeper is gone. Where it is, and a `take` after that gives nothing, no answer comes any more.

@@ -4,14 +4,15 @@ ghost use Rattle.xs_desk.specs.KeeperTurns.{HasPlaces, Turns};
 ghost use Rattle.xs_desk.specs.LaneEnds.{desk_of};
 
 use crate::lane_end::{LaneEnd, Look};
-use crate::poll_set::PollSet;
-use crate::waiting::{Backoff, Waker};
+use crate::schedule::{Schedule, Span};
+use crate::waiting::Waker;
 use std::alloc::AllocError;
 use std::marker::Model;
 use std::snapshot::Snapshot;
 use std::sync::atomic::{AtomicBool, Ordering};
 use std::sync::{Arc, Wait};
 use std::thread::Promise;
+use std::time;
 use thiserror::Error;
 use xs_keys::{Clock, Keyspace};
 
@@ -29,8 +30,7 @@ pub struct Keeper {
     lane_ends: Vec<LaneEnd>,
     keyspace: Keyspace,
     place: u64,
-    poll_set: PollSet,
-    backoff: Backoff,
+    schedule: Schedule,
     // Set once nobody is served any more.
     gone: Arc<AtomicBool>,
 }
@@ -56,8 +56,7 @@ impl Drop for Keeper {
             lane_ends,
             keyspace: _keyspace,
             place: _,
-            poll_set: _awake,
-            backoff: _sleeper,
+            schedule: _schedule,
             gone,
         } = self;
         say_gone(&lane_ends, &gone);
@@ -83,14 +82,14 @@ fn say_gone(lane_ends: &Vec<LaneEnd>, gone: &Arc<AtomicBool>) {
     }
 }
 
-/// Looks once at each lane that isn't at rest, in order.
+/// Looks once at each lane of the span that is looked at, in order, up to one that has served what others wait for.
 fn serve_each<C: Clock>(
     lane_ends: &mut Vec<LaneEnd>,
-    poll_set: &mut PollSet,
-    backoff: &mut Backoff,
+    schedule: &mut Schedule,
     keyspace: &mut Keyspace,
     place: &mut u64,
     clock: &mut C,
+    span: Span,
 ) -> Result<u64, KeeperError>
     requires { HasPlaces (desk_of lane_ends.old.items keyspace.old place.old) }
     ensures { MatchResult result
@@ -101,24 +100,20 @@ fn serve_each<C: Clock>(
         (desk_of lane_ends.new.items keyspace.new place.new) clock.new × (place.new + 1 ≡ 2 ^ 64)) }
 {
     let mut served = 0;
-    // A bit for each lane to look at; the lowest is that of lane `next`, and those below it have had their turn.
-    let mut lanes = poll_set.begin_turn();
-    let mut next = 0;
-    while lanes != 0 {
-        let passed_over = lanes.trailing_zeros();
-        let k = next + passed_over as usize;
-        if k >= lane_ends.len() {
-            break;
-        }
-        lanes = lanes.wrapping_shr(passed_over) >> 1;
+    let mut end = span.end.min(lane_ends.len());
+    let mut next = span.from.min(end);
+    while let Some(k) = schedule.first_from(next, end.min(lane_ends.len())) {
         next = k + 1;
+        let manner = schedule.manner(&span);
         let lane_end = &mut lane_ends[k];
-        match lane_end.serve(keyspace, place, clock) {
+        match lane_end.serve(keyspace, place, clock, manner) {
             Look::Idle => {}
-            Look::Served(moment) => {
+            Look::Blocked(wish) => schedule.found_blocked(k, wish),
+            Look::Served(done) => {
                 served += 1;
-                poll_set.found(k);
-                backoff.found(moment);
+                if schedule.found_call(k, done, next) {
+                    end = next;
+                }
             }
             Look::Exhausted => return Err(KeeperError::Exhausted),
         }
@@ -137,8 +132,7 @@ impl Keeper {
     pub(crate) fn new(
         lane_ends: Vec<LaneEnd>,
         keyspace: Keyspace,
-        poll_set: PollSet,
-        backoff: Backoff,
+        schedule: Schedule,
         gone: Arc<AtomicBool>,
     ) -> Keeper
         requires { IsHistory [] (desk_of lane_ends.items keyspace 0) }
@@ -148,8 +142,7 @@ impl Keeper {
             lane_ends,
             keyspace,
             place: 0,
-            poll_set,
-            backoff,
+            schedule,
             gone,
         }
     }
@@ -177,14 +170,14 @@ impl Keeper {
         ensures rings { KeepsRings self.old self.new }
         ensures last { self.new.place < 2 ^ 64 }
     {
-        self.backoff.begin_look();
+        let span = self.schedule.begin_turn(self.lane_ends.len());
         let served = serve_each(
             &mut self.lane_ends,
-            &mut self.poll_set,
-            &mut self.backoff,
+            &mut self.schedule,
             &mut self.keyspace,
             &mut self.place,
             clock,
+            span,
         );
         // That the place is a number of 64 bits is known of it once it is read.
         let _place = self.place;
@@ -199,12 +192,50 @@ impl Keeper {
     /// After many such turns in a row it parks until a lane or a waker gives the keeper's token; before that it comes
     /// back at once, for another turn.
     pub fn idle<R: Wait>(&self, rt: &R) {
-        self.backoff.snooze(rt);
+        self.schedule.backoff.snooze(rt);
+    }
+
+    /// From now on a read with BLOCK that would be answered with the null array waits: it stays in its lane until it would
+    /// be answered otherwise, its time is over, or its client hurries it. Then `read_clock` has to come before each turn,
+    /// and `idle_until` in the place of `idle`.
+    pub fn let_wait(&mut self)
+        ensures { self.new ≡ self.old }
+    {
+        self.schedule.lets_wait = true;
+    }
+
+    /// Ends the waits whose time is over: the next turns serve those calls. It reads the clock only if a call waits.
+    pub fn read_clock<S: time::Clock>(&mut self, system: &S)
+        ensures { self.new ≡ self.old }
+    {
+        self.schedule.blocked.read_clock(system);
+    }
+
+    /// The lane whose call has waited, and which the next turn looks at alone since there may be something for it.
+    pub fn next_due(&self) -> Option<usize> {
+        match self.schedule.blocked.next_due() {
+            Some(due) if due.may_wait => Some(due.lane),
+            _ => None,
+        }
+    }
+
+    /// Lets others come before the lane that `next_due` gave: its client has left. Its call waits for a second more.
+    pub fn postpone<S: time::Clock>(&mut self, system: &S, lane: usize)
+        ensures { self.new ≡ self.old }
+    {
+        self.schedule.blocked.postpone(system, lane);
+    }
+
+    /// Waits as `idle` does, and no longer than up to the end of the first of the waits.
+    pub fn idle_until<R: Wait + time::Clock>(&self, rt: &R) {
+        self.schedule
+            .backoff
+            .snooze_until(rt, self.schedule.blocked.next_end());
     }
 
     /// What wakes this keeper.
     pub fn waker(&self) -> Result<Waker, AllocError> {
-        self.backoff.waker()
+        self.schedule.backoff.waker()
     }
 
     /// Takes the keeper apart, where nobody waits for it any more.
@@ -216,8 +247,7 @@ impl Keeper {
             lane_ends,
             keyspace,
             place: _,
-            poll_set: _awake,
-            backoff: _sleeper,
+            schedule: _schedule,
             gone: _gone,
         } = self;
         (lane_ends, keyspace)

@@ -11,14 +11,31 @@ use std::sync::Wait;
 use xs_command::Command;
 use xs_resp::Reply;
 
+/// How the client of a lane waits for an answer.
+pub trait Pause {
+    /// Waits after a look that has found no answer, and before the next one. It may come back at once.
+    fn pause<R: Wait>(&self, rt: &R, client: &Client);
+}
+
+/// It waits as `Client::idle` does.
+#[derive(Clone, Copy, Debug, PartialEq, Eq)]
+pub struct Idle;
+
+impl Pause for Idle {
+    fn pause<R: Wait>(&self, rt: &R, client: &Client) {
+        client.idle(rt);
+    }
+}
+
 /// The port of a client. Contracts see the client, and whether the keeper is known to be gone.
 #[derive(Drop)]
-pub struct Lane {
+pub struct Lane<P: Drop = Idle> {
     client: Client,
+    pause: P,
     gone: bool,
 }
 
-impl Model for Lane {
+impl<P: Drop> Model for Lane<P> {
     ghost use Rattle.xs_desk.specs.Asking.{Asker};
 
     ghost Value = { Asker };
@@ -26,15 +43,27 @@ impl Model for Lane {
     ghost view = { λ l. record { client = l.client; gone = l.gone } };
 }
 
-impl Lane {
+impl Lane<Idle> {
     ghost use Rattle.std.specs.Prelude.{◌≡◌, false};
 
     /// A port of this client. It takes no memory.
-    pub fn new(client: Client) -> Lane
+    pub fn new(client: Client) -> Lane<Idle>
+        ensures { result ≡ record { client = client; gone = false } }
+    {
+        Lane::with_pause(client, Idle)
+    }
+}
+
+impl<P: Drop> Lane<P> {
+    ghost use Rattle.std.specs.Prelude.{◌≡◌, false};
+
+    /// A port of this client, which waits so for an answer. It takes no memory.
+    pub fn with_pause(client: Client, pause: P) -> Lane<P>
         ensures { result ≡ record { client = client; gone = false } }
     {
         Lane {
             client,
+            pause,
             gone: false,
         }
     }
@@ -48,7 +77,11 @@ impl Lane {
 }
 
 /// The next answer, which it waits for.
-fn next_answer<R: Wait>(rt: &R, client: &mut Client) -> Result<Answer, PortFault>
+fn next_answer<P: Pause, R: Wait>(
+    rt: &R,
+    client: &mut Client,
+    pause: &P,
+) -> Result<Answer, PortFault>
     ensures { MatchResult result
         (λ answer. client.new ≡ record client.old { taken = client.old.taken ++ answer ∷ [] })
         (λ _. client.new ≡ client.old) }
@@ -61,7 +94,7 @@ fn next_answer<R: Wait>(rt: &R, client: &mut Client) -> Result<Answer, PortFault
         if gone {
             return Err(PortFault::Gone);
         }
-        client.idle(rt);
+        pause.pause(rt, client);
     }
     unreachable!()
 }
@@ -69,7 +102,12 @@ fn next_answer<R: Wait>(rt: &R, client: &mut Client) -> Result<Answer, PortFault
 /// Submits the command; while there is no room for it, it takes an older answer: with each of them a call has left its
 /// ring.
 #[tactic(auto, using(crate::proofs::Askings::steps))]
-fn submit<R: Wait>(rt: &R, client: &mut Client, command: Command) -> Result<u64, PortFault>
+fn submit<P: Pause, R: Wait>(
+    rt: &R,
+    client: &mut Client,
+    pause: &P,
+    command: Command,
+) -> Result<u64, PortFault>
     requires { IsWellFormed command }
     ensures { MatchResult result
         (λ ticket. (ticket ≡ length client.old.submitted) × Submits client.old command client.new)
@@ -81,19 +119,24 @@ fn submit<R: Wait>(rt: &R, client: &mut Client, command: Command) -> Result<u64,
             Ok(ticket) => return Ok(ticket),
             Err(Full(back)) => command = back,
         }
-        let _older = next_answer(rt, client)?;
+        let _older = next_answer(rt, client, pause)?;
     }
     unreachable!()
 }
 
 /// Takes answers up to the one with the ticket.
 #[tactic(auto, using(crate::proofs::Askings::steps))]
-fn receive<R: Wait>(rt: &R, client: &mut Client, ticket: u64) -> Result<Reply, PortFault>
+fn receive<P: Pause, R: Wait>(
+    rt: &R,
+    client: &mut Client,
+    pause: &P,
+    ticket: u64,
+) -> Result<Reply, PortFault>
     ensures { MatchResult result (λ reply. Receives client.old ticket reply client.new)
         (λ _. Takes client.old client.new) }
 {
     for _ in rt.forever() {
-        let answer = next_answer(rt, client)?;
+        let answer = next_answer(rt, client, pause)?;
         if answer.ticket == ticket {
             return Ok(answer.reply);
         }
@@ -101,16 +144,21 @@ fn receive<R: Wait>(rt: &R, client: &mut Client, ticket: u64) -> Result<Reply, P
     unreachable!()
 }
 
-fn ask_of<R: Wait>(rt: &R, client: &mut Client, command: Command) -> Result<Reply, PortFault>
+fn ask_of<P: Pause, R: Wait>(
+    rt: &R,
+    client: &mut Client,
+    pause: &P,
+    command: Command,
+) -> Result<Reply, PortFault>
     requires { IsWellFormed command }
     ensures { MatchResult result (λ reply. Asks client.old command reply client.new)
         (λ _. AskFails client.old command client.new) }
 {
-    let ticket = submit(rt, client, command)?;
-    receive(rt, client, ticket)
+    let ticket = submit(rt, client, pause, command)?;
+    receive(rt, client, pause, ticket)
 }
 
-impl Port for Lane {
+impl<P: Pause + Drop> Port for Lane<P> {
     ghost use Rattle.xs_desk.specs.Asking.{Asks, AskFails};
 
     ghost replies = { λ old command reply new. Asks old.client command reply new.client };
@@ -120,7 +168,7 @@ impl Port for Lane {
     ghost gone = { λ lane. lane.gone };
 
     fn ask<R: Wait>(&mut self, rt: &R, command: Command) -> Result<Reply, PortFault> {
-        let asked = ask_of(rt, &mut self.client, command);
+        let asked = ask_of(rt, &mut self.client, &self.pause, command);
         if asked.is_err() {
             self.gone = true;
         }

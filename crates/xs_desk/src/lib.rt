@@ -5,16 +5,19 @@
 
 pub mod alone;
 pub mod answer;
+mod blocked;
 mod call_rate;
 pub mod client;
 pub mod closing;
 pub mod keeper;
 pub mod lane;
 mod lane_end;
+mod lane_set;
 pub mod laws;
 pub mod opening;
 mod poll_set;
 pub mod port;
+mod schedule;
 pub mod summary;
 mod waiting;
 
@@ -23,8 +26,8 @@ pub use answer::{Answer, next_place};
 pub use client::{Client, Ended, Full};
 pub use closing::{CloseError, close};
 pub use keeper::{Keeper, KeeperError, SameRings};
-pub use lane::Lane;
-pub use opening::{DeskError, desk};
+pub use lane::{Idle, Lane, Pause};
+pub use opening::{DeskError, desk, wide_desk};
 pub use port::{Port, PortFault};
 pub use summary::{LaneSummary, Summary};
 pub use waiting::Waker;

@@ -5,15 +5,17 @@ ghost use Rattle.xs_desk.specs.LaneEnds.{lane_of};
 ghost use Rattle.xs_desk.specs.Opening.{AreNew, IsNewLane, IsDeskError, IsLaneCount, IsDepth};
 
 use crate::answer::{Answer, Formed};
+use crate::blocked::BlockedCalls;
 use crate::client::Client;
 use crate::keeper::Keeper;
 use crate::lane_end::LaneEnd;
 use crate::poll_set::PollSet;
+use crate::schedule::Schedule;
 use crate::waiting::Backoff;
 use rtrb::RingBuffer;
 use std::alloc::{AllocError, Global};
 use std::sync::Arc;
-use std::sync::atomic::AtomicBool;
+use std::sync::atomic::{AtomicBool, AtomicU64};
 use thiserror::Error;
 use xs_command::Command;
 use xs_keys::Keyspace;
@@ -21,14 +23,17 @@ use xs_keys::Keyspace;
 /// The most lanes of a desk.
 pub const MAX_LANES: usize = 64;
 
+/// The most lanes of a wide desk.
+pub const MOST_LANES: usize = 1024;
+
 /// The most places of a ring.
 pub const MAX_DEPTH: usize = 65_536;
 
 /// Why no desk was made. The first that holds is told.
 #[derive(Clone, Copy, Debug, PartialEq, Eq, Error)]
 pub enum DeskError {
-    /// There are 1 to 64 lanes.
-    #[error("a desk has 1 to 64 lanes")]
+    /// There are 1 to 64 lanes, or 1 to 1024 of a wide desk.
+    #[error("a desk has 1 to 64 lanes, a wide one 1 to 1024")]
     Lanes,
     /// There are 1 to 65536 places.
     #[error("a ring has 1 to 65536 places")]
@@ -53,21 +58,17 @@ fn open_lane(
     let (answers, from_keeper) = RingBuffer::<Answer>::new(alloc, depth)?;
     let backoff = Backoff::of_lane(alloc)?;
     let waker = backoff.waker()?;
+    let hurried = Arc::new(alloc, AtomicU64::new(0))?;
+    let registration = poll_set.register(lane, keeper.waker()?, Arc::try_clone(&hurried)?)?;
     let lane_end = LaneEnd {
         calls,
         answers,
         ticket: 0,
         waker,
+        hurried,
     };
     let gone = Arc::try_clone(gone)?;
-    let client = Client::new(
-        lane,
-        to_keeper,
-        from_keeper,
-        poll_set.register(lane, keeper.waker()?)?,
-        backoff,
-        gone,
-    );
+    let client = Client::new(lane, to_keeper, from_keeper, registration, backoff, gone);
     Ok((lane_end, client))
 }
 
@@ -99,25 +100,47 @@ fn open_desk(alloc: Global, count: usize, depth: usize) -> Result<(Keeper, Vec<C
 {
     let backoff = Backoff::of_keeper(alloc)?;
     let gone = Arc::new(alloc, AtomicBool::new(false))?;
-    let mut poll_set = PollSet::new(alloc)?;
+    let mut poll_set = PollSet::new(alloc, count)?;
+    let blocked = BlockedCalls::new(alloc, count)?;
     let (lane_ends, clients) = open_lanes(alloc, count, depth, &mut poll_set, &backoff, &gone)?;
+    let schedule = Schedule {
+        poll_set,
+        blocked,
+        backoff,
+        lets_wait: false,
+    };
     Ok((
-        Keeper::new(lane_ends, Keyspace::new(alloc), poll_set, backoff, gone),
+        Keeper::new(lane_ends, Keyspace::new(alloc), schedule, gone),
         clients,
     ))
 }
 
-/// A desk with an empty keyspace and n lanes, each with as many places for calls, and for answers, as `depth` says; and
-/// the client of each lane, in the order of their numbers. It makes all that rings and waiting need.
+/// A desk of 1 to 64 lanes, as `wide_desk` makes it.
 ///
 /// # Errors
 /// A `DeskError`.
 pub fn desk(alloc: Global, n: usize, depth: usize) -> Result<(Keeper, Vec<Client>), DeskError>
     ensures new { IfOk result
         (λ r. AreNew 0 depth r.0.lanes r.1.items × (length r.0.lanes ≡ n) × (r.0.keyspace ≡ empty) × (r.0.place ≡ 0)) }
-    ensures cause { MatchResult result (λ _. IsLaneCount n × IsDepth depth) (IsDeskError n depth) }
+    ensures cause { MatchResult result (λ _. IsLaneCount 64 n × IsDepth depth) (IsDeskError 64 n depth) }
 {
-    if n == 0 || n > MAX_LANES {
+    if n > MAX_LANES {
+        return Err(DeskError::Lanes);
+    }
+    wide_desk(alloc, n, depth)
+}
+
+/// A desk with an empty keyspace and n lanes, 1 to 1024, each with as many places for calls, and for answers, as `depth`
+/// says; and the client of each lane, in the order of their numbers. It makes all that rings and waiting need.
+///
+/// # Errors
+/// A `DeskError`.
+pub fn wide_desk(alloc: Global, n: usize, depth: usize) -> Result<(Keeper, Vec<Client>), DeskError>
+    ensures new { IfOk result
+        (λ r. AreNew 0 depth r.0.lanes r.1.items × (length r.0.lanes ≡ n) × (r.0.keyspace ≡ empty) × (r.0.place ≡ 0)) }
+    ensures cause { MatchResult result (λ _. IsLaneCount 1024 n × IsDepth depth) (IsDeskError 1024 n depth) }
+{
+    if n == 0 || n > MOST_LANES {
         return Err(DeskError::Lanes);
     }
     if depth == 0 || depth > MAX_DEPTH {

@@ -7,9 +7,15 @@
 //!
 //! Nothing is missed, since all loads and stores have one order: before the last looks of a round the keeper stores
 //! which lanes are at rest unless these looks find a call; a client pushes or takes something, and then loads that.
-//! Where the keeper's look came before the push, so did its store: the client finds the lane at rest, and gives notice
-//! before its call ends. Where the look came after the push, it has found what was pushed.
-use crate::opening::MAX_LANES;
+//! If the keeper's look came before the push, so did its store: the client finds the lane at rest, and gives notice
+//! before its call ends. If the look came after the push, it has found what was pushed.
+//!
+//! Notices have two levels, so that a turn reads one word if there are none: a client sets its lane's bit in a word of
+//! notices, then that word's bit in the word above; the keeper takes the word above first. So a bit below that it
+//! doesn't take has, or gets, its bit above.
+ghost use Rattle.std.specs.Prelude.{◌≤◌, ◌<◌, ◌^◌, IfSome};
+
+use crate::lane_set::{LaneSet, bit_of, word_of};
 use crate::waiting::Waker;
 use std::alloc::{AllocError, Global};
 use std::sync::Arc;
@@ -19,71 +25,89 @@ use std::sync::atomic::{AtomicU64, Ordering};
 /// after it, which looks a last time.
 const ROUND: u32 = 64;
 
-// Each lane has a bit of a word.
-const _: () = prove!(MAX_LANES == 64);
-
-/// What the keeper and the clients tell each other: a bit for each lane, the lowest for lane 0.
+/// What the keeper and the clients of 64 lanes tell each other: a bit for each lane.
 #[derive(Drop)]
 struct Rests {
     // The lanes at rest; the keeper stores them.
     resting: AtomicU64,
-    // Those of them whose clients gave notice; the keeper takes them.
+    // The lanes whose clients gave notice; the keeper takes them.
     notices: AtomicU64,
 }
 
-/// The lanes that the keeper looks at, by their bits.
+/// What the keeper and all clients tell each other.
+#[derive(Drop)]
+struct Board {
+    rests: Vec<Rests>,
+    // A bit for each of the words of notices: some client has set a bit in it.
+    noticed: AtomicU64,
+}
+
+/// The lanes that the keeper looks at.
 #[derive(Drop)]
 pub(crate) struct PollSet {
-    lanes: u64,
+    lanes: LaneSet,
     // Those that had a call in this round.
-    used: u64,
+    used: LaneSet,
     // How many calls the round has had.
     calls: u32,
     // Whether the round ends with this turn.
     is_last: bool,
-    rests: Arc<Rests>,
+    board: Arc<Board>,
 }
 
 /// What the client of a lane tells the keeper by.
 #[derive(Drop)]
 pub(crate) struct Registration {
-    lane: u64,
-    rests: Arc<Rests>,
+    lane: usize,
+    board: Arc<Board>,
     // Wakes the keeper.
     waker: Waker,
-}
-
-/// The bit of a lane.
-fn bit_of(lane: usize) -> u64 {
-    1u64.wrapping_shl((lane % MAX_LANES) as u32)
+    // No call with a ticket below it waits; the keeper reads it.
+    hurried: Arc<AtomicU64>,
 }
 
 impl PollSet {
-    /// No lane is looked at.
-    pub fn new(alloc: Global) -> Result<PollSet, AllocError> {
-        let rests = Rests {
-            resting: AtomicU64::new(0),
-            notices: AtomicU64::new(0),
+    /// Room for so many lanes. None is looked at.
+    pub fn new(alloc: Global, lanes: usize) -> Result<PollSet, AllocError> {
+        let mut rests = Vec::new(alloc);
+        for _ in (0..lanes).step_by(64) {
+            rests.push(Rests {
+                resting: AtomicU64::new(0),
+                notices: AtomicU64::new(0),
+            })?;
+        }
+        let board = Board {
+            rests,
+            noticed: AtomicU64::new(0),
         };
         Ok(PollSet {
-            lanes: 0,
-            used: 0,
+            lanes: LaneSet::new(),
+            used: LaneSet::new(),
             calls: 0,
             is_last: false,
-            rests: Arc::new(alloc, rests)?,
+            board: Arc::new(alloc, board)?,
         })
     }
 
     /// What tells the keeper, whom this wakes, of a lane that is looked at from now on.
-    pub fn register(&mut self, lane: usize, waker: Waker) -> Result<Registration, AllocError> {
-        let rests = Arc::try_clone(&self.rests)?;
-        let lane = bit_of(lane);
-        self.lanes |= lane;
-        Ok(Registration { lane, rests, waker })
+    pub fn register(
+        &mut self,
+        lane: usize,
+        waker: Waker,
+        hurried: Arc<AtomicU64>,
+    ) -> Result<Registration, AllocError> {
+        let board = Arc::try_clone(&self.board)?;
+        self.lanes.insert(lane);
+        Ok(Registration {
+            lane,
+            board,
+            waker,
+            hurried,
+        })
     }
 
-    /// Begins a turn, and answers the lanes to look at in it.
-    pub fn begin_turn(&mut self) -> u64 {
+    /// Begins a turn over all lanes that are looked at.
+    pub fn begin_turn(&mut self) {
         if self.is_last {
             self.end_round();
         }
@@ -92,45 +116,89 @@ impl PollSet {
             self.is_last = true;
             self.let_rest_all_but(self.used);
         }
-        self.lanes
+    }
+
+    /// The first lane to look at that is at least `from` and below `end`.
+    pub fn first_from(&self, from: usize, end: usize) -> Option<usize>
+        requires { end < 2 ^ 63 }
+        ensures { IfSome result (λ lane. (from ≤ lane) × (lane < end)) }
+    {
+        self.lanes.first_from(from, end)
     }
 
     /// A look at the lane has found a call.
     pub fn found(&mut self, lane: usize) {
-        self.used |= bit_of(lane);
+        self.used.insert(lane);
         self.calls = self.calls.saturating_add(1);
+    }
+
+    /// The lane is looked at.
+    pub fn insert(&mut self, lane: usize) {
+        self.lanes.insert(lane);
+    }
+
+    /// The lane isn't looked at until it is inserted, or gives notice.
+    pub fn remove(&mut self, lane: usize) {
+        self.lanes.remove(lane);
     }
 
     fn end_round(&mut self) {
         self.lanes = self.used;
-        self.used = 0;
+        self.used = LaneSet::new();
         self.calls = 0;
         self.is_last = false;
         self.let_rest_all_but(self.lanes);
     }
 
     fn take_notices(&mut self) {
-        if self.rests.notices.load(Ordering::SeqCst) == 0 {
+        if self.board.noticed.load(Ordering::SeqCst) == 0 {
             return;
         }
-        let noticed = self.rests.notices.swap(0, Ordering::SeqCst);
-        self.lanes |= noticed;
-        self.let_rest_all_but(self.lanes);
+        let noticed = self.board.noticed.swap(0, Ordering::SeqCst);
+        for (place, rests) in self.board.rests.iter().enumerate() {
+            if noticed & bit_of(place) != 0 {
+                let bits = rests.notices.swap(0, Ordering::SeqCst);
+                self.lanes.insert_bits(place, bits);
+                rests
+                    .resting
+                    .store(!self.lanes.word(place), Ordering::SeqCst);
+            }
+        }
     }
 
-    fn let_rest_all_but(&self, lanes: u64) {
-        self.rests.resting.store(!lanes, Ordering::SeqCst);
+    fn let_rest_all_but(&self, lanes: LaneSet) {
+        for (place, rests) in self.board.rests.iter().enumerate() {
+            rests.resting.store(!lanes.word(place), Ordering::SeqCst);
+        }
     }
 }
 
 impl Registration {
-    /// Tells the keeper of a call, or of room for an answer, if it doesn't look. The bit comes before the waker: if
-    /// the keeper sleeps, the turn to which it wakes finds the bit; if it doesn't yet, the look after which it may
-    /// sleep comes later than the bit.
+    /// Tells the keeper of a call, or of room for an answer, if it doesn't look. The notice comes before the waker: if
+    /// the keeper sleeps, the turn to which it wakes finds the notice; if it doesn't yet, the look after which it may
+    /// sleep comes later than the notice.
     pub fn notify(&self) {
-        if self.rests.resting.load(Ordering::SeqCst) & self.lane != 0 {
-            self.rests.notices.fetch_or(self.lane, Ordering::SeqCst);
+        if let Some(rests) = self.board.rests.get(word_of(self.lane)) {
+            if rests.resting.load(Ordering::SeqCst) & bit_of(self.lane) != 0 {
+                self.give_notice(rests);
+            }
         }
         self.waker.wake_if_asleep();
+    }
+
+    /// Tells the keeper that no call with a ticket below this one waits, and to look at the lane.
+    pub fn hurry(&self, ticket: u64) {
+        self.hurried.store(ticket, Ordering::SeqCst);
+        if let Some(rests) = self.board.rests.get(word_of(self.lane)) {
+            self.give_notice(rests);
+        }
+        self.waker.wake_if_asleep();
+    }
+
+    fn give_notice(&self, rests: &Rests) {
+        rests.notices.fetch_or(bit_of(self.lane), Ordering::SeqCst);
+        self.board
+            .noticed
+            .fetch_or(bit_of(word_of(self.lane)), Ordering::SeqCst);
     }
 }

@@ -18,6 +18,7 @@ use crossbeam_utils::sync::{Parker, Unparker};
 use std::alloc::{AllocError, Global};
 use std::sync::atomic::{AtomicBool, Ordering};
 use std::sync::{Arc, Wait};
+use std::time::{Clock, Duration, Instant};
 use std::{hint, thread};
 use xs_stream::Moment;
 
@@ -116,7 +117,7 @@ impl Backoff {
     }
 
     /// Whether this is the look after which it parks.
-    fn may_sleep(&self) -> bool {
+    pub fn may_sleep(&self) -> bool {
         self.looks == self.last_look
     }
 
@@ -128,6 +129,28 @@ impl Backoff {
             thread::yield_now();
         } else {
             hint::spin_loop();
+        }
+    }
+
+    /// Waits as `snooze` does, for the token only up to the deadline, if there is one.
+    pub fn snooze_until<R: Wait + Clock>(&self, rt: &R, deadline: Option<Instant>) {
+        match deadline {
+            Some(deadline) if self.may_sleep() => self.parker.park_deadline(rt, deadline),
+            _ => self.snooze(rt),
+        }
+    }
+
+    /// Waits as `snooze` does, for the token only so long. It says whether so much time has passed.
+    pub fn snooze_for<R: Wait + Clock>(&self, rt: &R, time: Duration) -> bool {
+        if !self.may_sleep() {
+            self.snooze(rt);
+            return false;
+        }
+        let begin = Instant::now(rt);
+        self.parker.park_timeout(rt, time);
+        match begin {
+            Ok(begin) => begin.elapsed(rt).map_or(true, |passed| passed >= time),
+            Err(_) => true,
         }
     }
 }

@@ -10,7 +10,7 @@ use std::thread::Threads;
 use xs_command::Command;
 use xs_desk::{
     Answer, Client, CloseError, DeskError, Ended, Full, Keeper, KeeperError, Summary, Waker, close,
-    desk,
+    desk, wide_desk,
 };
 use xs_keys::Clock;
 
@@ -92,6 +92,12 @@ impl Trial {
 
     pub fn new(alloc: Global, lanes: usize, depth: usize) -> Result<Trial, DeskError> {
         let (keeper, clients) = desk(alloc, lanes, depth)?;
+        Ok(Trial { keeper, clients })
+    }
+
+    /// The same over a wide desk.
+    pub fn wide(alloc: Global, lanes: usize, depth: usize) -> Result<Trial, DeskError> {
+        let (keeper, clients) = wide_desk(alloc, lanes, depth)?;
         Ok(Trial { keeper, clients })
     }
 

@@ -82,3 +82,21 @@ fn a_free_place_ends_the_rest(rt: HostRuntime) -> Result<(), Fail> {
     assert!(rt; trial.take(1).is_some());
     Ok(())
 }
+
+// On a wide desk, whose lanes have bits in several words, each lane is served in the turn after its call.
+#[test]
+fn a_lane_of_a_wide_desk_is_served_at_once(rt: HostRuntime) -> Result<(), Fail> {
+    let alloc = rt.alloc();
+    let mut clock = Still::at(1000).ok_or("a moment")?;
+    let mut trial = Trial::wide(alloc, 1024, 1)?;
+    pass(&rt, &mut trial, &mut clock, 2, MANY);
+    for lane in [1023, 0, 63, 64, 127, 128, 960, 1023] {
+        let answer = trial.call(lane, &mut clock, Command::Ping(None));
+        assert!(rt; answer.is_some());
+    }
+    for lane in [64, 1023, 5] {
+        assert!(rt; trial.submit(lane, Command::Ping(None)).is_ok());
+    }
+    assert_eq!(rt; trial.turn(&mut clock), Ok(3));
+    Ok(())
+}

@@ -1,0 +1,90 @@
+//! Whom the keeper looks at, and when it sleeps. No promise rests on it.
+ghost use Rattle.std.specs.Prelude.{◌≤◌, ◌<◌, ◌^◌, IfSome};
+
+use crate::blocked::{BlockedCalls, Wish};
+use crate::lane_end::{Done, Manner};
+use crate::poll_set::PollSet;
+use crate::waiting::Backoff;
+
+/// Whom the keeper looks at, and when it sleeps.
+#[derive(Drop)]
+pub(crate) struct Schedule {
+    pub poll_set: PollSet,
+    pub blocked: BlockedCalls,
+    pub backoff: Backoff,
+    /// Whether calls wait at all.
+    pub lets_wait: bool,
+}
+
+/// Which lanes a turn looks at: those that are looked at anyway, from one on and below another.
+#[derive(Clone, Copy, Debug, PartialEq, Eq)]
+pub(crate) struct Span {
+    pub from: usize,
+    pub end: usize,
+    /// Whether their calls may wait.
+    pub may_wait: bool,
+}
+
+impl Schedule {
+    /// Begins a turn over a desk of so many lanes: over the lane whose call is due next, or over all, or over those that
+    /// were left out when the last turn was cut short. The keeper sleeps only after one over all.
+    pub fn begin_turn(&mut self, lanes: usize) -> Span {
+        self.backoff.begin_look();
+        if let Some(due) = self.blocked.take_due() {
+            self.backoff.begin_anew();
+            self.poll_set.insert(due.lane);
+            return Span {
+                from: due.lane,
+                end: due.lane.saturating_add(1),
+                may_wait: due.may_wait,
+            };
+        }
+        let mut from = self.blocked.take_start();
+        if from > 0 && from < lanes {
+            self.backoff.begin_anew();
+        } else {
+            from = 0;
+            self.poll_set.begin_turn();
+        }
+        Span {
+            from,
+            end: lanes,
+            may_wait: self.lets_wait,
+        }
+    }
+
+    /// The first lane to look at that is at least `from` and below `end`.
+    pub fn first_from(&self, from: usize, end: usize) -> Option<usize>
+        requires { end < 2 ^ 63 }
+        ensures { IfSome result (λ lane. (from ≤ lane) × (lane < end)) }
+    {
+        self.poll_set.first_from(from, end)
+    }
+
+    /// How a lane of this span is looked at.
+    pub fn manner(&self, span: &Span) -> Manner {
+        Manner {
+            may_wait: span.may_wait,
+            others_wait: !self.blocked.is_empty(),
+        }
+    }
+
+    /// A look has found that the call of this lane may wait. If it begins to, the keeper doesn't sleep before it has read
+    /// the clock, and looks at the lane again once the call is due, or the client gives notice.
+    pub fn found_blocked(&mut self, lane: usize, wish: Wish) {
+        if self.blocked.begin(lane, wish) {
+            self.backoff.begin_anew();
+        }
+        if self.blocked.has(lane) {
+            self.poll_set.remove(lane);
+        }
+    }
+
+    /// A call of this lane was served. It answers whether the turn is cut short, to go on at the next lane later: a call
+    /// that waits is due.
+    pub fn found_call(&mut self, lane: usize, done: Done, next: usize) -> bool {
+        self.poll_set.found(lane);
+        self.backoff.found(done.moment);
+        self.blocked.served(lane, done.touched, next)
+    }
+}
