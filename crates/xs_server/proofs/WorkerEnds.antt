@@ -1,11 +1,17 @@
 -- The ends that come back from the workers of a desk.
-use Rattle.std.specs.Prelude.{◌≡◌, ℕ, zero, suc, ◌+◌, ◌<◌, List, [], ◌∷◌, ◌++◌, length, map, slice_get, Some, refl}
+use Rattle.std.specs.Prelude.{◌≡◌, ℕ, zero, suc, ◌+◌, ◌<◌, ◌≤◌, List, [], ◌∷◌, ◌++◌, length, map, slice_get, Some, refl}
 use Rattle.std.proofs.Common.{inl, inr, sym, ◌∙◌, ap, subst, arith}
 use Rattle.std.proofs.lemmas.List.{length-map}
 use Rattle.xs_desk.specs.Callers.{Caller, HasEnd}
 use Rattle.xs_desk.specs.History.{LaneOf}
 use Rattle.xs_desk.specs.KeptRings.{KeepsSide, KeepSides}
 use Rattle.xs_desk.specs.Opening.{AreNew}
+use Rattle.xs_desk.specs.Opening.{IsDeskError}
+use Rattle.xs_desk.specs.declared.opening.DeskError.{DeskError}
+use Rattle.xs_desk.specs.declared.opening.DeskError.TheVariants as desk
+use Rattle.xs_server.specs.declared.work.fault.WorkFault.{WorkFault}
+use Rattle.xs_server.specs.declared.work.fault.WorkFault.TheVariants as work
+use Rattle.xs_server.specs.WorkOutcome.{IsWorkFault}
 use Rattle.xs_desk.proofs.Lists.{snoc-cases, still-at, last-at, some-at}
 
 pub sides-none : KeepSides [] []
@@ -46,3 +52,17 @@ all-there depth lanes clients ends new sides count k below =
 
 pub same-count : {A B X : Type 0} (f : A → X) (g : B → X) (xs : List A) (ys : List B) → map f xs ≡ map g ys → length xs ≡ length ys
 same-count f g xs ys same = sym (length-map xs f) ∙ ap length same ∙ length-map ys g
+
+-- what is amiss with as many gates as a desk may have is amiss with as few as there are
+fewer-desk : (depth : ℕ) (n : ℕ) (error : DeskError) → n ≤ 64 → IsDeskError 1024 n depth error → IsDeskError 64 n depth error
+fewer-desk depth n desk.Lanes few (inl none) = inl none
+fewer-desk depth n desk.Lanes few (inr many) = absurd (omega (arith, few, many))
+fewer-desk depth n desk.Depth few is = ((is.0.0, few), is.1)
+fewer-desk depth n desk.Memory few is = ((is.0.0, few), is.1)
+
+pub fewer_lanes : (depth : ℕ) (n : ℕ) (fault : WorkFault) → n ≤ 64 → IsWorkFault 1024 n depth fault → IsWorkFault 64 n depth fault
+fewer_lanes depth n (work.Desk error) few is = fewer-desk depth n error few is
+fewer_lanes depth n work.Start few is = ((is.0.0, few), is.1)
+fewer_lanes depth n work.Gate few is = ((is.0.0, few), is.1)
+fewer_lanes depth n work.Close few is = is
+fewer_lanes depth n work.Memory few is = ((is.0.0, few), is.1)

@@ -24,9 +24,9 @@ pub record IsClosed (n : ℕ) (summary : Summary) : Type 0 where
   pub runs : RunsOn empty (events_of history) (replies_of history) summary.keyspace
 
 -- there was no desk for so many lanes of so many places; or there was one, and something else was amiss
-abbrev pub IsWorkFault : ℕ → ℕ → WorkFault → Type 0
-IsWorkFault n depth (fault.Desk error) = IsDeskError n depth error
-IsWorkFault n depth fault.Start = IsLaneCount n × IsDepth depth
-IsWorkFault n depth fault.Gate = IsLaneCount n × IsDepth depth
-IsWorkFault n depth fault.Close = ⊥
-IsWorkFault n depth fault.Memory = IsLaneCount n × IsDepth depth
+abbrev pub IsWorkFault : ℕ → ℕ → ℕ → WorkFault → Type 0
+IsWorkFault most n depth (fault.Desk error) = IsDeskError most n depth error
+IsWorkFault most n depth fault.Start = IsLaneCount most n × IsDepth depth
+IsWorkFault most n depth fault.Gate = IsLaneCount most n × IsDepth depth
+IsWorkFault most n depth fault.Close = ⊥
+IsWorkFault most n depth fault.Memory = IsLaneCount most n × IsDepth depth

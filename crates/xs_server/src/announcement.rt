@@ -1,30 +1,61 @@
-//! That the server listens, said once.
-use crate::report::report_ready;
-use std::sync::{Mutex, Wait};
-use xs_devices::Sink;
+//! A line that says that the server listens, written once every thread has started. A thread of its own writes it:
+//! whoever reads it may take its time, and no connection waits for that.
+use std::alloc::{AllocError, Global};
+use std::sync::{Arc, Wait};
+use std::thread;
+use std::thread::{Parker, Threads};
+use xs_devices::{Sink, write_all};
 
-/// The line that says on which port the server listens. Whoever serves first writes it, so it comes once every thread
-/// has started.
+/// Tells the thread that it is time.
 #[derive(Drop)]
-pub struct Announcement<W: Sink + Drop> {
-    // None once the line is written.
-    out: Mutex<Option<W>>,
-    port: u16,
+pub struct Announcement {
+    // None once it was told.
+    thread: Option<Arc<Parker>>,
 }
 
-impl<W: Sink + Drop> Announcement<W> {
-    /// An announcement of this port, which isn't made yet.
-    pub fn new(out: W, port: u16) -> Self {
-        Self {
-            out: Mutex::new(Some(out)),
-            port,
+/// Writes the line once the thread is told to. A fault of the writer is passed over.
+fn write_when_told<W: Sink + Drop, R: Wait>(rt: &R, told: &Parker, out: W, line: &[u8]) {
+    told.park(rt);
+    let mut out = out;
+    let _ = write_all(&mut out, line);
+}
+
+impl Announcement {
+    /// Starts the thread that writes this line. The end of the program doesn't wait for it.
+    pub fn new<W: Sink + Send + Drop + 'static, R: Threads + Wait + Copy + Send + Drop + 'static>(
+        rt: &R,
+        alloc: Global,
+        out: W,
+        line: Vec<u8>,
+    ) -> Result<Announcement, AllocError> {
+        let parker = Arc::new(alloc, Parker::new())?;
+        let told = Arc::try_clone(&parker)?;
+        let handle = *rt;
+        match thread::spawn(
+            rt,
+            move || write_when_told(&handle, &told, out, line.as_slice()),
+        ) {
+            Ok(_) => Ok(Announcement {
+                thread: Some(parker),
+            }),
+            Err(_) => Err(AllocError),
         }
     }
 
-    /// Writes the line, unless it was written before. A fault of the writer is passed over.
-    pub fn make<R: Wait>(&self, rt: &R) {
-        if let Some(mut out) = self.out.lock(rt).take() {
-            report_ready(&mut out, self.port);
+    /// Another one for the same thread. It takes no memory.
+    pub fn again(&self) -> Result<Announcement, AllocError> {
+        match &self.thread {
+            Some(parker) => Ok(Announcement {
+                thread: Some(Arc::try_clone(parker)?),
+            }),
+            None => Ok(Announcement { thread: None }),
+        }
+    }
+
+    /// Tells the thread, unless this one has done so before.
+    pub fn make(&mut self) {
+        if let Some(parker) = self.thread.take() {
+            parker.unpark();
         }
     }
 }

@@ -3,11 +3,14 @@ ghost use Rattle.std.specs.Prelude.{◌≡◌, ◌≢◌, ◌⊎◌, map, codes,
 ghost use Rattle.clap.specs.Words.{kind_of, found_of};
 ghost use Rattle.xs_server.specs.CommandLine.{AsksScript, IsValueOf};
 
+use crate::version::VERSION;
 use clap::builder::ValueParser;
 use clap::error::{Error, ErrorKind};
-use clap::{Arg, ArgMatches, Command, value_parser};
+use clap::{Arg, ArgAction, ArgMatches, Command, value_parser};
 use std::alloc::{AllocError, Global};
+use std::convert::AsStr;
 use std::io::{Eprint, ErrorKind as IoErrorKind};
+use std::net::IpAddr;
 use std::str::FromStr;
 
 /// What `serve` is told.
@@ -21,13 +24,30 @@ pub struct ServeOptions {
     pub each: u64,
 }
 
+/// What `run` is told.
+#[derive(Clone, Copy, Debug, PartialEq, Eq)]
+pub struct RunOptions {
+    /// The address that it listens on.
+    pub bind: IpAddr,
+    /// The port, from 1 on.
+    pub port: u16,
+    /// How many connections are served at once, each by a worker of its own, from 1 to 1024.
+    pub workers: u64,
+    /// After how many seconds a connection is closed that sends nothing; 0 is never.
+    pub idle: u64,
+}
+
 /// What the command line asks for.
 #[derive(Clone, Copy, Debug, PartialEq, Eq)]
 pub enum Asked {
     /// To run the script on standard input.
     Script,
-    /// To serve connections.
+    /// To serve so many connections.
     Serve(ServeOptions),
+    /// To serve connections up to a signal.
+    Run(RunOptions),
+    /// A text of help, or the version, which is printed.
+    Text,
     /// Nothing that the program does. The text that says so is printed.
     Nothing,
     /// There was no memory to read it.
@@ -39,7 +59,14 @@ const ABOUT: &str = "A server of Redis Streams";
 const ABOUT_SCRIPT: &str =
     "Reads a script on standard input and writes the replies on standard output";
 
-const ABOUT_SERVE: &str = "Listens on a port of 127.0.0.1 and serves connections";
+const ABOUT_SERVE: &str = "Serves so many connections on a port of 127.0.0.1, and ends";
+
+const ABOUT_RUN: &str = "Serves connections until it is stopped; XREADGROUP with BLOCK waits";
+
+const NO_ADDRESS: &str = "error: the value of --bind is no IPv4 or IPv6 address\n";
+
+const NOT_OPEN: &str =
+    "error: whoever reaches --bind beyond loopback may do all; if that is meant, add --open\n";
 
 /// Whether the words run a script: no error means that they do.
 fn parse(alloc: Global, words: &[String]) -> Result<(), Error>
@@ -72,12 +99,12 @@ fn number_option<'a>(
         .help(help)
 }
 
-/// The program with all its commands.
-fn whole_program<'a>(alloc: Global) -> Result<Command<'a>, AllocError> {
+/// The command `serve`.
+fn serve_command<'a>(alloc: Global) -> Result<Command<'a>, AllocError> {
     let port = value_parser!(u16).range(1..);
     let workers = value_parser!(u64).range(1..=64);
     let each = value_parser!(u64).range(1..=1_000_000);
-    let serve = Command::new(alloc, "serve")
+    Command::new(alloc, "serve")
         .about(ABOUT_SERVE)
         .arg(number_option(alloc, "port", port, "The port, 1 to 65535"))?
         .arg(number_option(
@@ -91,12 +118,93 @@ fn whole_program<'a>(alloc: Global) -> Result<Command<'a>, AllocError> {
             "each",
             each,
             "How many connections each worker serves before it ends, 1 to 1000000",
-        ))?;
+        ))
+}
+
+/// An option with a default.
+fn option_with_default<'a>(
+    alloc: Global,
+    name: &'a str,
+    parser: ValueParser<'a>,
+    default: &'a str,
+    help: &'a str,
+) -> Arg<'a> {
+    Arg::new(alloc, name)
+        .long(name)
+        .default_value(default)
+        .allow_negative_numbers(true)
+        .value_parser(parser)
+        .help(help)
+}
+
+/// The command `run`.
+fn run_command<'a>(alloc: Global) -> Result<Command<'a>, AllocError> {
+    let port = value_parser!(u16).range(1..);
+    let workers = value_parser!(u64).range(1..=1024);
+    let idle = value_parser!(u64).range(0..=1_000_000_000);
+    let bind = Arg::new(alloc, "bind")
+        .long("bind")
+        .default_value("127.0.0.1")
+        .help("The address to listen on");
+    let open = Arg::new(alloc, "open")
+        .long("open")
+        .action(ArgAction::SetTrue)
+        .help("Lets --bind be an address that others reach");
+    Command::new(alloc, "run")
+        .about(ABOUT_RUN)
+        .arg(option_with_default(alloc, "port", port, "6379", "The port, 1 to 65535"))?
+        .arg(bind)?
+        .arg(option_with_default(
+            alloc,
+            "workers",
+            workers,
+            "64",
+            "How many connections are served at once, 1 to 1024",
+        ))?
+        .arg(option_with_default(
+            alloc,
+            "idle",
+            idle,
+            "0",
+            "After how many seconds a connection that sends nothing is closed; 0 is never",
+        ))?
+        .arg(open)
+}
+
+/// The program with all its commands.
+fn whole_program<'a>(alloc: Global) -> Result<Command<'a>, AllocError> {
     Command::new(alloc, "xs_server")
         .about(ABOUT)
+        .version(VERSION)
         .subcommand_required(true)
-        .subcommand(Command::new(alloc, "script").about(ABOUT_SCRIPT))?
-        .subcommand(serve)
+        .subcommand(run_command(alloc)?)?
+        .subcommand(serve_command(alloc)?)?
+        .subcommand(Command::new(alloc, "script").about(ABOUT_SCRIPT))
+}
+
+/// The address that `run` listens on, or what is wrong with it.
+fn bind_of(matches: &ArgMatches) -> Result<IpAddr, &'static str> {
+    let Some(text) = matches.get_str("bind") else {
+        return Err(NO_ADDRESS);
+    };
+    let Ok(address) = text.parse::<IpAddr>() else {
+        return Err(NO_ADDRESS);
+    };
+    if address.is_loopback() || matches.get_flag("open") {
+        Ok(address)
+    } else {
+        Err(NOT_OPEN)
+    }
+}
+
+/// What the words behind `run` say.
+fn run_options_of(matches: &ArgMatches, bind: IpAddr) -> Option<RunOptions> {
+    Some(RunOptions {
+        bind,
+        port: matches.get_one::<u16>("port")?,
+        workers: matches.get_one::<u64>("workers")?,
+        idle: matches.get_one::<u64>("idle")?,
+    })
 }
 
 /// What the words behind `serve` say.
@@ -115,29 +223,70 @@ fn options_of(matches: &ArgMatches) -> Option<ServeOptions>
     })
 }
 
-/// What words ask for that run no script, or why they ask for nothing.
-fn parse_others(alloc: Global, words: &[String]) -> Result<Option<ServeOptions>, Error> {
+/// What words ask for that run no script.
+enum Others {
+    Serve(ServeOptions),
+    Run(RunOptions),
+    /// Nothing, and this is why.
+    Refused(&'static str),
+    Nothing,
+}
+
+/// What words ask for that run no script, or the text that answers them.
+fn parse_others<S: AsStr>(alloc: Global, words: &[S]) -> Result<Others, Error> {
     let program = whole_program(alloc)?;
     let matches = program.try_get_matches_from(words)?;
-    match matches.subcommand_matches("serve") {
-        Some(found) => Ok(options_of(found)),
-        None => Ok(None),
+    if let Some(found) = matches.subcommand_matches("serve") {
+        return Ok(match options_of(found) {
+            Some(options) => Others::Serve(options),
+            None => Others::Nothing,
+        });
     }
+    let Some(found) = matches.subcommand_matches("run") else {
+        return Ok(Others::Nothing);
+    };
+    let bind = match bind_of(found) {
+        Ok(bind) => bind,
+        Err(text) => return Ok(Others::Refused(text)),
+    };
+    Ok(match run_options_of(found, bind) {
+        Some(options) => Others::Run(options),
+        None => Others::Nothing,
+    })
+}
+
+/// Parses words, of which `run help` is `run --help`.
+fn parse_with_help(alloc: Global, words: &[String]) -> Result<Others, Error> {
+    if let [name, command, last] = words {
+        if last.as_str() == "help" && command.as_str() != "help" {
+            return parse_others(alloc, &[name.as_str(), command.as_str(), "--help"]);
+        }
+    }
+    parse_others(alloc, words)
 }
 
 fn read_others(rt: &HostRuntime, words: &[String]) -> Asked
     ensures { result ≢ Asked.Script }
 {
-    let error = match parse_others(rt.alloc(), words) {
-        Ok(Some(options)) => return Asked::Serve(options),
-        Ok(None) => return Asked::Nothing,
+    let error = match parse_with_help(rt.alloc(), words) {
+        Ok(Others::Serve(options)) => return Asked::Serve(options),
+        Ok(Others::Run(options)) => return Asked::Run(options),
+        Ok(Others::Refused(text)) => {
+            let _ = rt.eprint(&text);
+            return Asked::Nothing;
+        }
+        Ok(Others::Nothing) => return Asked::Nothing,
         Err(error) => error,
     };
     if error.kind() == ErrorKind::OutOfMemory {
         return Asked::Memory;
     }
-    let _ = rt.eprint(&error);
-    Asked::Nothing
+    let _ = error.print(rt);
+    if error.use_stderr() {
+        Asked::Nothing
+    } else {
+        Asked::Text
+    }
 }
 
 /// Reads the words of a command line, the program's name first, and prints on standard error what is wrong with

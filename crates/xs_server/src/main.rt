@@ -1,22 +1,31 @@
-//! A server of Redis Streams over RESP2. Its command `serve` listens on a port of 127.0.0.1; its command `script` reads
-//! a script on standard input and writes the replies on standard output.
+//! A server of Redis Streams over RESP2. Its command `run` serves connections until it is stopped; its command `serve`
+//! serves so many of them on a port of 127.0.0.1; its command `script` reads a script on standard input and writes the
+//! replies on standard output.
 #![tactic(auto)]
 
 mod announcement;
 mod command_line;
 mod connections;
+mod door;
+mod hall;
 mod halves;
+mod limits;
 mod lines;
 mod machines;
+mod patience;
 mod report;
+mod run_command;
+mod run_gate;
 mod script;
 mod serve_command;
 mod tcp;
+mod version;
 mod wall_clock;
 mod work;
 
 use command_line::{Asked, read_command_line};
 use report::report_memory;
+use run_command::run_server;
 use script::command::run_and_report;
 use serve_command::serve_and_report;
 use std::process::ExitCode;
@@ -34,6 +43,11 @@ fn main(rt: HostRuntime) -> ExitCode {
             let out = ToWrite::new(rt.stdout());
             serve_and_report(&rt, rt.alloc(), options, out, &mut errors)
         }
+        Asked::Run(options) => {
+            let out = ToWrite::new(rt.stderr());
+            run_server(&rt, rt.alloc(), options, out, &mut errors)
+        }
+        Asked::Text => 0,
         Asked::Nothing => 2,
         Asked::Memory => report_memory(&mut errors),
     };

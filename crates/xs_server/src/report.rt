@@ -45,6 +45,15 @@ pub fn report_script<W: Sink>(errors: &mut W, fault: &ScriptFault) -> u8
     }
 }
 
+/// Writes a line, and gives the status of the program.
+pub fn report_text<W: Sink>(errors: &mut W, line: &[u8]) -> u8
+    ensures status { result ≡ 1 }
+    ensures said { Says line.now (W.held errors.old) (W.held errors.new) (W.broken errors.new) }
+{
+    say(errors, line);
+    1
+}
+
 /// Writes the line of a want of memory, and gives the status of the program.
 pub fn report_memory<W: Sink>(errors: &mut W) -> u8
     ensures status { result ≡ 1 }

@@ -6,7 +6,7 @@ ghost use Rattle.xs_server.specs.WorkOutcome.{IsClosed};
 
 use crate::announcement::Announcement;
 use crate::command_line::ServeOptions;
-use crate::report::{report_listening, report_memory, report_worked};
+use crate::report::{report_listening, report_memory, report_ready, report_worked};
 use crate::tcp::TcpGate;
 use crate::wall_clock::WallClock;
 use crate::work::working::work;
@@ -16,30 +16,36 @@ use std::net::{Ipv4Addr, Net, TcpListener, TcpStream};
 use std::sync::{Arc, Wait};
 use std::thread::Threads;
 use std::time::Clock;
-use xs_devices::Sink;
+use xs_devices::{Sink, ToWrite};
 
 /// How many places the rings of a lane have.
-const DEPTH: usize = 16;
+pub const DEPTH: usize = 16;
 
 /// A gate for each worker, with its memory. They share the listener and the announcement of its port.
-fn gates_of<S: Clock + Copy + Drop, W: Sink + Drop>(
+fn gates_of<S: Clock + Copy + Drop>(
     system: S,
     alloc: Global,
     listener: TcpListener,
     options: ServeOptions,
-    out: W,
-) -> Result<Vec<TcpGate<S, W>>, AllocError>
+    announcement: &Announcement,
+) -> Result<Vec<TcpGate<S>>, AllocError>
     ensures { IfOk result (λ gates. length gates.items ≡ options.workers) }
 {
     let listener = Arc::new(alloc, listener)?;
-    let announcement = Arc::new(alloc, Announcement::new(out, options.port))?;
     let mut gates = Vec::new(alloc);
     for _worker in 0..options.workers {
-        let (listener, announcement) = (Arc::try_clone(&listener)?, Arc::try_clone(&announcement)?);
+        let (listener, announcement) = (Arc::try_clone(&listener)?, announcement.again()?);
         let gate = TcpGate::new(alloc, system, listener, announcement, options.each)?;
         gates.push(gate)?;
     }
     Ok(gates)
+}
+
+/// The line that says on which port the server listens.
+fn ready_line(alloc: Global, port: u16) -> Vec<u8> {
+    let mut line = ToWrite::new(Vec::new(alloc));
+    report_ready(&mut line, port);
+    line.into_inner()
 }
 
 /// Listens on a port of 127.0.0.1, and serves the connections that come, as many as the options say. The port is
@@ -67,7 +73,11 @@ pub fn serve_and_report<
         Err(error) if error.kind() == ErrorKind::OutOfMemory => return report_memory(errors),
         Err(_) => return report_listening(errors),
     };
-    let Ok(gates) = gates_of(*rt, alloc, listener, options, out) else {
+    let line = ready_line(alloc, options.port);
+    let Ok(announcement) = Announcement::new(rt, alloc, out, line) else {
+        return report_memory(errors);
+    };
+    let Ok(gates) = gates_of(*rt, alloc, listener, options, &announcement) else {
         return report_memory(errors);
     };
     let worked = work(rt, alloc, gates, DEPTH, WallClock::new(*rt));

@@ -8,7 +8,7 @@ use std::net::{TcpListener, TcpStream};
 use std::sync::{Arc, Wait};
 use std::thread;
 use std::time::{Clock, Duration};
-use xs_devices::{FromRead, Sink, ToWrite};
+use xs_devices::{FromRead, ToWrite};
 
 /// Linux's numbers of the errors of `accept` that a listener gives for good: its descriptor is closed, it doesn't
 /// listen any more, and its descriptor is another file's.
@@ -23,22 +23,22 @@ const PAUSE_MILLIS: u64 = 100;
 
 /// So many connections of a listener, which other gates may share.
 #[derive(Drop)]
-pub struct TcpGate<S: Clock + Drop, W: Sink + Drop> {
+pub struct TcpGate<S: Clock + Drop> {
     memory: HalvesMemory,
     system: S,
     listener: Arc<TcpListener>,
-    announcement: Arc<Announcement<W>>,
+    announcement: Announcement,
     left: u64,
 }
 
-impl<S: Clock + Drop, W: Sink + Drop> TcpGate<S, W> {
+impl<S: Clock + Drop> TcpGate<S> {
     /// A gate that takes so many connections from the listener, with all the memory that it needs for them. At its
     /// first call it makes the announcement, which other gates may share.
     pub fn new(
         alloc: Global,
         system: S,
         listener: Arc<TcpListener>,
-        announcement: Arc<Announcement<W>>,
+        announcement: Announcement,
         count: u64,
     ) -> Result<Self, AllocError> {
         Ok(Self {
@@ -88,16 +88,16 @@ fn accept<S: Clock>(system: &S, listener: &TcpListener) -> Result<TcpStream, Gat
     Err(GateFault::Refused)
 }
 
-impl<S: Clock + Drop, W: Sink + Send + Drop> Gate for TcpGate<S, W> {
+impl<S: Clock + Drop> Gate for TcpGate<S> {
     type Reader = FromRead<Incoming>;
 
     type Writer = ToWrite<Outgoing>;
 
     fn open_next<R: Wait>(
         &mut self,
-        rt: &R,
+        _rt: &R,
     ) -> Result<Option<(FromRead<Incoming>, ToWrite<Outgoing>)>, GateFault> {
-        self.announcement.make(rt);
+        self.announcement.make();
         for _ in 0..self.left {
             self.left = self.left.saturating_sub(1);
             let stream = accept(&self.system, &self.listener)?;

@@ -3,6 +3,7 @@ pub mod fault;
 pub mod gate;
 pub mod keeper_thread;
 pub mod lifecycle;
+pub mod mode;
 pub mod worker;
 pub mod worker_pool;
 pub mod working;

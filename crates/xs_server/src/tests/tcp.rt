@@ -2,10 +2,14 @@
 use super::sessions::{new_alone, whole_connections};
 use super::*;
 use crate::connections::serve_alone::serve_alone;
-use crate::halves::{HalvesMemory, Incoming};
+use crate::halves::{HalvesMemory, Incoming, Peer};
+use crate::limits::open_files_in;
+use crate::run_command::waiting_room;
 use crate::tcp::{AfterFailure, after_failure};
 use std::io::{self, ErrorKind, Read, Write};
 use std::net::{Ipv4Addr, Shutdown, TcpListener, TcpStream};
+use std::thread;
+use std::time::Duration;
 use xs_devices::{Failed, Source};
 
 /// The server's reader of a connection. Before each read the client sends its next part, or ends what it sends.
@@ -87,4 +91,71 @@ fn a_gate_ends_with_its_listener_alone(rt: HostRuntime) {
             assert_eq!(rt; after_failure(&error), after, "error {code}");
         }
     }
+}
+
+/// How often a look is made for what has come.
+const LOOKS: u32 = 2000;
+
+/// Whether looks find, within two seconds, that the client has left.
+fn is_seen_to_leave(rt: &HostRuntime, peer: &Peer) -> bool {
+    for _ in 0..LOOKS {
+        if peer.has_left() {
+            return true;
+        }
+        thread::sleep(rt, Duration::from_millis(1));
+    }
+    false
+}
+
+// A client that leaves behind nothing, half a request, and whole ones. What it sent is read afterwards, then the end. The
+// next client of the same halves gets nothing of it.
+#[test]
+fn a_client_that_leaves_is_seen(rt: HostRuntime) -> Result<(), Fail> {
+    let alloc = rt.alloc();
+    let listener = TcpListener::bind(&rt, (Ipv4Addr::LOCALHOST, 0))?;
+    let address = listener.local_addr()?;
+    let memory = HalvesMemory::new(alloc)?;
+    let peer = memory.peer()?;
+    for sent in [
+        &b""[..],
+        b"*1\r\n$4\r\nPI",
+        b"*1\r\n$4\r\nPING\r\n*1\r\n$4\r\nPING\r\n",
+    ] {
+        let client = TcpStream::connect(&rt, address)?;
+        let (stream, _) = listener.accept()?;
+        let (mut reader, writer) = memory.halves_of(stream).ok_or("halves in use")?;
+        assert!(rt; !peer.has_left());
+        (&client).write_all(sent)?;
+        assert!(rt; !peer.has_left());
+        drop(client);
+        assert!(rt; is_seen_to_leave(&rt, &peer));
+        let mut got = [0u8; 100];
+        assert_eq!(rt; reader.read(&mut got), Ok(sent.len()));
+        assert!(rt; got.starts_with(sent));
+        assert_eq!(rt; reader.read(&mut got), Ok(0));
+        drop(reader);
+        drop(writer);
+        assert!(rt; !peer.has_left());
+    }
+    Ok(())
+}
+
+// The text as Linux gives it.
+#[test]
+fn reads_the_limit_of_open_files(rt: HostRuntime) {
+    let text = "Limit                     Soft Limit           Hard Limit           Units     \n\
+        Max stack size            8388608              unlimited            bytes     \n\
+        Max open files            1024                 1048576              files     \n";
+    assert_eq!(rt; open_files_in(text), Some(1024));
+    assert_eq!(rt;
+        open_files_in(
+            "Max open files            unlimited            unlimited            files\n"
+        ),
+        None
+    );
+    assert_eq!(rt; open_files_in(""), None);
+    assert_eq!(rt; waiting_room(64, None), Some(1024));
+    assert_eq!(rt; waiting_room(64, Some(95)), None);
+    assert_eq!(rt; waiting_room(64, Some(96)), Some(16));
+    assert_eq!(rt; waiting_room(1024, Some(4096)), Some(1024));
 }

@@ -1,14 +1,23 @@
 //! When workers begin and the keeper ends: what the thread that starts them tells them.
-use std::sync::Wait;
 use std::sync::atomic::{AtomicBool, Ordering};
-use std::thread;
+use std::sync::{Condvar, Mutex, Wait};
+
+/// What workers are told.
+#[derive(Clone, Copy, Debug, PartialEq, Eq)]
+enum Word {
+    /// Nothing yet.
+    Wait,
+    /// All threads were started.
+    Begin,
+    /// A thread wasn't started.
+    GiveUp,
+}
 
 /// The lifecycle of a pool of workers and their keeper. No promise rests on it.
 #[derive(Drop)]
 pub struct Lifecycle {
-    // Set if a thread was not started; before `begun`.
-    given_up: AtomicBool,
-    begun: AtomicBool,
+    word: Mutex<Word>,
+    told: Condvar,
     ended: AtomicBool,
 }
 
@@ -16,21 +25,22 @@ impl Lifecycle {
     /// Nothing is told yet.
     pub fn new() -> Lifecycle {
         Lifecycle {
-            given_up: AtomicBool::new(false),
-            begun: AtomicBool::new(false),
+            word: Mutex::new(Word::Wait),
+            told: Condvar::new(),
             ended: AtomicBool::new(false),
         }
     }
 
     /// All threads were started: workers may begin.
-    pub fn begin(&self) {
-        self.begun.store(true, Ordering::SeqCst);
+    pub fn begin<R: Wait>(&self, rt: &R) {
+        *self.word.lock(rt) = Word::Begin;
+        self.told.notify_all();
     }
 
     /// A thread wasn't started: workers end before their first connection.
-    pub fn give_up(&self) {
-        self.given_up.store(true, Ordering::SeqCst);
-        self.begun.store(true, Ordering::SeqCst);
+    pub fn give_up<R: Wait>(&self, rt: &R) {
+        *self.word.lock(rt) = Word::GiveUp;
+        self.told.notify_all();
     }
 
     /// All workers have ended: the keeper may end.
@@ -45,12 +55,9 @@ impl Lifecycle {
 
     /// Waits until all threads are started, and says whether the work begins.
     pub fn wait_to_begin<R: Wait>(&self, rt: &R) -> bool {
-        for _ in rt.forever() {
-            if self.begun.load(Ordering::SeqCst) {
-                return !self.given_up.load(Ordering::SeqCst);
-            }
-            thread::yield_now();
-        }
-        unreachable!()
+        let word = self
+            .told
+            .wait_while(rt, self.word.lock(rt), |word| *word == Word::Wait);
+        *word == Word::Begin
     }
 }

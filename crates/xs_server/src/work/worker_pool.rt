@@ -2,24 +2,18 @@
 ghost use Rattle.std.specs.Prelude.{◌≡◌, ◌≤◌, true, [], length, map, vec_capacity, IfOk, IfSome};
 ghost use Rattle.xs_desk.specs.KeptRings.{KeepsSide, KeepSides};
 
-use crate::connections::connection::Connection;
 use crate::work::gate::Gate;
 use crate::work::lifecycle::Lifecycle;
-use crate::work::worker::{Worked, run_worker};
+use crate::work::mode::Mode;
+use crate::work::worker::{Worked, Worker, run_worker};
 use std::alloc::{AllocError, Global};
 use std::snapshot::Snapshot;
 use std::sync::{Arc, Wait};
-use std::thread;
-use std::thread::{Promise, PromisedHandle, Threads};
-use xs_desk::{Client, Ended};
+use std::thread::{Builder, Promise, PromisedHandle, Threads};
+use xs_desk::{Client, Ended, Pause};
 
-/// A worker before its thread is started.
-#[derive(Drop)]
-pub struct Worker<G> {
-    pub client: Client,
-    pub gate: G,
-    pub connection: Connection,
-}
+/// How many bytes of stack a thread has: twice the deepest that was seen in use, and more.
+pub const STACK: usize = 262_144;
 
 /// The lane's end that comes back is that of this client.
 #[derive(Drop)]
@@ -34,12 +28,13 @@ impl Promise<Worked> for SameSide {
 /// A worker in its thread.
 pub type WorkerThread = PromisedHandle<Worked, SameSide>;
 
-/// A worker for each gate, with the memory of its connections, as far as there are gates.
-pub fn make_workers<G: Drop>(
+/// A worker for each gate, as far as there are gates.
+pub fn make_workers<G: Drop, M: Mode<G>>(
     alloc: Global,
     clients: Vec<Client>,
     gates: Vec<G>,
-) -> Result<Vec<Worker<G>>, AllocError>
+    mode: &M,
+) -> Result<Vec<Worker<G, M::Pause>>, AllocError>
     ensures { IfOk result (λ workers. map (λ w. w.client) workers.items ≡ clients.items) }
 {
     let mut gates = gates.into_iter();
@@ -48,33 +43,32 @@ pub fn make_workers<G: Drop>(
         let Some(gate) = gates.next() else {
             return Err(AllocError);
         };
-        let connection = Connection::new(alloc)?;
+        let pause = mode.pause_of(&gate)?;
+        let memory = mode.memory(alloc)?;
         workers.push(Worker {
             client,
             gate,
-            connection,
+            pause,
+            memory,
         })?;
     }
     Ok(workers)
 }
 
-fn start<G: Gate + Send + Drop + 'static, R: Threads + Wait + Copy + Send + 'static>(
-    rt: &R,
-    worker: Worker<G>,
-    lifecycle: Arc<Lifecycle>,
-) -> Option<WorkerThread>
+fn start<
+    G: Gate + Send + Drop + 'static,
+    P: Pause + Send + Drop + 'static,
+    R: Threads + Wait + Copy + Send + 'static,
+>(rt: &R, worker: Worker<G, P>, lifecycle: Arc<Lifecycle>) -> Option<WorkerThread>
     ensures { IfSome result (λ started. started.promise.0.value ≡ worker.client) }
 {
     let handle = *rt;
-    let Worker {
-        client,
-        gate,
-        connection,
-    } = worker;
-    let promise = SameSide(Snapshot::of(&client));
-    match thread::spawn_with(rt, promise, move || {
-        run_worker(&handle, client, gate, connection, &lifecycle)
-    }) {
+    let promise = SameSide(Snapshot::of(&worker.client));
+    match Builder::new().stack_size(STACK).spawn_with(
+        rt,
+        promise,
+        move || run_worker(&handle, worker, &lifecycle),
+    ) {
         Ok(started) => Some(started),
         Err(_) => None,
     }
@@ -82,9 +76,13 @@ fn start<G: Gate + Send + Drop + 'static, R: Threads + Wait + Copy + Send + 'sta
 
 /// Starts a thread for each worker, up to the first that can't be started, and says whether all were. The room for them
 /// was made before.
-pub fn start_all<G: Gate + Send + Drop + 'static, R: Threads + Wait + Copy + Send + 'static>(
+pub fn start_all<
+    G: Gate + Send + Drop + 'static,
+    P: Pause + Send + Drop + 'static,
+    R: Threads + Wait + Copy + Send + 'static,
+>(
     rt: &R,
-    workers: Vec<Worker<G>>,
+    workers: Vec<Worker<G, P>>,
     lifecycle: &Arc<Lifecycle>,
     started: &mut Vec<WorkerThread>,
 ) -> bool

@@ -10,29 +10,37 @@ use crate::work::fault::WorkFault;
 use crate::work::gate::Gate;
 use crate::work::keeper_thread::start_keeper;
 use crate::work::lifecycle::Lifecycle;
-use crate::work::worker_pool::{Worker, WorkerThread, join_all, make_workers, start_all};
+use crate::work::mode::{Bounded, Mode};
+use crate::work::worker::Worker;
+use crate::work::worker_pool::{WorkerThread, join_all, make_workers, start_all};
 use std::alloc::{AllocError, Global};
 use std::sync::{Arc, Wait};
 use std::thread::Threads;
-use xs_desk::{Client, CloseError, Ended, Keeper, Summary, Waker, close, desk};
+use xs_desk::{
+    Client, CloseError, DeskError, Ended, Keeper, Pause, Summary, Waker, close, wide_desk,
+};
 use xs_keys::Clock;
+
+/// The most gates of `work`.
+const MAX_GATES: usize = 64;
 
 /// All that work needs, made before the first thread is started.
 #[derive(Drop)]
-struct WorkerPool<G> {
-    workers: Vec<Worker<G>>,
+struct WorkerPool<G: Drop, P: Drop> {
+    workers: Vec<Worker<G, P>>,
     started: Vec<WorkerThread>,
     ended: Vec<Ended>,
     lifecycle: Arc<Lifecycle>,
     waker: Waker,
 }
 
-fn make_pool<G: Drop>(
+fn make_pool<G: Drop, M: Mode<G>>(
     alloc: Global,
     keeper: &Keeper,
     clients: Vec<Client>,
     gates: Vec<G>,
-) -> Result<WorkerPool<G>, AllocError>
+    mode: &M,
+) -> Result<WorkerPool<G, M::Pause>, AllocError>
     ensures workers { IfOk result (λ pool. map (λ w. w.client) pool.workers.items ≡ clients.items) }
     ensures started { IfOk result (λ pool. (pool.started.items ≡ [])
         × (length pool.workers.items ≤ vec_capacity pool.started)) }
@@ -44,7 +52,7 @@ fn make_pool<G: Drop>(
     let ended = Vec::with_capacity(alloc, count)?;
     let lifecycle = Arc::new(alloc, Lifecycle::new())?;
     let waker = keeper.waker()?;
-    let workers = make_workers(alloc, clients, gates)?;
+    let workers = make_workers(alloc, clients, gates, mode)?;
     Ok(WorkerPool {
         workers,
         started,
@@ -62,13 +70,14 @@ struct Done {
     refused: bool,
 }
 
-/// Runs the keeper and the workers, each in a thread of its own, to their ends. Where a thread can't be started nobody
-/// is served.
+/// Runs the keeper and the workers, each in a thread of its own, to their ends. If a thread can't be started nobody is
+/// served.
 fn run_all<
     G: Gate + Send + Drop + 'static,
     C: Clock + Send + Drop + 'static,
+    M: Mode<G> + Send + Drop + 'static,
     R: Threads + Wait + Copy + Send + 'static,
->(rt: &R, keeper: Keeper, clock: C, pool: WorkerPool<G>) -> Option<Done>
+>(rt: &R, keeper: Keeper, clock: C, mode: M, pool: WorkerPool<G, M::Pause>) -> Option<Done>
     requires started { (pool.started.items ≡ []) × (length pool.workers.items ≤ vec_capacity pool.started) }
     requires ended { (pool.ended.items ≡ []) × (length pool.workers.items ≤ vec_capacity pool.ended) }
     ensures keeper { IfSome result (λ done. KeepsRings keeper done.keeper) }
@@ -83,12 +92,12 @@ fn run_all<
         waker,
     } = pool;
     let told = Arc::try_clone(&lifecycle).ok()?;
-    let kept = start_keeper(rt, keeper, clock, told)?;
+    let kept = start_keeper::<G, C, M, R>(rt, keeper, clock, mode, told)?;
     let all = start_all(rt, workers, &lifecycle, &mut started);
     if all {
-        lifecycle.begin();
+        lifecycle.begin(rt);
     } else {
-        lifecycle.give_up();
+        lifecycle.give_up(rt);
     }
     let refused = join_all(rt, started, &mut ended);
     lifecycle.end();
@@ -109,7 +118,7 @@ fn conclude(alloc: Global, done: Done) -> Result<Summary, WorkFault>
     requires ends { AreEnds done.keeper.lanes done.ended.items }
     requires all { (k : ℕ) → k < length done.keeper.lanes → HasEnd done.ended.items k }
     ensures closed { IfOk result (IsClosed (length done.keeper.lanes)) }
-    ensures fault { (n depth : ℕ) → IsLaneCount n × IsDepth depth → IfErr result (IsWorkFault n depth) }
+    ensures fault { (most n depth : ℕ) → IsLaneCount most n × IsDepth depth → IfErr result (IsWorkFault most n depth) }
     ensures gate { done.refused ≡ true → result ≡ Err WorkFault.Gate }
     ensures memory { done.refused ≡ false → IfErr result (λ fault. fault ≡ WorkFault.Memory) }
 {
@@ -131,34 +140,61 @@ fn conclude(alloc: Global, done: Done) -> Result<Summary, WorkFault>
 
 fn open(alloc: Global, n: usize, depth: usize) -> Result<(Keeper, Vec<Client>), WorkFault>
     ensures new { IfOk result (λ r. AreNew 0 depth r.0.lanes r.1.items × (length r.0.lanes ≡ n)) }
-    ensures count { IfOk result (λ _. IsLaneCount n × IsDepth depth) }
-    ensures fault { IfErr result (IsWorkFault n depth) }
+    ensures count { IfOk result (λ _. IsLaneCount 1024 n × IsDepth depth) }
+    ensures fault { IfErr result (IsWorkFault 1024 n depth) }
 {
-    match desk(alloc, n, depth) {
+    match wide_desk(alloc, n, depth) {
         Ok(made) => Ok(made),
         Err(fault) => Err(WorkFault::Desk(fault)),
     }
 }
 
-/// Serves the connections of gates: each gate has a thread, which serves its connections one after the other through a
-/// lane of its own, and the keeper of the lanes has one too. When all gates have come to their ends, the desk is
-/// closed. The fault of a connection ends that connection alone.
+/// Serves the connections of 1 to 64 gates as `work_with` does. No call waits.
 ///
 /// # Errors
 /// A `WorkFault`.
+#[tactic(auto, using(crate::proofs::WorkerEnds::fewer_lanes))]
 pub fn work<
     G: Gate + Send + Drop + 'static,
     C: Clock + Send + Drop + 'static,
     R: Threads + Wait + Copy + Send + 'static,
 >(rt: &R, alloc: Global, gates: Vec<G>, depth: usize, clock: C) -> Result<Summary, WorkFault>
     ensures closed { IfOk result (IsClosed (length gates.items)) }
-    ensures fault { IfErr result (IsWorkFault (length gates.items) depth) }
+    ensures fault { IfErr result (IsWorkFault 64 (length gates.items) depth) }
+{
+    if gates.len() > MAX_GATES {
+        return Err(WorkFault::Desk(DeskError::Lanes));
+    }
+    work_with(rt, alloc, gates, depth, clock, Bounded)
+}
+
+/// Serves the connections of 1 to 1024 gates: each gate has a thread, which serves its connections one after the other
+/// through a lane of its own, and the keeper of the lanes has one too. When all gates have come to their ends, the desk
+/// is closed. The fault of a connection ends that connection alone.
+///
+/// # Errors
+/// A `WorkFault`.
+pub fn work_with<
+    G: Gate + Send + Drop + 'static,
+    C: Clock + Send + Drop + 'static,
+    M: Mode<G> + Send + Drop + 'static,
+    R: Threads + Wait + Copy + Send + 'static,
+>(
+    rt: &R,
+    alloc: Global,
+    gates: Vec<G>,
+    depth: usize,
+    clock: C,
+    mode: M,
+) -> Result<Summary, WorkFault>
+    ensures closed { IfOk result (IsClosed (length gates.items)) }
+    ensures fault { IfErr result (IsWorkFault 1024 (length gates.items) depth) }
 {
     let (keeper, clients) = open(alloc, gates.len(), depth)?;
-    let Ok(pool) = make_pool(alloc, &keeper, clients, gates) else {
+    let Ok(pool) = make_pool(alloc, &keeper, clients, gates, &mode) else {
         return Err(WorkFault::Memory);
     };
-    let Some(done) = run_all(rt, keeper, clock, pool) else {
+    let Some(done) = run_all(rt, keeper, clock, mode, pool) else {
         return Err(WorkFault::Start);
     };
     conclude(alloc, done)

@@ -9,6 +9,10 @@ returns-in-Err-clause-told g c = inr (c.report_memory.ensures.status, memory_tex
 pub returns-in-Err-2-clause-told : goal.returns-in-Err-2-clause-told
 returns-in-Err-2-clause-told g c = inr (c.report_listening.ensures.status, listening_text, inr (inl refl), c.report_listening.ensures.said)
 
+pub returns-in_default-gates_of-clause-told : goal.returns-in_default-gates_of-clause-told
+returns-in_default-gates_of-clause-told g c =
+    inr (c.report_memory-in_default-gates_of.ensures.status, memory_text, inl refl, c.report_memory-in_default-gates_of.ensures.said)
+
 pub returns-clause-served : goal.returns-clause-served
 returns-clause-served g c =
     let count = c.in-Ok-gates_of.ensures in

@@ -5,7 +5,7 @@ use Rattle.xs_desk.specs.KeptRings.{KeepSides}
 use Rattle.xs_desk.proofs.Keeps.{ends-new, ends-turned, ends-kept, keeps-count}
 use Rattle.xs_server.specs.WorkOutcome.{IsClosed}
 use Rattle.xs_server.proofs.WorkerEnds.{all-there}
-use Rattle.xs_server.proofs.work.working.work.Goals as goal
+use Rattle.xs_server.proofs.work.working.work_with.Goals as goal
 
 pub conclude-requires-clause-ends : goal.conclude-requires-clause-ends
 conclude-requires-clause-ends g c =

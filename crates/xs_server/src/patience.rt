@@ -1,0 +1,111 @@
+//! How calls wait in a server that stays, and how their clients are looked after.
+//!
+//! While its call waits a worker sends the replies that it owes, and looks once a second whether its client is still there, and if not it lets the keeper
+//! answer as if the time of the wait were over. Before the keeper gives something to a call that has waited it looks too,
+//! so that a job goes to one that is there.
+use crate::connections::memory::ConnectionMemory;
+use crate::halves::Peer;
+use crate::run_gate::RunGate;
+use crate::work::mode::Mode;
+use std::alloc::{AllocError, Global};
+use std::sync::Wait;
+use std::time::{Clock, Duration};
+use xs_desk::{Client, Keeper, Pause};
+
+/// How often a worker looks after its client.
+const BEAT_MILLIS: u64 = 1000;
+
+/// After how long a worker sends the replies to the requests before the one whose answer it waits for.
+const PROMPT_MILLIS: u64 = 1;
+
+/// How a worker waits whose client may leave.
+#[derive(Drop)]
+pub struct Watch<S: Drop> {
+    system: S,
+    peer: Peer,
+}
+
+impl<S: Wait + Clock + Drop> Pause for Watch<S> {
+    fn pause<R: Wait>(&self, rt: &R, client: &Client) {
+        if !client.will_sleep() {
+            client.idle(rt);
+            return;
+        }
+        if self.peer.was_seen_to_leave() {
+            client.hurry();
+        }
+        let owes = self.peer.is_owed_bytes();
+        let millis = if owes { PROMPT_MILLIS } else { BEAT_MILLIS };
+        if !client.idle_for(&self.system, Duration::from_millis(millis)) {
+            return;
+        }
+        if owes {
+            self.peer.send();
+        } else if self.peer.has_left() {
+            client.hurry();
+        }
+    }
+}
+
+/// Calls wait, and the memory of connections is made when they come.
+#[derive(Drop)]
+pub struct Patience<S: Drop> {
+    system: S,
+    // The client of each lane.
+    peers: Vec<Peer>,
+}
+
+impl<S: Wait + Clock + Copy + Drop> Patience<S> {
+    /// The way of the workers of these gates.
+    pub fn new(system: S, alloc: Global, gates: &[RunGate<S>]) -> Result<Patience<S>, AllocError> {
+        let mut peers = Vec::with_capacity(alloc, gates.len())?;
+        for gate in gates {
+            peers.push(gate.peer()?)?;
+        }
+        Ok(Patience { system, peers })
+    }
+
+    /// Whether the client of this lane has left.
+    fn has_left(&self, lane: usize) -> bool {
+        match self.peers.get(lane) {
+            Some(peer) => peer.has_left(),
+            None => false,
+        }
+    }
+}
+
+impl<S: Wait + Clock + Copy + Send + Drop + 'static> Mode<RunGate<S>> for Patience<S> {
+    type Pause = Watch<S>;
+
+    fn pause_of(&self, gate: &RunGate<S>) -> Result<Watch<S>, AllocError> {
+        Ok(Watch {
+            system: gate.system(),
+            peer: gate.peer()?,
+        })
+    }
+
+    fn memory(&self, alloc: Global) -> Result<ConnectionMemory, AllocError> {
+        Ok(ConnectionMemory::lazy(alloc))
+    }
+
+    fn begin(&self, keeper: &mut Keeper) {
+        keeper.let_wait();
+    }
+
+    fn before_turn(&self, keeper: &mut Keeper) {
+        keeper.read_clock(&self.system);
+        for _ in 0..self.peers.len() {
+            let Some(lane) = keeper.next_due() else {
+                return;
+            };
+            if !self.has_left(lane) {
+                return;
+            }
+            keeper.postpone(&self.system, lane);
+        }
+    }
+
+    fn idle<R: Wait>(&self, _rt: &R, keeper: &Keeper) {
+        keeper.idle_until(&self.system);
+    }
+}

@@ -1,0 +1,180 @@
+//! The program's command `run`: a server that stays.
+ghost use Rattle.std.specs.Prelude.{◌≡◌, length, IfOk};
+ghost use Rattle.xs_desk.specs.declared.summary.Summary.{Summary};
+ghost use Rattle.xs_server.specs.WorkOutcome.{IsClosed};
+
+use crate::announcement::Announcement;
+use crate::command_line::RunOptions;
+use crate::door::open_door;
+use crate::hall::Hall;
+use crate::limits::open_files;
+use crate::patience::Patience;
+use crate::report::{report_memory, report_text, report_worked};
+use crate::run_gate::RunGate;
+use crate::serve_command::DEPTH;
+use crate::version::VERSION;
+use crate::wall_clock::WallClock;
+use crate::work::working::work_with;
+use std::alloc::{Alloc, AllocError, Global};
+use std::fs::Files;
+use std::io;
+use std::io::ErrorKind;
+use std::net::{Net, SocketAddr, TcpListener, TcpStream};
+use std::sync::{Arc, Wait};
+use std::thread::Threads;
+use std::time::{Clock, Duration};
+use xs_devices::Sink;
+
+/// How many files are open besides the connections of workers: standard streams, listener and its double, one to read
+/// limits by, and some for connections that come or leave.
+const OTHER_FILES: u64 = 32;
+
+/// How many connections may wait for a worker at once, at most.
+const MOST_WAITING: u64 = 1024;
+
+/// How many connections may wait for a worker, if so many files may be open; None if these are too few for the workers.
+pub fn waiting_room(workers: u64, files: Option<u64>) -> Option<u64> {
+    match files {
+        Some(files) => {
+            let left = files.checked_sub(workers)?.checked_sub(OTHER_FILES)?;
+            Some((left + OTHER_FILES / 2).min(MOST_WAITING))
+        }
+        None => Some(MOST_WAITING),
+    }
+}
+
+/// What an error of listening is called.
+fn name_of(error: &io::Error) -> &'static str {
+    match error.kind() {
+        ErrorKind::AddrInUse => "address in use",
+        ErrorKind::AddrNotAvailable => "address not available",
+        ErrorKind::PermissionDenied => "permission denied",
+        ErrorKind::OutOfMemory => "out of memory",
+        _ => "the system refused it",
+    }
+}
+
+/// A gate for each worker. They share the hall and the announcement.
+fn gates_of<S: Copy + Drop>(
+    system: S,
+    alloc: Global,
+    hall: &Arc<Hall>,
+    announcement: &Announcement,
+    options: &RunOptions,
+) -> Result<Vec<RunGate<S>>, AllocError>
+    ensures { IfOk result (λ gates. length gates.items ≡ options.now.workers) }
+{
+    let idle = if options.idle == 0 {
+        None
+    } else {
+        Some(Duration::from_secs(options.idle))
+    };
+    let mut gates = Vec::new(alloc);
+    for _worker in 0..options.workers {
+        let (hall, announcement) = (Arc::try_clone(hall)?, announcement.again()?);
+        gates.push(RunGate::new(system, alloc, hall, announcement, idle)?)?;
+    }
+    Ok(gates)
+}
+
+/// The line that says that the server listens, and its limits.
+fn ready_line(
+    alloc: Global,
+    address: SocketAddr,
+    workers: u64,
+    files: Option<u64>,
+) -> Result<Vec<u8>, AllocError> {
+    let text = match files {
+        Some(files) => format!(in alloc;
+            "xs_server {VERSION}: listening on {address}, {workers} workers, {files} descriptors\n"
+        )?,
+        None => {
+            format!(in alloc; "xs_server {VERSION}: listening on {address}, {workers} workers\n")?
+        }
+    };
+    Ok(text.into_bytes())
+}
+
+/// Listens, and serves the connections that come, up to a signal. It gives the status of the program: 1 if something is
+/// amiss, and the cause is said on `errors`; 0 never in practice, since no gate comes to its end.
+pub fn run_server<
+    W: Sink + Send + Drop + 'static,
+    E: Sink,
+    R: Net<Listener = TcpListener, Stream = TcpStream>
+        + Files
+        + Alloc<A = Global>
+        + Threads
+        + Wait
+        + Clock
+        + Copy
+        + Send
+        + Drop
+        + 'static,
+>(rt: &R, alloc: Global, options: RunOptions, out: W, errors: &mut E) -> u8
+    ensures served { result ≡ 0 → (summary : Summary) × IsClosed options.workers summary }
+{
+    let files = open_files(rt);
+    let Some(room) = waiting_room(options.workers, files) else {
+        return report_few_files(alloc, options.workers, errors);
+    };
+    let address = SocketAddr::new(options.bind, options.port);
+    let listener = match TcpListener::bind(rt, address) {
+        Ok(listener) => listener,
+        Err(error) => return report_listening_failed(alloc, address, &error, errors),
+    };
+    let Ok(line) = ready_line(alloc, address, options.workers, files) else {
+        return report_memory(errors);
+    };
+    let Ok(hall) = hall_of(alloc, room) else {
+        return report_memory(errors);
+    };
+    let Ok(announcement) = Announcement::new(rt, alloc, out, line) else {
+        return report_memory(errors);
+    };
+    let Ok(gates) = gates_of(*rt, alloc, &hall, &announcement, &options) else {
+        return report_memory(errors);
+    };
+    let Ok(patience) = Patience::new(*rt, alloc, gates.as_slice()) else {
+        return report_memory(errors);
+    };
+    if open_door(rt, alloc, listener, &hall).is_err() {
+        return report_memory(errors);
+    }
+    let worked = work_with(rt, alloc, gates, DEPTH, WallClock::new(*rt), patience);
+    report_worked(errors, &worked)
+}
+
+fn hall_of(alloc: Global, room: u64) -> Result<Arc<Hall>, AllocError> {
+    let room = usize::try_from(room).unwrap_or(1);
+    Ok(Arc::new(alloc, Hall::new(alloc, room)?)?)
+}
+
+/// Says that more files have to be open than may be. It gives the status of the program.
+fn report_few_files<E: Sink>(alloc: Global, workers: u64, errors: &mut E) -> u8
+    ensures { result ≡ 1 }
+{
+    let needed = workers.saturating_add(OTHER_FILES);
+    let text = format!(in alloc;
+        "xs_server: {workers} workers need {needed} open files: raise the limit (ulimit -n {needed}, LimitNOFILE of systemd)\n"
+    );
+    match text {
+        Ok(text) => report_text(errors, text.as_bytes()),
+        Err(_) => report_memory(errors),
+    }
+}
+
+/// Says that the address can't be listened on. It gives the status of the program.
+fn report_listening_failed<E: Sink>(
+    alloc: Global,
+    address: SocketAddr,
+    error: &io::Error,
+    errors: &mut E,
+) -> u8
+    ensures { result ≡ 1 }
+{
+    let cause = name_of(error);
+    match format!(in alloc; "xs_server: listening on {address} failed: {cause}\n") {
+        Ok(text) => report_text(errors, text.as_bytes()),
+        Err(_) => report_memory(errors),
+    }
+}

@@ -1,0 +1,92 @@
+//! A gate of a server that stays: it takes connections from the hall, without end.
+use crate::announcement::Announcement;
+use crate::hall::Hall;
+use crate::halves::{HalvesMemory, Incoming, Outgoing, Peer};
+use crate::work::gate::{Gate, GateFault};
+use std::alloc::{AllocError, Global};
+use std::io::Write;
+use std::net::TcpStream;
+use std::sync::{Arc, Wait};
+use std::time::Duration;
+use xs_devices::{FromRead, ToWrite};
+
+/// What a connection is told for which there is no memory.
+const NO_MEMORY: &[u8] = b"-OOM out of memory\r\n";
+
+/// A gate that takes connections from a hall, which other gates share.
+#[derive(Drop)]
+pub struct RunGate<S: Drop> {
+    // The clock that its worker waits by.
+    system: S,
+    memory: HalvesMemory,
+    hall: Arc<Hall>,
+    announcement: Announcement,
+    // How long a connection may send nothing.
+    idle: Option<Duration>,
+}
+
+impl<S: Copy + Drop> RunGate<S> {
+    /// A gate of this hall. At its first call it makes the announcement.
+    pub fn new(
+        system: S,
+        alloc: Global,
+        hall: Arc<Hall>,
+        announcement: Announcement,
+        idle: Option<Duration>,
+    ) -> Result<Self, AllocError> {
+        Ok(Self {
+            system,
+            memory: HalvesMemory::lazy(alloc)?,
+            hall,
+            announcement,
+            idle,
+        })
+    }
+
+    /// The clock that its worker waits by.
+    pub fn system(&self) -> S {
+        self.system
+    }
+
+    /// The clients of its connections. It takes no memory.
+    pub fn peer(&self) -> Result<Peer, AllocError> {
+        self.memory.peer()
+    }
+
+    /// Both halves of a stream. None if there is no memory, and the client is told.
+    fn halves_of(&self, stream: TcpStream) -> Option<(FromRead<Incoming>, ToWrite<Outgoing>)> {
+        // Without these replies may be late, and an idle connection stays: no reason to refuse it.
+        let _ = stream.set_nodelay(true);
+        if self.idle.is_some() {
+            let _ = stream.set_read_timeout(self.idle);
+        }
+        if self.memory.make_room().is_err() {
+            let mut stream = stream;
+            let _ = stream.write(NO_MEMORY);
+            return None;
+        }
+        self.memory.halves_of(stream)
+    }
+}
+
+impl<S: Copy + Drop> Gate for RunGate<S> {
+    type Reader = FromRead<Incoming>;
+
+    type Writer = ToWrite<Outgoing>;
+
+    fn open_next<R: Wait>(
+        &mut self,
+        rt: &R,
+    ) -> Result<Option<(FromRead<Incoming>, ToWrite<Outgoing>)>, GateFault> {
+        self.announcement.make();
+        for _ in rt.forever() {
+            let Some(stream) = self.hall.next(rt) else {
+                return Err(GateFault::Refused);
+            };
+            if let Some(halves) = self.halves_of(stream) {
+                return Ok(Some(halves));
+            }
+        }
+        unreachable!()
+    }
+}
