@@ -1,31 +1,30 @@
-.PHONY: run serve install test check model edits extra refusals compare clients hostile
+.PHONY: build run serve install test check model edits extra refusals compare clients hostile
 
 PROGRAM = crates/xs_server/out/xs_server
 BUILD = python3 scripts/build.py out/build.log
 
-# Proves and builds the program, and runs the script of two additions.
-run:
-	@echo "Proving and building xs_server; out/build.log says more. The first time takes 40 minutes and more of processor time."
+# Proves and builds the program.
+build:
 	@$(BUILD)
+
+# Proves and builds the program, and runs the script of two additions.
+run: build
 	@$(PROGRAM) script < crates/xs_server/stdin
 
-# Proves and builds the program, and serves 16 connections at once on port 6379 of 127.0.0.1.
-serve:
-	@echo "Proving and building xs_server; out/build.log says more. The first time takes 40 minutes and more of processor time."
-	@$(BUILD)
-	@$(PROGRAM) serve --port 6379 --workers 16 --each 1000000
+# Proves and builds the program, and serves on port 6379 of 127.0.0.1 until it is stopped.
+serve: build
+	@$(PROGRAM) run
 
 # Proves and builds the program, and puts it and its unit for systemd below PREFIX (and DESTDIR, if that is given).
 PREFIX = /usr/local
-install:
-	@$(BUILD)
+install: build
 	install -D -m 755 $(PROGRAM) $(DESTDIR)$(PREFIX)/bin/xs_server
 	install -D -m 644 service/xs_server.service $(DESTDIR)$(PREFIX)/lib/systemd/system/xs_server.service
 	sed -i 's,/usr/local,$(PREFIX),' $(DESTDIR)$(PREFIX)/lib/systemd/system/xs_server.service
 
 # CI. Proves everything from nothing, tries the edits of must-fail/, and runs the tests and the program that
-# it built: the worked cases, the great scripts, connections made at random, and a server as its users run it. Then the
-# model of how threads wait for each other is explored. Before that, docs/PROOFS.md has to name the edits that there are,
+# it built: the worked cases, the great scripts, connections made at random, and a server as its users run it, bounded and
+# lasting. Then the models of how threads wait for each other are explored. Before that, docs/PROOFS.md has to name the edits that there are,
 # and what the slips of conformance/slips.txt turn has to stand in its file.
 test:
 	python3 scripts/edits_table.py --check
@@ -35,6 +34,7 @@ test:
 	python3 conformance/great.py $(PROGRAM)
 	python3 conformance/sessions.py --bytes 5000000 $(PROGRAM)
 	python3 conformance/serves.py $(PROGRAM)
+	python3 conformance/running.py $(PROGRAM)
 	python3 model/run.py
 
 # Proves what has changed, and runs the worked cases and a server: what one runs while working.
@@ -43,6 +43,7 @@ check:
 	$(BUILD)
 	python3 conformance/run.py $(PROGRAM) script
 	python3 conformance/serves.py $(PROGRAM)
+	python3 conformance/running.py $(PROGRAM)
 
 # Has Spin explore how the lanes of a desk and their keeper wait for each other, and some wrong ways. Debian: apt-get
 # install spin gcc

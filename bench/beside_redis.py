@@ -26,6 +26,8 @@ import time
 from dataclasses import dataclass
 
 HERE = os.path.dirname(os.path.abspath(__file__))
+# What callgrind tells once it runs a process.
+STARTED = "For interactive control, run 'callgrind_control"
 
 
 @dataclass
@@ -75,13 +77,32 @@ class Counted:
         self.counts = counts
         self.child = subprocess.Popen([*(before if counts else []), *words], **streams)
 
+        if counts:
+            self.wait_for_valgrind()
+
+    def wait_for_valgrind(self):
+        """Until then there is nothing to control, and a process that waits hasn't read all there is."""
+        deadline = time.monotonic() + 60
+        while not os.path.exists(self.log) or STARTED not in open(self.log, encoding="ascii").read():
+            if self.child.poll() is not None or time.monotonic() > deadline:
+                self.child.kill()
+                raise SystemExit("valgrind hasn't started")
+            time.sleep(0.01)
+
     def control(self, state):
         if self.counts:
-            subprocess.run(["callgrind_control", "-i", state, str(self.child.pid)], check=True, capture_output=True)
+            done = subprocess.run(["callgrind_control", "-i", state, str(self.child.pid)], check=True,
+                                  capture_output=True, text=True)
+            if "OK." not in done.stdout:
+                raise SystemExit(f"callgrind_control -i {state} said: {done.stdout}{done.stderr}")
 
     def instructions(self):
-        told = open(self.log, encoding="ascii").read() if self.counts else "Collected : 0"
-        return int(re.search(r"Collected : (\d+)", told).group(1))
+        if not self.counts:
+            return 0
+        told = re.search(r"Collected : (\d+)", open(self.log, encoding="ascii").read())
+        if not told or told.group(1) == "0":
+            raise SystemExit("valgrind has counted nothing")
+        return int(told.group(1))
 
 
 class Script(Counted):

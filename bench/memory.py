@@ -3,7 +3,9 @@
 
     memory.py [--entries N] [--only WORD] PROGRAM      needs redis-server
 
-First bytes of an entry, by resident memory: of entries that were added, after a random half was deleted, and after a trim
+Bytes of a group with one consumer and one pending row, of 10,000 and of 100,000 such groups, and bytes of a pending row,
+of so many rows as entries, with one consumer and with a hundred: of the program with a script, and over TCP.
+Then bytes of an entry, by resident memory: of entries that were added, after a random half was deleted, and after a trim
 to a tenth, each by the entries that were added. Of Redis what it counts itself (MEMORY USAGE) stands behind. Then a server
 with 16 workers whose stream of 100,000 entries of 60 bytes is kept by MAXLEN: its resident memory in MiB after each of 16
 connections that fill it in turn and stay, and after every eighth of 64 connections of one client.
@@ -15,7 +17,12 @@ import random
 import signal
 import socket
 import subprocess
+import sys
 import time
+
+TOP = os.path.dirname(os.path.dirname(os.path.abspath(__file__)))
+sys.path.append(os.path.join(TOP, "conformance"))
+from real_redis import connect, read_reply, request  # noqa: E402
 
 SHAPES = {"one field of 60": (1, 1, 60), "five of 10 + 20": (5, 10, 20), "one of 1,000": (1, 1, 1000),
           "six of 10 + 40": (6, 10, 40)}
@@ -71,36 +78,76 @@ class Script:
         self.process.wait()
 
 
-class Redis:
-    def __init__(self):
-        command = ["redis-server", "--port", str(PORT), "--save", "", "--appendonly", "no"]
+class Served:
+    """A server that listens at the port."""
+
+    def __init__(self, command, port):
         self.process = subprocess.Popen(command, stdout=subprocess.DEVNULL)
-        time.sleep(1)
-        self.socket = socket.create_connection(("127.0.0.1", PORT))
+        self.socket = connect(port)
         self.replies = self.socket.makefile("rb")
 
     def ask(self, commands):
-        waiting = 0
+        waiting = []
         for command in commands:
-            self.socket.sendall(f"{command}\r\n".encode())
-            waiting += 1
-            if waiting == 100:
+            waiting.append(request([word.encode() for word in command.split(" ")]))
+            if len(waiting) == 100:
                 self.take(waiting)
-                waiting = 0
+                waiting = []
         self.take(waiting)
 
-    def take(self, count):
-        for _ in range(count):
-            if self.replies.readline().startswith(b"$"):
-                self.replies.readline()
+    def take(self, waiting):
+        self.socket.sendall(b"".join(waiting))
+        for _ in waiting:
+            if (got := read_reply(self.replies)).startswith(b"-"):
+                raise SystemExit(got.decode())
 
     def counted(self):
-        self.socket.sendall(b"MEMORY USAGE s SAMPLES 0\r\n")
-        return int(self.replies.readline()[1:])
+        return ""
 
     def close(self):
         self.process.send_signal(signal.SIGTERM)
         self.process.wait()
+
+
+class Server(Served):
+    """The program, which serves 4 connections at once."""
+
+    def __init__(self, program):
+        super().__init__([program, "serve", "--port", str(PORT), "--workers", "4", "--each", "1000000"], PORT)
+
+
+class Redis(Served):
+    def __init__(self):
+        super().__init__(["redis-server", "--port", str(PORT), "--save", "", "--appendonly", "no"], PORT)
+
+    def counted(self):
+        self.socket.sendall(request([b"MEMORY", b"USAGE", b"s", b"SAMPLES", b"0"]))
+        return int(read_reply(self.replies)[1:])
+
+
+def groups(count):
+    """A stream, and groups that have each read its one entry."""
+    yield ["XADD s 1-0 f v"]
+    yield (command for k in range(count)
+           for command in (f"XGROUP CREATE s g{k} 0", f"XREADGROUP GROUP g{k} c STREAMS s >"))
+
+
+def rows(count, consumers):
+    """A stream and a group, and then reads of a hundred entries by so many consumers in turn."""
+    yield (command for k in range(count) for command in ([f"XADD s {ids(k)} f v"] if k else
+                                                         [f"XADD s {ids(k)} f v", "XGROUP CREATE s g 0"]))
+    yield (f"XREADGROUP GROUP g c{k % consumers} COUNT 100 STREAMS s >" for k in range(count // 100))
+
+
+def bytes_of_each(kind, filling, commands, count):
+    """What so many groups or rows take, behind a filling, by their number."""
+    with contextlib.closing(kind()) as server:
+        server.ask(filling)
+        settle(server.process.pid)
+        before = resident(server.process.pid)
+        server.ask(commands)
+        settle(server.process.pid)
+        return f"{(resident(server.process.pid) - before) / count:.1f}"
 
 
 def bytes_of_entries(kind, shape, size):
@@ -115,12 +162,8 @@ def bytes_of_entries(kind, shape, size):
             yield told + (f" ({counted / size:.1f})" if counted else "")
 
 
-def request(*words):
-    return b"*%d\r\n" % len(words) + b"".join(b"$%d\r\n%s\r\n" % (len(word), word) for word in words)
-
-
 def add(connection, count):
-    one = request(b"XADD", b"s", b"MAXLEN", b"100000", b"*", b"f", b"v" * 60)
+    one = request([b"XADD", b"s", b"MAXLEN", b"100000", b"*", b"f", b"v" * 60])
     for _ in range(count // 1000):
         connection.sendall(one * 1000)
         lines = 0
@@ -146,12 +189,25 @@ def served(program, connections, each, stay):
         server.send_signal(signal.SIGTERM)
 
 
+def of_groups_and_rows(given):
+    kinds = {"by a script": lambda: Script(given.program), "over TCP": lambda: Server(given.program), "Redis": Redis}
+    works = {f"{count:,} groups": (lambda count=count: groups(count), count) for count in (10_000, 100_000)}
+    works |= {f"{given.entries:,} rows of {name}": (lambda consumers=consumers: rows(given.entries, consumers),
+                                                    given.entries)
+              for name, consumers in (("one consumer", 1), ("a hundred consumers", 100))}
+    for title, (steps_of, count) in works.items():
+        if given.only in title:
+            for name, kind in kinds.items():
+                print(f"{title}, {name}:", bytes_of_each(kind, *steps_of(), count), flush=True)
+
+
 def main():
     asked = argparse.ArgumentParser(description=__doc__, formatter_class=argparse.RawDescriptionHelpFormatter)
     asked.add_argument("--entries", type=int, default=1_000_000)
     asked.add_argument("--only", default="")
     asked.add_argument("program", metavar="PROGRAM")
     given = asked.parse_args()
+    of_groups_and_rows(given)
     for title, shape in SHAPES.items():
         if given.only in title:
             for name, kind in (("here", lambda: Script(given.program)), ("Redis", Redis)):

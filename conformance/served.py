@@ -30,26 +30,51 @@ def words_of(program, port, workers, each):
     return [program, "serve", "--port", str(port), "--workers", str(workers), "--each", str(each)]
 
 
+def words_of_run(program, port, workers, host=HOST):
+    """The words that run the program on this address, without the address if it is the ordinary one."""
+    return [program, "run", "--port", str(port), "--workers", str(workers), *(["--bind", host] if host != HOST else [])]
+
+
+def address(host, port):
+    """An address as the program writes it."""
+    return f"[{host}]:{port}" if ":" in host else f"{host}:{port}"
+
+
 def with_limits(limits):
     """What a process does before its program starts, so that it has these limits."""
     def set_limits():
         for which, most in limits.items():
             resource.setrlimit(which, (most, resource.getrlimit(which)[1]))
-    return set_limits
+    return set_limits if limits else None
 
 
 class Server:
-    """A running server. `port` is where it listens, `child` its process."""
+    """A running server, which ends with the block. `port` is where it listens, `child` its process."""
 
-    def __init__(self, program, workers, each, limits):
-        self.port = free_port()
+    def __init__(self, words, port, workers, limits):
+        self.port = port
         self.workers = workers
-        self.child = subprocess.Popen(words_of(program, self.port, workers, each), stdout=subprocess.PIPE,
-                                      stderr=subprocess.PIPE, preexec_fn=with_limits(limits))
-        line = self.child.stdout.readline().decode()
-        if line != f"listening {HOST}:{self.port}\n":
-            self.end()
-            raise SystemExit(f"the server said {line!r}")
+        self.child = subprocess.Popen(words, stdout=subprocess.PIPE, stderr=subprocess.PIPE,
+                                      preexec_fn=with_limits(limits))
+
+    def __enter__(self):
+        return self
+
+    def __exit__(self, *_):
+        self.end()
+
+    def lines_until(self, stream, text):
+        """The lines that it writes there, up to the first that holds this text. There has to be one."""
+        lines, too_late = [], threading.Timer(PATIENCE, self.child.kill)
+        too_late.start()
+        for line in stream:
+            lines.append(line.decode())
+            if text in lines[-1]:
+                break
+        too_late.cancel()
+        if not lines or text not in lines[-1]:
+            raise SystemExit(f"the server said {lines!r}, and not {text!r}")
+        return lines
 
     def end(self):
         if self.child.poll() is None:
@@ -88,12 +113,39 @@ class Server:
 
 @contextlib.contextmanager
 def serving(program, workers=4, each=1_000_000, limits=None):
-    """A new server, which ends with the block."""
-    server = Server(program, workers, each, limits or {})
-    try:
+    """A new server of `serve`, which ends with the block."""
+    port = free_port()
+    with Server(words_of(program, port, workers, each), port, workers, limits) as server:
+        line = f"listening {HOST}:{port}\n"
+        if (lines := server.lines_until(server.child.stdout, line)) != [line]:
+            raise SystemExit(f"the server said {lines!r}")
         yield server
+
+
+@contextlib.contextmanager
+def running(program, *options, workers=4, limits=None, host=HOST):
+    """A new server of `run`, which ends with the block."""
+    port = free_port()
+    words = [*words_of_run(program, port, workers, host), *options]
+    with Server(words, port, workers, limits) as server:
+        server.lines_until(server.child.stderr, f"listening on {address(host, port)}")
+        yield server
+
+
+@contextlib.contextmanager
+def full_pipe():
+    """The end of a pipe that has no more room, and that nobody reads."""
+    reader, writer = os.pipe()
+    try:
+        os.set_blocking(writer, False)
+        with contextlib.suppress(BlockingIOError):
+            while True:
+                os.write(writer, bytes(4096))
+        os.set_blocking(writer, True)
+        yield writer
     finally:
-        server.end()
+        os.close(reader)
+        os.close(writer)
 
 
 def raw(port):
@@ -182,28 +234,49 @@ def together(count, work):
         raise faults[0]
 
 
-def passes(case, given):
-    """Whether the case passes; its fault is shown. A server that it was given has to answer behind it."""
+def answers_at(port):
+    """Whoever listens on this port answers a PING; it may begin to listen only now."""
+    deadline = time.monotonic() + PATIENCE
+    while True:
+        try:
+            stream = raw(port)
+            break
+        except ConnectionRefusedError:
+            assert time.monotonic() < deadline, "it doesn't listen"
+            time.sleep(0.02)
+    with stream:
+        stream.settimeout(5)
+        say(stream, "PING", "+PONG\r\n")
+
+
+def passes(case, given, behind=None):
+    """Whether the case passes, and what stands behind it; its fault is shown."""
     began = time.monotonic()
     try:
         case(given)
-        if isinstance(given, Server):
-            all_answer(given)
-    except (AssertionError, OSError, subprocess.SubprocessError, threading.BrokenBarrierError) as fault:
+        if behind:
+            behind(given)
+    except (AssertionError, OSError, subprocess.SubprocessError, threading.BrokenBarrierError, SystemExit) as fault:
         print(f"{case.__name__}: {type(fault).__name__} {fault}", flush=True)
         return False
     print(f"{case.__name__}: passed in {time.monotonic() - began:.1f} s", flush=True)
     return True
 
 
-def try_all(program, over_server, over_program, workers):
-    """Tries each of these cases, the former over one server, up to a few faults; says how many passed, and gives the
-    status."""
-    passed = faults = 0
-    with serving(program, workers=workers) as server:
-        for case, given in [*((case, server) for case in over_server), *((case, program) for case in over_program)]:
-            if faults < MOST_FAULTS:
-                good = passes(case, given)
-                passed, faults = passed + good, faults + (not good)
+def tell(results):
+    """Says how many of these passed, and gives the status."""
+    passed, faults = results.count(True), results.count(False)
     print(f"{passed} passed, {faults} failed")
     return 1 if faults else 0
+
+
+def try_all(program, over_server, over_program, workers):
+    """Tries each of these cases, the former over one server, up to a few faults; says how many passed, and gives the
+    status. Behind each of the former all workers have to answer."""
+    results = []
+    with serving(program, workers=workers) as server:
+        for case, *given in [*((case, server, all_answer) for case in over_server),
+                             *((case, program) for case in over_program)]:
+            if results.count(False) < MOST_FAULTS:
+                results.append(passes(case, *given))
+    return tell(results)

@@ -29,6 +29,10 @@ from served import (PING, PONG, all_answer, asking, fill, raw, read_exactly, rea
 WORKERS = 4
 PROTOCOL = b"-ERR Protocol error\r\n"
 MEGABYTE = 1 << 20
+# In seconds: a system may acknowledge at once what comes behind a gap that long.
+LONGEST_GAP = 0.2
+# In seconds: how soon connections are accepted again, once there are descriptors.
+ACCEPTS_AGAIN = 2
 
 
 # ---- replies
@@ -104,23 +108,29 @@ def byte_by_byte(server):
 
 def without_delay(server):
     """A small reply behind another small one comes at once, though the client hasn't acknowledged the former. The second
-    request comes while the first one is executed, which names so many ids that it takes a while."""
+    request comes while the first one is executed, which names so many ids that it takes a while. A turn in which that
+    took no time, or too long, isn't counted: the second reply may come at once then, however it is sent."""
     fill(server, "delay", 1, 1)
     say_at(server, "XGROUP CREATE delay g 0", "+OK\r\n")
-    asked, waits = asking("XACK delay g" + " 1-1" * 200_000), []
+    asked, took, waits = asking("XACK delay g" + " 1-1" * 200_000), [], []
     with raw(server.port) as stream:
         stream.setsockopt(socket.IPPROTO_TCP, socket.TCP_NODELAY, 1)
-        for _ in range(9):
+        while len(waits) < 9 and len(took) < 50:
             stream.sendall(asked[:-1])
             time.sleep(0.05)
             stream.setsockopt(socket.IPPROTO_TCP, socket.TCP_QUICKACK, 0)
+            began = time.monotonic()
             stream.sendall(asked[-1:])
             time.sleep(0.002)
             stream.sendall(PING)
+            sent = time.monotonic()
             assert read_exactly(stream, 4) == b":0\r\n"
-            began = time.monotonic()
+            came = time.monotonic()
             assert read_exactly(stream, len(PONG)) == PONG
-            waits.append(time.monotonic() - began)
+            took.append(came - began)
+            if came > sent + 0.001 and came < began + LONGEST_GAP:
+                waits.append(time.monotonic() - came)
+    assert len(waits) == 9, f"the first request took {took}"
     assert sorted(waits)[5] < 0.01, waits
     say_at(server, "DEL delay", number(1))
 
@@ -221,6 +231,32 @@ def vanished(server):
                 gone.sendall(sent)
                 reset(gone)
                 say(other, "PING", "+PONG\r\n")
+
+
+def nothing_of_another(server):
+    """Behind a client that reset its connection with replies unread, or within a request, the next ones have the replies
+    to their own requests, and no byte of the other's."""
+    fill(server, "others", 10, 100_000)
+    asked, own = asking("XRANGE others - +"), 0
+    for sent in (asked * 20, asked * 20 + asked[:-5], asking("PING others") * 10_000, asking("PING others")[:-5]):
+        for read in (0, 10, 1_000_000):
+            with contextlib.ExitStack() as open_ones:
+                gone = [open_ones.enter_context(raw(server.port)) for _ in range(server.workers)]
+                for stream in gone:
+                    stream.setblocking(False)
+                    stream.send(sent)
+                select.select(gone, [], [], 0.02)
+                for stream in gone:
+                    with contextlib.suppress(BlockingIOError):
+                        stream.recv(read)
+                    reset(stream)
+                for _ in range(2 * server.workers):
+                    with raw(server.port) as stream:
+                        own += 1
+                        stream.sendall(asking(f"PING own{own}"))
+                        stream.shutdown(socket.SHUT_WR)
+                        assert (got := read_to_end(stream)) == (bulk(f"own{own}").encode(), False), got[0][:100]
+    say_at(server, "DEL others", number(1))
 
 
 # ---- the process
@@ -402,6 +438,18 @@ def send_all_that_goes(stream, asked):
         stream.sendall(asked)
 
 
+def full_output(program):
+    """Though its standard output is a full pipe that nobody reads, it serves."""
+    port = served.free_port()
+    with served.full_pipe() as output:
+        child = subprocess.Popen(served.words_of(program, port, 2, 2), stdout=output, stderr=subprocess.DEVNULL)
+        try:
+            served.answers_at(port)
+        finally:
+            child.kill()
+            child.wait()
+
+
 def too_little_to_start(program):
     """If there is no room for 64 threads the program says so, with status 1, and doesn't say that it listens."""
     for room in (10, 100, 300):
@@ -416,6 +464,8 @@ def few_descriptors(program):
     descriptors, and with more of them all workers serve."""
     workers, descriptors = 16, 12
     with serving(program, workers=workers, limits={resource.RLIMIT_NOFILE: descriptors}) as server:
+        # the thread that says that it listens ends with that
+        time.sleep(0.2)
         threads = server.threads()
         assert threads >= workers + 1, threads
         for _ in range(2):
@@ -433,8 +483,48 @@ def few_descriptors(program):
         time.sleep(1)
         assert server.processor_time() - before <= 0.1
         resource.prlimit(server.child.pid, resource.RLIMIT_NOFILE, (100, 100))
-        time.sleep(0.5)
+        began = time.monotonic()
         all_answer(server)
+        took = time.monotonic() - began
+        assert took < ACCEPTS_AGAIN, f"connections were accepted again after {took:.1f} s"
+
+
+def add_many(server, key, first, count, size):
+    """Adds entries with one field of this size, many at a time."""
+    with raw(server.port) as stream:
+        for start in range(first, first + count, 1000):
+            ids = [f"{place}-0" for place in range(start, start + 1000)]
+            stream.sendall(b"".join(asking(f"XADD {key} {one} f {'v' * size}") for one in ids))
+            wanted = "".join(bulk(one) for one in ids).encode()
+            assert read_exactly(stream, len(wanted)) == wanted
+
+
+def delete_many(server, key, first, count):
+    """Deletes 99 of each 100 of these entries."""
+    with raw(server.port) as stream:
+        for start in range(first, first + count, 100):
+            say(stream, f"XDEL {key} {' '.join(f'{place}-0' for place in range(start, start + 99))}", number(99))
+
+
+def memory_of_entries(program):
+    """An entry takes little more memory than its bytes, and of deleted ones little is kept, also if one in a hundred
+    stays: what they took serves the next ones."""
+    count, size = 100_000, 60
+    with serving(program) as server:
+        all_answer(server)
+        before = server.resident()
+        add_many(server, "kept", 1, count, size)
+        full = server.resident() - before
+        for first in range(1, 5 * count, count):
+            if first > 1:
+                add_many(server, "kept", first, count, size)
+            delete_many(server, "kept", first, count)
+        left = server.resident() - before
+        say_at(server, "XLEN kept", number(5 * count // 100))
+        print(f"{full / count:.0f} bytes an entry of {size}; {left / MEGABYTE:.1f} MiB once 99 of each 100 of five times "
+              "as many were deleted", flush=True)
+        assert full < 110 * count, full
+        assert left < 1.5 * full, (left, full)
 
 
 def full_queue_deleted(program):
@@ -458,9 +548,10 @@ def main(arguments):
         return 2
     over_server = (replies_before_more, in_order, of_all_sizes, to_a_slow_reader, byte_by_byte, without_delay,
                    at_this_time, empty_words, a_queue, cut_everywhere, in_two_parts, endings, vanished,
-                   listens_here_alone, idle, stopped_and_continued)
-    over_program = (as_many_as_workers, more_than_workers, ends, taken, options, stopped, too_little_to_start,
-                    few_descriptors, full_queue_deleted, full_queue_trimmed, full_queue_handed_out)
+                   nothing_of_another, listens_here_alone, idle, stopped_and_continued)
+    over_program = (as_many_as_workers, more_than_workers, ends, taken, options, stopped, full_output,
+                    too_little_to_start, few_descriptors, memory_of_entries, full_queue_deleted, full_queue_trimmed,
+                    full_queue_handed_out)
     return try_all(arguments[0], over_server, over_program, WORKERS)
 
 

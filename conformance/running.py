@@ -1,0 +1,528 @@
+#!/usr/bin/env python3
+"""Runs the program by `run`, as a service does, and checks over sockets what no proof covers.
+
+    running.py PROGRAM
+
+Readers that wait and the clients that leave them (conformance/waiting.py), more connections than workers, few
+descriptors, little memory, the options. Cases that mostly wait are tried together. It needs Python's standard library
+alone. The last line is 'N passed, M failed'; the status is 1 if M > 0.
+"""
+import contextlib
+import os
+import re
+import resource
+import socket
+import subprocess
+import sys
+import time
+from concurrent.futures import ThreadPoolExecutor
+
+import full_queue
+import served
+import waiting
+from full_queue import MEGABYTE, NO_MEMORY
+from great import bulk, number
+from real_redis import read_reply
+from served import (MOST_FAULTS, PATIENCE, PING, PONG, all_answer, asking, passes, raw, read_to_end, running, say, tell)
+from waiting import NOTHING, NOTICED, OK, Clients, add, begin, comes, gives, make, nothing_comes, reading, refuses
+
+FULL = b"-ERR max number of clients reached\r\n"
+# How many workers the server has that the cases of readers share, and the most that there may be.
+SHARED, MOST_WORKERS = 128, 1024
+
+
+def run(words, **how):
+    """What becomes of a program that ends by itself."""
+    return subprocess.run(words, capture_output=True, timeout=30, **how)
+
+
+# ---- more connections than workers
+
+
+def is_refused(stream, began, least, most):
+    """The connection is told that there are too many, between so many seconds behind this moment, and then ends."""
+    stream.settimeout(most + 1)
+    got, _ = read_to_end(stream)
+    took = time.monotonic() - began
+    assert got == FULL, got
+    assert least - 0.02 <= took <= most, f"refused after {took} s"
+
+
+def forty_too_many(program):
+    """With 4 workers that are busy, two of them with readers that wait, 40 more connections are refused after a second,
+    and nothing that they sent is executed. When one ends, a new one is served."""
+    with running(program, workers=4) as server, Clients(server.port) as clients:
+        one, idle = clients.new(), clients.new()
+        make(one, "busy")
+        for name in "ab":
+            clients.waiting(name, "busy")
+        say(idle, "PING", PONG.decode())
+        more = []
+        for place in range(1, 41):
+            more.append((time.monotonic(), clients.new()))
+            more[-1][1].sendall(asking(f"XADD refused {place}-0 f v"))
+        for began, stream in more:
+            is_refused(stream, began, 1, 3)
+        say(one, "XLEN refused", number(0))
+        idle.close()
+        add(clients.new(), "refused", 1)
+        say(one, "XLEN refused", number(1))
+
+
+def one_ends_in_time(program):
+    """Of connections that come when all workers are busy as many are served, each request once, as others end within a
+    second, and the rest is refused."""
+    with running(program, workers=4) as server, Clients(server.port) as clients:
+        held = [clients.new() for _ in range(4)]
+        for stream in held:
+            say(stream, "PING", PONG.decode())
+        for ended in (1, 2):
+            began = time.monotonic()
+            late = [clients.new() for _ in range(3)]
+            for place, stream in enumerate(late):
+                stream.sendall(asking(f"XADD late{ended} * f {place}"))
+            time.sleep(0.4)
+            for _ in range(ended):
+                held.pop().close()
+            replies = []
+            for stream in late:
+                stream.settimeout(3)
+                replies.append(stream.recv(100))
+            assert time.monotonic() - began <= 3
+            served_ones = [stream for stream, reply in zip(late, replies) if reply.startswith(b"$")]
+            assert len(served_ones) == ended and replies.count(FULL) == 3 - ended, replies
+            say(served_ones[0], f"XLEN late{ended}", number(ended))
+            held += served_ones
+
+
+def may_have(count):
+    """Whether this process may have so many descriptors; its limit is raised for that."""
+    soft, hard = resource.getrlimit(resource.RLIMIT_NOFILE)
+    if hard != resource.RLIM_INFINITY and hard < count:
+        print(f"passed over: the limit of open files is {hard}, not {count}", flush=True)
+        return False
+    if soft != resource.RLIM_INFINITY and soft < count:
+        resource.setrlimit(resource.RLIMIT_NOFILE, (count, hard))
+    return True
+
+
+def a_thousand(program):
+    """1,024 connections are served at once. The next is refused, and what it sent isn't executed; when one ends, another
+    one is served."""
+    if not may_have(3000):
+        return
+    with running(program, workers=MOST_WORKERS) as server, Clients(server.port) as clients:
+        held = [clients.new() for _ in range(MOST_WORKERS)]
+        for _ in range(2):
+            for stream in held:
+                stream.sendall(PING)
+            for stream in held:
+                comes(stream, PONG.decode())
+        began, more = time.monotonic(), clients.new()
+        more.sendall(asking("XADD refused 1-0 f v"))
+        is_refused(more, began, 1, 3)
+        say(held[0], "XLEN refused", number(0))
+        held.pop().close()
+        add(clients.new(), "refused", 1)
+
+
+def busy_among_idle(program):
+    """64 connections that are busy among 960 that are idle: all are answered, and so are the idle ones in the end."""
+    if not may_have(3000):
+        return
+    with running(program, workers=MOST_WORKERS) as server, Clients(server.port) as clients:
+        idle, busy = [clients.new() for _ in range(960)], [clients.new() for _ in range(64)]
+        for _ in range(10):
+            for name, stream in enumerate(busy):
+                stream.sendall(asking(f"XADD busy{name} * f v") * 20)
+            for stream in busy:
+                with stream.makefile("rb") as replies:
+                    assert all(read_reply(replies).startswith(b"$") for _ in range(20))
+        for name, stream in enumerate(busy):
+            say(stream, f"XLEN busy{name}", number(200))
+        for stream in idle:
+            stream.sendall(PING)
+        for stream in idle:
+            comes(stream, PONG.decode())
+
+
+def a_thousand_wait(program):
+    """1,000 readers wait: each has a job, in the order in which they began to, and then is told that its key is gone."""
+    if not may_have(3000):
+        return
+    with running(program, workers=MOST_WORKERS) as server, Clients(server.port) as clients:
+        one, readers = clients.new(), [clients.new() for _ in range(1000)]
+        make(one, "many")
+        for name, stream in enumerate(readers):
+            begin(stream, reading(f"c{name}", "many", "COUNT 1 BLOCK 0"))
+        nothing_comes(0.5, *readers)
+        for first in range(1, 1001, 100):
+            places = range(first, first + 100)
+            one.sendall(b"".join(asking(f"XADD many {place}-0 f v") for place in places))
+            comes(one, "".join(bulk(f"{place}-0") for place in places))
+        for place, stream in enumerate(readers, 1):
+            comes(stream, gives("many", place))
+            begin(stream, reading(f"c{place - 1}", "many"))
+        nothing_comes(0.5, *readers)
+        say(one, "DEL many", number(1))
+        for stream in readers:
+            refuses(stream, "NOGROUP")
+
+
+# ---- descriptors and memory
+
+
+def least_unused(server):
+    """The least number that no descriptor of the server has."""
+    used = {int(name) for name in os.listdir(f"/proc/{server.child.pid}/fd")}
+    return next(number for number in range(len(used) + 1) if number not in used)
+
+
+def ask_or_be_refused(stream, text):
+    """Whether the request is answered; else the connection is refused at once, and ends."""
+    stream.settimeout(2)
+    try:
+        stream.sendall(asking(text))
+        got = stream.recv(1000)
+        if got.startswith(b"$"):
+            return True
+        got += read_to_end(stream)[0]
+    except (ConnectionResetError, BrokenPipeError):
+        got = b""
+    assert got in (FULL, b""), got
+    return False
+
+
+def few_descriptors(program):
+    """If no descriptor is left, connections are refused at once, and nothing that they sent is executed; those that are
+    open are served, and nothing spins. When the limit is raised it serves again."""
+    with running(program, workers=32) as server:
+        limits = resource.prlimit(server.child.pid, resource.RLIMIT_NOFILE)
+        with Clients(server.port) as clients:
+            one = clients.new()
+            say(one, "PING", PONG.decode())
+            resource.prlimit(server.child.pid, resource.RLIMIT_NOFILE, (least_unused(server), limits[1]))
+            # a call that waits for a connection may have had its descriptor before
+            answered = sum(ask_or_be_refused(clients.new(), "XADD few * f v") for _ in range(12))
+            assert answered < 12, "nobody was refused"
+            before = server.processor_time()
+            nothing_comes(1, one)
+            assert (used := server.processor_time() - before) <= 0.1, used
+            say(one, "XLEN few", number(answered))
+        resource.prlimit(server.child.pid, resource.RLIMIT_NOFILE, limits)
+        time.sleep(0.5)
+        all_answer(server)
+
+
+def no_descriptors(program):
+    """The same with a limit below all descriptors that it has. Connections may then wait; nothing spins, and when the
+    limit is raised it serves again."""
+    with running(program, workers=8) as server:
+        limits = resource.prlimit(server.child.pid, resource.RLIMIT_NOFILE)
+        with Clients(server.port) as clients:
+            one = clients.new()
+            say(one, "PING", PONG.decode())
+            resource.prlimit(server.child.pid, resource.RLIMIT_NOFILE, (3, limits[1]))
+            more = [clients.new() for _ in range(4)]
+            before = server.processor_time()
+            time.sleep(2)
+            assert (used := server.processor_time() - before) <= 0.1, used
+            say(one, "PING", PONG.decode())
+            for stream in more:
+                stream.close()
+            resource.prlimit(server.child.pid, resource.RLIMIT_NOFILE, limits)
+        time.sleep(2)
+        all_answer(server)
+
+
+def too_few_to_start(program):
+    """With more workers than descriptors it doesn't start, and names the limit to raise."""
+    for workers, most in ((64, 20), (64, 64), (1024, 1000), (4, 4)):
+        def set_limits(most=most):
+            resource.setrlimit(resource.RLIMIT_NOFILE, (most, most))
+
+        done = run(served.words_of_run(program, served.free_port(), workers), preexec_fn=set_limits)
+        assert (done.returncode, done.stdout) == (1, b""), (workers, most, done)
+        assert b"LimitNOFILE" in done.stderr or b"ulimit -n" in done.stderr, (workers, most, done)
+
+
+def too_little_memory_to_start(program):
+    """If there is no room for so many threads it says so, with status 1, and doesn't say that it listens."""
+    for workers, room in ((64, 10), (1024, 100), (1024, 300)):
+        done = run(served.words_of_run(program, served.free_port(), workers),
+                   preexec_fn=served.with_limits({resource.RLIMIT_AS: room * MEGABYTE}))
+        assert (done.returncode, done.stdout) == (1, b""), (workers, room, done)
+        assert done.stderr.startswith(b"xs_server: ") and b"listening on" not in done.stderr, (workers, room, done)
+
+
+def full_memory(program):
+    """When additions have filled the memory, consumers come whose workers never served anybody. Each is answered, or
+    told that there is no memory and closed; none hangs, and the server goes on."""
+    with running(program, workers=8) as server:
+        with Clients(server.port) as clients:
+            one = clients.new()
+            make(one, "q")
+            full_queue.limit_memory(server, 16 * MEGABYTE)
+            assert full_queue.add_until_full(server) > 1000
+            told = []
+            for name in range(6):
+                stream = clients.new()
+                stream.settimeout(5)
+                stream.sendall(asking(reading(f"c{name}", "q", "COUNT 1 BLOCK 100")))
+                with stream.makefile("rb") as replies:
+                    told.append(read_reply(replies))
+                assert told[-1] == NO_MEMORY or told[-1].startswith(b"*1\r\n*2\r\n$1\r\nq\r\n"), told[-1][:100]
+                if told[-1] == NO_MEMORY:
+                    assert read_to_end(stream)[0] == b""
+            print(f"of 6 consumers {told.count(NO_MEMORY)} had no memory", flush=True)
+            say(one, "DEL q", number(1))
+        all_answer(server)
+
+
+# ---- options
+
+
+def ends_idle(stream, began):
+    """The connection is closed between 1 and 2.5 seconds behind this moment, with nothing more."""
+    stream.settimeout(5)
+    got, _ = read_to_end(stream)
+    took = time.monotonic() - began
+    assert got == b"" and 0.98 <= took <= 2.5, (got, took)
+
+
+def sends_nothing(stream):
+    """It is closed."""
+    ends_idle(stream, time.monotonic())
+
+
+def falls_silent(stream):
+    """It is closed behind its last reply."""
+    say(stream, "PING", PONG.decode())
+    ends_idle(stream, time.monotonic())
+
+
+def stops_within_a_request(stream):
+    """It is closed behind half a request."""
+    stream.sendall(PING[:7])
+    ends_idle(stream, time.monotonic())
+
+
+def waits(stream):
+    """It isn't closed while it waits, but then."""
+    stream.sendall(asking("XGROUP CREATE idle g 0 MKSTREAM") + asking(reading("a", "idle", "BLOCK 3500")))
+    comes(stream, OK)
+    nothing_comes(3, stream)
+    comes(stream, NOTHING)
+    ends_idle(stream, time.monotonic())
+
+
+def sends_requests(stream):
+    """It isn't closed while it sends requests."""
+    for _ in range(9):
+        say(stream, "PING", PONG.decode())
+        time.sleep(0.4)
+
+
+def sends_bytes(stream):
+    """It isn't closed while it sends a request, byte by byte."""
+    for byte in PING[:8]:
+        stream.sendall(bytes([byte]))
+        time.sleep(0.4)
+    stream.sendall(PING[8:])
+    comes(stream, PONG.decode())
+
+
+def closes_the_idle(program):
+    """With `--idle 1` connections that send nothing for a second are closed; one that waits, and one that sends now and
+    then, isn't."""
+    kinds = (sends_nothing, falls_silent, stops_within_a_request, waits, sends_requests, sends_bytes)
+    with running(program, "--idle", "1", workers=len(kinds)) as server:
+        def work(place):
+            with raw(server.port) as stream:
+                try:
+                    kinds[place](stream)
+                except (AssertionError, OSError) as fault:
+                    raise AssertionError(f"{kinds[place].__name__}: {type(fault).__name__} {fault}") from fault
+
+        served.together(len(kinds), work)
+        all_answer(server)
+
+
+def keeps_the_idle(program):
+    """Without `--idle`, and with `--idle 0`, a connection that is idle stays open."""
+    def work(place):
+        with running(program, *((), ("--idle", "0"))[place]) as server, raw(server.port) as stream:
+            say(stream, "PING", PONG.decode())
+            nothing_comes(3.5, stream)
+            say(stream, "PING", PONG.decode())
+
+    served.together(2, work)
+
+
+def is_here(host):
+    """Whether this machine has the address."""
+    family = socket.AF_INET6 if ":" in host else socket.AF_INET
+    try:
+        with socket.socket(family) as probe:
+            probe.bind((host, 0))
+        return True
+    except OSError:
+        print(f"passed over: there is no address {host}", flush=True)
+        return False
+
+
+def addresses(program):
+    """It listens on the address of `--bind` alone. One beyond loopback is refused without `--open`."""
+    for host in filter(is_here, ("127.0.0.2", "::1")):
+        with running(program, workers=2, host=host) as server:
+            with socket.create_connection((host, server.port), timeout=PATIENCE) as stream:
+                say(stream, "PING", PONG.decode())
+            try:
+                raw(server.port).close()
+                raise AssertionError(f"with {host} it listens on {served.HOST} too")
+            except ConnectionRefusedError:
+                pass
+    for host in ("0.0.0.0", "::", "192.0.2.1", "2001:db8::1"):
+        done = run(served.words_of_run(program, served.free_port(), 2, host))
+        assert (done.returncode, done.stdout) == (2, b"") and b"--open" in done.stderr, (host, done)
+    with running(program, "--open", workers=2, host="0.0.0.0") as server:
+        all_answer(server)
+    with running(program, "--open", workers=2) as server:
+        all_answer(server)
+
+
+def tells_of_itself(program):
+    """Help and the version stand on standard output, with status 0."""
+    for before in ([], ["run"], ["serve"]):
+        for word in ("--help", "-h", "help"):
+            done = run([program, *before, word])
+            assert (done.returncode, done.stderr) == (0, b"") and done.stdout, (before, word, done)
+            options = ("--port", "--bind", "--workers", "--idle", "--open") if before == ["run"] else ()
+            assert all(option.encode() in done.stdout for option in options), (before, word, done.stdout)
+    done = run([program, "--version"])
+    assert (done.returncode, done.stderr) == (0, b""), done
+    assert re.fullmatch(rb"xs_server 0\.\d+\.\d+\n", done.stdout), done
+
+
+def defaults(program):
+    """Without options it serves 64 connections at once on port 6379 of 127.0.0.1, and says so."""
+    try:
+        with socket.socket() as probe:
+            probe.setsockopt(socket.SOL_SOCKET, socket.SO_REUSEADDR, 1)
+            probe.bind((served.HOST, 6379))
+    except OSError:
+        print("passed over: port 6379 is in use", flush=True)
+        return
+    with served.Server([program, "run"], 6379, 64, None) as server:
+        lines = server.lines_until(server.child.stderr, "listening on 127.0.0.1:6379")
+        wanted = r"xs_server 0\.\d+\.\d+: listening on 127\.0\.0\.1:6379, 64 workers, \d+ descriptors\n"
+        assert len(lines) == 1 and re.fullmatch(wanted, lines[0]), lines
+        all_answer(server)
+
+
+def wrong_options(program):
+    """Options that are odd, or have no value or a wrong one, end it with status 2, and are named on standard error."""
+    port = str(served.free_port())
+    wrong = [*(("--port", word) for word in ("0", "65536", "-1", "x", "", "1.5")),
+             *(("--workers", word) for word in ("0", "1025", "-1", "x", "")),
+             *(("--idle", word) for word in ("-1", "x", "", "1.5", "99999999999999999999")),
+             *(("--bind", word) for word in ("localhost", "x", "", "127.0.0.256", "127.0.0.1:80", "[::1]")),
+             ("--odd",), ("--each", "5"), ("--block",), ("--port",), ("--workers",), ("--idle",), ("--bind",)]
+    for line in wrong:
+        before = [] if line[0] == "--port" else ["--port", port]
+        done = run([program, "run", *before, *line])
+        assert (done.returncode, done.stdout) == (2, b"") and line[0].encode() in done.stderr, (line, done)
+
+
+def taken(program):
+    """A port in use is told on standard error, with status 1, and who has it goes on."""
+    with running(program, workers=2) as server:
+        done = run(served.words_of_run(program, server.port, 2))
+        line = f"xs_server: listening on 127.0.0.1:{server.port} failed: address in use\n".encode()
+        assert (done.returncode, done.stdout, done.stderr) == (1, b"", line), done
+        all_answer(server)
+
+
+@contextlib.contextmanager
+def closed_pipe():
+    """The end of a pipe whose other end is closed."""
+    reader, writer = os.pipe()
+    os.close(reader)
+    try:
+        yield writer
+    finally:
+        os.close(writer)
+
+
+def odd_errors(program):
+    """It serves though its standard error is a pipe that is closed, or one that is full and that nobody reads; another
+    connection than it can serve is refused there too."""
+    for pipe in (closed_pipe, served.full_pipe):
+        port = served.free_port()
+        with pipe() as errors:
+            child = subprocess.Popen(served.words_of_run(program, port, 1), stdout=subprocess.DEVNULL, stderr=errors)
+            try:
+                served.answers_at(port)
+                with raw(port) as held:
+                    say(held, "PING", PONG.decode())
+                    began = time.monotonic()
+                    with raw(port) as more:
+                        is_refused(more, began, 1, 3)
+                served.answers_at(port)
+            finally:
+                child.kill()
+                child.wait()
+
+
+def never_waits(program):
+    """Where calls never wait, in `serve` and in scripts, BLOCK changes nothing."""
+    with served.serving(program, workers=1) as server, raw(server.port) as stream:
+        make(stream, "s")
+        began = time.monotonic()
+        say(stream, reading("a", "s", "BLOCK 5000"), NOTHING)
+        say(stream, reading("a", "s"), NOTHING)
+        assert time.monotonic() - began < 2, "serve waited"
+    lines = ("XGROUP CREATE s g 0 MKSTREAM", reading("a", "s", "BLOCK 5000"), reading("a", "s"), "PING")
+    began = time.monotonic()
+    done = run([program, "script"], input="".join(f"0 c {line}\n" for line in lines).encode())
+    assert (done.returncode, done.stdout) == (0, (OK + NOTHING * 2 + PONG.decode()).encode()), done
+    assert time.monotonic() - began < 2, "the script waited"
+
+
+# ---- all of it
+
+
+def together(cases, given):
+    """Tries these cases at the same time, and tells of each whether it passes."""
+    with ThreadPoolExecutor(len(cases)) as pool:
+        return list(pool.map(lambda case: passes(case, given), cases))
+
+
+def readers_over_one_server(program):
+    """The readers that wait, all at the same time over one server, whose workers then all answer."""
+    with running(program, workers=SHARED) as server:
+        results = together(waiting.OVER_ONE_SERVER, server)
+        time.sleep(NOTICED)
+        all_answer(server)
+        assert all(results), f"{results.count(False)} of {len(results)} failed"
+
+
+def main(arguments):
+    if len(arguments) != 1:
+        print(__doc__)
+        return 2
+    program = arguments[0]
+    alone = (tells_of_itself, wrong_options, taken, defaults, addresses, too_few_to_start, too_little_memory_to_start,
+             readers_over_one_server, waiting.ends_in_time, waiting.sixty, waiting.waiting_costs_nothing,
+             a_thousand, busy_among_idle, a_thousand_wait, full_memory)
+    at_once = (waiting.clients_that_go, waiting.has_just_gone, waiting.terminated, forty_too_many, one_ends_in_time,
+               few_descriptors, no_descriptors, closes_the_idle, keeps_the_idle, odd_errors, never_waits)
+    results = []
+    for case in alone:
+        if results.count(False) < MOST_FAULTS:
+            results.append(passes(case, program))
+    return tell(results + together(at_once, program))
+
+
+if __name__ == "__main__":
+    sys.exit(main(sys.argv[1:]))
