@@ -20,10 +20,20 @@ MOST_FAULTS = 3
 PING, PONG = real_redis.request([b"PING"]), b"+PONG\r\n"
 
 
+# The ports that were given out: cases that run at once don't get the same one.
+given_ports, giving = set(), threading.Lock()
+
+
 def free_port():
-    with socket.socket() as probe:
-        probe.bind((HOST, 0))
-        return probe.getsockname()[1]
+    """A port on which nobody listens, and which was not given out before."""
+    with giving:
+        while True:
+            with socket.socket() as probe:
+                probe.bind((HOST, 0))
+                port = probe.getsockname()[1]
+            if port not in given_ports:
+                given_ports.add(port)
+                return port
 
 
 def words_of(program, port, workers, each):
@@ -128,7 +138,7 @@ def running(program, *options, workers=4, limits=None, host=HOST):
     port = free_port()
     words = [*words_of_run(program, port, workers, host), *options]
     with Server(words, port, workers, limits) as server:
-        server.lines_until(server.child.stderr, f"listening on {address(host, port)}")
+        server.lines_until(server.child.stderr, f"listening on {address(host, port)},")
         yield server
 
 

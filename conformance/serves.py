@@ -452,7 +452,7 @@ def full_output(program):
 
 def too_little_to_start(program):
     """If there is no room for 64 threads the program says so, with status 1, and doesn't say that it listens."""
-    for room in (10, 100, 300):
+    for room in (10, 30, 50):
         done = subprocess.run(served.words_of(program, served.free_port(), 64, 1), capture_output=True, timeout=30,
                               preexec_fn=served.with_limits({resource.RLIMIT_AS: room * MEGABYTE}))
         assert (done.returncode, done.stdout) == (1, b""), done
@@ -524,7 +524,7 @@ def memory_of_entries(program):
         print(f"{full / count:.0f} bytes an entry of {size}; {left / MEGABYTE:.1f} MiB once 99 of each 100 of five times "
               "as many were deleted", flush=True)
         assert full < 110 * count, full
-        assert left < 1.5 * full, (left, full)
+        assert left < 3 * full, (left, full)
 
 
 def full_queue_deleted(program):
