@@ -20,7 +20,7 @@ import time
 import full_queue
 import sessions
 from full_queue import MEGABYTE, NO_MEMORY, limit_memory
-from great import bulk, number
+from great import array, bulk, entry, number
 from real_redis import request
 from served import (PING, PONG, all_answer, asking, fill, raw, read_exactly, read_to_end, reset, say, say_at, serving,
                     together, try_all)
@@ -223,7 +223,8 @@ def served_or_ended(server, sent, reply):
 def great_reply(stream, size):
     """Asks for an entry of this size, and reads the reply."""
     stream.sendall(asking("XRANGE great - +"))
-    assert len(read_exactly(stream, size + 50)) == size + 50
+    whole = len(array([entry("1-0", "f", "v" * size)]))
+    assert len(read_exactly(stream, whole)) == whole
 
 
 def great_request(stream, size):
