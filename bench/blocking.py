@@ -166,7 +166,7 @@ def tell_idle(both, asked):
 def tell_latencies(both, asked):
     for count in (1, 60):
         runs = [latencies(both, count, asked.rounds) for _ in range(asked.runs)]
-        for title, part in (("in the middle", 0.5), ("at 99 %", 0.99)):
+        for title, part in (("median", 0.5), ("at 99 %", 0.99)):
             pairs = [[one[int(len(one) * part)] for one in run] for run in runs]
             line(f"from an addition to the reply, {count} waiting, {title}", "µs", pairs, ",.0f")
 

@@ -367,7 +367,7 @@ def at_the_last_moment(server):
 
 def ends_in_time(program):
     """A wait of 300 ms takes 300 to 600 ms, whenever it begins; another one that began before it isn't over. Of nine waits
-    the middle one counts, and of three tries the best, since the machine may be busy."""
+    the median counts, and of three tries the best, since the machine may be busy."""
     with running(program, workers=12) as server, Clients(server.port) as clients:
         make(clients.new(), "timed")
         longer, tries = clients.waiting("long", "timed", "BLOCK 20000"), []
