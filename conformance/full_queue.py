@@ -5,7 +5,7 @@ Replies are those of the Redis pages of the commands; docs/COMMANDS.md has the t
 import re
 import resource
 
-from great import number
+from great import array, bulk, entry, number
 from real_redis import read_reply
 from served import all_answer, asking, raw, say_at, serving
 
@@ -87,3 +87,29 @@ def with_many_workers(program, takes):
         all_answer(server)
         limit_memory(server, 64 * MEGABYTE)
         empty_full_queue(server, takes)
+
+
+def great_jobs(program, size, count):
+    """Jobs of so many bytes, and behind them small ones until memory is full: so many of them are taken, claimed by id
+    and by scan, and acknowledged at once."""
+    with serving(program, workers=4, limits={resource.RLIMIT_AS: 140_000 * 1024}) as server:
+        say_at(server, "XGROUP CREATE q g 0 MKSTREAM", "+OK\r\n")
+        with raw(server.port) as stream, stream.makefile("rb") as replies:
+            def ask(text):
+                stream.sendall(asking(text))
+                return read_reply(replies)
+
+            for place in range(1, count + 1):
+                assert ask(f"XADD q {place}-0 f {'v' * size}") == f"$3\r\n{place}-0\r\n".encode()
+            add_until_full(server)
+            ids = [f"{place}-0" for place in range(1, count + 1)]
+            entries = array([entry(one, "f", "v" * size) for one in ids])
+            asked = {
+                f"XREADGROUP GROUP g a COUNT {count} STREAMS q >": array([array([bulk("q"), entries])]),
+                f"XCLAIM q g b 0 {' '.join(ids)}": entries,
+                f"XAUTOCLAIM q g c 0 - COUNT {count}": array([bulk("0-0"), entries, array([])]),
+                f"XACK q g {' '.join(ids)}": number(count),
+            }
+            for text, reply in asked.items():
+                got = ask(text)
+                assert got == reply.encode(), f"{text[:40]}: {got[:60]}"

@@ -537,6 +537,12 @@ def full_queue_trimmed(program):
     full_queue.with_many_workers(program, "XTRIM")
 
 
+def full_queue_of_great_jobs(program):
+    """A job of 3 MB, and three of 500 KB at once, are taken and claimed while memory is full."""
+    for size, count in ((3_000_000, 1), (500_000, 3)):
+        full_queue.great_jobs(program, size, count)
+
+
 def full_queue_handed_out(program):
     """The same with NOACK: each entry is in one reply."""
     full_queue.under_a_bound(program, "NOACK")
@@ -551,7 +557,7 @@ def main(arguments):
                    nothing_of_another, listens_here_alone, idle, stopped_and_continued)
     over_program = (as_many_as_workers, more_than_workers, ends, taken, options, stopped, full_output,
                     too_little_to_start, few_descriptors, memory_of_entries, full_queue_deleted, full_queue_trimmed,
-                    full_queue_handed_out)
+                    full_queue_handed_out, full_queue_of_great_jobs)
     return try_all(arguments[0], over_server, over_program, WORKERS)
 
 

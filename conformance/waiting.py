@@ -249,6 +249,23 @@ def two_readers(server):
         say(readers[0], reading("a", "three", "COUNT 2 BLOCK 0"), gives("three", 3))
 
 
+def of_two_groups(server):
+    """Of the readers of each group the one that waits longest is given the entry, and the others wait on."""
+    with Clients(server.port) as clients:
+        one, readers = clients.new(), {}
+        make(one, "both")
+        say(one, "XGROUP CREATE both h 0", OK)
+        for group, consumer in (("g", "a"), ("g", "b"), ("h", "c"), ("h", "d"), ("g", "e")):
+            readers[consumer] = clients.new()
+            begin(readers[consumer], reading(consumer, "both").replace("GROUP g", f"GROUP {group}"))
+            nothing_comes(READ, readers[consumer])
+        for place, served in enumerate(("ac", "bd", "e"), 1):
+            add(one, "both", place)
+            for consumer in served:
+                comes(readers.pop(consumer), gives("both", place))
+            nothing_comes(READ, *readers.values())
+
+
 def two_readers_at_once(server):
     """Three entries in one batch go to two readers in their order, at most two to each, and what is left to a third."""
     with Clients(server.port) as clients:
@@ -515,5 +532,6 @@ def terminated(program):
 
 
 OVER_ONE_SERVER = (never_an_empty_array, key_deleted, group_destroyed, ran_dry, refused_at_once, of_two_keys,
-                   added_and_deleted, added_and_trimmed, without_acknowledging, two_readers, two_readers_at_once,
-                   all_times, in_turn, own_entries_at_once, before_and_behind, at_the_last_moment)
+                   added_and_deleted, added_and_trimmed, without_acknowledging, two_readers, of_two_groups,
+                   two_readers_at_once, all_times, in_turn, own_entries_at_once, before_and_behind,
+                   at_the_last_moment)

@@ -1,11 +1,12 @@
-//! Calls that wait: reads with BLOCK that would be answered with the null array. Such a call stays in its ring, and the
-//! keeper looks at it again once a call was served that may change its answer, once its time is over, or once its client
-//! says that it needn't wait. No promise rests on this file: a look at a lane finds out itself whether its next call may
-//! wait (`lane_end.rt`).
+//! Calls that wait: reads with BLOCK that would be answered with the null array. Such a call stays in its ring, and
+//! the keeper looks at it again once a call was served that may change its answer, once its time is over, or once its
+//! client says that it needn't wait. No promise rests on this file: a look at a lane finds out itself whether its next
+//! call may wait (`lane_end.rt`).
 //!
 //! Calls that are due are looked at before all others, each in a turn of its own, in the order in which they began to
-//! wait: so the longest-waiting gets what has come, and nobody overtakes it. A turn that serves what others wait for is
-//! cut short there, and is resumed behind them.
+//! wait: so the longest-waiting gets what has come, and nobody overtakes it. Once one finds nothing, those that read
+//! the same keys by the same group aren't looked at: they would find nothing either. A turn that serves what others
+//! wait for is cut short there, and is resumed behind them.
 use crate::lane_set::LaneSet;
 use std::alloc::{AllocError, Global};
 use std::hash::{DefaultHasher, Hasher};
@@ -23,6 +24,8 @@ pub(crate) struct Wish {
     pub millis: u64,
     /// The keys that it reads, by their bits.
     pub keys: u64,
+    /// The keys and the group that it reads, by their hash: calls with the same one find something at the same moments.
+    pub source: u64,
 }
 
 /// Until when a call waits.
@@ -49,6 +52,7 @@ enum State {
 struct BlockedCall {
     lane: usize,
     keys: u64,
+    source: u64,
     until: Until,
     state: State,
 }
@@ -77,24 +81,37 @@ pub(crate) struct BlockedCalls {
     resume_at: usize,
 }
 
+/// Takes a name into a hash, with its length, so that two names aren't taken for two others.
+fn hash_name(hasher: &mut DefaultHasher, name: &Bytes) {
+    hasher.write_usize(name.as_slice().len());
+    hasher.write(name.as_slice());
+}
+
 /// The bit of a key.
 fn bit_of_key(key: &Bytes) -> u64 {
     let mut hasher = DefaultHasher::new();
-    hasher.write(key.as_slice());
+    hash_name(&mut hasher, key);
     1u64.wrapping_shl((hasher.finish() % 64) as u32)
 }
 
-/// The keys that a read reads, by their bits.
-pub(crate) fn keys_of_read(read: &ReadGroupCommand) -> u64 {
+/// What a read waits for, for so many milliseconds.
+pub(crate) fn wish_of(read: &ReadGroupCommand, millis: u64) -> Wish {
     let mut keys = 0;
+    let mut source = DefaultHasher::new();
+    hash_name(&mut source, &read.group);
     for one in read.reads.as_slice() {
         keys |= bit_of_key(&one.key);
+        hash_name(&mut source, &one.key);
     }
-    keys
+    Wish {
+        millis,
+        keys,
+        source: source.finish(),
+    }
 }
 
-/// The keys, by their bits, of which a command may change what a read of new entries that found none is answered: it adds
-/// an entry, or the key or its group goes.
+/// The keys, by their bits, of which a command may change what a read of new entries that found none is answered: it
+/// adds an entry, or the key or its group goes.
 pub(crate) fn keys_touched(command: &Command) -> u64 {
     match command {
         Command::Add(add) => bit_of_key(&add.key),
@@ -160,15 +177,13 @@ impl BlockedCalls {
         self.lanes.has(lane)
     }
 
-    /// A look has found that the call of this lane may wait. It says whether it does so from now on; if it does already it
-    /// keeps its place.
+    /// A look has found that the call of this lane, which doesn't wait yet, may wait. It says whether it does so from
+    /// now on.
     pub fn begin(&mut self, lane: usize, wish: Wish) -> bool {
-        if self.lanes.has(lane) {
-            return false;
-        }
         let call = BlockedCall {
             lane,
             keys: wish.keys,
+            source: wish.source,
             until: Until::Fresh(wish.millis),
             state: State::Waits,
         };
@@ -180,9 +195,21 @@ impl BlockedCalls {
         true
     }
 
-    /// A call of this lane was served, which touched these keys. It answers whether a call is due now, so that the turn is
-    /// cut short, and goes on at the next lane later.
+    /// A look has found that a call that waits, with this wish, still finds nothing: nor do those of the same source.
+    pub fn found_nothing(&mut self, wish: Wish) {
+        for call in self.calls.iter_mut() {
+            if call.source == wish.source && call.state == State::Due {
+                call.state = State::Waits;
+            }
+        }
+    }
+
+    /// A call of this lane was served, which touched these keys. It answers whether a call is due now, so that the turn
+    /// is cut short, and goes on at the next lane later.
     pub fn served(&mut self, lane: usize, touched: u64, next: usize) -> bool {
+        if self.calls.is_empty() {
+            return false;
+        }
         if self.lanes.has(lane) {
             self.forget(lane);
         }
@@ -223,6 +250,11 @@ impl BlockedCalls {
             lane: call.lane,
             may_wait: call.state == State::Due,
         })
+    }
+
+    /// Whether a turn looks at all lanes from the first on: no call waits, and no turn was cut short.
+    pub fn is_quiet(&self) -> bool {
+        self.calls.is_empty() && self.resume_at == 0
     }
 
     /// The call that is looked at now. It is due no longer.

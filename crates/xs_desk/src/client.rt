@@ -126,7 +126,11 @@ impl Client {
         ensures { MatchOption result (self.new ≡ self.old)
             (λ answer. self.new ≡ record self.old { taken = self.old.taken ++ answer ∷ [] }) }
     {
-        self.backoff.begin_look();
+        if self.is_blocked() {
+            self.backoff.begin_last_look();
+        } else {
+            self.backoff.begin_look();
+        }
         let answer = self.answers.pop().ok()?;
         self.backoff.found(answer.moment);
         // The keeper passes over a call only while the ring of answers is full, so behind an answer that is taken.
@@ -147,6 +151,11 @@ impl Client {
     /// Whether `idle` waits for the keeper now, and doesn't come back at once.
     pub fn will_sleep(&self) -> bool {
         self.backoff.may_sleep()
+    }
+
+    /// Whether the keeper was seen to let the last call wait, so that its answer may be long in coming.
+    pub fn is_blocked(&self) -> bool {
+        self.registration.is_blocked_before(self.ticket)
     }
 
     /// Waits as `idle` does, and no longer than this time. It says whether it has waited so long.

@@ -195,9 +195,9 @@ impl Keeper {
         self.schedule.backoff.snooze(rt);
     }
 
-    /// From now on a read with BLOCK that would be answered with the null array waits: it stays in its lane until it would
-    /// be answered otherwise, its time is over, or its client hurries it. Then `read_clock` has to come before each turn,
-    /// and `idle_until` in the place of `idle`.
+    /// From now on a read with BLOCK that would be answered with the null array waits: it stays in its lane until it
+    /// would be answered otherwise, its time is over, or its client hurries it. Then `read_clock` has to come before
+    /// each turn, and `idle_until` in the place of `idle`.
     pub fn let_wait(&mut self)
         ensures { self.new ≡ self.old }
     {

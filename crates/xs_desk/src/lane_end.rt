@@ -3,12 +3,12 @@ ghost use Rattle.std.specs.Prelude.{◌≡◌, ◌≤◌, ◌<◌, length, IfSom
 ghost use Rattle.rtrb.specs.Ring.{sent, known_items, known_free};
 
 use crate::answer::{Answer, Formed, next_place};
-use crate::blocked::{Wish, keys_of_read, keys_touched};
+use crate::blocked::{Wish, keys_touched, wish_of};
+use crate::wait_marks::WaitMarks;
 use crate::waiting::Waker;
 use rtrb::{Consumer, Producer};
 use std::alloc::Global;
 use std::sync::Arc;
-use std::sync::atomic::{AtomicU64, Ordering};
 use xs_command::Command;
 use xs_keys::{Clock, Keyspace};
 use xs_stream::Moment;
@@ -21,8 +21,7 @@ pub(crate) struct LaneEnd {
     // How many answers were sent.
     pub ticket: u64,
     pub waker: Waker,
-    // No call with a ticket below it waits; the client stores it.
-    pub hurried: Arc<AtomicU64>,
+    pub marks: Arc<WaitMarks>,
     ghost counted: { ticket ≡ length (sent answers) },
 }
 
@@ -76,13 +75,15 @@ impl LaneEnd {
         }
         if manner.may_wait {
             if let Some(wish) = self.wish(keyspace) {
+                self.marks.found_blocked(self.ticket);
                 return Look::Blocked(wish);
             }
         }
         self.serve_next(keyspace, place, clock, manner.others_wait)
     }
 
-    /// What the next call waits for, if it may wait: it is a read with BLOCK that would be answered with the null array.
+    /// What the next call waits for, if it may wait: it is a read with BLOCK that would be answered with the null
+    /// array.
     fn wish(&self, keyspace: &Keyspace) -> Option<Wish>
         requires { 0 < length (known_items self.now.calls) }
         ensures { IfSome result (λ _. MayWait keyspace.now (known_items self.now.calls)) }
@@ -91,14 +92,11 @@ impl LaneEnd {
             return None;
         };
         let millis = read.block?;
-        if self.ticket < self.hurried.load(Ordering::SeqCst) {
+        if !self.marks.may_wait(self.ticket) {
             return None;
         }
         match keyspace.finds_nothing(read) {
-            Ok(true) => Some(Wish {
-                millis,
-                keys: keys_of_read(read),
-            }),
+            Ok(true) => Some(wish_of(read, millis)),
             _ => None,
         }
     }

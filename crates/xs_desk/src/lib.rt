@@ -19,6 +19,7 @@ mod poll_set;
 pub mod port;
 mod schedule;
 pub mod summary;
+mod wait_marks;
 mod waiting;
 
 pub use alone::Alone;

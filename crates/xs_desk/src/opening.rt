@@ -11,11 +11,12 @@ use crate::keeper::Keeper;
 use crate::lane_end::LaneEnd;
 use crate::poll_set::PollSet;
 use crate::schedule::Schedule;
+use crate::wait_marks::WaitMarks;
 use crate::waiting::Backoff;
 use rtrb::RingBuffer;
 use std::alloc::{AllocError, Global};
 use std::sync::Arc;
-use std::sync::atomic::{AtomicBool, AtomicU64};
+use std::sync::atomic::AtomicBool;
 use thiserror::Error;
 use xs_command::Command;
 use xs_keys::Keyspace;
@@ -58,14 +59,14 @@ fn open_lane(
     let (answers, from_keeper) = RingBuffer::<Answer>::new(alloc, depth)?;
     let backoff = Backoff::of_lane(alloc)?;
     let waker = backoff.waker()?;
-    let hurried = Arc::new(alloc, AtomicU64::new(0))?;
-    let registration = poll_set.register(lane, keeper.waker()?, Arc::try_clone(&hurried)?)?;
+    let marks = Arc::new(alloc, WaitMarks::new())?;
+    let registration = poll_set.register(lane, keeper.waker()?, Arc::try_clone(&marks)?)?;
     let lane_end = LaneEnd {
         calls,
         answers,
         ticket: 0,
         waker,
-        hurried,
+        marks,
     };
     let gone = Arc::try_clone(gone)?;
     let client = Client::new(lane, to_keeper, from_keeper, registration, backoff, gone);
@@ -130,8 +131,8 @@ pub fn desk(alloc: Global, n: usize, depth: usize) -> Result<(Keeper, Vec<Client
     wide_desk(alloc, n, depth)
 }
 
-/// A desk with an empty keyspace and n lanes, 1 to 1024, each with as many places for calls, and for answers, as `depth`
-/// says; and the client of each lane, in the order of their numbers. It makes all that rings and waiting need.
+/// A desk with an empty keyspace and n lanes, 1 to 1024, each with as many places for calls, and for answers, as
+/// `depth` says; and the client of each lane, in the order of their numbers. It makes all that rings and waiting need.
 ///
 /// # Errors
 /// A `DeskError`.

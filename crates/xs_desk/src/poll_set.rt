@@ -16,6 +16,7 @@
 ghost use Rattle.std.specs.Prelude.{◌≤◌, ◌<◌, ◌^◌, IfSome};
 
 use crate::lane_set::{LaneSet, bit_of, word_of};
+use crate::wait_marks::WaitMarks;
 use crate::waiting::Waker;
 use std::alloc::{AllocError, Global};
 use std::sync::Arc;
@@ -62,8 +63,7 @@ pub(crate) struct Registration {
     board: Arc<Board>,
     // Wakes the keeper.
     waker: Waker,
-    // No call with a ticket below it waits; the keeper reads it.
-    hurried: Arc<AtomicU64>,
+    marks: Arc<WaitMarks>,
 }
 
 impl PollSet {
@@ -94,7 +94,7 @@ impl PollSet {
         &mut self,
         lane: usize,
         waker: Waker,
-        hurried: Arc<AtomicU64>,
+        marks: Arc<WaitMarks>,
     ) -> Result<Registration, AllocError> {
         let board = Arc::try_clone(&self.board)?;
         self.lanes.insert(lane);
@@ -102,7 +102,7 @@ impl PollSet {
             lane,
             board,
             waker,
-            hurried,
+            marks,
         })
     }
 
@@ -188,11 +188,16 @@ impl Registration {
 
     /// Tells the keeper that no call with a ticket below this one waits, and to look at the lane.
     pub fn hurry(&self, ticket: u64) {
-        self.hurried.store(ticket, Ordering::SeqCst);
+        self.marks.hurry_below(ticket);
         if let Some(rests) = self.board.rests.get(word_of(self.lane)) {
             self.give_notice(rests);
         }
         self.waker.wake_if_asleep();
+    }
+
+    /// Whether the keeper was seen to let the call before this ticket wait.
+    pub fn is_blocked_before(&self, ticket: u64) -> bool {
+        self.marks.is_blocked_before(ticket)
     }
 
     fn give_notice(&self, rests: &Rests) {

@@ -26,10 +26,13 @@ pub(crate) struct Span {
 }
 
 impl Schedule {
-    /// Begins a turn over a desk of so many lanes: over the lane whose call is due next, or over all, or over those that
-    /// were left out when the last turn was cut short. The keeper sleeps only after one over all.
+    /// Begins a turn over a desk of so many lanes: over the lane whose call is due next, or over all, or over those
+    /// that were left out when the last turn was cut short. The keeper sleeps only after one over all.
     pub fn begin_turn(&mut self, lanes: usize) -> Span {
         self.backoff.begin_look();
+        if self.blocked.is_quiet() {
+            return self.begin_whole_turn(lanes);
+        }
         if let Some(due) = self.blocked.take_due() {
             self.backoff.begin_anew();
             self.poll_set.insert(due.lane);
@@ -39,15 +42,22 @@ impl Schedule {
                 may_wait: due.may_wait,
             };
         }
-        let mut from = self.blocked.take_start();
-        if from > 0 && from < lanes {
-            self.backoff.begin_anew();
-        } else {
-            from = 0;
-            self.poll_set.begin_turn();
+        let from = self.blocked.take_start();
+        if from == 0 || from >= lanes {
+            return self.begin_whole_turn(lanes);
         }
+        self.backoff.begin_anew();
         Span {
             from,
+            end: lanes,
+            may_wait: self.lets_wait,
+        }
+    }
+
+    fn begin_whole_turn(&mut self, lanes: usize) -> Span {
+        self.poll_set.begin_turn();
+        Span {
+            from: 0,
             end: lanes,
             may_wait: self.lets_wait,
         }
@@ -69,10 +79,12 @@ impl Schedule {
         }
     }
 
-    /// A look has found that the call of this lane may wait. If it begins to, the keeper doesn't sleep before it has read
-    /// the clock, and looks at the lane again once the call is due, or the client gives notice.
+    /// A look has found that the call of this lane may wait. If it begins to, the keeper doesn't sleep before it has
+    /// read the clock, and looks at the lane again once the call is due, or the client gives notice.
     pub fn found_blocked(&mut self, lane: usize, wish: Wish) {
-        if self.blocked.begin(lane, wish) {
+        if self.blocked.has(lane) {
+            self.blocked.found_nothing(wish);
+        } else if self.blocked.begin(lane, wish) {
             self.backoff.begin_anew();
         }
         if self.blocked.has(lane) {
@@ -80,8 +92,8 @@ impl Schedule {
         }
     }
 
-    /// A call of this lane was served. It answers whether the turn is cut short, to go on at the next lane later: a call
-    /// that waits is due.
+    /// A call of this lane was served. It answers whether the turn is cut short, to go on at the next lane later: a
+    /// call that waits is due.
     pub fn found_call(&mut self, lane: usize, done: Done, next: usize) -> bool {
         self.poll_set.found(lane);
         self.backoff.found(done.moment);

@@ -1,10 +1,10 @@
 //! How a lane and its keeper wait for each other. No promise rests on it.
 //!
 //! A side that finds nothing looks again at once, then, while calls follow fast, after yielding the processor, and then
-//! it parks. If calls don't follow fast, it parks after a few looks. A yield lets the other side run that waits for the
-//! same processor. But if other work fills all processors, a side that has yielded gets its own back only when that
-//! work's turn is over, milliseconds later: then calls don't follow fast any more, and the side parks without a yield
-//! until they have done so for a while.
+//! it parks. A yield lets the other side run that waits for the same processor. But if other work fills all processors,
+//! a side that has yielded gets its own back only when that work's turn is over, milliseconds later: then calls don't
+//! follow fast any more, and the side parks after a few looks, without a yield, until they have done so for a while. A
+//! lane whose call the keeper lets wait parks at once.
 //!
 //! Before the look after which it may park it says that it sleeps, and the other side gives its token only then. No
 //! token is lost, since all loads and stores have one order, those of the rings too, which the ported `rtrb` makes so:
@@ -100,6 +100,12 @@ impl Backoff {
         if self.may_sleep() {
             self.sleeps.store(true, Ordering::SeqCst);
         }
+    }
+
+    /// Begins the look after which it parks.
+    pub fn begin_last_look(&mut self) {
+        self.looks = self.last_look;
+        self.begin_look();
     }
 
     /// The look has found a call, or the answer to one, that was applied at this moment.

@@ -20,8 +20,8 @@ use xs_stream::Moment;
 
 /// The keys and what they hold. A contract sees the content of a history.
 ///
-/// When memory runs out, additions and new groups are refused first: a reserve of 4 MiB is made whole before each of
-/// them, and given back if another command finds no memory.
+/// When memory runs out, additions and new groups are refused first: a reserve of 4 MiB, and of room for the reply of
+/// the greatest entry, is made whole before each of them, and given back if another command finds no memory.
 #[derive(Drop)]
 pub struct Keyspace {
     keys: Keys,
@@ -61,8 +61,9 @@ impl Keyspace {
         requires { IsWellFormed command.now }
         ensures { Step self.old now command.now result self.new }
     {
+        self.reserve.take_back(self.alloc);
         let reply = apply_to(&mut self.keys, &mut self.reserve, self.alloc, now, command);
-        if is_out_of_memory(&reply) && !grows(command) && self.reserve.give_back() {
+        if is_out_of_memory(&reply) && !grows(command) && self.reserve.give_back(self.alloc) {
             return apply_to(&mut self.keys, &mut self.reserve, self.alloc, now, command);
         }
         reply

@@ -3,6 +3,7 @@ ghost use Rattle.std.specs.Prelude.{◌≡◌, ◌==◌, OnOk, not};
 
 use std::alloc::{AllocError, Global};
 use std::marker::Model;
+use xs_stream::Field;
 
 /// How many pieces a whole reserve has: 4 MiB of memory.
 const PIECES: usize = 64;
@@ -10,11 +11,40 @@ const PIECES: usize = 64;
 /// How many bytes a piece has. The C library maps greater ones by themselves, and gives them back to the system.
 const PIECE: usize = 65_000;
 
+/// Up to so many bytes a reply has room in the pieces.
+const SMALL_REPLY: usize = 1 << 20;
+
+/// A buffer that grows while a reply is made may be copied into one of twice the bytes.
+const GROWTH: usize = 3;
+
+/// How many bytes the name of a field and its value take in a reply beside their own, at most.
+const FIELD_BYTES: usize = 64;
+
+/// How many bytes it takes at most to make the reply of one entry with these fields.
+pub(crate) fn reply_bytes(fields: &[Field]) -> usize {
+    let mut bytes = fields.len().saturating_mul(FIELD_BYTES);
+    for field in fields {
+        bytes = bytes
+            .saturating_add(field.name.len())
+            .saturating_add(field.value.len());
+    }
+    bytes.saturating_mul(GROWTH)
+}
+
 /// Memory that no command uses. It is made whole before each addition, and given back if a command of a consumer finds
 /// no memory; so when memory runs out, additions are refused first. A contract sees how many pieces it has.
+///
+/// The reply of one entry always finds memory: if it takes more than the pieces are for, there is as much memory beside
+/// them. That room stays when the entry goes.
 #[derive(Drop)]
 pub(crate) struct Reserve {
     pieces: Vec<Vec<u8>>,
+    // For the reply of the greatest entry.
+    room: Vec<u8>,
+    // How many bytes the reply of the greatest entry takes that was added.
+    greatest: usize,
+    // It was given back, and isn't whole again yet.
+    is_lent: bool,
 }
 
 impl Model for Reserve {
@@ -34,27 +64,51 @@ impl Reserve {
     {
         Self {
             pieces: Vec::new(alloc),
+            room: Vec::new(alloc),
+            greatest: 0,
+            is_lent: false,
         }
     }
 
-    /// Makes it whole. A refusal leaves the pieces that were found.
-    pub(crate) fn fill(&mut self, alloc: Global) -> Result<(), AllocError>
+    /// Makes it whole, for an entry too whose reply takes so many bytes. A refusal leaves the pieces that were found.
+    pub(crate) fn fill(&mut self, alloc: Global, reply_bytes: usize) -> Result<(), AllocError>
         ensures { OnOk result (self.new ≡ 64) }
     {
         while self.pieces.len() < PIECES {
             let piece = Vec::with_capacity(alloc, PIECE)?;
             self.pieces.push(piece)?;
         }
+        let wanted = reply_bytes.max(self.greatest);
+        if wanted > SMALL_REPLY && wanted > self.room.capacity() {
+            self.room = Vec::with_capacity(alloc, wanted)?;
+        }
+        self.is_lent = false;
         Ok(())
     }
 
-    /// Gives all its pieces back, and says whether there were any.
-    pub(crate) fn give_back(&mut self) -> bool
+    /// Makes it whole again as far as memory is found, if it was given back.
+    pub(crate) fn take_back(&mut self, alloc: Global) {
+        if self.is_lent {
+            let _ = self.fill(alloc, 0);
+        }
+    }
+
+    /// An entry was added whose reply takes so many bytes: from now on the reserve is whole only with room for it.
+    pub(crate) fn hold(&mut self, reply_bytes: usize)
+        ensures { self.new ≡ self.old }
+    {
+        self.greatest = self.greatest.max(reply_bytes);
+    }
+
+    /// Gives all its memory back, and says whether there was any.
+    pub(crate) fn give_back(&mut self, alloc: Global) -> bool
         ensures some { result ≡ not (self.old == 0) }
         ensures none { self.new ≡ 0 }
     {
         let some = !self.pieces.is_empty();
         self.pieces.clear();
+        self.room = Vec::new(alloc);
+        self.is_lent = true;
         some
     }
 }

@@ -11,7 +11,7 @@ ghost use Rattle.xs_keys.specs.Step.{Step};
 
 use crate::keys::{Keys, Slot};
 use crate::name_map::NameMap;
-use crate::reserve::Reserve;
+use crate::reserve::{Reserve, reply_bytes};
 use std::alloc::{AllocError, Global};
 use xs_bytes::Bytes;
 use xs_command::{AddCommand, Command};
@@ -39,7 +39,8 @@ fn try_add(
         Ok(id) => id,
         Err(error) => return Err(error),
     };
-    if reserve.fill(alloc).is_err() {
+    let reply_bytes = reply_bytes(add.fields.as_slice());
+    if reserve.fill(alloc, reply_bytes).is_err() {
         return Err(AddError::Memory);
     }
     let Ok(text) = id.text(alloc) else {
@@ -48,6 +49,7 @@ fn try_add(
     if stream.push(id, add.fields.as_slice()).is_err() {
         return Err(AddError::Memory);
     }
+    reserve.hold(reply_bytes);
     if let Some(trim) = add.trim {
         let _ = stream.trim(trim);
     }

@@ -1,8 +1,8 @@
 //! How calls wait in a server that stays, and how their clients are looked after.
 //!
-//! While its call waits a worker sends the replies that it owes, and looks once a second whether its client is still there, and if not it lets the keeper
-//! answer as if the time of the wait were over. Before the keeper gives something to a call that has waited it looks too,
-//! so that a job goes to one that is there.
+//! While its call waits a worker sends the replies that it owes, and looks once a second whether its client is still
+//! there, and if not it lets the keeper answer as if the time of the wait were over. Before the keeper gives something to
+//! a call that has waited it looks too, so that a job goes to one that is there.
 use crate::connections::memory::ConnectionMemory;
 use crate::halves::Peer;
 use crate::run_gate::RunGate;
@@ -33,6 +33,9 @@ impl<S: Wait + Clock + Drop> Pause for Watch<S> {
         }
         if self.peer.was_seen_to_leave() {
             client.hurry();
+        }
+        if client.is_blocked() {
+            self.peer.send();
         }
         let owes = self.peer.is_owed_bytes();
         let millis = if owes { PROMPT_MILLIS } else { BEAT_MILLIS };
