@@ -3,8 +3,9 @@
 
     memory.py [--entries N] [--only WORD] PROGRAM      needs redis-server
 
-Bytes of a group with one consumer and one pending row, of 10,000 and of 100,000 such groups, and bytes of a pending row,
-of so many rows as entries, with one consumer and with a hundred: of the program with a script, and over TCP.
+Bytes of a group with one consumer and one pending row, of 10,000 and of 100,000 such groups, and with eight and nine rows;
+and bytes of a pending row, of so many rows as entries, with one consumer and with a hundred: of the program with a script,
+and over TCP.
 Then bytes of an entry, by resident memory: of entries that were added, after a random half was deleted, and after a trim
 to a tenth, each by the entries that were added. Of Redis what it counts itself (MEMORY USAGE) stands behind. Then a server
 with 16 workers whose stream of 100,000 entries of 60 bytes is kept by MAXLEN: its resident memory in MiB after each of 16
@@ -125,9 +126,9 @@ class Redis(Served):
         return int(read_reply(self.replies)[1:])
 
 
-def groups(count):
-    """A stream, and groups that have each read its one entry."""
-    yield ["XADD s 1-0 f v"]
+def groups(count, each=1):
+    """A stream of so many entries, and groups that have each read them."""
+    yield [f"XADD s {place}-0 f v" for place in range(1, each + 1)]
     yield (command for k in range(count)
            for command in (f"XGROUP CREATE s g{k} 0", f"XREADGROUP GROUP g{k} c STREAMS s >"))
 
@@ -192,6 +193,7 @@ def served(program, connections, each, stay):
 def of_groups_and_rows(given):
     kinds = {"by a script": lambda: Script(given.program), "over TCP": lambda: Server(given.program), "Redis": Redis}
     works = {f"{count:,} groups": (lambda count=count: groups(count), count) for count in (10_000, 100_000)}
+    works |= {f"10,000 groups of {each} rows": (lambda each=each: groups(10_000, each), 10_000) for each in (8, 9)}
     works |= {f"{given.entries:,} rows of {name}": (lambda consumers=consumers: rows(given.entries, consumers),
                                                     given.entries)
               for name, consumers in (("one consumer", 1), ("a hundred consumers", 100))}

@@ -220,38 +220,6 @@ def served_or_ended(server, sent, reply):
         return got == reply
 
 
-def great_reply(stream, size):
-    """Asks for an entry of this size, and reads the reply."""
-    stream.sendall(asking("XRANGE great - +"))
-    whole = len(array([entry("1-0", "f", "v" * size)]))
-    assert len(read_exactly(stream, whole)) == whole
-
-
-def great_request(stream, size):
-    """Sends a request of this size, which is none of the commands, and reads its error."""
-    stream.sendall(request([b"NONE", b"v" * size]))
-    assert read_exactly(stream, 22) == b"-ERR unknown command\r\n"
-
-
-def idle_behind_great_ones(program):
-    """Connections that stay open behind a great reply or a great request hold no more memory than others, up to what
-    malloc keeps of one."""
-    size = 60_000_000
-    for ask in (great_reply, great_request):
-        with serving(program, workers=5) as server, contextlib.ExitStack() as open_ones:
-            fill(server, "great", 1, size)
-            all_answer(server)
-            before = server.resident()
-            for _ in range(4):
-                ask(open_ones.enter_context(raw(server.port)), size)
-            time.sleep(0.5)
-            say_at(server, "PING", "+PONG\r\n")
-            grown = server.resident() - before
-            print(f"4 connections that are idle behind a {ask.__name__} of {size}: {grown / MEGABYTE:.1f} MiB more",
-                  flush=True)
-            assert grown < size, grown
-
-
 def little_memory(program):
     """An address space that is 64 MB larger than what the server has once each worker has served. Requests that don't
     fit are refused, or their connection ends; then the server goes on, with what it has and after a DEL."""
@@ -320,11 +288,9 @@ def main(arguments):
     if len(arguments) != 1:
         print(__doc__)
         return 2
-    return try_all(arguments[0], (never_reads, random_bytes, random_value, almost_requests, great_promises, great_requests,
-                                  most_words,
-                                  killed_in_reply, with_pauses, greedy),
-                   (idle_behind_great_ones, little_memory, no_memory_for_connections, full_queues,
-                    no_memory_kept), WORKERS)
+    return try_all(arguments[0], (never_reads, random_bytes, random_value, almost_requests, great_promises,
+                                  great_requests, most_words, killed_in_reply, with_pauses, greedy),
+                   (little_memory, no_memory_for_connections, full_queues, no_memory_kept), WORKERS)
 
 
 if __name__ == "__main__":

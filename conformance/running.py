@@ -4,8 +4,9 @@
     running.py PROGRAM
 
 Readers that wait and the clients that leave them (conformance/waiting.py), more connections than workers, few
-descriptors, little memory, the options. Cases that mostly wait are tried together. It needs Python's standard library
-alone. The last line is 'N passed, M failed'; the status is 1 if M > 0.
+descriptors, little memory, a wall clock that is set (conformance/clock_steps.py), the options. Cases that mostly wait
+are tried together. It needs Python's standard library, and a C compiler for the clock. The last line is 'N passed, M
+failed'; the status is 1 if M > 0.
 """
 import contextlib
 import os
@@ -17,18 +18,22 @@ import sys
 import time
 from concurrent.futures import ThreadPoolExecutor
 
+import clock_steps
 import full_queue
 import served
 import waiting
 from full_queue import MEGABYTE, NO_MEMORY
 from great import bulk, number
 from real_redis import read_reply
-from served import (MOST_FAULTS, PATIENCE, PING, PONG, all_answer, asking, passes, raw, read_to_end, running, say, tell)
+from served import (MOST_FAULTS, PATIENCE, PING, PONG, all_answer, asking, passes, raw, read_to_end, reset, running,
+                    say, tell)
 from waiting import NOTHING, NOTICED, OK, Clients, add, begin, comes, gives, make, nothing_comes, reading, refuses
 
 FULL = b"-ERR max number of clients reached\r\n"
 # How many workers the server has that the cases of readers share, and the most that there may be.
 SHARED, MOST_WORKERS = 128, 1024
+# In seconds: how soon connections are accepted again, once there are descriptors.
+ACCEPTS_AGAIN = 5
 
 
 def run(words, **how):
@@ -93,6 +98,41 @@ def one_ends_in_time(program):
             assert len(served_ones) == ended and replies.count(FULL) == 3 - ended, replies
             say(served_ones[0], f"XLEN late{ended}", number(ended))
             held += served_ones
+
+
+def in_their_order(program):
+    """Of connections that wait for a worker the one that came first is served first."""
+    with running(program, workers=1) as server, Clients(server.port) as clients:
+        held = clients.new()
+        say(held, "PING", PONG.decode())
+        for _ in range(3):
+            late = [clients.new() for _ in range(3)]
+            for stream in late:
+                stream.sendall(PING)
+            held.close()
+            comes(late[0], PONG.decode())
+            nothing_comes(0.05, *late[1:])
+            for stream in late[1:]:
+                stream.close()
+            held = late[0]
+
+
+def sends_while_it_waits(program):
+    """What a client sends while its read waits is held up to a bound: then it isn't taken from the system any more."""
+    most = 40 * MEGABYTE
+    with running(program, workers=2) as server, Clients(server.port) as clients:
+        one, sent = clients.new(), 0
+        make(one, "held")
+        stream, before = clients.waiting("a", "held"), server.resident()
+        stream.setblocking(False)
+        deadline = time.monotonic() + 4
+        while sent < most and time.monotonic() < deadline:
+            try:
+                sent += stream.send(PING * 10_000)
+            except BlockingIOError:
+                time.sleep(0.01)
+        grown = server.resident() - before
+        assert sent < most and grown < MEGABYTE, (sent, grown)
 
 
 def may_have(count):
@@ -231,8 +271,23 @@ def no_descriptors(program):
             for stream in more:
                 stream.close()
             resource.prlimit(server.child.pid, resource.RLIMIT_NOFILE, limits)
-        time.sleep(2)
+        began = time.monotonic()
         all_answer(server)
+        took = time.monotonic() - began
+        assert took < ACCEPTS_AGAIN, f"connections were accepted again after {took:.1f} s"
+
+
+def listener_ends(program):
+    """If the listener gives no connection any more it ends with status 1, and says so, as soon as those that it serves
+    have ended."""
+    with running(program, workers=2) as server, raw(server.port) as stream:
+        say(stream, "PING", PONG.decode())
+        if not served.shut_listener(server):
+            return
+        say(stream, "PING", PONG.decode())
+        stream.close()
+        assert server.child.wait(timeout=5) == 1
+        assert server.child.stderr.read() == b"xs_server: serving failed\n"
 
 
 def too_few_to_start(program):
@@ -277,6 +332,35 @@ def full_memory(program):
             print(f"of 6 consumers {told.count(NO_MEMORY)} had no memory", flush=True)
             say(one, "DEL q", number(1))
         all_answer(server)
+
+
+# What the server may have five seconds after clients have left who asked for 100 MB that stay stored: Redis 7.0 has 131
+# to 155 MiB.
+BEHIND_THE_GONE = 150 * MEGABYTE
+
+
+def memory_of_the_gone(program, size=1_000_000, most=BEHIND_THE_GONE):
+    """What the replies to clients took that left before they had read them, and the requests of others that left before
+    they were whole, is given back, though nobody comes behind them."""
+    with running(program, workers=12) as server, Clients(server.port) as clients:
+        reply = served.fill(server, "great", 100, size)
+        one, gone = clients.new(), [clients.new() for _ in range(11)]
+        for stream in gone[:8]:
+            stream.sendall(asking("XRANGE great - +"))
+        for stream in gone[:8]:
+            assert reply.startswith(stream.recv(1000))
+        for stream in gone[8:]:
+            stream.sendall(asking("PING " + "v" * 100 * size)[:-5])
+        say(one, "PING", PONG.decode())
+        full = server.resident()
+        for stream in gone:
+            reset(stream)
+        deadline = time.monotonic() + 5
+        while (left := server.resident()) > most and time.monotonic() < deadline:
+            time.sleep(0.1)
+        print(f"{full // MEGABYTE} MiB before the clients left, {left // MEGABYTE} behind them", flush=True)
+        assert full > 11 * 100 * size and left <= most, (full, left)
+        say(one, "XLEN great", number(100))
 
 
 # ---- options
@@ -512,11 +596,12 @@ def main(arguments):
         print(__doc__)
         return 2
     program = arguments[0]
-    alone = (tells_of_itself, wrong_options, taken, defaults, addresses, too_few_to_start, too_little_memory_to_start,
-             readers_over_one_server, waiting.ends_in_time, waiting.sixty, waiting.waiting_costs_nothing,
-             a_thousand, busy_among_idle, a_thousand_wait, full_memory)
+    alone = (tells_of_itself, wrong_options, taken, listener_ends, defaults, addresses, too_few_to_start,
+             too_little_memory_to_start, readers_over_one_server, waiting.ends_in_time, waiting.sixty,
+             waiting.waiting_costs_nothing, a_thousand, busy_among_idle, a_thousand_wait, full_memory, memory_of_the_gone)
     at_once = (waiting.clients_that_go, waiting.has_just_gone, waiting.terminated, forty_too_many, one_ends_in_time,
-               few_descriptors, no_descriptors, closes_the_idle, keeps_the_idle, odd_errors, never_waits)
+               few_descriptors, no_descriptors, closes_the_idle, keeps_the_idle, odd_errors, never_waits,
+               clock_steps.clock_is_set, in_their_order, sends_while_it_waits)
     results = []
     for case in alone:
         if results.count(False) < MOST_FAULTS:

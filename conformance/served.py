@@ -1,5 +1,7 @@
 """The program as a server on a port of its own, plain connections to it, and the cases that are tried over it."""
 import contextlib
+import ctypes
+import errno
 import os
 import resource
 import signal
@@ -61,11 +63,11 @@ def with_limits(limits):
 class Server:
     """A running server, which ends with the block. `port` is where it listens, `child` its process."""
 
-    def __init__(self, words, port, workers, limits):
+    def __init__(self, words, port, workers, limits, environment=None):
         self.port = port
         self.workers = workers
         self.child = subprocess.Popen(words, stdout=subprocess.PIPE, stderr=subprocess.PIPE,
-                                      preexec_fn=with_limits(limits))
+                                      preexec_fn=with_limits(limits), env={**os.environ, **(environment or {})})
 
     def __enter__(self):
         return self
@@ -133,11 +135,11 @@ def serving(program, workers=4, each=1_000_000, limits=None):
 
 
 @contextlib.contextmanager
-def running(program, *options, workers=4, limits=None, host=HOST):
+def running(program, *options, workers=4, limits=None, host=HOST, environment=None):
     """A new server of `run`, which ends with the block."""
     port = free_port()
     words = [*words_of_run(program, port, workers, host), *options]
-    with Server(words, port, workers, limits) as server:
+    with Server(words, port, workers, limits, environment) as server:
         server.lines_until(server.child.stderr, f"listening on {address(host, port)},")
         yield server
 
@@ -184,6 +186,28 @@ def fill(server, key, count, size):
         for place in range(1, count + 1):
             say(stream, f"XADD {key} {place}-0 f {'v' * size}", bulk(f"{place}-0"))
     return array([entry(f"{place}-0", "f", "v" * size) for place in range(1, count + 1)]).encode()
+
+
+def shut_listener(server):
+    """Shuts the socket down that the server listens on, so that it gives no connection any more, and says whether it
+    could. It is reached by a descriptor of the server's, which Linux lets a parent have, if nothing forbids it."""
+    with open(f"/proc/{server.child.pid}/net/tcp", encoding="ascii") as rows:
+        fields = [row.split() for row in list(rows)[1:]]
+    # 0A is the state of a socket that listens
+    inode = next(it[9] for it in fields if it[3] == "0A" and it[1].endswith(f":{server.port:04X}"))
+    folder = f"/proc/{server.child.pid}/fd"
+    number = next(int(name) for name in os.listdir(folder) if os.readlink(f"{folder}/{name}") == f"socket:[{inode}]")
+    process = os.pidfd_open(server.child.pid)
+    # 438 is the number of pidfd_getfd, which Python doesn't name
+    copy = ctypes.CDLL(None, use_errno=True).syscall(438, process, number, 0)
+    os.close(process)
+    if copy < 0 and ctypes.get_errno() in (errno.EPERM, errno.ENOSYS):
+        print("passed over: the system gives no descriptor of another process", flush=True)
+        return False
+    assert copy >= 0, os.strerror(ctypes.get_errno())
+    with socket.socket(fileno=copy) as listener:
+        listener.shutdown(socket.SHUT_RDWR)
+    return True
 
 
 def read_exactly(stream, count):

@@ -22,7 +22,7 @@ import time
 import full_queue
 import served
 from great import array, bulk, entry, number
-from real_redis import read_reply
+from real_redis import read_reply, request
 from served import (PING, PONG, all_answer, asking, fill, raw, read_exactly, read_to_end, reset, say, say_at, serving,
                     together, try_all)
 
@@ -506,10 +506,55 @@ def delete_many(server, key, first, count):
             say(stream, f"XDEL {key} {' '.join(f'{place}-0' for place in range(start, start + 99))}", number(99))
 
 
+def great_reply(stream, size):
+    """Asks for an entry of this size, and reads the reply."""
+    stream.sendall(asking("XRANGE great - +"))
+    whole = len(array([entry("1-0", "f", "v" * size)]))
+    assert len(read_exactly(stream, whole)) == whole
+
+
+def great_request(stream, size):
+    """Sends a request of this size, which is none of the commands, and reads its error."""
+    stream.sendall(request([b"NONE", b"v" * size]))
+    assert read_exactly(stream, 22) == b"-ERR unknown command\r\n"
+
+
+def idle_behind_great_ones(program):
+    """Connections that stay open behind a great reply or a great request hold no more memory than others. The size is
+    one that the C library gives back at once."""
+    size = 40_000_000
+    for ask in (great_reply, great_request):
+        with serving(program, workers=3) as server, contextlib.ExitStack() as open_ones:
+            if ask == great_reply:
+                fill(server, "great", 1, size)
+            all_answer(server)
+            before = server.resident()
+            for _ in range(2):
+                ask(open_ones.enter_context(raw(server.port)), size)
+            deadline = time.monotonic() + 5
+            while (grown := server.resident() - before) >= size // 4 and time.monotonic() < deadline:
+                time.sleep(0.05)
+            print(f"2 connections that are idle behind a {ask.__name__} of {size}: {grown / MEGABYTE:.1f} MiB more",
+                  flush=True)
+            assert grown < size // 4, grown
+
+
 def memory_of_entries(program):
-    """An entry takes little more memory than its bytes, and of deleted ones little is kept, also if one in a hundred
-    stays: what they took serves the next ones."""
-    count, size = 100_000, 60
+    """An entry takes little more memory than its bytes."""
+    for size, most, count in ((60, 110, 50_000), (10, 40, 100_000)):
+        with serving(program) as server:
+            all_answer(server)
+            before = server.resident()
+            add_many(server, "kept", 1, count, size)
+            each = (server.resident() - before) / count
+            print(f"{each:.0f} bytes an entry of {size}", flush=True)
+            assert each < most, each
+
+
+def memory_of_deleted_entries(program):
+    """Of deleted entries little memory is kept, also if one in a hundred stays, which is about one in each block of
+    small entries: what they took serves the next ones."""
+    count, size = 60_000, 10
     with serving(program) as server:
         all_answer(server)
         before = server.resident()
@@ -521,10 +566,48 @@ def memory_of_entries(program):
             delete_many(server, "kept", first, count)
         left = server.resident() - before
         say_at(server, "XLEN kept", number(5 * count // 100))
-        print(f"{full / count:.0f} bytes an entry of {size}; {left / MEGABYTE:.1f} MiB once 99 of each 100 of five times "
-              "as many were deleted", flush=True)
-        assert full < 110 * count, full
-        assert left < 3 * full, (left, full)
+        print(f"{full / MEGABYTE:.1f} MiB, and {left / MEGABYTE:.1f} MiB once 99 of each 100 of five times as many were "
+              "deleted", flush=True)
+        assert left < 2.5 * full, (left, full)
+
+
+def waits_take_no_time(program):
+    """Who waits for its answer while the keeper serves others takes no processor time: requests over which the keeper
+    takes a while cost as much from eight clients at once as from one, up to what the processors' caches make of it."""
+    count, turns = 50_000, 320
+    with serving(program, workers=8) as server:
+        add_many(server, "busy", 1, count, 1)
+        with raw(server.port) as stream:
+            say(stream, "XGROUP CREATE busy g 0", "+OK\r\n")
+            say(stream, "XREADGROUP GROUP g c STREAMS busy >",
+                array([array([bulk("busy"), array([entry(f"{place}-0", "f", "v") for place in range(1, count + 1)])])]))
+
+        def time_of(clients):
+            def work(_):
+                with raw(server.port) as stream:
+                    for _ in range(turns // clients):
+                        say(stream, "XPENDING busy g IDLE 1000000000 - + 10", array([]))
+
+            before = server.processor_time()
+            together(clients, work)
+            return server.processor_time() - before
+
+        alone, at_once = time_of(1), time_of(8)
+        print(f"{alone:.2f} s of processor time from one client, {at_once:.2f} s from eight at once", flush=True)
+        assert at_once < 1.5 * alone + 0.1, (alone, at_once)
+
+
+def listener_ends(program):
+    """If the listener gives no connection any more the program ends with status 1, and says so; what was accepted
+    before is served."""
+    with serving(program, workers=2) as server, raw(server.port) as stream:
+        say(stream, "PING", PONG.decode())
+        if not served.shut_listener(server):
+            return
+        say(stream, "PING", PONG.decode())
+        stream.close()
+        assert server.child.wait(timeout=5) == 1
+        assert server.child.stderr.read() == b"xs_server: serving failed\n"
 
 
 def full_queue_deleted(program):
@@ -556,7 +639,8 @@ def main(arguments):
                    at_this_time, empty_words, a_queue, cut_everywhere, in_two_parts, endings, vanished,
                    nothing_of_another, listens_here_alone, idle, stopped_and_continued)
     over_program = (as_many_as_workers, more_than_workers, ends, taken, options, stopped, full_output,
-                    too_little_to_start, few_descriptors, memory_of_entries, full_queue_deleted, full_queue_trimmed,
+                    too_little_to_start, few_descriptors, listener_ends, waits_take_no_time, idle_behind_great_ones,
+                    memory_of_entries, memory_of_deleted_entries, full_queue_deleted, full_queue_trimmed,
                     full_queue_handed_out, full_queue_of_great_jobs)
     return try_all(arguments[0], over_server, over_program, WORKERS)
 

@@ -10,3 +10,4 @@ pub mod Serve
 pub mod Connection
 pub mod Alone
 pub mod WorkOutcome
+pub mod WallTime

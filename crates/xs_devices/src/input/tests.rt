@@ -3,6 +3,9 @@ use super::*;
 use crate::device::FromRead;
 use std::test::Fail;
 
+/// The most bytes of memory that an empty buffer keeps: those of four pieces, and what growth adds to them.
+const MOST_KEPT: usize = 300_000;
+
 /// A buffer with so many pieces in it.
 fn filled_buffer(alloc: Global, pieces: usize) -> Result<Input, AllocError> {
     let mut bytes = Vec::new(alloc);
@@ -23,7 +26,7 @@ fn a_great_buffer_is_given_back_by_clear(rt: HostRuntime) -> Result<(), Fail> {
     assert_eq!(rt; input.bytes().len(), 20 * PIECE);
     input.clear();
     assert!(rt; input.bytes().is_empty());
-    assert!(rt; input.bytes.capacity() <= KEPT);
+    assert!(rt; input.bytes.capacity() <= MOST_KEPT);
     Ok(())
 }
 
@@ -37,6 +40,6 @@ fn a_great_buffer_is_given_back_once_its_bytes_are_used(rt: HostRuntime) -> Resu
         Err(_) => assert!(rt; false),
     }
     assert!(rt; input.bytes() == b"\x07ab".as_slice());
-    assert!(rt; input.bytes.capacity() <= KEPT);
+    assert!(rt; input.bytes.capacity() <= MOST_KEPT);
     Ok(())
 }

@@ -43,7 +43,7 @@ impl Connection {
         })
     }
 
-    /// Begins the next connection, with the memory of this one.
+    /// A connection before its first byte again. It keeps the memory that small requests need.
     pub fn clear(&mut self)
         ensures { IsNewConnection self.new }
     {

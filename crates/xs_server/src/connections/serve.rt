@@ -2,6 +2,7 @@
 ghost use Rattle.std.specs.Prelude.{◌≡◌, ◌+◌, ◌≤◌, List, ℕ, Err, true};
 ghost use Rattle.std.specs.Io.KnownBytes.{Appends, Consumes};
 ghost use Rattle.xs_devices.specs.Device.{counter_at};
+ghost use Rattle.xs_server.specs.Connection.{IsNewConnection};
 ghost use Rattle.xs_server.specs.Machine.{HasCause, reads_limit};
 ghost use Rattle.xs_server.specs.Serve.{ServesConnection, cause_of_connection};
 
@@ -40,7 +41,8 @@ pub fn serve<R: Source, W: Sink, P: Port, T: Wait>(
     serve_with(rt, &mut connection, reader, writer, port)
 }
 
-/// Serves a connection as `serve` does, with the memory of those before.
+/// Serves a connection as `serve` does, with the memory of those before. What its requests and replies took is given
+/// back behind it, up to what the next one needs at first.
 pub fn serve_with<R: Source, W: Sink, P: Port, T: Wait>(
     rt: &T,
     connection: &mut Connection,
@@ -55,7 +57,10 @@ pub fn serve_with<R: Source, W: Sink, P: Port, T: Wait>(
     ensures cause { HasCause (cause_of_connection result) (R.rest reader.new) (R.ended reader.new) (R.broken reader.new)
         (R.calls reader.old) (R.calls reader.new) (W.broken writer.new) }
     ensures gone { (replies : ℕ) → result ≡ Err (ServeFault.Port replies) → P.gone port.new ≡ true }
+    ensures clear { IsNewConnection connection.new }
 {
     connection.clear();
-    drive(rt, reader, writer, connection, port)
+    let served = drive(rt, reader, writer, connection, port);
+    connection.clear();
+    served
 }

@@ -2,8 +2,8 @@ use Rattle.std.proofs.Common.{[], refl}
 use Rattle.xs_server.proofs.AnsweredRequests.{answered-none}
 use Rattle.xs_server.proofs.connections.serve.serve_with.Goals as goal
 
-pub drive-requires-clause-new : goal.drive-requires-clause-new
-drive-requires-clause-new g c =
+pub drive-served-requires-clause-new : goal.drive-served-requires-clause-new
+drive-served-requires-clause-new g c =
     let new = c.clear.ensures in
     record {
       exchanges = [];
