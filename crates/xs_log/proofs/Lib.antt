@@ -1,0 +1,5 @@
+pub mod Naturals
+pub mod Lengths
+pub mod PlainWords
+pub mod Headers
+pub mod Steps

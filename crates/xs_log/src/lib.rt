@@ -1,0 +1,12 @@
+//! Logs: how they are read, and the keyspace that they stand for.
+#![tactic(auto)]
+
+pub mod fault;
+pub mod header;
+mod length;
+pub mod reading;
+mod record;
+
+pub use fault::LogFault;
+pub use header::MODEL_NUMBER;
+pub use reading::{Extent, Recovered, read_log};
