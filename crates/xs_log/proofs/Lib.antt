@@ -3,3 +3,4 @@ pub mod Lengths
 pub mod PlainWords
 pub mod Headers
 pub mod Steps
+pub mod Crashed

@@ -3,10 +3,12 @@
 
 pub mod fault;
 pub mod header;
+pub mod last;
 mod length;
 pub mod reading;
 mod record;
 
 pub use fault::LogFault;
 pub use header::MODEL_NUMBER;
+pub use last::read_last_log;
 pub use reading::{Extent, Recovered, read_log};
