@@ -4,3 +4,4 @@ pub mod PlainWords
 pub mod Headers
 pub mod Steps
 pub mod Crashed
+pub mod ClosedLogs

@@ -1,5 +1,5 @@
 -- How far a log was read.
-use Rattle.std.specs.Prelude.{◌≡◌, ◌⊎◌, ℕ, ◌<◌, List, ◌++◌, length, Option, Some, Ok}
+use Rattle.std.specs.Prelude.{◌≡◌, ◌⊎◌, ℕ, ◌<◌, List, ◌∷◌, ◌++◌, length, Option, Some, Ok}
 use Rattle.std.specs.List.{AllByRecursion}
 use Rattle.xs_resp.specs.HeldBytes.{Held}
 use Rattle.xs_keys.specs.Event.{Event, event_moment}
@@ -41,3 +41,11 @@ pub record IsReadUpTo (number : ℕ) (start : Content) (before : Option ℕ) (se
   pub at_is : at ≡ length (spellings requests)
   pub content_is : content ≡ contents_after start events
   pub moment_is : moment ≡ moment_after before events
+
+-- all bytes of a log that is closed: its header, and whole records
+pub record IsClosedLog (number : ℕ) (bytes : List ℕ) (events : List Event) : Type 0 where
+  pub header : List (List ℕ)
+  pub records : List (List (List ℕ))
+  pub bytes_are : bytes ≡ spellings (header ∷ records)
+  pub spelled : AllByRecursion CanBeSpelled (header ∷ records)
+  pub is_log : IsLog number (header ∷ records) events

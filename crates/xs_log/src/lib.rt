@@ -1,6 +1,7 @@
 //! Logs: how they are read, and the keyspace that they stand for.
 #![tactic(auto)]
 
+pub mod closed;
 pub mod fault;
 pub mod header;
 pub mod last;
@@ -8,6 +9,7 @@ mod length;
 pub mod reading;
 mod record;
 
+pub use closed::read_closed_log;
 pub use fault::LogFault;
 pub use header::MODEL_NUMBER;
 pub use last::read_last_log;
