@@ -21,7 +21,8 @@ pub record IsPartOfLog (number : ℕ) (bytes : List ℕ) : Type 0 where
 abbrev pub TakesRequest : ℕ → ℕ → List (List ℕ) → Content → Option ℕ → Content → Option ℕ → Type 0
 TakesRequest number at words old before new moment =
     ((at ≡ 0) × (words ≡ header_words number) × (new ≡ old) × (moment ≡ before))
-    ⊎ ((0 < at) × ((event : Event) × IsRecordOf words event × (new ≡ after old event) × (moment ≡ Some (event_moment event))))
+    ⊎ ((0 < at) × ((event : Event) × IsRecordOf words event × (new ≡ after old event)
+    × (moment ≡ Some (event_moment event))))
 
 -- these words may stand at this byte of a log
 abbrev pub MayStand : ℕ → ℕ → List (List ℕ) → Type 0

@@ -26,7 +26,7 @@ fn word_len(word: &[u8]) -> Option<u64>
 }
 
 /// How many bytes a request takes, if 64 bits count them.
-#[tactic(auto, using(crate::proofs::Lengths::lengths_first, crate::proofs::Lengths::lengths_more, crate::proofs::Lengths::lengths_done))]
+#[tactic(auto, using(crate::proofs::Lengths::lengths_more, crate::proofs::Lengths::lengths_done))]
 pub(crate) fn request_len(request: Request<'_>) -> Option<u64>
     ensures { IfSome result (λ size. size ≡ length (spelling request.entry)) }
 {

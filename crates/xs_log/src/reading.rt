@@ -1,5 +1,5 @@
 //! A log that is read, and its events applied.
-ghost use Rattle.std.specs.Prelude.{◌≡◌, ◌⊎◌, ◌<◌, ℕ, List, Option, None, Some, Ok, Err, length, true, false, IfOk, IfErr, OnOk};
+ghost use Rattle.std.specs.Prelude.{◌≡◌, ◌⊎◌, ℕ, List, Option, None, Some, Ok, Err, false, IfOk, IfErr, OnOk};
 ghost use Rattle.std.specs.Io.KnownBytes.{Consumes, IsAtEnd};
 ghost use Rattle.xs_bytes.specs.SortedMap.{empty};
 ghost use Rattle.xs_resp.specs.Reading.{request};
@@ -106,7 +106,8 @@ fn take_next(
 ) -> Result<bool, LogFault>
     ensures ok { (start : Content) (before : Option ℕ) (seen : List ℕ) →
         IsReadUpTo number start before seen requests.old at.old recovered.old.keyspace recovered.old.last →
-        OnOk result (IsReadUpTo number start before seen requests.new at.new recovered.new.keyspace recovered.new.last) }
+        OnOk result (IsReadUpTo number start before seen requests.new at.new
+        recovered.new.keyspace recovered.new.last) }
     ensures none { result ≡ Ok false → (rest : List ℕ) × (requests.new ≡ Ok rest) × (request rest ≡ Ok None) }
     ensures err { (start : Content) (before : Option ℕ) (seen : List ℕ) →
         IsReadUpTo number start before seen requests.old at.old recovered.old.keyspace recovered.old.last →

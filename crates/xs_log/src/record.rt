@@ -22,7 +22,7 @@ pub enum RecordFault {
 }
 
 /// The words of a record, as they were before they were escaped.
-#[tactic(auto, using(crate::proofs::PlainWords::word_more, crate::proofs::PlainWords::words_done, crate::proofs::PlainWords::not_escaped))]
+#[tactic(auto, using(crate::proofs::PlainWords::word_more, crate::proofs::PlainWords::words_done))]
 pub(crate) fn plain_words(alloc: Global, sent: Request<'_>) -> Result<Vec<Bytes>, RecordFault>
     ensures ok { IfOk result (λ words. sent.entry ≡ map escaped words.items) }
     ensures damaged { result ≡ Err RecordFault.Damaged → (words : List (List ℕ)) → sent.entry ≢ map escaped words }

@@ -32,7 +32,7 @@ abbrev pub IsLog : ℕ → List (List (List ℕ)) → List Event → Type 0
 IsLog number [] events = events ≡ []
 IsLog number (header ∷ records) events = (header ≡ header_words number) × AreRecordsOf records events
 
--- these bytes are a log with these events: so many bytes of whole requests, and behind them so many of an unfinished one
+-- these bytes are a log with these events: so many bytes of whole requests, and so many of an unfinished one behind
 pub record HasEvents (number : ℕ) (bytes : List ℕ) (events : List Event) (whole part : ℕ) : Type 0 where
   pub requests : List (List (List ℕ))
   pub rest : List ℕ

@@ -45,8 +45,8 @@ pub fn a_log_has_the_content()
         new ≡ contents_after old (log_of calls) }
 {}
 
-/// Where a log keeps the first of its events, the calls before the first lost one survive: they were served as they were
-/// answered, and their content is that of what was kept.
+/// Where a log keeps the first of its events, the calls before the first lost one survive. They were served as they
+/// were answered, and their content is that of what was kept.
 pub fn a_crash_cuts_the_calls()
     ensures served { (old new : Content) (calls : List Call) (kept : ℕ) → Serves old calls new →
         Serves old (survivors kept calls) (contents_after old (take kept (log_of calls))) }

@@ -1,5 +1,5 @@
 -- CRC-32C (RFC 3720, section 12.1): the remainder of the bytes, as a polynomial over two elements, by Castagnoli's
--- polynomial 11EDC6F41. Numbers have the bits of a polynomial in reversed order, so a shift to the right multiplies by x.
+-- polynomial 11EDC6F41. Numbers have the bits of a polynomial in reversed order: a shift to the right multiplies by x.
 use Rattle.std.specs.Prelude.{ℕ, zero, suc, ◌+◌, ◌/◌, ◌*◌, ◌%◌, ◌^◌, ◌==◌, Bool, true, ◌&&◌, List, [], ◌∷◌, fold}
 use Rattle.std.specs.Int.Bits.{bit_xor}
 

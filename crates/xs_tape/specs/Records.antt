@@ -44,7 +44,8 @@ pub record AreRequests (bytes : List ℕ) (requests : List (List (List ℕ))) (p
   pub unfinished : request part ≡ Ok None
 
 -- these requests are the first of those that were written, each that is whole in these bytes
-pub record AreTheFirst (written : List (List (List ℕ))) (bytes : List ℕ) (requests : List (List (List ℕ))) : Type 0 where
+pub record AreTheFirst
+    (written : List (List (List ℕ))) (bytes : List ℕ) (requests : List (List (List ℕ))) : Type 0 where
   pub within : length requests ≤ length written
   pub first : requests ≡ take (length requests) written
   pub all : (n : ℕ) → n ≤ length written → IsPrefix (spellings (take n written)) bytes → n ≤ length requests
