@@ -63,3 +63,6 @@ moment_over n now e small is =
       | inl some ↦ absurd (cc (some.1))
       | inr none ↦ absurd (false≢true (sym none.0 ∙ lt-ltb n (2 ^ 63) (omega (arith, is, small))))
     ]
+
+-- when a text is a number
+pub ruleset naturals = (spelled_once, same_number, no_number)

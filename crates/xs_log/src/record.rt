@@ -47,7 +47,7 @@ pub(crate) fn plain_words(alloc: Global, sent: Request<'_>) -> Result<Vec<Bytes>
 }
 
 /// Whether a word is a number.
-#[tactic(auto, using(crate::proofs::Naturals::spelled_once, crate::proofs::Naturals::same_number, crate::proofs::Naturals::no_number))]
+#[tactic(auto, using(crate::proofs::Naturals::naturals))]
 pub(crate) fn is_number(word: &[u8], number: u64) -> bool
     ensures yes { result ≡ true → word.now ≡ decimal number }
     ensures no { result ≡ false → word.now ≢ decimal number }
