@@ -1,0 +1,7 @@
+pub mod Naturals
+pub mod Lengths
+pub mod PlainWords
+pub mod Headers
+pub mod Steps
+pub mod Crashed
+pub mod ClosedLogs

@@ -1,0 +1,293 @@
+-- How far a log is read, request by request.
+use Rattle.std.proofs.Common.{◌≡◌, ◌≢◌, ◌⊎◌, inl, inr, ℕ, ◌+◌, ◌<◌, ◌≤◌, zero, suc, List, [], ◌∷◌, ◌++◌, length, take, drop, Some, None, Option, refl, sym, ap, ◌∙◌, subst, arith, append_assoc, length-append}
+use Rattle.std.proofs.lemmas.List.{append-nil, take-append-drop, drop_at, take_at}
+use Rattle.std.proofs.lemmas.List.Concat.{flat_map-append}
+use Rattle.std.specs.Prelude.{Bool, Result, Ok, Err}
+use Rattle.std.specs.List.{AllByRecursion}
+use Rattle.std.specs.Io.KnownBytes.{Consumes}
+use Rattle.xs_resp.specs.declared.read_fault.ProtocolFault.{ProtocolFault}
+use Rattle.xs_resp.specs.declared.read_fault.ReadFault.{ReadFault}
+use Rattle.xs_resp.specs.Outcome.{Outcome, Keeps}
+use Rattle.xs_resp.specs.HeldBytes.{Held, with_piece, Ready, ReadyOf, front_of}
+use Rattle.xs_resp.specs.Reading.{Found, request, words_in}
+use Rattle.xs_resp.specs.Grammar.{spelling}
+use Rattle.xs_resp.proofs.Decisions.{request-keeps, request-read}
+use Rattle.xs_keys.specs.Event.{Event, event_moment}
+use Rattle.xs_keys.specs.Content.{Content}
+use Rattle.xs_tape.specs.Records.{CanBeSpelled, spellings}
+use Rattle.xs_tape.proofs.Firsts.{spelling-found, same-front}
+use Rattle.xs_replay.specs.After.{after, contents_after, moment_after}
+use Rattle.xs_replay.specs.Log.{IsRecordOf, AreRecordsOf, IsLog, HasEvents}
+use Rattle.xs_log.specs.declared.fault.LogFault.{LogFault}
+use Rattle.xs_log.specs.Fault.{IsWant}
+use Rattle.xs_log.specs.Reading.{IsPartOfLog, TakesRequest, MayStand, IsReadUpTo}
+
+-- ---- what a reader holds
+
+ready-of : (bytes : List ℕ) (outcome : Outcome Found) (result : Result Bool ReadFault) (new : Held) (b : Bool) → ReadyOf bytes outcome result new → result ≡ Ok b → new ≡ Ok bytes
+ready-of bytes (Ok (Some found)) result new b r e = r.1
+ready-of bytes (Ok None) result new b r e = r.1
+ready-of bytes (Err wrong) result new b r e = absurd (cc (r.0))
+
+-- a look that answers changes nothing
+pub ready_same : (old : Held) (result : Result Bool ReadFault) (new : Held) (b : Bool) → Ready old result new → result ≡ Ok b → new ≡ old
+ready_same (Ok bytes) result new b r e = ready-of bytes (request bytes) result new b r e
+ready_same (Err wrong) result new b r e = absurd (cc (r.0))
+
+pub record IsFault (bytes : List ℕ) : Type 0 where
+  pub wrong : ProtocolFault
+  pub is : request bytes ≡ Err wrong
+
+fault-of : (bytes : List ℕ) (outcome : Outcome Found) (result : Result Bool ReadFault) (new : Held) (fault : ReadFault) → request bytes ≡ outcome → ReadyOf bytes outcome result new → result ≡ Err fault → IsFault bytes
+fault-of bytes (Ok (Some found)) result new fault o r e = absurd (cc (r.0))
+fault-of bytes (Ok None) result new fault o r e = absurd (cc (r.0))
+fault-of bytes (Err wrong) result new fault o r e = record { wrong = wrong; is = o }
+
+-- a look that fails has met a fault
+pub ready_fault : (old : Held) (bytes : List ℕ) (result : Result Bool ReadFault) (new : Held) (fault : ReadFault) → old ≡ Ok bytes → Ready old result new → result ≡ Err fault → IsFault bytes
+ready_fault old bytes result new fault h r e =
+    let here : Ready (Ok bytes) result new = subst (λ o. Ready o result new) h r in
+    fault-of bytes (request bytes) result new fault refl here e
+
+pub front_words : (held : Held) (bytes : List ℕ) (found : Found) → held ≡ Ok bytes → request bytes ≡ Ok (Some found) → front_of held ≡ found.words
+front_words held bytes found e f = ap front_of e ∙ ap words_in f
+
+pub consumes_more : (a b c : Option (List ℕ)) (x y : List ℕ) → Consumes a b x → Consumes b c y → Consumes a c (x ++ y)
+consumes_more None b c x y h k = tt
+consumes_more (Some a) None c x y h k = absurd h
+consumes_more (Some a) (Some b) None x y h k = absurd k
+consumes_more (Some a) (Some b) (Some c) x y h k = h ∙ ap (λ l. x ++ l) k ∙ sym (append_assoc x y c)
+
+pub consumes_none : (a : Option (List ℕ)) → Consumes a a []
+consumes_none None = tt
+consumes_none (Some a) = refl
+
+-- ---- requests that were taken
+
+spellings-more : (requests : List (List (List ℕ))) (words : List (List ℕ)) → spellings (requests ++ words ∷ []) ≡ spellings requests ++ spelling words
+spellings-more requests words = flat_map-append spelling requests (words ∷ []) ∙ ap (λ b. spellings requests ++ b) (append-nil (spelling words))
+
+all-more : (requests : List (List (List ℕ))) (words : List (List ℕ)) → AllByRecursion CanBeSpelled requests → CanBeSpelled words → AllByRecursion CanBeSpelled (requests ++ words ∷ [])
+all-more [] words all one = (one, tt)
+all-more (w ∷ requests) words all one = (all.0, all-more requests words all.1 one)
+
+records-more : (records : List (List (List ℕ))) (events : List Event) (words : List (List ℕ)) (event : Event) → AreRecordsOf records events → IsRecordOf words event → AreRecordsOf (records ++ words ∷ []) (events ++ event ∷ [])
+records-more [] [] words event are is = (is, tt)
+records-more [] (e ∷ events) words event are is = absurd are
+records-more (w ∷ records) [] words event are is = absurd are
+records-more (w ∷ records) (e ∷ events) words event are is = (are.0, records-more records events words event are.1 is)
+
+pub contents_more : (content : Content) (events : List Event) (event : Event) → contents_after content (events ++ event ∷ []) ≡ after (contents_after content events) event
+contents_more content [] event = refl
+contents_more content (e ∷ events) event = contents_more (after content e) events event
+
+moment-more : (before : Option ℕ) (events : List Event) (event : Event) → moment_after before (events ++ event ∷ []) ≡ Some (event_moment event)
+moment-more before [] event = refl
+moment-more before (e ∷ events) event = moment-more (Some (event_moment e)) events event
+
+-- words that are no spelling of nothing stand at the front as they are spelled
+spelled-front : (bytes : List ℕ) (found : Found) → request bytes ≡ Ok (Some found) → found.words ≢ [] → CanBeSpelled found.words × (bytes ≡ spelling found.words ++ drop found.end bytes) × (found.end ≡ length (spelling found.words))
+spelled-front bytes found e some =
+    let read = request-read bytes found e in
+    elim read.spells.spelled [
+      | inl is ↦ (
+        record { number = read.spells.number; sizes = read.spells.sizes },
+        sym (take-append-drop found.end bytes) ∙ ap (λ b. b ++ drop found.end bytes) is,
+        sym (Rattle.std.proofs.lemmas.List.length-take-le found.end bytes read.within) ∙ ap length is,
+      )
+      | inr none ↦ absurd (some none.0)
+    ]
+
+-- words that were taken are some words
+takes-some : (number at : ℕ) (words : List (List ℕ)) (old : Content) (before : Option ℕ) (new : Content) (moment : Option ℕ) → TakesRequest number at words old before new moment → words ≢ []
+takes-some number at words old before new moment (inl header) e = absurd (cc (header.1, e))
+takes-some number at words old before new moment (inr record_of) e = absurd (cc (((record_of.1).1).stands, e))
+
+-- the events with one request more
+record LogMore (number : ℕ) (start : Content) (before : Option ℕ) (requests : List (List (List ℕ))) (content : Content) (moment : Option ℕ) : Type 0 where
+  pub events : List Event
+  pub is_log : IsLog number requests events
+  pub content_is : content ≡ contents_after start events
+  pub moment_is : moment ≡ moment_after before events
+
+log-more : (number at : ℕ) (start : Content) (before : Option ℕ) (requests : List (List (List ℕ))) (events : List Event) (words : List (List ℕ)) (old : Content) (middle : Option ℕ) (new : Content) (moment : Option ℕ)
+    → IsLog number requests events → at ≡ length (spellings requests) → old ≡ contents_after start events → middle ≡ moment_after before events → TakesRequest number at words old middle new moment
+    → LogMore number start before (requests ++ words ∷ []) new moment
+log-more number at start before [] events words old middle new moment is e c m (inl header) = record {
+  events = [];
+  is_log = (header.1, tt);
+  content_is = header.2 ∙ c ∙ ap (contents_after start) is;
+  moment_is = header.3 ∙ m ∙ ap (moment_after before) is;
+}
+log-more number at start before [] events words old middle new moment is e c m (inr taken) = absurd (omega (arith, e, taken.0))
+log-more number at start before (h ∷ requests) events words old middle new moment is e c m (inl header) = absurd (omega (arith, e, header.0))
+log-more number at start before (h ∷ requests) events words old middle new moment is e c m (inr taken) =
+    let event = (taken.1).0 in
+    record {
+      events = events ++ event ∷ [];
+      is_log = (is.0, records-more requests events words event is.1 (taken.1).1);
+      content_is = (taken.1).2 ∙ ap (λ x. after x event) c ∙ sym (contents_more start events event);
+      moment_is = (taken.1).3 ∙ sym (moment-more before events event);
+    }
+
+-- a request more was taken
+pub read_more : (number : ℕ) (start : Content) (before : Option ℕ) (seen : List ℕ) (held next : Held) (at end : ℕ) (old new : Content) (middle moment : Option ℕ) (bytes : List ℕ) (found : Found)
+    → IsReadUpTo number start before seen held at old middle → held ≡ Ok bytes → request bytes ≡ Ok (Some found) → next ≡ Ok (drop found.end bytes) → end ≡ at + length (spelling found.words)
+    → TakesRequest number at found.words old middle new moment → IsReadUpTo number start before seen next end new moment
+read_more number start before seen held next at end old new middle moment bytes found up holds read left sum taken =
+    let front = spelled-front bytes found read (takes-some number at found.words old middle new moment taken) in
+    let more = log-more number at start before up.requests up.events found.words old middle new moment up.is_log up.at_is up.content_is up.moment_is taken in
+    let same : up.rest ≡ bytes = cc (up.holds, holds) in
+    let text = spellings-more up.requests found.words in
+    record {
+      requests = up.requests ++ found.words ∷ [];
+      rest = drop found.end bytes;
+      events = more.events;
+      holds = left;
+      seen_is = up.seen_is ∙ ap (λ b. spellings up.requests ++ b) (same ∙ front.1)
+          ∙ sym (append_assoc (spellings up.requests) (spelling found.words) (drop found.end bytes)) ∙ ap (λ b. b ++ drop found.end bytes) (sym text);
+      spelled = all-more up.requests found.words up.spelled front.0;
+      is_log = more.is_log;
+      at_is = omega (arith, sum, up.at_is, ap length text, length-append (spellings up.requests) (spelling found.words));
+      content_is = more.content_is;
+      moment_is = more.moment_is;
+    }
+
+pub read_first : (number : ℕ) (start : Content) (before : Option ℕ) (held : Held) → held ≡ Ok [] → IsReadUpTo number start before [] held 0 start before
+read_first number start before held e = record { requests = []; rest = []; events = []; holds = e; seen_is = refl; spelled = tt; is_log = refl; at_is = refl; content_is = refl; moment_is = refl }
+
+pub read_fed : (number : ℕ) (start : Content) (before : Option ℕ) (seen got : List ℕ) (held next : Held) (at : ℕ) (content : Content) (moment : Option ℕ) → IsReadUpTo number start before seen held at content moment → next ≡ with_piece held got
+    → IsReadUpTo number start before (seen ++ got) next at content moment
+read_fed number start before seen got held next at content moment up fed = record {
+  requests = up.requests;
+  rest = up.rest ++ got;
+  events = up.events;
+  holds = fed ∙ ap (λ h. with_piece h got) up.holds;
+  seen_is = ap (λ b. b ++ got) up.seen_is ∙ append_assoc (spellings up.requests) up.rest got;
+  spelled = up.spelled;
+  is_log = up.is_log;
+  at_is = up.at_is;
+  content_is = up.content_is;
+  moment_is = up.moment_is;
+}
+
+-- all is read
+pub read_all : (number : ℕ) (start : Content) (before : Option ℕ) (seen rest : List ℕ) (held : Held) (at part : ℕ) (content : Content) (moment : Option ℕ) → (up : IsReadUpTo number start before seen held at content moment)
+    → held ≡ Ok rest → request rest ≡ Ok None → part + at ≡ length seen → HasEvents number seen up.events at part
+read_all number start before seen rest held at part content moment up holds none sum =
+    let same : up.rest ≡ rest = cc (up.holds, holds) in
+    record {
+      requests = up.requests;
+      rest = up.rest;
+      are = record { whole = up.seen_is; spelled = up.spelled; unfinished = ap request same ∙ none };
+      is_log = up.is_log;
+      whole_is = up.at_is;
+      part_is = omega (arith, sum, up.at_is, ap length up.seen_is, length-append (spellings up.requests) up.rest);
+    }
+
+pub at_within : (number : ℕ) (start : Content) (before : Option ℕ) (seen : List ℕ) (held : Held) (at : ℕ) (content : Content) (moment : Option ℕ) → IsReadUpTo number start before seen held at content moment → at ≤ length seen
+at_within number start before seen held at content moment up = omega (arith, up.at_is, ap length up.seen_is, length-append (spellings up.requests) up.rest)
+
+-- ---- a log that was written
+
+nothing-there : request [] ≡ Ok None
+nothing-there = nothing-is (request []) Rattle.xs_resp.proofs.Cutting.nothing-read
+  where
+    nothing-is : (o : Outcome Found) → Rattle.xs_resp.specs.Pieces.Rests o [] (Ok []) → o ≡ Ok None
+    nothing-is (Ok (Some found)) r = absurd r
+    nothing-is (Ok None) r = refl
+    nothing-is (Err wrong) r = absurd (cc)
+
+-- what was written behind the requests that were taken
+record Behind (done written : List (List (List ℕ))) (rest more : List ℕ) : Type 0 where
+  pub others : List (List (List ℕ))
+  pub split : written ≡ done ++ others
+  pub spelled : AllByRecursion CanBeSpelled others
+  pub text : rest ++ more ≡ spellings others
+
+behind : (done written : List (List (List ℕ))) (seen rest more : List ℕ) → AllByRecursion CanBeSpelled done → AllByRecursion CanBeSpelled written → seen ≡ spellings done ++ rest → seen ++ more ≡ spellings written → Behind done written rest more
+behind [] written seen rest more one all e f = record { others = written; split = refl; spelled = all; text = ap (λ b. b ++ more) (sym e) ∙ f }
+behind (w ∷ done) [] seen rest more one all e f = absurd (cc (e, f))
+behind (w ∷ done) (v ∷ written) seen rest more one all e f =
+    let split : seen ≡ spelling w ++ (spellings done ++ rest) = e ∙ append_assoc (spelling w) (spellings done) rest in
+    let joined : spelling w ++ ((spellings done ++ rest) ++ more) ≡ spelling v ++ spellings written = sym (append_assoc (spelling w) (spellings done ++ rest) more) ∙ ap (λ b. b ++ more) (sym split) ∙ f in
+    let same = same-front w v ((spellings done ++ rest) ++ more) (spellings written) one.0 all.0 joined in
+    let others = behind done written (spellings done ++ rest) rest more one.1 all.1 refl same.1 in
+    record { others = others.others; split = ap (λ ws. v ∷ ws) others.split ∙ ap (λ x. x ∷ (done ++ others.others)) (sym same.0); spelled = others.spelled; text = others.text }
+
+-- no fault stands in what was written
+no-fault-in : (others : List (List (List ℕ))) (rest more : List ℕ) → AllByRecursion CanBeSpelled others → rest ++ more ≡ spellings others → IsFault rest → ⊥
+no-fault-in [] rest more can e fault =
+    let later : request (rest ++ more) ≡ Err fault.wrong = subst (λ o. Keeps o (request (rest ++ more))) fault.is (request-keeps rest more) in
+    absurd (cc (later, ap request e, nothing-there))
+no-fault-in (w ∷ others) rest more can e fault =
+    let later : request (rest ++ more) ≡ Err fault.wrong = subst (λ o. Keeps o (request (rest ++ more))) fault.is (request-keeps rest more) in
+    absurd (cc (later, ap request e, spelling-found w (spellings others) can.0))
+
+pub no_fault : (number : ℕ) (start : Content) (before : Option ℕ) (seen bytes : List ℕ) (held : Held) (at : ℕ) (content : Content) (moment : Option ℕ) → IsReadUpTo number start before seen held at content moment → IsPartOfLog number seen
+    → held ≡ Ok bytes → IsFault bytes → ⊥
+no_fault number start before seen bytes held at content moment up part holds fault =
+    let same : up.rest ≡ bytes = cc (up.holds, holds) in
+    let others = behind up.requests part.requests seen up.rest part.more up.spelled part.spelled up.seen_is part.written in
+    no-fault-in others.others up.rest part.more others.spelled others.text (subst IsFault (sym same) fault)
+
+record-at : (done others : List (List (List ℕ))) (words : List (List ℕ)) (events : List Event) → AreRecordsOf (done ++ words ∷ others) events → (event : Event) × IsRecordOf words event
+record-at [] others words [] are = absurd are
+record-at [] others words (e ∷ events) are = (e, are.0)
+record-at (d ∷ done) others words [] are = absurd are
+record-at (d ∷ done) others words (e ∷ events) are = record-at done others words events are.1
+
+stands-at : (number at : ℕ) (done others : List (List (List ℕ))) (words : List (List ℕ)) (events : List Event) → IsLog number (done ++ words ∷ others) events → at ≡ length (spellings done) → MayStand number at words
+stands-at number at [] others words events is e = inl (e, is.0)
+stands-at number at (h ∷ done) others words events is e = inr (omega (arith, e), record-at done others words events is.1)
+
+found-at : (number at : ℕ) (done written others : List (List (List ℕ))) (rest more : List ℕ) (found : Found) (events : List Event) → AllByRecursion CanBeSpelled others → written ≡ done ++ others → rest ++ more ≡ spellings others
+    → request rest ≡ Ok (Some found) → IsLog number written events → at ≡ length (spellings done) → MayStand number at found.words
+found-at number at done written [] rest more found events can split e read is at_is =
+    let later : request (rest ++ more) ≡ Ok (Some found) = subst (λ o. Keeps o (request (rest ++ more))) read (request-keeps rest more) in
+    absurd (cc (later, ap request e, nothing-there))
+found-at number at done written (w ∷ others) rest more found events can split e read is at_is =
+    let later : request (rest ++ more) ≡ Ok (Some found) = subst (λ o. Keeps o (request (rest ++ more))) read (request-keeps rest more) in
+    let there = spelling-found w (spellings others) can.0 in
+    let one : Found = record { words = w; end = length (spelling w) } in
+    let same : found ≡ one = cc (later, ap request e, there) in
+    let words : w ≡ found.words = sym (ap (λ (f : Found). f.words) same) in
+    subst (λ ws. MayStand number at ws) words (stands-at number at done others w events (subst (λ rs. IsLog number rs events) split is) at_is)
+
+pub may_stand : (number : ℕ) (start : Content) (before : Option ℕ) (seen bytes : List ℕ) (held : Held) (at : ℕ) (content : Content) (moment : Option ℕ) (found : Found) → IsReadUpTo number start before seen held at content moment
+    → IsPartOfLog number seen → held ≡ Ok bytes → request bytes ≡ Ok (Some found) → MayStand number at found.words
+may_stand number start before seen bytes held at content moment found up part holds read =
+    let same : up.rest ≡ bytes = cc (up.holds, holds) in
+    let others = behind up.requests part.requests seen up.rest part.more up.spelled part.spelled up.seen_is part.written in
+    found-at number at up.requests part.requests others.others up.rest part.more found part.events others.spelled others.split others.text (ap request same ∙ read) part.is_log up.at_is
+
+pub part_of_log : (number : ℕ) (bytes seen rest : List ℕ) → IsPartOfLog number bytes → bytes ≡ seen ++ rest → IsPartOfLog number seen
+part_of_log number bytes seen rest part e =
+    record { requests = part.requests; events = part.events; more = rest ++ part.more; spelled = part.spelled; is_log = part.is_log; written = sym (append_assoc seen rest part.more) ∙ ap (λ b. b ++ part.more) (sym e) ∙ part.written }
+
+pub seen_part : (number : ℕ) (old new : Option (List ℕ)) (bytes seen : List ℕ) → old ≡ Some bytes → Consumes old new seen → IsPartOfLog number bytes → IsPartOfLog number seen
+seen_part number None new bytes seen e consumes part = absurd (cc (e))
+seen_part number (Some xs) None bytes seen e consumes part = absurd consumes
+seen_part number (Some xs) (Some ys) bytes seen e consumes part =
+    let same : bytes ≡ xs = cc (e) in
+    part_of_log number bytes seen ys part (same ∙ consumes)
+
+-- a fault is a want, if the words may stand
+pub only_want : (fault : LogFault) (Stands : Type 0) → IsWant fault ⊎ (Stands → ⊥) → Stands → IsWant fault
+only_want fault Stands (inl want) stands = want
+only_want fault Stands (inr wrong) stands = absurd (wrong stands)
+
+-- a look that says yes has found a request
+pub record IsFound (bytes : List ℕ) : Type 0 where
+  pub found : Found
+  pub read : request bytes ≡ Ok (Some found)
+
+found-of : (bytes : List ℕ) (outcome : Outcome Found) (result : Result Bool ReadFault) (new : Held) → request bytes ≡ outcome → ReadyOf bytes outcome result new → result ≡ Ok Rattle.std.proofs.Common.true → IsFound bytes
+found-of bytes (Ok (Some found)) result new o r e = record { found = found; read = o }
+found-of bytes (Ok None) result new o r e = absurd (cc (r.0, e))
+found-of bytes (Err wrong) result new o r e = absurd (cc (r.0))
+
+pub ready_found : (old : Held) (bytes : List ℕ) (result : Result Bool ReadFault) (new : Held) → old ≡ Ok bytes → Ready old result new → result ≡ Ok Rattle.std.proofs.Common.true → IsFound bytes
+ready_found old bytes result new h r e =
+    let here : Ready (Ok bytes) result new = subst (λ o. Ready o result new) h r in
+    found-of bytes (request bytes) result new refl here e

@@ -1,0 +1,10 @@
+-- Why a log isn't read, though nothing is wrong with it.
+use Rattle.xs_log.specs.declared.fault.LogFault.{LogFault}
+use Rattle.xs_log.specs.declared.fault.LogFault.TheVariants.{Memory, Device, TooLong}
+
+-- memory, the device or a number ran out
+abbrev pub IsWant : LogFault → Type 0
+IsWant Memory = Unit {0}
+IsWant Device = Unit {0}
+IsWant TooLong = Unit {0}
+IsWant _ = ⊥

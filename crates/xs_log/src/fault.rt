@@ -1,0 +1,28 @@
+//! Why a log isn't read.
+use thiserror::Error;
+
+/// Why a log isn't read.
+#[derive(Clone, Copy, Debug, PartialEq, Eq, Error)]
+pub enum LogFault {
+    /// Out of memory. An event that was skipped would fork the history.
+    #[error("out of memory")]
+    Memory,
+    /// The reader failed.
+    #[error("can't be read")]
+    Device,
+    /// It has more bytes than a number of 64 bits counts.
+    #[error("has too many bytes")]
+    TooLong,
+    /// It doesn't begin as a log of this format.
+    #[error("is no log of this program")]
+    Foreign,
+    /// It has another number than its name says.
+    #[error("is the log of another number")]
+    OtherNumber,
+    /// It is of another model, with this number.
+    #[error("is of model {0}, and this program has model 1")]
+    OtherModel(u64),
+    /// At this byte something stands that isn't what was written.
+    #[error("is damaged at byte {0}")]
+    Damaged(u64),
+}

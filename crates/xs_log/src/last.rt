@@ -1,0 +1,43 @@
+//! The last log, which a crash may have torn.
+ghost use Rattle.std.specs.Prelude.{◌≡◌, ◌+◌, ◌≤◌, ℕ, List, Some, length, take, IfOk, IfErr};
+ghost use Rattle.std.specs.List.{AllByRecursion};
+ghost use Rattle.xs_keys.specs.Event.{Event};
+ghost use Rattle.xs_tape.specs.Crash.{CrashLeaves};
+ghost use Rattle.xs_tape.specs.Records.{CanBeSpelled, spellings};
+ghost use Rattle.xs_replay.specs.After.{contents_after, moment_after};
+ghost use Rattle.xs_replay.specs.Log.{IsLog};
+ghost use Rattle.xs_log.specs.Fault.{IsWant};
+
+use crate::fault::LogFault;
+use crate::reading::{Extent, Recovered, read_log};
+use std::alloc::Global;
+use xs_devices::Source;
+use xs_tape::BeforeZero;
+
+/// Reads the last log, up to its first zero byte, onto what the logs before it left. Its file has to be cut behind the
+/// whole records before more is appended.
+///
+/// # Errors
+/// A `LogFault`. What is recovered is of no use then.
+pub fn read_last_log<R: Source + Drop>(
+    alloc: Global,
+    number: u64,
+    recovered: &mut Recovered,
+    file: R,
+) -> Result<Extent, LogFault>
+    // Whatever a crash has left of a log is read, unless memory, the reader or a number of 64 bits runs out.
+    ensures err { (requests : List (List (List ℕ))) (events : List Event) (kept : ℕ) (left : List ℕ) →
+        AllByRecursion CanBeSpelled requests → IsLog number requests events → kept ≤ length requests →
+        CrashLeaves (length (spellings (take kept requests))) (spellings requests) left → R.rest file ≡ Some left →
+        IfErr result IsWant }
+    // It gives the first of its events, among them all whose records, behind the header, were kept.
+    ensures ok { (requests : List (List (List ℕ))) (events : List Event) (kept : ℕ) (left : List ℕ) →
+        AllByRecursion CanBeSpelled requests → IsLog number requests events → kept ≤ length requests →
+        CrashLeaves (length (spellings (take kept requests))) (spellings requests) left → R.rest file ≡ Some left →
+        IfOk result (λ _. (count : ℕ) × (count ≤ length events) × (kept ≤ count + 1)
+        × (recovered.new.keyspace ≡ contents_after recovered.old.keyspace (take count events))
+        × (recovered.new.last ≡ moment_after recovered.old.last (take count events))) }
+{
+    let mut before = BeforeZero::new(file);
+    read_log(alloc, number, recovered, &mut before)
+}

@@ -1,0 +1,16 @@
+//! Logs: how they are read, and the keyspace that they stand for.
+#![tactic(auto)]
+
+pub mod closed;
+pub mod fault;
+pub mod header;
+pub mod last;
+mod length;
+pub mod reading;
+mod record;
+
+pub use closed::read_closed_log;
+pub use fault::LogFault;
+pub use header::MODEL_NUMBER;
+pub use last::read_last_log;
+pub use reading::{Extent, Recovered, read_log};

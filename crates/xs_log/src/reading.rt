@@ -1,0 +1,183 @@
+//! A log that is read, and its events applied.
+ghost use Rattle.std.specs.Prelude.{◌≡◌, ◌⊎◌, ℕ, List, Option, None, Some, Ok, Err, false, IfOk, IfErr, OnOk};
+ghost use Rattle.std.specs.Io.KnownBytes.{Consumes, IsAtEnd};
+ghost use Rattle.xs_bytes.specs.SortedMap.{empty};
+ghost use Rattle.xs_resp.specs.Reading.{request};
+ghost use Rattle.xs_keys.specs.Event.{Event, event_moment};
+ghost use Rattle.xs_keys.specs.Content.{Content};
+ghost use Rattle.xs_replay.specs.After.{after, contents_after, moment_after};
+ghost use Rattle.xs_replay.specs.Log.{IsRecordOf, HasEvents};
+ghost use Rattle.xs_log.specs.Fault.{IsWant};
+ghost use Rattle.xs_log.specs.Reading.{IsPartOfLog, TakesRequest, MayStand, IsReadUpTo};
+
+use crate::fault::LogFault;
+use crate::header::check_header;
+use crate::length::request_len;
+use crate::record::{RecordFault, read_record};
+use std::alloc::Global;
+use xs_devices::{Fill, FillFault, Source};
+use xs_keys::Keyspace;
+use xs_resp::{Fault, Reply, Request, Requests};
+use xs_stream::Moment;
+
+/// What the events of logs leave.
+#[derive(Drop)]
+pub struct Recovered {
+    /// The content.
+    pub keyspace: Keyspace,
+    /// The moment of the last event, if there is one.
+    pub last: Option<Moment>,
+}
+
+impl Recovered {
+    /// Of no events.
+    pub fn new(alloc: Global) -> Self
+        ensures keyspace { result.keyspace ≡ empty }
+        ensures last { result.last ≡ None }
+    {
+        Self {
+            keyspace: Keyspace::new(alloc),
+            last: None,
+        }
+    }
+}
+
+/// How far a log goes.
+#[derive(Clone, Copy, Debug, PartialEq, Eq)]
+pub struct Extent {
+    /// How many bytes the header and the records take. None: the log has no header yet.
+    pub whole: u64,
+    /// How many bytes of an unfinished one stand behind them.
+    pub part: u64,
+}
+
+/// Applies the event of a record.
+fn apply_record(
+    alloc: Global,
+    recovered: &mut Recovered,
+    sent: Request<'_>,
+) -> Result<(), RecordFault>
+    ensures ok { OnOk result ((event : Event) × IsRecordOf sent.entry event
+        × (recovered.new.keyspace ≡ after recovered.old.keyspace event)
+        × (recovered.new.last ≡ Some (event_moment event))) }
+    ensures damaged { result ≡ Err RecordFault.Damaged → (event : Event) → IsRecordOf sent.entry event → ⊥ }
+{
+    match read_record(alloc, sent) {
+        Err(fault) => Err(fault),
+        Ok((now, command)) => match recovered.keyspace.apply(now, &command) {
+            Reply::Error(Fault::Memory) => Err(RecordFault::Memory),
+            _ => {
+                recovered.last = Some(now);
+                Ok(())
+            }
+        },
+    }
+}
+
+/// Takes the request at a byte: the header, or a record, whose event is applied.
+fn take_request(
+    alloc: Global,
+    number: u64,
+    at: u64,
+    recovered: &mut Recovered,
+    sent: Request<'_>,
+) -> Result<(), LogFault>
+    ensures ok { OnOk result (TakesRequest number at sent.entry recovered.old.keyspace recovered.old.last
+        recovered.new.keyspace recovered.new.last) }
+    ensures err { IfErr result (λ fault. IsWant fault ⊎ (MayStand number at sent.entry → ⊥)) }
+{
+    if at == 0 {
+        return check_header(alloc, number, sent);
+    }
+    match apply_record(alloc, recovered, sent) {
+        Ok(()) => Ok(()),
+        Err(RecordFault::Memory) => Err(LogFault::Memory),
+        Err(RecordFault::Damaged) => Err(LogFault::Damaged(at)),
+    }
+}
+
+/// Takes the next request, if it is whole, and says whether it was.
+fn take_next(
+    alloc: Global,
+    number: u64,
+    requests: &mut Requests,
+    recovered: &mut Recovered,
+    at: &mut u64,
+) -> Result<bool, LogFault>
+    ensures ok { (start : Content) (before : Option ℕ) (seen : List ℕ) →
+        IsReadUpTo number start before seen requests.old at.old recovered.old.keyspace recovered.old.last →
+        OnOk result (IsReadUpTo number start before seen requests.new at.new
+        recovered.new.keyspace recovered.new.last) }
+    ensures none { result ≡ Ok false → (rest : List ℕ) × (requests.new ≡ Ok rest) × (request rest ≡ Ok None) }
+    ensures err { (start : Content) (before : Option ℕ) (seen : List ℕ) →
+        IsReadUpTo number start before seen requests.old at.old recovered.old.keyspace recovered.old.last →
+        IsPartOfLog number seen → IfErr result IsWant }
+{
+    match requests.has_next() {
+        Ok(true) => {}
+        Ok(false) => return Ok(false),
+        Err(_) => return Err(LogFault::Damaged(*at)),
+    }
+    let sent = requests.front();
+    let Some(size) = request_len(sent.again()) else {
+        return Err(LogFault::TooLong);
+    };
+    let Some(end) = at.checked_add(size) else {
+        return Err(LogFault::TooLong);
+    };
+    match take_request(alloc, number, *at, recovered, sent) {
+        Ok(()) => {}
+        Err(fault) => return Err(fault),
+    }
+    requests.skip();
+    *at = end;
+    Ok(true)
+}
+
+/// Reads the log with this number to its end, and applies its events in their order, onto what the logs before it left.
+///
+/// # Errors
+/// A `LogFault`. What is recovered is of no use then.
+pub fn read_log<R: Source>(
+    alloc: Global,
+    number: u64,
+    recovered: &mut Recovered,
+    log: &mut R,
+) -> Result<Extent, LogFault>
+    // Which bytes were read, and what their events left.
+    ensures ok { IfOk result (λ extent. (bytes : List ℕ) × (events : List Event)
+        × Consumes (R.rest log.old) (R.rest log.new) bytes × IsAtEnd (R.rest log.new)
+        × HasEvents number bytes events extent.whole extent.part
+        × (recovered.new.keyspace ≡ contents_after recovered.old.keyspace events)
+        × (recovered.new.last ≡ moment_after recovered.old.last events)) }
+    // A beginning of a log that was written is never refused.
+    ensures err { (bytes : List ℕ) → R.rest log.old ≡ Some bytes → IsPartOfLog number bytes → IfErr result IsWant }
+{
+    let mut requests = Requests::new(alloc);
+    let mut at: u64 = 0;
+    let mut read: u64 = 0;
+    for _ in 0..u64::MAX {
+        match take_next(alloc, number, &mut requests, recovered, &mut at) {
+            Ok(true) => continue,
+            Ok(false) => {}
+            Err(fault) => return Err(fault),
+        }
+        match requests.fill(log) {
+            Ok(0) => {
+                return Ok(Extent {
+                    whole: at,
+                    part: read.saturating_sub(at),
+                });
+            }
+            Ok(count) => {
+                let Some(sum) = read.checked_add(count as u64) else {
+                    return Err(LogFault::TooLong);
+                };
+                read = sum;
+            }
+            Err(FillFault::Memory) => return Err(LogFault::Memory),
+            Err(FillFault::Read) => return Err(LogFault::Device),
+        }
+    }
+    Err(LogFault::TooLong)
+}

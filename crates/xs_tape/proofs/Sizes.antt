@@ -1,0 +1,35 @@
+-- How many bytes the words of a record take.
+use Rattle.std.proofs.Common.{inl, inr, ℕ, ◌+◌, ◌*◌, ◌^◌, ◌<◌, ◌≤◌, List, [], ◌∷◌, length, map, decimal, ap, arith, length-append}
+use Rattle.std.proofs.lemmas.List.{length-map}
+use Rattle.std.specs.List.{concat}
+use Rattle.xs_resp.specs.declared.header.Part.TheVariants.{Count, Size}
+use Rattle.xs_resp.specs.HeaderPart.{limit}
+use Rattle.xs_resp.specs.Grammar.{AreSizes}
+use Rattle.xs_resp.proofs.Numbers.{decimal-short}
+use Rattle.xs_tape.specs.Checksum.{crc32c}
+use Rattle.xs_tape.specs.Escape.{escape, escaped}
+use Rattle.xs_tape.specs.Records.{CanBeSpelled, record_words}
+use Rattle.xs_tape.proofs.Escapes.{ways}
+
+pub checksum_small : (bytes : List ℕ) → crc32c bytes < 2 ^ 32
+unfolding crc32c
+checksum_small bytes = omega arith
+
+escape-short : (byte : ℕ) → length (escape byte) ≤ 2
+escape-short byte =
+    elim (ways byte).way [
+      | inl a ↦ omega (arith, ap length a.1)
+      | inr b ↦ elim b [ inl a ↦ omega (arith, ap length a.1) | inr a ↦ omega (arith, ap length a.2) ]
+    ]
+
+pub escaped-short : (word : List ℕ) → length (escaped word) ≤ 2 * length word
+escaped-short [] = omega arith
+escaped-short (byte ∷ word) = omega (arith, length-append (escape byte) (escaped word), escape-short byte, escaped-short word)
+
+pub can_be_spelled : (first : List ℕ) (rest : List (List ℕ)) → length rest + 2 ≤ limit Count → AreSizes (map escaped rest) → length (escaped first) ≤ limit Size → CanBeSpelled (record_words first rest)
+can_be_spelled first rest number sizes short =
+    let sum = crc32c (concat (first ∷ rest)) in
+    record {
+      number = omega (arith, number, length-map rest escaped);
+      sizes = (short, (omega (arith, escaped-short (decimal sum), decimal-short sum (checksum_small (concat (first ∷ rest)))), sizes));
+    }

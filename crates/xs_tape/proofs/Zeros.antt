@@ -1,0 +1,69 @@
+-- What has no zero byte.
+use Rattle.std.proofs.Common.{◌≡◌, inl, inr, ℕ, ◌+◌, ◌%◌, ◌^◌, ◌<◌, List, [], ◌∷◌, ◌++◌, length, map, decimal, sym, subst, arith}
+use Rattle.std.proofs.lemmas.Fmt.{decimal_by_steps}
+use Rattle.xs_resp.specs.Line.{crlf, line}
+use Rattle.xs_resp.specs.Grammar.{sent_word, sent_words, AreSizes}
+use Rattle.xs_tape.specs.Escape.{escape, escaped}
+use Rattle.xs_tape.specs.Crash.{HasNoZero}
+use Rattle.std.specs.List.{AllByRecursion}
+use Rattle.xs_resp.specs.Grammar.{spelling}
+use Rattle.xs_tape.specs.Records.{with_checksum, record_words, record_text, spellings, CanBeSpelled, CanBeLogged}
+use Rattle.xs_tape.proofs.Escapes.{ways}
+
+pub zero-append : (xs ys : List ℕ) → HasNoZero xs → HasNoZero ys → HasNoZero (xs ++ ys)
+zero-append [] ys h k = k
+zero-append (x ∷ xs) ys h k = (h.0, zero-append xs ys h.1 k)
+
+escape-no-zero : (byte : ℕ) → HasNoZero (escape byte)
+escape-no-zero byte =
+    elim (ways byte).way [
+      | inl a ↦ subst HasNoZero (sym a.1) (λ e. absurd (omega (arith, e)), (λ e. absurd (omega (arith, e)), tt))
+      | inr b ↦ elim b [
+        | inl a ↦ subst HasNoZero (sym a.1) (λ e. absurd (omega (arith, e)), (λ e. absurd (omega (arith, e)), tt))
+        | inr a ↦ subst HasNoZero (sym a.2) (a.0, tt)
+      ]
+    ]
+
+pub escaped-no-zero : (word : List ℕ) → HasNoZero (escaped word)
+escaped-no-zero [] = tt
+escaped-no-zero (byte ∷ word) = zero-append (escape byte) (escaped word) (escape-no-zero byte) (escaped-no-zero word)
+
+decimal-no-zero : (n : ℕ) → n < 2 ^ 64 → HasNoZero (decimal n)
+decimal-no-zero n small =
+    decimal_by_steps (λ n ds. HasNoZero ds) (λ n le. (λ e. absurd (omega (arith, e)), tt)) (λ n ds le h. zero-append ds ((48 + n % 10) ∷ []) h (λ e. absurd (omega (arith, e)), tt)) n small
+
+crlf-no-zero : HasNoZero crlf
+crlf-no-zero = (λ e. absurd (omega (arith, e)), (λ e. absurd (omega (arith, e)), tt))
+
+line-no-zero : (marker n : ℕ) → 0 < marker → n < 2 ^ 64 → HasNoZero (line marker n)
+line-no-zero marker n some small = (λ e. absurd (omega (arith, e, some)), zero-append (decimal n) crlf (decimal-no-zero n small) crlf-no-zero)
+
+words-no-zero : (words : List (List ℕ)) → AreSizes words → AllByRecursion HasNoZero words → HasNoZero (sent_words words)
+words-no-zero [] sizes none = tt
+words-no-zero (text ∷ words) sizes none =
+    zero-append (sent_word text) (sent_words words)
+    (zero-append (line 36 (length text)) (text ++ crlf) (line-no-zero 36 (length text) (omega arith) (omega (arith, sizes.0))) (zero-append text crlf none.0 crlf-no-zero))
+    (words-no-zero words sizes.1 none.1)
+
+spelling-no-zero : (words : List (List ℕ)) → CanBeLogged words → HasNoZero (spelling words)
+spelling-no-zero words can =
+    zero-append (line 42 (length words)) (sent_words words)
+    (line-no-zero 42 (length words) (omega arith) (omega (arith, can.spelled.number)))
+    (words-no-zero words can.spelled.sizes can.no_zero)
+
+pub spellings-no-zero : (requests : List (List (List ℕ))) → AllByRecursion CanBeLogged requests → HasNoZero (spellings requests)
+spellings-no-zero [] can = tt
+spellings-no-zero (words ∷ requests) can = zero-append (spelling words) (spellings requests) (spelling-no-zero words can.0) (spellings-no-zero requests can.1)
+
+escaped-none-zero : (words : List (List ℕ)) → AllByRecursion HasNoZero (map escaped words)
+escaped-none-zero [] = tt
+escaped-none-zero (word ∷ words) = (escaped-no-zero word, escaped-none-zero words)
+
+pub record-logged : (first : List ℕ) (rest : List (List ℕ)) → CanBeSpelled (record_words first rest) → CanBeLogged (record_words first rest)
+record-logged first rest can = record { spelled = can; no_zero = escaped-none-zero (with_checksum first rest) }
+
+pub record-no-zero : (first : List ℕ) (rest : List (List ℕ)) → CanBeSpelled (record_words first rest) → HasNoZero (record_text first rest)
+record-no-zero first rest can = spelling-no-zero (record_words first rest) (record-logged first rest can)
+
+pub record_more : (first : List ℕ) (rest : List (List ℕ)) (old new : List ℕ) → new ≡ old ++ record_text first rest → CanBeSpelled (record_words first rest) → HasNoZero old → HasNoZero new
+record_more first rest old new e can none = subst HasNoZero (sym e) (zero-append old (record_text first rest) none (record-no-zero first rest can))

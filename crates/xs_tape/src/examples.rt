@@ -1,0 +1,9 @@
+//! Examples of what the definitions say, with values from outside.
+#![tactic(auto, unfolding(crate::specs::Checksum::crc32c, crate::specs::Checksum::with_byte))]
+
+ghost use Rattle.xs_tape.specs.ExamplesChecksum.{Checksums};
+
+/// CRC-32C.
+pub fn checksums()
+    ensures { Checksums }
+{}
