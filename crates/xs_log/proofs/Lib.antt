@@ -5,3 +5,4 @@ pub mod Headers
 pub mod Steps
 pub mod Crashed
 pub mod ClosedLogs
+pub mod LogsInTurn

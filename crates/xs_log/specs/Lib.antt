@@ -1,2 +1,3 @@
 pub mod Fault
 pub mod Reading
+pub mod Logs

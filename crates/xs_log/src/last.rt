@@ -1,12 +1,9 @@
 //! The last log, which a crash may have torn.
 ghost use Rattle.std.specs.Prelude.{◌≡◌, ◌+◌, ◌≤◌, ℕ, List, Some, length, take, IfOk, IfErr};
-ghost use Rattle.std.specs.List.{AllByRecursion};
 ghost use Rattle.xs_keys.specs.Event.{Event};
-ghost use Rattle.xs_tape.specs.Crash.{CrashLeaves};
-ghost use Rattle.xs_tape.specs.Records.{CanBeSpelled, spellings};
 ghost use Rattle.xs_replay.specs.After.{contents_after, moment_after};
-ghost use Rattle.xs_replay.specs.Log.{IsLog};
 ghost use Rattle.xs_log.specs.Fault.{IsWant};
+ghost use Rattle.xs_log.specs.Logs.{CrashLeavesLog};
 
 use crate::fault::LogFault;
 use crate::reading::{Extent, Recovered, read_log};
@@ -26,15 +23,11 @@ pub fn read_last_log<R: Source + Drop>(
     file: R,
 ) -> Result<Extent, LogFault>
     // Whatever a crash has left of a log is read, unless memory, the reader or a number of 64 bits runs out.
-    ensures err { (requests : List (List (List ℕ))) (events : List Event) (kept : ℕ) (left : List ℕ) →
-        AllByRecursion CanBeSpelled requests → IsLog number requests events → kept ≤ length requests →
-        CrashLeaves (length (spellings (take kept requests))) (spellings requests) left → R.rest file ≡ Some left →
-        IfErr result IsWant }
+    ensures err { (events : List Event) (kept : ℕ) (left : List ℕ) → CrashLeavesLog number events kept left →
+        R.rest file ≡ Some left → IfErr result IsWant }
     // It gives the first of its events, among them all whose records, behind the header, were kept.
-    ensures ok { (requests : List (List (List ℕ))) (events : List Event) (kept : ℕ) (left : List ℕ) →
-        AllByRecursion CanBeSpelled requests → IsLog number requests events → kept ≤ length requests →
-        CrashLeaves (length (spellings (take kept requests))) (spellings requests) left → R.rest file ≡ Some left →
-        IfOk result (λ _. (count : ℕ) × (count ≤ length events) × (kept ≤ count + 1)
+    ensures ok { (events : List Event) (kept : ℕ) (left : List ℕ) → CrashLeavesLog number events kept left →
+        R.rest file ≡ Some left → IfOk result (λ _. (count : ℕ) × (count ≤ length events) × (kept ≤ count + 1)
         × (recovered.new.keyspace ≡ contents_after recovered.old.keyspace (take count events))
         × (recovered.new.last ≡ moment_after recovered.old.last (take count events))) }
 {

@@ -6,6 +6,7 @@ pub mod fault;
 pub mod header;
 pub mod last;
 mod length;
+pub mod logs;
 pub mod reading;
 mod record;
 
@@ -13,4 +14,5 @@ pub use closed::read_closed_log;
 pub use fault::LogFault;
 pub use header::MODEL_NUMBER;
 pub use last::read_last_log;
+pub use logs::{LogsFault, recover};
 pub use reading::{Extent, Recovered, read_log};

@@ -6,11 +6,11 @@ use Rattle.xs_log.proofs.Crashed.{part-left, recovered}
 use Rattle.xs_log.proofs.last.read_last_log.Goals as goal
 
 pub returns-clause-err : goal.returns-clause-err
-returns-clause-err g c = λ requests events kept left can is le leaves known.
+returns-clause-err g c = λ events kept left is known.
     c.read_log.ensures.err (before_zero left) (c.new-before.ensures.rest ∙ ap (option_map before_zero) known)
-    (part-left c.args.number requests events (length (spellings (take kept requests))) left can is leaves)
+    (part-left c.args.number is.requests events (length (spellings (take kept is.requests))) left is.spelled is.is_log is.leaves)
 
 pub returns-clause-ok : goal.returns-clause-ok
-returns-clause-ok g c = λ requests events kept left can is le leaves known.
-    recovered c.read_log.result c.args.number _ _ c.args.recovered.now.keyspace c.read_log.new.recovered.keyspace c.args.recovered.now.last c.read_log.new.recovered.last requests events kept left can is le leaves
+returns-clause-ok g c = λ events kept left is known.
+    recovered c.read_log.result c.args.number _ _ c.args.recovered.now.keyspace c.read_log.new.recovered.keyspace c.args.recovered.now.last c.read_log.new.recovered.last is.requests events kept left is.spelled is.is_log is.within is.leaves
     (c.new-before.ensures.rest ∙ ap (option_map before_zero) known) c.read_log.ensures.ok

@@ -1,0 +1,88 @@
+//! All logs of a server, in their order.
+ghost use Rattle.std.specs.Prelude.{◌≡◌, ◌+◌, ◌≤◌, ◌++◌, ℕ, List, None, Some, length, take, IfErr, IfOk};
+ghost use Rattle.xs_bytes.specs.SortedMap.{empty};
+ghost use Rattle.xs_keys.specs.Event.{Event};
+ghost use Rattle.xs_replay.specs.After.{contents_after, moment_after};
+ghost use Rattle.xs_log.specs.Fault.{IsWant};
+ghost use Rattle.xs_log.specs.Logs.{CrashLeavesLog, GiveClosedLogs, MayGiveClosedLogs};
+
+use crate::closed::read_closed_log;
+use crate::fault::LogFault;
+use crate::last::read_last_log;
+use crate::reading::{Extent, Recovered};
+use std::alloc::Global;
+use thiserror::Error;
+use xs_devices::Source;
+
+/// Why logs aren't read: the first of them, by its number, that isn't, and why.
+#[derive(Clone, Copy, Debug, PartialEq, Eq, Error)]
+#[error("log-{number} {fault}")]
+pub struct LogsFault {
+    pub number: u64,
+    pub fault: LogFault,
+}
+
+/// Reads closed logs, one after the other, whose numbers count up from this one, onto what the logs before them left. It
+/// gives the number of the next.
+fn read_closed_logs<R: Source + Drop>(
+    alloc: Global,
+    first: u64,
+    recovered: &mut Recovered,
+    logs: Vec<R>,
+) -> Result<u64, LogsFault>
+    ensures ok { IfOk result (λ next. ((events : List Event) × MayGiveClosedLogs R.rest first logs.items events
+        × (recovered.new.keyspace ≡ contents_after recovered.old.keyspace events)
+        × (recovered.new.last ≡ moment_after recovered.old.last events)) × (next ≡ first + length logs.items)) }
+    // Logs that were written whole are never refused.
+    ensures err { (events : List Event) → GiveClosedLogs R.rest first logs.items events →
+        IfErr result (λ refusal. IsWant refusal.fault) }
+{
+    let mut number = first;
+    for log in logs {
+        let mut log = log;
+        match read_closed_log(alloc, number, recovered, &mut log) {
+            Ok(()) => {}
+            Err(fault) => return Err(LogsFault { number, fault }),
+        }
+        let Some(next) = number.checked_add(1) else {
+            return Err(LogsFault {
+                number,
+                fault: LogFault::TooLong,
+            });
+        };
+        number = next;
+    }
+    Ok(number)
+}
+
+/// Reads all logs of a server: those that are closed, whose numbers count up from this one, and the last one behind
+/// them. It gives what their events leave, and how far the last one goes.
+///
+/// # Errors
+/// A `LogsFault`.
+pub fn recover<R: Source + Drop>(
+    alloc: Global,
+    first: u64,
+    closed: Vec<R>,
+    last: R,
+) -> Result<(Recovered, Extent), LogsFault>
+    // Closed logs that were written whole, and whatever a crash has left of the last one, are never refused.
+    ensures err { (before events : List Event) (kept : ℕ) (left : List ℕ) →
+        GiveClosedLogs R.rest first closed.items before →
+        CrashLeavesLog (first + length closed.items) events kept left → R.rest last ≡ Some left →
+        IfErr result (λ refusal. IsWant refusal.fault) }
+    // All events of the closed logs were applied, and then the first of the last one, all that were kept among them.
+    ensures ok { IfOk result (λ found. (before : List Event) × MayGiveClosedLogs R.rest first closed.items before
+        × ((events : List Event) (kept : ℕ) (left : List ℕ) →
+            CrashLeavesLog (first + length closed.items) events kept left → R.rest last ≡ Some left →
+            (count : ℕ) × (count ≤ length events) × (kept ≤ count + 1)
+            × (found.0.keyspace ≡ contents_after empty (before ++ take count events))
+            × (found.0.last ≡ moment_after None (before ++ take count events)))) }
+{
+    let mut recovered = Recovered::new(alloc);
+    let number = read_closed_logs(alloc, first, &mut recovered, closed)?;
+    match read_last_log(alloc, number, &mut recovered, last) {
+        Ok(extent) => Ok((recovered, extent)),
+        Err(fault) => Err(LogsFault { number, fault }),
+    }
+}

@@ -1,0 +1,4 @@
+//! Tests of logs.
+mod crash_points;
+mod log_text;
+mod two_logs;
