@@ -1,15 +1,6 @@
-//! Fakes for tests and benchmarks: a clock that stands still, and readers and writers of std that give and take a few
-//! bytes at a time, wait, count or fail. Nothing is promised of them but that they are safe and return.
+//! A clock for tests and benchmarks that stands still.
 #![tactic(auto)]
 
-mod in_two;
-mod pieces;
-mod sips;
 mod still;
-mod tally;
 
-pub use in_two::InTwo;
-pub use pieces::Pieces;
-pub use sips::Sips;
 pub use still::Still;
-pub use tally::Tally;

@@ -3,10 +3,10 @@ use super::*;
 use crate::report::report_script;
 use crate::script::fault::ScriptFault;
 use crate::script::run::run_script;
+use crate::tests::fakes::{Pieces, Sips};
 use std::alloc::{AllocError, Global};
 use std::test::Fail;
 use xs_devices::{FromRead, ToWrite};
-use xs_fakes::{Pieces, Sips};
 
 /// A reader that gives a byte at a time.
 fn dribble(bytes: &[u8]) -> FromRead<Pieces<'_>> {
@@ -156,6 +156,7 @@ fn reports_each_fault(rt: HostRuntime) -> Result<(), Fail> {
     Ok(())
 }
 
+mod fakes;
 mod gates;
 mod of_bytes;
 mod sessions;

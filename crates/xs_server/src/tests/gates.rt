@@ -1,6 +1,7 @@
 //! Work over gates that are no sockets.
 use super::*;
 use crate::report::report_work;
+use crate::tests::fakes::{InTwo, Still, Tally};
 use crate::work::fault::WorkFault;
 use crate::work::gate::{Gate, GateFault};
 use crate::work::working::work;
@@ -9,7 +10,6 @@ use std::sync::{Arc, Wait};
 use std::thread::Threads;
 use xs_desk::{DeskError, LaneSummary, Summary};
 use xs_devices::{Failed, Sink, Source};
-use xs_fakes::{InTwo, Still, Tally};
 use xs_stream::Moment;
 
 /// How often a reader looks whether it may give more.

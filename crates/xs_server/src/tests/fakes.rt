@@ -1,0 +1,13 @@
+//! Readers and writers of std that give and take a few bytes at a time, wait, count or fail, and a clock that stands
+//! still.
+mod in_two;
+mod pieces;
+mod sips;
+mod still;
+mod tally;
+
+pub use in_two::InTwo;
+pub use pieces::Pieces;
+pub use sips::Sips;
+pub use still::Still;
+pub use tally::Tally;
