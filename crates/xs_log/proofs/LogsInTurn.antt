@@ -24,9 +24,13 @@ may-more rest number [] reader events more may is =
     let here : number + 0 ≡ number = omega arith in
     (more, [], (λ bytes known. subst (λ n. IsClosedLog n bytes more) here (is bytes known)), ap (λ es. es ++ more) may ∙ sym (append-nil more), refl)
 may-more rest number (one ∷ readers) reader events more (first, others, closed, joined, may) is =
-    let here : number + suc (length readers) ≡ suc number + length readers = omega arith in
-    (first, others ++ more, closed, ap (λ es. es ++ more) joined ∙ append_assoc first others more,
-        may-more rest (suc number) readers reader others more may (λ bytes known. subst (λ n. IsClosedLog n bytes more) here (is bytes known)))
+    let here : number + suc (length readers) ≡ suc number + length readers = omega arith in (
+      first,
+      others ++ more,
+      closed,
+      ap (λ es. es ++ more) joined ∙ append_assoc first others more,
+      may-more rest (suc number) readers reader others more may (λ bytes known. subst (λ n. IsClosedLog n bytes more) here (is bytes known)),
+    )
 
 -- the log behind so many
 pub give-at : {R : Type 0} (rest : R → Option (List ℕ)) (number : ℕ) (readers : List R) (reader : R) (behind : List R) (events : List Event) → GiveClosedLogs rest number (readers ++ reader ∷ behind) events

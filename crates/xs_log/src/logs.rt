@@ -74,10 +74,10 @@ pub fn recover<R: Source + Drop>(
     // All events of the closed logs were applied, and then the first of the last one, all that were kept among them.
     ensures ok { IfOk result (λ found. (before : List Event) × MayGiveClosedLogs R.rest first closed.items before
         × ((events : List Event) (kept : ℕ) (left : List ℕ) →
-            CrashLeavesLog (first + length closed.items) events kept left → R.rest last ≡ Some left →
-            (count : ℕ) × (count ≤ length events) × (kept ≤ count + 1)
-            × (found.0.keyspace ≡ contents_after empty (before ++ take count events))
-            × (found.0.last ≡ moment_after None (before ++ take count events)))) }
+        CrashLeavesLog (first + length closed.items) events kept left → R.rest last ≡ Some left →
+        (count : ℕ) × (count ≤ length events) × (kept ≤ count + 1)
+        × (found.0.keyspace ≡ contents_after empty (before ++ take count events))
+        × (found.0.last ≡ moment_after None (before ++ take count events)))) }
 {
     let mut recovered = Recovered::new(alloc);
     let number = read_closed_logs(alloc, first, &mut recovered, closed)?;

@@ -29,16 +29,18 @@ loop-log-preserved g c =
     let content = read.5 ∙ ap (λ k. contents_after k read.1) so_far.2 ∙ sym (contents-joined c.args.recovered.now.keyspace so_far.0 read.1) in
     let last = read.6 ∙ ap (λ m. moment_after m read.1) so_far.3 ∙ sym (moments-joined c.args.recovered.now.last so_far.0 read.1) in
     let next : c.in-Some-checked_add.next ≡ c.loop-log.number + 1 = search rules in
-    let all = append_assoc c.loop-log.yielded (c.in-Some.log ∷ []) (into_iter_items c.next.new.self) ∙ ap (λ logs. c.loop-log.yielded ++ logs) (sym rest) ∙ c.loop-log.invariant.2 in
-    ((so_far.0 ++ read.1, may-more known c.args.first c.loop-log.yielded c.in-Some.log so_far.0 read.1 so_far.1 is, content, last),
-        omega (arith, next, number, length-append c.loop-log.yielded (c.in-Some.log ∷ [])),
-        all,
-        search rules)
+    let all = append_assoc c.loop-log.yielded (c.in-Some.log ∷ []) (into_iter_items c.next.new.self) ∙ ap (λ logs. c.loop-log.yielded ++ logs) (sym rest) ∙ c.loop-log.invariant.2 in (
+      (so_far.0 ++ read.1, may-more known c.args.first c.loop-log.yielded c.in-Some.log so_far.0 read.1 so_far.1 is, content, last),
+      omega (arith, next, number, length-append c.loop-log.yielded (c.in-Some.log ∷ [])),
+      all,
+      search rules,
+    )
 
 pub returns-clause-ok : goal.returns-clause-ok
 returns-clause-ok g c =
     let so_far = c.loop-log.invariant.0 in
     let none : into_iter_items c.loop-log.log-iterator ≡ [] = nil_from_length _ (sym c.loop-log.invariant.3 ∙ c.in-None.ensures.steps.0) in
-    let all = sym (append-nil c.loop-log.yielded) ∙ ap (λ logs. c.loop-log.yielded ++ logs) (sym none) ∙ c.loop-log.invariant.2 in
-    ((so_far.0, subst (λ logs. MayGiveClosedLogs g.R.Source.rest c.args.first logs so_far.0) all so_far.1, so_far.2, so_far.3),
-        c.loop-log.invariant.1 ∙ ap (λ logs. c.args.first + length logs) all)
+    let all = sym (append-nil c.loop-log.yielded) ∙ ap (λ logs. c.loop-log.yielded ++ logs) (sym none) ∙ c.loop-log.invariant.2 in (
+      (so_far.0, subst (λ logs. MayGiveClosedLogs g.R.Source.rest c.args.first logs so_far.0) all so_far.1, so_far.2, so_far.3),
+      c.loop-log.invariant.1 ∙ ap (λ logs. c.args.first + length logs) all,
+    )

@@ -7,13 +7,19 @@ use Rattle.xs_log.proofs.logs.recover.Goals as goal
 
 pub returns-in-Ok-clause-ok : goal.returns-in-Ok-clause-ok
 returns-in-Ok-clause-ok g c =
-    let before = c.in_ok-number.ensures.ok in
-    (before.0.0, before.0.1, λ events kept left is known.
-        let found = c.in-Ok.ensures.ok events kept left (subst (λ n. CrashLeavesLog n events kept left) (sym before.1) is) known in
-        let more = take found.0 events in
-        (found.0, found.1, found.2,
+    let before = c.in_ok-number.ensures.ok in (
+      before.0.0,
+      before.0.1,
+      λ events kept left is known.
+          let found = c.in-Ok.ensures.ok events kept left (subst (λ n. CrashLeavesLog n events kept left) (sym before.1) is) known in
+          let more = take found.0 events in (
+            found.0,
+            found.1,
+            found.2,
             found.3 ∙ ap (λ k. contents_after k more) (before.0.2 ∙ ap (λ k. contents_after k before.0.0) c.new-recovered.ensures.keyspace) ∙ sym (contents-joined empty before.0.0 more),
-            found.4 ∙ ap (λ m. moment_after m more) (before.0.3 ∙ ap (λ m. moment_after m before.0.0) c.new-recovered.ensures.last) ∙ sym (moments-joined None before.0.0 more)))
+            found.4 ∙ ap (λ m. moment_after m more) (before.0.3 ∙ ap (λ m. moment_after m before.0.0) c.new-recovered.ensures.last) ∙ sym (moments-joined None before.0.0 more),
+          ),
+    )
 
 pub returns-in-Err-clause-err : goal.returns-in-Err-clause-err
 returns-in-Err-clause-err g c = λ before events kept left give is known.
