@@ -22,8 +22,8 @@ pub struct LogsFault {
     pub fault: LogFault,
 }
 
-/// Reads closed logs, one after the other, whose numbers count up from this one, onto what the logs before them left. It
-/// gives the number of the next.
+/// Reads closed logs, one after the other, whose numbers count up from this one, onto what the logs before them left.
+/// It gives the number of the next.
 fn read_closed_logs<R: Source + Drop>(
     alloc: Global,
     first: u64,

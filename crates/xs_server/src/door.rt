@@ -1,5 +1,5 @@
-//! The door of a server that stays: one thread takes connections from the listener, another shows those out for which no
-//! worker was free in time. Nothing that these sent is executed.
+//! The door of a server that stays: one thread takes connections from the listener, another shows those out for which
+//! no worker was free in time. Nothing that these sent is executed.
 use crate::hall::{Hall, Overdue};
 use crate::tcp::{AfterFailure, after_failure};
 use std::alloc::{AllocError, Global};
@@ -90,8 +90,8 @@ fn see_off<S: Clock>(system: &S, stream: &TcpStream) {
     }
 }
 
-/// Takes a connection, if one waits, by the descriptor that is kept for this, and sends it away: none is left to serve it
-/// by.
+/// Takes a connection, if one waits, by the descriptor that is kept for this, and sends it away: none is left to serve
+/// it by.
 fn turn_away<S: Clock>(system: &S, listener: &TcpListener, spare: &mut Option<TcpListener>) {
     *spare = None;
     // Without a descriptor `accept` fails before it waits, so there may be nobody.

@@ -68,7 +68,8 @@ impl Hall {
         })
     }
 
-    /// Lets a connection in that came at this moment. If there is no room, the one that has waited longest has to leave.
+    /// Lets a connection in that came at this moment. If there is no room, the one that has waited longest has to
+    /// leave.
     pub fn enter<R: Wait>(&self, rt: &R, stream: TcpStream, since: Instant) {
         let mut waiting = self.waiting.lock(rt);
         if waiting.arrivals.len() >= self.room {

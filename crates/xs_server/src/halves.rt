@@ -1,9 +1,9 @@
 //! The two halves of a connection over TCP. Replies are gathered in one buffer, which is sent when it is full, before
 //! the reader waits, and when the writer is dropped. A gate makes it once, for all its connections.
 //!
-//! While a call waits nobody reads, so somebody has to look whether the client is still there. Whether it has closed its
-//! side shows only behind the bytes that it sent before. So a look reads them, without waiting, into a buffer that the
-//! reader takes them from later.
+//! While a call waits nobody reads, so somebody has to look whether the client is still there. Whether it has closed
+//! its side shows only behind the bytes that it sent before. So a look reads them, without waiting, into a buffer that
+//! the reader takes them from later.
 ghost use Rattle.std.specs.Prelude.{◌≤◌, length, IfOk};
 
 use std::alloc::{AllocError, Global};
@@ -119,7 +119,8 @@ fn is_without_bytes(error: &io::Error) -> bool {
     matches!(error.kind(), ErrorKind::WouldBlock | ErrorKind::TimedOut)
 }
 
-/// Reads what has come, up to AHEAD bytes in all, from a stream that doesn't wait. It says whether the stream has ended.
+/// Reads what has come, up to AHEAD bytes in all, from a stream that doesn't wait. It says whether the stream has
+/// ended.
 fn read_ahead(mut stream: &TcpStream, ahead: &mut Vec<u8>) -> bool {
     let mut piece = [0u8; PIECE];
     for _ in 0..AHEAD / PIECE {

@@ -1,8 +1,8 @@
 //! How calls wait in a server that stays, and how their clients are looked after.
 //!
 //! While its call waits a worker sends the replies that it owes, and looks once a second whether its client is still
-//! there, and if not it lets the keeper answer as if the time of the wait were over. Before the keeper gives something to
-//! a call that has waited it looks too, so that a job goes to one that is there.
+//! there, and if not it lets the keeper answer as if the time of the wait were over. Before the keeper gives something
+//! to a call that has waited it looks too, so that a job goes to one that is there.
 use crate::connections::memory::ConnectionMemory;
 use crate::halves::Peer;
 use crate::run_gate::RunGate;
