@@ -55,6 +55,8 @@ def address(host, port):
 def with_limits(limits):
     """What a process does before its program starts, so that it has these limits."""
     def set_limits():
+        if resource.RLIMIT_FSIZE in limits:
+            signal.signal(signal.SIGXFSZ, signal.SIG_IGN)
         for which, most in limits.items():
             resource.setrlimit(which, (most, resource.getrlimit(which)[1]))
     return set_limits if limits else None

@@ -7,7 +7,7 @@ use Rattle.xs_stream.specs.IdText.{parse_id}
 use Rattle.xs_resp.specs.declared.fault.Fault.{Fault}
 use Rattle.xs_resp.specs.declared.fault.Fault.TheVariants.{BadId}
 use Rattle.xs_command.specs.Words.{or_fault, word, id_of_word}
-use Rattle.xs_command.specs.Syntax.{id_before, leading_ids}
+use Rattle.xs_command.specs.Syntax.{id_before, leading_ids, ids}
 
 -- the ids that were read before those that are still read
 abbrev pub with_front : List Id → List Id × List (List ℕ) → List Id × List (List ℕ)
@@ -51,3 +51,9 @@ ends front (w ∷ words) h = absurd (omega arith)
 
 pub fewer : (words : List (List ℕ)) (first : Id) (behind : List (List ℕ)) → id_of_word words ≡ Ok (first, behind) → length words ≡ length behind + 1
 fewer words first behind h = ((step words).reads first behind h).1
+
+-- an id, and behind it a word that is none, or no word
+pub single : (words : List (List ℕ)) (first : Id) (behind : List (List ℕ)) (fault : Fault) → id_of_word words ≡ Ok (first, behind) → id_of_word behind ≡ Err fault → ids words ≡ Ok (first ∷ [], behind)
+unfolding ids
+single words first behind fault h none =
+    rw h (ap (λ (p : List Id × List (List ℕ)). Ok (first ∷ p.0, p.1)) ((step behind).stops fault none))

@@ -1,4 +1,5 @@
 pub mod Integer
+pub mod Operands
 pub mod Words
 pub mod Options
 pub mod CommandName

@@ -1,5 +1,6 @@
 //! The commands of the server. What each does is told on its page of the Redis documentation.
 
+use crate::operands::Operands;
 use xs_bytes::{Bytes, List};
 use xs_group::ClaimRule;
 use xs_stream::{AddId, Field, Id, Range, Trim};
@@ -16,7 +17,7 @@ pub enum Command {
     /// XDEL.
     Delete {
         key: Bytes,
-        ids: List<Id>,
+        ids: Operands<Id>,
     },
     /// XTRIM.
     TrimTo {
@@ -54,7 +55,7 @@ pub enum Command {
     Ack {
         key: Bytes,
         group: Bytes,
-        ids: List<Id>,
+        ids: Operands<Id>,
     },
     /// XPENDING, the short form.
     Pending {
@@ -155,7 +156,7 @@ pub struct ReadGroupCommand {
     /// What is delivered doesn't become pending.
     pub noack: bool,
     /// One stream or more, each once.
-    pub reads: List<ReadOne>,
+    pub reads: Operands<ReadOne>,
 }
 
 /// What the long form of XPENDING asks for.
@@ -187,7 +188,7 @@ pub struct ClaimCommand {
     /// Which entries are taken, and what becomes of them.
     pub rule: ClaimRule,
     /// One id or more, as they were written, repeated ones included.
-    pub ids: List<Id>,
+    pub ids: Operands<Id>,
 }
 
 /// What XAUTOCLAIM asks for.

@@ -7,6 +7,7 @@ mod command_name;
 mod del;
 pub mod examples;
 mod integer;
+pub mod operands;
 mod options;
 mod ping;
 mod read;
@@ -30,5 +31,6 @@ pub use command::{
     AddCommand, AutoClaimCommand, ClaimCommand, Command, GroupCreateCommand, GroupStart,
     PendingRowsCommand, ReadFrom, ReadGroupCommand, ReadOne, ScanCommand,
 };
+pub use operands::Operands;
 pub use read::{read_command, read_request};
 pub use refusal::Refusal;

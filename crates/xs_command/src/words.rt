@@ -5,6 +5,7 @@ ghost use Rattle.xs_command.specs.Syntax.{only, leading_ids, ids};
 
 use crate::command::Command;
 use crate::integer::Integer;
+use crate::operands::Operands;
 use crate::refusal::Refusal;
 use crate::word::Word;
 use std::alloc::{AllocError, Global};
@@ -202,7 +203,7 @@ impl<'a> Words<'a> {
     }
 
     /// This id, and the ids that the words begin with. The room for words that are none is given back.
-    fn ids_behind(self, alloc: Global, first: Id) -> Result<(List<Id>, Words<'a>), AllocError>
+    fn ids_behind(self, alloc: Global, first: Id) -> Result<(Operands<Id>, Words<'a>), AllocError>
         ensures { IfOk result (λ found. found ≡ (first ∷ (leading_ids self.entry).0, (leading_ids self.entry).1)) }
     {
         let mut items = Vec::with_capacity(alloc, self.len() + 1)?;
@@ -211,20 +212,23 @@ impl<'a> Words<'a> {
         for _turn in 0..left.len() {
             let Ok((id, behind)) = left.id() else {
                 items.shrink_to_fit();
-                return Ok((List::new(items), left));
+                return Ok((Operands::many(items), left));
             };
             items.push(id)?;
             left = behind;
         }
-        Ok((List::new(items), left))
+        Ok((Operands::many(items), left))
     }
 
-    /// One id or more, as long as words are ids.
-    #[tactic(auto, unfolding(crate::specs::Syntax::ids))]
-    pub(crate) fn ids(&self, alloc: Global) -> Result<(List<Id>, Words<'a>), Refusal>
+    /// One id or more, as long as words are ids. A single one takes no memory.
+    #[tactic(auto, unfolding(crate::specs::Syntax::ids), using(crate::proofs::IdSteps::single))]
+    pub(crate) fn ids(&self, alloc: Global) -> Result<(Operands<Id>, Words<'a>), Refusal>
         ensures { Gives result (ids self.now) }
     {
         let (first, words) = self.id()?;
-        Ok(words.ids_behind(alloc, first)?)
+        match words.id() {
+            Ok(_) => Ok(words.ids_behind(alloc, first)?),
+            Err(_) => Ok((Operands::one(first), words)),
+        }
     }
 }

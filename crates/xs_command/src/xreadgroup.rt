@@ -1,11 +1,12 @@
 //! XREADGROUP.
-ghost use Rattle.std.specs.Prelude.{◌≡◌, IfOk};
+ghost use Rattle.std.specs.Prelude.{◌≡◌, IfOk, length};
 ghost use Rattle.xs_command.specs.Words.{Gives};
 ghost use Rattle.xs_command.specs.Streams.{is_distinct, from_of, read_from, each_from, streams};
 ghost use Rattle.xs_command.specs.Xreadgroup.{limit_of, reader, behind_streams, xreadgroup};
 
 use crate::command::{Command, ReadFrom, ReadGroupCommand, ReadOne};
 use crate::integer::Integer;
+use crate::operands::Operands;
 use crate::options::{Options, read_options};
 use crate::refusal::Refusal;
 use crate::word::Word;
@@ -134,7 +135,7 @@ fn read_command(alloc: Global, options: ReadOptions, words: Words<'_>) -> Result
 
 /// As many keys as starts, one or more, and no key twice.
 #[tactic(auto, unfolding(crate::specs::Streams::streams))]
-fn read_reads(alloc: Global, words: &Words<'_>) -> Result<List<ReadOne>, Refusal>
+fn read_reads(alloc: Global, words: &Words<'_>) -> Result<Operands<ReadOne>, Refusal>
     ensures { Gives result (streams words.now) }
 {
     let count = words.len();
@@ -144,11 +145,25 @@ fn read_reads(alloc: Global, words: &Words<'_>) -> Result<List<ReadOne>, Refusal
     if count % 2 != 0 {
         return Err(Refusal::Said(Fault::Syntax));
     }
+    if count == 2 {
+        return read_single(alloc, words);
+    }
     let (keys, starts) = words.names(alloc, count / 2)?;
     if !is_distinct(alloc, keys.as_slice())? {
         return Err(Refusal::Said(Fault::Unsupported));
     }
     each_from(alloc, keys, starts)
+}
+
+/// One key and its start. The read takes no memory.
+#[tactic(auto, unfolding(crate::specs::Streams::streams, crate::specs::Streams::each_from, crate::specs::Streams::is_distinct, crate::specs::Words::word))]
+fn read_single(alloc: Global, words: &Words<'_>) -> Result<Operands<ReadOne>, Refusal>
+    requires { length words.now ≡ 2 }
+    ensures { Gives result (streams words.now) }
+{
+    let (key, starts) = words.name(alloc)?;
+    let (from, _) = read_from(&starts)?;
+    Ok(Operands::one(ReadOne { key, from }))
 }
 
 /// Whether no key stands there a second time. A single key needs no memory.
@@ -168,7 +183,11 @@ fn is_distinct(alloc: Global, keys: &[Bytes]) -> Result<bool, AllocError>
 }
 
 /// Each of these keys with its start.
-fn each_from(alloc: Global, keys: List<Bytes>, starts: Words<'_>) -> Result<List<ReadOne>, Refusal>
+fn each_from(
+    alloc: Global,
+    keys: List<Bytes>,
+    starts: Words<'_>,
+) -> Result<Operands<ReadOne>, Refusal>
     ensures { Gives result (each_from keys starts.entry) }
 {
     let mut reads = Vec::with_capacity(alloc, keys.len())?;
@@ -178,7 +197,7 @@ fn each_from(alloc: Global, keys: List<Bytes>, starts: Words<'_>) -> Result<List
         reads.push(ReadOne { key, from })?;
         starts = more_starts;
     }
-    Ok(List::new(reads))
+    Ok(Operands::many(reads))
 }
 
 /// The next word, from where a stream is read.

@@ -6,7 +6,6 @@ use Rattle.std.proofs.lemmas.List.{append-nil, map-append, length-map}
 use Rattle.std.proofs.lemmas.List.Elements.{filter-append, All-push}
 use Rattle.std.proofs.lemmas.Option.{slice_get_within}
 use Rattle.std.proofs.lemmas.Bool.Decides.{nat_tests}
-use Rattle.xs_bytes.specs.SortedMap.{empty}
 use Rattle.xs_resp.specs.declared.reply.Reply.{Reply}
 use Rattle.xs_keys.specs.Event.{Event, History}
 use Rattle.xs_command.specs.declared.command.Command.{Command}
@@ -109,8 +108,8 @@ history-more history old call new is serves =
     let e : ℕ × Command = (call.answer.moment, call.command) in
     let events : events_of (history ++ call ∷ []) ≡ events_of history ++ e ∷ [] = map-append (λ c. (c.answer.moment, c.command)) history (call ∷ []) in
     let replies : replies_of (history ++ call ∷ []) ≡ replies_of history ++ call.answer.reply ∷ [] = map-append (λ c. c.answer.reply) history (call ∷ []) in
-    let runs : RunsOn empty (events_of history ++ e ∷ []) (replies_of history ++ call.answer.reply ∷ []) new.keyspace =
-    runs-snoc empty (events_of history) (replies_of history) old.keyspace new.keyspace e call.answer.reply is.runs serves.formed serves.applied in
+    let runs : RunsOn old.start (events_of history ++ e ∷ []) (replies_of history ++ call.answer.reply ∷ []) new.keyspace =
+    runs-snoc old.start (events_of history) (replies_of history) old.keyspace new.keyspace e call.answer.reply is.runs serves.formed serves.applied in
     record {
       places = count-more (λ c. c.answer.place) history call is.places (serves.place_is ∙ is.next);
       tickets = tickets-more history old call new is serves;
@@ -118,7 +117,8 @@ history-more history old call new is serves =
       within = subst (λ m. All (λ c. c.lane < m) (history ++ call ∷ [])) (sym n) (All-push (λ c. c.lane < length old.lanes) history call is.within (slice_get_within old.lanes call.lane serves.lane serves.here));
       formed = All-push (λ c. IsWellFormed c.command) history call is.formed serves.formed;
       next = omega (arith, serves.next_is, is.next, length-append history (call ∷ []));
-      runs = subst (λ es. RunsOn empty es (replies_of (history ++ call ∷ [])) new.keyspace) (sym events) (subst (λ rs. RunsOn empty (events_of history ++ e ∷ []) rs new.keyspace) (sym replies) runs);
+      runs = subst (λ c. RunsOn c (events_of (history ++ call ∷ [])) (replies_of (history ++ call ∷ [])) new.keyspace) (sym serves.start_is)
+          (subst (λ es. RunsOn old.start es (replies_of (history ++ call ∷ [])) new.keyspace) (sym events) (subst (λ rs. RunsOn old.start (events_of history ++ e ∷ []) rs new.keyspace) (sym replies) runs));
     }
 
 pub history-runs : (history : List ServedCall) (old : Desk) (calls : List ServedCall) (new : Desk) → IsHistory history old → ServesAll old calls new → IsHistory (history ++ calls) new

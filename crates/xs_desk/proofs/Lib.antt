@@ -8,3 +8,6 @@ pub mod Openings
 pub mod Keeps
 pub mod Sides
 pub mod Uniqueness
+pub mod Notings
+pub mod Durables
+pub mod LogSteps

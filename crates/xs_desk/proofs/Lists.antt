@@ -1,7 +1,9 @@
 -- Lists by their places.
 use Rattle.std.specs.Prelude.{◌≡◌, ◌≢◌, ℕ, zero, suc, ◌<◌, ◌⊎◌, List, [], ◌∷◌, ◌++◌, length, map, slice_get, slice_set}
 use Rattle.std.specs.Prelude.{Some, refl}
-use Rattle.std.proofs.Common.{inl, inr, arith}
+use Rattle.std.proofs.Common.{inl, inr, arith, sym, ap, ◌∙◌, append_assoc}
+use Rattle.std.proofs.lemmas.List.{map-append}
+use mathlib.Core.List.{IsPrefix}
 
 pub same_some : {X : Type 0} (x y : X) → Some x ≡ Some y → x ≡ y
 same_some x y e = cc
@@ -54,3 +56,11 @@ same-lists (x ∷ xs) (y ∷ ys) len each =
     let head : y ≡ x = same_some y x (each zero x refl) in
     let tail : xs ≡ ys = same-lists xs ys (omega (arith, len)) (λ i z e. each (suc i) z e) in
     cc
+
+-- a beginning, and what becomes of it item by item
+pub prefix_map : {X Y : Type 0} (f : X → Y) (xs ys : List X) → IsPrefix xs ys → IsPrefix (map f xs) (map f ys)
+prefix_map f xs ys p = (map f p.0, sym (map-append f xs p.0) ∙ ap (map f) p.1)
+
+-- a beginning of a list is one of more
+pub prefix_more : {X : Type 0} (xs ys more : List X) → IsPrefix xs ys → IsPrefix xs (ys ++ more)
+prefix_more xs ys more p = (p.0 ++ more, sym (append_assoc xs p.0 more) ∙ ap (λ zs. zs ++ more) p.1)

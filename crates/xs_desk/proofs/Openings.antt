@@ -2,7 +2,8 @@
 use Rattle.std.specs.Prelude.{◌≡◌, ℕ, zero, suc, ◌+◌, List, [], ◌∷◌, ◌++◌, length, map, slice_get, Some, refl}
 use Rattle.std.proofs.Common.{sym, ◌∙◌, ap, subst, arith}
 use Rattle.std.proofs.lemmas.List.{map-append, length-map}
-use Rattle.xs_bytes.specs.SortedMap.{empty}
+use Rattle.xs_keys.specs.Content.{Content}
+use Rattle.xs_keys.specs.Headline.{RunsOn}
 use Rattle.xs_desk.specs.declared.lane_end.LaneEnd.{LaneEnd}
 use Rattle.xs_desk.specs.History.{LaneOf, IsHistory}
 use Rattle.xs_desk.specs.LaneEnds.{lane_of, desk_of}
@@ -29,13 +30,13 @@ new-lane k depth [] (y ∷ ys) a j l e = absurd a
 new-lane k depth (x ∷ xs) (y ∷ ys) a zero l e = let q : x ≡ l = cc in (ap (λ (z : LaneOf). z.popped) (sym q) ∙ a.0.popped, ap (λ (z : LaneOf). z.sent) (sym q) ∙ a.0.sent)
 new-lane k depth (x ∷ xs) (y ∷ ys) a (suc j) l e = new-lane (k + 1) depth xs ys a.1 j l e
 
-pub new_history : (depth : ℕ) (all : List LaneEnd) (cs : List Caller) → AreNew 0 depth (map lane_of all) cs → IsHistory [] (desk_of all empty 0)
-new_history depth all cs a = record {
+pub new_history : (depth : ℕ) (all : List LaneEnd) (cs : List Caller) (keyspace start : Content) → start ≡ keyspace → AreNew 0 depth (map lane_of all) cs → IsHistory [] (desk_of all keyspace 0 start)
+new_history depth all cs keyspace start same a = record {
   places = λ i n e. absurd (cc);
   tickets = λ k i n e. absurd (cc);
   lanes = new-lane 0 depth (map lane_of all) cs a;
   within = λ k d lt. absurd (omega arith);
   formed = λ k d lt. absurd (omega arith);
   next = refl;
-  runs = runs-none empty;
+  runs = subst (λ c. RunsOn c [] [] keyspace) (sym same) (runs-none keyspace);
 }

@@ -7,7 +7,9 @@ use Rattle.rtrb.specs.declared.producer.Producer.{Producer}
 use Rattle.rtrb.specs.declared.consumer.Consumer.{Consumer}
 use Rattle.xs_command.specs.declared.command.Command.{Command}
 use Rattle.xs_desk.specs.declared.answer.Answer.{Answer}
+use Rattle.xs_desk.specs.declared.answer.Call.{Call}
 use Rattle.xs_desk.specs.declared.answer.Formed.{Formed}
+use Rattle.xs_desk.specs.Calls.{asked_by}
 use Rattle.xs_desk.specs.History.{Ring, LaneOf}
 use Rattle.xs_desk.specs.Rings.{producer_ring, consumer_ring}
 
@@ -22,11 +24,11 @@ pub record Caller : Type 0 where
   pub depth : ℕ
   pub answer_depth : ℕ
 
-abbrev pub caller_of : ℕ → Producer Command Global Formed → Consumer Answer Global AnyItems → Caller
+abbrev pub caller_of : ℕ → Producer Call Global Formed → Consumer Answer Global AnyItems → Caller
 caller_of lane calls answers =
     record {
       lane = lane;
-      submitted = sent calls;
+      submitted = asked_by (sent calls);
       taken = received answers;
       calls = producer_ring calls;
       answers = consumer_ring answers;

@@ -3,7 +3,6 @@ use Rattle.std.specs.Prelude.{◌≡◌, ℕ, ◌<◌, ◌==◌, List, map, filt
 use Rattle.std.specs.declared.alloc.Global.{Global}
 use Rattle.rtrb.specs.Shared.{Names}
 use denote.RawPtr.{Ptr}
-use Rattle.xs_bytes.specs.SortedMap.{empty}
 use Rattle.xs_resp.specs.declared.reply.Reply.{Reply}
 use Rattle.xs_keys.specs.Event.{History}
 use Rattle.xs_command.specs.declared.command.Command.{Command}
@@ -32,11 +31,13 @@ pub record LaneOf : Type 0 where
   pub calls : Ring
   pub answers : Ring
 
--- a desk as its keeper knows it: the lanes, what the keyspace holds, and the next place
+-- a desk as its keeper knows it: the lanes, what the keyspace holds, the next place, and what the keyspace held at the
+-- start
 pub record Desk : Type 0 where
   pub lanes : List LaneOf
   pub keyspace : Content
   pub place : ℕ
+  pub start : Content
 
 -- the calls of lane k
 abbrev pub of_lane : ℕ → List ServedCall → List ServedCall
@@ -61,7 +62,7 @@ CountUp numbers = (i n : ℕ) → slice_get numbers i ≡ Some n → n ≡ i
 
 -- The places are 0, 1, 2, .. over the whole desk, and the tickets are so in each lane. What was taken from a lane and
 -- sent to it are its calls of the history, in their order. Each command is well formed. The calls at their moments are
--- a run from the empty keyspace on, which gave these replies and left what the keyspace holds.
+-- a run from what the keyspace held at the start, which gave these replies and left what it holds.
 pub record IsHistory (history : List ServedCall) (desk : Desk) : Type 0 where
   pub places : CountUp (map (λ call. call.answer.place) history)
   pub tickets : (k : ℕ) → CountUp (map (λ call. call.answer.ticket) (of_lane k history))
@@ -70,4 +71,4 @@ pub record IsHistory (history : List ServedCall) (desk : Desk) : Type 0 where
   pub within : All (λ call. call.lane < length desk.lanes) history
   pub formed : All (λ call. IsWellFormed call.command) history
   pub next : desk.place ≡ length history
-  pub runs : RunsOn empty (events_of history) (replies_of history) desk.keyspace
+  pub runs : RunsOn desk.start (events_of history) (replies_of history) desk.keyspace

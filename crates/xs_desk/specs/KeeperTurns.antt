@@ -19,6 +19,7 @@ pub record ServesCall (old : Desk) (call : ServedCall) (new : Desk) : Type 0 whe
   pub ticket_is : call.answer.ticket ≡ length lane.sent
   pub place_is : call.answer.place ≡ old.place
   pub next_is : new.place ≡ old.place + 1
+  pub start_is : new.start ≡ old.start
   pub formed : IsWellFormed call.command
   pub applied : Step old.keyspace call.answer.moment call.command call.answer.reply new.keyspace
 

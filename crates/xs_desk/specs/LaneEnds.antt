@@ -1,9 +1,10 @@
 -- A lane from the keeper's side.
 use Rattle.std.specs.Prelude.{◌≡◌, ℕ, true, ◌+◌, ◌^◌, ◌⊎◌, List, [], ◌∷◌, ◌++◌, length, map, is_some}
 use mathlib.Core.List.{IsPrefix}
-use Rattle.rtrb.specs.Ring.{sent, received, known_items, known_free}
+use Rattle.rtrb.specs.Ring.{sent, received, known_items}
 use Rattle.xs_command.specs.declared.command.Command.{Command}
 use Rattle.xs_command.specs.WellFormed.{IsWellFormed}
+use Rattle.xs_keys.specs.Event.{Event}
 use Rattle.xs_keys.specs.Content.{Content}
 use Rattle.xs_keys.specs.Step.{Step}
 use Rattle.xs_keys.specs.Waiting.{block_of, IsAnsweredNull}
@@ -12,33 +13,51 @@ use Rattle.xs_desk.specs.declared.lane_end.Look.{Look}
 use Rattle.xs_desk.specs.declared.lane_end.Look.TheVariants.{Idle, Blocked, Served, Exhausted}
 use Rattle.xs_desk.specs.declared.lane_end.LaneEnd.{LaneEnd}
 use Rattle.xs_desk.specs.History.{LaneOf, Desk}
+use Rattle.xs_desk.specs.Calls.{asked_by}
+use Rattle.xs_desk.specs.Noting.{Notes, KeepsAtOnce}
+use Rattle.xs_desk.specs.Outbox.{given, IsFull}
 use Rattle.xs_desk.specs.Rings.{producer_ring, consumer_ring}
 
 abbrev pub lane_of : LaneEnd → LaneOf
 lane_of lane_end =
     record {
-      popped = received lane_end.calls;
-      sent = sent lane_end.answers;
+      popped = asked_by (received lane_end.calls);
+      sent = given lane_end.answers;
       calls = consumer_ring lane_end.calls;
-      answers = producer_ring lane_end.answers;
+      answers = producer_ring lane_end.answers.ring;
     }
 
-abbrev pub desk_of : List LaneEnd → Content → ℕ → Desk
-desk_of lane_ends keyspace place = record { lanes = map lane_of lane_ends; keyspace = keyspace; place = place }
+abbrev pub desk_of : List LaneEnd → Content → ℕ → Content → Desk
+desk_of lane_ends keyspace place start =
+    record { lanes = map lane_of lane_ends; keyspace = keyspace; place = place; start = start }
+
+-- the answers of a lane that were handed out
+abbrev pub handed_out : LaneEnd → List Answer
+handed_out lane_end = sent lane_end.answers.ring
 
 -- what a look at a lane starts from, or leaves
-pub record Scene (C : Type 0) : Type 0 where
+pub record Scene (C J : Type 0) : Type 0 where
   pub lane : LaneOf
+  pub handed : List Answer
   pub keyspace : Content
   pub place : ℕ
   pub clock : C
+  pub journal : J
 
-abbrev pub scene : {C : Type 0} → LaneEnd → Content → ℕ → C → Scene C
-scene lane_end keyspace place clock =
-    record { lane = lane_of lane_end; keyspace = keyspace; place = place; clock = clock }
+abbrev pub scene : {C J : Type 0} → LaneEnd → Content → ℕ → C → J → Scene C J
+scene lane_end keyspace place clock journal =
+    record {
+      lane = lane_of lane_end;
+      handed = handed_out lane_end;
+      keyspace = keyspace;
+      place = place;
+      clock = clock;
+      journal = journal;
+    }
 
--- one call of the lane was taken, which is well formed, applied at the moment that the clock gave, and answered
-pub record Answers {C : Type 0} (gives : C → ℕ → C → Type 0) (old new : Scene C) : Type 0 where
+-- one call of the lane was taken, which is well formed, applied at the moment that the clock gave, noted, and answered
+pub record Answers
+    {C J : Type 0} (gives : C → ℕ → C → Type 0) (has : J → List Event → ℕ → Type 0) (old new : Scene C J) : Type 0 where
   pub command : Command
   pub answer : Answer
   pub lane_is :
@@ -49,13 +68,16 @@ pub record Answers {C : Type 0} (gives : C → ℕ → C → Type 0) (old new : 
   pub formed : IsWellFormed command
   pub applied : Step old.keyspace answer.moment command answer.reply new.keyspace
   pub moment : gives old.clock answer.moment new.clock
+  pub noted : Notes has old.journal (answer.moment, command) old.keyspace new.keyspace new.journal
+  pub handed_is : (new.handed ≡ old.handed) ⊎ KeepsAtOnce has
 
 -- what came of a look: nothing has changed, or one call was answered; or no further place is left
-abbrev pub Looks : {C : Type 0} → (C → ℕ → C → Type 0) → Look → Scene C → Scene C → Type 0
-Looks gives Idle old new = new ≡ old
-Looks gives (Blocked _) old new = new ≡ old
-Looks gives (Served _) old new = Answers gives old new
-Looks gives Exhausted old new = (new ≡ old) × (old.place + 1 ≡ 2 ^ 64)
+abbrev pub Looks : {C J : Type 0} → (C → ℕ → C → Type 0) → (J → List Event → ℕ → Type 0) → Look → Scene C J → Scene C J
+    → Type 0
+Looks gives has Idle old new = new ≡ old
+Looks gives has (Blocked _) old new = new ≡ old
+Looks gives has (Served _) old new = Answers gives has old new
+Looks gives has Exhausted old new = (new ≡ old) × (old.place + 1 ≡ 2 ^ 64)
 
 -- the next of these calls is a read with BLOCK, which would now be answered with the null array
 abbrev pub MayWait : Content → List Command → Type 0
@@ -65,8 +87,8 @@ MayWait content calls =
 
 -- a look that finds nothing saw no call, or no room for its answer; one that lets a call wait saw that it may
 abbrev pub FindsNothing : Look → Content → LaneEnd → Type 0
-FindsNothing Idle keyspace lane_end = (length (known_items lane_end.calls) ≡ 0) ⊎ (known_free lane_end.answers ≡ 0)
-FindsNothing (Blocked _) keyspace lane_end = MayWait keyspace (known_items lane_end.calls)
+FindsNothing Idle keyspace lane_end = (length (known_items lane_end.calls) ≡ 0) ⊎ IsFull lane_end.answers
+FindsNothing (Blocked _) keyspace lane_end = MayWait keyspace (asked_by (known_items lane_end.calls))
 FindsNothing _ keyspace lane_end = Unit {0}
 
 -- a call was served, or no place is left

@@ -1,3 +1,6 @@
+pub mod Calls
+pub mod Outbox
+pub mod Noting
 pub mod History
 pub mod Rings
 pub mod KeeperTurns
@@ -7,3 +10,5 @@ pub mod Asking
 pub mod Opening
 pub mod Closing
 pub mod KeptRings
+pub mod Durable
+pub mod LogJournals

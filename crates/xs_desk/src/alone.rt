@@ -2,9 +2,9 @@
 ghost use Rattle.std.specs.Prelude.{◌≡◌, ℕ, false};
 ghost use Rattle.xs_keys.specs.Step.{Step};
 
+use crate::answer::Call;
 use crate::port::{Port, PortFault};
 use std::sync::Wait;
-use xs_command::Command;
 use xs_keys::{Clock, Keyspace};
 use xs_resp::Reply;
 
@@ -25,8 +25,12 @@ impl<C: Clock + Drop> Port for Alone<C> {
 
     ghost gone = { λ port. false };
 
-    fn ask<R: Wait>(&mut self, _rt: &R, command: Command) -> Result<Reply, PortFault> {
+    fn wants_words(&self) -> bool {
+        false
+    }
+
+    fn ask_call<R: Wait>(&mut self, _rt: &R, call: Call) -> Result<Reply, PortFault> {
         let now = self.clock.now();
-        Ok(self.keyspace.apply_owned(now, command))
+        Ok(self.keyspace.apply_owned(now, call.command))
     }
 }

@@ -2,9 +2,19 @@
 ghost use Rattle.std.specs.Prelude.{◌≡◌, ◌+◌, ◌^◌, Some, None, nat_lt, if◌then◌else◌};
 
 use rtrb::Protocol;
+use xs_bytes::{Bytes, List};
 use xs_command::Command;
 use xs_resp::Reply;
 use xs_stream::Moment;
+
+/// A command on its way to the keeper.
+#[derive(Debug, Drop)]
+pub struct Call {
+    /// What is asked.
+    pub command: Command,
+    /// The words that say it, if a log may have to note them.
+    pub words: Option<List<Bytes>>,
+}
 
 /// The answer to a call.
 #[derive(Debug, Drop)]
@@ -26,12 +36,12 @@ pub fn next_place(place: u64) -> Option<u64>
     place.checked_add(1)
 }
 
-/// The rule of a ring for calls: each command is well formed.
+/// The rule of a ring for calls: each command is well formed, and its words say it and can be a record.
 #[derive(Clone, Copy)]
 pub struct Formed;
 
-impl Protocol<Command> for Formed {
-    ghost use Rattle.xs_command.specs.WellFormed.{IsWellFormed};
+impl Protocol<Call> for Formed {
+    ghost use Rattle.xs_desk.specs.Calls.{IsFormed};
 
-    ghost allows = { λ _ command. IsWellFormed command };
+    ghost allows = { λ _ call. IsFormed call };
 }

@@ -1,7 +1,7 @@
 //! The client's side of a lane.
 ghost use Rattle.std.specs.Prelude.{◌≡◌, ◌++◌, ◌∷◌, [], ◌<◌, length, IfOk, IfErr, IsOk, MatchOption};
 
-use crate::answer::{Answer, Formed};
+use crate::answer::{Answer, Call, Formed};
 use crate::poll_set::Registration;
 use crate::waiting::Backoff;
 use rtrb::{Consumer, Producer, PushError};
@@ -20,7 +20,7 @@ pub struct Full(pub Command);
 /// they go through, and how many places these have.
 #[derive(Drop)]
 pub struct Client {
-    calls: Producer<Command, Global, Formed>,
+    calls: Producer<Call, Global, Formed>,
     answers: Consumer<Answer>,
     lane: usize,
     ticket: u64,
@@ -48,7 +48,7 @@ impl Model for Client {
 /// What is left of a client that makes no further call. Contracts see what they see of the client.
 #[derive(Drop)]
 pub struct Ended {
-    pub(crate) calls: Producer<Command, Global, Formed>,
+    pub(crate) calls: Producer<Call, Global, Formed>,
     pub(crate) answers: Consumer<Answer>,
     pub(crate) lane: usize,
 }
@@ -68,11 +68,12 @@ impl Client {
     ghost use Rattle.rtrb.specs.Ring.{sent};
     ghost use Rattle.xs_command.specs.WellFormed.{IsWellFormed};
     ghost use Rattle.xs_desk.specs.Callers.{caller_of};
+    ghost use Rattle.xs_desk.specs.Calls.{IsFormed};
 
     /// A client that has submitted nothing.
     pub(crate) fn new(
         lane: usize,
-        calls: Producer<Command, Global, Formed>,
+        calls: Producer<Call, Global, Formed>,
         answers: Consumer<Answer>,
         registration: Registration,
         backoff: Backoff,
@@ -105,18 +106,37 @@ impl Client {
         ensures room { length self.old.submitted < self.old.depth → IsOk result }
         ensures last { length self.new.submitted < 2 ^ 64 }
     {
+        let call = Call {
+            command,
+            words: None,
+        };
+        match self.submit_call(call) {
+            Ok(ticket) => Ok(ticket),
+            Err(call) => Err(Full(call.command)),
+        }
+    }
+
+    /// Submits a call as `submit` does its command. It gives the call back if there is no room for it.
+    pub fn submit_call(&mut self, call: Call) -> Result<u64, Call>
+        requires { IsFormed call }
+        ensures ok { IfOk result (λ ticket. (ticket ≡ length self.old.submitted)
+            × (self.new ≡ record self.old { submitted = self.old.submitted ++ call.command ∷ [] })) }
+        ensures full { IfErr result (λ back. (back ≡ call) × (self.new ≡ self.old)) }
+        ensures room { length self.old.submitted < self.old.depth → IsOk result }
+        ensures last { length self.new.submitted < 2 ^ 64 }
+    {
         let ticket = self.ticket;
         let Some(next) = ticket.checked_add(1) else {
-            return Err(Full(command));
+            return Err(call);
         };
-        match self.calls.push(command) {
+        match self.calls.push(call) {
             Ok(()) => {
                 self.ticket = next;
                 self.backoff.begin_anew();
                 self.registration.notify();
                 Ok(ticket)
             }
-            Err(PushError::Full(back)) => Err(Full(back)),
+            Err(PushError::Full(back)) => Err(back),
         }
     }
 

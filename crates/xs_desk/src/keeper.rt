@@ -1,9 +1,13 @@
 //! The keeper of a desk.
-ghost use Rattle.std.specs.Prelude.{◌≡◌, ℕ, ◌+◌, ◌^◌, length, MatchResult};
-ghost use Rattle.xs_desk.specs.KeeperTurns.{HasPlaces, Turns};
-ghost use Rattle.xs_desk.specs.LaneEnds.{desk_of};
+ghost use Rattle.std.specs.Prelude.{◌≡◌, ℕ, ◌+◌, ◌^◌, length, map, slice_get, Some, MatchResult};
+ghost use Rattle.xs_desk.specs.Durable.{NotesTurn};
+ghost use Rattle.xs_desk.specs.KeeperTurns.{HasPlaces};
+ghost use Rattle.xs_desk.specs.LaneEnds.{desk_of, lane_of, handed_out};
 
+use crate::journal::Journal;
 use crate::lane_end::{LaneEnd, Look};
+use crate::log_journal::LogJournal;
+use crate::no_journal::NoJournal;
 use crate::schedule::{Schedule, Span};
 use crate::waiting::Waker;
 use std::alloc::AllocError;
@@ -15,6 +19,7 @@ use std::thread::Promise;
 use std::time;
 use thiserror::Error;
 use xs_keys::{Clock, Keyspace};
+use xs_replay::{EventLog, LogFailed};
 
 /// Why a turn stopped.
 #[derive(Clone, Copy, Debug, PartialEq, Eq, Error)]
@@ -25,17 +30,19 @@ pub enum KeeperError {
 }
 
 /// The keeper of a desk: it has the keyspace, and one side of each lane. Contracts see the lanes, what the keyspace
-/// holds, and the next place. Where it is dropped, each lane is told that it is gone.
-pub struct Keeper {
+/// holds, and the next place. Where it is dropped, each lane is told that it is gone. It notes what it has applied in a
+/// journal, if there is one.
+pub struct Keeper<J: Journal + Drop = NoJournal> {
     lane_ends: Vec<LaneEnd>,
     keyspace: Keyspace,
     place: u64,
     schedule: Schedule,
     // Set once nobody is served any more.
     gone: Arc<AtomicBool>,
+    journal: J,
 }
 
-impl Model for Keeper {
+impl<J: Journal + Drop> Model for Keeper<J> {
     ghost use Rattle.xs_desk.specs.History.{Desk};
 
     ghost Value = { Desk };
@@ -43,14 +50,16 @@ impl Model for Keeper {
     ghost use Rattle.std.specs.Prelude.{List};
     ghost use Rattle.xs_desk.specs.History.{ServedCall, IsHistory};
     ghost use Rattle.xs_desk.specs.LaneEnds.{desk_of};
+    ghost use Rattle.xs_desk.specs.Durable.{IsDurable};
 
-    ghost view = { λ k. desk_of k.lane_ends.items k.keyspace k.place };
+    ghost view = { λ k. desk_of k.lane_ends.items k.keyspace k.place (J.start k.journal) };
 
     ghost invariant = { λ k. (history : List ServedCall)
-        × IsHistory history (desk_of k.lane_ends.items k.keyspace k.place) };
+        × IsHistory history (desk_of k.lane_ends.items k.keyspace k.place (J.start k.journal))
+        × IsDurable J.has history k.lane_ends.items (J.start k.journal) k.keyspace k.journal };
 }
 
-impl Drop for Keeper {
+impl<J: Journal + Drop> Drop for Keeper<J> {
     fn drop(self) {
         let Keeper {
             lane_ends,
@@ -58,6 +67,7 @@ impl Drop for Keeper {
             place: _,
             schedule: _schedule,
             gone,
+            journal: _journal,
         } = self;
         say_gone(&lane_ends, &gone);
     }
@@ -65,9 +75,9 @@ impl Drop for Keeper {
 
 /// What a thread promises that hands its keeper back: it has the rings of this one.
 #[derive(Drop)]
-pub struct SameRings(pub Snapshot<Keeper>);
+pub struct SameRings<J: Journal + Drop = NoJournal>(pub Snapshot<Keeper<J>>);
 
-impl Promise<Keeper> for SameRings {
+impl<J: Journal + Drop> Promise<Keeper<J>> for SameRings<J> {
     ghost use Rattle.xs_desk.specs.KeptRings.{KeepsRings};
 
     ghost kept_by = { λ p keeper. KeepsRings p.0.value keeper };
@@ -83,21 +93,24 @@ fn say_gone(lane_ends: &Vec<LaneEnd>, gone: &Arc<AtomicBool>) {
 }
 
 /// Looks once at each lane of the span that is looked at, in order, up to one that has served what others wait for.
-fn serve_each<C: Clock>(
+fn serve_each<C: Clock, J: Journal>(
     lane_ends: &mut Vec<LaneEnd>,
     schedule: &mut Schedule,
     keyspace: &mut Keyspace,
     place: &mut u64,
     clock: &mut C,
+    journal: &mut J,
     span: Span,
 ) -> Result<u64, KeeperError>
-    requires { HasPlaces (desk_of lane_ends.old.items keyspace.old place.old) }
-    ensures { MatchResult result
-        (λ n. Turns C.gives (desk_of lane_ends.old.items keyspace.old place.old) clock.old n
-        (length lane_ends.old.items) (desk_of lane_ends.new.items keyspace.new place.new) clock.new)
-        (λ _. (n : ℕ)
-        × Turns C.gives (desk_of lane_ends.old.items keyspace.old place.old) clock.old n (length lane_ends.old.items)
-        (desk_of lane_ends.new.items keyspace.new place.new) clock.new × (place.new + 1 ≡ 2 ^ 64)) }
+    requires { HasPlaces (desk_of lane_ends.old.items keyspace.old place.old (J.start journal.old)) }
+    ensures turned { let old = desk_of lane_ends.old.items keyspace.old place.old (J.start journal.old) in
+        let new = desk_of lane_ends.new.items keyspace.new place.new (J.start journal.old) in
+        MatchResult result
+        (λ n. NotesTurn J.has C.gives old clock.old journal.old lane_ends.old.items n (length lane_ends.old.items) new
+        clock.new journal.new lane_ends.new.items)
+        (λ _. (n : ℕ) × NotesTurn J.has C.gives old clock.old journal.old lane_ends.old.items n
+        (length lane_ends.old.items) new clock.new journal.new lane_ends.new.items × (place.new + 1 ≡ 2 ^ 64)) }
+    ensures start { J.start journal.new ≡ J.start journal.old }
 {
     let mut served = 0;
     let mut end = span.end.min(lane_ends.len());
@@ -106,7 +119,7 @@ fn serve_each<C: Clock>(
         next = k + 1;
         let manner = schedule.manner(&span);
         let lane_end = &mut lane_ends[k];
-        match lane_end.serve(keyspace, place, clock, manner) {
+        match lane_end.serve(keyspace, place, clock, journal, manner) {
             Look::Idle => {}
             Look::Blocked(wish) => schedule.found_blocked(k, wish),
             Look::Served(done) => {
@@ -121,8 +134,24 @@ fn serve_each<C: Clock>(
     Ok(served)
 }
 
-impl Keeper {
-    ghost use Rattle.std.specs.Prelude.{◌≡◌, ℕ, ◌+◌, ◌^◌, ◌<◌, length, List, [], MatchResult};
+/// Hands out the answers that are held back, and counts the lanes that had some.
+fn release_each(lane_ends: &mut Vec<LaneEnd>) -> u64
+    ensures lanes { map lane_of lane_ends.new.items ≡ map lane_of lane_ends.old.items }
+    ensures handed { (k : ℕ) (lane_end : LaneEnd) → slice_get lane_ends.new.items k ≡ Some lane_end →
+        handed_out lane_end ≡ (lane_of lane_end).sent }
+{
+    let mut count = 0;
+    for k in 0..lane_ends.len() {
+        let lane_end = &mut lane_ends[k];
+        if lane_end.release() {
+            count = u64::saturating_add(count, 1);
+        }
+    }
+    count
+}
+
+impl<J: Journal + Drop> Keeper<J> {
+    ghost use Rattle.std.specs.Prelude.{◌≡◌, ℕ, ◌+◌, ◌^◌, ◌<◌, length, List, [], slice_get, Some, MatchResult};
     ghost use Rattle.xs_desk.specs.History.{ServedCall, IsHistory};
     ghost use Rattle.xs_desk.specs.KeeperTurns.{Turns};
     ghost use Rattle.xs_desk.specs.LaneEnds.{desk_of};
@@ -134,9 +163,12 @@ impl Keeper {
         keyspace: Keyspace,
         schedule: Schedule,
         gone: Arc<AtomicBool>,
-    ) -> Keeper
-        requires { IsHistory [] (desk_of lane_ends.items keyspace 0) }
-        ensures { result ≡ desk_of lane_ends.items keyspace 0 }
+        journal: J,
+    ) -> Keeper<J>
+        requires history { IsHistory [] (desk_of lane_ends.items keyspace 0 (J.start journal)) }
+        requires start { J.start journal ≡ keyspace }
+        requires noted { J.has journal [] 0 }
+        ensures { result ≡ desk_of lane_ends.items keyspace 0 (J.start journal) }
     {
         Keeper {
             lane_ends,
@@ -144,6 +176,7 @@ impl Keeper {
             place: 0,
             schedule,
             gone,
+            journal,
         }
     }
 
@@ -177,6 +210,7 @@ impl Keeper {
             &mut self.keyspace,
             &mut self.place,
             clock,
+            &mut self.journal,
             span,
         );
         // That the place is a number of 64 bits is known of it once it is read.
@@ -186,6 +220,24 @@ impl Keeper {
             return Err(KeeperError::Exhausted);
         };
         Ok(count)
+    }
+
+    /// Keeps what the turns since the last call have noted, and then hands out the answers that were held back. It
+    /// gives how many lanes had some.
+    ///
+    /// # Errors
+    /// The log has failed: none of those answers is handed out, and nobody is served any more.
+    pub fn settle(&mut self) -> Result<u64, LogFailed>
+        ensures { self.new ≡ self.old }
+    {
+        if !J::holds_back() {
+            return Ok(0);
+        }
+        if let Err(failed) = self.journal.keep() {
+            say_gone(&self.lane_ends, &self.gone);
+            return Err(failed);
+        }
+        Ok(release_each(&mut self.lane_ends))
     }
 
     /// Waits after a turn that served nobody, and only there: between two such calls a turn has to look at the lanes.
@@ -237,10 +289,24 @@ impl Keeper {
     pub fn waker(&self) -> Result<Waker, AllocError> {
         self.schedule.backoff.waker()
     }
+}
+
+impl<L: EventLog + Drop> Keeper<LogJournal<L>> {
+    /// Whether its log has failed, so that nobody is served any more.
+    pub fn has_failed(&self) -> bool {
+        self.journal.has_failed()
+    }
+}
+
+impl Keeper {
+    ghost use Rattle.std.specs.Prelude.{◌≡◌, ℕ, List};
+    ghost use Rattle.xs_bytes.specs.SortedMap.{empty};
+    ghost use Rattle.xs_desk.specs.History.{ServedCall, IsHistory};
+    ghost use Rattle.xs_desk.specs.LaneEnds.{desk_of};
 
     /// Takes the keeper apart, where nobody waits for it any more.
     pub(crate) fn into_parts(self) -> (Vec<LaneEnd>, Keyspace)
-        ensures parts { (place : ℕ) × (self ≡ desk_of result.0.items result.1 place) }
+        ensures parts { (place : ℕ) × (self ≡ desk_of result.0.items result.1 place empty) }
         ensures history { (history : List ServedCall) × IsHistory history self }
     {
         let Keeper {
@@ -249,6 +315,7 @@ impl Keeper {
             place: _,
             schedule: _schedule,
             gone: _gone,
+            journal: _journal,
         } = self;
         (lane_ends, keyspace)
     }

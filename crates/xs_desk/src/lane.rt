@@ -1,14 +1,13 @@
 //! A client that waits for each answer.
 ghost use Rattle.std.specs.Prelude.{◌≡◌, ◌++◌, ◌∷◌, [], length, MatchResult};
-ghost use Rattle.xs_command.specs.WellFormed.{IsWellFormed};
+ghost use Rattle.xs_desk.specs.Calls.{IsFormed};
 ghost use Rattle.xs_desk.specs.Asking.{Submits, Takes, Receives, Asks, AskFails};
 
-use crate::answer::Answer;
-use crate::client::{Client, Full};
+use crate::answer::{Answer, Call};
+use crate::client::Client;
 use crate::port::{Port, PortFault};
 use std::marker::Model;
 use std::sync::Wait;
-use xs_command::Command;
 use xs_resp::Reply;
 
 /// How the client of a lane waits for an answer.
@@ -33,6 +32,8 @@ pub struct Lane<P: Drop = Idle> {
     client: Client,
     pause: P,
     gone: bool,
+    // Each call brings the words that say its command.
+    says_words: bool,
 }
 
 impl<P: Drop> Model for Lane<P> {
@@ -65,6 +66,25 @@ impl<P: Drop> Lane<P> {
             client,
             pause,
             gone: false,
+            says_words: false,
+        }
+    }
+
+    /// The same port, to which each call brings the words that say its command, as a log needs them.
+    pub fn with_words(self) -> Lane<P>
+        ensures { result ≡ self }
+    {
+        let Lane {
+            client,
+            pause,
+            gone,
+            says_words: _,
+        } = self;
+        Lane {
+            client,
+            pause,
+            gone,
+            says_words: true,
         }
     }
 
@@ -106,18 +126,18 @@ fn submit<P: Pause, R: Wait>(
     rt: &R,
     client: &mut Client,
     pause: &P,
-    command: Command,
+    call: Call,
 ) -> Result<u64, PortFault>
-    requires { IsWellFormed command }
+    requires { IsFormed call }
     ensures { MatchResult result
-        (λ ticket. (ticket ≡ length client.old.submitted) × Submits client.old command client.new)
+        (λ ticket. (ticket ≡ length client.old.submitted) × Submits client.old call.command client.new)
         (λ _. Takes client.old client.new) }
 {
-    let mut command = command;
+    let mut call = call;
     for _ in rt.forever() {
-        match client.submit(command) {
+        match client.submit_call(call) {
             Ok(ticket) => return Ok(ticket),
-            Err(Full(back)) => command = back,
+            Err(back) => call = back,
         }
         let _older = next_answer(rt, client, pause)?;
     }
@@ -148,13 +168,13 @@ fn ask_of<P: Pause, R: Wait>(
     rt: &R,
     client: &mut Client,
     pause: &P,
-    command: Command,
+    call: Call,
 ) -> Result<Reply, PortFault>
-    requires { IsWellFormed command }
-    ensures { MatchResult result (λ reply. Asks client.old command reply client.new)
-        (λ _. AskFails client.old command client.new) }
+    requires { IsFormed call }
+    ensures { MatchResult result (λ reply. Asks client.old call.command reply client.new)
+        (λ _. AskFails client.old call.command client.new) }
 {
-    let ticket = submit(rt, client, pause, command)?;
+    let ticket = submit(rt, client, pause, call)?;
     receive(rt, client, pause, ticket)
 }
 
@@ -167,8 +187,12 @@ impl<P: Pause + Drop> Port for Lane<P> {
 
     ghost gone = { λ lane. lane.gone };
 
-    fn ask<R: Wait>(&mut self, rt: &R, command: Command) -> Result<Reply, PortFault> {
-        let asked = ask_of(rt, &mut self.client, &self.pause, command);
+    fn wants_words(&self) -> bool {
+        self.says_words
+    }
+
+    fn ask_call<R: Wait>(&mut self, rt: &R, call: Call) -> Result<Reply, PortFault> {
+        let asked = ask_of(rt, &mut self.client, &self.pause, call);
         if asked.is_err() {
             self.gone = true;
         }

@@ -1,12 +1,18 @@
 //! The keeper's side of a lane.
-ghost use Rattle.std.specs.Prelude.{◌≡◌, ◌≤◌, ◌<◌, length, IfSome};
-ghost use Rattle.rtrb.specs.Ring.{sent, known_items, known_free};
+ghost use Rattle.std.specs.Prelude.{◌≡◌, ◌≤◌, ◌<◌, true, false, length, IfSome};
+ghost use Rattle.rtrb.specs.Ring.{known_items};
+ghost use Rattle.xs_keys.specs.Waiting.{ChangesNothing};
+ghost use Rattle.xs_desk.specs.Calls.{asked_by};
+ghost use Rattle.xs_desk.specs.Noting.{KeepsAtOnce};
+ghost use Rattle.xs_desk.specs.Outbox.{given, HasRoom};
 
-use crate::answer::{Answer, Formed, next_place};
+use crate::answer::{Answer, Call, Formed, next_place};
 use crate::blocked::{Wish, keys_touched, wish_of};
+use crate::journal::Journal;
+use crate::outbox::Outbox;
 use crate::wait_marks::WaitMarks;
 use crate::waiting::Waker;
-use rtrb::{Consumer, Producer};
+use rtrb::Consumer;
 use std::alloc::Global;
 use std::sync::Arc;
 use xs_command::Command;
@@ -16,13 +22,13 @@ use xs_stream::Moment;
 /// The keeper's side of a lane.
 #[derive(Drop)]
 pub(crate) struct LaneEnd {
-    pub calls: Consumer<Command, Global, Formed>,
-    pub answers: Producer<Answer>,
-    // How many answers were sent.
+    pub calls: Consumer<Call, Global, Formed>,
+    pub answers: Outbox,
+    // How many answers were given.
     pub ticket: u64,
     pub waker: Waker,
     pub marks: Arc<WaitMarks>,
-    ghost counted: { ticket ≡ length (sent answers) },
+    ghost counted: { ticket ≡ length (given answers) },
 }
 
 /// How a lane is looked at.
@@ -32,6 +38,15 @@ pub(crate) struct Manner {
     pub may_wait: bool,
     /// Others wait, so it matters which keys are touched.
     pub others_wait: bool,
+}
+
+/// How a call is served.
+#[derive(Clone, Copy, Debug, PartialEq, Eq)]
+struct Serving {
+    /// Others wait, so it matters which keys are touched.
+    others_wait: bool,
+    /// Its answer is held back.
+    holds_back: bool,
 }
 
 /// What was served.
@@ -54,23 +69,42 @@ pub(crate) enum Look {
     Exhausted,
 }
 
+/// If it is asked, whether a command is a read that finds nothing and changes nothing. Idle consumers send many.
+fn is_in_vain(keyspace: &Keyspace, command: &Command, is_asked: bool) -> bool
+    ensures { result ≡ true → ChangesNothing keyspace.now command.now }
+{
+    if !is_asked {
+        return false;
+    }
+    let Command::ReadGroup(read) = command else {
+        return false;
+    };
+    match keyspace.reads_in_vain(read) {
+        Ok(vain) => vain,
+        Err(_) => false,
+    }
+}
+
 impl LaneEnd {
-    ghost use Rattle.xs_desk.specs.LaneEnds.{scene, Looks, FindsNothing, MayWait, IsService};
+    ghost use Rattle.xs_desk.specs.LaneEnds.{lane_of, handed_out, scene, Looks, FindsNothing, MayWait, IsService};
 
     /// Serves the next call of the lane, if there is one, it doesn't wait, and there is room for its answer.
-    pub fn serve<C: Clock>(
+    pub fn serve<C: Clock, J: Journal>(
         &mut self,
         keyspace: &mut Keyspace,
         place: &mut u64,
         clock: &mut C,
+        journal: &mut J,
         manner: Manner,
     ) -> Look
-        requires { length (sent self.old.answers) ≤ place.old }
-        ensures looks { Looks C.gives result (scene self.old keyspace.old place.old clock.old)
-            (scene self.new keyspace.new place.new clock.new) }
+        requires { length (given self.old.answers) ≤ place.old }
+        ensures looks { Looks C.gives J.has result (scene self.old keyspace.old place.old clock.old journal.old)
+            (scene self.new keyspace.new place.new clock.new journal.new) }
+        ensures start { J.start journal.new ≡ J.start journal.old }
         ensures idle { FindsNothing result keyspace.new self.new }
     {
-        if self.calls.is_empty() || self.answers.is_full() {
+        let holds_back = J::holds_back();
+        if self.calls.is_empty() || !self.answers.has_room(holds_back) {
             return Look::Idle;
         }
         if manner.may_wait {
@@ -79,16 +113,33 @@ impl LaneEnd {
                 return Look::Blocked(wish);
             }
         }
-        self.serve_next(keyspace, place, clock, manner.others_wait)
+        let serving = Serving {
+            others_wait: manner.others_wait,
+            holds_back,
+        };
+        self.serve_next(keyspace, place, clock, journal, serving)
+    }
+
+    /// Sends the answers that were held back, and says whether there were any.
+    pub fn release(&mut self) -> bool
+        ensures lane { lane_of self.new ≡ lane_of self.old }
+        ensures handed { handed_out self.new ≡ (lane_of self.old).sent }
+    {
+        let some = self.answers.release();
+        if some {
+            self.waker.wake_if_asleep();
+        }
+        some
     }
 
     /// What the next call waits for, if it may wait: it is a read with BLOCK that would be answered with the null
     /// array.
+    #[tactic(auto, using(crate::proofs::Lists::prefix_map))]
     fn wish(&self, keyspace: &Keyspace) -> Option<Wish>
         requires { 0 < length (known_items self.now.calls) }
-        ensures { IfSome result (λ _. MayWait keyspace.now (known_items self.now.calls)) }
+        ensures { IfSome result (λ _. MayWait keyspace.now (asked_by (known_items self.now.calls))) }
     {
-        let Command::ReadGroup(read) = self.calls.peek_known() else {
+        let Command::ReadGroup(read) = &self.calls.peek_known().command else {
             return None;
         };
         let millis = read.block?;
@@ -104,39 +155,48 @@ impl LaneEnd {
     /// Serves the next call of a lane that is known to have one, and room for its answer. It is apart, so that the many
     /// looks that find nothing stay short.
     #[inline(never)]
-    fn serve_next<C: Clock>(
+    fn serve_next<C: Clock, J: Journal>(
         &mut self,
         keyspace: &mut Keyspace,
         place: &mut u64,
         clock: &mut C,
-        others_wait: bool,
+        journal: &mut J,
+        serving: Serving,
     ) -> Look
-        requires { (length (sent self.old.answers) ≤ place.old) × (0 < length (known_items self.old.calls))
-            × (0 < known_free self.old.answers) }
-        ensures looks { Looks C.gives result (scene self.old keyspace.old place.old clock.old)
-            (scene self.new keyspace.new place.new clock.new) }
+        requires { (length (given self.old.answers) ≤ place.old) × (0 < length (known_items self.old.calls))
+            × HasRoom serving.holds_back self.old.answers × (serving.holds_back ≡ false → KeepsAtOnce J.has) }
+        ensures looks { Looks C.gives J.has result (scene self.old keyspace.old place.old clock.old journal.old)
+            (scene self.new keyspace.new place.new clock.new journal.new) }
+        ensures start { J.start journal.new ≡ J.start journal.old }
         ensures busy { IsService result }
     {
         let Some(next) = next_place(*place) else {
             return Look::Exhausted;
         };
-        let command = self.calls.pop_known();
-        let touched = if others_wait {
-            keys_touched(&command)
+        let call = self.calls.pop_known();
+        let touched = if serving.others_wait {
+            keys_touched(&call.command)
         } else {
             0
         };
+        let in_vain = is_in_vain(keyspace, &call.command, serving.holds_back);
         let moment = clock.now();
-        let reply = keyspace.apply_owned(moment, command);
-        self.answers.push_reserved(Answer {
-            reply,
-            moment,
-            ticket: self.ticket,
-            place: *place,
-        });
+        let reply = keyspace.apply(moment, &call.command);
+        journal.note(moment, &call, &reply, in_vain);
+        self.answers.give(
+            Answer {
+                reply,
+                moment,
+                ticket: self.ticket,
+                place: *place,
+            },
+            serving.holds_back,
+        );
         self.ticket += 1;
         *place = next;
-        self.waker.wake_if_asleep();
+        if !serving.holds_back {
+            self.waker.wake_if_asleep();
+        }
         Look::Served(Done { moment, touched })
     }
 }

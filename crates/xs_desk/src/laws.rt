@@ -1,12 +1,21 @@
 //! Laws of the histories of desks.
-ghost use Rattle.std.specs.Prelude.{◌≡◌, ◌++◌, [], ℕ, List};
-ghost use Rattle.xs_keys.specs.Event.{History};
+ghost use Rattle.std.specs.Prelude.{◌≡◌, ◌≤◌, ◌++◌, [], ℕ, List, take, slice_get, Some};
+ghost use mathlib.Core.List.{IsPrefix};
+ghost use Rattle.xs_bytes.specs.SortedMap.{empty};
+ghost use Rattle.xs_keys.specs.Event.{Event, History};
+ghost use Rattle.xs_keys.specs.Content.{Content, IsContent};
 ghost use Rattle.xs_keys.specs.AtEach.{AtEach};
 ghost use Rattle.xs_command.specs.declared.command.Command.{Command};
 ghost use Rattle.xs_keys.specs.Headline.{AreWellFormed, Headline, LivesAreApart};
 ghost use Rattle.xs_keys.specs.JobMove.{EachMovesAlong};
-ghost use Rattle.xs_desk.specs.History.{ServedCall, Desk, IsHistory, events_of, replies_of};
+ghost use Rattle.xs_replay.specs.Calls.{Call, Serves, log_of, survivors};
+ghost use Rattle.xs_desk.specs.declared.lane_end.LaneEnd.{LaneEnd};
+ghost use Rattle.xs_desk.specs.History.{ServedCall, Desk, IsHistory, of_lane, events_of, replies_of, answers_of};
+ghost use Rattle.xs_desk.specs.LaneEnds.{handed_out};
+ghost use Rattle.xs_desk.specs.Durable.{AreMarked, IsDurable};
 ghost use Rattle.xs_desk.specs.KeeperTurns.{ServesAll};
+
+use crate::journal::Journal;
 
 /// A desk has one history at most.
 pub fn history_is_unique()
@@ -19,10 +28,29 @@ pub fn history_grows_by_what_is_served()
         → IsHistory (history ++ calls) new }
 {}
 
-/// Of what a desk served the headline holds from the first call on, and of each event: its command is well formed, it
-/// leaves the lives of other groups alone, and each job goes along an arrow.
+/// Of what a desk served, that began with nothing, the headline holds from the first call on, and of each event: its
+/// command is well formed, it leaves the lives of other groups alone, and each job goes along an arrow.
 pub fn what_is_served_has_the_headline()
-    ensures { (desk : Desk) (history : List ServedCall) → IsHistory history desk → (events : History)
+    ensures { (desk : Desk) (history : List ServedCall) → IsHistory history desk → desk.start ≡ empty → (events : History)
         × Headline [] (events_of history) (replies_of history) events × AreWellFormed events
         × AtEach events (λ earlier e. LivesAreApart earlier e × EachMovesAlong earlier e) }
+{}
+
+/// Of what a desk served the headline holds over any past that left what its keyspace held at the start.
+pub fn what_is_served_goes_on()
+    ensures { (desk : Desk) (history : List ServedCall) (past : History) → IsHistory history desk →
+        IsContent desk.start past → (events : History)
+        × Headline past (events_of history) (replies_of history) events × IsContent desk.keyspace events }
+{}
+
+/// Whatever a crash leaves of a log that has what a keeper noted, the calls that survive have each answer that was
+/// handed out: the calls before the first event that is lost, and among them all that are settled.
+pub fn what_was_handed_out_survives<J: Journal>()
+    ensures { (history : List ServedCall) (ends : List LaneEnd) (start content : Content) (journal : J) →
+        IsDurable J.has history ends start content journal →
+        (marked : List Call) × (kept : ℕ) × AreMarked marked history × Serves start marked content
+        × J.has journal (log_of marked) kept × ((found : ℕ) → kept ≤ found → (settled : ℕ)
+        × ((more : List Call) × (survivors found marked ≡ take settled marked ++ more))
+        × ((k : ℕ) (lane_end : LaneEnd) → slice_get ends k ≡ Some lane_end →
+        IsPrefix (handed_out lane_end) (answers_of (of_lane k (take settled history))))) }
 {}

@@ -1,4 +1,5 @@
 //! What commands are asked of.
+use crate::answer::Call;
 use std::sync::Wait;
 use thiserror::Error;
 use xs_command::Command;
@@ -16,6 +17,7 @@ pub enum PortFault {
 pub trait Port {
     ghost use Rattle.std.specs.Prelude.{◌≡◌, ◌||◌, Bool, MatchResult, is_err};
     ghost use Rattle.xs_command.specs.WellFormed.{IsWellFormed};
+    ghost use Rattle.xs_desk.specs.Calls.{IsFormed};
     ghost use Rattle.xs_command.specs.declared.command.Command.{Command};
     ghost use Rattle.xs_resp.specs.declared.reply.Reply.{Reply};
 
@@ -28,7 +30,20 @@ pub trait Port {
     /// It has answered a fault.
     ghost gone: { Self → Bool };
 
-    /// Asks for the reply to one command. It may wait.
+    /// Whether a call has to bring the words that say its command.
+    fn wants_words(&self) -> bool;
+
+    /// Asks for the reply to one call. It may wait.
+    ///
+    /// # Errors
+    /// `Gone`, and the port is gone for good. The command may have been executed.
+    fn ask_call<R: Wait>(&mut self, rt: &R, call: Call) -> Result<Reply, PortFault>
+        requires { IsFormed call }
+        ensures asked { MatchResult result
+            (λ reply. replies self.old call.command reply self.new) (λ _. fails self.old call.command self.new) }
+        ensures fault { gone self.new ≡ (gone self.old || is_err result) };
+
+    /// Asks for the reply to one command, without its words. It may wait.
     ///
     /// # Errors
     /// `Gone`, and the port is gone for good. The command may have been executed.
@@ -36,5 +51,14 @@ pub trait Port {
         requires { IsWellFormed command }
         ensures asked { MatchResult result
             (λ reply. replies self.old command reply self.new) (λ _. fails self.old command self.new) }
-        ensures fault { gone self.new ≡ (gone self.old || is_err result) };
+        ensures fault { gone self.new ≡ (gone self.old || is_err result) }
+    {
+        self.ask_call(
+            rt,
+            Call {
+                command,
+                words: None,
+            },
+        )
+    }
 }

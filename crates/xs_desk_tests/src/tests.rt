@@ -4,6 +4,7 @@ mod at_random;
 mod blocked;
 mod gone;
 mod lines;
+mod logged;
 mod older;
 mod one_run;
 mod one_thread;

@@ -35,3 +35,4 @@ pub mod Tellings
 pub mod TimesOfRows
 pub mod Truths
 pub mod WholeReplies
+pub mod InVain

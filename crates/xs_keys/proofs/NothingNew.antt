@@ -46,7 +46,7 @@ pub record FindsNone (content : Content) (read : ReadGroupCommand) (one : ReadOn
   pub has : get key.groups read.group ≡ Some was
   pub none_is : new_ids read.limit was.cursor (ids_of key.stream.entries) ≡ []
 
-finds-none : (content : Content) (read : ReadGroupCommand) (one : ReadOne) → finds_none_in read one (get content one.key) ≡ true → FindsNone content read one
+pub finds-none : (content : Content) (read : ReadGroupCommand) (one : ReadOne) → finds_none_in read one (get content one.key) ≡ true → FindsNone content read one
 finds-none content read one e = by one.from refl (get content one.key) refl e where
   at : (key : KeyState) → one.from ≡ New → get content one.key ≡ Some key → (g : Option GroupState) → get key.groups read.group ≡ g
       → option_map_or (λ g. length (new_ids read.limit g.cursor (ids_of key.stream.entries)) == 0) g false ≡ true → FindsNone content read one
@@ -60,16 +60,16 @@ finds-none content read one e = by one.from refl (get content one.key) refl e wh
   by (After id) from k had e = absurd (false≢true e)
 
 module _ (content : Content) (now : ℕ) (read : ReadGroupCommand) (one : ReadOne) (n : FindsNone content read one) where
-  abbrev after : Content
+  abbrev pub after : Content
   after = after_ask content now one.key read.group (ask_of_read read one.from)
 
-  abbrev left : GroupState
+  abbrev pub left : GroupState
   left = group_after now (ids_of n.key.stream.entries) (ask_of_read read New) n.was
 
   cursor-stays : left.cursor ≡ n.was.cursor
   cursor-stays = rw n.none_is refl
 
-  after-is : after ≡ insert content one.key (with_group n.key read.group left)
+  pub after-is : after ≡ insert content one.key (with_group n.key read.group left)
   after-is =
       ap (λ from. after_ask content now one.key read.group (ask_of_read read from)) n.from_is
       ∙ asked-at content now one.key read.group (ask_of_read read New) n.key n.was n.had n.has
@@ -112,7 +112,7 @@ no-parts (one ∷ more) content now read e =
     ap (λ (ps : List Reply). ps ++ parts next now read more) (no-part content now read one n) ∙ rest
 
 -- their groups are there
-all-there : (reads : List ReadOne) (content : Content) (read : ReadGroupCommand) → list_all (λ one. finds_none_in read one (get content one.key)) reads ≡ true
+pub all-there : (reads : List ReadOne) (content : Content) (read : ReadGroupCommand) → list_all (λ one. finds_none_in read one (get content one.key)) reads ≡ true
     → list_all (λ one. is_some (group_in (get content one.key) read.group)) reads ≡ true
 all-there [] content read e = refl
 all-there (one ∷ more) content read e =

@@ -9,7 +9,7 @@ use crate::keys::Keys;
 use crate::name_map::NameMap;
 use crate::reserve::Reserve;
 use crate::{
-    del, ping, xack, xadd, xautoclaim, xclaim, xdel, xgroup, xlen, xpending, xrange, xreadgroup,
+    del, in_vain, ping, xack, xadd, xautoclaim, xclaim, xdel, xgroup, xlen, xpending, xrange, xreadgroup,
     xtrim,
 };
 use std::alloc::{AllocError, Global};
@@ -42,7 +42,7 @@ impl Model for Keyspace {
 
 impl Keyspace {
     ghost use Rattle.std.specs.Prelude.{false};
-    ghost use Rattle.xs_keys.specs.Waiting.{IsAnsweredNull, IsAnsweredOtherwise};
+    ghost use Rattle.xs_keys.specs.Waiting.{IsAnsweredNull, IsAnsweredOtherwise, ChangesNothing};
 
     /// The empty keyspace. It takes no memory.
     pub fn new(alloc: Global) -> Self
@@ -85,6 +85,14 @@ impl Keyspace {
             → IsAnsweredOtherwise self.now (Command.ReadGroup read.now)) }
     {
         xreadgroup::finds_nothing(&self.keys, self.alloc, read)
+    }
+
+    /// Whether a read finds nothing new, for a consumer that its groups know: it changes nothing.
+    #[tactic(auto, using(crate::proofs::InVain::changes_nothing))]
+    pub fn reads_in_vain(&self, read: &ReadGroupCommand) -> Result<bool, AllocError>
+        ensures { IfOk result (λ vain. vain ≡ true → ChangesNothing self.now (Command.ReadGroup read.now)) }
+    {
+        in_vain::reads_in_vain(&self.keys, self.alloc, read)
     }
 
     /// Applies commands at their moments, in order. A refusal means that nothing was applied; a command

@@ -4,6 +4,7 @@
 pub mod clock;
 mod del;
 pub mod examples;
+mod in_vain;
 mod keys;
 pub mod keyspace;
 pub mod laws;

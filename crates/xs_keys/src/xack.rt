@@ -2,14 +2,14 @@
 ghost use Rattle.xs_keys.specs.Step.{StepAtAnyTime};
 
 use crate::keys::Keys;
-use xs_bytes::{Bytes, List, U63};
-use xs_command::Command;
+use xs_bytes::{Bytes, U63};
+use xs_command::{Command, Operands};
 use xs_resp::Reply;
 use xs_stream::Id;
 
 /// Takes these ids out of what is pending in a group, and says how many were.
 #[tactic(auto, using(crate::proofs::AskSteps::asked_nothing))]
-pub fn acknowledge(keys: &mut Keys, key: &Bytes, group: &Bytes, ids: &List<Id>) -> Reply
+pub fn acknowledge(keys: &mut Keys, key: &Bytes, group: &Bytes, ids: &Operands<Id>) -> Reply
     ensures { StepAtAnyTime keys.old (Command.Ack key.now group.now ids.now) result keys.new }
 {
     let Some(slot) = keys.get_mut(key) else {

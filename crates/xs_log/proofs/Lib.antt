@@ -6,3 +6,5 @@ pub mod Steps
 pub mod Crashed
 pub mod ClosedLogs
 pub mod LogsInTurn
+pub mod TapeLogs
+pub mod Restarts

@@ -64,14 +64,14 @@ consumes_none (Some a) = refl
 
 -- ---- requests that were taken
 
-spellings-more : (requests : List (List (List ℕ))) (words : List (List ℕ)) → spellings (requests ++ words ∷ []) ≡ spellings requests ++ spelling words
+pub spellings-more : (requests : List (List (List ℕ))) (words : List (List ℕ)) → spellings (requests ++ words ∷ []) ≡ spellings requests ++ spelling words
 spellings-more requests words = flat_map-append spelling requests (words ∷ []) ∙ ap (λ b. spellings requests ++ b) (append-nil (spelling words))
 
-all-more : (requests : List (List (List ℕ))) (words : List (List ℕ)) → AllByRecursion CanBeSpelled requests → CanBeSpelled words → AllByRecursion CanBeSpelled (requests ++ words ∷ [])
+pub all-more : (requests : List (List (List ℕ))) (words : List (List ℕ)) → AllByRecursion CanBeSpelled requests → CanBeSpelled words → AllByRecursion CanBeSpelled (requests ++ words ∷ [])
 all-more [] words all one = (one, tt)
 all-more (w ∷ requests) words all one = (all.0, all-more requests words all.1 one)
 
-records-more : (records : List (List (List ℕ))) (events : List Event) (words : List (List ℕ)) (event : Event) → AreRecordsOf records events → IsRecordOf words event → AreRecordsOf (records ++ words ∷ []) (events ++ event ∷ [])
+pub records-more : (records : List (List (List ℕ))) (events : List Event) (words : List (List ℕ)) (event : Event) → AreRecordsOf records events → IsRecordOf words event → AreRecordsOf (records ++ words ∷ []) (events ++ event ∷ [])
 records-more [] [] words event are is = (is, tt)
 records-more [] (e ∷ events) words event are is = absurd are
 records-more (w ∷ records) [] words event are is = absurd are

@@ -1,3 +1,5 @@
 pub mod Fault
 pub mod Reading
 pub mod Logs
+pub mod TapeLog
+pub mod Restart

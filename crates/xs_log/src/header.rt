@@ -13,10 +13,10 @@ use xs_resp::Request;
 pub const MODEL_NUMBER: u64 = 1;
 
 /// What the first word of a log says.
-const NAME: &[u8] = b"xs-log";
+pub(crate) const NAME: &[u8] = b"xs-log";
 
 /// What the format's word says.
-const FORMAT: &[u8] = b"1";
+pub(crate) const FORMAT: &[u8] = b"1";
 
 fn is_text(word: &[u8], text: &[u8]) -> bool
     ensures yes { result ≡ true → word.now ≡ text.now }

@@ -1,7 +1,9 @@
 //! The last log, which a crash may have torn.
-ghost use Rattle.std.specs.Prelude.{◌≡◌, ◌+◌, ◌≤◌, ℕ, List, Some, length, take, IfOk, IfErr};
+ghost use Rattle.std.specs.Prelude.{◌≡◌, ◌+◌, ◌≤◌, ℕ, List, Some, length, take, IfOk, IfErr, OnOk};
 ghost use Rattle.xs_keys.specs.Event.{Event};
+ghost use Rattle.xs_tape.specs.Crash.{before_zero};
 ghost use Rattle.xs_replay.specs.After.{contents_after, moment_after};
+ghost use Rattle.xs_replay.specs.Log.{HasEvents};
 ghost use Rattle.xs_log.specs.Fault.{IsWant};
 ghost use Rattle.xs_log.specs.Logs.{CrashLeavesLog};
 
@@ -22,12 +24,17 @@ pub fn read_last_log<R: Source + Drop>(
     recovered: &mut Recovered,
     file: R,
 ) -> Result<Extent, LogFault>
+    // The content is that of some events.
+    ensures content { OnOk result ((events : List Event)
+        × (recovered.new.keyspace ≡ contents_after recovered.old.keyspace events)
+        × (recovered.new.last ≡ moment_after recovered.old.last events)) }
     // Whatever a crash has left of a log is read, unless memory, the reader or a number of 64 bits runs out.
     ensures err { (events : List Event) (kept : ℕ) (left : List ℕ) → CrashLeavesLog number events kept left →
         R.rest file ≡ Some left → IfErr result IsWant }
     // It gives the first of its events, among them all whose records, behind the header, were kept.
     ensures ok { (events : List Event) (kept : ℕ) (left : List ℕ) → CrashLeavesLog number events kept left →
-        R.rest file ≡ Some left → IfOk result (λ _. (count : ℕ) × (count ≤ length events) × (kept ≤ count + 1)
+        R.rest file ≡ Some left → IfOk result (λ extent. (count : ℕ) × (count ≤ length events) × (kept ≤ count + 1)
+        × HasEvents number (before_zero left) (take count events) extent.whole extent.part
         × (recovered.new.keyspace ≡ contents_after recovered.old.keyspace (take count events))
         × (recovered.new.last ≡ moment_after recovered.old.last (take count events))) }
 {

@@ -2,7 +2,9 @@
 ghost use Rattle.std.specs.Prelude.{◌≡◌, ◌+◌, ◌≤◌, ◌++◌, ℕ, List, None, Some, length, take, IfErr, IfOk};
 ghost use Rattle.xs_bytes.specs.SortedMap.{empty};
 ghost use Rattle.xs_keys.specs.Event.{Event};
+ghost use Rattle.xs_tape.specs.Crash.{before_zero};
 ghost use Rattle.xs_replay.specs.After.{contents_after, moment_after};
+ghost use Rattle.xs_replay.specs.Log.{HasEvents};
 ghost use Rattle.xs_log.specs.Fault.{IsWant};
 ghost use Rattle.xs_log.specs.Logs.{CrashLeavesLog, GiveClosedLogs, MayGiveClosedLogs};
 
@@ -66,6 +68,9 @@ pub fn recover<R: Source + Drop>(
     closed: Vec<R>,
     last: R,
 ) -> Result<(Recovered, Extent), LogsFault>
+    // The content is that of some events.
+    ensures content { IfOk result (λ found. (events : List Event)
+        × (found.0.keyspace ≡ contents_after empty events) × (found.0.last ≡ moment_after None events)) }
     // Closed logs that were written whole, and whatever a crash has left of the last one, are never refused.
     ensures err { (before events : List Event) (kept : ℕ) (left : List ℕ) →
         GiveClosedLogs R.rest first closed.items before →
@@ -76,6 +81,7 @@ pub fn recover<R: Source + Drop>(
         × ((events : List Event) (kept : ℕ) (left : List ℕ) →
         CrashLeavesLog (first + length closed.items) events kept left → R.rest last ≡ Some left →
         (count : ℕ) × (count ≤ length events) × (kept ≤ count + 1)
+        × HasEvents (first + length closed.items) (before_zero left) (take count events) found.1.whole found.1.part
         × (found.0.keyspace ≡ contents_after empty (before ++ take count events))
         × (found.0.last ≡ moment_after None (before ++ take count events)))) }
 {

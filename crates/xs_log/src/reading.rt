@@ -27,6 +27,8 @@ pub struct Recovered {
     pub keyspace: Keyspace,
     /// The moment of the last event, if there is one.
     pub last: Option<Moment>,
+    /// How many events there are. It is told to users, and no contract speaks of it.
+    pub records: u64,
 }
 
 impl Recovered {
@@ -38,6 +40,7 @@ impl Recovered {
         Self {
             keyspace: Keyspace::new(alloc),
             last: None,
+            records: 0,
         }
     }
 }
@@ -68,6 +71,7 @@ fn apply_record(
             Reply::Error(Fault::Memory) => Err(RecordFault::Memory),
             _ => {
                 recovered.last = Some(now);
+                recovered.records = recovered.records.saturating_add(1);
                 Ok(())
             }
         },

@@ -1,4 +1,5 @@
 //! Tests of logs.
 mod crash_points;
 mod log_text;
+mod tape_logs;
 mod two_logs;

@@ -18,6 +18,9 @@ const BEAT_MILLIS: u64 = 1000;
 /// After how long a worker sends the replies to the requests before the one whose answer it waits for.
 const PROMPT_MILLIS: u64 = 1;
 
+/// Up to so many workers have the memory of their connections from the start on. Of more, most may never serve anybody.
+pub const MADE_AT_START: usize = 64;
+
 /// How a worker waits whose client may leave.
 #[derive(Drop)]
 pub struct Watch<S: Drop> {
@@ -50,7 +53,7 @@ impl<S: Wait + Clock + Drop> Pause for Watch<S> {
     }
 }
 
-/// Calls wait, and the memory of connections is made when they come.
+/// Calls wait, and with many workers the memory of connections is made when they come.
 #[derive(Drop)]
 pub struct Patience<S: Drop> {
     system: S,
@@ -88,6 +91,9 @@ impl<S: Wait + Clock + Copy + Send + Drop + 'static> Mode<RunGate<S>> for Patien
     }
 
     fn memory(&self, alloc: Global) -> Result<ConnectionMemory, AllocError> {
+        if self.peers.len() <= MADE_AT_START {
+            return ConnectionMemory::made(alloc);
+        }
         Ok(ConnectionMemory::lazy(alloc))
     }
 

@@ -8,7 +8,7 @@ use crate::command_line::RunOptions;
 use crate::door::open_door;
 use crate::hall::Hall;
 use crate::limits::open_files;
-use crate::patience::Patience;
+use crate::patience::{MADE_AT_START, Patience};
 use crate::report::{report_memory, report_text, report_worked};
 use crate::run_gate::RunGate;
 use crate::serve_command::DEPTH;
@@ -69,10 +69,15 @@ fn gates_of<S: Copy + Drop>(
     } else {
         Some(Duration::from_secs(options.idle))
     };
+    let at_start = options.workers <= MADE_AT_START as u64;
     let mut gates = Vec::new(alloc);
     for _worker in 0..options.workers {
         let (hall, announcement) = (Arc::try_clone(hall)?, announcement.again()?);
-        gates.push(RunGate::new(system, alloc, hall, announcement, idle)?)?;
+        let gate = RunGate::new(system, alloc, hall, announcement, idle)?;
+        if at_start {
+            gate.make_room()?;
+        }
+        gates.push(gate)?;
     }
     Ok(gates)
 }

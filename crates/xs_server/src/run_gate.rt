@@ -53,6 +53,11 @@ impl<S: Copy + Drop> RunGate<S> {
         self.memory.peer()
     }
 
+    /// Makes the buffer of replies, which else the first connection makes.
+    pub fn make_room(&self) -> Result<(), AllocError> {
+        self.memory.make_room()
+    }
+
     /// Both halves of a stream. None if there is no memory, and the client is told.
     fn halves_of(&self, stream: TcpStream) -> Option<(FromRead<Incoming>, ToWrite<Outgoing>)> {
         // Without these replies may be late, and an idle connection stays: no reason to refuse it.

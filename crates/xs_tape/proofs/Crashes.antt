@@ -5,10 +5,10 @@ use Rattle.std.proofs.lemmas.Bool.{cases_eq, eq-eqb, ne_eqb, cond-true, cond-fal
 use Rattle.std.proofs.lemmas.List.{take-append-le, take-take}
 use Rattle.xs_tape.specs.Crash.{HasNoZero, before_zero, IsWrittenOrZero, CrashLeaves}
 
-before_zero-zero : (byte : ℕ) (rest : List ℕ) → byte ≡ 0 → before_zero (byte ∷ rest) ≡ []
+pub before_zero-zero : (byte : ℕ) (rest : List ℕ) → byte ≡ 0 → before_zero (byte ∷ rest) ≡ []
 before_zero-zero byte rest e = cond-true (eqb byte 0) _ _ (eq-eqb byte 0 e)
 
-before_zero-more : (byte : ℕ) (rest : List ℕ) → byte ≢ 0 → before_zero (byte ∷ rest) ≡ byte ∷ before_zero rest
+pub before_zero-more : (byte : ℕ) (rest : List ℕ) → byte ≢ 0 → before_zero (byte ∷ rest) ≡ byte ∷ before_zero rest
 before_zero-more byte rest e = cond-false (eqb byte 0) _ _ (ne_eqb byte 0 e)
 
 -- what is left over of one list behind another

@@ -1,5 +1,5 @@
 -- Escaped words.
-use Rattle.std.proofs.Common.{◌≡◌, ◌≢◌, ◌⊎◌, inl, inr, ℕ, List, [], ◌∷◌, ◌++◌, map, refl, sym, ap, ◌∙◌, arith, eqb}
+use Rattle.std.proofs.Common.{◌≡◌, ◌≢◌, ◌⊎◌, inl, inr, ℕ, zero, suc, ◌+◌, ◌≤◌, List, [], ◌∷◌, ◌++◌, map, refl, sym, ap, ◌∙◌, arith, eqb}
 use Rattle.std.proofs.lemmas.Bool.{cases_eq, eq-eqb, ne_eqb, cond-true, cond-false}
 use Rattle.xs_tape.specs.Escape.{escape, escaped}
 
@@ -11,6 +11,11 @@ escape-one byte e = cond-false (eqb byte 0) _ _ (ne_eqb byte 0 (λ z. absurd (om
 
 pub escape-other : (byte : ℕ) → byte ≢ 0 → byte ≢ 1 → escape byte ≡ byte ∷ []
 escape-other byte e f = cond-false (eqb byte 0) _ _ (ne_eqb byte 0 e) ∙ cond-false (eqb byte 1) _ _ (ne_eqb byte 1 f)
+
+pub escape_pair : (byte : ℕ) → byte ≤ 1 → escape byte ≡ 1 ∷ (byte + 1) ∷ []
+escape_pair zero le = refl
+escape_pair (suc zero) le = refl
+escape_pair (suc (suc byte)) le = absurd (omega arith)
 
 -- a byte is written in one of three ways
 pub record Ways (byte : ℕ) : Type 0 where

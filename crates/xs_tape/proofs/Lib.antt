@@ -5,3 +5,5 @@ pub mod Zeros
 pub mod Firsts
 pub mod Walks
 pub mod Sizes
+pub mod Puts
+pub mod Runs

@@ -1,5 +1,6 @@
 -- How many bytes the words of a record take.
-use Rattle.std.proofs.Common.{inl, inr, ℕ, ◌+◌, ◌*◌, ◌^◌, ◌<◌, ◌≤◌, List, [], ◌∷◌, length, map, decimal, ap, arith, length-append}
+use Rattle.std.proofs.Common.{◌≡◌, inl, inr, ℕ, ◌+◌, ◌*◌, ◌^◌, ◌<◌, ◌≤◌, List, [], ◌∷◌, length, map, decimal, ap, arith, length-append}
+use Rattle.std.proofs.lemmas.Fmt.{length-decimal-le}
 use Rattle.std.proofs.lemmas.List.{length-map}
 use Rattle.std.specs.List.{concat}
 use Rattle.xs_resp.specs.declared.header.Part.TheVariants.{Count, Size}
@@ -33,3 +34,11 @@ can_be_spelled first rest number sizes short =
       number = omega (arith, number, length-map rest escaped);
       sizes = (short, (omega (arith, escaped-short (decimal sum), decimal-short sum (checksum_small (concat (first ∷ rest)))), sizes));
     }
+
+-- a record has its checksum besides
+pub count_is : (first : List ℕ) (rest : List (List ℕ)) → length rest + 2 ≡ length (record_words first rest)
+count_is first rest = omega (arith, length-map rest escaped)
+
+-- a record of an event, whose first word is a moment, can be spelled if its other words can be
+pub event_spelled : (words : List (List ℕ)) (now : ℕ) → now < 2 ^ 64 → ((first : List ℕ) → length (escaped first) ≤ limit Size → CanBeSpelled (record_words first words)) → CanBeSpelled (record_words (decimal now) words)
+event_spelled words now small can = can (decimal now) (omega (arith, escaped-short (decimal now), length-decimal-le 20 now (omega arith) (omega (arith, small)) small))

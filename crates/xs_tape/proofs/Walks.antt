@@ -1,7 +1,7 @@
 -- Words and bytes, one after the other, as loops go over them.
-use Rattle.std.proofs.Common.{◌≡◌, ◌≢◌, ◌⊎◌, inl, inr, ℕ, ◌+◌, ◌<◌, ◌≤◌, zero, suc, List, [], ◌∷◌, ◌++◌, length, take, map, get_or, true, false}
+use Rattle.std.proofs.Common.{◌≡◌, ◌≢◌, ◌⊎◌, inl, inr, ℕ, ◌+◌, ◌<◌, ◌≤◌, zero, suc, List, [], ◌∷◌, ◌++◌, length, take, drop, map, get_or, true, false}
 use Rattle.std.proofs.Common.{refl, sym, ap, ◌∙◌, subst, arith, eqb, length-append, append_assoc}
-use Rattle.std.proofs.lemmas.List.{take_more, append-nil, map-append, take-take, length-take-le}
+use Rattle.std.proofs.lemmas.List.{take_more, append-nil, map-append, take-take, take-append-drop, length-take-le}
 use Rattle.std.proofs.lemmas.List.Concat.{flat_map-append}
 use Rattle.std.proofs.lemmas.Bool.{cond-true, cond-false, eq-eqb, ne_eqb}
 use Rattle.xs_resp.specs.HeaderPart.{limit}
@@ -80,6 +80,10 @@ sent_more words i lt =
     let word = escaped (get_or words i []) in
     ap (λ ws. sent_words (map escaped ws)) (take_more words i [] lt) ∙ ap sent_words (map-append escaped (take i words) (get_or words i [] ∷ []))
     ∙ flat_map-append sent_word (map escaped (take i words)) (word ∷ []) ∙ ap (λ b. sent_words (map escaped (take i words)) ++ b) (append-nil (sent_word word))
+
+pub sent_split : (words : List (List ℕ)) (n : ℕ) → sent_words (map escaped (take n words)) ++ sent_words (map escaped (drop n words)) ≡ sent_words (map escaped words)
+sent_split words n =
+    sym (flat_map-append sent_word (map escaped (take n words)) (map escaped (drop n words))) ∙ ap sent_words (sym (map-append escaped (take n words) (drop n words)) ∙ ap (map escaped) (take-append-drop n words))
 
 -- the first zero
 pub no_zero_more : (bytes : List ℕ) (i : ℕ) → i < length bytes → HasNoZero (take i bytes) → get_or bytes i 0 ≢ 0 → HasNoZero (take (i + 1) bytes)

@@ -7,7 +7,7 @@ use Rattle.xs_tape.specs.Escape.{escape, escaped}
 use Rattle.xs_tape.specs.Crash.{HasNoZero}
 use Rattle.std.specs.List.{AllByRecursion}
 use Rattle.xs_resp.specs.Grammar.{spelling}
-use Rattle.xs_tape.specs.Records.{with_checksum, record_words, record_text, spellings, CanBeSpelled, CanBeLogged}
+use Rattle.xs_tape.specs.Records.{with_checksum, record_words, spellings, CanBeSpelled, CanBeLogged}
 use Rattle.xs_tape.proofs.Escapes.{ways}
 
 pub zero-append : (xs ys : List ℕ) → HasNoZero xs → HasNoZero ys → HasNoZero (xs ++ ys)
@@ -28,11 +28,11 @@ pub escaped-no-zero : (word : List ℕ) → HasNoZero (escaped word)
 escaped-no-zero [] = tt
 escaped-no-zero (byte ∷ word) = zero-append (escape byte) (escaped word) (escape-no-zero byte) (escaped-no-zero word)
 
-decimal-no-zero : (n : ℕ) → n < 2 ^ 64 → HasNoZero (decimal n)
+pub decimal-no-zero : (n : ℕ) → n < 2 ^ 64 → HasNoZero (decimal n)
 decimal-no-zero n small =
     decimal_by_steps (λ n ds. HasNoZero ds) (λ n le. (λ e. absurd (omega (arith, e)), tt)) (λ n ds le h. zero-append ds ((48 + n % 10) ∷ []) h (λ e. absurd (omega (arith, e)), tt)) n small
 
-crlf-no-zero : HasNoZero crlf
+pub crlf-no-zero : HasNoZero crlf
 crlf-no-zero = (λ e. absurd (omega (arith, e)), (λ e. absurd (omega (arith, e)), tt))
 
 line-no-zero : (marker n : ℕ) → 0 < marker → n < 2 ^ 64 → HasNoZero (line marker n)
@@ -62,8 +62,6 @@ escaped-none-zero (word ∷ words) = (escaped-no-zero word, escaped-none-zero wo
 pub record-logged : (first : List ℕ) (rest : List (List ℕ)) → CanBeSpelled (record_words first rest) → CanBeLogged (record_words first rest)
 record-logged first rest can = record { spelled = can; no_zero = escaped-none-zero (with_checksum first rest) }
 
-pub record-no-zero : (first : List ℕ) (rest : List (List ℕ)) → CanBeSpelled (record_words first rest) → HasNoZero (record_text first rest)
-record-no-zero first rest can = spelling-no-zero (record_words first rest) (record-logged first rest can)
-
-pub record_more : (first : List ℕ) (rest : List (List ℕ)) (old new : List ℕ) → new ≡ old ++ record_text first rest → CanBeSpelled (record_words first rest) → HasNoZero old → HasNoZero new
-record_more first rest old new e can none = subst HasNoZero (sym e) (zero-append old (record_text first rest) none (record-no-zero first rest can))
+-- what is not escaped has no zero
+pub plain_no_zero : (bytes : List ℕ) → escaped bytes ≡ bytes → HasNoZero bytes
+plain_no_zero bytes e = subst HasNoZero e (escaped-no-zero bytes)

@@ -5,4 +5,5 @@ pub mod Checksum
 pub mod ExamplesChecksum
 pub mod Records
 pub mod Tape
+pub mod Writing
 pub mod MemoryTape

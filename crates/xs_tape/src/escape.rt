@@ -1,30 +1,9 @@
 //! Words as they stand in a log.
-ghost use Rattle.std.specs.Prelude.{◌≡◌, ◌≢◌, ◌++◌, ◌+◌, ◌*◌, ◌<◌, ◌≤◌, ℕ, List, length, OnOk, IfOk, MatchOption};
+ghost use Rattle.std.specs.Prelude.{◌≡◌, ◌≢◌, ◌++◌, ◌+◌, ◌*◌, ◌<◌, ◌≤◌, ℕ, List, length, IfOk, MatchOption};
 ghost use Rattle.xs_tape.specs.Escape.{escape, escaped};
 
 use std::alloc::{AllocError, Global};
 use xs_bytes::Bytes;
-
-/// Appends a byte as it stands in a log.
-fn push_escape(out: &mut Vec<u8>, byte: u8) -> Result<(), AllocError>
-    ensures { OnOk result (out.new.items ≡ out.old.items ++ escape byte) }
-{
-    match byte {
-        0 => out.extend_from_slice(&[1, 1]),
-        1 => out.extend_from_slice(&[1, 2]),
-        other => Ok(out.push(other)?),
-    }
-}
-
-/// Appends a word as it stands in a log.
-pub(crate) fn push_escaped(out: &mut Vec<u8>, word: &[u8]) -> Result<(), AllocError>
-    ensures { OnOk result (out.new.items ≡ out.old.items ++ escaped word.now) }
-{
-    for byte in word {
-        push_escape(out, *byte)?;
-    }
-    Ok(())
-}
 
 /// How many bytes a byte takes in a log.
 #[tactic(auto, using(crate::proofs::Walks::escape_two, crate::proofs::Walks::escape_single))]

@@ -8,6 +8,7 @@ pub mod examples;
 pub mod laws;
 pub mod log_writer;
 pub mod memory_tape;
+pub mod pushing;
 pub mod record;
 pub mod tape;
 
@@ -16,5 +17,5 @@ pub use checksum::checksum_of;
 pub use escape::unescaped;
 pub use log_writer::LogWriter;
 pub use memory_tape::MemoryTape;
-pub use record::{can_be_record, push_record};
+pub use record::can_be_record;
 pub use tape::{Tape, TapeFailed};

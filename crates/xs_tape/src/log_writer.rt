@@ -1,67 +1,198 @@
-//! Records on their way to a tape.
-ghost use Rattle.std.specs.Prelude.{◌≡◌, ◌++◌, ◌∷◌, [], false, length, OnOk, OnErr, is_err};
+//! Bytes on their way to a tape. Once a writer is made it takes no memory.
+ghost use Rattle.std.specs.Prelude.{◌≡◌, ◌+◌, ◌≤◌, ◌++◌, [], ℕ, List, false, length, IfOk, IfSome, OnOk, is_err};
 ghost use Rattle.xs_tape.specs.Crash.{HasNoZero};
-ghost use Rattle.xs_tape.specs.Records.{CanBeSpelled, record_words, record_text};
-ghost use Rattle.xs_tape.specs.Tape.{Commits};
+ghost use Rattle.xs_tape.specs.Tape.{AllKept};
+ghost use Rattle.xs_tape.specs.Writing.{Has, Puts, Keeps, Closes};
 
-use crate::record::push_record;
 use crate::tape::{Tape, TapeFailed};
 use std::alloc::{AllocError, Global};
-use xs_bytes::Bytes;
+use std::marker::Model;
 
-/// A tape, and the text of records that isn't written to it yet.
+/// How many bytes are gathered before they are written.
+const GATHERED: usize = 65_536;
+
+/// A tape, and what is to be written behind what it has.
 #[derive(Drop)]
 pub struct LogWriter<T: Tape + Drop> {
-    pub tape: T,
-    pub pending: Vec<u8>,
-    // The record that is being spelled, so that what is pending never ends in a part of one.
-    record: Vec<u8>,
+    tape: T,
+    pending: Vec<u8>,
+    // Nothing was written since the last sync.
+    is_synced: bool,
+}
+
+impl<T: Tape + Drop> Model for LogWriter<T> {
+    ghost use Rattle.std.specs.Prelude.{◌≡◌, ◌≤◌, length, vec_capacity};
+    ghost use Rattle.xs_tape.specs.Crash.{HasNoZero};
+    ghost use Rattle.xs_tape.specs.Writing.{Writing, IsSynced};
+
+    ghost Value = { Writing };
+
+    ghost view = { λ w. record { broken = T.broken w.tape; holds = T.holds w.tape; pending = w.pending.items } };
+
+    ghost invariant = { λ w. (65536 ≤ vec_capacity w.pending) × (length w.pending.items ≤ 65536)
+        × HasNoZero w.pending.items × IsSynced w.is_synced (T.holds w.tape) };
 }
 
 impl<T: Tape + Drop> LogWriter<T> {
-    /// A tape, and no record to be written.
-    pub fn new(alloc: Global, tape: T) -> Self
-        ensures tape { result.tape ≡ tape }
-        ensures pending { result.pending.items ≡ [] }
+    /// A tape, and nothing to be written. This is the only call that takes memory.
+    pub fn new(alloc: Global, tape: T) -> Result<Self, AllocError>
+        ensures { IfOk result (λ writer. writer
+            ≡ record { broken = T.broken tape; holds = T.holds tape; pending = [] }) }
     {
-        Self {
+        Ok(Self {
             tape,
-            pending: Vec::new(alloc),
-            record: Vec::new(alloc),
-        }
+            pending: Vec::with_capacity(alloc, GATHERED)?,
+            is_synced: false,
+        })
     }
 
-    /// Puts a record behind those that are to be written: a first word, and those behind it.
-    ///
-    /// # Errors
-    /// Out of memory, and nothing is changed.
-    #[tactic(auto, using(crate::proofs::Zeros::record_more))]
-    pub fn push(&mut self, first: &Bytes, rest: &[Bytes]) -> Result<(), AllocError>
-        requires short { CanBeSpelled (record_words first.now rest.now) }
-        requires pending { HasNoZero self.old.pending.items }
-        ensures ok { OnOk result (self.new.pending.items
-            ≡ self.old.pending.items ++ record_text first.now rest.now) }
-        ensures err { OnErr result (self.new.pending.items ≡ self.old.pending.items) }
-        ensures pending { HasNoZero self.new.pending.items }
-        ensures tape { self.new.tape ≡ self.old.tape }
+    /// The tape.
+    pub fn tape(&self) -> &T
+        ensures holds { T.holds result.now ≡ self.now.holds }
+        ensures broken { T.broken result.now ≡ self.now.broken }
     {
-        self.record.clear();
-        push_record(&mut self.record, first, rest)?;
-        self.pending.extend_from_slice(&self.record)?;
-        Ok(())
+        &self.tape
     }
 
-    /// Writes the records, and has the tape keep them. If it fails no more may be asked of the tape.
-    pub fn commit(&mut self) -> Result<(), TapeFailed>
-        requires sound { T.broken self.old.tape ≡ false }
-        requires pending { HasNoZero self.old.pending.items }
-        ensures bytes { OnOk result (Commits self.old.pending.items (T.holds self.old.tape) (T.holds self.new.tape)) }
-        ensures pending { OnOk result (self.new.pending.items ≡ []) }
-        ensures fault { T.broken self.new.tape ≡ is_err result }
+    /// How many bytes the last file of the tape has.
+    pub fn size(&self) -> u64
+        ensures { IfSome self.now.holds (λ tape. result ≡ length tape.written) }
     {
+        self.tape.size()
+    }
+
+    /// Writes what is pending.
+    fn flush(&mut self) -> Result<(), TapeFailed>
+        requires sound { self.old.broken ≡ false }
+        ensures puts { Puts self.old self.new [] }
+        ensures pending { OnOk result (self.new.pending ≡ []) }
+        ensures fault { self.new.broken ≡ is_err result }
+    {
+        self.is_synced = false;
         self.tape.append(&self.pending)?;
-        self.tape.sync()?;
         self.pending.clear();
         Ok(())
+    }
+
+    /// Makes room for so many bytes behind what is pending.
+    fn make_room(&mut self, size: usize) -> Result<(), TapeFailed>
+        requires sound { self.old.broken ≡ false }
+        requires small { size ≤ 65536 }
+        ensures puts { Puts self.old self.new [] }
+        ensures room { OnOk result (length self.new.pending + size ≤ 65536) }
+        ensures fault { self.new.broken ≡ is_err result }
+    {
+        if size <= GATHERED - self.pending.len() {
+            return Ok(());
+        }
+        self.flush()
+    }
+
+    /// Gathers bytes for which there is room.
+    fn gather(&mut self, bytes: &[u8])
+        requires room { length self.old.pending + length bytes.now ≤ 65536 }
+        requires bytes { HasNoZero bytes.now }
+        requires sound { self.old.broken ≡ false }
+        ensures puts { Puts self.old self.new bytes.now }
+        ensures sound { self.new.broken ≡ false }
+    {
+        let _ = self.pending.extend_from_slice(bytes);
+    }
+
+    /// Writes what is pending, and then these bytes.
+    fn put_long(&mut self, bytes: &[u8]) -> Result<(), TapeFailed>
+        requires sound { self.old.broken ≡ false }
+        requires bytes { HasNoZero bytes.now }
+        ensures puts { Puts self.old self.new bytes.now }
+        ensures fault { self.new.broken ≡ is_err result }
+    {
+        self.flush()?;
+        self.is_synced = false;
+        self.tape.append(bytes)
+    }
+
+    /// Puts bytes behind the others.
+    pub(crate) fn put(&mut self, bytes: &[u8]) -> Result<(), TapeFailed>
+        requires sound { self.old.broken ≡ false }
+        requires bytes { HasNoZero bytes.now }
+        ensures puts { Puts self.old self.new bytes.now }
+        ensures fault { self.new.broken ≡ is_err result }
+    {
+        if bytes.len() > GATHERED {
+            return self.put_long(bytes);
+        }
+        self.make_room(bytes.len())?;
+        self.gather(bytes);
+        Ok(())
+    }
+
+    /// Writes what is pending, if anything is.
+    fn write_all(&mut self) -> Result<(), TapeFailed>
+        requires sound { self.old.broken ≡ false }
+        ensures puts { Puts self.old self.new [] }
+        ensures pending { OnOk result (self.new.pending ≡ []) }
+        ensures fault { self.new.broken ≡ is_err result }
+    {
+        if self.pending.is_empty() {
+            return Ok(());
+        }
+        self.flush()
+    }
+
+    /// Has the tape keep what was written, unless it does.
+    fn keep_all(&mut self) -> Result<(), TapeFailed>
+        requires sound { self.old.broken ≡ false }
+        requires pending { self.old.pending ≡ [] }
+        ensures keeps { (closed : List (List ℕ)) (text : List ℕ) (sure : ℕ) → Has self.old closed text sure →
+            Keeps result self.new closed text sure }
+        ensures pending { self.new.pending ≡ [] }
+        ensures kept { OnOk result (AllKept self.new.holds) }
+        ensures fault { self.new.broken ≡ is_err result }
+    {
+        if self.is_synced {
+            return Ok(());
+        }
+        self.tape.sync()?;
+        self.is_synced = true;
+        Ok(())
+    }
+
+    /// Writes what is pending, and has the tape keep all. If there is nothing to be written or kept, it does nothing.
+    pub fn commit(&mut self) -> Result<(), TapeFailed>
+        requires sound { self.old.broken ≡ false }
+        ensures keeps { (closed : List (List ℕ)) (text : List ℕ) (sure : ℕ) → Has self.old closed text sure →
+            Keeps result self.new closed text sure }
+        ensures pending { OnOk result (self.new.pending ≡ []) }
+        ensures kept { OnOk result (AllKept self.new.holds) }
+        ensures fault { self.new.broken ≡ is_err result }
+    {
+        self.write_all()?;
+        self.keep_all()
+    }
+
+    /// Begins the next file, behind what is kept.
+    fn begin_file(&mut self) -> Result<(), TapeFailed>
+        requires sound { self.old.broken ≡ false }
+        requires pending { self.old.pending ≡ [] }
+        requires kept { AllKept self.old.holds }
+        ensures closes { (closed : List (List ℕ)) (text : List ℕ) → Has self.old closed text (length text) →
+            Closes result self.new closed text }
+        ensures pending { self.new.pending ≡ [] }
+        ensures fault { self.new.broken ≡ is_err result }
+    {
+        self.is_synced = false;
+        self.tape.begin_next()
+    }
+
+    /// Keeps all, closes the last file, and begins the next one.
+    pub fn begin_next(&mut self) -> Result<(), TapeFailed>
+        requires sound { self.old.broken ≡ false }
+        ensures closes { (closed : List (List ℕ)) (text : List ℕ) → Has self.old closed text (length text) →
+            Closes result self.new closed text }
+        ensures pending { OnOk result (self.new.pending ≡ []) }
+        ensures fault { self.new.broken ≡ is_err result }
+    {
+        self.commit()?;
+        self.begin_file()
     }
 }

@@ -1,6 +1,6 @@
 //! A tape in memory, for tests.
 ghost use Rattle.std.specs.Prelude.{◌≡◌, ◌+◌, ◌^◌, ◌<◌, [], false, true, Some};
-ghost use Rattle.xs_tape.specs.MemoryTape.{tape_bytes};
+ghost use Rattle.xs_tape.specs.MemoryTape.{bytes_of, tape_bytes};
 
 use crate::tape::{Tape, TapeFailed};
 use std::alloc::Global;
@@ -8,6 +8,8 @@ use std::alloc::Global;
 /// A tape in memory that answers so many calls, and fails at the next. The call that fails writes nothing.
 #[derive(Drop)]
 pub struct MemoryTape {
+    alloc: Global,
+    closed: Vec<Vec<u8>>,
     bytes: Vec<u8>,
     kept: usize,
     calls_left: u64,
@@ -17,10 +19,12 @@ pub struct MemoryTape {
 impl MemoryTape {
     /// An empty tape that answers so many calls.
     pub fn new(alloc: Global, calls_left: u64) -> Self
-        ensures holds { ⟦<MemoryTape as Tape>⟧.holds result ≡ Some (record { written = []; kept = 0 }) }
+        ensures holds { ⟦<MemoryTape as Tape>⟧.holds result ≡ Some (record { closed = []; written = []; kept = 0 }) }
         ensures broken { ⟦<MemoryTape as Tape>⟧.broken result ≡ false }
     {
         Self {
+            alloc,
+            closed: Vec::new(alloc),
             bytes: Vec::new(alloc),
             kept: 0,
             calls_left,
@@ -28,7 +32,14 @@ impl MemoryTape {
         }
     }
 
-    /// The bytes that were written.
+    /// The bytes of the closed files.
+    pub fn closed(&self) -> &[Vec<u8>]
+        ensures { bytes_of result.now ≡ (tape_bytes self.now).closed }
+    {
+        &self.closed
+    }
+
+    /// The bytes that were written to the last file.
     pub fn bytes(&self) -> &[u8]
         ensures { result.now ≡ (tape_bytes self.now).written }
     {
@@ -44,6 +55,7 @@ impl MemoryTape {
 
     /// Takes a call, or breaks.
     fn takes_call(&mut self) -> bool
+        ensures closed { self.new.closed ≡ self.old.closed }
         ensures bytes { self.new.bytes ≡ self.old.bytes }
         ensures kept { self.new.kept ≡ self.old.kept }
         ensures broken { result ≡ false → self.new.broken ≡ true }
@@ -79,6 +91,23 @@ impl Tape for MemoryTape {
             return Err(TapeFailed);
         }
         self.kept = self.bytes.len();
+        Ok(())
+    }
+
+    fn begin_next(&mut self) -> Result<(), TapeFailed> {
+        if !self.takes_call() {
+            return Err(TapeFailed);
+        }
+        let Ok(bytes) = Vec::from_slice(self.alloc, &self.bytes) else {
+            self.broken = true;
+            return Err(TapeFailed);
+        };
+        if self.closed.push(bytes).is_err() {
+            self.broken = true;
+            return Err(TapeFailed);
+        }
+        self.bytes.clear();
+        self.kept = 0;
         Ok(())
     }
 

@@ -4,12 +4,13 @@
 #[derive(Clone, Copy, Debug, PartialEq, Eq)]
 pub struct TapeFailed;
 
-/// A file that bytes are appended to, none of them zero. A crash may leave of it what `CrashLeaves` says. Once a call
-/// has failed nothing more may be asked of it: the system may have dropped what it didn't write.
+/// Files, one after the other, of which the last one is appended to, and the others are closed. No byte is zero. A
+/// crash may leave of the last one what `CrashLeaves` says. Once a call has failed nothing more may be asked of it:
+/// the system may have dropped what it didn't write.
 pub trait Tape {
     ghost use Rattle.std.specs.Prelude.{◌≡◌, ℕ, List, Bool, false, length, Option, IfSome, is_err};
     ghost use Rattle.xs_tape.specs.Crash.{HasNoZero};
-    ghost use Rattle.xs_tape.specs.Tape.{TapeBytes, Appends, Syncs};
+    ghost use Rattle.xs_tape.specs.Tape.{TapeBytes, Appends, Syncs, BeginsNext, AllKept};
 
     /// What it holds, where the tape tells it.
     ghost holds: { Self → Option TapeBytes };
@@ -30,7 +31,14 @@ pub trait Tape {
         ensures bytes { Syncs result (holds self.old) (holds self.new) }
         ensures fault { broken self.new ≡ is_err result };
 
-    /// How many bytes were written.
+    /// Closes the last file, and begins an empty one behind it, which a crash doesn't take away.
+    fn begin_next(&mut self) -> Result<(), TapeFailed>
+        requires sound { broken self.old ≡ false }
+        requires kept { AllKept (holds self.old) }
+        ensures bytes { BeginsNext result (holds self.old) (holds self.new) }
+        ensures fault { broken self.new ≡ is_err result };
+
+    /// How many bytes the last file has.
     fn size(&self) -> u64
         ensures { IfSome (holds self.now) (λ bytes. result ≡ length bytes.written) };
 }

@@ -7,7 +7,7 @@ use std::alloc::{AllocError, Global};
 use std::sync::Wait;
 use xs_command::Command;
 use xs_desk::{Answer, Client};
-use xs_desk_trial::{Job, MOST_TURNS, text_of};
+use xs_testing::{Job, MOST_TURNS, text_of};
 use xs_stream::Moment;
 
 /// What was told of a call.
@@ -106,7 +106,7 @@ impl Asking {
 }
 
 impl Job for Asking {
-    #[tactic(auto, using(xs_desk_trial::proofs::Sides::steps))]
+    #[tactic(auto, using(xs_testing::proofs::Sides::steps))]
     fn run<R: Wait>(&mut self, rt: &R, client: Client) -> Client {
         let mut client = client;
         for _ in 0..MOST_TURNS {

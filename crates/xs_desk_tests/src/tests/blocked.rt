@@ -5,8 +5,7 @@ use std::test::Fail;
 use std::thread;
 use std::time::Duration;
 use xs_desk::{Client, Keeper};
-use xs_desk_trial::{read, text_of};
-use xs_fakes::Still;
+use xs_testing::{Still, read, text_of};
 
 const READ: &str = "XREADGROUP GROUP g c COUNT 1 BLOCK 0 STREAMS s >";
 

@@ -5,8 +5,7 @@ use std::thread;
 use std::time::Duration;
 use xs_command::Command;
 use xs_desk::{Client, Keeper, Lane, Port, PortFault, desk};
-use xs_desk_trial::MOST_TURNS;
-use xs_fakes::Still;
+use xs_testing::{Still, MOST_TURNS};
 use xs_resp::{Reply, Simple};
 
 /// Asks until it is told that the keeper is gone, and once more. It says how many calls were answered before.

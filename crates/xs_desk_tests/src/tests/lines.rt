@@ -5,7 +5,7 @@ ghost use Rattle.xs_command.specs.WellFormed.{IsWellFormed};
 use std::alloc::{AllocError, Global};
 use xs_bytes::Bytes;
 use xs_command::{Command, Refusal};
-use xs_desk_trial::{read, read_words};
+use xs_testing::{read, read_words};
 
 /// A line, or the seed of one.
 #[derive(Clone, Copy, Drop)]

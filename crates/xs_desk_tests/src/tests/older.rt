@@ -6,8 +6,7 @@ use std::thread;
 use std::time::{Clock, Duration};
 use xs_command::Command;
 use xs_desk::{Client, Lane, Port, desk};
-use xs_desk_trial::read;
-use xs_fakes::Still;
+use xs_testing::{Still, read};
 use xs_resp::{Reply, Simple};
 
 /// Whether so many times a PING without a message is answered as such, over a lane with this client.

@@ -7,7 +7,7 @@ use std::sync::Wait;
 use std::thread::Threads;
 use xs_command::Refusal;
 use xs_desk::Summary;
-use xs_desk_trial::{Trial, text_of};
+use xs_testing::{Trial, text_of};
 use xs_keys::{Clock, Keyspace};
 use xs_resp::Reply;
 use xs_stream::Moment;

@@ -3,8 +3,7 @@ use std::alloc::Global;
 use std::process::Abort;
 use std::test::Fail;
 use xs_desk::{DeskError, Full, LaneSummary, desk, next_place};
-use xs_desk_trial::{Trial, read, text_of};
-use xs_fakes::Still;
+use xs_testing::{Still, Trial, read, text_of};
 use xs_resp::Reply;
 
 /// The summary of a lane.

@@ -4,7 +4,7 @@ use std::sync::Wait;
 use std::test::Fail;
 use xs_command::Refusal;
 use xs_desk::{Client, Lane, Port};
-use xs_desk_trial::{Job, Trial, read};
+use xs_testing::{Job, Trial, read};
 use xs_keys::Clock;
 use xs_resp::Reply;
 use xs_stream::Moment;
@@ -35,7 +35,7 @@ struct Adding {
 }
 
 impl Job for Adding {
-    #[tactic(auto, using(xs_desk_trial::proofs::Sides::steps))]
+    #[tactic(auto, using(xs_testing::proofs::Sides::steps))]
     fn run<R: Wait>(&mut self, rt: &R, client: Client) -> Client {
         let mut lane = Lane::new(client);
         for _ in 0..TIMES {

@@ -7,8 +7,7 @@ use std::sync::Wait;
 use std::test::Fail;
 use std::thread::Threads;
 use xs_command::Refusal;
-use xs_desk_trial::{Trial, read, text_of};
-use xs_fakes::Still;
+use xs_testing::{Still, Trial, read, text_of};
 use xs_keys::Keyspace;
 
 /// The read of each lane.

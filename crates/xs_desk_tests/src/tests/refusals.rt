@@ -6,8 +6,7 @@ use std::test::Fail;
 use std::thread;
 use xs_command::Command;
 use xs_desk::{DeskError, Full, Lane, LaneSummary, Port, PortFault, desk};
-use xs_desk_trial::Trial;
-use xs_fakes::Still;
+use xs_testing::{Still, Trial};
 use xs_resp::{Reply, Simple};
 
 /// More turns that find nothing than a keeper makes until it parks.

@@ -3,8 +3,7 @@
 use std::process::Abort;
 use std::test::Fail;
 use xs_command::Command;
-use xs_desk_trial::{Trial, read};
-use xs_fakes::Still;
+use xs_testing::{Still, Trial, read};
 
 /// More calls than others have until a lane is at rest.
 const MANY: u64 = 200;

@@ -119,7 +119,7 @@ fn has_whole_records<R: Abort>(
 }
 
 /// This many bytes of a log, and behind them zeros.
-fn with_zeros(alloc: Global, bytes: &[u8], size: usize) -> Result<Vec<u8>, Fail> {
+pub fn with_zeros(alloc: Global, bytes: &[u8], size: usize) -> Result<Vec<u8>, Fail> {
     let mut file = Vec::new(alloc);
     for (place, byte) in bytes.iter().enumerate() {
         file.push(if place < size { *byte } else { 0 })?;

@@ -31,4 +31,4 @@ returns c =
     sym c.loop-key.invariant.3
     ∙ ap (λ keys. with_front reads (each_from keys c.loop-key.starts)) none
     ∙ ends reads c.loop-key.starts
-    ∙ ap Ok (sym c.new.ensures)
+    ∙ ap Ok (sym c.many.ensures)

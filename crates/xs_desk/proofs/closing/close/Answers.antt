@@ -1,11 +1,16 @@
-use Rattle.std.proofs.Common.{subst, ap}
-use Rattle.xs_bytes.specs.SortedMap.{empty}
+use Rattle.std.specs.Prelude.{IsFalse}
+use Rattle.std.proofs.Common.{rules, arith, ◌≡◌, false, List, subst, ap, refl}
+use Rattle.xs_resp.specs.declared.reply.Reply.{Reply}
+use Rattle.xs_keys.specs.Event.{History}
 use Rattle.xs_keys.specs.Content.{Content}
 use Rattle.xs_keys.specs.Headline.{RunsOn}
 use Rattle.xs_desk.specs.History.{Desk, events_of, replies_of}
 use Rattle.xs_desk.specs.Closing.{AreEven}
 use Rattle.xs_desk.proofs.Histories.{history-even}
 use Rattle.xs_desk.proofs.closing.close.Goals as goal
+
+runs-of : (old start new left : Content) (events : History) (replies : List Reply) → old ≡ start → new ≡ left → RunsOn old events replies new → RunsOn start events replies left
+runs-of old start new left events replies begins ends runs = subst (λ c. RunsOn c events replies left) begins (subst (λ c. RunsOn old events replies c) ends runs)
 
 pub sum_up_all-requires-clause-even : goal.sum_up_all-requires-clause-even
 sum_up_all-requires-clause-even c =
@@ -16,4 +21,11 @@ pub returns-clause-history : goal.returns-clause-history
 returns-clause-history c =
     let h = c.into_parts-lane_ends.ensures.history in
     let left = ap (λ (d : Desk). d.keyspace) c.into_parts-lane_ends.ensures.parts.1 in
-    (h.0, h.1, subst (λ (k : Content). RunsOn empty (events_of h.0) (replies_of h.0) k) left h.1.runs)
+    let start = ap (λ (d : Desk). d.start) c.into_parts-lane_ends.ensures.parts.1 in
+    (h.0, h.1, runs-of _ _ _ _ (events_of h.0) (replies_of h.0) start left h.1.runs)
+
+pub returns-then-not-has_all-clause-refused : goal.returns-then-not-has_all-clause-refused
+returns-then-not-has_all-clause-refused c =
+    let so : IsFalse false = search rules in
+    let missing = c.if-not-has_all.ensures.no so in
+    (refl, refl, (missing.0, omega (arith, missing.1, c.lanes-count.ensures), missing.2))

@@ -5,5 +5,5 @@ use Rattle.xs_desk.proofs.lane.submit.Given as goal
 abbrev pub invariant-loop : goal.invariant-loop
 invariant-loop g l = record {
   taken : Takes l.fn.client l.client;
-  same : l.command ≡ l.fn.command;
+  same : l.call ≡ l.fn.call;
 }

@@ -2,7 +2,7 @@ use Rattle.std.proofs.Common.{ap, ◌∙◌, length, take}
 use Rattle.std.specs.Option.{option_map}
 use Rattle.xs_tape.specs.Crash.{before_zero}
 use Rattle.xs_tape.specs.Records.{spellings}
-use Rattle.xs_log.proofs.Crashed.{part-left, recovered}
+use Rattle.xs_log.proofs.Crashed.{part-left, recovered, of-events}
 use Rattle.xs_log.proofs.last.read_last_log.Goals as goal
 
 pub returns-clause-err : goal.returns-clause-err
@@ -14,3 +14,6 @@ pub returns-clause-ok : goal.returns-clause-ok
 returns-clause-ok g c = λ events kept left is known.
     recovered c.read_log.result c.args.number _ _ c.args.recovered.now.keyspace c.read_log.new.recovered.keyspace c.args.recovered.now.last c.read_log.new.recovered.last is.requests events kept left is.spelled is.is_log is.within is.leaves
     (c.new-before.ensures.rest ∙ ap (option_map before_zero) known) c.read_log.ensures.ok
+
+pub returns-clause-content : goal.returns-clause-content
+returns-clause-content g c = of-events c.read_log.result c.args.number _ _ c.args.recovered.now.keyspace c.read_log.new.recovered.keyspace c.args.recovered.now.last c.read_log.new.recovered.last c.read_log.ensures.ok

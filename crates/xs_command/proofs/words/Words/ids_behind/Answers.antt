@@ -6,7 +6,7 @@ use Rattle.xs_command.proofs.words.Words.ids_behind.Goals as goal
 pub returns-in_default : goal.returns-in_default
 returns-in_default c =
     let none : id_of_word c.loop-turn.left ≡ Err c.in_default.field-0 = cc in
-    rw (c.new.ensures, c.shrink_to_fit.ensures.items) (sym (stops_at c.loop-turn.items.items c.loop-turn.left c.in_default.field-0 none) ∙ c.loop-turn.invariant.0)
+    rw (c.many.ensures, c.shrink_to_fit.ensures.items) (sym (stops_at c.loop-turn.items.items c.loop-turn.left c.in_default.field-0 none) ∙ c.loop-turn.invariant.0)
 
 pub loop-turn-preserved : goal.loop-turn-preserved
 loop-turn-preserved c =
@@ -17,4 +17,4 @@ loop-turn-preserved c =
 pub returns : goal.returns
 returns c =
     let none : length c.loop-turn.left ≤ 0 = omega (arith, c.loop-turn.invariant.1) in
-    rw c.new-2.ensures (sym (ends c.loop-turn.items.items c.loop-turn.left none) ∙ c.loop-turn.invariant.0)
+    rw c.many-2.ensures (sym (ends c.loop-turn.items.items c.loop-turn.left none) ∙ c.loop-turn.invariant.0)

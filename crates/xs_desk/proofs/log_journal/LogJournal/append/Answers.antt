@@ -1,0 +1,22 @@
+use Rattle.std.proofs.Common.{rules, ◌≡◌, ◌<◌, ◌^◌, subst, sym}
+use Rattle.xs_desk.specs.Calls.{AreWordsOf}
+use Rattle.xs_desk.proofs.LogSteps.{can-be-spelled, words-of, appended}
+use Rattle.xs_desk.proofs.log_journal.LogJournal.append.Goals as goal
+
+pub note-requires-clause-short : goal.note-requires-clause-short
+note-requires-clause-short g c =
+    let small : c.args.moment < 2 ^ 63 = search rules in
+    let words = subst (λ ws. AreWordsOf ws c.args.call.now.command) (sym c.as_slice.ensures) (words-of c.args.call.now.words c.in-Some.words c.args.call.now.command c.in-Some.is c.requires.words) in
+    can-be-spelled c.args.moment c.as_slice.result.now c.args.call.now.command small words
+
+pub returns-then-is_err-clause-noted : goal.returns-then-is_err-clause-noted
+returns-then-is_err-clause-noted g c =
+    let words = subst (λ ws. AreWordsOf ws c.args.call.now.command) (sym c.as_slice.ensures) (words-of c.args.call.now.words c.in-Some.words c.args.call.now.command c.in-Some.is c.requires.words) in
+    appended g.L.EventLog.has c.args.self.now.log c.note.new.self c.args.self.now.failed _ c.args.self.now.start.value (c.args.moment, c.args.call.now.command) c.if-self.false
+    (λ events kept h. c.note.ensures.noted c.args.call.now.command events kept words.say c.requires.command h)
+
+pub returns-else-is_err-clause-noted : goal.returns-else-is_err-clause-noted
+returns-else-is_err-clause-noted g c =
+    let words = subst (λ ws. AreWordsOf ws c.args.call.now.command) (sym c.as_slice.ensures) (words-of c.args.call.now.words c.in-Some.words c.args.call.now.command c.in-Some.is c.requires.words) in
+    appended g.L.EventLog.has c.args.self.now.log c.note.new.self c.args.self.now.failed _ c.args.self.now.start.value (c.args.moment, c.args.call.now.command) c.if-self.false
+    (λ events kept h. c.note.ensures.noted c.args.call.now.command events kept words.say c.requires.command h)

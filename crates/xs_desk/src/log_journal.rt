@@ -1,0 +1,125 @@
+//! A desk with a log.
+ghost use Rattle.std.specs.Prelude.{◌≡◌, false};
+ghost use Rattle.xs_replay.specs.Calls.{only_reads, is_left_out};
+
+use crate::answer::Call;
+use crate::journal::Journal;
+use std::snapshot::Snapshot;
+use xs_command::Command;
+use xs_keys::Keyspace;
+use xs_replay::{EventLog, LogFailed};
+use xs_resp::Reply;
+use xs_stream::Moment;
+
+/// The journal of a desk with a log: calls that may have changed something are noted, and answers wait until the log
+/// keeps what they tell.
+#[derive(Drop)]
+pub struct LogJournal<L: EventLog + Drop> {
+    log: L,
+    // Nothing more may be asked of the log.
+    failed: bool,
+    start: Snapshot<Keyspace>,
+    ghost sound: { failed ≡ false → L.broken log ≡ false },
+}
+
+/// Whether a command only reads.
+fn reads(command: &Command) -> bool
+    ensures { result ≡ only_reads command.now }
+{
+    matches!(
+        command,
+        Command::Ping(_)
+            | Command::Quit
+            | Command::Len { .. }
+            | Command::Scan(_)
+            | Command::Pending { .. }
+            | Command::PendingRows(_)
+    )
+}
+
+/// Whether a log leaves out a call with this reply: it only reads, or was refused.
+fn may_be_left_out(command: &Command, reply: &Reply) -> bool
+    ensures { result ≡ is_left_out command.now reply.now }
+{
+    reads(command) || matches!(reply, Reply::Error(_))
+}
+
+impl<L: EventLog + Drop> LogJournal<L> {
+    ghost use Rattle.std.specs.Prelude.{◌≡◌, ◌++◌, ◌∷◌, [], ℕ, List, length, false};
+    ghost use Rattle.xs_keys.specs.Event.{Event};
+    ghost use Rattle.xs_desk.specs.Calls.{IsFormed};
+    ghost use Rattle.xs_desk.specs.LogJournals.{HasEvents, ContinuesLog};
+
+    /// A journal that goes on behind the events of a log, of which the keyspace has the content.
+    pub(crate) fn new(log: L, keyspace: &Keyspace) -> LogJournal<L>
+        requires log { ContinuesLog L.has log keyspace.now }
+        requires sound { L.broken log ≡ false }
+        ensures has { HasEvents L.has result.log result.failed result.start.value [] 0 }
+        ensures start { result.start.value ≡ keyspace.now }
+    {
+        LogJournal {
+            log,
+            failed: false,
+            start: Snapshot::of(keyspace),
+        }
+    }
+
+    /// Whether nothing more may be asked of the log.
+    pub(crate) fn has_failed(&self) -> bool {
+        self.failed
+    }
+
+    /// Appends the event of a call to the log. If that can't be done the log has failed.
+    fn append(&mut self, moment: Moment, call: &Call)
+        requires { IsFormed call.now }
+        ensures noted { (events : List Event) (kept : ℕ) →
+            HasEvents L.has self.old.log self.old.failed self.old.start.value events kept →
+            HasEvents L.has self.new.log self.new.failed self.new.start.value
+            (events ++ (moment, call.now.command) ∷ []) kept }
+        ensures start { self.new.start.value ≡ self.old.start.value }
+    {
+        if self.failed {
+            return;
+        }
+        let Some(words) = &call.words else {
+            self.failed = true;
+            return;
+        };
+        if self.log.note(moment, words.as_slice()).is_err() {
+            self.failed = true;
+        }
+    }
+}
+
+impl<L: EventLog + Drop> Journal for LogJournal<L> {
+    ghost use Rattle.xs_desk.specs.LogJournals.{HasEvents};
+
+    ghost has = { λ journal. HasEvents L.has journal.log journal.failed journal.start.value };
+
+    ghost start = { λ journal. journal.start.value };
+
+    fn holds_back() -> bool {
+        true
+    }
+
+    fn note(&mut self, moment: Moment, call: &Call, reply: &Reply, in_vain: bool) {
+        if in_vain {
+            return;
+        }
+        if may_be_left_out(&call.command, reply) {
+            return;
+        }
+        self.append(moment, call);
+    }
+
+    fn keep(&mut self) -> Result<(), LogFailed> {
+        if self.failed {
+            return Err(LogFailed);
+        }
+        if self.log.keep().is_err() {
+            self.failed = true;
+            return Err(LogFailed);
+        }
+        Ok(())
+    }
+}

@@ -1,5 +1,0 @@
-use Rattle.xs_desk.proofs.Keeps.{ends-new}
-use Rattle.xs_desk_trial.proofs.trial.Trial.wide.Goals as goal
-
-pub invariant_of-result : goal.invariant_of-result
-invariant_of-result c = ends-new _ _ _ c.in_ok-keeper.ensures.new.0

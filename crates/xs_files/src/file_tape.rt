@@ -1,0 +1,126 @@
+//! The files of a folder as a tape. That they are one is trusted: no contract can say what a file holds.
+ghost use Rattle.std.specs.Prelude.{◌≡◌, None, false, is_err};
+
+use crate::folder::sync_folder;
+use crate::names::log_path;
+use crate::syncing::SyncPolicy;
+use std::alloc::Global;
+use std::fs::{File, OpenOptions};
+use std::io::Write;
+use std::rt::Files;
+use xs_tape::{Tape, TapeFailed};
+
+/// The logs of a folder. The last one is open, and the folder is locked.
+#[derive(Drop)]
+pub struct FileTape<R: Files<File = File> + Copy + Drop> {
+    rt: R,
+    alloc: Global,
+    folder: String,
+    // It is held for the lock that goes with it.
+    lock: File,
+    file: File,
+    number: u64,
+    size: u64,
+    policy: SyncPolicy,
+    broken: bool,
+}
+
+/// Makes a log's file, whose name is kept.
+pub fn make_log<R: Files<File = File>>(
+    rt: &R,
+    alloc: Global,
+    folder: &str,
+    number: u64,
+) -> Result<File, TapeFailed> {
+    let Ok(path) = log_path(alloc, folder, number) else {
+        return Err(TapeFailed);
+    };
+    let Ok(file) = OpenOptions::new()
+        .append(true)
+        .create_new(true)
+        .open(rt, path.as_str())
+    else {
+        return Err(TapeFailed);
+    };
+    match sync_folder(rt, folder) {
+        Ok(()) => Ok(file),
+        Err(_) => Err(TapeFailed),
+    }
+}
+
+impl<R: Files<File = File> + Copy + Drop> FileTape<R> {
+    /// The tape whose last file, open to be appended to, has this number and so many bytes.
+    pub fn new(
+        rt: &R,
+        alloc: Global,
+        folder: String,
+        lock: File,
+        file: File,
+        number: u64,
+        size: u64,
+        policy: SyncPolicy,
+    ) -> Self
+        ensures broken { ⟦<FileTape<R> as Tape>⟧.broken result ≡ false }
+        ensures holds { ⟦<FileTape<R> as Tape>⟧.holds result ≡ None }
+    {
+        Self {
+            rt: *rt,
+            alloc,
+            folder,
+            lock,
+            file,
+            number,
+            size,
+            policy,
+            broken: false,
+        }
+    }
+}
+
+impl<R: Files<File = File> + Copy + Drop> Tape for FileTape<R> {
+    ghost holds = { λ tape. None };
+
+    ghost broken = { λ tape. tape.broken };
+
+    fn append(&mut self, bytes: &[u8]) -> Result<(), TapeFailed> {
+        if self.file.write_all(bytes).is_err() {
+            self.broken = true;
+            return Err(TapeFailed);
+        }
+        self.size = self.size.saturating_add(bytes.len() as u64);
+        Ok(())
+    }
+
+    fn sync(&mut self) -> Result<(), TapeFailed> {
+        if self.policy == SyncPolicy::Always && self.file.sync_data().is_err() {
+            self.broken = true;
+            return Err(TapeFailed);
+        }
+        Ok(())
+    }
+
+    fn begin_next(&mut self) -> Result<(), TapeFailed> {
+        // Whatever the policy: only the last log may lose its end.
+        if self.file.sync_data().is_err() {
+            self.broken = true;
+            return Err(TapeFailed);
+        }
+        let number = self.number.saturating_add(1);
+        match make_log(&self.rt, self.alloc, self.folder.as_str(), number) {
+            Ok(file) => {
+                self.file = file;
+                self.number = number;
+                self.size = 0;
+                Ok(())
+            }
+            Err(fault) => {
+                self.broken = true;
+                Err(fault)
+            }
+        }
+    }
+
+    fn size(&self) -> u64 {
+        self.size
+    }
+}

@@ -1,0 +1,90 @@
+//! The folder itself: it is made if it is missing, and locked.
+use crate::fault::FolderFault;
+use crate::names::{LOCK, path_in};
+use std::alloc::Global;
+use std::fs::{self, File, OpenOptions, TryLockError};
+use std::io::ErrorKind;
+use std::path::Path;
+use std::rt::Files;
+
+/// Has the system keep the names in a folder.
+pub fn sync_folder<R: Files<File = File>>(rt: &R, folder: &str) -> Result<(), ErrorKind> {
+    let opened = match File::open(rt, folder) {
+        Ok(opened) => opened,
+        Err(error) => return Err(error.kind()),
+    };
+    match opened.sync_all() {
+        Ok(()) => Ok(()),
+        Err(error) => Err(error.kind()),
+    }
+}
+
+/// The folder above.
+fn above(folder: &str) -> &str {
+    match Path::new(folder).parent() {
+        Some(parent) if !parent.as_str().is_empty() => parent.as_str(),
+        _ => ".",
+    }
+}
+
+/// Makes a folder, whose name is kept.
+fn make<R: Files<File = File>>(rt: &R, folder: &str) -> Result<(), FolderFault> {
+    if fs::symlink_metadata(rt, folder).is_ok() {
+        return Err(FolderFault::LinkToNothing);
+    }
+    match fs::create_dir(rt, folder) {
+        Ok(()) => {}
+        Err(error) if error.kind() == ErrorKind::NotFound => return Err(FolderFault::NoParent),
+        Err(error) => return Err(FolderFault::Unwritable(error.kind())),
+    }
+    match sync_folder(rt, above(folder)) {
+        Ok(()) => Ok(()),
+        Err(kind) => Err(FolderFault::Unwritable(kind)),
+    }
+}
+
+/// Makes a folder if only it is missing.
+pub fn make_if_missing<R: Files<File = File>>(rt: &R, folder: &str) -> Result<(), FolderFault> {
+    match fs::metadata(rt, folder) {
+        Ok(found) if found.is_dir() => Ok(()),
+        Ok(_) => Err(FolderFault::NoFolder),
+        Err(error) if error.kind() == ErrorKind::NotFound => make(rt, folder),
+        Err(error) if error.kind() == ErrorKind::NotADirectory => Err(FolderFault::NoParent),
+        Err(error) => Err(FolderFault::Unreadable(error.kind())),
+    }
+}
+
+/// Whether a path leads to something else than a file. An open of that might wait.
+pub fn is_no_file<R: Files>(rt: &R, path: &str) -> bool {
+    match fs::metadata(rt, path) {
+        Ok(found) => !found.is_file(),
+        Err(_) => false,
+    }
+}
+
+/// Takes the lock of a folder. The system gives it back when the file is closed.
+pub fn take_lock<R: Files<File = File>>(
+    rt: &R,
+    alloc: Global,
+    folder: &str,
+) -> Result<File, FolderFault> {
+    let Ok(path) = path_in(alloc, folder, LOCK) else {
+        return Err(FolderFault::Memory);
+    };
+    if is_no_file(rt, path.as_str()) {
+        return Err(FolderFault::NoLockFile);
+    }
+    let file = match OpenOptions::new()
+        .append(true)
+        .create(true)
+        .open(rt, path.as_str())
+    {
+        Ok(file) => file,
+        Err(error) => return Err(FolderFault::Unwritable(error.kind())),
+    };
+    match file.try_lock() {
+        Ok(()) => Ok(file),
+        Err(TryLockError::WouldBlock) => Err(FolderFault::InUse),
+        Err(TryLockError::Error(error)) => Err(FolderFault::Unwritable(error.kind())),
+    }
+}

@@ -1,0 +1,17 @@
+//! A folder of logs on a file system.
+#![tactic(auto)]
+
+pub mod fault;
+pub mod file_tape;
+pub mod folder;
+pub mod last_log;
+pub mod listing;
+pub mod log_file;
+pub mod names;
+pub mod opening;
+pub mod syncing;
+
+pub use fault::FolderFault;
+pub use file_tape::FileTape;
+pub use opening::{OpenedFolder, open_folder};
+pub use syncing::SyncPolicy;

@@ -1,0 +1,4 @@
+//! Tests of folders of logs.
+mod bad_folders;
+mod noting;
+mod restarts;

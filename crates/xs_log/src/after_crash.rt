@@ -1,0 +1,41 @@
+//! What a crash has left of the logs on a tape.
+ghost use Rattle.std.specs.Prelude.{◌≡◌, ℕ, List, Bool, None, Some, map, IfOk, MatchResult};
+ghost use Rattle.xs_bytes.specs.SortedMap.{empty};
+ghost use Rattle.xs_replay.specs.After.{contents_after, moment_after};
+ghost use Rattle.xs_keys.specs.Event.{Event};
+ghost use Rattle.xs_tape.specs.Crash.{CrashLeaves};
+ghost use Rattle.xs_tape.specs.Tape.{TapeBytes};
+ghost use Rattle.xs_log.specs.Fault.{IsWant};
+ghost use Rattle.xs_log.specs.Restart.{Restarts};
+ghost use Rattle.xs_log.specs.TapeLog.{IsLogOnTape};
+
+use crate::logs::{LogsFault, recover};
+use crate::reading::{Extent, Recovered};
+use std::alloc::Global;
+use xs_devices::Source;
+
+/// Reads the files of a tape, the closed ones and the last one. It gives what their events leave, and how far the last
+/// one goes: there it has to be cut before events are noted again.
+///
+/// # Errors
+/// A `LogsFault`.
+pub fn restart<R: Source + Drop>(
+    alloc: Global,
+    closed: Vec<R>,
+    last: R,
+) -> Result<(Recovered, Extent), LogsFault>
+    // The content is that of some events.
+    ensures content { IfOk result (λ found. (events : List Event)
+        × (found.0.keyspace ≡ contents_after empty events) × (found.0.last ≡ moment_after None events)) }
+    // Whatever a crash has left of the logs that a tape had is read, unless memory, a reader or a number of 64 bits runs
+    // out. It gives the first of their events, all that were kept among them.
+    ensures read { (broken : Bool) (number : ℕ) (pending : List ℕ) (tape : TapeBytes) (events : List Event) (kept : ℕ)
+        (file : List ℕ) → IsLogOnTape broken number pending tape events kept →
+        CrashLeaves tape.kept tape.written file →
+        map R.rest closed.items ≡ map (λ bytes. Some bytes) tape.closed → R.rest last ≡ Some file →
+        MatchResult result
+        (λ found. Restarts tape events kept file found.0.keyspace found.0.last found.1.whole)
+        (λ refusal. IsWant refusal.fault) }
+{
+    recover(alloc, 1, closed, last)
+}

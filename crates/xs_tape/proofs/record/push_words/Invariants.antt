@@ -1,7 +1,0 @@
-use Rattle.std.proofs.Common.{◌≡◌, ◌++◌, map, take}
-use Rattle.xs_resp.specs.Grammar.{sent_words}
-use Rattle.xs_tape.specs.Escape.{escaped}
-use Rattle.xs_tape.proofs.record.push_words.Given as goal
-
-abbrev pub invariant-loop-word : goal.invariant-loop-word
-invariant-loop-word l = l.out.items ≡ l.fn.out.items ++ sent_words (map escaped (take l.word-index l.words))
