@@ -136,7 +136,7 @@ module _ {J : Type 0} (has : J → List Event → ℕ → Type 0) where
       (old new start begin : Content) (place next : ℕ) → begin ≡ start
       → ((history : List ServedCall) × IsHistory history (desk_of ends old place start) × IsDurable has history ends start old before)
       → MatchResult r (λ n. NotesTurn has gives (desk_of ends old place start) clock before ends n high (desk_of others new next start) later after others)
-        (λ _. (n : ℕ) × NotesTurn has gives (desk_of ends old place start) clock before ends n high (desk_of others new next start) later after others × Z)
+      (λ _. (n : ℕ) × NotesTurn has gives (desk_of ends old place start) clock before ends n high (desk_of others new next start) later after others × Z)
       → (history : List ServedCall) × IsHistory history (desk_of others new next begin) × IsDurable has history others begin new after
   turn-keeps gives clock before ends high later after others Z r old new start begin place next same h m =
       let t = (notes-anyhow gives (desk_of ends old place start) clock before ends high (desk_of others new next start) later after others Z r m).1 in
@@ -147,7 +147,7 @@ module _ {J : Type 0} (has : J → List Event → ℕ → Type 0) where
   pub turn-serves : {C E : Type 0} (gives : C → ℕ → C → Type 0) (old : Desk) (clock : C) (before : J) (ends : List LaneEnd) (high : ℕ) (others : List LaneEnd) (new : Content) (next : ℕ) (start begin : Content) (later : C) (after : J)
       (Z : Type 0) (r : Result ℕ E) → begin ≡ start
       → MatchResult r (λ n. NotesTurn has gives old clock before ends n high (desk_of others new next start) later after others)
-        (λ _. (n : ℕ) × NotesTurn has gives old clock before ends n high (desk_of others new next start) later after others × Z)
+      (λ _. (n : ℕ) × NotesTurn has gives old clock before ends n high (desk_of others new next start) later after others × Z)
       → MatchResult r (λ n. Turns gives old clock n high (desk_of others new next begin) later) (λ _. (n : ℕ) × Turns gives old clock n high (desk_of others new next begin) later × Z)
   turn-serves gives old clock before ends high others new next start begin later after Z r same m =
       subst (λ b. MatchResult r (λ n. Turns gives old clock n high (desk_of others new next b) later) (λ _. (n : ℕ) × Turns gives old clock n high (desk_of others new next b) later × Z)) (sym same)
@@ -164,7 +164,14 @@ module _ {J : Type 0} (has : J → List Event → ℕ → Type 0) where
 
   pub survives : (history : List ServedCall) (ends : List LaneEnd) (start content : Content) (journal : J) → IsDurable has history ends start content journal
       → (marked : List Call) × (kept : ℕ) × AreMarked marked history × Serves start marked content × has journal (log_of marked) kept × ((found : ℕ) → kept ≤ found → (settled : ℕ) × ((more : List Call) × (survivors found marked ≡ take settled marked ++ more))
-        × ((k : ℕ) (lane_end : LaneEnd) → slice_get ends k ≡ Some lane_end → IsPrefix (handed_out lane_end) (answers_of (of_lane k (take settled history)))))
-  survives history ends start content journal d = (d.marked, d.kept, d.marks, d.served, d.journal_has, λ found le.
-    let all = all-survive (take d.settled d.marked) (drop d.settled d.marked) found (omega (arith, d.are_kept, le)) in
-    (d.settled, (all.0, ap (survivors found) (sym (take-append-drop d.settled d.marked)) ∙ all.1), d.handed))
+      × ((k : ℕ) (lane_end : LaneEnd) → slice_get ends k ≡ Some lane_end → IsPrefix (handed_out lane_end) (answers_of (of_lane k (take settled history)))))
+  survives history ends start content journal d = (
+    d.marked,
+    d.kept,
+    d.marks,
+    d.served,
+    d.journal_has,
+    λ found le.
+        let all = all-survive (take d.settled d.marked) (drop d.settled d.marked) found (omega (arith, d.are_kept, le)) in
+        (d.settled, (all.0, ap (survivors found) (sym (take-append-drop d.settled d.marked)) ∙ all.1), d.handed),
+  )

@@ -41,7 +41,7 @@ module _ {C J : Type 0} (gives : C → ℕ → C → Type 0) (has : J → List E
   rests-turns high t r =
       let same = same-handed (ap (λ x. x.handed) r) in
       let handed : NotesTurn has gives old clock before ends n high (desk_of all c p b) k j (slice_set all i s') =
-          record { turns = t.turns; notes = t.notes; handed = elim t.handed [ inl h ↦ inl (same ∙ h) | inr h ↦ inr h ] } in
+      record { turns = t.turns; notes = t.notes; handed = elim t.handed [ inl h ↦ inl (same ∙ h) | inr h ↦ inr h ] } in
       subst (λ x. NotesTurn has gives old clock before ends n high x k' j' (slice_set all i s')) (sym (rests-desk r))
       (subst (λ x. NotesTurn has gives old clock before ends n high (desk_of all c p b) x j' (slice_set all i s')) (sym (ap (λ x. x.clock) r))
       (subst (λ x. NotesTurn has gives old clock before ends n high (desk_of all c p b) k x (slice_set all i s')) (sym (ap (λ x. x.journal) r)) handed))

@@ -5,6 +5,12 @@ use Rattle.xs_keys.specs.Event.{Event}
 use Rattle.xs_keys.specs.Content.{Content}
 use Rattle.xs_replay.specs.After.{contents_after}
 
+-- a log, whether nothing more may be asked of it, and what the keyspace held before the first event of this life
+pub record Logging (L : Type 0) : Type 0 where
+  pub log : L
+  pub failed : Bool
+  pub start : Content
+
 module _ {L : Type 0} (has : L → List Event → ℕ → Type 0) where
   -- a log whose events have left this content, and are kept
   pub record ContinuesLog (log : L) (content : Content) : Type 0 where

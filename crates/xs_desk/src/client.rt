@@ -29,6 +29,7 @@ pub struct Client {
     backoff: Backoff,
     // Set once nobody is served any more.
     gone: Arc<AtomicBool>,
+    wants_words: bool,
 }
 
 impl Model for Client {
@@ -78,6 +79,7 @@ impl Client {
         registration: Registration,
         backoff: Backoff,
         gone: Arc<AtomicBool>,
+        wants_words: bool,
     ) -> Client
         requires { sent calls ≡ [] }
         ensures { result ≡ caller_of lane calls answers }
@@ -90,7 +92,13 @@ impl Client {
             registration,
             backoff,
             gone,
+            wants_words,
         }
+    }
+
+    /// Whether a call has to bring the words that say its command, since the desk has a log.
+    pub fn wants_words(&self) -> bool {
+        self.wants_words
     }
 
     /// Submits a command, and wakes the keeper if it sleeps. It answers the ticket: 0, 1, 2, .. in this lane. It takes

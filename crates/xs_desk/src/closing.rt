@@ -59,7 +59,8 @@ fn sum_up(lane_end: &mut LaneEnd, end: &mut Ended) -> LaneSummary
     ensures summary { SumsUp (lane_of lane_end.old) end.old result }
 {
     let left = lane_end.calls.slots_beside(&mut end.calls);
-    let untaken = end.answers.slots_beside(&mut lane_end.answers.ring) + lane_end.answers.held_back.len();
+    let untaken = end.answers.slots_beside(&mut lane_end.answers.ring)
+        + lane_end.answers.held_back.len();
     LaneSummary {
         served: lane_end.ticket,
         left: left as u64,

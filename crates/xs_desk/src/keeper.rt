@@ -296,6 +296,11 @@ impl<L: EventLog + Drop> Keeper<LogJournal<L>> {
     pub fn has_failed(&self) -> bool {
         self.journal.has_failed()
     }
+
+    /// How many events its log is known to keep, beyond those that it had at first.
+    pub fn events_kept(&self) -> u64 {
+        self.journal.events_kept()
+    }
 }
 
 impl Keeper {

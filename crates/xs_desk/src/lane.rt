@@ -32,8 +32,6 @@ pub struct Lane<P: Drop = Idle> {
     client: Client,
     pause: P,
     gone: bool,
-    // Each call brings the words that say its command.
-    says_words: bool,
 }
 
 impl<P: Drop> Model for Lane<P> {
@@ -66,25 +64,6 @@ impl<P: Drop> Lane<P> {
             client,
             pause,
             gone: false,
-            says_words: false,
-        }
-    }
-
-    /// The same port, to which each call brings the words that say its command, as a log needs them.
-    pub fn with_words(self) -> Lane<P>
-        ensures { result ≡ self }
-    {
-        let Lane {
-            client,
-            pause,
-            gone,
-            says_words: _,
-        } = self;
-        Lane {
-            client,
-            pause,
-            gone,
-            says_words: true,
         }
     }
 
@@ -188,7 +167,7 @@ impl<P: Pause + Drop> Port for Lane<P> {
     ghost gone = { λ lane. lane.gone };
 
     fn wants_words(&self) -> bool {
-        self.says_words
+        self.client.wants_words()
     }
 
     fn ask_call<R: Wait>(&mut self, rt: &R, call: Call) -> Result<Reply, PortFault> {

@@ -1,9 +1,10 @@
 //! A desk with a log.
-ghost use Rattle.std.specs.Prelude.{◌≡◌, false};
+ghost use Rattle.std.specs.Prelude.{◌≡◌};
 ghost use Rattle.xs_replay.specs.Calls.{only_reads, is_left_out};
 
 use crate::answer::Call;
 use crate::journal::Journal;
+use std::marker::Model;
 use std::snapshot::Snapshot;
 use xs_command::Command;
 use xs_keys::Keyspace;
@@ -18,8 +19,22 @@ pub struct LogJournal<L: EventLog + Drop> {
     log: L,
     // Nothing more may be asked of the log.
     failed: bool,
+    // How many events were noted, and how many of them are kept.
+    noted: u64,
+    kept: u64,
     start: Snapshot<Keyspace>,
-    ghost sound: { failed ≡ false → L.broken log ≡ false },
+}
+
+impl<L: EventLog + Drop> Model for LogJournal<L> {
+    ghost use Rattle.xs_desk.specs.LogJournals.{Logging};
+
+    ghost Value = { Logging L };
+
+    ghost use Rattle.std.specs.Prelude.{◌≡◌, false};
+
+    ghost view = { λ j. record { log = j.log; failed = j.failed; start = j.start.value } };
+
+    ghost invariant = { λ j. j.failed ≡ false → L.broken j.log ≡ false };
 }
 
 /// Whether a command only reads.
@@ -54,12 +69,14 @@ impl<L: EventLog + Drop> LogJournal<L> {
     pub(crate) fn new(log: L, keyspace: &Keyspace) -> LogJournal<L>
         requires log { ContinuesLog L.has log keyspace.now }
         requires sound { L.broken log ≡ false }
-        ensures has { HasEvents L.has result.log result.failed result.start.value [] 0 }
-        ensures start { result.start.value ≡ keyspace.now }
+        ensures has { HasEvents L.has result.log result.failed result.start [] 0 }
+        ensures start { result.start ≡ keyspace.now }
     {
         LogJournal {
             log,
             failed: false,
+            noted: 0,
+            kept: 0,
             start: Snapshot::of(keyspace),
         }
     }
@@ -69,14 +86,19 @@ impl<L: EventLog + Drop> LogJournal<L> {
         self.failed
     }
 
+    /// How many events are known to be kept, beyond those that the log had at first.
+    pub(crate) fn events_kept(&self) -> u64 {
+        self.kept
+    }
+
     /// Appends the event of a call to the log. If that can't be done the log has failed.
     fn append(&mut self, moment: Moment, call: &Call)
         requires { IsFormed call.now }
         ensures noted { (events : List Event) (kept : ℕ) →
-            HasEvents L.has self.old.log self.old.failed self.old.start.value events kept →
-            HasEvents L.has self.new.log self.new.failed self.new.start.value
+            HasEvents L.has self.old.log self.old.failed self.old.start events kept →
+            HasEvents L.has self.new.log self.new.failed self.new.start
             (events ++ (moment, call.now.command) ∷ []) kept }
-        ensures start { self.new.start.value ≡ self.old.start.value }
+        ensures start { self.new.start ≡ self.old.start }
     {
         if self.failed {
             return;
@@ -87,16 +109,18 @@ impl<L: EventLog + Drop> LogJournal<L> {
         };
         if self.log.note(moment, words.as_slice()).is_err() {
             self.failed = true;
+            return;
         }
+        self.noted = self.noted.saturating_add(1);
     }
 }
 
 impl<L: EventLog + Drop> Journal for LogJournal<L> {
     ghost use Rattle.xs_desk.specs.LogJournals.{HasEvents};
 
-    ghost has = { λ journal. HasEvents L.has journal.log journal.failed journal.start.value };
+    ghost has = { λ journal. HasEvents L.has journal.log journal.failed journal.start };
 
-    ghost start = { λ journal. journal.start.value };
+    ghost start = { λ journal. journal.start };
 
     fn holds_back() -> bool {
         true
@@ -120,6 +144,7 @@ impl<L: EventLog + Drop> Journal for LogJournal<L> {
             self.failed = true;
             return Err(LogFailed);
         }
+        self.kept = self.noted;
         Ok(())
     }
 }

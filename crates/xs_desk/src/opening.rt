@@ -35,6 +35,9 @@ pub const MOST_LANES: usize = 1024;
 /// The most places of a ring.
 pub const MAX_DEPTH: usize = 65_536;
 
+/// How many bytes the keyspace of a desk leaves to the threads of its clients.
+const LEFT_FREE: usize = 262_144;
+
 /// Why no desk was made. The first that holds is told.
 #[derive(Clone, Copy, Debug, PartialEq, Eq, Error)]
 pub enum DeskError {
@@ -79,7 +82,15 @@ fn open_lane(
         marks,
     };
     let gone = Arc::try_clone(gone)?;
-    let client = Client::new(lane, to_keeper, from_keeper, registration, backoff, gone);
+    let client = Client::new(
+        lane,
+        to_keeper,
+        from_keeper,
+        registration,
+        backoff,
+        gone,
+        holds_back,
+    );
     Ok((lane_end, client))
 }
 
@@ -119,6 +130,8 @@ fn open_desk<J: Journal + Drop>(
     ensures { IfOk result (λ r. AreNew 0 depth r.0.lanes r.1.items × (length r.0.lanes ≡ count)
         × (r.0.keyspace ≡ keyspace) × (r.0.place ≡ 0)) }
 {
+    let mut keyspace = keyspace;
+    keyspace.leave_free(LEFT_FREE);
     let backoff = Backoff::of_keeper(alloc)?;
     let gone = Arc::new(alloc, AtomicBool::new(false))?;
     let mut poll_set = PollSet::new(alloc, count)?;

@@ -13,7 +13,7 @@ use std::collections::VecDeque;
 pub(crate) struct Outbox {
     pub ring: Producer<Answer>,
     pub held_back: VecDeque<Answer>,
-    ghost room: { length held_back.items ≤ known_free ring }
+    ghost room: { length held_back.items ≤ known_free ring },
 }
 
 impl Outbox {

@@ -1,13 +1,14 @@
 //! The files of a folder as a tape. That they are one is trusted: no contract can say what a file holds.
-ghost use Rattle.std.specs.Prelude.{◌≡◌, None, false, is_err};
+ghost use Rattle.std.specs.Prelude.{◌≡◌, None, false, is_err, IfOk};
 
 use crate::folder::sync_folder;
 use crate::names::log_path;
-use crate::syncing::SyncPolicy;
-use std::alloc::Global;
+use crate::syncing::{Beside, SyncPolicy, Syncer};
+use std::alloc::{AllocError, Global};
 use std::fs::{File, OpenOptions};
 use std::io::Write;
 use std::rt::Files;
+use std::sync::Arc;
 use xs_tape::{Tape, TapeFailed};
 
 /// The logs of a folder. The last one is open, and the folder is locked.
@@ -22,6 +23,7 @@ pub struct FileTape<R: Files<File = File> + Copy + Drop> {
     number: u64,
     size: u64,
     policy: SyncPolicy,
+    beside: Arc<Beside>,
     broken: bool,
 }
 
@@ -53,26 +55,37 @@ impl<R: Files<File = File> + Copy + Drop> FileTape<R> {
     pub fn new(
         rt: &R,
         alloc: Global,
-        folder: String,
+        folder: &str,
         lock: File,
         file: File,
         number: u64,
         size: u64,
         policy: SyncPolicy,
-    ) -> Self
-        ensures broken { ⟦<FileTape<R> as Tape>⟧.broken result ≡ false }
-        ensures holds { ⟦<FileTape<R> as Tape>⟧.holds result ≡ None }
+    ) -> Result<Self, AllocError>
+        ensures broken { IfOk result (λ tape. ⟦<FileTape<R> as Tape>⟧.broken tape ≡ false) }
+        ensures holds { IfOk result (λ tape. ⟦<FileTape<R> as Tape>⟧.holds tape ≡ None) }
     {
-        Self {
+        Ok(Self {
             rt: *rt,
             alloc,
-            folder,
+            folder: String::from_str(alloc, folder)?,
             lock,
             file,
             number,
             size,
             policy,
+            beside: Arc::new(alloc, Beside::new(number))?,
             broken: false,
+        })
+    }
+
+    /// What syncs beside it, if its policy asks for that.
+    pub fn syncer(&self) -> Result<Option<Syncer>, AllocError> {
+        match self.policy {
+            SyncPolicy::EachSecond => {
+                Ok(Some(Syncer::new(self.alloc, self.folder.as_str(), &self.beside)?))
+            }
+            SyncPolicy::Always | SyncPolicy::Never => Ok(None),
         }
     }
 }
@@ -83,10 +96,11 @@ impl<R: Files<File = File> + Copy + Drop> Tape for FileTape<R> {
     ghost broken = { λ tape. tape.broken };
 
     fn append(&mut self, bytes: &[u8]) -> Result<(), TapeFailed> {
-        if self.file.write_all(bytes).is_err() {
+        if self.beside.has_failed() || self.file.write_all(bytes).is_err() {
             self.broken = true;
             return Err(TapeFailed);
         }
+        self.beside.wrote();
         self.size = self.size.saturating_add(bytes.len() as u64);
         Ok(())
     }
@@ -111,6 +125,7 @@ impl<R: Files<File = File> + Copy + Drop> Tape for FileTape<R> {
                 self.file = file;
                 self.number = number;
                 self.size = 0;
+                self.beside.begins(number);
                 Ok(())
             }
             Err(fault) => {

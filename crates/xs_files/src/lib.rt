@@ -9,9 +9,11 @@ pub mod listing;
 pub mod log_file;
 pub mod names;
 pub mod opening;
+pub mod progress;
 pub mod syncing;
 
 pub use fault::FolderFault;
 pub use file_tape::FileTape;
 pub use opening::{OpenedFolder, open_folder};
-pub use syncing::SyncPolicy;
+pub use progress::Progress;
+pub use syncing::{SyncPolicy, Syncer};

@@ -1,9 +1,11 @@
 //! A log that is read. Its file is opened at the first read, so that not all logs of a folder are open at once.
 ghost use Rattle.std.specs.Prelude.{◌≡◌, ◌≤◌, None, length, IfOk};
 
+use crate::progress::Progress;
 use std::fs::File;
 use std::io::Read;
 use std::rt::Files;
+use std::sync::Arc;
 use xs_devices::{Failed, Source};
 
 /// A log's file.
@@ -11,6 +13,7 @@ use xs_devices::{Failed, Source};
 pub struct LogFile<R: Files<File = File> + Copy + Drop> {
     rt: R,
     path: String,
+    progress: Arc<Progress>,
     file: Option<File>,
     calls: u64,
     broken: bool,
@@ -29,10 +32,11 @@ fn read_from(file: &mut File, into: &mut [u8]) -> Result<usize, Failed>
 
 impl<R: Files<File = File> + Copy + Drop> LogFile<R> {
     /// The file with a path, which isn't opened yet.
-    pub fn new(rt: &R, path: String) -> Self {
+    pub fn new(rt: &R, path: String, progress: Arc<Progress>) -> Self {
         Self {
             rt: *rt,
             path,
+            progress,
             file: None,
             calls: 0,
             broken: false,
@@ -87,6 +91,7 @@ impl<R: Files<File = File> + Copy + Drop> Source for LogFile<R> {
         let room = !into.is_empty();
         match self.read_open(into) {
             Ok(count) => {
+                self.progress.add(count);
                 if count == 0 && room {
                     self.ended = true;
                 }

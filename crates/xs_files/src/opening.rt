@@ -11,10 +11,12 @@ use crate::last_log::open_last;
 use crate::listing::count_logs;
 use crate::log_file::LogFile;
 use crate::names::log_path;
+use crate::progress::Progress;
 use crate::syncing::SyncPolicy;
 use std::alloc::{AllocError, Global};
 use std::fs::File;
 use std::rt::Files;
+use std::sync::Arc;
 use xs_keys::Keyspace;
 use xs_log::{Extent, Recovered, TapeLog, restart};
 use xs_replay::EventLog;
@@ -44,14 +46,16 @@ fn read_logs<R: Files<File = File> + Copy + Drop>(
     alloc: Global,
     folder: &str,
     count: u64,
+    progress: &Arc<Progress>,
 ) -> Result<(Vec<LogFile<R>>, LogFile<R>), AllocError> {
     let mut closed = Vec::new(alloc);
     for before in 1..count {
         let path = log_path(alloc, folder, before)?;
-        closed.push(LogFile::new(rt, path))?;
+        closed.push(LogFile::new(rt, path, Arc::try_clone(progress)?))?;
     }
     let path = log_path(alloc, folder, count)?;
-    Ok((closed, LogFile::new(rt, path)))
+    let last = LogFile::new(rt, path, Arc::try_clone(progress)?);
+    Ok((closed, last))
 }
 
 /// What the logs of a folder leave.
@@ -60,10 +64,11 @@ fn recover_logs<R: Files<File = File> + Copy + Drop>(
     alloc: Global,
     folder: &str,
     count: u64,
+    progress: &Arc<Progress>,
 ) -> Result<(Recovered, Extent), FolderFault>
     ensures { IfOk result (λ found. (events : List Event) × (found.0.keyspace ≡ contents_after empty events)) }
 {
-    let Ok((closed, last)) = read_logs(rt, alloc, folder, count) else {
+    let Ok((closed, last)) = read_logs(rt, alloc, folder, count, progress) else {
         return Err(FolderFault::Memory);
     };
     match restart(alloc, closed, last) {
@@ -87,10 +92,9 @@ fn go_on<R: Files<File = File> + Copy + Drop>(
     ensures has { IfOk result (λ log. (events : List Event) →
         ⟦<TapeLog<FileTape<R>> as EventLog>⟧.has log events (length events)) }
 {
-    let Ok(owned) = String::from_str(alloc, folder) else {
+    let Ok(tape) = FileTape::new(rt, alloc, folder, lock, file, number, whole, policy) else {
         return Err(FolderFault::Memory);
     };
-    let tape = FileTape::new(rt, alloc, owned, lock, file, number, whole, policy);
     match TapeLog::new(alloc, tape, number, FULL) {
         Ok(log) => Ok(log),
         Err(_) => Err(FolderFault::Broken(number)),
@@ -124,8 +128,8 @@ fn begin_first<R: Files<File = File> + Copy + Drop>(
     })
 }
 
-/// Opens a folder of logs, and locks it. It is made if only it is missing. Its logs are read, and what a crash has torn
-/// of the last one is cut.
+/// Opens a folder of logs, and locks it. It is made if only it is missing. Its logs are read, which the progress tells
+/// meanwhile, and what a crash has torn of the last one is cut.
 ///
 /// # Errors
 /// A `FolderFault`, and no byte of a log was changed but behind the whole records of the last one.
@@ -133,6 +137,7 @@ pub fn open_folder<R: Files<File = File> + AllocGlobal + Copy + Drop>(
     rt: &R,
     folder: &str,
     policy: SyncPolicy,
+    progress: &Arc<Progress>,
 ) -> Result<OpenedFolder<R>, FolderFault>
     ensures content { IfOk result (λ opened. (events : List Event)
         × (opened.keyspace ≡ contents_after empty events)) }
@@ -147,7 +152,7 @@ pub fn open_folder<R: Files<File = File> + AllocGlobal + Copy + Drop>(
     if count == 0 {
         return begin_first(rt, alloc, folder, lock, policy);
     }
-    let (recovered, extent) = recover_logs(rt, alloc, folder, count)?;
+    let (recovered, extent) = recover_logs(rt, alloc, folder, count, progress)?;
     let file = open_last(rt, alloc, folder, count, extent.whole)?;
     let log = go_on(rt, alloc, folder, lock, file, count, extent.whole, policy)?;
     let Recovered {

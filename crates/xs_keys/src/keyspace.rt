@@ -9,8 +9,8 @@ use crate::keys::Keys;
 use crate::name_map::NameMap;
 use crate::reserve::Reserve;
 use crate::{
-    del, in_vain, ping, xack, xadd, xautoclaim, xclaim, xdel, xgroup, xlen, xpending, xrange, xreadgroup,
-    xtrim,
+    del, in_vain, ping, xack, xadd, xautoclaim, xclaim, xdel, xgroup, xlen, xpending, xrange,
+    xreadgroup, xtrim,
 };
 use std::alloc::{AllocError, Global};
 use std::marker::Model;
@@ -53,6 +53,14 @@ impl Keyspace {
             reserve: Reserve::new(alloc),
             alloc,
         }
+    }
+
+    /// From now on additions and new groups are refused unless so many bytes are free in one piece beside all that this
+    /// holds: other threads need memory too, for the commands of consumers.
+    pub fn leave_free(&mut self, bytes: usize)
+        ensures { self.new ≡ self.old }
+    {
+        self.reserve.leave_free(bytes);
     }
 
     /// Applies one command at a moment, and gives its reply. What is refused changes nothing. The reply

@@ -45,6 +45,10 @@ pub(crate) struct Reserve {
     greatest: usize,
     // It was given back, and isn't whole again yet.
     is_lent: bool,
+    // How many bytes beside it are left to others.
+    left_free: usize,
+    // How many bytes of replies were added since the last look for them.
+    unlooked: usize,
 }
 
 impl Model for Reserve {
@@ -67,11 +71,46 @@ impl Reserve {
             room: Vec::new(alloc),
             greatest: 0,
             is_lent: false,
+            left_free: 0,
+            unlooked: 0,
         }
     }
 
+    /// From now on it is filled only while so many bytes are free in one piece beside it.
+    pub(crate) fn leave_free(&mut self, bytes: usize)
+        ensures { self.new ≡ self.old }
+    {
+        self.left_free = bytes;
+    }
+
+    /// Looks whether what is left to others is free, before an addition whose reply takes so many bytes: at the first
+    /// one, and then each time that a piece was added.
+    fn look(&mut self, alloc: Global, reply_bytes: usize) -> Result<(), AllocError>
+        ensures { self.new ≡ self.old }
+    {
+        if self.left_free == 0 {
+            return Ok(());
+        }
+        if self.unlooked != 0 && self.unlooked < PIECE {
+            self.unlooked = self.unlooked.saturating_add(reply_bytes);
+            return Ok(());
+        }
+        let _free: Vec<u8> = Vec::with_capacity(alloc, self.left_free)?;
+        self.unlooked = reply_bytes.max(1);
+        Ok(())
+    }
+
+    /// Makes it whole before an addition, for an entry too whose reply takes so many bytes. It is refused if what is
+    /// left to others isn't free. A refusal leaves the pieces that were found.
+    pub(crate) fn admit(&mut self, alloc: Global, reply_bytes: usize) -> Result<(), AllocError>
+        ensures { OnOk result (self.new ≡ 64) }
+    {
+        self.fill(alloc, reply_bytes)?;
+        self.look(alloc, reply_bytes)
+    }
+
     /// Makes it whole, for an entry too whose reply takes so many bytes. A refusal leaves the pieces that were found.
-    pub(crate) fn fill(&mut self, alloc: Global, reply_bytes: usize) -> Result<(), AllocError>
+    fn fill(&mut self, alloc: Global, reply_bytes: usize) -> Result<(), AllocError>
         ensures { OnOk result (self.new ≡ 64) }
     {
         while self.pieces.len() < PIECES {

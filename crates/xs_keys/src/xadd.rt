@@ -40,7 +40,7 @@ fn try_add(
         Err(error) => return Err(error),
     };
     let reply_bytes = reply_bytes(add.fields.as_slice());
-    if reserve.fill(alloc, reply_bytes).is_err() {
+    if reserve.admit(alloc, reply_bytes).is_err() {
         return Err(AddError::Memory);
     }
     let Ok(text) = id.text(alloc) else {

@@ -39,7 +39,7 @@ fn insert_group(
         OnOk result (groups.new ≡ insert groups.old command.now.group group) }
     ensures err { OnErr result (groups.new ≡ groups.old) }
 {
-    reserve.fill(alloc, 0)?;
+    reserve.admit(alloc, 0)?;
     let name = Bytes::from_slice(alloc, command.group.as_slice())?;
     groups.insert(name, Group::new(alloc, start_id(command.start, top)))
 }

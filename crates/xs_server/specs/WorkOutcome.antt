@@ -9,6 +9,8 @@ use Rattle.xs_desk.specs.Closing.{SumUp}
 use Rattle.xs_desk.specs.Opening.{IsDeskError, IsLaneCount, IsDepth}
 use Rattle.xs_server.specs.declared.work.fault.WorkFault.{WorkFault}
 use Rattle.xs_server.specs.declared.work.fault.WorkFault.TheVariants as fault
+use Rattle.xs_server.specs.declared.work.logged.LoggedEnd.{LoggedEnd}
+use Rattle.xs_server.specs.declared.work.logged.LoggedEnd.TheVariants as logged
 
 -- A desk of n lanes was closed. The ends that came back are sides of its lanes, and the summary has a part for each
 -- lane, which counts what its two sides tell; the calls that were served, in the order of their places, are the history
@@ -30,3 +32,8 @@ IsWorkFault most n depth fault.Start = IsLaneCount most n × IsDepth depth
 IsWorkFault most n depth fault.Gate = IsLaneCount most n × IsDepth depth
 IsWorkFault most n depth fault.Close = ⊥
 IsWorkFault most n depth fault.Memory = IsLaneCount most n × IsDepth depth
+
+-- the same of work with a log, which a failure of the log may end too
+abbrev pub IsLoggedEnd : ℕ → ℕ → ℕ → LoggedEnd → Type 0
+IsLoggedEnd most n depth (logged.Work fault) = IsWorkFault most n depth fault
+IsLoggedEnd most n depth (logged.Log kept) = IsLaneCount most n × IsDepth depth

@@ -12,6 +12,7 @@ use std::convert::AsStr;
 use std::io::{Eprint, ErrorKind as IoErrorKind};
 use std::net::IpAddr;
 use std::str::FromStr;
+use xs_files::SyncPolicy;
 
 /// What `serve` is told.
 #[derive(Clone, Copy, Debug, PartialEq, Eq)]
@@ -24,8 +25,17 @@ pub struct ServeOptions {
     pub each: u64,
 }
 
+/// Where `run` keeps its log.
+#[derive(Debug, Drop)]
+pub struct LogOptions {
+    /// The folder of the log's files.
+    pub folder: String,
+    /// When the log is synced.
+    pub policy: SyncPolicy,
+}
+
 /// What `run` is told.
-#[derive(Clone, Copy, Debug, PartialEq, Eq)]
+#[derive(Debug, Drop)]
 pub struct RunOptions {
     /// The address that it listens on.
     pub bind: IpAddr,
@@ -35,10 +45,12 @@ pub struct RunOptions {
     pub workers: u64,
     /// After how many seconds a connection is closed that sends nothing; 0 is never.
     pub idle: u64,
+    /// The log, if there is one.
+    pub log: Option<LogOptions>,
 }
 
 /// What the command line asks for.
-#[derive(Clone, Copy, Debug, PartialEq, Eq)]
+#[derive(Debug, Drop)]
 pub enum Asked {
     /// To run the script on standard input.
     Script,
@@ -64,6 +76,10 @@ const ABOUT_SERVE: &str = "Serves so many connections on a port of 127.0.0.1, an
 const ABOUT_RUN: &str = "Serves connections until it is stopped; XREADGROUP with BLOCK waits";
 
 const NO_ADDRESS: &str = "error: the value of --bind is no IPv4 or IPv6 address\n";
+
+const NO_POLICY: &str = "error: the value of --sync is none of always, second and no\n";
+
+const NO_LOG: &str = "error: --sync says when a log is synced, and there is no --log\n";
 
 const NOT_OPEN: &str =
     "error: whoever reaches --bind beyond loopback may do all; if that is meant, add --open\n";
@@ -146,6 +162,12 @@ fn run_command<'a>(alloc: Global) -> Result<Command<'a>, AllocError> {
         .long("bind")
         .default_value("127.0.0.1")
         .help("The address to listen on");
+    let log = Arg::new(alloc, "log").long("log").value_name("FOLDER").help(
+        "Keeps all in the files of this folder, which a restart reads",
+    );
+    let sync = Arg::new(alloc, "sync").long("sync").help(
+        "When the log is synced: always before an answer (the default), each second, or no",
+    );
     let open = Arg::new(alloc, "open")
         .long("open")
         .action(ArgAction::SetTrue)
@@ -168,7 +190,9 @@ fn run_command<'a>(alloc: Global) -> Result<Command<'a>, AllocError> {
             "0",
             "After how many seconds a connection that sends nothing is closed; 0 is never",
         ))?
-        .arg(open)
+        .arg(open)?
+        .arg(log)?
+        .arg(sync)
 }
 
 /// The program with all its commands.
@@ -197,13 +221,45 @@ fn bind_of(matches: &ArgMatches) -> Result<IpAddr, &'static str> {
     }
 }
 
+/// When the log of `run` is synced, or what is wrong with the words that say it.
+fn policy_of(matches: &ArgMatches) -> Result<SyncPolicy, &'static str> {
+    match matches.get_str("sync") {
+        None => Ok(SyncPolicy::Always),
+        Some(_) if matches.get_str("log").is_none() => Err(NO_LOG),
+        Some("always") => Ok(SyncPolicy::Always),
+        Some("second") => Ok(SyncPolicy::EachSecond),
+        Some("no") => Ok(SyncPolicy::Never),
+        Some(_) => Err(NO_POLICY),
+    }
+}
+
+/// The log of `run`, if the words behind it name one.
+fn log_of(
+    alloc: Global,
+    matches: &ArgMatches,
+    policy: SyncPolicy,
+) -> Result<Option<LogOptions>, AllocError> {
+    match matches.get_str("log") {
+        Some(folder) => Ok(Some(LogOptions {
+            folder: String::from_str(alloc, folder)?,
+            policy,
+        })),
+        None => Ok(None),
+    }
+}
+
 /// What the words behind `run` say.
-fn run_options_of(matches: &ArgMatches, bind: IpAddr) -> Option<RunOptions> {
+fn run_options_of(
+    matches: &ArgMatches,
+    bind: IpAddr,
+    log: Option<LogOptions>,
+) -> Option<RunOptions> {
     Some(RunOptions {
         bind,
         port: matches.get_one::<u16>("port")?,
         workers: matches.get_one::<u64>("workers")?,
         idle: matches.get_one::<u64>("idle")?,
+        log,
     })
 }
 
@@ -224,6 +280,7 @@ fn options_of(matches: &ArgMatches) -> Option<ServeOptions>
 }
 
 /// What words ask for that run no script.
+#[derive(Drop)]
 enum Others {
     Serve(ServeOptions),
     Run(RunOptions),
@@ -242,14 +299,24 @@ fn parse_others<S: AsStr>(alloc: Global, words: &[S]) -> Result<Others, Error> {
             None => Others::Nothing,
         });
     }
-    let Some(found) = matches.subcommand_matches("run") else {
-        return Ok(Others::Nothing);
-    };
-    let bind = match bind_of(found) {
+    match matches.subcommand_matches("run") {
+        Some(found) => parse_run(alloc, found),
+        None => Ok(Others::Nothing),
+    }
+}
+
+/// What the words behind `run` ask for.
+fn parse_run(alloc: Global, matches: &ArgMatches) -> Result<Others, Error> {
+    let bind = match bind_of(matches) {
         Ok(bind) => bind,
         Err(text) => return Ok(Others::Refused(text)),
     };
-    Ok(match run_options_of(found, bind) {
+    let policy = match policy_of(matches) {
+        Ok(policy) => policy,
+        Err(text) => return Ok(Others::Refused(text)),
+    };
+    let log = log_of(alloc, matches, policy)?;
+    Ok(match run_options_of(matches, bind, log) {
         Some(options) => Others::Run(options),
         None => Others::Nothing,
     })

@@ -11,6 +11,8 @@ mod hall;
 mod halves;
 mod limits;
 mod lines;
+mod log_threads;
+mod logged_command;
 mod machines;
 mod patience;
 mod report;
@@ -24,6 +26,7 @@ mod wall_clock;
 mod work;
 
 use command_line::{Asked, read_command_line};
+use logged_command::{open_logs, run_logged};
 use report::report_memory;
 use run_command::run_server;
 use script::command::run_and_report;
@@ -45,7 +48,22 @@ fn main(rt: HostRuntime) -> ExitCode {
         }
         Asked::Run(options) => {
             let out = ToWrite::new(rt.stderr());
-            run_server(&rt, rt.alloc(), options, out, &mut errors)
+            let alloc = rt.alloc();
+            match &options.log {
+                None => run_server(&rt, alloc, &options, out, &mut errors),
+                Some(log) => match open_logs(
+                    &rt,
+                    &rt,
+                    log,
+                    ToWrite::new(rt.stderr()),
+                    &mut errors,
+                ) {
+                    Ok(opened) => {
+                        run_logged(&rt, alloc, &options, log, opened, out, &mut errors)
+                    }
+                    Err(status) => status,
+                },
+            }
         }
         Asked::Text => 0,
         Asked::Nothing => 2,

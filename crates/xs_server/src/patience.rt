@@ -6,11 +6,11 @@
 use crate::connections::memory::ConnectionMemory;
 use crate::halves::Peer;
 use crate::run_gate::RunGate;
-use crate::work::mode::Mode;
+use crate::work::mode::{KeeperMode, Mode};
 use std::alloc::{AllocError, Global};
 use std::sync::Wait;
 use std::time::{Clock, Duration};
-use xs_desk::{Client, Keeper, Pause};
+use xs_desk::{Client, Journal, Keeper, Pause};
 
 /// How often a worker looks after its client.
 const BEAT_MILLIS: u64 = 1000;
@@ -96,12 +96,14 @@ impl<S: Wait + Clock + Copy + Send + Drop + 'static> Mode<RunGate<S>> for Patien
         }
         Ok(ConnectionMemory::lazy(alloc))
     }
+}
 
-    fn begin(&self, keeper: &mut Keeper) {
+impl<S: Wait + Clock + Copy + Drop> KeeperMode for Patience<S> {
+    fn begin<J: Journal + Drop>(&self, keeper: &mut Keeper<J>) {
         keeper.let_wait();
     }
 
-    fn before_turn(&self, keeper: &mut Keeper) {
+    fn before_turn<J: Journal + Drop>(&self, keeper: &mut Keeper<J>) {
         keeper.read_clock(&self.system);
         for _ in 0..self.peers.len() {
             let Some(lane) = keeper.next_due() else {
@@ -114,7 +116,7 @@ impl<S: Wait + Clock + Copy + Send + Drop + 'static> Mode<RunGate<S>> for Patien
         }
     }
 
-    fn idle<R: Wait>(&self, _rt: &R, keeper: &Keeper) {
+    fn idle<J: Journal + Drop, R: Wait>(&self, _rt: &R, keeper: &Keeper<J>) {
         keeper.idle_until(&self.system);
     }
 }

@@ -1,5 +1,5 @@
 //! The program's command `run`: a server that stays.
-ghost use Rattle.std.specs.Prelude.{◌≡◌, length, IfOk};
+ghost use Rattle.std.specs.Prelude.{◌≡◌, length, IfOk, IfErr};
 ghost use Rattle.xs_desk.specs.declared.summary.Summary.{Summary};
 ghost use Rattle.xs_server.specs.WorkOutcome.{IsClosed};
 
@@ -100,6 +100,66 @@ fn ready_line(
     Ok(text.into_bytes())
 }
 
+/// What is made before the first connection is served.
+#[derive(Drop)]
+pub struct Ready<S: Drop> {
+    /// A gate for each worker.
+    pub gates: Vec<RunGate<S>>,
+    /// How they are served.
+    pub patience: Patience<S>,
+}
+
+/// Listens, and makes what the workers need. Connections wait in the hall from now on.
+///
+/// # Errors
+/// The status of the program, 1. The cause was said on `errors`.
+pub fn make_ready<
+    W: Sink + Send + Drop + 'static,
+    E: Sink,
+    R: Net<Listener = TcpListener, Stream = TcpStream>
+        + Files
+        + Alloc<A = Global>
+        + Threads
+        + Wait
+        + Clock
+        + Copy
+        + Send
+        + Drop
+        + 'static,
+>(rt: &R, alloc: Global, options: &RunOptions, out: W, errors: &mut E) -> Result<Ready<R>, u8>
+    ensures gates { IfOk result (λ ready. length ready.gates.items ≡ options.now.workers) }
+    ensures status { IfErr result (λ status. status ≡ 1) }
+{
+    let files = open_files(rt);
+    let Some(room) = waiting_room(options.workers, files) else {
+        return Err(report_few_files(alloc, options.workers, errors));
+    };
+    let address = SocketAddr::new(options.bind, options.port);
+    let listener = match TcpListener::bind(rt, address) {
+        Ok(listener) => listener,
+        Err(error) => return Err(report_listening_failed(alloc, address, &error, errors)),
+    };
+    let Ok(line) = ready_line(alloc, address, options.workers, files) else {
+        return Err(report_memory(errors));
+    };
+    let Ok(hall) = hall_of(alloc, room) else {
+        return Err(report_memory(errors));
+    };
+    let Ok(announcement) = Announcement::new(rt, alloc, out, line) else {
+        return Err(report_memory(errors));
+    };
+    let Ok(gates) = gates_of(*rt, alloc, &hall, &announcement, options) else {
+        return Err(report_memory(errors));
+    };
+    let Ok(patience) = Patience::new(*rt, alloc, gates.as_slice()) else {
+        return Err(report_memory(errors));
+    };
+    if open_door(rt, alloc, listener, &hall).is_err() {
+        return Err(report_memory(errors));
+    }
+    Ok(Ready { gates, patience })
+}
+
 /// Listens, and serves the connections that come, up to a signal. It gives the status of the program: 1 if something is
 /// amiss, and the cause is said on `errors`; 0 never in practice, since no gate comes to its end.
 pub fn run_server<
@@ -115,36 +175,13 @@ pub fn run_server<
         + Send
         + Drop
         + 'static,
->(rt: &R, alloc: Global, options: RunOptions, out: W, errors: &mut E) -> u8
-    ensures served { result ≡ 0 → (summary : Summary) × IsClosed options.workers summary }
+>(rt: &R, alloc: Global, options: &RunOptions, out: W, errors: &mut E) -> u8
+    ensures served { result ≡ 0 → (summary : Summary) × IsClosed options.now.workers summary }
 {
-    let files = open_files(rt);
-    let Some(room) = waiting_room(options.workers, files) else {
-        return report_few_files(alloc, options.workers, errors);
+    let Ready { gates, patience } = match make_ready(rt, alloc, options, out, errors) {
+        Ok(ready) => ready,
+        Err(status) => return status,
     };
-    let address = SocketAddr::new(options.bind, options.port);
-    let listener = match TcpListener::bind(rt, address) {
-        Ok(listener) => listener,
-        Err(error) => return report_listening_failed(alloc, address, &error, errors),
-    };
-    let Ok(line) = ready_line(alloc, address, options.workers, files) else {
-        return report_memory(errors);
-    };
-    let Ok(hall) = hall_of(alloc, room) else {
-        return report_memory(errors);
-    };
-    let Ok(announcement) = Announcement::new(rt, alloc, out, line) else {
-        return report_memory(errors);
-    };
-    let Ok(gates) = gates_of(*rt, alloc, &hall, &announcement, &options) else {
-        return report_memory(errors);
-    };
-    let Ok(patience) = Patience::new(*rt, alloc, gates.as_slice()) else {
-        return report_memory(errors);
-    };
-    if open_door(rt, alloc, listener, &hall).is_err() {
-        return report_memory(errors);
-    }
     let worked = work_with(rt, alloc, gates, DEPTH, WallClock::new(*rt), patience);
     report_worked(errors, &worked)
 }

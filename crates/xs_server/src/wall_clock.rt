@@ -50,11 +50,17 @@ impl Model for LastReading {
 }
 
 impl LastReading {
-    /// Of the wall clock, or of 1970 if it can't be read.
-    fn first<S: time::Clock>(system: &S) -> Self {
+    /// Of the wall clock, or of 1970 if it can't be read; but not before a moment, if there is one.
+    fn first<S: time::Clock>(system: &S, last: Option<Moment>) -> Self
+        ensures { IfSome last (λ moment. moment ≤ result.time / 1_000_000) }
+    {
+        let least = match last {
+            Some(moment) => Duration::from_millis(moment.get()),
+            None => Duration::ZERO,
+        };
         // The wall clock comes first, so that the time is never ahead of it.
         let wall = system.since_1970().ok().and_then(within_moments);
-        let time = wall.unwrap_or(Duration::ZERO);
+        let time = wall.unwrap_or(Duration::ZERO).max(least);
         let since = system.monotonic().unwrap_or(Duration::ZERO);
         Self { time, since }
     }
@@ -108,7 +114,14 @@ pub struct WallClock<S: time::Clock + Drop> {
 impl<S: time::Clock + Drop> WallClock<S> {
     /// The clock of this system, from now on.
     pub fn new(system: S) -> Self {
-        let last = LastReading::first(&system);
+        Self::not_before(system, None)
+    }
+
+    /// The clock of this system, from now on; but it begins at the later of its time and this moment.
+    pub fn not_before(system: S, last: Option<Moment>) -> Self
+        ensures { IfSome last (λ moment. moment ≤ result.last.time / 1_000_000) }
+    {
+        let last = LastReading::first(&system, last);
         Self { system, last }
     }
 }

@@ -7,8 +7,8 @@ use std::alloc::{AllocError, Global};
 use std::sync::Wait;
 use xs_command::Command;
 use xs_desk::{Answer, Client};
-use xs_testing::{Job, MOST_TURNS, text_of};
 use xs_stream::Moment;
+use xs_testing::{Job, MOST_TURNS, text_of};
 
 /// What was told of a call.
 #[derive(Drop)]

@@ -5,8 +5,8 @@ use std::thread;
 use std::time::Duration;
 use xs_command::Command;
 use xs_desk::{Client, Keeper, Lane, Port, PortFault, desk};
-use xs_testing::{Still, MOST_TURNS};
 use xs_resp::{Reply, Simple};
+use xs_testing::{MOST_TURNS, Still};
 
 /// Asks until it is told that the keeper is gone, and once more. It says how many calls were answered before.
 fn ask_until_gone<R: Wait>(rt: &R, client: Client) -> Option<u64> {

@@ -53,7 +53,9 @@ impl EventLog for CountingLog {
             return Err(LogFailed);
         }
         let noted = self.counts.noted.load(Ordering::SeqCst);
-        self.counts.noted.store(noted.saturating_add(1), Ordering::SeqCst);
+        self.counts
+            .noted
+            .store(noted.saturating_add(1), Ordering::SeqCst);
         Ok(())
     }
 

@@ -6,8 +6,8 @@ use std::thread;
 use std::time::{Clock, Duration};
 use xs_command::Command;
 use xs_desk::{Client, Lane, Port, desk};
-use xs_testing::{Still, read};
 use xs_resp::{Reply, Simple};
+use xs_testing::{Still, read};
 
 /// Whether so many times a PING without a message is answered as such, over a lane with this client.
 pub fn are_answered<R: Wait>(rt: &R, client: Client, times: u64) -> bool {

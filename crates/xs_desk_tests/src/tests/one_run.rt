@@ -7,10 +7,10 @@ use std::sync::Wait;
 use std::thread::Threads;
 use xs_command::Refusal;
 use xs_desk::Summary;
-use xs_testing::{Trial, text_of};
 use xs_keys::{Clock, Keyspace};
 use xs_resp::Reply;
 use xs_stream::Moment;
+use xs_testing::{Trial, text_of};
 
 /// How many calls there are places for, over all lanes.
 const ON_THEIR_WAY: usize = 1024;

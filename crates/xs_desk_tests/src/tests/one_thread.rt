@@ -3,8 +3,8 @@ use std::alloc::Global;
 use std::process::Abort;
 use std::test::Fail;
 use xs_desk::{DeskError, Full, LaneSummary, desk, next_place};
-use xs_testing::{Still, Trial, read, text_of};
 use xs_resp::Reply;
+use xs_testing::{Still, Trial, read, text_of};
 
 /// The summary of a lane.
 fn lane(served: u64, left: u64, untaken: u64) -> LaneSummary {

@@ -4,10 +4,10 @@ use std::sync::Wait;
 use std::test::Fail;
 use xs_command::Refusal;
 use xs_desk::{Client, Lane, Port};
-use xs_testing::{Job, Trial, read};
 use xs_keys::Clock;
 use xs_resp::Reply;
 use xs_stream::Moment;
+use xs_testing::{Job, Trial, read};
 
 /// How often each client asks.
 const TIMES: u64 = 500;

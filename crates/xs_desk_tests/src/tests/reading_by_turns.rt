@@ -7,8 +7,8 @@ use std::sync::Wait;
 use std::test::Fail;
 use std::thread::Threads;
 use xs_command::Refusal;
-use xs_testing::{Still, Trial, read, text_of};
 use xs_keys::Keyspace;
+use xs_testing::{Still, Trial, read, text_of};
 
 /// The read of each lane.
 const READS: [&str; 8] = [

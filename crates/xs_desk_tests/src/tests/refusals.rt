@@ -6,8 +6,8 @@ use std::test::Fail;
 use std::thread;
 use xs_command::Command;
 use xs_desk::{DeskError, Full, Lane, LaneSummary, Port, PortFault, desk};
-use xs_testing::{Still, Trial};
 use xs_resp::{Reply, Simple};
+use xs_testing::{Still, Trial};
 
 /// More turns that find nothing than a keeper makes until it parks.
 const LOOKS: u32 = 1000;

@@ -5,7 +5,7 @@ use std::test::Fail;
 use std::thread;
 use xs_command::Command;
 use xs_desk::{Client, desk};
-use xs_testing::{Still, MOST_TURNS};
+use xs_testing::{MOST_TURNS, Still};
 
 /// How often each of the other lanes asks.
 const TIMES: u64 = 1000;

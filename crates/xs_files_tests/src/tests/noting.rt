@@ -6,9 +6,10 @@ use std::alloc::Global;
 use std::fs;
 use std::fs::File;
 use std::rt::Files;
+use std::sync::Arc;
 use std::test::Fail;
 use xs_bytes::Bytes;
-use xs_files::{FileTape, FolderFault, SyncPolicy, open_folder};
+use xs_files::{FileTape, FolderFault, Progress, SyncPolicy, open_folder};
 use xs_log::TapeLog;
 use xs_replay::EventLog;
 use xs_stream::Moment;
@@ -58,7 +59,8 @@ pub fn note<R: Files<File = File> + AllocGlobal + Copy + Drop>(
     if !can_be_record(words) {
         return Err("too long".into());
     }
-    let Ok(opened) = open_folder(rt, folder, SyncPolicy::Always) else {
+    let progress = Arc::new(alloc, Progress::new())?;
+    let Ok(opened) = open_folder(rt, folder, SyncPolicy::Always, &progress) else {
         return Err("not opened".into());
     };
     let mut log = opened.log;
@@ -71,7 +73,10 @@ pub fn fault_of<R: Files<File = File> + AllocGlobal + Copy + Drop>(
     rt: &R,
     folder: &str,
 ) -> Option<FolderFault> {
-    open_folder(rt, folder, SyncPolicy::Always).err()
+    match Arc::new(rt.alloc(), Progress::new()) {
+        Ok(progress) => open_folder(rt, folder, SyncPolicy::Always, &progress).err(),
+        Err(_) => Some(FolderFault::Memory),
+    }
 }
 
 /// Removes the folder of a test.

@@ -1,8 +1,9 @@
 //! A folder of logs that is opened again.
 use crate::tests::noting::{empty_folder, fault_of, note, remove_folder};
 use std::fs;
+use std::sync::Arc;
 use std::test::Fail;
-use xs_files::{FolderFault, SyncPolicy, open_folder};
+use xs_files::{FolderFault, Progress, SyncPolicy, open_folder};
 
 #[test]
 fn what_was_noted_is_found(rt: HostRuntime) -> Result<(), Fail> {
@@ -43,7 +44,8 @@ fn is_sent<T: Send>(_value: &T) {}
 #[test]
 fn a_folder_is_opened_once(rt: HostRuntime) -> Result<(), Fail> {
     empty_folder(&rt, "once")?;
-    let Ok(opened) = open_folder(&rt, "once", SyncPolicy::Always) else {
+    let progress = Arc::new(rt.alloc(), Progress::new())?;
+    let Ok(opened) = open_folder(&rt, "once", SyncPolicy::Always, &progress) else {
         return Err("not opened".into());
     };
     is_sent(&opened.log);

@@ -3,25 +3,49 @@ ghost use Rattle.std.specs.Prelude.{◌≡◌, IfSome};
 ghost use Rattle.xs_desk.specs.KeptRings.{KeepsRings};
 
 use crate::work::lifecycle::Lifecycle;
-use crate::work::mode::Mode;
+use crate::work::mode::KeeperMode;
 use crate::work::worker_pool::STACK;
 use std::snapshot::Snapshot;
 use std::sync::{Arc, Wait};
 use std::thread::{Builder, PromisedHandle, Threads};
-use xs_desk::{Keeper, SameRings};
+use xs_desk::{Journal, Keeper, SameRings};
 use xs_keys::Clock;
 
 /// A keeper in its thread.
-pub type KeeperThread = PromisedHandle<Keeper, SameRings>;
+pub type KeeperThread<J> = PromisedHandle<Keeper<J>, SameRings<J>>;
 
-/// Serves turn after turn, until all workers have ended and nobody is left to serve, or there is no further place.
-fn keep<G, C: Clock + Drop, M: Mode<G> + Drop, R: Wait>(
+/// Comes after a turn that served nobody: what was noted is kept, and the answers that wait for that are handed out. If
+/// there were none, it waits. It says whether the keeper goes on.
+fn rest<J: Journal + Drop, M: KeeperMode, R: Wait>(
     rt: &R,
-    keeper: Keeper,
+    keeper: &mut Keeper<J>,
+    mode: &M,
+    lifecycle: &Lifecycle,
+) -> bool
+    ensures { keeper.new ≡ keeper.old }
+{
+    match keeper.settle() {
+        Ok(0) => {
+            if lifecycle.has_ended() {
+                return false;
+            }
+            mode.idle(rt, keeper);
+            true
+        }
+        Ok(_) => true,
+        Err(_) => false,
+    }
+}
+
+/// Serves turn after turn, until all workers have ended and nobody is left to serve, the log has failed, or there is no
+/// further place.
+fn keep<J: Journal + Drop, C: Clock + Drop, M: KeeperMode + Drop, R: Wait>(
+    rt: &R,
+    keeper: Keeper<J>,
     clock: C,
     mode: M,
     lifecycle: &Lifecycle,
-) -> Keeper
+) -> Keeper<J>
     ensures { KeepsRings keeper result }
 {
     let mut keeper = keeper;
@@ -31,10 +55,9 @@ fn keep<G, C: Clock + Drop, M: Mode<G> + Drop, R: Wait>(
         mode.before_turn(&mut keeper);
         match keeper.turn(&mut clock) {
             Ok(0) => {
-                if lifecycle.has_ended() {
+                if !rest(rt, &mut keeper, &mode, lifecycle) {
                     break;
                 }
-                mode.idle(rt, &keeper);
             }
             Ok(_) => {}
             Err(_) => break,
@@ -45,11 +68,17 @@ fn keep<G, C: Clock + Drop, M: Mode<G> + Drop, R: Wait>(
 
 /// Starts the keeper's thread, or gives None if it can't be started.
 pub fn start_keeper<
-    G: 'static,
+    J: Journal + Send + Drop + 'static,
     C: Clock + Send + Drop + 'static,
-    M: Mode<G> + Send + Drop + 'static,
+    M: KeeperMode + Send + Drop + 'static,
     R: Threads + Wait + Copy + Send + 'static,
->(rt: &R, keeper: Keeper, clock: C, mode: M, lifecycle: Arc<Lifecycle>) -> Option<KeeperThread>
+>(
+    rt: &R,
+    keeper: Keeper<J>,
+    clock: C,
+    mode: M,
+    lifecycle: Arc<Lifecycle>,
+) -> Option<KeeperThread<J>>
     ensures { IfSome result (λ thread. thread.promise.0.value ≡ keeper) }
 {
     let handle = *rt;
@@ -57,7 +86,7 @@ pub fn start_keeper<
     match Builder::new().stack_size(STACK).spawn_with(
         rt,
         promise,
-        move || keep::<G, C, M, R>(&handle, keeper, clock, mode, &lifecycle),
+        move || keep::<J, C, M, R>(&handle, keeper, clock, mode, &lifecycle),
     ) {
         Ok(thread) => Some(thread),
         Err(_) => None,

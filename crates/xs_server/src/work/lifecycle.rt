@@ -1,6 +1,7 @@
-//! When workers begin and the keeper ends: what the thread that starts them tells them.
-use std::sync::atomic::{AtomicBool, Ordering};
+//! When workers begin and the keeper ends.
+use std::sync::atomic::{AtomicBool, AtomicUsize, Ordering};
 use std::sync::{Condvar, Mutex, Wait};
+use xs_desk::Waker;
 
 /// What workers are told.
 #[derive(Clone, Copy, Debug, PartialEq, Eq)]
@@ -18,16 +19,22 @@ enum Word {
 pub struct Lifecycle {
     word: Mutex<Word>,
     told: Condvar,
+    // How many workers haven't ended.
+    at_work: AtomicUsize,
     ended: AtomicBool,
+    // Wakes the keeper.
+    waker: Waker,
 }
 
 impl Lifecycle {
-    /// Nothing is told yet.
-    pub fn new() -> Lifecycle {
+    /// Nothing is told yet to so many workers, whose keeper this wakes.
+    pub fn new(workers: usize, waker: Waker) -> Lifecycle {
         Lifecycle {
             word: Mutex::new(Word::Wait),
             told: Condvar::new(),
+            at_work: AtomicUsize::new(workers),
             ended: AtomicBool::new(false),
+            waker,
         }
     }
 
@@ -37,18 +44,27 @@ impl Lifecycle {
         self.told.notify_all();
     }
 
-    /// A thread wasn't started: workers end before their first connection.
+    /// A thread wasn't started: workers end before their first connection, and the keeper may end.
     pub fn give_up<R: Wait>(&self, rt: &R) {
         *self.word.lock(rt) = Word::GiveUp;
         self.told.notify_all();
+        self.end();
     }
 
-    /// All workers have ended: the keeper may end.
-    pub fn end(&self) {
+    /// The keeper may end.
+    fn end(&self) {
         self.ended.store(true, Ordering::SeqCst);
+        self.waker.wake();
     }
 
-    /// Whether all workers have ended.
+    /// A worker has ended. Behind the last one the keeper may end.
+    pub fn end_worker(&self) {
+        if self.at_work.fetch_sub(1, Ordering::SeqCst) == 1 {
+            self.end();
+        }
+    }
+
+    /// Whether the keeper may end.
     pub fn has_ended(&self) -> bool {
         self.ended.load(Ordering::SeqCst)
     }

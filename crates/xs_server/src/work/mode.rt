@@ -2,12 +2,26 @@
 use crate::connections::memory::ConnectionMemory;
 use std::alloc::{AllocError, Global};
 use std::sync::Wait;
-use xs_desk::{Idle, Keeper, Pause};
+use xs_desk::{Idle, Journal, Keeper, Pause};
 
-/// How the connections of gates are served.
-pub trait Mode<G> {
+/// What a keeper does between its turns, whatever its journal is.
+pub trait KeeperMode {
     ghost use Rattle.std.specs.Prelude.{◌≡◌};
 
+    /// Comes before the keeper's first turn.
+    fn begin<J: Journal + Drop>(&self, keeper: &mut Keeper<J>)
+        ensures { keeper.new ≡ keeper.old };
+
+    /// Comes before each of its turns.
+    fn before_turn<J: Journal + Drop>(&self, keeper: &mut Keeper<J>)
+        ensures { keeper.new ≡ keeper.old };
+
+    /// Waits after a turn that served nobody.
+    fn idle<J: Journal + Drop, R: Wait>(&self, rt: &R, keeper: &Keeper<J>);
+}
+
+/// How the connections of gates are served.
+pub trait Mode<G>: KeeperMode {
     /// How a worker waits for an answer.
     type Pause: Pause + Send + Drop + 'static;
 
@@ -16,22 +30,21 @@ pub trait Mode<G> {
 
     /// The memory of a worker's connections.
     fn memory(&self, alloc: Global) -> Result<ConnectionMemory, AllocError>;
-
-    /// Comes before the keeper's first turn.
-    fn begin(&self, keeper: &mut Keeper)
-        ensures { keeper.new ≡ keeper.old };
-
-    /// Comes before each of its turns.
-    fn before_turn(&self, keeper: &mut Keeper)
-        ensures { keeper.new ≡ keeper.old };
-
-    /// Waits after a turn that served nobody.
-    fn idle<R: Wait>(&self, rt: &R, keeper: &Keeper);
 }
 
 /// No call waits, and all memory is made at the start.
 #[derive(Clone, Copy, Debug, PartialEq, Eq)]
 pub struct Bounded;
+
+impl KeeperMode for Bounded {
+    fn begin<J: Journal + Drop>(&self, _keeper: &mut Keeper<J>) {}
+
+    fn before_turn<J: Journal + Drop>(&self, _keeper: &mut Keeper<J>) {}
+
+    fn idle<J: Journal + Drop, R: Wait>(&self, rt: &R, keeper: &Keeper<J>) {
+        keeper.idle(rt);
+    }
+}
 
 impl<G> Mode<G> for Bounded {
     type Pause = Idle;
@@ -42,13 +55,5 @@ impl<G> Mode<G> for Bounded {
 
     fn memory(&self, alloc: Global) -> Result<ConnectionMemory, AllocError> {
         ConnectionMemory::made(alloc)
-    }
-
-    fn begin(&self, _keeper: &mut Keeper) {}
-
-    fn before_turn(&self, _keeper: &mut Keeper) {}
-
-    fn idle<R: Wait>(&self, rt: &R, keeper: &Keeper) {
-        keeper.idle(rt);
     }
 }

@@ -81,6 +81,7 @@ pub fn run_worker<G: Gate + Drop, P: Pause + Drop, R: Wait>(
     }
     let mut lane = Lane::with_pause(client, pause);
     let served = serve_gate(rt, &mut memory, &mut gate, &mut lane);
+    lifecycle.end_worker();
     Worked {
         ended: lane.end().finish(),
         refused: served.is_err(),

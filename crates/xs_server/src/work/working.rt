@@ -8,59 +8,17 @@ ghost use Rattle.xs_server.specs.WorkOutcome.{IsClosed, IsWorkFault};
 
 use crate::work::fault::WorkFault;
 use crate::work::gate::Gate;
-use crate::work::keeper_thread::start_keeper;
-use crate::work::lifecycle::Lifecycle;
 use crate::work::mode::{Bounded, Mode};
-use crate::work::worker::Worker;
-use crate::work::worker_pool::{WorkerThread, join_all, make_workers, start_all};
-use std::alloc::{AllocError, Global};
-use std::sync::{Arc, Wait};
+use crate::work::started::{StartedThreads, WorkerPool, make_pool, start_threads};
+use crate::work::worker_pool::join_all;
+use std::alloc::Global;
+use std::sync::Wait;
 use std::thread::Threads;
-use xs_desk::{
-    Client, CloseError, DeskError, Ended, Keeper, Pause, Summary, Waker, close, wide_desk,
-};
+use xs_desk::{Client, CloseError, DeskError, Ended, Keeper, Summary, close, wide_desk};
 use xs_keys::Clock;
 
 /// The most gates of `work`.
 const MAX_GATES: usize = 64;
-
-/// All that work needs, made before the first thread is started.
-#[derive(Drop)]
-struct WorkerPool<G: Drop, P: Drop> {
-    workers: Vec<Worker<G, P>>,
-    started: Vec<WorkerThread>,
-    ended: Vec<Ended>,
-    lifecycle: Arc<Lifecycle>,
-    waker: Waker,
-}
-
-fn make_pool<G: Drop, M: Mode<G>>(
-    alloc: Global,
-    keeper: &Keeper,
-    clients: Vec<Client>,
-    gates: Vec<G>,
-    mode: &M,
-) -> Result<WorkerPool<G, M::Pause>, AllocError>
-    ensures workers { IfOk result (λ pool. map (λ w. w.client) pool.workers.items ≡ clients.items) }
-    ensures started { IfOk result (λ pool. (pool.started.items ≡ [])
-        × (length pool.workers.items ≤ vec_capacity pool.started)) }
-    ensures ended { IfOk result (λ pool. (pool.ended.items ≡ [])
-        × (length pool.workers.items ≤ vec_capacity pool.ended)) }
-{
-    let count = clients.len();
-    let started = Vec::with_capacity(alloc, count)?;
-    let ended = Vec::with_capacity(alloc, count)?;
-    let lifecycle = Arc::new(alloc, Lifecycle::new())?;
-    let waker = keeper.waker()?;
-    let workers = make_workers(alloc, clients, gates, mode)?;
-    Ok(WorkerPool {
-        workers,
-        started,
-        ended,
-        lifecycle,
-        waker,
-    })
-}
 
 /// What came back from the threads.
 #[derive(Drop)]
@@ -86,23 +44,18 @@ fn run_all<
 {
     let WorkerPool {
         workers,
-        mut started,
+        started,
         mut ended,
         lifecycle,
-        waker,
     } = pool;
-    let told = Arc::try_clone(&lifecycle).ok()?;
-    let kept = start_keeper::<G, C, M, R>(rt, keeper, clock, mode, told)?;
-    let all = start_all(rt, workers, &lifecycle, &mut started);
-    if all {
-        lifecycle.begin(rt);
-    } else {
-        lifecycle.give_up(rt);
-    }
-    let refused = join_all(rt, started, &mut ended);
-    lifecycle.end();
-    waker.wake();
-    let keeper = kept.join(rt);
+    let threads = start_threads(rt, keeper, clock, mode, workers, started, &lifecycle)?;
+    let StartedThreads {
+        keeper,
+        workers,
+        all,
+    } = threads;
+    let refused = join_all(rt, workers, &mut ended);
+    let keeper = keeper.join(rt);
     if !all {
         return None;
     }

@@ -15,7 +15,7 @@ returns-clause-summary c =
     let waiting = known_items c.slots_beside-left.new.self in
     let untaken = known_items c.slots_beside.new.self in
     let asked : received calls ++ waiting ≡ submitted =
-        ap (λ r. r ++ waiting) (sym c.slots_beside-left.ensures.looked.1) ∙ c.slots_beside-left.ensures.fifo ∙ c.slots_beside-left.ensures.producer.1 in
+    ap (λ r. r ++ waiting) (sym c.slots_beside-left.ensures.looked.1) ∙ c.slots_beside-left.ensures.fifo ∙ c.slots_beside-left.ensures.producer.1 in
     let answered : taken ++ untaken ≡ sent ring = ap (λ r. r ++ untaken) (sym c.slots_beside.ensures.looked.1) ∙ c.slots_beside.ensures.fifo ∙ c.slots_beside.ensures.producer.1 in
     let held_is : c.len.result ≡ length held = search rules in
     rw (← c.end.view_is) (record {

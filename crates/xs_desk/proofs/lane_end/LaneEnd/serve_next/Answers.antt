@@ -13,7 +13,7 @@ returns-clause-looks g c =
     let call = c.pop_known-call.result in
     let answer : Answer = record { ticket = c.args.self.now.ticket; place = c.args.place.now; moment = c.now-moment.result; reply = c.apply-reply.result } in
     let popped : asked_by (received c.pop_known-call.new.self) ≡ asked_by (received c.args.self.now.calls) ++ call.command ∷ [] =
-        ap asked_by c.pop_known-call.ensures.received.0 ∙ map-append (λ call. call.command) (received c.args.self.now.calls) (call ∷ []) in
+    ap asked_by c.pop_known-call.ensures.received.0 ∙ map-append (λ call. call.command) (received c.args.self.now.calls) (call ∷ []) in
     let sent : given c.give.new.self ≡ given c.args.self.now.answers ++ answer ∷ [] = c.give.ensures.given in
     let calls : consumer_ring c.pop_known-call.new.self ≡ consumer_ring c.args.self.now.calls = search rules in
     let answers : producer_ring c.give.new.self.ring ≡ producer_ring c.args.self.now.answers.ring = c.give.ensures.ring in

@@ -10,8 +10,7 @@ use Rattle.xs_desk.proofs.lane_end.LaneEnd.wish.Goals as goal
 pub returns-in-Ok-true : goal.returns-in-Ok-true
 returns-in-Ok-true c =
     let calls = known_items c.args.self.now.calls in
-    let blocks : is_some c.in-ReadGroup.read.block ≡ true = search rules in
-    (
+    let blocks : is_some c.in-ReadGroup.read.block ≡ true = search rules in (
       ReadGroup c.in-ReadGroup.read,
       subst (λ command. IsPrefix (command ∷ []) (asked_by calls)) c.in-ReadGroup.is (prefix_map (λ call. call.command) (c.peek_known.result.now ∷ []) calls c.peek_known.ensures),
       blocks,

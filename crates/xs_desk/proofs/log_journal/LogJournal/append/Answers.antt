@@ -12,11 +12,11 @@ note-requires-clause-short g c =
 pub returns-then-is_err-clause-noted : goal.returns-then-is_err-clause-noted
 returns-then-is_err-clause-noted g c =
     let words = subst (λ ws. AreWordsOf ws c.args.call.now.command) (sym c.as_slice.ensures) (words-of c.args.call.now.words c.in-Some.words c.args.call.now.command c.in-Some.is c.requires.words) in
-    appended g.L.EventLog.has c.args.self.now.log c.note.new.self c.args.self.now.failed _ c.args.self.now.start.value (c.args.moment, c.args.call.now.command) c.if-self.false
+    appended g.L.EventLog.has c.args.self.now.log c.note.new.self c.args.self.now.failed _ c.args.self.now.start (c.args.moment, c.args.call.now.command) c.if-self.false
     (λ events kept h. c.note.ensures.noted c.args.call.now.command events kept words.say c.requires.command h)
 
 pub returns-else-is_err-clause-noted : goal.returns-else-is_err-clause-noted
 returns-else-is_err-clause-noted g c =
     let words = subst (λ ws. AreWordsOf ws c.args.call.now.command) (sym c.as_slice.ensures) (words-of c.args.call.now.words c.in-Some.words c.args.call.now.command c.in-Some.is c.requires.words) in
-    appended g.L.EventLog.has c.args.self.now.log c.note.new.self c.args.self.now.failed _ c.args.self.now.start.value (c.args.moment, c.args.call.now.command) c.if-self.false
+    appended g.L.EventLog.has c.args.self.now.log c.note.new.self c.args.self.now.failed _ c.args.self.now.start (c.args.moment, c.args.call.now.command) c.if-self.false
     (λ events kept h. c.note.ensures.noted c.args.call.now.command events kept words.say c.requires.command h)

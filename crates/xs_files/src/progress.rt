@@ -1,0 +1,27 @@
+//! How far the logs of a folder are read.
+use std::sync::atomic::{AtomicU64, Ordering};
+
+/// How many bytes of the logs of a folder were read. Another thread may look at it meanwhile.
+#[derive(Drop)]
+pub struct Progress {
+    bytes: AtomicU64,
+}
+
+impl Progress {
+    /// Nothing is read yet.
+    pub fn new() -> Progress {
+        Progress {
+            bytes: AtomicU64::new(0),
+        }
+    }
+
+    /// So many more bytes were read.
+    pub(crate) fn add(&self, count: usize) {
+        self.bytes.fetch_add(count as u64, Ordering::SeqCst);
+    }
+
+    /// How many bytes were read.
+    pub fn bytes(&self) -> u64 {
+        self.bytes.load(Ordering::SeqCst)
+    }
+}

@@ -1,0 +1,163 @@
+//! The program's command `run` with a log.
+ghost use Rattle.std.specs.Prelude.{◌≡◌, List, false, length, IfOk, IfErr};
+ghost use Rattle.xs_bytes.specs.SortedMap.{empty};
+ghost use Rattle.xs_keys.specs.Event.{Event};
+ghost use Rattle.xs_replay.specs.After.{contents_after};
+
+use crate::command_line::{LogOptions, RunOptions};
+use crate::log_threads::{start_syncing, start_telling};
+use crate::report::{report_memory, report_text, report_work};
+use crate::run_command::{Ready, make_ready};
+use crate::serve_command::DEPTH;
+use crate::wall_clock::WallClock;
+use crate::work::logged::{LoggedEnd, work_logged};
+use std::alloc::{Alloc, AllocError, Global};
+use std::fs::Files;
+use std::net::{Net, TcpListener, TcpStream};
+use std::sync::Wait;
+use std::thread::Threads;
+use std::time::Clock;
+use xs_devices::{Sink, write_all};
+use xs_files::{FileTape, FolderFault, OpenedFolder, open_folder};
+use xs_log::TapeLog;
+use xs_replay::EventLog;
+
+/// Says why a folder isn't opened. It gives the status of the program.
+fn report_folder<E: Sink>(alloc: Global, folder: &str, fault: FolderFault, errors: &mut E) -> u8
+    ensures { result ≡ 1 }
+{
+    match format!(in alloc; "xs_server: {folder}: {fault}\n") {
+        Ok(text) => report_text(errors, text.as_bytes()),
+        Err(_) => report_memory(errors),
+    }
+}
+
+/// The line that says what was read of a log.
+fn log_line(alloc: Global, folder: &str, records: u64, dropped: u64) -> Result<String, AllocError> {
+    format!(in alloc;
+        "xs_server: log {folder}: {records} records, {dropped} bytes of an unfinished record dropped\n"
+    )
+}
+
+/// Says why work with a log has ended. It gives the status of the program.
+fn report_end<E: Sink>(
+    alloc: Global,
+    log: &LogOptions,
+    records: u64,
+    end: &LoggedEnd,
+    errors: &mut E,
+) -> u8
+    ensures { result ≡ 1 }
+{
+    let kept = match end {
+        LoggedEnd::Work(fault) => return report_work(errors, fault),
+        LoggedEnd::Log { kept } => *kept,
+    };
+    let folder = log.folder.as_str();
+    let number = records.saturating_add(kept).saturating_add(1);
+    match format!(in alloc; "xs_server: log {folder}: record {number} can't be kept\n") {
+        Ok(text) => report_text(errors, text.as_bytes()),
+        Err(_) => report_memory(errors),
+    }
+}
+
+/// Opens the folder of a log, and says what was read. A thread of its own tells each second how far it is.
+///
+/// # Errors
+/// The status of the program, 1. The cause was said on `errors`.
+pub fn open_logs<
+    W: Sink + Send + Drop + 'static,
+    E: Sink,
+    R: Threads + Wait + Clock + Copy + Send + Drop + 'static,
+>(
+    rt: &R,
+    files: &HostRuntime,
+    log: &LogOptions,
+    out: W,
+    errors: &mut E,
+) -> Result<OpenedFolder<HostRuntime>, u8>
+    ensures content { IfOk result (λ opened. (events : List Event)
+        × (opened.keyspace ≡ contents_after empty events)) }
+    ensures sound { IfOk result (λ opened.
+        ⟦<TapeLog<FileTape<HostRuntime>> as EventLog>⟧.broken opened.log ≡ false) }
+    ensures has { IfOk result (λ opened. (events : List Event) →
+        ⟦<TapeLog<FileTape<HostRuntime>> as EventLog>⟧.has opened.log events (length events)) }
+    ensures status { IfErr result (λ status. status ≡ 1) }
+{
+    let alloc = files.alloc();
+    let folder = log.folder.as_str();
+    let Ok(telling) = start_telling(rt, alloc, folder, out) else {
+        return Err(report_memory(errors));
+    };
+    let opened = match open_folder(files, folder, log.policy, &telling.progress) {
+        Ok(opened) => opened,
+        Err(fault) => return Err(report_folder(alloc, folder, fault, errors)),
+    };
+    telling.end();
+    let Ok(line) = log_line(alloc, folder, opened.records, opened.dropped) else {
+        return Err(report_memory(errors));
+    };
+    let _ = write_all(errors, line.as_bytes());
+    match sync_beside(rt, *files, &opened.log) {
+        Ok(()) => Ok(opened),
+        Err(_) => Err(report_memory(errors)),
+    }
+}
+
+/// Starts the thread that syncs a log, if its policy asks for one.
+fn sync_beside<R: Threads + Wait + Clock + Copy + Send + Drop + 'static>(
+    rt: &R,
+    files: HostRuntime,
+    log: &TapeLog<FileTape<HostRuntime>>,
+) -> Result<(), AllocError> {
+    match log.tape().syncer()? {
+        Some(syncer) => start_syncing(rt, files, syncer),
+        None => Ok(()),
+    }
+}
+
+/// Listens, and serves the connections that come, over what a folder of logs has given, up to a signal or a failure of
+/// the log. It gives the status of the program, and the cause is said on `errors`.
+pub fn run_logged<
+    W: Sink + Send + Drop + 'static,
+    E: Sink,
+    R: Net<Listener = TcpListener, Stream = TcpStream>
+        + Files
+        + Alloc<A = Global>
+        + Threads
+        + Wait
+        + Clock
+        + Copy
+        + Send
+        + Drop
+        + 'static,
+>(
+    rt: &R,
+    alloc: Global,
+    options: &RunOptions,
+    log: &LogOptions,
+    opened: OpenedFolder<HostRuntime>,
+    out: W,
+    errors: &mut E,
+) -> u8
+    requires content { (events : List Event) × (opened.keyspace ≡ contents_after empty events) }
+    requires sound { ⟦<TapeLog<FileTape<HostRuntime>> as EventLog>⟧.broken opened.log ≡ false }
+    requires has { (events : List Event) →
+        ⟦<TapeLog<FileTape<HostRuntime>> as EventLog>⟧.has opened.log events (length events) }
+    ensures { result ≡ 1 }
+{
+    let Ready { gates, patience } = match make_ready(rt, alloc, options, out, errors) {
+        Ok(ready) => ready,
+        Err(status) => return status,
+    };
+    let OpenedFolder {
+        keyspace,
+        last,
+        records,
+        dropped: _,
+        log: tape_log,
+    } = opened;
+    let clock = WallClock::not_before(*rt, last);
+    let end = work_logged(rt, alloc, gates, DEPTH, clock, patience, keyspace, tape_log);
+    report_end(alloc, log, records, &end, errors)
+}

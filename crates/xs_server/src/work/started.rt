@@ -1,0 +1,99 @@
+//! The threads of a desk: one for its keeper, and one for each worker.
+ghost use Rattle.std.specs.Prelude.{◌≡◌, ◌≤◌, true, [], length, map, vec_capacity, IfOk, IfSome};
+
+use crate::work::gate::Gate;
+use crate::work::keeper_thread::{KeeperThread, start_keeper};
+use crate::work::lifecycle::Lifecycle;
+use crate::work::mode::Mode;
+use crate::work::worker::Worker;
+use crate::work::worker_pool::{WorkerThread, make_workers, start_all};
+use std::alloc::{AllocError, Global};
+use std::sync::{Arc, Wait};
+use std::thread::Threads;
+use xs_desk::{Client, Ended, Journal, Keeper, Pause};
+use xs_keys::Clock;
+
+/// All that the threads need, made before the first is started.
+#[derive(Drop)]
+pub struct WorkerPool<G: Drop, P: Drop> {
+    pub workers: Vec<Worker<G, P>>,
+    /// Room for the threads of the workers.
+    pub started: Vec<WorkerThread>,
+    /// Room for what comes back from them.
+    pub ended: Vec<Ended>,
+    pub lifecycle: Arc<Lifecycle>,
+}
+
+/// A pool with a worker for each gate.
+pub fn make_pool<G: Drop, M: Mode<G>, J: Journal + Drop>(
+    alloc: Global,
+    keeper: &Keeper<J>,
+    clients: Vec<Client>,
+    gates: Vec<G>,
+    mode: &M,
+) -> Result<WorkerPool<G, M::Pause>, AllocError>
+    ensures workers { IfOk result (λ pool. map (λ w. w.client) pool.workers.items ≡ clients.items) }
+    ensures started { IfOk result (λ pool. (pool.started.items ≡ [])
+        × (length pool.workers.items ≤ vec_capacity pool.started)) }
+    ensures ended { IfOk result (λ pool. (pool.ended.items ≡ [])
+        × (length pool.workers.items ≤ vec_capacity pool.ended)) }
+{
+    let count = clients.len();
+    let started = Vec::with_capacity(alloc, count)?;
+    let ended = Vec::with_capacity(alloc, count)?;
+    let lifecycle = Arc::new(alloc, Lifecycle::new(count, keeper.waker()?))?;
+    let workers = make_workers(alloc, clients, gates, mode)?;
+    Ok(WorkerPool {
+        workers,
+        started,
+        ended,
+        lifecycle,
+    })
+}
+
+/// The threads that were started.
+#[derive(Drop)]
+pub struct StartedThreads<J: Journal + Drop + 'static> {
+    pub keeper: KeeperThread<J>,
+    pub workers: Vec<WorkerThread>,
+    /// Every thread was started. If not, the workers end before their first connection.
+    pub all: bool,
+}
+
+/// Starts a thread for the keeper and one for each worker. None if there is none for the keeper.
+pub fn start_threads<
+    J: Journal + Send + Drop + 'static,
+    G: Gate + Send + Drop + 'static,
+    C: Clock + Send + Drop + 'static,
+    M: Mode<G> + Send + Drop + 'static,
+    R: Threads + Wait + Copy + Send + 'static,
+>(
+    rt: &R,
+    keeper: Keeper<J>,
+    clock: C,
+    mode: M,
+    workers: Vec<Worker<G, M::Pause>>,
+    started: Vec<WorkerThread>,
+    lifecycle: &Arc<Lifecycle>,
+) -> Option<StartedThreads<J>>
+    requires room { (started.items ≡ []) × (length workers.items ≤ vec_capacity started) }
+    ensures keeper { IfSome result (λ threads. threads.keeper.promise.0.value ≡ keeper) }
+    ensures count { IfSome result (λ threads. length threads.workers.items ≤ length workers.items) }
+    ensures all { IfSome result (λ threads. threads.all ≡ true →
+        map (λ s. s.promise.0.value) threads.workers.items ≡ map (λ w. w.client) workers.items) }
+{
+    let mut started = started;
+    let told = Arc::try_clone(lifecycle).ok()?;
+    let keeper = start_keeper::<J, C, M, R>(rt, keeper, clock, mode, told)?;
+    let all = start_all(rt, workers, lifecycle, &mut started);
+    if all {
+        lifecycle.begin(rt);
+    } else {
+        lifecycle.give_up(rt);
+    }
+    Some(StartedThreads {
+        keeper,
+        workers: started,
+        all,
+    })
+}
