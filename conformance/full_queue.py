@@ -2,8 +2,10 @@
 
 Replies are those of the Redis pages of the commands; docs/COMMANDS.md has the texts of errors.
 """
+import contextlib
 import re
 import resource
+import threading
 
 from great import array, bulk, entry, number
 from real_redis import read_reply
@@ -89,6 +91,46 @@ def empty_full_queue(server, takes, least):
     assert len(taken) == len(set(taken)) == added + again, (len(taken), len(set(taken)), added, again)
     assert again > 10
     say_at(server, "DEL q", number(1))
+
+
+@contextlib.contextmanager
+def producing(server, producers=2):
+    """So many producers add entries of 1 KB while the block runs, refused or not. Each has a connection of its own."""
+    over, faults = threading.Event(), []
+
+    def produce():
+        try:
+            with raw(server.port) as stream, stream.makefile("rb") as replies:
+                while not over.is_set():
+                    stream.sendall(asking(f"XADD q * f {'v' * 1000}") * 20)
+                    for _ in range(20):
+                        got = read_reply(replies)
+                        assert got == NO_MEMORY or got.startswith(b"$"), got
+        except (AssertionError, OSError) as fault:
+            faults.append(fault)
+
+    threads = [threading.Thread(target=produce) for _ in range(producers)]
+    for thread in threads:
+        thread.start()
+    try:
+        yield
+    finally:
+        over.set()
+        for thread in threads:
+            thread.join()
+    assert not faults, faults
+
+
+def consume_beside_producers(server, rounds):
+    """Producers fill the memory and never stop. Meanwhile consumers on new connections read and acknowledge, one job and
+    many at once, and delete what they took: no command of theirs is refused."""
+    say_at(server, "XGROUP CREATE q g 0 MKSTREAM", "+OK\r\n")
+    add_until_full(server)
+    taken = []
+    with producing(server):
+        for turn in range(rounds):
+            taken += consume(server, (1, 5, 20)[turn % 3], "XDEL")
+    assert len(taken) == len(set(taken)) and len(taken) > rounds, (len(taken), len(set(taken)), rounds)
 
 
 def under_a_bound(program, takes):

@@ -334,6 +334,14 @@ def full_memory(program):
         all_answer(server)
 
 
+def full_queue_beside_producers(program):
+    """While memory is full and two producers never stop, no consumer is refused."""
+    with running(program, workers=16) as server:
+        all_answer(server)
+        full_queue.limit_memory(server, 64 * MEGABYTE)
+        full_queue.consume_beside_producers(server, 600)
+
+
 # What the server may have five seconds after clients have left who asked for 100 MB that stay stored: Redis 7.0 has 131
 # to 155 MiB.
 BEHIND_THE_GONE = 150 * MEGABYTE
@@ -598,7 +606,8 @@ def main(arguments):
     program = arguments[0]
     alone = (tells_of_itself, wrong_options, taken, listener_ends, defaults, addresses, too_few_to_start,
              too_little_memory_to_start, readers_over_one_server, waiting.ends_in_time, waiting.sixty,
-             waiting.waiting_costs_nothing, a_thousand, busy_among_idle, a_thousand_wait, full_memory, memory_of_the_gone)
+             waiting.waiting_costs_nothing, a_thousand, busy_among_idle, a_thousand_wait, full_memory,
+             full_queue_beside_producers, memory_of_the_gone)
     at_once = (waiting.clients_that_go, waiting.has_just_gone, waiting.terminated, forty_too_many, one_ends_in_time,
                few_descriptors, no_descriptors, closes_the_idle, keeps_the_idle, odd_errors, never_waits,
                clock_steps.clock_is_set, in_their_order, sends_while_it_waits)

@@ -620,6 +620,12 @@ def full_queue_trimmed(program):
     full_queue.with_many_workers(program, "XTRIM")
 
 
+def full_queue_beside_producers(program):
+    """While memory is full and two producers never stop, no consumer is refused."""
+    with serving(program, workers=6, limits={resource.RLIMIT_AS: 200_000 * 1024}) as server:
+        full_queue.consume_beside_producers(server, 600)
+
+
 def full_queue_of_great_jobs(program):
     """A job of 3 MB, and three of 500 KB at once, are taken and claimed while memory is full."""
     for size, count in ((3_000_000, 1), (500_000, 3)):
@@ -641,7 +647,7 @@ def main(arguments):
     over_program = (as_many_as_workers, more_than_workers, ends, taken, options, stopped, full_output,
                     too_little_to_start, few_descriptors, listener_ends, waits_take_no_time, idle_behind_great_ones,
                     memory_of_entries, memory_of_deleted_entries, full_queue_deleted, full_queue_trimmed,
-                    full_queue_handed_out, full_queue_of_great_jobs)
+                    full_queue_handed_out, full_queue_beside_producers, full_queue_of_great_jobs)
     return try_all(arguments[0], over_server, over_program, WORKERS)
 
 
