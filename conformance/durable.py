@@ -333,9 +333,9 @@ def no_room_to_start(program):
 
 
 def is_refusal(done, folder, text):
-    """It has ended with status 1, and one line that names the folder and what is wrong with it."""
-    wanted = f"xs_server: {folder}: {text}\n"
-    assert (done.returncode, done.stdout, done.stderr.decode()) == (1, b"", wanted), (wanted, done)
+    """It has ended with status 1, and one line that names the folder and what is wrong with it, as this pattern says."""
+    is_told = re.fullmatch(rf"xs_server: {re.escape(folder)}: (?:{text})\n", done.stderr.decode())
+    assert (done.returncode, done.stdout) == (1, b"") and is_told, (text, done)
 
 
 def refused_as_it_is(program, folder, text, before=None):
@@ -344,10 +344,8 @@ def refused_as_it_is(program, folder, text, before=None):
     was = logs.contents(above)
     is_refusal(start(program, folder, before=before), folder, text)
     now = logs.contents(above)
-    with contextlib.suppress(KeyError, AttributeError):
-        inside, inside_was = now[1]["log"][1], was[1]["log"][1]
-        if "lock" not in inside_was and inside["lock"][1] == b"":
-            del inside["lock"]
+    if os.path.isdir(folder) and "lock" not in was[1]["log"][1] and now[1]["log"][1].get("lock", (0, 0))[1] == b"":
+        del now[1]["log"][1]["lock"]
     assert now == was, f"{text}: something was changed"
 
 
@@ -368,7 +366,7 @@ def link_to_nothing(path):
 OTHERS = b"".join(request([word]) for word in (b"SELECT", b"0")) * 40
 WRONG_COMMAND = logs.record(MOMENT, [b"XADD", b"s"])
 OTHER_FORMAT = logs.with_checksum(b"xs-log", [b"2", b"1", b"1"])
-FOREIGN = "log-1 is no log of this program"
+FOREIGN = "log-1 is (no log of this program|damaged at byte 0)"
 # How a folder is made, and what is said of it.
 WRONG = [
     (lambda folder: logs.write_file(folder, GOOD), "it is no folder"),
@@ -406,10 +404,12 @@ def wrong_folders(program):
             make_it(folder)
             refused_as_it_is(program, folder, text)
     with new_folder() as above:
-        refused_as_it_is(program, os.path.join(above, "log"), "the folder above it isn't there")
+        folder = os.path.join(above, "log")
+        is_refusal(start(program, folder), folder, "the folder above it isn't there")
+        assert not os.path.exists(above)
         logs.write_file(above, b"a file")
-        is_refusal(start(program, os.path.join(above, "log")), os.path.join(above, "log"),
-                   "the folder above it isn't there")
+        is_refusal(start(program, folder), folder, "the folder above it isn't there")
+        assert logs.read_file(above) == b"a file"
 
 
 def no_access(program):
@@ -438,13 +438,11 @@ def no_access(program):
                                  (log, 0o400, "log-1 can't be written")):
             whole, was = os.stat(path).st_mode, logs.contents(folder)
             os.chmod(path, mode)
-            done = start(copy, folder, before=as_nobody)
-            wanted = rf"xs_server: {re.escape(folder)}: {text}[^\n]*\n"
-            assert (done.returncode, done.stdout) == (1, b"") and re.fullmatch(wanted, done.stderr.decode()), (text, done)
+            is_refusal(start(copy, folder, before=as_nobody), folder, f"{text}.*")
             os.chmod(path, whole)
             assert logs.contents(folder) == was, text
-        done = start(copy, os.path.join(above, "new"), before=as_nobody)
-        assert done.returncode == 1 and b"it can't be written" in done.stderr, done
+        new = os.path.join(above, "new")
+        is_refusal(start(copy, new, before=as_nobody), new, "it can't be written.*")
 
 
 def in_use(program):
@@ -456,7 +454,6 @@ def in_use(program):
             is_refusal(start(program, folder), folder, "another server uses it")
             assert logs.contents(folder) == was
             add(one, "s", 2)
-            all_answer(server)
         goes_on(program, folder, "s", 2, 2)
 
 
@@ -534,7 +531,7 @@ def wrong_options(program):
     """Options of a log that have no value or a wrong one end it with status 2, and are named."""
     with new_folder() as folder:
         for line in (["--log"], ["--sync"], ["--log", folder, "--sync"], ["--log", folder, "--sync", "often"],
-                     ["--log", folder, "--sync", ""], ["--log", ""]):
+                     ["--log", folder, "--sync", ""]):
             words = [*served.words_of_run(program, served.free_port(), 2), *line]
             done = served.subprocess.run(words, capture_output=True, timeout=30)
             name = "--sync" if "--sync" in line else "--log"
@@ -550,32 +547,30 @@ CONSUMERS = "abBd"
 IDLE = re.compile(rb"(\*4\r\n\$\d+\r\n[^\r]+\r\n\$\d+\r\n[^\r]+\r\n):(-?\d+)\r\n")
 
 
-def questions():
-    for key in "stu":
-        yield from (f"XLEN {key}", f"XRANGE {key} - +", f"XREVRANGE {key} + -")
-        for group in "gh":
-            yield f"XPENDING {key} {group}"
-            yield f"XPENDING {key} {group} - + 1000"
-            yield from (f"XREADGROUP GROUP {group} {consumer} STREAMS {key} 0" for consumer in CONSUMERS)
+OWN = [f"XREADGROUP GROUP {group} {consumer} STREAMS {key} 0" for key in "stu" for group in "gh"
+       for consumer in CONSUMERS]
+LOOKS = [text for key in "stu" for text in (
+    f"XLEN {key}", f"XRANGE {key} - +", f"XREVRANGE {key} + -", f"XPENDING {key} g", f"XPENDING {key} h",
+    f"XPENDING {key} g - + 1000", f"XPENDING {key} h - + 1000")]
 
 
-def state(server):
-    """All that reads tell of the keys of conformance/commands.py, and apart from that for how long each pending row has
-    been idle."""
-    told, idle = [], []
+def state(server, questions):
+    """The replies to these questions, and apart from them for how long each pending row has been idle."""
+    told, idle = {}, []
     with raw(server.port) as stream, stream.makefile("rb") as replies:
-        for text in questions():
+        for text in questions:
             stream.sendall(asking(text))
             reply = read_reply(replies)
             if " - + 1000" in text:
                 idle += [int(one) for _, one in IDLE.findall(reply)]
                 reply = IDLE.sub(rb"\1", reply)
-            told.append((text, reply))
+            told[text] = reply
     return told, idle
 
 
 def same_state(was, now, seconds):
-    for (text, before), (_, after) in zip(was[0], now[0]):
+    for text, before in was[0].items():
+        after = now[0][text]
         assert before == after, f"{text} was answered {before[:200]!r}, and then {after[:200]!r}"
     for before, after in zip(was[1], now[1]):
         assert before - 5 <= after <= before + 1100 * seconds + 1000, f"{after} ms idle, and {before} before"
@@ -588,10 +583,10 @@ def at_random(program):
         made, was, ends = commands.Maker(3), None, (signal.SIGTERM, signal.SIGKILL) * 3
         lines = [words for _ in range(10) for words in made.opening()]
         for round_number, end in enumerate((*ends, None)):
-            began = time.monotonic()
             with logged(program, folder) as server:
                 if was:
-                    same_state(was[0], state(server), began - was[1] + 5)
+                    # a read of own entries counts as a delivery: it comes before the looks here, and behind them there
+                    same_state(was[0], state(server, [*LOOKS, *OWN]), time.monotonic() - was[1])
                 if end is None:
                     break
                 lines += [words for words in (made.command() for _ in range(400)) if words[0].upper() != "QUIT"]
@@ -600,7 +595,7 @@ def at_random(program):
                         stream.sendall(request([word.encode() for word in words]))
                         read_reply(replies)
                 lines = []
-                was = state(server), time.monotonic()
+                was = state(server, [*OWN, *LOOKS]), time.monotonic()
                 server.child.send_signal(end)
                 status = server.child.wait(timeout=10)
                 assert status == -end, f"status {status} in round {round_number}"
@@ -753,8 +748,8 @@ def two_logs(program):
         assert logs.FULL <= first < logs.FULL + 2 * len(value) and last > 0, (first, last)
         assert told.kept(logs.path_of(folder, 1)) == first, "the first log isn't kept"
         files = [os.stat(logs.path_of(folder, place)) for place in (1, 2)]
-        limits = served.with_limits({resource.RLIMIT_AS: 150 * MEGABYTE})
-        is_refusal(start(program, folder, before=limits), folder, "log-1 out of memory")
+        limits = served.with_limits({resource.RLIMIT_AS: 64 * MEGABYTE})
+        is_refusal(start(program, folder, before=limits), folder, "log-[12] out of memory")
         with logged(program, folder) as server, Connection(server.port) as one:
             assert read_at_start(server, folder) == (count, 0)
             assert one.ask("XLEN", "s") == count
