@@ -183,6 +183,29 @@ def answers_wait_for_the_sync(program):
                 add(one, "s", 3)
 
 
+def syncs_are_shared(program):
+    """What 16 clients add while a sync lasts is kept by one more, or two if some of it comes late, and not by one for
+    each."""
+    with syncs.counted() as told, new_folder() as folder:
+        with logged(program, folder, workers=20, environment=told.environment) as server, Clients(server.port) as clients:
+            streams = [clients.new() for _ in range(17)]
+            for stream in streams:
+                say(stream, "PING", PONG.decode())
+            before = told.number(syncs.BEGUN)
+            with told.held():
+                streams[0].sendall(asking("XADD s0 1-0 f v"))
+                told.one_begins(before)
+                for place, stream in enumerate(streams[1:], 1):
+                    stream.sendall(asking(f"XADD s{place} 1-0 f v") + asking(f"XADD s{place} 2-0 f v"))
+                time.sleep(0.2)
+            comes(streams[0], bulk("1-0"))
+            for stream in streams[1:]:
+                comes(stream, bulk("1-0") + bulk("2-0"))
+            # each has two requests, the second of which may come to the keeper behind the first one's answer
+            count = told.number(syncs.BEGUN) - before
+            assert count <= 6, f"33 additions took {count} syncs"
+
+
 def what_it_read_is_kept(program):
     """What a log has that no sync kept before a kill is kept before anybody is told of it."""
     with syncs.counted() as told, new_folder() as folder:
@@ -531,7 +554,7 @@ def wrong_options(program):
     """Options of a log that have no value or a wrong one end it with status 2, and are named."""
     with new_folder() as folder:
         for line in (["--log"], ["--sync"], ["--log", folder, "--sync"], ["--log", folder, "--sync", "often"],
-                     ["--log", folder, "--sync", ""]):
+                     ["--log", folder, "--sync", ""], ["--sync", "no"], ["--log", folder, "--log", folder]):
             words = [*served.words_of_run(program, served.free_port(), 2), *line]
             done = served.subprocess.run(words, capture_output=True, timeout=30)
             name = "--sync" if "--sync" in line else "--log"
@@ -723,7 +746,8 @@ def what_a_log_has(program):
             was = answers(server)
         ended = time.time_ns() // 1_000_000
         records = logs.records_in(folder)
-        assert [piece.words[2:] for piece in records] == sent
+        found = [piece.words[2:] for piece in records]
+        assert found == sent, f"{len(found)} records of {len(sent)} commands, or others"
         moments = [int(piece.words[0]) for piece in records]
         assert moments == sorted(moments) and began <= moments[0] and moments[-1] <= ended + 1, (began, moments, ended)
         other = folder + "-other"
@@ -777,7 +801,7 @@ def full_memory(program):
 
 CASES = (wrong_options, wrong_folders, no_access, in_use, torn_ends, where_it_is_made, turned_bits, what_a_log_has,
          stopped_and_started, at_random, the_clock_is_late, waits_across_a_restart, answers_wait_for_the_sync,
-         what_it_read_is_kept, a_sync_fails, idle_costs_no_sync, no_room_to_start, no_room, no_room_for_many, two_logs,
+         syncs_are_shared, what_it_read_is_kept, a_sync_fails, idle_costs_no_sync, no_room_to_start, no_room, no_room_for_many, two_logs,
          full_memory, killed_without_syncs)
 
 
