@@ -8,12 +8,12 @@ It needs redis-server, redis-cli and cc.
 The first line tells how long one fdatasync takes here, behind an append of 100 bytes. The first table tells requests a
 second, so many connections sending so many at once, of `PROGRAM run --log FOLDER --sync always` and of a redis-server
 with `appendfsync always`; the second one those of `--sync no` and of a server without a log. The servers of a table are
-started anew for each pair, with new folders on the same file system (--folder says where), and take turns; the stream is
-removed and filled before each work. bench/tcp_driver.c asks: in the first table about for so many seconds each time if
-all that wait share a sync, in the second 200,000 requests, and 10,000 at least of each connection. Client and servers
-share the machine. Each figure is the median of the runs, with the least and the greatest; the ratios are those of the
-runs. The last lines tell how long a start takes that reads a log of so many additions: here from the start of the
-program to its line that tells how many it read, of Redis as its own log tells it.
+started anew for each pair, with new folders on the same file system (--folder says where), and take turns; the stream
+is removed and filled before each work. bench/tcp_driver.c asks: in the first table about for so many seconds each time,
+if all that wait share a sync; in the second 200,000 requests, and 10,000 at least of each connection. Client and
+servers share the machine. Each figure is the median of the runs, with the least and the greatest; the ratios are those
+of the runs. The last lines tell how long a start takes that reads a log of so many additions: here from the start of
+the program to its line that tells how many it read, of Redis as its own log tells it.
 """
 import argparse
 import contextlib
@@ -129,12 +129,12 @@ def replay_here(asked, folder):
     began = time.perf_counter()
     child = subprocess.Popen(words, stdout=subprocess.DEVNULL, stderr=subprocess.PIPE, text=True)
     try:
-        told = child.stderr.readline()
+        told = next(found for line in child.stderr if (found := re.search(r": (\d+) records?,", line)))
         took = time.perf_counter() - began
     finally:
         child.kill()
         child.communicate()
-    return int(re.search(r": (\d+) record", told)[1]), took
+    return int(told[1]), took
 
 
 def replay_of_redis(folder, driver):
@@ -157,7 +157,8 @@ def replay_of_redis(folder, driver):
 def tell_replay(asked, driver):
     with contextlib.ExitStack() as begun:
         here, there = (begun.enter_context(tempfile.TemporaryDirectory(dir=asked.folder)) for _ in range(2))
-        fill(program_words(asked.program, 16, "--log", os.path.join(here, "log"), "--sync", "no"), asked.records, driver)
+        words = program_words(asked.program, 16, "--log", os.path.join(here, "log"), "--sync", "no")
+        fill(words, asked.records, driver)
         fill(redis_words(there, "no"), asked.records, driver)
         rates, others = [], []
         for _ in range(asked.runs):
@@ -167,8 +168,8 @@ def tell_replay(asked, driver):
             rates.append(count / took)
             others.append(count / replay_of_redis(there, driver))
     by = [one / other for one, other in zip(rates, others)]
-    print(f"\nA start reads {asked.records:,} additions: {spread(rates, ',.0f')} a second here, {spread(others, ',.0f')} "
-          f"of Redis; here by Redis {spread(by, '.2f')}", flush=True)
+    print(f"\nA start reads {asked.records:,} additions: {spread(rates, ',.0f')} a second here, "
+          f"{spread(others, ',.0f')} of Redis; here by Redis {spread(by, '.2f')}", flush=True)
 
 
 def main():
@@ -188,9 +189,15 @@ def main():
         sync = statistics.median(syncs)
         print(f"One fdatasync: {sync * 1e6:,.0f} µs in the middle, {syncs[SYNCS * 99 // 100] * 1e6:,.0f} at 99 %",
               flush=True)
-        table(asked, always, "Redis", lambda connections, deep: min(int(asked.seconds * connections * deep / sync), MOST),
-              driver)
-        table(asked, never, "a server without a log", lambda connections, _: max(MOST, LEAST_EACH * connections), driver)
+
+        def count_of_synced(connections, deep):
+            return min(int(asked.seconds * connections * deep / sync), MOST)
+
+        def count_of_others(connections, _):
+            return max(MOST, LEAST_EACH * connections)
+
+        table(asked, always, "Redis", count_of_synced, driver)
+        table(asked, never, "a server without a log", count_of_others, driver)
         tell_replay(asked, driver)
 
 

@@ -4,73 +4,37 @@
     durable.py [--kills N] [--only CASE,..] PROGRAM
 
 It is killed while clients that keep books are at work (conformance/books.py), N times, 30 if not given; behind half of
-the kills the log loses what no sync had kept, as if the machine had stopped. Then what becomes of a log for which there
-is no room, of folders and logs that aren't right, and of consumers that wait. It needs Python's standard library, and a
-C compiler for the library that counts syncs. What is at random has a fixed seed. The last line is 'N passed, M failed';
+the kills the log loses what no sync had kept, as if the machine had stopped. conformance/kept.py has the cases of syncs
+and of room, and bad_folders.py those of folders and logs that aren't right. It needs Python's standard library, and a C
+compiler for the library that tells of syncs. What is at random has a fixed seed. The last line is 'N passed, M failed';
 the status is 1 if M > 0.
 """
 import argparse
-import contextlib
 import os
 import random
 import re
 import resource
-import shutil
 import signal
 import struct
 import sys
 import tempfile
 import time
 
+import bad_folders
 import clock_steps
 import commands
 import full_queue
+import kept
 import logs
 import served
 import syncs
-from books import GROUP, KEY, Connection, Ended, Load, Queue, id_of
+from books import GROUP, KEY, Connection, Load, Queue, id_of
 from full_queue import MEGABYTE
 from great import array, bulk, entry, number
-from logged import kill_while_it_starts, logged, options_of, read_at_start, start
+from logged import NEXT, is_refusal, kill_while_it_starts, logged, new_folder, read_at_start, start
 from real_redis import read_reply, request
-from served import MOST_FAULTS, PONG, all_answer, asking, passes, raw, read_to_end, say, say_at, tell
-from waiting import NOTHING, OK, READ, Clients, add, begin, comes, gives, make, nothing_comes, reading, refuses
-
-NOBODY = 65534
-# A log that another program made, and the moment of its records.
-MOMENT = 1_700_000_000_000
-SOME = ["XADD s 1-0 f v", "XGROUP CREATE s g 0", "XADD s 2-0 f v", "XREADGROUP GROUP g a COUNT 1 STREAMS s >"]
-RECORDS = [logs.record(MOMENT + place, text.encode().split(b" ")) for place, text in enumerate(SOME)]
-GOOD = logs.header(1) + b"".join(RECORDS)
-NEXT = logs.record(MOMENT + 9, b"XADD s 3-0 f v".split(b" "))
-
-
-@contextlib.contextmanager
-def new_folder():
-    """The path of a folder that isn't there yet, in a new one."""
-    with tempfile.TemporaryDirectory() as above:
-        yield os.path.join(above, "log")
-
-
-def last_log(folder):
-    return logs.path_of(folder, logs.numbers(folder)[-1])
-
-
-def is_answered(stream, text):
-    """Whether a request is answered before its connection ends. A refusal is a fault."""
-    with contextlib.suppress(ConnectionResetError, BrokenPipeError):
-        stream.sendall(asking(text))
-        with stream.makefile("rb") as replies:
-            got = read_reply(replies)
-        assert not got.startswith(b"-"), got
-        return got.endswith(b"\n")
-    return False
-
-
-def failed_log(server):
-    """It ends with status 1, and says in one line that it was the log."""
-    status, errors = server.ends_by_itself()
-    assert status == 1 and re.fullmatch(r"xs_server: [^\n]*\blog\b[^\n]*\n", errors), (status, errors)
+from served import MOST_FAULTS, all_answer, asking, passes, raw, read_to_end, say, say_at, tell
+from waiting import NOTHING, READ, Clients, add, begin, comes, gives, make, nothing_comes, reading, refuses
 
 
 # ---- killed under load
@@ -155,413 +119,9 @@ def killed_without_syncs(program):
     lives(program, 5, "no")
 
 
-# ---- what is answered is kept
-
-
-def answers_wait_for_the_sync(program):
-    """While a sync lasts nothing is answered that it is to keep: not the addition, and no read of another client that
-    would tell of it. With `--sync no` an addition waits for no sync."""
-    with syncs.counted() as told, new_folder() as folder:
-        with logged(program, folder, environment=told.environment) as server, Clients(server.port) as clients:
-            one, other = clients.new(), clients.new()
-            make(one, "s")
-            reader = clients.waiting("a", "s")
-            for place in (1, 2):
-                before = told.number(syncs.BEGUN)
-                with told.held():
-                    one.sendall(asking(f"XADD s {place}-0 f v"))
-                    told.one_begins(before)
-                    other.sendall(asking("XLEN s"))
-                    nothing_comes(0.3, one, other, reader)
-                comes(one, bulk(f"{place}-0"))
-                comes(other, number(place))
-                comes(reader, gives("s", place))
-                begin(reader, reading("a", "s"))
-            assert told.kept(last_log(folder)) == os.path.getsize(last_log(folder)), "bytes of the log aren't kept"
-        with logged(program, folder, "no", environment=told.environment) as server, raw(server.port) as one:
-            with told.held():
-                add(one, "s", 3)
-
-
-def syncs_are_shared(program):
-    """What 16 clients add while a sync lasts is kept by one more, or two if some of it comes late, and not by one for
-    each."""
-    with syncs.counted() as told, new_folder() as folder:
-        with logged(program, folder, workers=20, environment=told.environment) as server, Clients(server.port) as clients:
-            streams = [clients.new() for _ in range(17)]
-            for stream in streams:
-                say(stream, "PING", PONG.decode())
-            before = told.number(syncs.BEGUN)
-            with told.held():
-                streams[0].sendall(asking("XADD s0 1-0 f v"))
-                told.one_begins(before)
-                for place, stream in enumerate(streams[1:], 1):
-                    stream.sendall(asking(f"XADD s{place} 1-0 f v") + asking(f"XADD s{place} 2-0 f v"))
-                time.sleep(0.2)
-            comes(streams[0], bulk("1-0"))
-            for stream in streams[1:]:
-                comes(stream, bulk("1-0") + bulk("2-0"))
-            # each has two requests, the second of which may come to the keeper behind the first one's answer
-            count = told.number(syncs.BEGUN) - before
-            assert count <= 6, f"33 additions took {count} syncs"
-
-
-def what_it_read_is_kept(program):
-    """What a log has that no sync kept before a kill is kept before anybody is told of it."""
-    with syncs.counted() as told, new_folder() as folder:
-        with logged(program, folder, "no", environment=told.environment) as server, raw(server.port) as one:
-            for place in (1, 2, 3):
-                add(one, "s", place)
-        with logged(program, folder, environment=told.environment) as server:
-            say_at(server, "XLEN s", number(3))
-            size, kept = os.path.getsize(last_log(folder)), told.kept(last_log(folder))
-            assert kept == size, f"it told of {size} bytes, of which {kept} are kept"
-
-
-def a_sync_fails(program):
-    """If a sync fails its addition isn't answered, nobody is served any more, and it ends. What was answered is there
-    at the next start."""
-    with syncs.counted() as told, new_folder() as folder:
-        with logged(program, folder, environment=told.environment) as server, Clients(server.port) as clients:
-            one = clients.new()
-            make(one, "s")
-            add(one, "s", 1)
-            make(one, "empty")
-            reader = clients.waiting("a", "empty")
-            told.fail()
-            one.sendall(asking("XADD s 2-0 f v"))
-            failed_log(server)
-            for stream in (one, reader):
-                assert read_to_end(stream)[0] == b""
-        told.fail(0)
-        goes_on(program, folder, "s", 1, 2)
-
-
-def goes_on(program, folder, key, least, most):
-    """A start behind a fault has so many entries, whose ids count up from 1; it takes more, and they are kept too."""
-    with logged(program, folder) as server, raw(server.port) as stream:
-        stream.sendall(asking(f"XLEN {key}"))
-        with stream.makefile("rb") as replies:
-            count = int(read_reply(replies)[1:])
-        assert least <= count <= most, f"of {least} to {most} entries {count} are there"
-        add(stream, key, count + 1)
-    with logged(program, folder) as server:
-        everything = array([entry(f"{place}-0", "f", "v") for place in range(1, count + 2)])
-        say_at(server, f"XRANGE {key} - +", everything)
-
-
-def idle_costs_no_sync(program):
-    """Who polls in vain, waits in vain, looks or is refused costs no sync and no byte of the log; an addition does."""
-    with syncs.counted() as told, new_folder() as folder:
-        with logged(program, folder, environment=told.environment) as server, Clients(server.port) as clients:
-            one, pollers = clients.new(), [clients.new() for _ in range(4)]
-            make(one, "s", "t")
-            add(one, "s", 1)
-            for name, stream in enumerate(pollers):
-                say(stream, reading(f"c{name}", "s t", "BLOCK 1"), gives("s", 1) if name == 0 else NOTHING)
-            done, size = told.number(syncs.BEGUN), os.path.getsize(last_log(folder))
-            for _ in range(20):
-                for name, stream in enumerate(pollers):
-                    say(stream, reading(f"c{name}", "s t", "BLOCK 5"), NOTHING)
-                    say(stream, reading(f"c{name}", "t", "COUNT 3"), NOTHING)
-            for text, reply in (("XLEN s", number(1)), ("XRANGE s - +", array([entry("1-0", "f", "v")])),
-                                ("XREVRANGE s + -", array([entry("1-0", "f", "v")])), ("PING", PONG.decode()),
-                                ("XPENDING s g", array([number(1), bulk("1-0"), bulk("1-0"),
-                                                        array([array([bulk("c0"), bulk("1")])])]))):
-                say(one, text, reply)
-            for text in ("XADD s 1-0 f v", "XADD s x f v", "XGROUP CREATE s g 0", "XREADGROUP GROUP none c STREAMS s >",
-                         "XADD s", "NONE"):
-                one.sendall(asking(text))
-                with one.makefile("rb") as replies:
-                    assert read_reply(replies).startswith(b"-"), text
-            waiting = clients.waiting("c1", "s t", "BLOCK 300")
-            comes(waiting, NOTHING)
-            now = told.number(syncs.BEGUN), os.path.getsize(last_log(folder))
-            assert now == (done, size), f"{now[0] - done} syncs, and {now[1] - size} bytes more"
-            add(one, "s", 2)
-            now = told.number(syncs.BEGUN), os.path.getsize(last_log(folder))
-            assert now[0] > done and now[1] > size, f"an addition: {now[0] - done} syncs, and {now[1] - size} bytes more"
-
-
-# ---- no room
-
-
-def with_room(program, folder, room):
-    """A server none of whose files may have more bytes."""
-    return logged(program, folder, limits={resource.RLIMIT_FSIZE: room})
-
-
-def add_while_there_is_room(stream, key):
-    """Adds one entry behind the other until the connection ends, and says how many were answered."""
-    for place in range(1, 10_000):
-        if not is_answered(stream, f"XADD {key} {place}-0 f v"):
-            return place - 1
-    raise AssertionError("there was always room")
-
-
-def no_room(program):
-    """Files may have so many bytes, and no more: additions are answered until there is no room. Then nobody is
-    answered, and it ends. With room again all that was answered is there, and nothing else; it goes on."""
-    header, size = len(logs.header(1)), len(NEXT)
-    # no record; half a record behind two; whole pages, and what is gathered before it is written
-    for room in (header, header + size * 5 // 2, 1000, 4096, 10_007, 65_543):
-        with new_folder() as folder:
-            with with_room(program, folder, room) as server, Clients(server.port) as clients:
-                adder, other = clients.new(), clients.new()
-                say(other, "PING", PONG.decode())
-                count = add_while_there_is_room(adder, "s")
-                failed_log(server)
-                assert read_to_end(other)[0] == b""
-            assert os.path.getsize(last_log(folder)) <= room
-            assert count >= room // 200 - 1, f"{count} additions had room in {room} bytes"
-            goes_on(program, folder, "s", count, count)
-
-
-def no_room_for_many(program):
-    """The same with four clients that send 20 additions at once, and one that waits: of each the first ones are there,
-    all that were answered among them."""
-    for room in (9000, 70_001):
-        with new_folder() as folder:
-            answered = [0] * 4
-            with with_room(program, folder, room) as server, Clients(server.port) as clients:
-                make(clients.new(), "empty")
-                reader = clients.waiting("a", "empty")
-
-                def work(name):
-                    with Connection(server.port) as one, contextlib.suppress(OSError, Ended):
-                        for first in range(1, 100_000, 20):
-                            one.send(*(("XADD", f"s{name}", f"{place}-0", "f", "v") for place in range(first, first + 20)))
-                            for _ in range(20):
-                                one.answer()
-                                answered[name] += 1
-
-                served.together(4, work)
-                failed_log(server)
-                assert read_to_end(reader)[0] == b""
-            assert sum(answered) > room // 200
-            for name, count in enumerate(answered):
-                goes_on(program, folder, f"s{name}", count, count + 20)
-
-
-def no_room_to_start(program):
-    """If there is no room for the header it doesn't start. With room it does."""
-    for room in (0, 1, len(logs.header(1)) - 1):
-        with new_folder() as folder:
-            done = start(program, folder, before=served.with_limits({resource.RLIMIT_FSIZE: room}))
-            is_refusal(done, folder, "log-1 can't be written")
-            goes_on(program, folder, "s", 0, 0)
-
-
-# ---- folders and logs that aren't right
-
-
-def is_refusal(done, folder, text):
-    """It has ended with status 1, and one line that names the folder and what is wrong with it, as this pattern says."""
-    is_told = re.fullmatch(rf"xs_server: {re.escape(folder)}: (?:{text})\n", done.stderr.decode())
-    assert (done.returncode, done.stdout) == (1, b"") and is_told, (text, done)
-
-
-def refused_as_it_is(program, folder, text, before=None):
-    """It is refused, and nothing is changed; an empty lock may be new."""
-    above = os.path.dirname(folder)
-    was = logs.contents(above)
-    is_refusal(start(program, folder, before=before), folder, text)
-    now = logs.contents(above)
-    if os.path.isdir(folder) and "lock" not in was[1]["log"][1] and now[1]["log"][1].get("lock", (0, 0))[1] == b"":
-        del now[1]["log"][1]["lock"]
-    assert now == was, f"{text}: something was changed"
-
-
-def folder_with(*files):
-    """Makes a folder with these names, each with its bytes, or with what is called to make it."""
-    def make_it(folder):
-        os.mkdir(folder)
-        for name, data in files:
-            path = os.path.join(folder, name)
-            data(path) if callable(data) else logs.write_file(path, data)
-    return make_it
-
-
-def link_to_nothing(path):
-    os.symlink(os.path.join(os.path.dirname(path), "nothing"), path)
-
-
-OTHERS = b"".join(request([word]) for word in (b"SELECT", b"0")) * 40
-WRONG_COMMAND = logs.record(MOMENT, [b"XADD", b"s"])
-OTHER_FORMAT = logs.with_checksum(b"xs-log", [b"2", b"1", b"1"])
-FOREIGN = "log-1 is (no log of this program|damaged at byte 0)"
-# How a folder is made, and what is said of it.
-WRONG = [
-    (lambda folder: logs.write_file(folder, GOOD), "it is no folder"),
-    (os.mkfifo, "it is no folder"),
-    (link_to_nothing, "it is a link to nothing"),
-    (folder_with(("log-1", os.mkdir)), "log-1 is no file"),
-    (folder_with(("log-1", os.mkfifo)), "log-1 is no file"),
-    (folder_with(("log-1", GOOD), ("log-2", os.mkfifo)), "log-2 is no file"),
-    (folder_with(("log-1", link_to_nothing)), "log-1 is missing"),
-    (folder_with(("lock", os.mkdir), ("log-1", GOOD)), "lock is no file"),
-    (folder_with(("lock", os.mkfifo), ("log-1", GOOD)), "lock is no file"),
-    (folder_with(("log-1", b"what another program has written\n")), FOREIGN),
-    (folder_with(("log-1", OTHERS)), FOREIGN),
-    (folder_with(("log-1", b"x")), FOREIGN),
-    (folder_with(("log-1", bytes(5000))), FOREIGN),
-    (folder_with(("log-1", OTHER_FORMAT + RECORDS[0])), FOREIGN),
-    (folder_with(("log-1", GOOD), ("log-3", logs.header(3))), "log-2 is missing"),
-    (folder_with(("log-2", logs.header(2))), "log-1 is missing"),
-    (folder_with(("log-1", logs.header(2) + RECORDS[0])), "log-1 is the log of another number"),
-    (folder_with(("log-1", GOOD), ("log-2", GOOD)), "log-2 is the log of another number"),
-    (folder_with(("log-1", logs.header(1, 2) + RECORDS[0])), "log-1 is of model 2, and this program has model 1"),
-    (folder_with(("log-1", GOOD + WRONG_COMMAND + NEXT)), f"log-1 is damaged at byte {len(GOOD)}"),
-    (folder_with(("log-1", GOOD + b"PING\r\n" + NEXT)), f"log-1 is damaged at byte {len(GOOD)}"),
-    # only the last log may be torn
-    (folder_with(("log-1", GOOD + NEXT[:-3]), ("log-2", logs.header(2))), f"log-1 is damaged at byte {len(GOOD)}"),
-    (folder_with(("log-1", GOOD + bytes(9)), ("log-2", logs.header(2))), f"log-1 is damaged at byte {len(GOOD)}"),
-    (folder_with(("log-1", b""), ("log-2", logs.header(2))), "log-1 is damaged at byte 0"),
-]
-
-
-def wrong_folders(program):
-    """What is no folder of logs, or has a log that isn't right, is refused at the start, and stays as it is."""
-    for make_it, text in WRONG:
-        with new_folder() as folder:
-            make_it(folder)
-            refused_as_it_is(program, folder, text)
-    with new_folder() as above:
-        folder = os.path.join(above, "log")
-        is_refusal(start(program, folder), folder, "the folder above it isn't there")
-        assert not os.path.exists(above)
-        logs.write_file(above, b"a file")
-        is_refusal(start(program, folder), folder, "the folder above it isn't there")
-        assert logs.read_file(above) == b"a file"
-
-
-def no_access(program):
-    """A folder or a log that may not be read or written is refused. The superuser runs it as another user."""
-    def as_nobody():
-        if os.geteuid() == 0:
-            os.setgroups([])
-            os.setgid(NOBODY)
-            os.setuid(NOBODY)
-
-    with new_folder() as folder:
-        above = os.path.dirname(folder)
-        copy = shutil.copy(program, above)
-        os.chmod(above, 0o755)
-        if start(copy, os.path.join(above, "none", "log"), before=as_nobody).returncode != 1:
-            print("passed over: another user can't run the program there", flush=True)
-            return
-        logs.write_logs(folder, GOOD)
-        lock, log = os.path.join(folder, "lock"), logs.path_of(folder, 1)
-        logs.write_file(lock, b"")
-        for path in (folder, lock, log):
-            if os.geteuid() == 0:
-                os.chown(path, NOBODY, NOBODY)
-        for path, mode, text in ((folder, 0o000, r"it can't be (read|written)"), (folder, 0o300, "it can't be read"),
-                                 (lock, 0o400, "it can't be written"), (log, 0o000, "log-1 can't be read"),
-                                 (log, 0o400, "log-1 can't be written")):
-            whole, was = os.stat(path).st_mode, logs.contents(folder)
-            os.chmod(path, mode)
-            is_refusal(start(copy, folder, before=as_nobody), folder, f"{text}.*")
-            os.chmod(path, whole)
-            assert logs.contents(folder) == was, text
-        new = os.path.join(above, "new")
-        is_refusal(start(copy, new, before=as_nobody), new, "it can't be written.*")
-
-
-def in_use(program):
-    """A folder that another server uses is refused, and that one goes on. Its lock ends with it, also by a kill."""
-    with new_folder() as folder:
-        with logged(program, folder) as server, raw(server.port) as one:
-            add(one, "s", 1)
-            was = logs.contents(folder)
-            is_refusal(start(program, folder), folder, "another server uses it")
-            assert logs.contents(folder) == was
-            add(one, "s", 2)
-        goes_on(program, folder, "s", 2, 2)
-
-
-def turned_bits(program):
-    """A bit of a record in the middle is turned: the start tells the file and the byte where the record begins, and
-    changes nothing. Lengths have no checksum (docs/DECISIONS.md), so that no bit of one is turned."""
-    made = random.Random(11)
-    with new_folder() as folder:
-        with logged(program, folder) as server, raw(server.port) as one:
-            for place in range(1, 8):
-                add(one, "s", place)
-        path = logs.path_of(folder, 1)
-        whole = logs.read_file(path)
-        pieces = logs.pieces(whole)
-        piece = pieces[4]
-        at = piece.begin
-        for line in whole[piece.begin:piece.end].split(b"\r\n"):
-            if line and line[:1] not in b"*$":
-                place = at + made.randrange(len(line))
-                turned = bytearray(whole)
-                turned[place] ^= 1 << made.randrange(7)
-                if turned[place] == 0:
-                    turned[place] = 0x7f
-                logs.write_file(path, turned)
-                refused_as_it_is(program, folder, f"log-1 is damaged at byte {piece.begin}")
-            at += len(line) + 2
-        logs.write_file(path, whole)
-        goes_on(program, folder, "s", 7, 7)
-
-
-def torn_ends(program):
-    """A folder that is missing is made. An end that a crash may have left is dropped, with what stands behind the first
-    zero, and it says how much of a record that was; then more is kept behind the records that are whole."""
-    header = logs.header(1)
-    half = NEXT[:len(NEXT) // 2]
-    for data, records, torn in ((None, 0, 0), (b"", 0, 0), (header[:1], 0, 1), (header[:20], 0, 20), (bytes(100), 0, 0),
-                                (header, 0, 0), (GOOD, 4, 0), (GOOD + half, 4, len(half)), (GOOD + NEXT[:-1], 4, None),
-                                (GOOD + bytes(9000), 4, 0), (GOOD + half + bytes(10) + NEXT, 4, len(half))):
-        with new_folder() as folder:
-            if data is not None:
-                logs.write_logs(folder, data)
-            with logged(program, folder) as server, raw(server.port) as one:
-                had = read_at_start(server, folder)
-                wanted = len(NEXT) - 1 if torn is None else torn
-                assert had[0] == records and had[1] in (wanted, len(data or b"") - len(GOOD)), (data, had)
-                log = logs.read_file(logs.path_of(folder, 1))
-                assert log == (GOOD if records else header), log
-                add(one, "s", 3)
-            assert len(logs.records_in(folder)) == records + 1
-            with logged(program, folder) as server:
-                assert read_at_start(server, folder) == (records + 1, 0)
-                places = (1, 2, 3) if records else (3,)
-                say_at(server, "XRANGE s - +", array([entry(f"{place}-0", "f", "v") for place in places]))
-
-
-def where_it_is_made(program):
-    """A folder is made in the one where the program is started, if its name is no path; a link to a folder, and a slash
-    behind its name, are taken."""
-    with new_folder() as folder:
-        above = os.path.dirname(folder)
-        os.mkdir(os.path.join(above, "true"))
-        os.symlink("true", os.path.join(above, "linked"))
-        for count, (name, path) in enumerate((("log", folder), ("log/", folder), ("linked", os.path.join(above, "true")),
-                                              ("./log", folder))):
-            port = served.free_port()
-            words = ["env", "-C", above, *served.words_of_run(os.path.abspath(program), port, 2), *options_of(name, "no")]
-            with served.Server(words, port, 2, None) as server:
-                server.lines_until(server.child.stderr, "listening on")
-                say_at(server, f"XADD s {count + 1}-0 f v", bulk(f"{count + 1}-0"))
-            assert logs.numbers(path) == [1], name
-        assert len(logs.records_in(folder)) == 3
-
-
-def wrong_options(program):
-    """Options of a log that have no value or a wrong one end it with status 2, and are named."""
-    with new_folder() as folder:
-        for line in (["--log"], ["--sync"], ["--log", folder, "--sync"], ["--log", folder, "--sync", "often"],
-                     ["--log", folder, "--sync", ""], ["--sync", "no"], ["--log", folder, "--log", folder]):
-            words = [*served.words_of_run(program, served.free_port(), 2), *line]
-            done = served.subprocess.run(words, capture_output=True, timeout=30)
-            name = "--sync" if "--sync" in line else "--log"
-            assert (done.returncode, done.stdout) == (2, b"") and name.encode() in done.stderr, (line, done)
-        assert not os.path.exists(folder)
-        done = served.subprocess.run([program, "run", "--help"], capture_output=True, timeout=30)
-        assert b"--log" in done.stdout and b"--sync" in done.stdout, done
+def killed_between_syncs(program):
+    """With `--sync second` a kill loses nothing either."""
+    lives(program, 3, "second")
 
 
 # ---- stopped and started again
@@ -626,8 +186,8 @@ def at_random(program):
 
 
 def stopped_and_started(program):
-    """What isn't to be seen by reads alone is there too behind a start: what a group will deliver next, the greatest id,
-    though its entry is gone, consumers that have read nothing, and counts of deliveries."""
+    """What reads alone don't tell is there too behind a start: what a group delivers next, the greatest id though its
+    entry is gone, consumers that have read nothing, and counts of deliveries."""
     with new_folder() as folder:
         with logged(program, folder) as server, raw(server.port) as one:
             make(one, "s", "gone", "destroyed")
@@ -799,16 +359,14 @@ def full_memory(program):
             assert read_at_start(server, folder) == (added, 0)
 
 
-CASES = (wrong_options, wrong_folders, no_access, in_use, torn_ends, where_it_is_made, turned_bits, what_a_log_has,
-         stopped_and_started, at_random, the_clock_is_late, waits_across_a_restart, answers_wait_for_the_sync,
-         syncs_are_shared, what_it_read_is_kept, a_sync_fails, idle_costs_no_sync, no_room_to_start, no_room, no_room_for_many, two_logs,
-         full_memory, killed_without_syncs)
+CASES = (*bad_folders.CASES, what_a_log_has, stopped_and_started, at_random, the_clock_is_late, waits_across_a_restart,
+         *kept.CASES, two_logs, full_memory, killed_without_syncs, killed_between_syncs)
 
 
 def main():
     parser = argparse.ArgumentParser(description=__doc__, formatter_class=argparse.RawDescriptionHelpFormatter)
     parser.add_argument("--kills", type=int, default=30)
-    parser.add_argument("--only", default="")
+    parser.add_argument("--only", default="", help="the cases with these names")
     parser.add_argument("program")
     given = parser.parse_args()
 
@@ -816,9 +374,10 @@ def main():
         killed_under_load(program, given.kills)
 
     killed.__name__ = killed_under_load.__name__
-    wanted, results = given.only.split(",") if given.only else None, []
-    for case in (*CASES, killed):
-        if (wanted is None or case.__name__ in wanted) and results.count(False) < (len(CASES) if wanted else MOST_FAULTS):
+    cases = [case for case in (*CASES, killed) if not given.only or case.__name__ in given.only.split(",")]
+    results = []
+    for case in cases:
+        if results.count(False) < MOST_FAULTS:
             results.append(passes(case, given.program))
     return tell(results)
 

@@ -173,7 +173,7 @@ class Reader:
 
 
 def contents(path):
-    """All that is at a path and below it: of what kind each is, what it may be used for, and its bytes or its target."""
+    """All that is at a path and below it: the kind and the permissions of each, and its bytes or where it leads."""
     kind = os.lstat(path).st_mode
     if stat.S_ISDIR(kind):
         return kind, {name: contents(os.path.join(path, name)) for name in sorted(os.listdir(path))}
