@@ -10,8 +10,8 @@ second, so many connections sending so many at once, of `PROGRAM run --log FOLDE
 with `appendfsync always`; the second one those of `--sync no` and of a server without a log. The servers of a table are
 started anew for each pair, with new folders on the same file system (--folder says where), and take turns; the stream
 is removed and filled before each work. bench/tcp_driver.c asks: in the first table about for so many seconds each time,
-if all that wait share a sync; in the second 200,000 requests, and 10,000 at least of each connection. Client and
-servers share the machine. Each figure is the median of the runs, with the least and the greatest; the ratios are those
+if all that wait share a sync; in the second 100,000 requests, and 5,000 at least of each connection. Client and servers
+share the machine. Each figure is the median of the runs, with the least and the greatest; the ratios are those
 of the runs. The last lines tell how long a start takes that reads a log of so many additions: here from the start of
 the program to its line that tells how many it read, of Redis as its own log tells it.
 """
@@ -30,8 +30,8 @@ from tcp import ADD, HERE, QUEUE, WORKS, Server, free_port, latencies, spread
 
 PAIRS = "1x1,16x1,64x1,1x16,16x16,64x16"
 SYNCS = 200
-# The most requests that are sent between two servers, and the least of each connection if no sync is waited for.
-MOST, LEAST_EACH = 200_000, 10_000
+# The most requests of a run that waits for syncs; how many others have, and how many of them each connection at least.
+MOST, OTHERS, LEAST_EACH = 200_000, 100_000, 5_000
 
 
 def program_words(program, connections, *log):
@@ -194,7 +194,7 @@ def main():
             return min(int(asked.seconds * connections * deep / sync), MOST)
 
         def count_of_others(connections, _):
-            return max(MOST, LEAST_EACH * connections)
+            return max(OTHERS, LEAST_EACH * connections)
 
         table(asked, always, "Redis", count_of_synced, driver)
         table(asked, never, "a server without a log", count_of_others, driver)
