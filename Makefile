@@ -23,9 +23,10 @@ install: build
 	sed -i 's,/usr/local,$(PREFIX),' $(DESTDIR)$(PREFIX)/lib/systemd/system/xs_server.service
 
 # CI. Proves everything from nothing, tries the edits of must-fail/, and runs the tests and the program that
-# it built: the worked cases, the great scripts, connections made at random, and a server as its users run it, bounded and
-# lasting. Then the models of how threads wait for each other are explored. Before that, docs/PROOFS.md has to name the edits that there are,
-# and what the slips of conformance/slips.txt turn has to stand in its file.
+# it built: the worked cases, the great scripts, connections made at random, and a server as its users run it, bounded,
+# lasting, and with a log, ended in every way. Then the models of how threads wait for each other are explored. Before
+# that, docs/PROOFS.md has to name the edits that there are, and what the slips of conformance/slips.txt turn has to stand
+# in its file.
 test:
 	python3 scripts/edits_table.py --check
 	for crate in xs_stream xs_resp xs_group xs_command xs_keys; do python3 conformance/slips.py --by-hand --list $$crate > /dev/null || exit 1; done
@@ -35,6 +36,7 @@ test:
 	python3 conformance/sessions.py --bytes 5000000 $(PROGRAM)
 	python3 conformance/serves.py $(PROGRAM)
 	python3 conformance/running.py $(PROGRAM)
+	python3 conformance/durable.py $(PROGRAM)
 	python3 model/run.py
 
 # Proves what has changed, and runs the worked cases and a server: what one runs while working.
@@ -44,6 +46,7 @@ check:
 	python3 conformance/run.py $(PROGRAM) script
 	python3 conformance/serves.py $(PROGRAM)
 	python3 conformance/running.py $(PROGRAM)
+	python3 conformance/durable.py $(PROGRAM)
 
 # Has Spin explore how the lanes of a desk and their keeper wait for each other, and some wrong ways. Debian: apt-get
 # install spin gcc
@@ -83,7 +86,8 @@ clients:
 	$(BUILD)
 	python3 conformance/clients.py $(PROGRAM)
 
-# Runs the program as a server for clients that are hostile, unlucky or many.
+# Runs the program as a server for clients that are hostile, unlucky or many, and kills it 200 times under load.
 hostile:
 	$(BUILD)
 	python3 conformance/hostile.py $(PROGRAM)
+	python3 conformance/durable.py --only killed_under_load --kills 200 $(PROGRAM)

@@ -63,11 +63,13 @@ def with_limits(limits):
 
 
 class Server:
-    """A running server, which ends with the block. `port` is where it listens, `child` its process."""
+    """A running server, which ends with the block. `port` is where it listens, `child` its process, `said` the lines
+    that it wrote before it listened."""
 
     def __init__(self, words, port, workers, limits, environment=None):
         self.port = port
         self.workers = workers
+        self.said = []
         self.child = subprocess.Popen(words, stdout=subprocess.PIPE, stderr=subprocess.PIPE,
                                       preexec_fn=with_limits(limits), env={**os.environ, **(environment or {})})
 
@@ -94,6 +96,11 @@ class Server:
         if self.child.poll() is None:
             self.child.kill()
         self.child.communicate()
+
+    def ends_by_itself(self, within=PATIENCE):
+        """Its status, and what it wrote on standard error behind the lines of its start."""
+        status = self.child.wait(timeout=within)
+        return status, self.child.stderr.read().decode()
 
     def threads(self):
         return len(os.listdir(f"/proc/{self.child.pid}/task"))
@@ -137,12 +144,12 @@ def serving(program, workers=4, each=1_000_000, limits=None):
 
 
 @contextlib.contextmanager
-def running(program, *options, workers=4, limits=None, host=HOST, environment=None):
-    """A new server of `run`, which ends with the block."""
-    port = free_port()
+def running(program, *options, workers=4, limits=None, host=HOST, environment=None, port=None):
+    """A new server of `run`, which ends with the block. It listens on a port of its own, unless one is named."""
+    port = port or free_port()
     words = [*words_of_run(program, port, workers, host), *options]
     with Server(words, port, workers, limits, environment) as server:
-        server.lines_until(server.child.stderr, f"listening on {address(host, port)},")
+        server.said = server.lines_until(server.child.stderr, f"listening on {address(host, port)},")
         yield server
 
 

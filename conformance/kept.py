@@ -1,0 +1,263 @@
+"""What is answered is kept: when a server with a log syncs, and what it does if a sync fails or there is no room."""
+import contextlib
+import os
+import re
+import resource
+import time
+
+import logs
+import served
+import syncs
+from books import Connection
+from great import array, bulk, entry, number
+from logged import NEXT, goes_on, is_refusal, last_log, logged, new_folder, start
+from real_redis import read_reply
+from served import PONG, asking, raw, read_to_end, say, say_at
+from waiting import NOTHING, Clients, add, begin, comes, gives, make, nothing_comes, reading
+
+
+def is_answered(stream, text):
+    """Whether a request is answered before its connection ends. A refusal is a fault."""
+    with contextlib.suppress(ConnectionResetError, BrokenPipeError):
+        stream.sendall(asking(text))
+        with stream.makefile("rb") as replies:
+            got = read_reply(replies)
+        assert not got.startswith(b"-"), got
+        return got.endswith(b"\n")
+    return False
+
+
+def failed_log(server):
+    """It ends with status 1, and says in one line that it was the log."""
+    status, errors = server.ends_by_itself()
+    assert status == 1 and re.fullmatch(r"xs_server: [^\n]*\blog\b[^\n]*\n", errors), (status, errors)
+
+
+# ---- syncs
+
+
+def answers_wait_for_the_sync(program):
+    """While a sync lasts nothing is answered that it is to keep: not the addition, and no read of another client that
+    would tell of it. With `--sync no` an addition waits for no sync."""
+    with syncs.counted() as told, new_folder() as folder:
+        with logged(program, folder, environment=told.environment) as server, Clients(server.port) as clients:
+            one, other = clients.new(), clients.new()
+            make(one, "s")
+            reader = clients.waiting("a", "s")
+            for place in (1, 2):
+                before = told.number(syncs.BEGUN)
+                with told.held():
+                    one.sendall(asking(f"XADD s {place}-0 f v"))
+                    told.one_begins(before)
+                    other.sendall(asking("XLEN s"))
+                    nothing_comes(0.3, one, other, reader)
+                comes(one, bulk(f"{place}-0"))
+                comes(other, number(place))
+                comes(reader, gives("s", place))
+                begin(reader, reading("a", "s"))
+            assert told.kept(last_log(folder)) == os.path.getsize(last_log(folder)), "bytes of the log aren't kept"
+        with logged(program, folder, "no", environment=told.environment) as server, raw(server.port) as one:
+            with told.held():
+                add(one, "s", 3)
+
+
+def syncs_are_shared(program):
+    """What 16 clients add while a sync lasts is kept by one more, or two if some of it comes late, and not by one for
+    each."""
+    with syncs.counted() as told, new_folder() as folder:
+        with (logged(program, folder, workers=20, environment=told.environment) as server,
+              Clients(server.port) as clients):
+            streams = [clients.new() for _ in range(17)]
+            for stream in streams:
+                say(stream, "PING", PONG.decode())
+            before = told.number(syncs.BEGUN)
+            with told.held():
+                streams[0].sendall(asking("XADD s0 1-0 f v"))
+                told.one_begins(before)
+                for place, stream in enumerate(streams[1:], 1):
+                    stream.sendall(asking(f"XADD s{place} 1-0 f v") + asking(f"XADD s{place} 2-0 f v"))
+                time.sleep(0.2)
+            comes(streams[0], bulk("1-0"))
+            for stream in streams[1:]:
+                comes(stream, bulk("1-0") + bulk("2-0"))
+            # each has two requests, the second of which may come to the keeper behind the first one's answer
+            count = told.number(syncs.BEGUN) - before
+            assert count <= 6, f"33 additions took {count} syncs"
+
+
+def syncs_each_second(program):
+    """With `--sync second` an addition waits for no sync, and is kept two seconds later, whether anything more comes or
+    not. While nothing comes nothing is synced."""
+    with syncs.counted() as told, new_folder() as folder:
+        with logged(program, folder, "second", environment=told.environment) as server, raw(server.port) as one:
+            with told.held():
+                add(one, "s", 1)
+                time.sleep(1.5)
+                add(one, "s", 2)
+            for place in (3, 4):
+                add(one, "s", place)
+                time.sleep(2)
+                size, kept = os.path.getsize(last_log(folder)), told.kept(last_log(folder))
+                assert kept == size, f"two seconds later {kept} bytes of {size} are kept"
+            before = told.number(syncs.BEGUN)
+            time.sleep(2.5)
+            assert (count := told.number(syncs.BEGUN) - before) == 0, f"{count} syncs of nothing"
+            # many additions are kept by a sync or two
+            for place in range(5, 1000):
+                add(one, "s", place)
+            time.sleep(2)
+            assert 1 <= (count := told.number(syncs.BEGUN) - before) <= 8, f"{count} syncs"
+
+
+def a_sync_beside_fails(program):
+    """With `--sync second` a sync that fails ends it within seconds, though nobody waits for it."""
+    with syncs.counted() as told, new_folder() as folder:
+        with logged(program, folder, "second", environment=told.environment) as server, raw(server.port) as one:
+            add(one, "s", 1)
+            time.sleep(2)
+            told.fail()
+            with contextlib.suppress(OSError):
+                is_answered(one, "XADD s 2-0 f v")
+                time.sleep(2)
+                is_answered(one, "XADD s 3-0 f v")
+            failed_log(server)
+        told.fail(0)
+        goes_on(program, folder, "s", 1, 3)
+
+
+def what_it_read_is_kept(program):
+    """What a log has that no sync kept before a kill is kept before anybody is told of it."""
+    with syncs.counted() as told, new_folder() as folder:
+        with logged(program, folder, "no", environment=told.environment) as server, raw(server.port) as one:
+            for place in (1, 2, 3):
+                add(one, "s", place)
+        with logged(program, folder, environment=told.environment) as server:
+            say_at(server, "XLEN s", number(3))
+            size, kept = os.path.getsize(last_log(folder)), told.kept(last_log(folder))
+            assert kept == size, f"it told of {size} bytes, of which {kept} are kept"
+
+
+def a_sync_fails(program):
+    """If a sync fails its addition isn't answered, nobody is served any more, and it ends. What was answered is there
+    at the next start."""
+    with syncs.counted() as told, new_folder() as folder:
+        with logged(program, folder, environment=told.environment) as server, Clients(server.port) as clients:
+            one = clients.new()
+            make(one, "s")
+            add(one, "s", 1)
+            make(one, "empty")
+            reader = clients.waiting("a", "empty")
+            told.fail()
+            one.sendall(asking("XADD s 2-0 f v"))
+            failed_log(server)
+            for stream in (one, reader):
+                assert read_to_end(stream)[0] == b""
+        told.fail(0)
+        goes_on(program, folder, "s", 1, 2)
+
+
+def idle_costs_no_sync(program):
+    """Who polls in vain, waits in vain, looks or is refused costs no sync and no byte of the log; an addition does."""
+    with syncs.counted() as told, new_folder() as folder:
+        with logged(program, folder, environment=told.environment) as server, Clients(server.port) as clients:
+            one, pollers = clients.new(), [clients.new() for _ in range(4)]
+            make(one, "s", "t")
+            add(one, "s", 1)
+            for name, stream in enumerate(pollers):
+                say(stream, reading(f"c{name}", "s t", "BLOCK 1"), gives("s", 1) if name == 0 else NOTHING)
+            done, size = told.number(syncs.BEGUN), os.path.getsize(last_log(folder))
+            for _ in range(20):
+                for name, stream in enumerate(pollers):
+                    say(stream, reading(f"c{name}", "s t", "BLOCK 5"), NOTHING)
+                    say(stream, reading(f"c{name}", "t", "COUNT 3"), NOTHING)
+            for text, reply in (("XLEN s", number(1)), ("XRANGE s - +", array([entry("1-0", "f", "v")])),
+                                ("XREVRANGE s + -", array([entry("1-0", "f", "v")])), ("PING", PONG.decode()),
+                                ("XPENDING s g", array([number(1), bulk("1-0"), bulk("1-0"),
+                                                        array([array([bulk("c0"), bulk("1")])])]))):
+                say(one, text, reply)
+            for text in ("XADD s 1-0 f v", "XADD s x f v", "XGROUP CREATE s g 0", "XREADGROUP GROUP none c STREAMS s >",
+                         "XADD s", "NONE"):
+                one.sendall(asking(text))
+                with one.makefile("rb") as replies:
+                    assert read_reply(replies).startswith(b"-"), text
+            waiting = clients.waiting("c1", "s t", "BLOCK 300")
+            comes(waiting, NOTHING)
+            more = told.number(syncs.BEGUN) - done, os.path.getsize(last_log(folder)) - size
+            assert more == (0, 0), f"{more[0]} syncs, and {more[1]} bytes more"
+            add(one, "s", 2)
+            more = told.number(syncs.BEGUN) - done, os.path.getsize(last_log(folder)) - size
+            assert min(more) > 0, f"{more[0]} syncs, and {more[1]} bytes more for an addition"
+
+
+# ---- no room
+
+
+def with_room(program, folder, room):
+    """A server none of whose files may have more bytes."""
+    return logged(program, folder, limits={resource.RLIMIT_FSIZE: room})
+
+
+def add_while_there_is_room(stream, key):
+    """Adds one entry behind the other until the connection ends, and says how many were answered."""
+    for place in range(1, 10_000):
+        if not is_answered(stream, f"XADD {key} {place}-0 f v"):
+            return place - 1
+    raise AssertionError("there was always room")
+
+
+def no_room(program):
+    """Files may have so many bytes, and no more: additions are answered until there is no room. Then nobody is
+    answered, and it ends. With room again all that was answered is there, and nothing else; it goes on."""
+    header, size = len(logs.header(1)), len(NEXT)
+    # no record; half a record behind two; whole pages, and what is gathered before it is written
+    for room in (header, header + size * 5 // 2, 1000, 4096, 10_007, 65_543):
+        with new_folder() as folder:
+            with with_room(program, folder, room) as server, Clients(server.port) as clients:
+                adder, other = clients.new(), clients.new()
+                say(other, "PING", PONG.decode())
+                count = add_while_there_is_room(adder, "s")
+                failed_log(server)
+                assert read_to_end(other)[0] == b""
+            assert os.path.getsize(last_log(folder)) <= room
+            assert count >= room // 200 - 1, f"{count} additions had room in {room} bytes"
+            goes_on(program, folder, "s", count, count)
+
+
+def no_room_for_many(program):
+    """The same with four clients that send 20 additions at once, and one that waits: of each the first ones are there,
+    all that were answered among them."""
+    for room in (9000, 70_001):
+        with new_folder() as folder:
+            answered = [0] * 4
+            with with_room(program, folder, room) as server, Clients(server.port) as clients:
+                make(clients.new(), "empty")
+                reader = clients.waiting("a", "empty")
+
+                def work(name):
+                    with Connection(server.port) as one, contextlib.suppress(OSError):
+                        for first in range(1, 100_000, 20):
+                            ids = [f"{place}-0" for place in range(first, first + 20)]
+                            one.send(*(("XADD", f"s{name}", one_id, "f", "v") for one_id in ids))
+                            for _ in ids:
+                                one.answer()
+                                answered[name] += 1
+
+                served.together(4, work)
+                failed_log(server)
+                assert read_to_end(reader)[0] == b""
+            assert sum(answered) > room // 200
+            for name, count in enumerate(answered):
+                goes_on(program, folder, f"s{name}", count, count + 20)
+
+
+def no_room_to_start(program):
+    """If there is no room for the header it doesn't start. With room it does."""
+    for room in (0, 1, len(logs.header(1)) - 1):
+        with new_folder() as folder:
+            done = start(program, folder, before=served.with_limits({resource.RLIMIT_FSIZE: room}))
+            is_refusal(done, folder, "log-1 can't be written")
+            goes_on(program, folder, "s", 0, 0)
+
+
+CASES = (answers_wait_for_the_sync, syncs_are_shared, syncs_each_second, what_it_read_is_kept, a_sync_fails,
+         a_sync_beside_fails, idle_costs_no_sync, no_room_to_start, no_room, no_room_for_many)
