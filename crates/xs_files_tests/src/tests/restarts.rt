@@ -55,3 +55,25 @@ fn a_folder_is_opened_once(rt: HostRuntime) -> Result<(), Fail> {
     remove_folder(&rt, "once");
     Ok(())
 }
+
+#[test]
+fn a_syncer_is_for_each_second_alone(rt: HostRuntime) -> Result<(), Fail> {
+    empty_folder(&rt, "syncer")?;
+    for policy in [
+        SyncPolicy::Always,
+        SyncPolicy::EachSecond,
+        SyncPolicy::Never,
+    ] {
+        let progress = Arc::new(rt.alloc(), Progress::new())?;
+        let Ok(opened) = open_folder(&rt, "syncer", policy, &progress) else {
+            return Err("not opened".into());
+        };
+        let syncer = opened.log.tape().syncer()?;
+        assert_eq!(rt; syncer.is_some(), policy == SyncPolicy::EachSecond);
+        if let Some(mut syncer) = syncer {
+            syncer.sync(&rt);
+        }
+    }
+    remove_folder(&rt, "syncer");
+    Ok(())
+}
