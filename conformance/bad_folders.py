@@ -119,6 +119,7 @@ def no_access(program):
             os.chmod(path, whole)
             assert logs.contents(folder) == was, text
         new = os.path.join(above, "new")
+        os.chmod(above, 0o555)
         is_refusal(start(copy, new, before=as_nobody), new, "it can't be written.*")
 
 
