@@ -188,8 +188,8 @@ def torn_ends(program):
 
 
 def torn_next_log(program):
-    """A crash while the next log is begun leaves none, an empty one, or a part of its header: the log before it is read,
-    and the next one gone on with."""
+    """A crash while the next log is begun leaves none, an empty one, or a part of its header: the log before it is
+    read, and the next one gone on with."""
     header = logs.header(2)
     for data in (b"", header[:1], header[:-1], bytes(54), header[:30] + bytes(24), header):
         with new_folder() as folder:
