@@ -25,8 +25,8 @@ install: build
 # CI. Proves everything from nothing, tries the edits of must-fail/, and runs the tests and the program that
 # it built: the worked cases, the great scripts, connections made at random, and a server as its users run it, bounded,
 # lasting, and with a log, ended in every way. Then the models of how threads wait for each other are explored. Before
-# that, docs/PROOFS.md has to name the edits that there are, and what the slips of conformance/slips.txt turn has to stand
-# in its file.
+# that, docs/PROOFS.md has to name the edits that there are, and what the slips of conformance/slips.txt turn has to
+# stand in its file.
 test:
 	python3 scripts/edits_table.py --check
 	for crate in xs_stream xs_resp xs_group xs_command xs_keys; do python3 conformance/slips.py --by-hand --list $$crate > /dev/null || exit 1; done

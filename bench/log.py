@@ -5,15 +5,15 @@
 
 It needs redis-server, redis-cli and cc.
 
-The first line tells how long one fdatasync takes here, behind an append of 100 bytes. The first table tells requests a
-second, so many connections sending so many at once, of `PROGRAM run --log FOLDER --sync always` and of a redis-server
-with `appendfsync always`; the second one those of `--sync no` and of a server without a log. The servers of a table are
-started anew for each pair, with new folders on the same file system (--folder says where), and take turns; the stream
-is removed and filled before each work. bench/tcp_driver.c asks: in the first table about for so many seconds each time,
-if all that wait share a sync; in the second 100,000 requests, and 5,000 at least of each connection. Client and servers
-share the machine. Each figure is the median of the runs, with the least and the greatest; the ratios are those
-of the runs. The last lines tell how long a start takes that reads a log of so many additions: here from the start of
-the program to its line that tells how many it read, of Redis as its own log tells it.
+The first line, and that behind the first table, tell how long one fdatasync takes here, behind an append of 100 bytes:
+on a shared disk that may change within a minute. The first table tells requests a second, so many connections sending
+so many at once, of `PROGRAM run --log FOLDER --sync always` and of a redis-server with `appendfsync always`; the second
+one those of `--sync no` and of a server without a log. The servers of a table are started anew for each pair, with new
+folders on the same file system (--folder says where), and take turns; the stream is removed and filled before each
+work. bench/tcp_driver.c asks, for about so many seconds each time. Client and servers share the machine. Each figure is
+the median of the runs, with the least and the greatest; the ratios are those of the runs. The last lines tell how long
+a start takes that reads a log of so many additions: here from the start of the program to its line that tells how many
+it read, of Redis as its own log tells it.
 """
 import argparse
 import contextlib
@@ -30,8 +30,8 @@ from tcp import ADD, HERE, QUEUE, WORKS, Server, free_port, latencies, spread
 
 PAIRS = "1x1,16x1,64x1,1x16,16x16,64x16"
 SYNCS = 200
-# The most requests of a run that waits for syncs; how many others have, and how many of them each connection at least.
-MOST, OTHERS, LEAST_EACH = 200_000, 100_000, 5_000
+# How many rounds of all connections are asked to find out how many requests take a second, and the most requests.
+ROUNDS, MOST = 20, 200_000
 
 
 def program_words(program, connections, *log):
@@ -48,16 +48,18 @@ def start(words, driver):
     return Server([str(port) if word == "PORT" else word for word in words], port, driver)
 
 
-def time_of_sync(folder):
-    """The seconds that an fdatasync takes behind a small append: all of them, sorted."""
+def tell_sync(folder):
+    """Tells how long an fdatasync takes behind a small append."""
     taken = []
     with open(os.path.join(folder, "syncs"), "wb", buffering=0) as file:
         for _ in range(SYNCS):
             file.write(bytes(100))
             began = time.perf_counter()
             os.fdatasync(file.fileno())
-            taken.append(time.perf_counter() - began)
-    return sorted(taken)
+            taken.append((time.perf_counter() - began) * 1e6)
+    taken.sort()
+    print(f"One fdatasync takes {taken[SYNCS // 2]:,.0f} µs in the middle, {taken[SYNCS * 99 // 100]:,.0f} at 99 %",
+          flush=True)
 
 
 def always(asked, folders, connections):
@@ -93,8 +95,15 @@ def line(name, connections, deep, here, there):
     print(f"| {' | '.join(cells)} |", flush=True)
 
 
-def table(asked, make, other, count_of, driver):
-    """A table of each work at each pair, of so many requests each time."""
+def count_of(asked, servers, work, connections, deep):
+    """How many requests the slower of the servers is asked in about the seconds of a run."""
+    least = ROUNDS * connections * deep
+    rate = min(server.ask(work, least, connections, deep).rate for server in servers)
+    return min(max(int(asked.seconds * rate), least), max(MOST, least))
+
+
+def table(asked, make, other, driver):
+    """A table of each work at each pair."""
     titles = ("Work", "Connections x deep", "Requests a second here", f"of {other}", f"here by {other}",
               "Processor time of the server for a request, in µs", f"here by {other}",
               "Latency here, in µs, in the middle, at 99 % and 99.9 %", f"of {other}")
@@ -102,11 +111,11 @@ def table(asked, make, other, count_of, driver):
     for connections, deep in (map(int, pair.split("x")) for pair in asked.pairs.split(",")):
         with started(asked, make, connections, driver) as servers:
             taken = {name: [[] for _ in servers] for name in asked.works.split(",")}
-            count = max(count_of(connections, deep), 4 * connections * deep)
+            counts = {name: count_of(asked, servers, WORKS[name], connections, deep) for name in taken}
             for _ in range(asked.runs):
                 for name, sides in taken.items():
                     for side, server in zip(sides, servers):
-                        side.append(server.ask(WORKS[name], count, connections, deep))
+                        side.append(server.ask(WORKS[name], counts[name], connections, deep))
         for name, (here, there) in taken.items():
             line(name, connections, deep, here, there)
 
@@ -185,19 +194,10 @@ def main():
     with tempfile.TemporaryDirectory(dir=asked.folder) as folder:
         driver = os.path.join(folder, "tcp_driver")
         subprocess.run(["cc", "-O2", "-pthread", "-o", driver, os.path.join(HERE, "tcp_driver.c")], check=True)
-        syncs = time_of_sync(folder)
-        sync = statistics.median(syncs)
-        print(f"One fdatasync: {sync * 1e6:,.0f} µs in the middle, {syncs[SYNCS * 99 // 100] * 1e6:,.0f} at 99 %",
-              flush=True)
-
-        def count_of_synced(connections, deep):
-            return min(int(asked.seconds * connections * deep / sync), MOST)
-
-        def count_of_others(connections, _):
-            return max(OTHERS, LEAST_EACH * connections)
-
-        table(asked, always, "Redis", count_of_synced, driver)
-        table(asked, never, "a server without a log", count_of_others, driver)
+        tell_sync(folder)
+        table(asked, always, "Redis", driver)
+        tell_sync(folder)
+        table(asked, never, "a server without a log", driver)
         tell_replay(asked, driver)
 
 

@@ -119,6 +119,7 @@ def no_access(program):
             os.chmod(path, whole)
             assert logs.contents(folder) == was, text
         new = os.path.join(above, "new")
+        os.chmod(above, 0o555)
         is_refusal(start(copy, new, before=as_nobody), new, "it can't be written.*")
 
 
@@ -186,6 +187,22 @@ def torn_ends(program):
                 say_at(server, "XRANGE s - +", array([entry(f"{place}-0", "f", "v") for place in places]))
 
 
+def torn_next_log(program):
+    """A crash while the next log is begun leaves none, an empty one, or a part of its header: the log before it is
+    read, and the next one gone on with."""
+    header = logs.header(2)
+    for data in (b"", header[:1], header[:-1], bytes(54), header[:30] + bytes(24), header):
+        with new_folder() as folder:
+            logs.write_logs(folder, GOOD, data)
+            with logged(program, folder) as server, raw(server.port) as one:
+                assert read_at_start(server, folder)[0] == len(RECORDS), (data, server.said)
+                add(one, "s", 3)
+            assert logs.read_file(logs.path_of(folder, 1)) == GOOD
+            assert len(logs.records_in(folder)) == len(RECORDS) + 1, data
+            with logged(program, folder) as server:
+                say_at(server, "XRANGE s - +", array([entry(f"{place}-0", "f", "v") for place in (1, 2, 3)]))
+
+
 def where_it_is_made(program):
     """A folder is made in the one where the program is started, if its name is no path; a link to a folder, and a slash
     behind its name, are taken."""
@@ -220,4 +237,5 @@ def wrong_options(program):
         assert b"--log" in done.stdout and b"--sync" in done.stdout, done
 
 
-CASES = (wrong_options, wrong_folders, no_access, in_use, torn_ends, where_it_is_made, turned_bits)
+CASES = (wrong_options, wrong_folders, no_access, in_use, torn_ends, torn_next_log, where_it_is_made,
+         turned_bits)

@@ -75,19 +75,25 @@ def syncs_are_shared(program):
                 streams[0].sendall(asking("XADD s0 1-0 f v"))
                 told.one_begins(before)
                 for place, stream in enumerate(streams[1:], 1):
-                    stream.sendall(asking(f"XADD s{place} 1-0 f v") + asking(f"XADD s{place} 2-0 f v"))
-                time.sleep(0.2)
-            comes(streams[0], bulk("1-0"))
-            for stream in streams[1:]:
-                comes(stream, bulk("1-0") + bulk("2-0"))
-            # each has two requests, the second of which may come to the keeper behind the first one's answer
+                    stream.sendall(asking(f"XADD s{place} 1-0 f v"))
+                time.sleep(0.3)
+            for stream in streams:
+                comes(stream, bulk("1-0"))
             count = told.number(syncs.BEGUN) - before
-            assert count <= 6, f"33 additions took {count} syncs"
+            assert count <= 4, f"17 additions took {count} syncs"
+
+
+def is_kept_in_time(told, path):
+    """All that a log has is kept within five seconds."""
+    deadline = time.monotonic() + 5
+    while told.kept(path) < os.path.getsize(path):
+        assert time.monotonic() < deadline, f"{told.kept(path)} bytes of {os.path.getsize(path)} are kept"
+        time.sleep(0.05)
 
 
 def syncs_each_second(program):
-    """With `--sync second` an addition waits for no sync, and is kept two seconds later, whether anything more comes or
-    not. While nothing comes nothing is synced."""
+    """With `--sync second` an addition waits for no sync, and is kept a few seconds later, though nothing more comes.
+    While nothing comes nothing is synced, and what comes within a second shares a sync."""
     with syncs.counted() as told, new_folder() as folder:
         with logged(program, folder, "second", environment=told.environment) as server, raw(server.port) as one:
             with told.held():
@@ -96,17 +102,17 @@ def syncs_each_second(program):
                 add(one, "s", 2)
             for place in (3, 4):
                 add(one, "s", place)
-                time.sleep(2)
-                size, kept = os.path.getsize(last_log(folder)), told.kept(last_log(folder))
-                assert kept == size, f"two seconds later {kept} bytes of {size} are kept"
+                is_kept_in_time(told, last_log(folder))
+            time.sleep(1.5)
             before = told.number(syncs.BEGUN)
             time.sleep(2.5)
             assert (count := told.number(syncs.BEGUN) - before) == 0, f"{count} syncs of nothing"
-            # many additions are kept by a sync or two
+            began = time.monotonic()
             for place in range(5, 1000):
                 add(one, "s", place)
-            time.sleep(2)
-            assert 1 <= (count := told.number(syncs.BEGUN) - before) <= 8, f"{count} syncs"
+            is_kept_in_time(told, last_log(folder))
+            count, took = told.number(syncs.BEGUN) - before, time.monotonic() - began
+            assert count <= took + 2, f"{count} syncs in {took} s"
 
 
 def a_sync_beside_fails(program):
@@ -192,9 +198,9 @@ def idle_costs_no_sync(program):
 # ---- no room
 
 
-def with_room(program, folder, room):
+def with_room(program, folder, room, sync="always"):
     """A server none of whose files may have more bytes."""
-    return logged(program, folder, limits={resource.RLIMIT_FSIZE: room})
+    return logged(program, folder, sync, limits={resource.RLIMIT_FSIZE: room})
 
 
 def add_while_there_is_room(stream, key):
@@ -210,9 +216,10 @@ def no_room(program):
     answered, and it ends. With room again all that was answered is there, and nothing else; it goes on."""
     header, size = len(logs.header(1)), len(NEXT)
     # no record; half a record behind two; whole pages, and what is gathered before it is written
-    for room in (header, header + size * 5 // 2, 1000, 4096, 10_007, 65_543):
+    for room, sync in ((header, "always"), (header + size * 5 // 2, "always"), (header + size * 5 // 2, "no"),
+                       (1000, "second"), (4096, "always"), (10_007, "no"), (65_543, "always")):
         with new_folder() as folder:
-            with with_room(program, folder, room) as server, Clients(server.port) as clients:
+            with with_room(program, folder, room, sync) as server, Clients(server.port) as clients:
                 adder, other = clients.new(), clients.new()
                 say(other, "PING", PONG.decode())
                 count = add_while_there_is_room(adder, "s")
