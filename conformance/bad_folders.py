@@ -226,8 +226,9 @@ def where_it_is_made(program):
 def wrong_options(program):
     """Options of a log that have no value or a wrong one end it with status 2, and are named."""
     with new_folder() as folder:
-        for line in (["--log"], ["--sync"], ["--log", folder, "--sync"], ["--log", folder, "--sync", "often"],
-                     ["--log", folder, "--sync", ""], ["--sync", "no"], ["--log", folder, "--log", folder]):
+        for line in (["--log"], ["--log", ""], ["--sync"], ["--log", folder, "--sync"],
+                     ["--log", folder, "--sync", "often"], ["--log", folder, "--sync", ""],
+                     ["--sync", "no"], ["--log", folder, "--log", folder]):
             words = [*served.words_of_run(program, served.free_port(), 2), *line]
             done = subprocess.run(words, capture_output=True, timeout=30)
             name = "--sync" if "--sync" in line else "--log"

@@ -122,8 +122,8 @@ def producing(server, producers=2):
 
 
 def consume_beside_producers(server, rounds):
-    """Producers fill the memory and never stop. Meanwhile consumers on new connections read and acknowledge, one job and
-    many at once, and delete what they took: no command of theirs is refused."""
+    """Producers fill the memory and never stop. Meanwhile consumers on new connections read, acknowledge and delete,
+    one job and many at once: no command of theirs is refused."""
     say_at(server, "XGROUP CREATE q g 0 MKSTREAM", "+OK\r\n")
     add_until_full(server)
     taken = []

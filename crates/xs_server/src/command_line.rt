@@ -79,6 +79,8 @@ const NO_ADDRESS: &str = "error: the value of --bind is no IPv4 or IPv6 address\
 
 const NO_POLICY: &str = "error: the value of --sync is none of always, second and no\n";
 
+const NO_FOLDER: &str = "error: the value of --log is empty\n";
+
 const NO_LOG: &str = "error: --sync says when a log is synced, and there is no --log\n";
 
 const NOT_OPEN: &str =
@@ -221,11 +223,15 @@ fn bind_of(matches: &ArgMatches) -> Result<IpAddr, &'static str> {
     }
 }
 
-/// When the log of `run` is synced, or what is wrong with the words that say it.
+/// When the log of `run` is synced, or what is wrong with the words that name a log.
 fn policy_of(matches: &ArgMatches) -> Result<SyncPolicy, &'static str> {
+    let folder = matches.get_str("log");
+    if matches!(folder, Some("")) {
+        return Err(NO_FOLDER);
+    }
     match matches.get_str("sync") {
         None => Ok(SyncPolicy::Always),
-        Some(_) if matches.get_str("log").is_none() => Err(NO_LOG),
+        Some(_) if folder.is_none() => Err(NO_LOG),
         Some("always") => Ok(SyncPolicy::Always),
         Some("second") => Ok(SyncPolicy::EachSecond),
         Some("no") => Ok(SyncPolicy::Never),

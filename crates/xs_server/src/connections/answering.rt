@@ -52,7 +52,7 @@ fn words_of<P: Port>(
     port: &P,
     words: Request<'_>,
 ) -> Result<Option<List<Bytes>>, AllocError>
-    ensures { IfOk result (λ found. (command : Command) → command_of_words words ≡ Ok command →
+    ensures { IfOk result (λ found. (command : Command) → command_of_words words.entry ≡ Ok command →
         HasWords found command) }
 {
     if !port.wants_words() {
