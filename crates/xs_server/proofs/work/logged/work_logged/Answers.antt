@@ -1,0 +1,7 @@
+use denote.Param.Send.{sendable}
+use Rattle.xs_server.proofs.work.logged.work_logged.Goals as goal
+
+pub run_to_end_of_keeper-requires-send-J : goal.run_to_end_of_keeper-requires-send-J
+run_to_end_of_keeper-requires-send-J g c κs within =
+    let log = c.type_bounds.send-L in
+    search sendable depth 30
