@@ -18,9 +18,10 @@ KEYS, GROUPS, CONSUMERS = ("s", "t", "u", "x"), ("g", "h"), ("a", "b", "B")
 MORE = ["XADD x * f \1\0\1\1\0\2", "XREADGROUP GROUP g a COUNT 1 STREAMS x >", "XADD x NOMKSTREAM MAXLEN 4 * f \0 \1 \1\2",
         "XREADGROUP GROUP g b NOACK COUNT 1 STREAMS x >", "XREADGROUP BLOCK 5 GROUP g a COUNT 1 STREAMS x >",
         "XREADGROUP BLOCK 1 GROUP g a STREAMS x >", "XREADGROUP GROUP g a STREAMS x >", "XCLAIM x g b 0 1-0 0-1",
-        "XAUTOCLAIM x g B 0 0 COUNT 1", "XADD x 1-0 f v", "XADD x 2"]
+        "XAUTOCLAIM x g B 0 0 COUNT 1", "XADD x 1-0 f v", "XREADGROUP GROUP h b COUNT 2 STREAMS x >", "XADD x 2",
+        "XGROUP DESTROY x h", "XGROUP CREATE x h 0"]
 OPENING = ["XGROUP CREATE x g 0 MKSTREAM", "XGROUP CREATE x h $", *(f"XGROUP CREATE {key} g 0 MKSTREAM" for key in "stu")]
-# What the log has to have a record of, as a beginning and a word behind it, and what none of it.
+# Of each of these the log has to have a record whose reply tells of an effect: its name, and words among the others.
 NOTED = ["XADD x *", "XADD s", "XDEL", "XTRIM", "XGROUP CREATE", "XGROUP DESTROY", "XGROUP CREATECONSUMER",
          "XGROUP DELCONSUMER", "XREADGROUP NOACK", "XREADGROUP >", "XREADGROUP 0", "XACK", "XCLAIM", "XAUTOCLAIM", "DEL"]
 
@@ -97,7 +98,8 @@ def is_a_life_of_the_model(program, life):
     """What was answered is the model's too, and there is a record of each kind, and commands without one."""
     want = states.script_replies(program, [(one.moment, one.words) for one in life.sent])
     states.same_replies([one.words for one in life.sent], want, [one.reply for one in life.sent])
-    noted = [b" ".join(one.words).upper().split(b" ") for one in life.sent if one.is_noted]
+    noted = [[word.upper() for word in one.words] for one in life.sent
+             if one.is_noted and one.reply not in (b":0\r\n", b"*0\r\n", b"*-1\r\n")]
     for kind in NOTED:
         name, *rest = kind.encode().upper().split(b" ")
         assert any(words[0] == name and all(word in words for word in rest) for words in noted), f"no record has {kind}"
