@@ -6,7 +6,6 @@ from dataclasses import dataclass
 
 import commands
 import logs
-import served
 import states
 from books import Connection
 from logged import logged, new_folder, read_at_start
@@ -15,15 +14,18 @@ from states import words_of
 SEED, CLIENTS, COMMANDS = 30, 4, 200
 KEYS, GROUPS, CONSUMERS = ("s", "t", "u", "x"), ("g", "h"), ("a", "b", "B")
 # Among the commands at random, in turn: what they leave out.
-MORE = ["XADD x * f \1\0\1\1\0\2", "XREADGROUP GROUP g a COUNT 1 STREAMS x >", "XADD x NOMKSTREAM MAXLEN 4 * f \0 \1 \1\2",
-        "XREADGROUP GROUP g b NOACK COUNT 1 STREAMS x >", "XREADGROUP BLOCK 5 GROUP g a COUNT 1 STREAMS x >",
+MORE = ["XADD x * f \1\0\1\1\0\2", "XREADGROUP GROUP g a COUNT 1 STREAMS x >",
+        "XADD x NOMKSTREAM MAXLEN 4 * f \0 \1 \1\2", "XREADGROUP GROUP g b NOACK COUNT 1 STREAMS x >",
+        "XREADGROUP BLOCK 5 GROUP g a COUNT 1 STREAMS x >",
         "XREADGROUP BLOCK 1 GROUP g a STREAMS x >", "XREADGROUP GROUP g a STREAMS x >", "XCLAIM x g b 0 1-0 0-1",
         "XAUTOCLAIM x g B 0 0 COUNT 1", "XADD x 1-0 f v", "XREADGROUP GROUP h b COUNT 2 STREAMS x >", "XADD x 2",
         "XGROUP DESTROY x h", "XGROUP CREATE x h 0"]
-OPENING = ["XGROUP CREATE x g 0 MKSTREAM", "XGROUP CREATE x h $", *(f"XGROUP CREATE {key} g 0 MKSTREAM" for key in "stu")]
+OPENING = ["XGROUP CREATE x g 0 MKSTREAM", "XGROUP CREATE x h $",
+           *(f"XGROUP CREATE {key} g 0 MKSTREAM" for key in "stu")]
 # Of each of these the log has to have a record whose reply tells of an effect: its name, and words among the others.
 NOTED = ["XADD x *", "XADD s", "XDEL", "XTRIM", "XGROUP CREATE", "XGROUP DESTROY", "XGROUP CREATECONSUMER",
-         "XGROUP DELCONSUMER", "XREADGROUP NOACK", "XREADGROUP >", "XREADGROUP 0", "XACK", "XCLAIM", "XAUTOCLAIM", "DEL"]
+         "XGROUP DELCONSUMER", "XREADGROUP NOACK", "XREADGROUP >", "XREADGROUP 0", "XACK", "XCLAIM", "XAUTOCLAIM",
+         "DEL"]
 
 LOOKS = [words_of(text) for key in KEYS for text in (
     f"XLEN {key}", f"XRANGE {key} - +",
@@ -213,8 +215,8 @@ def every_crash_point(program):
 
 def every_crash_point_of_a_second_log(program):
     """The first log is closed, and the second one has a beginning of its header, or that and a record and a half. It
-    refuses a server that reads no further log, that takes the first one for the last, or that begins the next one behind
-    a torn header."""
+    refuses a server that reads no further log, that takes the first one for the last, or that begins the next one
+    behind a torn header."""
     life = lead_a_life(program)
     noted, first = [one for one in life.sent if one.is_noted], len(life.pieces) // 2
     closed, header = life.data[:life.pieces[first].end], logs.header(2)

@@ -17,7 +17,7 @@ from states import words_of
 
 FOLDER = os.path.join(os.path.dirname(os.path.abspath(__file__)), "logs", f"model-{logs.MODEL}")
 NAMES = {b"XADD", b"XDEL", b"XTRIM", b"XGROUP", b"XREADGROUP", b"XACK", b"XCLAIM", b"XAUTOCLAIM", b"DEL"}
-RECORDS, BEGAN = 56, 1_700_000_000_000
+RECORDS, BEGAN = 59, 1_700_000_000_000
 # A key, a group and a consumer with bytes that a log escapes, and a value.
 KEY, GROUP, CONSUMER, VALUE = b"k\0\1", b"g\1\0", b"c\0", b"\0\1\2\1\1\0\0\r\n \xff"
 BYTES, EMPTY, TWO = (b"%d-0" % (BEGAN + 1000 * second) for second in (4, 5, 6))
@@ -27,13 +27,15 @@ def one_field(*ids):
     return [[identifier, [b"f", b"v"]] for identifier in ids]
 
 
-# What only reads. XDEL has removed 1-1, XTRIM and XADD what was before 6-0, and XDEL 7-0. What has never been, and what
-# was deleted, isn't there.
+# What only reads. XDEL has removed 1-1 of jobs, and 7-0 of waited; two have lost 1-0 by XTRIM, and two by XADD. What
+# has never been, and what was deleted, isn't there.
 LOOKS = [
     ("XRANGE jobs - +", [*one_field(b"1-0", b"2-0"), [BYTES, [b"bytes", VALUE]], [EMPTY, [b"", b""]],
                          [TWO, [b"f", b"w", b"g", b"x"]]]),
     ("XRANGE swept - +", one_field(b"3-0", b"4-0", b"5-0")),
-    ("XRANGE trimmed - +", one_field(b"6-0", b"8-0")),
+    *((f"XRANGE {key} - +", one_field(b"2-0")) for key in ("least", "most")),
+    *((f"XRANGE {key} - +", one_field(b"3-0")) for key in ("newer", "short")),
+    ("XRANGE waited - +", one_field(b"6-0", b"8-0")),
     ("XLEN none", 0), ("XLEN deleted", 0), ([b"XRANGE", KEY, b"-", b"+"], one_field(b"1-0")),
     ("XPENDING jobs g", [3, b"1-1", BYTES, [[b"a", b"1"], [b"c", b"1"], [b"d", b"1"]]]),
     ("XPENDING swept last", [0, None, None, None]),
@@ -41,29 +43,30 @@ LOOKS = [
 ]
 # The rows of each group: id, consumer, in which second of the log it was last delivered, count of deliveries.
 ROWS = [
-    # 1-0 was acknowledged; 1-1 was no longer there when a read its own entries; 2-0 has TIME 1699999990000 and RETRYCOUNT
-    # 7; the next one was claimed with IDLE 500 and JUSTID in second 15, and that behind it was handed out with NOACK
+    # 1-0 was acknowledged; 1-1 was no longer there when a read its own entries; 2-0 has TIME 1699999990000 and
+    # RETRYCOUNT 7; the next one was claimed with IDLE 500 and JUSTID in second 15; that behind it went out with NOACK
     ("jobs g", [(b"1-1", b"a", 8, 1), (b"2-0", b"c", -10, 7), (BYTES, b"d", 14.5, 1)]),
-    # of three that a had read, XDEL removed 1-0 and 2-0; a claim and a scan found that, and the scan took 3-0
-    ("swept g", [(b"3-0", b"b", 23, 2), (b"4-0", b"two", 51, 1)]),
-    ("swept from2", [(b"3-0", b"r", 28, 1)]),
+    # of three that a had read, XDEL removed 1-0 and 2-0; a claim found the one, a scan the other, and took 3-0
+    ("swept g", [(b"3-0", b"b", 23, 2), (b"4-0", b"two", 54, 1)]),
+    # r read its own entries too
+    ("swept from2", [(b"3-0", b"r", 29, 2)]),
     ("swept last", []),
     # the scan had JUSTID
-    ("trimmed g", [(b"6-0", b"three", 52, 1), (b"8-0", b"waiter", 55, 1)]),
-    ([KEY, GROUP], [(b"1-0", CONSUMER, 49, 1)]),
+    ("waited g", [(b"6-0", b"three", 55, 1), (b"8-0", b"waiter", 58, 1)]),
+    ([KEY, GROUP], [(b"1-0", CONSUMER, 52, 1)]),
 ]
-# What changes something: what each group delivers next, which consumers it has, and which ids its stream goes on with.
+# What changes something: which consumers each group has, what it delivers next, and which ids its stream goes on with.
 CHANGES = [
+    *((f"XGROUP CREATECONSUMER jobs g {name}", 0) for name in "abcdn"), ("XGROUP CREATECONSUMER jobs g e", 1),
+    ("XGROUP CREATECONSUMER swept last idle", 0), ("XGROUP CREATECONSUMER swept last gone", 1),
+    *((f"XGROUP CREATECONSUMER waited g {name}", 0) for name in ("two", "three", "lonely", "waiter")),
     ("XREADGROUP GROUP g a STREAMS jobs >", [[b"jobs", [[TWO, [b"f", b"w", b"g", b"x"]]]]]),
     ("XREADGROUP GROUP g a STREAMS swept >", [[b"swept", one_field(b"5-0")]]),
     ("XREADGROUP GROUP from2 r STREAMS swept >", [[b"swept", one_field(b"4-0", b"5-0")]]),
-    ("XREADGROUP GROUP last idle STREAMS swept >", None), ("XREADGROUP GROUP g two STREAMS trimmed >", None),
+    ("XREADGROUP GROUP last idle STREAMS swept >", None), ("XREADGROUP GROUP g two STREAMS waited >", None),
     ([b"XREADGROUP", b"GROUP", GROUP, CONSUMER, b"STREAMS", KEY, b">"], None),
-    *((f"XGROUP CREATECONSUMER jobs g {name}", 0) for name in "abcdn"), ("XGROUP CREATECONSUMER jobs g e", 1),
-    ("XGROUP CREATECONSUMER swept last idle", 0), ("XGROUP CREATECONSUMER swept last gone", 1),
-    *((f"XGROUP CREATECONSUMER trimmed g {name}", 0) for name in ("two", "three", "lonely", "waiter")),
     (f"XADD jobs {BEGAN + 6000}-* f v", b"%d-1" % (BEGAN + 6000)), ("XADD swept 5-0 f v", b"ERR"),
-    ("XADD trimmed 7-* f v", b"ERR"), ("XADD trimmed 8-* f v", b"8-1"), ("XADD deleted 1-0 f v", b"1-0"),
+    ("XADD waited 7-* f v", b"ERR"), ("XADD waited 8-* f v", b"8-1"), ("XADD deleted 1-0 f v", b"1-0"),
 ]
 
 

@@ -26,9 +26,10 @@ OOM = b"-OOM out of memory\r\n"
 FIRST = [words_of(text) for text in (
     "XGROUP CREATE s g 0 MKSTREAM", *(f"XADD s {place}-0 f value-{place}" for place in range(1, 13)),
     "XREADGROUP GROUP g a COUNT 4 STREAMS s >", "XREADGROUP GROUP g b COUNT 2 STREAMS s >", "XACK s g 1-0",
-    "XREADGROUP GROUP g a NOACK COUNT 1 STREAMS s >", "XCLAIM s g c 0 2-0 5-0", "XDEL s 3-0 9-0", "XADD t MAXLEN 2 1-0 f v",
-    "XGROUP CREATE t g $", "XADD t 2-0 f v", "XREADGROUP GROUP g d STREAMS s t > >", "XAUTOCLAIM s g e 0 4 COUNT 1",
-    "XGROUP CREATE t h 0", "XGROUP CREATECONSUMER t h d", "XTRIM s MAXLEN 8", "XADD gone 1-0 f v", "DEL gone",
+    "XREADGROUP GROUP g a NOACK COUNT 1 STREAMS s >", "XCLAIM s g c 0 2-0 5-0", "XDEL s 3-0 9-0",
+    "XADD t MAXLEN 2 1-0 f v", "XGROUP CREATE t g $", "XADD t 2-0 f v", "XREADGROUP GROUP g d STREAMS s t > >",
+    "XAUTOCLAIM s g e 0 4 COUNT 1", "XGROUP CREATE t h 0",
+    "XGROUP CREATECONSUMER t h d", "XTRIM s MAXLEN 8", "XADD gone 1-0 f v", "DEL gone",
     "XGROUP DELCONSUMER s g d")]
 # What is sent while an allocation is refused.
 SENT = [words_of(text) for text in (
@@ -111,10 +112,11 @@ def ended_or_serves(server):
 # ---- at the start
 
 
-def start_refused(program, told, model, number, behind):
-    """Starts on a log with these bytes behind, while the allocation with this number is refused; says what became of
-    it, and whether there were so many."""
-    told.refuse(number)
+def start_refused(program, told, model, number, count):
+    """Starts on a log that has a torn end, or none, while so many allocations from this number on are refused; says
+    what became of it, and whether there were so many."""
+    behind = RECORDS[1][:number % 40]
+    told.refuse(number, number + count - 1)
     with new_folder() as folder:
         logs.write_logs(folder, LOG + behind)
         port = served.free_port()
@@ -125,27 +127,29 @@ def start_refused(program, told, model, number, behind):
                 left = logs.read_file(logs.path_of(folder, 1))
                 assert left in (LOG, LOG + behind), f"refused {number}: it changed the log"
                 return "ended", True
-            asked = told.asked()
+            was_asked = told.asked() >= number
             assert read_at_start(server, folder) == (len(FIRST), len(behind)), f"refused {number}: {server.said}"
             told.refuse(0)
             with Connection(port) as one:
                 got = states.ask_all(one, LOOKS)
             states.same_replies(LOOKS, model.replies((), LOOKS), got)
-        return "served", asked >= number
+        return "served", was_asked
 
 
 def refused_start(program):
-    """Each allocation of a start is refused in turn. It ends with a line, and changes no whole record; or it serves,
-    and has all records. It refuses a server that passes over a record for which there was no memory."""
-    model, counts = Model(program), collections.Counter()
+    """Each allocation of a start is refused in turn, and then some with all behind them. It ends with a line, and
+    changes no whole record; or it serves, and has all records. It refuses a server that passes over a record for which
+    there was no memory, or that cuts the log behind it."""
+    model = Model(program)
     with refusals() as told:
-        for number in range(1, MANY):
-            became, was_asked = start_refused(program, told, model, number, RECORDS[1][:number % 40])
-            if not was_asked:
-                break
-            counts[became] += 1
-    assert counts["ended"] > 30, counts
-    print(f"{sum(counts.values())} allocations of a start: {dict(counts)}", flush=True)
+        for count, step in ((1, 1), (MANY, 11)):
+            became = collections.Counter()
+            for number in range(1, MANY, step):
+                what, was_asked = start_refused(program, told, model, number, count)
+                if not was_asked:
+                    break
+                became[what] += 1
+            print(f"{count} refused at the start, {sum(became.values())} times: {dict(became)}", flush=True)
 
 
 # ---- while it serves
@@ -219,15 +223,15 @@ def serve_refused(program, told, model, number, count):
 
 
 def refused_while_it_serves(program):
-    """Each allocation behind the start is refused in turn, and then each with all behind it, while commands are sent.
+    """Each allocation behind the start is refused in turn, and then some with all behind them, while commands are sent.
     Each reply is right or OOM, or the connection ends; behind a kill and a start there are the commands that were
     answered otherwise, and no others. It refuses a server that answers OOM for what is in its log, or that answers what
     its log leaves out."""
     model = Model(program)
     with refusals() as told:
-        for count in (1, MANY):
+        for count, step in ((1, 1), (MANY, 3)):
             seen = collections.Counter()
-            for number in range(1, MANY):
+            for number in range(1, MANY, step):
                 what, was_asked = serve_refused(program, told, model, number, count)
                 if not was_asked:
                     break

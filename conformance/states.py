@@ -54,4 +54,4 @@ def idle_since(questions, want, got, between):
     for words, wanted, reply in zip(questions, want, got, strict=True):
         asked = {mine - theirs for mine, theirs in zip(idle_times(reply), idle_times(wanted), strict=True)}
         right = len(asked) <= 1 and all(between[0] <= moment <= between[1] for moment in asked)
-        assert right, f"{b' '.join(words).decode()} was answered {reply!r}, and by the model {wanted!r}: {asked}, {between}"
+        assert right, f"{b' '.join(words).decode()} was answered {reply!r}, by the model {wanted!r}: idle by {asked}"
