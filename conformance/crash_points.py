@@ -1,5 +1,6 @@
 """Every point at which a crash may cut a log: the start behind it has what the records before have, and no more."""
 import itertools
+import os
 import random
 import time
 from dataclasses import dataclass
@@ -145,7 +146,7 @@ def starts_with(program, folder, model, records, dropped):
             end = int(time.time() * 1000)
     states.same_replies(model.questions, model.replies, got)
     first = model.questions[:len(LOOKS)], model.replies[:len(LOOKS)], got[:len(LOOKS)]
-    states.idle_since(*first, (begin - model.moment - 1, end - model.moment + 1))
+    states.idle_since(*first, (begin - model.moment - 20, end - model.moment + 20))
 
 
 def goes_on_behind(folder, kept, model):
@@ -186,17 +187,18 @@ def left_by_a_crash(life, whole, made):
     yield data[:first] + bytes(end - first) + data[end:]
 
 
-def starts_behind(program, logs_before, data, model, kept, records):
-    """It starts on a folder with these logs before the last one, which has these bytes; so many of them are kept."""
-    with new_folder() as folder:
-        logs.write_logs(folder, *logs_before, data)
-        try:
-            starts_with(program, folder, model, records, len(data[kept:].partition(b"\0")[0]))
-            goes_on_behind(folder, data[:kept] or logs.header(len(logs_before) + 1), model)
-            if len(data) % 4 == 0:
-                starts_again(program, folder, model)
-        except AssertionError as fault:
-            raise AssertionError(f"behind {records} records, of {len(data)} bytes: {fault}") from fault
+def starts_behind(program, folder, datas, model, kept, records):
+    """It starts on the folder once its logs have these bytes, of which in the last one so many are kept."""
+    *_, data = datas
+    for number, one in enumerate(datas, 1):
+        logs.write_file(logs.path_of(folder, number), one)
+    try:
+        starts_with(program, folder, model, records, len(data[kept:].partition(b"\0")[0]))
+        goes_on_behind(folder, data[:kept] or logs.header(len(datas)), model)
+        if len(data) % 4 == 0:
+            starts_again(program, folder, model)
+    except AssertionError as fault:
+        raise AssertionError(f"behind {records} records, of {len(data)} bytes: {fault}") from fault
 
 
 def every_crash_point(program):
@@ -206,11 +208,13 @@ def every_crash_point(program):
     life, made = lead_a_life(program), random.Random(SEED)
     is_a_life_of_the_model(program, life)
     noted = [one for one in life.sent if one.is_noted]
-    for whole in range(len(life.pieces) + 1):
-        records = max(whole - 1, 0)
-        model, kept = model_behind(program, noted[:records]), life.pieces[whole - 1].end if whole else 0
-        for data in left_by_a_crash(life, whole, made):
-            starts_behind(program, [], data, model, kept, records)
+    with new_folder() as folder:
+        os.mkdir(folder)
+        for whole in range(len(life.pieces) + 1):
+            records = max(whole - 1, 0)
+            model, kept = model_behind(program, noted[:records]), life.pieces[whole - 1].end if whole else 0
+            for data in left_by_a_crash(life, whole, made):
+                starts_behind(program, folder, [data], model, kept, records)
 
 
 def every_crash_point_of_a_second_log(program):
@@ -220,15 +224,18 @@ def every_crash_point_of_a_second_log(program):
     life = lead_a_life(program)
     noted, first = [one for one in life.sent if one.is_noted], len(life.pieces) // 2
     closed, header = life.data[:life.pieces[first].end], logs.header(2)
-    model = model_behind(program, noted[:first])
-    for size in range(len(header) + 1):
-        kept = size if size == len(header) else 0
-        starts_behind(program, [closed], header[:size] + bytes(size % 3 * 1000), model, kept, first)
-    begin, end = life.pieces[first].end, life.pieces[first + 1].end
-    model = model_behind(program, noted[:first + 1])
-    for behind in (b"", life.data[end:end + 20], bytes(5000), life.data[end:end + 9] + bytes(9) + life.data[end + 18:]):
-        data = header + life.data[begin:end] + behind
-        starts_behind(program, [closed], data, model, len(header) + end - begin, first + 1)
+    with new_folder() as folder:
+        os.mkdir(folder)
+        model = model_behind(program, noted[:first])
+        for size in range(len(header) + 1):
+            kept = size if size == len(header) else 0
+            starts_behind(program, folder, [closed, header[:size] + bytes(size % 3 * 1000)], model, kept, first)
+        begin, end = life.pieces[first].end, life.pieces[first + 1].end
+        model = model_behind(program, noted[:first + 1])
+        rest = life.data[end:]
+        for behind in (b"", rest[:20], bytes(5000), rest[:9] + bytes(9) + rest[18:]):
+            data = header + life.data[begin:end] + behind
+            starts_behind(program, folder, [closed, data], model, len(header) + end - begin, first + 1)
 
 
 CASES = (every_crash_point, every_crash_point_of_a_second_log)

@@ -84,7 +84,7 @@ def has_rows(one, group, rows):
     end = time.time() * 1000
     assert [(row[0], row[1], row[3]) for row in found] == [(row[0], row[1], row[3]) for row in rows], (group, found)
     moments = {BEGAN + int(1000 * row[2]) + at[2] for row, at in zip(rows, found)}
-    assert len(moments) <= 1 and all(begin - 1 <= moment <= end + 1 for moment in moments), (group, found, moments)
+    assert len(moments) <= 1 and all(begin - 20 <= moment <= end + 20 for moment in moments), (group, found, moments)
 
 
 def kept_log(program):

@@ -150,6 +150,7 @@ def refused_start(program):
                     break
                 became[what] += 1
             print(f"{count} refused at the start, {sum(became.values())} times: {dict(became)}", flush=True)
+            assert became["ended"] > 10, "nothing was refused"
 
 
 # ---- while it serves
@@ -237,6 +238,7 @@ def refused_while_it_serves(program):
                     break
                 seen[what] += 1
             print(f"{count} refused while it serves, {sum(seen.values())} times: {dict(seen)}", flush=True)
+            assert seen["OOM"], "nothing was refused"
 
 
 CASES = (refused_start, refused_while_it_serves)
