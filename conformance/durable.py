@@ -5,14 +5,14 @@
 
 It is killed while clients that keep books are at work (conformance/books.py), N times, 30 if not given; behind half of
 the kills the log loses what no sync had kept, as if the machine had stopped. conformance/kept.py has the cases of syncs
-and of room, and bad_folders.py those of folders and logs that aren't right. It needs Python's standard library, and a C
-compiler for the library that tells of syncs. What is at random has a fixed seed. The last line is 'N passed, M failed';
-the status is 1 if M > 0.
+and of room, bad_folders.py those of folders and logs that aren't right, crash_points.py cuts a log at each record,
+refused_logs.py refuses memory, and kept_log.py starts it on a log that an earlier program made. It needs Python's
+standard library, and a C compiler for the libraries that are loaded into it. What is at random has a fixed seed. The
+last line is 'N passed, M failed'; the status is 1 if M > 0.
 """
 import argparse
 import os
 import random
-import re
 import resource
 import signal
 import struct
@@ -23,9 +23,12 @@ import time
 import bad_folders
 import clock_steps
 import commands
+import crash_points
 import full_queue
 import kept
+import kept_log
 import logs
+import refused_logs
 import served
 import syncs
 from books import GROUP, KEY, Connection, Load, Queue, id_of
@@ -34,6 +37,7 @@ from great import array, bulk, entry, number
 from logged import NEXT, is_refusal, kill_while_it_starts, logged, new_folder, read_at_start, start
 from real_redis import read_reply, request
 from served import MOST_FAULTS, all_answer, asking, passes, raw, read_to_end, say, say_at, tell
+from states import idle_times, without_times
 from waiting import NOTHING, READ, Clients, add, begin, comes, gives, make, nothing_comes, reading, refuses
 
 
@@ -127,9 +131,6 @@ def killed_between_syncs(program):
 # ---- stopped and started again
 
 CONSUMERS = "abBd"
-IDLE = re.compile(rb"(\*4\r\n\$\d+\r\n[^\r]+\r\n\$\d+\r\n[^\r]+\r\n):(-?\d+)\r\n")
-
-
 OWN = [f"XREADGROUP GROUP {group} {consumer} STREAMS {key} 0" for key in "stu" for group in "gh"
        for consumer in CONSUMERS]
 LOOKS = [text for key in "stu" for text in (
@@ -145,8 +146,8 @@ def state(server, questions):
             stream.sendall(asking(text))
             reply = read_reply(replies)
             if " - + 1000" in text:
-                idle += [int(one) for _, one in IDLE.findall(reply)]
-                reply = IDLE.sub(rb"\1", reply)
+                idle += idle_times(reply)
+                reply = without_times(reply)
             told[text] = reply
     return told, idle
 
@@ -359,8 +360,9 @@ def full_memory(program):
             assert read_at_start(server, folder) == (added, 0)
 
 
-CASES = (*bad_folders.CASES, what_a_log_has, stopped_and_started, at_random, the_clock_is_late, waits_across_a_restart,
-         *kept.CASES, two_logs, full_memory, killed_without_syncs, killed_between_syncs)
+CASES = (*bad_folders.CASES, what_a_log_has, *kept_log.CASES, stopped_and_started, at_random, the_clock_is_late,
+         waits_across_a_restart, *crash_points.CASES, *refused_logs.CASES, *kept.CASES, two_logs, full_memory,
+         killed_without_syncs, killed_between_syncs)
 
 
 def main():
