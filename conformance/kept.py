@@ -143,6 +143,18 @@ def what_it_read_is_kept(program):
             assert kept == size, f"it told of {size} bytes, of which {kept} are kept"
 
 
+def headers_are_kept(program):
+    """Whatever the policy, the header of a log is kept before the server listens, and when another start goes on: a
+    crash that loses it, but not what is behind it, would leave no log."""
+    for sync in ("always", "second", "no"):
+        with syncs.counted() as told, new_folder() as folder:
+            for place in (1, 2):
+                with logged(program, folder, sync, environment=told.environment) as server:
+                    kept, header = told.kept(last_log(folder)), logs.header(1)
+                    assert kept >= len(header), f"with --sync {sync} {kept} bytes of a header of {len(header)} are kept"
+                    say_at(server, f"XADD s {place}-0 f v", bulk(f"{place}-0"))
+
+
 def a_sync_fails(program):
     """If a sync fails its addition isn't answered, nobody is served any more, and it ends. What was answered is there
     at the next start."""
@@ -266,5 +278,6 @@ def no_room_to_start(program):
             goes_on(program, folder, "s", 0, 0)
 
 
-CASES = (answers_wait_for_the_sync, syncs_are_shared, syncs_each_second, what_it_read_is_kept, a_sync_fails,
+CASES = (answers_wait_for_the_sync, syncs_are_shared, syncs_each_second, what_it_read_is_kept, headers_are_kept,
+         a_sync_fails,
          a_sync_beside_fails, idle_costs_no_sync, no_room_to_start, no_room, no_room_for_many)

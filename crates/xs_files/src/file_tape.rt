@@ -23,6 +23,8 @@ pub struct FileTape<R: Files<File = File> + Copy + Drop> {
     number: u64,
     size: u64,
     policy: SyncPolicy,
+    // The last file was synced since it was made or opened.
+    was_synced: bool,
     beside: Arc<Beside>,
     broken: bool,
 }
@@ -74,6 +76,7 @@ impl<R: Files<File = File> + Copy + Drop> FileTape<R> {
             number,
             size,
             policy,
+            was_synced: false,
             beside: Arc::new(alloc, Beside::new(number))?,
             broken: false,
         })
@@ -106,10 +109,13 @@ impl<R: Files<File = File> + Copy + Drop> Tape for FileTape<R> {
     }
 
     fn sync(&mut self) -> Result<(), TapeFailed> {
-        if self.policy == SyncPolicy::Always && self.file.sync_data().is_err() {
+        // The first time whatever the policy: a crash that loses a header, and not what is behind it, leaves no log.
+        let syncs = self.policy == SyncPolicy::Always || !self.was_synced;
+        if syncs && self.file.sync_data().is_err() {
             self.broken = true;
             return Err(TapeFailed);
         }
+        self.was_synced = true;
         Ok(())
     }
 
@@ -125,6 +131,7 @@ impl<R: Files<File = File> + Copy + Drop> Tape for FileTape<R> {
                 self.file = file;
                 self.number = number;
                 self.size = 0;
+                self.was_synced = false;
                 self.beside.begins(number);
                 Ok(())
             }
