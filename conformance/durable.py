@@ -34,7 +34,7 @@ import syncs
 from books import GROUP, KEY, Connection, Load, Queue, id_of
 from full_queue import MEGABYTE
 from great import array, bulk, entry, number
-from logged import NEXT, is_refusal, kill_while_it_starts, logged, new_folder, read_at_start, start
+from logged import NEXT, is_refusal, kill_while_it_starts, last_log, logged, new_folder, read_at_start, start
 from real_redis import read_reply, request
 from served import MOST_FAULTS, all_answer, asking, passes, raw, read_to_end, say, say_at, tell
 from states import idle_times, without_times
@@ -360,8 +360,23 @@ def full_memory(program):
             assert read_at_start(server, folder) == (added, 0)
 
 
-CASES = (*bad_folders.CASES, what_a_log_has, *kept_log.CASES, stopped_and_started, at_random, the_clock_is_late,
-         waits_across_a_restart, *crash_points.CASES, *refused_logs.CASES, *kept.CASES, two_logs, full_memory,
+def tells_how_far_it_is(program):
+    """While a start reads for long it says each second how many bytes it has read, and only then."""
+    with new_folder() as folder, tempfile.TemporaryDirectory() as above:
+        value = b"v" * 60_000
+        records = [logs.record(1_700_000_000_000 + place, [b"XADD", b"s", f"{place}-0".encode(), b"f", value])
+                   for place in range(1, 41)]
+        logs.write_logs(folder, logs.header(1) + b"".join(records))
+        size = os.path.getsize(last_log(folder))
+        for environment in ({"LD_PRELOAD": clock_steps.library_of("slow_reads.c", above)}, None):
+            with logged(program, folder, environment=environment) as server:
+                assert read_at_start(server, folder) == (40, 0)
+                told = [int(line.split()[-3]) for line in server.said if line.endswith(" bytes read\n")]
+                assert not told if environment is None else told and 0 < told[0] < size, server.said
+
+
+CASES = (*bad_folders.CASES, what_a_log_has, tells_how_far_it_is, *kept_log.CASES, stopped_and_started, at_random,
+         the_clock_is_late, waits_across_a_restart, *crash_points.CASES, *refused_logs.CASES, *kept.CASES, two_logs, full_memory,
          killed_without_syncs, killed_between_syncs)
 
 
