@@ -376,8 +376,8 @@ def tells_how_far_it_is(program):
 
 
 CASES = (*bad_folders.CASES, what_a_log_has, tells_how_far_it_is, *kept_log.CASES, stopped_and_started, at_random,
-         the_clock_is_late, waits_across_a_restart, *crash_points.CASES, *refused_logs.CASES, *kept.CASES, two_logs, full_memory,
-         killed_without_syncs, killed_between_syncs)
+         the_clock_is_late, waits_across_a_restart, *crash_points.CASES, *refused_logs.CASES, *kept.CASES, two_logs,
+         full_memory, killed_without_syncs, killed_between_syncs)
 
 
 def main():
