@@ -57,6 +57,8 @@ def answers_wait_for_the_sync(program):
                 begin(reader, reading("a", "s"))
             assert told.kept(last_log(folder)) == os.path.getsize(last_log(folder)), "bytes of the log aren't kept"
         with logged(program, folder, "no", environment=told.environment) as server, raw(server.port) as one:
+            # What the log had is kept before the first answer.
+            say(one, "XLEN s", number(2))
             with told.held():
                 add(one, "s", 3)
 
