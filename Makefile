@@ -24,18 +24,19 @@ install: build
 
 # CI. Proves everything from nothing, tries the edits of must-fail/, and runs the tests and the program that
 # it built: the worked cases, the great scripts, connections made at random, and a server as its users run it, bounded,
-# lasting, and with a log, ended in every way. Then the models of how threads wait for each other are explored. Before
+# lasting, asked many requests at once, and with a log, ended in every way. Then the models of how threads wait for each other are explored. Before
 # that, docs/PROOFS.md has to name the edits that there are, and what the slips of conformance/slips.txt turn has to
 # stand in its file.
 test:
 	python3 scripts/edits_table.py --check
-	for crate in xs_stream xs_resp xs_group xs_command xs_keys; do python3 conformance/slips.py --by-hand --list $$crate > /dev/null || exit 1; done
+	for crate in xs_stream xs_resp xs_group xs_command xs_keys xs_session; do python3 conformance/slips.py --by-hand --list $$crate > /dev/null || exit 1; done
 	rt ci
 	python3 conformance/run.py $(PROGRAM) script
 	python3 conformance/great.py $(PROGRAM)
 	python3 conformance/sessions.py --bytes 5000000 $(PROGRAM)
 	python3 conformance/serves.py $(PROGRAM)
 	python3 conformance/running.py $(PROGRAM)
+	python3 conformance/pipelines.py $(PROGRAM)
 	python3 conformance/durable.py $(PROGRAM)
 	python3 model/run.py
 

@@ -8,7 +8,7 @@ It needs redis-server, redis-cli and cc.
 The first line, and that behind the first table, tell how long one fdatasync takes here, behind an append of 100 bytes:
 on a shared disk that may change within a minute. The first table tells requests a second, so many connections sending
 so many at once, of `PROGRAM run --log FOLDER --sync always` and of a redis-server with `appendfsync always`; the second
-one those of `--sync no` and of a server without a log. The servers of a table are started anew for each pair, with new
+and third those of `--sync second`, of `--sync no`, and of a server without a log. The servers of a table are started anew for each pair, with new
 folders on the same file system (--folder says where), and take turns; the stream is removed and filled before each
 work. bench/tcp_driver.c asks, for about so many seconds each time. Client and servers share the machine. Each figure is
 the median of the runs, with the least and the greatest; the ratios are those of the runs. The last lines tell how long
@@ -68,10 +68,13 @@ def always(asked, folders, connections):
             redis_words(folders[1], "always")]
 
 
-def never(asked, folders, connections):
-    """A server that lets the system sync, and one without a log."""
-    return [program_words(asked.program, connections, "--log", os.path.join(folders[0], "log"), "--sync", "no"),
-            program_words(asked.program, connections)]
+def without_log(policy):
+    """A server with this policy, and one without a log."""
+    def servers(asked, folders, connections):
+        return [program_words(asked.program, connections, "--log", os.path.join(folders[0], "log"), "--sync", policy),
+                program_words(asked.program, connections)]
+
+    return servers
 
 
 @contextlib.contextmanager
@@ -197,7 +200,8 @@ def main():
         tell_sync(folder)
         table(asked, always, "Redis", driver)
         tell_sync(folder)
-        table(asked, never, "a server without a log", driver)
+        for policy in ("second", "no"):
+            table(asked, without_log(policy), "a server without a log", driver)
         tell_replay(asked, driver)
 
 

@@ -7,11 +7,11 @@ It needs redis-server, redis-cli and cc.
 
 Each work is asked by bench/tcp_driver.c of `PROGRAM serve`, with four workers more than there are connections, and of a
 redis-server that keeps nothing on disk, in turn; both are started anew for each number of connections and each depth,
-and the keys are removed and filled before each work. Each connection sends 10,000 requests at least (200 of 100 KB),
-since a lane whose call was slow parks without a yield in its next thousand. Client and server share the machine. A line of the table tells
-requests a second, processor time of the server for a request, the ratios of both to Redis, and latencies in the middle,
-at 99 % and at 99.9 %: the median of the runs, with the least and the greatest. Before the table stands what an idle
-server takes, with 50 connections that have been served. With --busy so many other processes only count meanwhile.
+and the keys are removed and filled before each work. Each connection sends 10,000 requests at least (200 of 100 KB).
+Client and server share the machine. A line of the table tells requests a second, processor time of the server for a
+request, the ratios of both to Redis, and latencies in the middle, at 99 % and at 99.9 %: the median of the runs, with
+the least and the greatest. Before the table stands what an idle server takes, with 50 connections that have been
+served. With --busy so many other processes only count meanwhile.
 """
 import argparse
 import contextlib

@@ -42,7 +42,10 @@ def link_to_nothing(path):
 
 OTHERS = b"".join(request([word]) for word in (b"SELECT", b"0")) * 40
 WRONG_COMMAND = logs.record(1_700_000_000_005, [b"XADD", b"s"])
-OTHER_FORMAT = logs.with_checksum(b"xs-log", [b"2", b"1", b"1"])
+OTHER_FORMAT = logs.with_checksum(b"xs-log", [b"3", b"1", b"1"])
+# The header of a log of format 1, whose records have no size.
+FIRST_FORMAT = request([b"xs-log", b"1665449851", b"1", b"1", b"1"])
+OF_OTHER_FORMAT = "log-1 is of another format, and this program has format 2"
 FOREIGN = "log-1 is (no log of this program|damaged at byte 0)"
 # How a folder is made, and what is said of it.
 WRONG = [
@@ -59,7 +62,9 @@ WRONG = [
     (folder_with(("log-1", OTHERS)), FOREIGN),
     (folder_with(("log-1", b"x")), FOREIGN),
     (folder_with(("log-1", bytes(5000))), FOREIGN),
-    (folder_with(("log-1", OTHER_FORMAT + RECORDS[0])), FOREIGN),
+    (folder_with(("log-1", OTHER_FORMAT + RECORDS[0])), OF_OTHER_FORMAT),
+    (folder_with(("log-1", FIRST_FORMAT)), OF_OTHER_FORMAT),
+    (folder_with(("log-1", FIRST_FORMAT[:40])), FOREIGN),
     (folder_with(("log-1", GOOD), ("log-3", logs.header(3))), "log-2 is missing"),
     (folder_with(("log-2", logs.header(2))), "log-1 is missing"),
     (folder_with(("log-1", logs.header(2) + RECORDS[0])), "log-1 is the log of another number"),
@@ -136,8 +141,8 @@ def in_use(program):
 
 
 def turned_bits(program):
-    """A bit of a record in the middle is turned: the start tells the file and the byte where the record begins, and
-    changes nothing. Lengths have no checksum (docs/DECISIONS.md), so that no bit of one is turned."""
+    """A bit of a record in the middle is turned, in each of its lines: the start tells the file and the byte where the
+    record begins, and changes nothing."""
     made = random.Random(11)
     with new_folder() as folder:
         with logged(program, folder) as server, raw(server.port) as one:
@@ -149,7 +154,7 @@ def turned_bits(program):
         piece = pieces[4]
         at = piece.begin
         for line in whole[piece.begin:piece.end].split(b"\r\n"):
-            if line and line[:1] not in b"*$":
+            if line:
                 place = at + made.randrange(len(line))
                 turned = bytearray(whole)
                 turned[place] ^= 1 << made.randrange(7)
@@ -191,7 +196,7 @@ def torn_next_log(program):
     """A crash while the next log is begun leaves none, an empty one, or a part of its header: the log before it is
     read, and the next one gone on with."""
     header = logs.header(2)
-    for data in (b"", header[:1], header[:-1], bytes(54), header[:30] + bytes(24), header):
+    for data in (b"", header[:1], header[:-1], bytes(62), header[:30] + bytes(32), header):
         with new_folder() as folder:
             logs.write_logs(folder, GOOD, data)
             with logged(program, folder) as server, raw(server.port) as one:

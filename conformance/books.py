@@ -119,9 +119,10 @@ class Consumer:
         count = len(self.pending) if len(self.pending) > MOST_PENDING else self.made.randrange(len(self.pending) + 1)
         return self.made.sample(self.pending, count)
 
-    def read(self, count):
+    def read(self, count, waits=True):
         self.reads = count
-        return "XREADGROUP", "GROUP", GROUP, self.name, "COUNT", count, "BLOCK", 20, "STREAMS", KEY, ">"
+        block = ("BLOCK", 20) if waits else ()
+        return "XREADGROUP", "GROUP", GROUP, self.name, "COUNT", count, *block, "STREAMS", KEY, ">"
 
     def take(self, found):
         for identifier, (_, job) in found[0][1] if found else ():

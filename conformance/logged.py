@@ -36,7 +36,8 @@ def last_log(folder):
 
 
 def options_of(folder, sync):
-    return "--log", folder, "--sync", sync
+    """The words that keep a log in this folder, with this policy, or with that which nobody names."""
+    return ("--log", folder, *(("--sync", sync) if sync else ()))
 
 
 @contextlib.contextmanager
@@ -76,8 +77,9 @@ def kill_while_it_starts(program, folder, port, sync, after, environment):
 
 
 def is_refusal(done, folder, text):
-    """It has ended with status 1, and one line that names the folder, and says what is wrong as this pattern does."""
-    is_told = re.fullmatch(rf"xs_server: {re.escape(folder)}: (?:{text})\n", done.stderr.decode())
+    """It has ended with status 1, and one line that names the folder, and says what is wrong as this pattern does. If it
+    read for long it said so before."""
+    is_told = re.fullmatch(rf"(?:{PROGRESS})*xs_server: {re.escape(folder)}: (?:{text})\n", done.stderr.decode())
     assert (done.returncode, done.stdout) == (1, b"") and is_told, (text, done)
 
 

@@ -1,8 +1,9 @@
 """The files of a log, as another program writes and reads them.
 
-A record is a RESP array: the moment in milliseconds, a checksum, and the words of a command. The header is one too,
-with `xs-log` in place of the moment. The bytes 0 and 1 of a word stand as 1 1 and 1 2, so that a zero in a file was
-never written. The checksum is CRC-32C of the words, one behind the other and not escaped, without itself.
+A record is a RESP array: its size, the moment in milliseconds, a checksum, and the words of a command. The header is
+one too, with `xs-log` in place of the moment. The bytes 0 and 1 of a word stand as 1 1 and 1 2, so that a zero in a
+file was never written. The size is how many bytes stand behind it, and the line end that follows it, in the record. The
+checksum is CRC-32C of the words behind the size, one behind the other and not escaped, without itself.
 """
 import os
 import re
@@ -11,7 +12,7 @@ from dataclasses import dataclass
 
 from real_redis import request
 
-FORMAT, MODEL = 1, 1
+FORMAT, MODEL = 2, 1
 # A log with so many bytes is closed, and the next one begun.
 FULL = 64 << 20
 NAME = re.compile(r"log-([1-9][0-9]*)")
@@ -44,9 +45,19 @@ def unescaped(text):
     return re.sub(rb"\x01([\x01\x02])", lambda found: b"\0" if found[1] == b"\1" else b"\1", text)
 
 
+def sent_words(words):
+    """Words as they are sent, without the line that tells how many they are."""
+    return request(words).partition(b"\r\n")[2]
+
+
+def with_size(words):
+    """The bytes of a record with these words behind its size."""
+    return request([b"%d" % len(sent_words(words)), *words])
+
+
 def with_checksum(first, rest):
     """The bytes of a record, or of a header."""
-    return request([escaped(word) for word in [first, b"%d" % crc32c(b"".join([first, *rest])), *rest]])
+    return with_size([escaped(word) for word in [first, b"%d" % crc32c(b"".join([first, *rest])), *rest]])
 
 
 def header(number, model=MODEL):
@@ -59,15 +70,18 @@ def record(now, words):
 
 @dataclass
 class Piece:
-    """A header or a record that is whole: the byte at which it begins, that behind it, and its words, not escaped."""
+    """A header or a record that is whole: the byte at which it begins, that behind its size, and that behind it; its
+    size, and the words behind that, not escaped."""
 
     begin: int
+    head: int
     end: int
+    size: bytes
     words: list
 
     def is_sound(self):
         first, checksum, *rest = self.words
-        return checksum == b"%d" % crc32c(b"".join([first, *rest]))
+        return (self.size, checksum) == (b"%d" % (self.end - self.head), b"%d" % crc32c(b"".join([first, *rest])))
 
 
 def number_at(data, at, kind):
@@ -83,7 +97,7 @@ def piece_at(data, at):
     """What begins at this byte; None where it isn't whole."""
     if not (found := number_at(data, at, b"*")):
         return None
-    (count, place), words = found, []
+    (count, place), words, head = found, [], None
     for _ in range(count):
         if not (found := number_at(data, place, b"$")):
             return None
@@ -93,7 +107,8 @@ def piece_at(data, at):
             return None
         assert data[place - 2:place] == b"\r\n", f"at byte {place - 2} no word ends"
         words.append(unescaped(data[begin:place - 2]))
-    return Piece(at, place, words)
+        head = head or place
+    return Piece(at, head, place, words[0], words[1:])
 
 
 def pieces(data, at=0):

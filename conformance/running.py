@@ -13,27 +13,27 @@ import os
 import re
 import resource
 import socket
+import struct
 import subprocess
 import sys
 import time
-from concurrent.futures import ThreadPoolExecutor
 
 import clock_steps
 import full_queue
 import served
+import serves
 import waiting
-from full_queue import MEGABYTE, NO_MEMORY
+from full_queue import MEGABYTE
 from great import bulk, number
 from real_redis import read_reply
-from served import (MOST_FAULTS, PATIENCE, PING, PONG, all_answer, asking, passes, raw, read_to_end, reset, running,
-                    say, tell)
+from served import (FULL, MOST_FAULTS, PATIENCE, PING, PONG, all_answer, asking, pass_together, passes, raw,
+                    read_to_end, reset, running, say, tell)
 from waiting import NOTHING, NOTICED, OK, Clients, add, begin, comes, gives, make, nothing_comes, reading, refuses
 
-FULL = b"-ERR max number of clients reached\r\n"
 # How many workers the server has that the cases of readers share, and the most that there may be.
 SHARED, MOST_WORKERS = 128, 1024
 # In seconds: how soon connections are accepted again, once there are descriptors.
-ACCEPTS_AGAIN = 5
+ACCEPTS_AGAIN = 2
 
 
 def run(words, **how):
@@ -45,11 +45,12 @@ def run(words, **how):
 
 
 def is_refused(stream, began, least, most):
-    """The connection is told that there are too many, between so many seconds behind this moment, and then ends."""
+    """The connection is told that there are too many, between so many seconds behind this moment, and then ends. It isn't
+    reset: some systems would drop what it was told."""
     stream.settimeout(most + 1)
-    got, _ = read_to_end(stream)
+    told = read_to_end(stream)
     took = time.monotonic() - began
-    assert got == FULL, got
+    assert told == (FULL, False), told
     assert least - 0.02 <= took <= most, f"refused after {took} s"
 
 
@@ -67,7 +68,7 @@ def forty_too_many(program):
             more.append((time.monotonic(), clients.new()))
             more[-1][1].sendall(asking(f"XADD refused {place}-0 f v"))
         for began, stream in more:
-            is_refused(stream, began, 1, 3)
+            is_refused(stream, began, 1, 2)
         say(one, "XLEN refused", number(0))
         idle.close()
         add(clients.new(), "refused", 1)
@@ -135,6 +136,20 @@ def sends_while_it_waits(program):
         assert sent < most and grown < MEGABYTE, (sent, grown)
 
 
+def more_than_may_wait(program):
+    """More connections come than may wait for the one worker, for which there are too few descriptors: each is told so,
+    and nothing that it sent is executed."""
+    with running(program, workers=1, limits={resource.RLIMIT_NOFILE: 100}) as server, Clients(server.port) as clients:
+        one = clients.new()
+        say(one, "PING", PONG.decode())
+        began, more = time.monotonic(), [clients.new() for _ in range(150)]
+        for stream in more:
+            stream.sendall(asking("XADD refused * f v"))
+        for stream in more:
+            is_refused(stream, began, 0, 4)
+        say(one, "XLEN refused", number(0))
+
+
 def may_have(count):
     """Whether this process may have so many descriptors; its limit is raised for that."""
     soft, hard = resource.getrlimit(resource.RLIMIT_NOFILE)
@@ -160,7 +175,7 @@ def a_thousand(program):
                 comes(stream, PONG.decode())
         began, more = time.monotonic(), clients.new()
         more.sendall(asking("XADD refused 1-0 f v"))
-        is_refused(more, began, 1, 3)
+        is_refused(more, began, 1, 2)
         say(held[0], "XLEN refused", number(0))
         held.pop().close()
         add(clients.new(), "refused", 1)
@@ -209,6 +224,108 @@ def a_thousand_wait(program):
             refuses(stream, "NOGROUP")
 
 
+# ---- delays and costs
+
+
+def without_delay(program):
+    """A small reply behind another one comes at once, as under `serve`."""
+    with running(program) as server:
+        serves.without_delay(server)
+
+
+def time_of(server, count, ask):
+    """The microseconds of processor time that the server takes for each of so many calls of this function."""
+    before = server.processor_time()
+    for place in range(count):
+        ask(place)
+    return (server.processor_time() - before) / count * 1e6
+
+
+def time_of_bursts(server, stream):
+    """The same of a burst of 64 requests and the pause behind it: the best of three tries, since the machine may be
+    busy."""
+    def ask(_):
+        stream.sendall(PING * 64)
+        comes(stream, PONG.decode() * 64)
+        time.sleep(0.0015)
+
+    return min(time_of(server, 200, ask) for _ in range(3))
+
+
+def idle_ones_cost_little(program):
+    """Requests cost about as much beside 1,000 connections that are idle as on a server of four workers."""
+    if not may_have(3000):
+        return
+    with running(program) as server, raw(server.port) as one:
+        alone = time_of_bursts(server, one)
+    with running(program, workers=MOST_WORKERS) as server, Clients(server.port) as clients:
+        one, idle = clients.new(), [clients.new() for _ in range(1000)]
+        for stream in idle:
+            say(stream, "PING", PONG.decode())
+        beside = time_of_bursts(server, one)
+        print(f"{alone:.0f} us a burst, and {beside:.0f} beside 1,000 idle connections", flush=True)
+        assert beside < 2 * alone, (alone, beside)
+
+
+def pieces_of_a_pipeline(program):
+    """The replies to 500 requests that come in one piece come in a few pieces, not one by one."""
+    with running(program) as server, raw(server.port) as one:
+        one.sendall(PING * 500)
+        comes(one, PONG.decode() * 500)
+        # 140 is where tcpi_segs_in lies in Linux's struct tcp_info
+        pieces = struct.unpack_from("I", one.getsockopt(socket.IPPROTO_TCP, socket.TCP_INFO, 256), 140)[0]
+        print(f"500 replies came in {pieces} pieces", flush=True)
+        assert pieces <= 50, pieces
+
+
+def readers_cost_little(program):
+    """An addition costs little though 500 readers wait for others: of the same group, or of other keys."""
+    if not may_have(3000):
+        return
+    with running(program, workers=MOST_WORKERS) as server, Clients(server.port) as clients:
+        one = clients.new()
+        make(one, "same")
+
+        def ask(place):
+            say(one, f"XADD alone {place + 1}-0 f v", bulk(f"{place + 1}-0"))
+
+        alone, keys = time_of(server, 2000, ask), [f"key{name}" for name in range(500)]
+        make(one, *keys)
+        for name, key in enumerate(keys):
+            begin(clients.new(), reading(f"c{name}", key))
+        time.sleep(0.5)
+
+        def ask_beside(place):
+            ask(place + 2000)
+
+        of_others = time_of(server, 2000, ask_beside)
+        readers = [clients.new() for _ in range(500)]
+        for name, stream in enumerate(readers):
+            begin(stream, reading(f"c{name}", "same", "COUNT 1 BLOCK 0"))
+        time.sleep(0.5)
+
+        def serve_one(place):
+            add(one, "same", place + 1)
+            comes(readers[place], gives("same", place + 1))
+
+        of_one = time_of(server, 400, serve_one)
+        print(f"{alone:.0f} us an addition, {of_others:.0f} beside readers of other keys, {of_one:.0f} with one that it "
+              "ends the wait of", flush=True)
+        assert max(of_others, of_one) < 4 * alone + 400, (alone, of_others, of_one)
+
+
+def pauses_cost_little(program):
+    """Requests that come a few milliseconds apart take little processor time: nobody looks for the next one for long."""
+    with running(program) as server, raw(server.port) as one:
+        def pause_and_ask(_):
+            time.sleep(0.003)
+            say(one, "PING", PONG.decode())
+
+        apart = min(time_of(server, 500, pause_and_ask) for _ in range(2))
+        print(f"{apart:.0f} us a request behind a pause", flush=True)
+        assert apart < 110, apart
+
+
 # ---- descriptors and memory
 
 
@@ -219,23 +336,23 @@ def least_unused(server):
 
 
 def ask_or_be_refused(stream, text):
-    """Whether the request is answered; else the connection is refused at once, and ends."""
+    """What the request is answered, or what the connection is told that is refused at once; nothing if it is reset."""
     stream.settimeout(2)
     try:
         stream.sendall(asking(text))
         got = stream.recv(1000)
         if got.startswith(b"$"):
-            return True
+            return got
         got += read_to_end(stream)[0]
     except (ConnectionResetError, BrokenPipeError):
         got = b""
     assert got in (FULL, b""), got
-    return False
+    return got
 
 
 def few_descriptors(program):
-    """If no descriptor is left, connections are refused at once, and nothing that they sent is executed; those that are
-    open are served, and nothing spins. When the limit is raised it serves again."""
+    """If no descriptor is left, connections are told at once that there are too many, and nothing that they sent is
+    executed; those that are open are served, and nothing spins. When the limit is raised it serves again."""
     with running(program, workers=32) as server:
         limits = resource.prlimit(server.child.pid, resource.RLIMIT_NOFILE)
         with Clients(server.port) as clients:
@@ -243,8 +360,9 @@ def few_descriptors(program):
             say(one, "PING", PONG.decode())
             resource.prlimit(server.child.pid, resource.RLIMIT_NOFILE, (least_unused(server), limits[1]))
             # a call that waits for a connection may have had its descriptor before
-            answered = sum(ask_or_be_refused(clients.new(), "XADD few * f v") for _ in range(12))
-            assert answered < 12, "nobody was refused"
+            told = [ask_or_be_refused(clients.new(), "XADD few * f v") for _ in range(12)]
+            answered = sum(got.startswith(b"$") for got in told)
+            assert told.count(FULL) > 6, told
             before = server.processor_time()
             nothing_comes(1, one)
             assert (used := server.processor_time() - before) <= 0.1, used
@@ -291,14 +409,18 @@ def listener_ends(program):
 
 
 def too_few_to_start(program):
-    """With more workers than descriptors it doesn't start, and names the limit to raise."""
+    """With more workers than descriptors it doesn't start, and names the limit that is enough to start and serve."""
     for workers, most in ((64, 20), (64, 64), (1024, 1000), (4, 4)):
         def set_limits(most=most):
             resource.setrlimit(resource.RLIMIT_NOFILE, (most, most))
 
         done = run(served.words_of_run(program, served.free_port(), workers), preexec_fn=set_limits)
         assert (done.returncode, done.stdout) == (1, b""), (workers, most, done)
-        assert b"LimitNOFILE" in done.stderr or b"ulimit -n" in done.stderr, (workers, most, done)
+        told = re.search(rb"need (\d+) open files: raise the limit \(ulimit -n \1, LimitNOFILE", done.stderr)
+        assert told, (workers, most, done)
+        if workers <= 64:
+            with running(program, workers=workers, limits={resource.RLIMIT_NOFILE: int(told[1])}) as server:
+                all_answer(server)
 
 
 def too_little_memory_to_start(program):
@@ -311,25 +433,21 @@ def too_little_memory_to_start(program):
 
 
 def full_memory(program):
-    """When additions have filled the memory, consumers come whose workers never served anybody. Each is answered, or
-    told that there is no memory and closed; none hangs, and the server goes on."""
+    """When additions have filled the memory, consumers come whose workers never served anybody. Each is answered: so few
+    workers have the memory of their connections from the start on."""
     with running(program, workers=8) as server:
         with Clients(server.port) as clients:
             one = clients.new()
             make(one, "q")
             full_queue.limit_memory(server, 16 * MEGABYTE)
             assert full_queue.add_until_full(server) > 1000
-            told = []
             for name in range(6):
                 stream = clients.new()
                 stream.settimeout(5)
                 stream.sendall(asking(reading(f"c{name}", "q", "COUNT 1 BLOCK 100")))
                 with stream.makefile("rb") as replies:
-                    told.append(read_reply(replies))
-                assert told[-1] == NO_MEMORY or told[-1].startswith(b"*1\r\n*2\r\n$1\r\nq\r\n"), told[-1][:100]
-                if told[-1] == NO_MEMORY:
-                    assert read_to_end(stream)[0] == b""
-            print(f"of 6 consumers {told.count(NO_MEMORY)} had no memory", flush=True)
+                    got = read_reply(replies)
+                assert got.startswith(b"*1\r\n*2\r\n$1\r\nq\r\n"), got[:100]
             say(one, "DEL q", number(1))
         all_answer(server)
 
@@ -375,11 +493,11 @@ def memory_of_the_gone(program, size=1_000_000, most=BEHIND_THE_GONE):
 
 
 def ends_idle(stream, began):
-    """The connection is closed between 1 and 2.5 seconds behind this moment, with nothing more."""
+    """The connection is closed between 1 and 1.9 seconds behind this moment, with nothing more."""
     stream.settimeout(5)
     got, _ = read_to_end(stream)
     took = time.monotonic() - began
-    assert got == b"" and 0.98 <= took <= 2.5, (got, took)
+    assert got == b"" and 0.98 <= took <= 1.9, (got, took)
 
 
 def sends_nothing(stream):
@@ -559,7 +677,7 @@ def odd_errors(program):
                     say(held, "PING", PONG.decode())
                     began = time.monotonic()
                     with raw(port) as more:
-                        is_refused(more, began, 1, 3)
+                        is_refused(more, began, 1, 2)
                 served.answers_at(port)
             finally:
                 child.kill()
@@ -584,16 +702,10 @@ def never_waits(program):
 # ---- all of it
 
 
-def together(cases, given):
-    """Tries these cases at the same time, and tells of each whether it passes."""
-    with ThreadPoolExecutor(len(cases)) as pool:
-        return list(pool.map(lambda case: passes(case, given), cases))
-
-
 def readers_over_one_server(program):
     """The readers that wait, all at the same time over one server, whose workers then all answer."""
     with running(program, workers=SHARED) as server:
-        results = together(waiting.OVER_ONE_SERVER, server)
+        results = pass_together(waiting.OVER_ONE_SERVER, server)
         time.sleep(NOTICED)
         all_answer(server)
         assert all(results), f"{results.count(False)} of {len(results)} failed"
@@ -606,16 +718,18 @@ def main(arguments):
     program = arguments[0]
     alone = (tells_of_itself, wrong_options, taken, listener_ends, defaults, addresses, too_few_to_start,
              too_little_memory_to_start, readers_over_one_server, waiting.ends_in_time, waiting.sixty,
-             waiting.waiting_costs_nothing, a_thousand, busy_among_idle, a_thousand_wait, full_memory,
+             waiting.waiting_costs_nothing, without_delay, pieces_of_a_pipeline, idle_ones_cost_little,
+             readers_cost_little, pauses_cost_little, a_thousand, busy_among_idle, a_thousand_wait, full_memory,
              full_queue_beside_producers, memory_of_the_gone)
-    at_once = (waiting.clients_that_go, waiting.has_just_gone, waiting.terminated, forty_too_many, one_ends_in_time,
-               few_descriptors, no_descriptors, closes_the_idle, keeps_the_idle, odd_errors, never_waits,
-               clock_steps.clock_is_set, in_their_order, sends_while_it_waits)
+    at_once = (waiting.clients_that_go, waiting.has_just_gone, waiting.many_have_just_gone, waiting.terminated,
+               forty_too_many, one_ends_in_time, few_descriptors, no_descriptors, closes_the_idle, keeps_the_idle,
+               odd_errors, never_waits, clock_steps.clock_is_set, in_their_order, sends_while_it_waits,
+               more_than_may_wait)
     results = []
     for case in alone:
         if results.count(False) < MOST_FAULTS:
             results.append(passes(case, program))
-    return tell(results + together(at_once, program))
+    return tell(results + pass_together(at_once, program))
 
 
 if __name__ == "__main__":

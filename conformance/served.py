@@ -10,6 +10,7 @@ import struct
 import subprocess
 import threading
 import time
+from concurrent.futures import ThreadPoolExecutor
 
 import real_redis
 from great import array, bulk, entry
@@ -20,6 +21,8 @@ HOST = "127.0.0.1"
 PATIENCE = 20
 MOST_FAULTS = 3
 PING, PONG = real_redis.request([b"PING"]), b"+PONG\r\n"
+# What `run` tells a connection for which no worker is free in time.
+FULL = b"-ERR max number of clients reached\r\n"
 
 
 # The ports that were given out: cases that run at once don't get the same one.
@@ -197,6 +200,16 @@ def fill(server, key, count, size):
     return array([entry(f"{place}-0", "f", "v" * size) for place in range(1, count + 1)]).encode()
 
 
+def add_many(server, key, first, count, size):
+    """Adds entries with one field of this size, many at a time."""
+    with raw(server.port) as stream:
+        for start in range(first, first + count, 1000):
+            ids = [f"{place}-0" for place in range(start, start + 1000)]
+            stream.sendall(b"".join(asking(f"XADD {key} {one} f {'v' * size}") for one in ids))
+            wanted = "".join(bulk(one) for one in ids).encode()
+            assert read_exactly(stream, len(wanted)) == wanted
+
+
 def shut_listener(server):
     """Shuts the socket down that the server listens on, so that it gives no connection any more, and says whether it
     could. It is reached by a descriptor of the server's, which Linux lets a parent have, if nothing forbids it."""
@@ -239,6 +252,12 @@ def read_to_end(stream):
     except ConnectionResetError:
         return bytes(got), True
     return bytes(got), False
+
+
+def send_all_that_goes(stream, asked):
+    """Sends these bytes, or those up to the end of the connection."""
+    with contextlib.suppress(OSError):
+        stream.sendall(asked)
 
 
 def reset(stream):
@@ -304,6 +323,12 @@ def passes(case, given, behind=None):
         return False
     print(f"{case.__name__}: passed in {time.monotonic() - began:.1f} s", flush=True)
     return True
+
+
+def pass_together(cases, given):
+    """Tries these cases at the same time, and tells of each whether it passes."""
+    with ThreadPoolExecutor(max(len(cases), 1)) as pool:
+        return list(pool.map(lambda case: passes(case, given), cases))
 
 
 def tell(results):

@@ -23,8 +23,8 @@ import full_queue
 import served
 from great import array, bulk, entry, number
 from real_redis import read_reply, request
-from served import (PING, PONG, all_answer, asking, fill, raw, read_exactly, read_to_end, reset, say, say_at, serving,
-                    together, try_all)
+from served import (PING, PONG, add_many, all_answer, asking, fill, raw, read_exactly, read_to_end, reset, say, say_at,
+                    send_all_that_goes, serving, together, try_all)
 
 WORKERS = 4
 PROTOCOL = b"-ERR Protocol error\r\n"
@@ -433,11 +433,6 @@ def stopped(program):
             assert (whole * (len(had) // len(whole) + 1)).startswith(had), place
 
 
-def send_all_that_goes(stream, asked):
-    with contextlib.suppress(OSError):
-        stream.sendall(asked)
-
-
 def full_output(program):
     """Though its standard output is a full pipe that nobody reads, it serves."""
     port = served.free_port()
@@ -489,16 +484,6 @@ def few_descriptors(program):
         assert took < ACCEPTS_AGAIN, f"connections were accepted again after {took:.1f} s"
 
 
-def add_many(server, key, first, count, size):
-    """Adds entries with one field of this size, many at a time."""
-    with raw(server.port) as stream:
-        for start in range(first, first + count, 1000):
-            ids = [f"{place}-0" for place in range(start, start + 1000)]
-            stream.sendall(b"".join(asking(f"XADD {key} {one} f {'v' * size}") for one in ids))
-            wanted = "".join(bulk(one) for one in ids).encode()
-            assert read_exactly(stream, len(wanted)) == wanted
-
-
 def delete_many(server, key, first, count):
     """Deletes 99 of each 100 of these entries."""
     with raw(server.port) as stream:
@@ -541,7 +526,7 @@ def idle_behind_great_ones(program):
 
 def memory_of_entries(program):
     """An entry takes little more memory than its bytes."""
-    for size, most, count in ((60, 110, 50_000), (10, 40, 100_000)):
+    for size, most, count in ((60, 110, 50_000), (10, 40, 100_000), (1000, 1100, 20_000)):
         with serving(program) as server:
             all_answer(server)
             before = server.resident()
@@ -549,6 +534,40 @@ def memory_of_entries(program):
             each = (server.resident() - before) / count
             print(f"{each:.0f} bytes an entry of {size}", flush=True)
             assert each < most, each
+
+
+def ask_together(stream, count, ask, size=50):
+    """Sends the requests that a function gives for each number below this one, those of so many numbers at once. No
+    reply is an error."""
+    with stream.makefile("rb") as replies:
+        for first in range(0, count, size):
+            asked = [text for place in range(first, min(first + size, count)) for text in ask(place)]
+            stream.sendall(b"".join(map(asking, asked)))
+            for text in asked:
+                got = read_reply(replies)
+                assert not got.startswith(b"-"), (text[:60], got)
+
+
+def memory_of_small_ones(program):
+    """Small streams take little memory, also once most of their entries are deleted; so do small groups."""
+    count, ids = 5000, [f"{place}-0" for place in range(1, 31)]
+    kinds = {
+        "of one entry": (600, lambda place: [f"XADD one{place} 1-0 f v"]),
+        "with a group and a pending row": (3500, lambda place: [
+            f"XADD group{place} 1-0 f v", f"XGROUP CREATE group{place} g 0",
+            f"XREADGROUP GROUP g c STREAMS group{place} >"]),
+        "of 30 entries, 29 of them deleted": (900, lambda place: [
+            *(f"XADD left{place} {one} f {'v' * 60}" for one in ids), f"XDEL left{place} {' '.join(ids[1:])}"]),
+    }
+    for kind, (most, ask) in kinds.items():
+        with serving(program) as server:
+            all_answer(server)
+            before = server.resident()
+            with raw(server.port) as stream:
+                ask_together(stream, count, ask)
+            each = (server.resident() - before) / count
+            print(f"{each:.0f} bytes a stream {kind}", flush=True)
+            assert each < most, (kind, each)
 
 
 def memory_of_deleted_entries(program):
@@ -646,8 +665,8 @@ def main(arguments):
                    nothing_of_another, listens_here_alone, idle, stopped_and_continued)
     over_program = (as_many_as_workers, more_than_workers, ends, taken, options, stopped, full_output,
                     too_little_to_start, few_descriptors, listener_ends, waits_take_no_time, idle_behind_great_ones,
-                    memory_of_entries, memory_of_deleted_entries, full_queue_deleted, full_queue_trimmed,
-                    full_queue_handed_out, full_queue_beside_producers, full_queue_of_great_jobs)
+                    memory_of_entries, memory_of_small_ones, memory_of_deleted_entries, full_queue_deleted,
+                    full_queue_trimmed, full_queue_handed_out, full_queue_beside_producers, full_queue_of_great_jobs)
     return try_all(arguments[0], over_server, over_program, WORKERS)
 
 

@@ -39,14 +39,15 @@ static void note(const struct stat *kept) {
 
 static int sync_by(long call, int file) {
     struct stat before;
+    /* what is written while the call lasts need not be kept by it */
+    int found = fstat(file, &before);
     __atomic_add_fetch(&shared->begun, 1, __ATOMIC_SEQ_CST);
     while (shared->hold) usleep(1000);
     if (shared->fail) {
         errno = EIO;
         return -1;
     }
-    /* what is written while the call lasts need not be kept by it */
-    int found = fstat(file, &before), done = (int)syscall(call, file);
+    int done = (int)syscall(call, file);
     if (done == 0 && found == 0) note(&before);
     if (done == 0) __atomic_add_fetch(&shared->done, 1, __ATOMIC_SEQ_CST);
     return done;

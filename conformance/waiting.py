@@ -383,7 +383,7 @@ def at_the_last_moment(server):
 
 
 def ends_in_time(program):
-    """A wait of 300 ms takes 300 to 600 ms, whenever it begins; another one that began before it isn't over. Of nine waits
+    """A wait of 300 ms takes 300 to 450 ms, whenever it begins; another one that began before it isn't over. Of nine waits
     the median counts, and of three tries the best, since the machine may be busy."""
     with running(program, workers=12) as server, Clients(server.port) as clients:
         make(clients.new(), "timed")
@@ -397,11 +397,11 @@ def ends_in_time(program):
                 say(reader, reading(f"c{place}", "timed", "BLOCK 300"), NOTHING)
                 tries[-1].append(time.monotonic() - began)
 
-        while len(tries) < 3 and not (tries and sorted(tries[-1])[4] <= 0.6):
+        while len(tries) < 3 and not (tries and sorted(tries[-1])[4] <= 0.45):
             tries.append([])
             served.together(9, wait)
         nothing_comes(READ, longer)
-        assert min(map(min, tries)) >= 0.3 and sorted(tries[-1])[4] <= 0.6, tries
+        assert min(map(min, tries)) >= 0.3 and sorted(tries[-1])[4] <= 0.45, tries
 
 
 def sixty(program):
@@ -511,6 +511,22 @@ def has_just_gone(program):
                     comes(other, gives("left", place), within=2)
 
     served.together(len(ENDS), work)
+
+
+def many_have_just_gone(program):
+    """If all who wait longest went 0.2 seconds before a job came, each in a way of its own, it goes to the one who is
+    there."""
+    with running(program, workers=len(WAYS) + 2) as server, Clients(server.port) as clients:
+        one, other = clients.new(), clients.new()
+        make(one, "left")
+        gone = [(end, leaver(server.port, behind, "COUNT 1 BLOCK 20000")) for end, behind in WAYS]
+        begin(other, reading("b", "left"))
+        time.sleep(READ)
+        for end, stream in gone:
+            ENDS[end](stream)
+        time.sleep(0.2)
+        add(one, "left", 1)
+        comes(other, gives("left", 1), within=2)
 
 
 def terminated(program):

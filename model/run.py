@@ -19,7 +19,7 @@ FOLDER = os.path.dirname(os.path.abspath(__file__))
 WRONG = ["the keeper doesn't say that it sleeps", "the keeper says that it sleeps behind its last look",
          "the keeper says which lanes are at rest behind its last looks", "no notice at a submit",
          "no notice at a take", "a lane doesn't say that it sleeps", "a keeper that is dropped gives no token",
-         "a notice comes behind the word above it"]
+         "a notice comes behind the word above it", "a lane isn't woken though its next call has no room for its answer"]
 
 
 # Calls that wait: a name, the number of what is wrong, and how many calls each client makes.
@@ -61,6 +61,7 @@ def main():
         return 1
     passed = failed = 0
     models = [("waiting.pml", "the protocol", 0, []),
+              ("waiting.pml", "the protocol, with two places in a ring", 0, ["-DDEPTH=2"]),
               ("waiting.pml", "the protocol, with a keeper that is dropped", 0, ["-DDROPS"])]
     models += [("waiting.pml", name, place, ["-DDROPS"] if place == 7 else []) for place, name in enumerate(WRONG, 1)]
     models += [("blocked.pml", *model) for model in BLOCKED]

@@ -17,7 +17,11 @@
 #endif
 
 #define LANES 2
+#ifndef DEPTH
 #define DEPTH 1
+#endif
+/* How many places the rings of a lane have. */
+#define depth(lane) ((lane) == 0 -> DEPTH : 1)
 #define ROUND 1
 #define ALL 3
 #define bit(lane) (1 << (lane))
@@ -48,19 +52,30 @@ bool is_busy[LANES], is_due[LANES];
 #define most(lane) (2 - (lane))
 #endif
 
-#define due(lane) (calls[lane] > 0 && answers[lane] < DEPTH && !is_busy[lane])
+#define due(lane) (calls[lane] > 0 && answers[lane] < depth(lane) && !is_busy[lane])
+
+/* The next look at the lane serves a further call in any case. */
+#if WRONG == 9
+#define has_next(lane) (calls[lane] > 0)
+#else
+#define has_next(lane) (calls[lane] > 0 && answers[lane] < depth(lane))
+#endif
 
 /* Looks at a lane, and serves a call if there is one, and room for its answer. */
 inline look_at(lane) {
     if
-    :: atomic { (lanes & bit(lane)) && calls[lane] > 0 && answers[lane] < DEPTH -> calls[lane]-- };
+    :: atomic { (lanes & bit(lane)) && calls[lane] > 0 && answers[lane] < depth(lane) -> calls[lane]-- };
         atomic { answers[lane]++; is_due[lane] = false };
         if
-        :: atomic { lane_sleeps[lane] -> skip }; lane_token[lane] = true
+        :: atomic { lane_sleeps[lane] -> skip };
+            if
+            :: atomic { has_next(lane) -> skip }
+            :: atomic { !has_next(lane) -> skip }; lane_token[lane] = true
+            fi
         :: !lane_sleeps[lane]
         fi;
         atomic { keeper_sleeps = false; used = used | bit(lane); found = ROUND; has_served = true }
-    :: !((lanes & bit(lane)) && calls[lane] > 0 && answers[lane] < DEPTH)
+    :: !((lanes & bit(lane)) && calls[lane] > 0 && answers[lane] < depth(lane))
     fi
 }
 
@@ -143,7 +158,7 @@ proctype Client(byte lane) {
     bool was_gone;
     do
     :: under_way == 0 -> break
-    :: atomic { calls[lane] < DEPTH && under_way < most(lane) -> calls[lane]++; under_way++; is_busy[lane] = true };
+    :: atomic { calls[lane] < depth(lane) && under_way < most(lane) -> calls[lane]++; under_way++; is_busy[lane] = true };
 #if WRONG == 4
         atomic { lane_sleeps[lane] = false; is_busy[lane] = false }
 #else

@@ -6,39 +6,14 @@ use Rattle.std.proofs.lemmas.List.{append-nil, map-append, length-map}
 use Rattle.std.proofs.lemmas.List.Elements.{filter-append, All-push}
 use Rattle.std.proofs.lemmas.Option.{slice_get_within}
 use Rattle.std.proofs.lemmas.Bool.Decides.{nat_tests}
-use Rattle.xs_resp.specs.declared.reply.Reply.{Reply}
-use Rattle.xs_keys.specs.Event.{Event, History}
-use Rattle.xs_command.specs.declared.command.Command.{Command}
+use Rattle.xs_keys.specs.Event.{Event}
 use Rattle.xs_command.specs.WellFormed.{IsWellFormed}
-use Rattle.xs_keys.specs.Content.{Content}
-use Rattle.xs_keys.specs.EachReply.{Follows, AreReplied}
 use Rattle.xs_keys.specs.Headline.{RunsOn}
-use Rattle.xs_keys.specs.Step.{Step}
-use Rattle.xs_keys.proofs.ConsistentContents.{content-consistent}
-use Rattle.xs_keys.proofs.Runs.{step-follows, headline}
+use Rattle.xs_replay.proofs.Served.{step-runs, runs-join}
 use Rattle.xs_desk.specs.History.{ServedCall, LaneOf, Desk, of_lane, commands_of, answers_of, events_of, replies_of}
 use Rattle.xs_desk.specs.History.{CountUp, IsHistory}
 use Rattle.xs_desk.specs.KeeperTurns.{with_call, ServesCall, ServesAll, HasPlaces}
 use Rattle.xs_desk.proofs.Lists.{snoc-cases, set-cases, length-slice_set}
-
--- ---- runs
-
-answers-snoc : (past events : History) (answers : List Reply) (mid : History) (e : Event) (answer : Reply) (last : History)
-    → AreReplied past events answers mid → Follows mid e.0 e.1 answer last → AreReplied past (events ++ e ∷ []) (answers ++ answer ∷ []) last
-answers-snoc past [] [] mid e answer last run step = (last, subst (λ p. Follows p e.0 e.1 answer last) run step, refl)
-answers-snoc past [] (a ∷ more) mid e answer last run step = absurd run
-answers-snoc past (x ∷ xs) [] mid e answer last run step = absurd run
-answers-snoc past (x ∷ xs) (a ∷ more) mid e answer last run step = (run.0, run.1, answers-snoc run.0 xs more mid e answer last run.2 step)
-
-pub runs-none : (old : Content) → RunsOn old [] [] old
-runs-none old = λ past is. (past, headline past [] [] past refl, is, content-consistent past old is)
-
-runs-snoc : (old : Content) (events : History) (answers : List Reply) (mid new : Content) (e : Event) (answer : Reply)
-    → RunsOn old events answers mid → IsWellFormed e.1 → Step mid e.0 e.1 answer new → RunsOn old (events ++ e ∷ []) (answers ++ answer ∷ []) new
-runs-snoc old events answers mid new e answer runs formed step = λ past is.
-    let here = runs past is in
-    let next = step-follows here.0 mid new e.0 e.1 answer formed here.2 step in
-    (next.0, headline past (events ++ e ∷ []) (answers ++ answer ∷ []) next.0 (answers-snoc past events answers here.0 e answer next.0 here.1.replies next.2), next.1, content-consistent next.0 new next.1)
 
 -- ---- the calls of a lane
 
@@ -105,11 +80,11 @@ tickets-more history old call new is serves k =
 pub history-more : (history : List ServedCall) (old : Desk) (call : ServedCall) (new : Desk) → IsHistory history old → ServesCall old call new → IsHistory (history ++ call ∷ []) new
 history-more history old call new is serves =
     let n : length new.lanes ≡ length old.lanes = ap length serves.lanes_are ∙ length-slice_set old.lanes call.lane (with_call serves.lane call) in
-    let e : ℕ × Command = (call.answer.moment, call.command) in
+    let e : Event = (call.answer.moment, call.command) in
     let events : events_of (history ++ call ∷ []) ≡ events_of history ++ e ∷ [] = map-append (λ c. (c.answer.moment, c.command)) history (call ∷ []) in
     let replies : replies_of (history ++ call ∷ []) ≡ replies_of history ++ call.answer.reply ∷ [] = map-append (λ c. c.answer.reply) history (call ∷ []) in
     let runs : RunsOn old.start (events_of history ++ e ∷ []) (replies_of history ++ call.answer.reply ∷ []) new.keyspace =
-    runs-snoc old.start (events_of history) (replies_of history) old.keyspace new.keyspace e call.answer.reply is.runs serves.formed serves.applied in
+    runs-join old.start old.keyspace new.keyspace (events_of history) (e ∷ []) (replies_of history) (call.answer.reply ∷ []) is.runs (step-runs old.keyspace new.keyspace e call.answer.reply serves.formed serves.applied) in
     record {
       places = count-more (λ c. c.answer.place) history call is.places (serves.place_is ∙ is.next);
       tickets = tickets-more history old call new is serves;

@@ -4,12 +4,12 @@ use Rattle.std.proofs.Common.{sym, ◌∙◌, ap, subst, arith}
 use Rattle.std.proofs.lemmas.List.{map-append, length-map}
 use Rattle.xs_keys.specs.Content.{Content}
 use Rattle.xs_keys.specs.Headline.{RunsOn}
+use Rattle.xs_replay.proofs.Served.{nothing-runs}
 use Rattle.xs_desk.specs.declared.lane_end.LaneEnd.{LaneEnd}
 use Rattle.xs_desk.specs.History.{LaneOf, IsHistory}
 use Rattle.xs_desk.specs.LaneEnds.{lane_of, desk_of}
 use Rattle.xs_desk.specs.Callers.{Caller}
 use Rattle.xs_desk.specs.Opening.{IsNewLane, AreNew}
-use Rattle.xs_desk.proofs.Histories.{runs-none}
 
 new-snoc : (k depth : ℕ) (ls : List LaneOf) (cs : List Caller) (l : LaneOf) (c : Caller) → AreNew k depth ls cs → IsNewLane (k + length ls) depth l c → AreNew k depth (ls ++ l ∷ []) (cs ++ c ∷ [])
 new-snoc k depth [] [] l c a n = (subst (λ j. IsNewLane j depth l c) (omega arith) n, tt)
@@ -38,5 +38,5 @@ new_history depth all cs keyspace start same a = record {
   within = λ k d lt. absurd (omega arith);
   formed = λ k d lt. absurd (omega arith);
   next = refl;
-  runs = subst (λ c. RunsOn c [] [] keyspace) (sym same) (runs-none keyspace);
+  runs = subst (λ c. RunsOn c [] [] keyspace) (sym same) (nothing-runs keyspace);
 }

@@ -5,7 +5,7 @@ use xs_stream::Moment;
 const NEAR: u64 = 2;
 
 /// So many calls in a row have to come in fast batches, once a batch has been slow.
-const CALLS: u32 = 1000;
+const CALLS: u32 = 16;
 
 /// How fast the calls of one side follow one another, by their moments.
 #[derive(Clone, Copy)]

@@ -4,7 +4,7 @@ ghost use Rattle.std.specs.Prelude.{◌≡◌, ◌++◌, ◌∷◌, [], ◌<◌,
 use crate::answer::{Answer, Call, Formed};
 use crate::poll_set::Registration;
 use crate::waiting::Backoff;
-use rtrb::{Consumer, Producer, PushError};
+use rtrb::{Consumer, Producer};
 use std::alloc::Global;
 use std::marker::Model;
 use std::sync::atomic::{AtomicBool, Ordering};
@@ -137,15 +137,14 @@ impl Client {
         let Some(next) = ticket.checked_add(1) else {
             return Err(call);
         };
-        match self.calls.push(call) {
-            Ok(()) => {
-                self.ticket = next;
-                self.backoff.begin_anew();
-                self.registration.notify();
-                Ok(ticket)
-            }
-            Err(PushError::Full(back)) => Err(back),
+        if self.calls.is_full() {
+            return Err(call);
         }
+        self.calls.push_reserved(call);
+        self.ticket = next;
+        self.backoff.begin_anew();
+        self.registration.notify();
+        Ok(ticket)
     }
 
     /// The next answer, if it has come. If a call of this lane may be waiting for the room that it leaves, it wakes the

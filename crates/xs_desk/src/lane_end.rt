@@ -1,10 +1,10 @@
 //! The keeper's side of a lane.
-ghost use Rattle.std.specs.Prelude.{◌≡◌, ◌≤◌, ◌<◌, true, false, length, IfSome};
+ghost use Rattle.std.specs.Prelude.{◌≡◌, ◌≤◌, ◌<◌, ◌⊎◌, true, false, length, IfSome};
 ghost use Rattle.rtrb.specs.Ring.{known_items};
 ghost use Rattle.xs_keys.specs.Waiting.{ChangesNothing};
 ghost use Rattle.xs_desk.specs.Calls.{asked_by};
 ghost use Rattle.xs_desk.specs.Noting.{KeepsAtOnce};
-ghost use Rattle.xs_desk.specs.Outbox.{given, HasRoom};
+ghost use Rattle.xs_desk.specs.Outbox.{given, HasRoom, IsFull};
 
 use crate::answer::{Answer, Call, Formed, next_place};
 use crate::blocked::{Wish, keys_touched, wish_of};
@@ -85,6 +85,11 @@ fn is_in_vain(keyspace: &Keyspace, command: &Command, is_asked: bool) -> bool
     }
 }
 
+/// Whether a call may wait.
+fn is_blocking(command: &Command) -> bool {
+    matches!(command, Command::ReadGroup(read) if read.block.is_some())
+}
+
 impl LaneEnd {
     ghost use Rattle.xs_desk.specs.LaneEnds.{lane_of, handed_out, scene, Looks, FindsNothing, MayWait, IsService};
 
@@ -104,7 +109,7 @@ impl LaneEnd {
         ensures idle { FindsNothing result keyspace.new self.new }
     {
         let holds_back = J::holds_back();
-        if self.calls.is_empty() || !self.answers.has_room(holds_back) {
+        if !self.can_serve(holds_back) {
             return Look::Idle;
         }
         if manner.may_wait {
@@ -117,7 +122,30 @@ impl LaneEnd {
             others_wait: manner.others_wait,
             holds_back,
         };
-        self.serve_next(keyspace, place, clock, journal, serving)
+        let look = self.serve_next(keyspace, place, clock, journal, serving);
+        if !holds_back && self.waker.finds_asleep() && !self.has_next() {
+            self.waker.wake();
+        }
+        look
+    }
+
+    /// Whether there is a call, and room for its answer.
+    fn can_serve(&mut self, holds_back: bool) -> bool
+        ensures lane { lane_of self.new ≡ lane_of self.old }
+        ensures handed { handed_out self.new ≡ handed_out self.old }
+        ensures ticket { self.new.ticket ≡ self.old.ticket }
+        ensures yes { result ≡ true → (0 < length (known_items self.new.calls)) × HasRoom holds_back self.new.answers }
+        ensures no { result ≡ false → (length (known_items self.new.calls) ≡ 0) ⊎ IsFull self.new.answers }
+    {
+        !self.calls.is_empty() && self.answers.has_room(holds_back)
+    }
+
+    /// Whether the next look at the lane serves a further call in any case, so that its client need not be woken before.
+    fn has_next(&mut self) -> bool
+        ensures lane { lane_of self.new ≡ lane_of self.old }
+        ensures handed { handed_out self.new ≡ handed_out self.old }
+    {
+        self.can_serve(false) && !is_blocking(&self.calls.peek_known().command)
     }
 
     /// Sends the answers that were held back, and says whether there were any.
@@ -194,9 +222,6 @@ impl LaneEnd {
         );
         self.ticket += 1;
         *place = next;
-        if !serving.holds_back {
-            self.waker.wake_if_asleep();
-        }
         Look::Served(Done { moment, touched })
     }
 }

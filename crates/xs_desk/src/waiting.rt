@@ -162,9 +162,14 @@ impl Backoff {
 }
 
 impl Waker {
+    /// Whether the other side may sleep.
+    pub(crate) fn finds_asleep(&self) -> bool {
+        self.sleeps.load(Ordering::SeqCst)
+    }
+
     /// Gives the token if the other side may sleep.
     pub(crate) fn wake_if_asleep(&self) {
-        if self.sleeps.load(Ordering::SeqCst) {
+        if self.finds_asleep() {
             self.unparker.unpark();
         }
     }

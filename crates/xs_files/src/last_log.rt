@@ -10,8 +10,8 @@ use xs_log::{LogFault, LogsFault};
 /// A crash leaves no more bytes of a log that has no whole header.
 const SHORT: u64 = 4_096;
 
-/// What each header begins with.
-const BEGINNING: &[u8] = b"*5\r\n$6\r\nxs-log\r\n";
+/// What each header begins with: `#` stands for a digit of its size.
+const BEGINNING: &[u8] = b"*6\r\n$2\r\n##\r\n$6\r\nxs-log\r\n";
 
 /// Whether the byte at a place of a file may be one of a header, or zero.
 fn may_stand(at: usize, byte: u8) -> bool {
@@ -19,6 +19,7 @@ fn may_stand(at: usize, byte: u8) -> bool {
         return true;
     }
     match BEGINNING.get(at) {
+        Some(b'#') => byte.is_ascii_digit(),
         Some(wanted) => byte == *wanted,
         None => matches!(byte, b'0'..=b'9' | b'$' | b'\r' | b'\n'),
     }

@@ -71,10 +71,7 @@ fn recover_logs<R: Files<File = File> + Copy + Drop>(
     let Ok((closed, last)) = read_logs(rt, alloc, folder, count, progress) else {
         return Err(FolderFault::Memory);
     };
-    match restart(alloc, closed, last) {
-        Ok(found) => Ok(found),
-        Err(fault) => Err(FolderFault::Log(fault)),
-    }
+    restart(alloc, closed, last).map_err(FolderFault::Log)
 }
 
 /// The last log, to be gone on with.

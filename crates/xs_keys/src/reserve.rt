@@ -17,6 +17,9 @@ const SMALL_REPLY: usize = 1 << 20;
 /// A buffer that grows while a reply is made may be copied into one of twice the bytes.
 const GROWTH: usize = 3;
 
+/// Room for so many replies of the greatest entry is kept, so that two or three such entries may be in one reply.
+const REPLIES: usize = 2;
+
 /// How many bytes the name of a field and its value take in a reply beside their own, at most.
 const FIELD_BYTES: usize = 64;
 
@@ -117,8 +120,9 @@ impl Reserve {
             let piece = Vec::with_capacity(alloc, PIECE)?;
             self.pieces.push(piece)?;
         }
-        let wanted = reply_bytes.max(self.greatest);
-        if wanted > SMALL_REPLY && wanted > self.room.capacity() {
+        let greatest = reply_bytes.max(self.greatest);
+        let wanted = greatest.saturating_mul(REPLIES);
+        if greatest > SMALL_REPLY && wanted > self.room.capacity() {
             self.room = Vec::with_capacity(alloc, wanted)?;
         }
         self.is_lent = false;

@@ -1,5 +1,4 @@
 pub mod Naturals
-pub mod Lengths
 pub mod PlainWords
 pub mod Headers
 pub mod Steps
@@ -8,3 +7,4 @@ pub mod ClosedLogs
 pub mod LogsInTurn
 pub mod TapeLogs
 pub mod Restarts
+pub mod Results

@@ -3,10 +3,10 @@ use Rattle.std.proofs.Common.{◌≡◌, ◌≢◌, ℕ, List, [], ◌∷◌, �
 use Rattle.std.proofs.lemmas.List.{map-append, append-nil}
 use Rattle.xs_command.specs.Read.{command_of_words}
 use Rattle.xs_command.specs.Words.{word}
-use Rattle.std.specs.Prelude.{Ok}
+use Rattle.std.specs.Prelude.{Result, Ok, Err, IfOk}
 use Rattle.xs_keys.specs.Event.{Event}
 use Rattle.xs_tape.specs.Escape.{escaped}
-use Rattle.xs_tape.specs.Records.{with_checksum, record_words}
+use Rattle.xs_tape.specs.Records.{with_checksum, with_size, record_words}
 use Rattle.xs_tape.proofs.Escapes.{escaped-all}
 use Rattle.xs_replay.specs.Log.{IsRecordOf}
 
@@ -29,9 +29,20 @@ no-words (w ∷ words) behind (one ∷ all) text none e = no-words words behind 
 pub not_escaped : (sent words left behind all : List (List ℕ)) (text : List ℕ) → sent ≡ map escaped words ++ left → left ≡ text ∷ behind → ((plain : List ℕ) → text ≢ escaped plain) → sent ≢ map escaped all
 not_escaped sent words left behind all text e f none is = no-words words behind all text none (sym (e ∙ ap (λ l. map escaped words ++ l) f) ∙ is)
 
+-- words behind a size
+pub of_size : {A E : Type 0} (result : Result A E) (items_of : A → List (List ℕ)) (sent behind : List (List ℕ)) → sent ≡ with_size behind → IfOk result (λ words. behind ≡ map escaped (items_of words))
+    → IfOk result (λ words. sent ≡ with_size (map escaped (items_of words)))
+of_size (Err fault) items_of sent behind e f = tt
+of_size (Ok words) items_of sent behind e f = e ∙ ap with_size f
+
+pub not_sized : (sent behind others : List (List ℕ)) → sent ≡ with_size behind → behind ≢ others → sent ≢ with_size others
+not_sized sent behind others e not is = not (cc (sym e ∙ is))
+
 -- words that are a record have its checksum
-pub not_checked : (sent words plain : List (List ℕ)) (first : List ℕ) → sent ≡ map escaped words → sent ≡ record_words first plain → words ≡ with_checksum first plain
-not_checked sent words plain first e is = escaped-all words (with_checksum first plain) (sym e ∙ is)
+pub not_checked : (sent words plain : List (List ℕ)) (first : List ℕ) → sent ≡ with_size (map escaped words) → sent ≡ record_words first plain → words ≡ with_checksum first plain
+not_checked sent words plain first e is =
+    let same : map escaped words ≡ map escaped (with_checksum first plain) = cc (sym e ∙ is) in
+    escaped-all words (with_checksum first plain) same
 
 pub same_parts : (first other : List ℕ) (rest others : List (List ℕ)) → with_checksum first rest ≡ with_checksum other others → (first ≡ other) × (rest ≡ others)
 same_parts first other rest others e = (cc, cc)
@@ -42,7 +53,7 @@ unfolding command_of_words word
 no_command event e = absurd (cc (e))
 
 -- what the parts of a record are
-pub parts_are : (sent items slice rest : List (List ℕ)) (first : List ℕ) (event : Event) → sent ≡ map escaped items → slice ≡ items → slice ≡ with_checksum first rest → IsRecordOf sent event
+pub parts_are : (sent items slice rest : List (List ℕ)) (first : List ℕ) (event : Event) → sent ≡ with_size (map escaped items) → slice ≡ items → slice ≡ with_checksum first rest → IsRecordOf sent event
     → (first ≡ decimal event.0) × (command_of_words rest ≡ Ok event.1)
 parts_are sent items slice rest first event e f g is =
     let all = not_checked sent items is.plain (decimal event.0) e is.stands in

@@ -1,10 +1,10 @@
 -- What a crash leaves of the logs on a tape, and what is read of it.
-use Rattle.std.proofs.Common.{◌≡◌, inl, inr, ℕ, suc, ◌+◌, ◌-◌, ◌≤◌, true, false, List, [], ◌∷◌, ◌++◌, length, take, map, Option, Some, None, refl, sym, ap, ◌∙◌, subst, arith, append_assoc, length-append}
-use Rattle.std.specs.Prelude.{Bool, Result, Ok, Err, IfOk, IfErr, MatchResult}
+use Rattle.std.proofs.Common.{◌≡◌, inl, inr, ℕ, suc, ◌+◌, ◌≤◌, true, false, List, [], ◌∷◌, ◌++◌, length, take, map, Option, Some, None, refl, sym, ap, ◌∙◌, subst, arith, length-append}
+use Rattle.std.specs.Prelude.{Bool}
 use Rattle.std.specs.List.{AllByRecursion}
 use Rattle.std.proofs.lemmas.Bool.{cases_eq}
 use Rattle.std.proofs.Math.Seq.{take-append-add}
-use Rattle.std.proofs.lemmas.List.{append-nil, take_at, take-append-le, length-map}
+use Rattle.std.proofs.lemmas.List.{take_at, take-append-le, length-map}
 use Rattle.xs_bytes.specs.SortedMap.{empty}
 use Rattle.xs_keys.specs.Event.{Event}
 use Rattle.xs_keys.specs.Content.{Content}
@@ -152,11 +152,3 @@ restarts_so broken number pending tape events kept file log count content moment
 -- the number of the last log
 pub number_of : {R : Type 0} (rest : R → Option (List ℕ)) (readers : List R) (closed : List (List ℕ)) → map rest readers ≡ map (λ bytes. Some bytes) closed → 1 + length readers ≡ suc (length closed)
 number_of rest readers closed e = omega (arith, sym (length-map readers rest), ap length e, length-map closed (λ bytes. Some bytes))
-
-pub match_parts : {A E : Type 0} (result : Result A E) (P : A → Type 0) (Q : E → Type 0) → IfOk result P → IfErr result Q → MatchResult result P Q
-match_parts (Ok x) P Q p q = p
-match_parts (Err e) P Q p q = q
-
-pub if_ok_as : {A E : Type 0} (result : Result A E) (P Q : A → Type 0) → ((x : A) → P x → Q x) → IfOk result P → IfOk result Q
-if_ok_as (Ok x) P Q f p = f x p
-if_ok_as (Err e) P Q f p = tt

@@ -1,5 +1,5 @@
 -- How far a log is read, request by request.
-use Rattle.std.proofs.Common.{◌≡◌, ◌≢◌, ◌⊎◌, inl, inr, ℕ, ◌+◌, ◌<◌, ◌≤◌, zero, suc, List, [], ◌∷◌, ◌++◌, length, take, drop, Some, None, Option, refl, sym, ap, ◌∙◌, subst, arith, append_assoc, length-append}
+use Rattle.std.proofs.Common.{◌≡◌, ◌≢◌, ◌⊎◌, inl, inr, ℕ, ◌+◌, ◌<◌, ◌≤◌, zero, suc, List, [], ◌∷◌, ◌++◌, length, take, drop, map, codes, decimal, Some, None, Option, refl, sym, ap, ◌∙◌, subst, arith, append_assoc, length-append}
 use Rattle.std.proofs.lemmas.List.{append-nil, take-append-drop, drop_at, take_at}
 use Rattle.std.proofs.lemmas.List.Concat.{flat_map-append}
 use Rattle.std.specs.Prelude.{Bool, Result, Ok, Err}
@@ -14,12 +14,16 @@ use Rattle.xs_resp.specs.Grammar.{spelling}
 use Rattle.xs_resp.proofs.Decisions.{request-keeps, request-read}
 use Rattle.xs_keys.specs.Event.{Event, event_moment}
 use Rattle.xs_keys.specs.Content.{Content}
-use Rattle.xs_tape.specs.Records.{CanBeSpelled, spellings}
+use Rattle.xs_tape.specs.Records.{CanBeSpelled, with_checksum, with_size, spellings}
+use Rattle.xs_tape.specs.Escape.{escaped}
+use Rattle.xs_tape.specs.Heads.{IsCut}
+use Rattle.xs_tape.proofs.Heads.{nothing_cut}
 use Rattle.xs_tape.proofs.Firsts.{spelling-found, same-front}
 use Rattle.xs_replay.specs.After.{after, contents_after, moment_after}
 use Rattle.xs_replay.specs.Log.{IsRecordOf, AreRecordsOf, IsLog, HasEvents}
 use Rattle.xs_log.specs.declared.fault.LogFault.{LogFault}
 use Rattle.xs_log.specs.Fault.{IsWant}
+use Rattle.xs_log.proofs.Headers.{behind_name}
 use Rattle.xs_log.specs.Reading.{IsPartOfLog, TakesRequest, MayStand, IsReadUpTo}
 
 -- ---- what a reader holds
@@ -132,7 +136,7 @@ log-more number at start before (h ∷ requests) events words old middle new mom
 
 -- a request more was taken
 pub read_more : (number : ℕ) (start : Content) (before : Option ℕ) (seen : List ℕ) (held next : Held) (at end : ℕ) (old new : Content) (middle moment : Option ℕ) (bytes : List ℕ) (found : Found)
-    → IsReadUpTo number start before seen held at old middle → held ≡ Ok bytes → request bytes ≡ Ok (Some found) → next ≡ Ok (drop found.end bytes) → end ≡ at + length (spelling found.words)
+    → IsReadUpTo number start before seen held at old middle → held ≡ Ok bytes → request bytes ≡ Ok (Some found) → next ≡ Ok (drop found.end bytes) → end ≡ at + found.end
     → TakesRequest number at found.words old middle new moment → IsReadUpTo number start before seen next end new moment
 read_more number start before seen held next at end old new middle moment bytes found up holds read left sum taken =
     let front = spelled-front bytes found read (takes-some number at found.words old middle new moment taken) in
@@ -148,7 +152,7 @@ read_more number start before seen held next at end old new middle moment bytes 
           ∙ sym (append_assoc (spellings up.requests) (spelling found.words) (drop found.end bytes)) ∙ ap (λ b. b ++ drop found.end bytes) (sym text);
       spelled = all-more up.requests found.words up.spelled front.0;
       is_log = more.is_log;
-      at_is = omega (arith, sum, up.at_is, ap length text, length-append (spellings up.requests) (spelling found.words));
+      at_is = omega (arith, sum, front.2, up.at_is, ap length text, length-append (spellings up.requests) (spelling found.words));
       content_is = more.content_is;
       moment_is = more.moment_is;
     }
@@ -173,8 +177,8 @@ read_fed number start before seen got held next at content moment up fed = recor
 
 -- all is read
 pub read_all : (number : ℕ) (start : Content) (before : Option ℕ) (seen rest : List ℕ) (held : Held) (at part : ℕ) (content : Content) (moment : Option ℕ) → (up : IsReadUpTo number start before seen held at content moment)
-    → held ≡ Ok rest → request rest ≡ Ok None → part + at ≡ length seen → HasEvents number seen up.events at part
-read_all number start before seen rest held at part content moment up holds none sum =
+    → held ≡ Ok rest → request rest ≡ Ok None → part ≡ length rest → HasEvents number seen up.events at part
+read_all number start before seen rest held at part content moment up holds none size =
     let same : up.rest ≡ rest = cc (up.holds, holds) in
     record {
       requests = up.requests;
@@ -182,11 +186,15 @@ read_all number start before seen rest held at part content moment up holds none
       are = record { whole = up.seen_is; spelled = up.spelled; unfinished = ap request same ∙ none };
       is_log = up.is_log;
       whole_is = up.at_is;
-      part_is = omega (arith, sum, up.at_is, ap length up.seen_is, length-append (spellings up.requests) up.rest);
+      part_is = size ∙ ap length (sym same);
     }
 
-pub at_within : (number : ℕ) (start : Content) (before : Option ℕ) (seen : List ℕ) (held : Held) (at : ℕ) (content : Content) (moment : Option ℕ) → IsReadUpTo number start before seen held at content moment → at ≤ length seen
-at_within number start before seen held at content moment up = omega (arith, up.at_is, ap length up.seen_is, length-append (spellings up.requests) up.rest)
+-- what is held stands behind the whole requests
+pub rest_is : (number : ℕ) (start : Content) (before : Option ℕ) (seen rest : List ℕ) (held : Held) (at : ℕ) (content : Content) (moment : Option ℕ) → IsReadUpTo number start before seen held at content moment → held ≡ Ok rest
+    → drop at seen ≡ rest
+rest_is number start before seen rest held at content moment up holds =
+    let same : up.rest ≡ rest = cc (up.holds, holds) in
+    ap (drop at) up.seen_is ∙ drop_at (spellings up.requests) up.rest at (sym up.at_is) ∙ same
 
 -- ---- a log that was written
 
@@ -215,6 +223,18 @@ behind (w ∷ done) (v ∷ written) seen rest more one all e f =
     let others = behind done written (spellings done ++ rest) rest more one.1 all.1 refl same.1 in
     record { others = others.others; split = ap (λ ws. v ∷ ws) others.split ∙ ap (λ x. x ∷ (done ++ others.others)) (sym same.0); spelled = others.spelled; text = others.text }
 
+-- of two lists that begin a third one, one begins the other
+one-begins : (xs ys zs ws : List ℕ) → xs ++ ys ≡ zs ++ ws → ((more : List ℕ) × (xs ≡ zs ++ more)) ⊎ ((more : List ℕ) × (zs ≡ xs ++ more) × (more ≢ []))
+one-begins xs ys [] ws e = inl (xs, refl)
+one-begins [] ys (z ∷ zs) ws e = inr (z ∷ zs, refl, λ f. absurd (cc (f)))
+one-begins (x ∷ xs) ys (z ∷ zs) ws e =
+    let first : x ≡ z = cc in
+    let tail : xs ++ ys ≡ zs ++ ws = cc in
+    elim (one-begins xs ys zs ws tail) [
+      | inl more ↦ inl (more.0, ap (λ b. b ∷ xs) first ∙ ap (λ t. z ∷ t) more.1)
+      | inr more ↦ inr (more.0, ap (λ t. z ∷ t) more.1 ∙ ap (λ b. b ∷ (xs ++ more.0)) (sym first), more.2)
+    ]
+
 -- no fault stands in what was written
 no-fault-in : (others : List (List (List ℕ))) (rest more : List ℕ) → AllByRecursion CanBeSpelled others → rest ++ more ≡ spellings others → IsFault rest → ⊥
 no-fault-in [] rest more can e fault =
@@ -241,6 +261,30 @@ stands-at : (number at : ℕ) (done others : List (List (List ℕ))) (words : Li
 stands-at number at [] others words events is e = inl (e, is.0)
 stands-at number at (h ∷ done) others words events is e = inr (omega (arith, e), record-at done others words events is.1)
 
+-- words that may stand in a log begin with their size
+sized-words : (number at : ℕ) (words : List (List ℕ)) → MayStand number at words → (sized : List (List ℕ)) × (words ≡ with_size sized)
+sized-words number at words (inl header) = (map escaped (with_checksum (codes "xs-log") (behind_name number)), header.1)
+sized-words number at words (inr taken) = (map escaped (with_checksum (decimal (event_moment (taken.1).0)) ((taken.1).1).plain), ((taken.1).1).stands)
+
+nothing-left : (rest more : List ℕ) → rest ++ more ≡ [] → IsCut rest
+nothing-left [] more e = nothing_cut
+nothing-left (b ∷ rest) more e = absurd (cc)
+
+-- what is left of a request that was written is a beginning of it
+left-of : (words sized : List (List ℕ)) (rest more later : List ℕ) → words ≡ with_size sized → CanBeSpelled words → rest ++ more ≡ spelling words ++ later → request rest ≡ Ok None → IsCut rest
+left-of words sized rest more later is can e none =
+    elim (one-begins rest more (spelling words) later e) [
+      | inl over ↦ absurd (cc (none, ap request over.1, spelling-found words over.0 can))
+      | inr cut ↦ record { words = sized; more = cut.0; spelled = subst CanBeSpelled is can; whole = ap spelling (sym is) ∙ cut.1; some = cut.2 }
+    ]
+
+cut-of : (number : ℕ) (done written others : List (List (List ℕ))) (rest more : List ℕ) (events : List Event) → AllByRecursion CanBeSpelled others → written ≡ done ++ others → IsLog number written events → rest ++ more ≡ spellings others
+    → request rest ≡ Ok None → IsCut rest
+cut-of number done written [] rest more events can split is e none = nothing-left rest more e
+cut-of number done written (w ∷ others) rest more events can split is e none =
+    let sized = sized-words number (length (spellings done)) w (stands-at number (length (spellings done)) done others w events (subst (λ rs. IsLog number rs events) split is) refl) in
+    left-of w sized.0 rest more (spellings others) sized.1 can.0 e none
+
 found-at : (number at : ℕ) (done written others : List (List (List ℕ))) (rest more : List ℕ) (found : Found) (events : List Event) → AllByRecursion CanBeSpelled others → written ≡ done ++ others → rest ++ more ≡ spellings others
     → request rest ≡ Ok (Some found) → IsLog number written events → at ≡ length (spellings done) → MayStand number at found.words
 found-at number at done written [] rest more found events can split e read is at_is =
@@ -260,6 +304,14 @@ may_stand number start before seen bytes held at content moment found up part ho
     let same : up.rest ≡ bytes = cc (up.holds, holds) in
     let others = behind up.requests part.requests seen up.rest part.more up.spelled part.spelled up.seen_is part.written in
     found-at number at up.requests part.requests others.others up.rest part.more found part.events others.spelled others.split others.text (ap request same ∙ read) part.is_log up.at_is
+
+-- what is held at the end is a beginning of what was written
+pub is_cut : (number : ℕ) (start : Content) (before : Option ℕ) (seen rest : List ℕ) (held : Held) (at : ℕ) (content : Content) (moment : Option ℕ) → IsReadUpTo number start before seen held at content moment → IsPartOfLog number seen
+    → held ≡ Ok rest → request rest ≡ Ok None → IsCut rest
+is_cut number start before seen rest held at content moment up part holds none =
+    let same : up.rest ≡ rest = cc (up.holds, holds) in
+    let others = behind up.requests part.requests seen up.rest part.more up.spelled part.spelled up.seen_is part.written in
+    subst IsCut same (cut-of number up.requests part.requests others.others up.rest part.more part.events others.spelled others.split part.is_log others.text (ap request same ∙ none))
 
 pub part_of_log : (number : ℕ) (bytes seen rest : List ℕ) → IsPartOfLog number bytes → bytes ≡ seen ++ rest → IsPartOfLog number seen
 part_of_log number bytes seen rest part e =
@@ -291,3 +343,24 @@ pub ready_found : (old : Held) (bytes : List ℕ) (result : Result Bool ReadFaul
 ready_found old bytes result new h r e =
     let here : Ready (Ok bytes) result new = subst (λ o. Ready o result new) h r in
     found-of bytes (request bytes) result new refl here e
+
+-- what a look that says yes has found
+pub record HasFront (held : Held) : Type 0 where
+  pub bytes : List ℕ
+  pub found : Found
+  pub holds : held ≡ Ok bytes
+  pub read : request bytes ≡ Ok (Some found)
+
+pub ready_front : (old : Held) (result : Result Bool ReadFault) (new : Held) → Ready old result new → result ≡ Ok Rattle.std.proofs.Common.true → HasFront new
+ready_front (Ok bytes) result new r e =
+    let there = found-of bytes (request bytes) result new refl r e in
+    record { bytes = bytes; found = there.found; holds = ready-of bytes (request bytes) result new Rattle.std.proofs.Common.true r e; read = there.read }
+ready_front (Err wrong) result new r e = absurd (cc (r.0, e))
+
+-- words at the front take as many bytes as their spelling has
+pub front_size : (held : Held) (front : HasFront held) (words : List (List ℕ)) (size : ℕ) → words ≡ front_of held
+    → ((bytes : List ℕ) (found : Found) → held ≡ Ok bytes → request bytes ≡ Ok (Some found) → size ≡ found.end) → words ≢ [] → size ≡ length (spelling words)
+front_size held front words size is end some =
+    let same = is ∙ front_words held front.bytes front.found front.holds front.read in
+    let there = spelled-front front.bytes front.found front.read (λ none. some (same ∙ none)) in
+    end front.bytes front.found front.holds front.read ∙ there.2 ∙ ap (λ ws. length (spelling ws)) (sym same)

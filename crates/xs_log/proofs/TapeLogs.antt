@@ -1,10 +1,9 @@
 -- Logs on a tape, and what calls do to them.
-use Rattle.std.proofs.Common.{◌≡◌, ◌⊎◌, inl, inr, ℕ, zero, suc, ◌+◌, ◌-◌, ◌^◌, ◌<◌, ◌≤◌, true, false, List, [], ◌∷◌, ◌++◌, length, take, map, Option, Some, None, Ok, Err, decimal, codes, refl, sym, ap, ◌∙◌, subst, arith, append_assoc, length-append}
+use Rattle.std.proofs.Common.{◌≡◌, ◌⊎◌, inl, inr, ℕ, suc, ◌+◌, ◌-◌, ◌^◌, ◌<◌, ◌≤◌, true, false, List, [], ◌∷◌, ◌++◌, length, take, map, Option, Some, None, Ok, Err, decimal, codes, refl, sym, ap, ◌∙◌, subst, arith, append_assoc, length-append}
 use Rattle.std.specs.Prelude.{Bool, Result, IfSome, MatchResult, ◌||◌}
 use Rattle.std.specs.List.{AllByRecursion}
 use Rattle.std.proofs.lemmas.List.{append-nil, take_all, take-append-le, nil_from_length}
 use Rattle.std.proofs.lemmas.Fmt.{length-decimal-le}
-use mathlib.Core.List.{IsPrefix}
 use Rattle.xs_command.specs.declared.command.Command.{Command}
 use Rattle.xs_command.specs.Read.{command_of_words}
 use Rattle.xs_command.specs.WellFormed.{IsWellFormed}
@@ -12,13 +11,13 @@ use Rattle.xs_resp.specs.Grammar.{spelling}
 use Rattle.xs_keys.specs.Event.{Event}
 use Rattle.xs_tape.specs.Records.{CanBeSpelled, record_words, record_text, spellings}
 use Rattle.xs_tape.specs.Tape.{TapeBytes}
-use Rattle.xs_tape.specs.Writing.{Writing, IsTextOf, IsOnTape, MayBeOnTape, Has, Puts, Keeps, Closes}
+use Rattle.xs_tape.specs.Writing.{Writing, IsOnTape, MayBeOnTape, Has, Puts, Keeps, Closes}
 use Rattle.xs_tape.specs.Escape.{escaped}
 use Rattle.xs_tape.proofs.Sizes.{escaped-short, can_be_spelled}
 use Rattle.xs_resp.specs.Grammar.{AreSizes}
 use Rattle.xs_replay.specs.Log.{model_number, IsRecordOf, AreRecordsOf, IsLog, header_words}
 use Rattle.xs_log.specs.Reading.{IsClosedLog}
-use Rattle.xs_log.specs.TapeLog.{AreClosedLogs, IsLogOnTape, MayBeLogOnTape, HasLog, HasClosedLogs, MayHaveClosedLogs, AwaitsHeader, AreLogs, MayBeLogs}
+use Rattle.xs_log.specs.TapeLog.{AreClosedLogs, IsLogOnTape, MayBeLogOnTape, HasLog, MayHaveClosedLogs, AwaitsHeader, MayBeLogs}
 use Rattle.xs_log.proofs.Steps.{spellings-more, all-more, records-more}
 
 -- ---- a tape that tells nothing never does
@@ -201,14 +200,14 @@ log_unkept (Err y) x number old new events kept is sound keeps log = same-on num
 
 -- what stands in a header behind its name
 abbrev behind : ℕ → List (List ℕ)
-behind number = codes "1" ∷ decimal number ∷ decimal model_number ∷ []
+behind number = codes "2" ∷ decimal number ∷ decimal model_number ∷ []
 
 decimal_length : (n : ℕ) → n < 2 ^ 64 → length (decimal n) ≤ 20
 decimal_length n small = length-decimal-le 20 n (omega arith) (omega (arith, small)) small
 
 sizes-behind : (number : ℕ) → number < 2 ^ 64 → AreSizes (map escaped (behind number))
 sizes-behind number small =
-    (omega (arith, escaped-short (codes "1")), (omega (arith, escaped-short (decimal number), decimal_length number small), (omega (arith, escaped-short (decimal model_number), decimal_length model_number (omega arith)), tt)))
+    (omega (arith, escaped-short (codes "2")), (omega (arith, escaped-short (decimal number), decimal_length number small), (omega (arith, escaped-short (decimal model_number), decimal_length model_number (omega arith)), tt)))
 
 pub header_spelled : (number : ℕ) → number < 2 ^ 64 → CanBeSpelled (header_words number)
 header_spelled number small = can_be_spelled (codes "xs-log") (behind number) (omega arith) (sizes-behind number small) (omega (arith, escaped-short (codes "xs-log")))

@@ -1,5 +1,6 @@
 -- The logs that the files of a tape are.
-use Rattle.std.specs.Prelude.{◌≡◌, ℕ, suc, ◌+◌, ◌-◌, ◌<◌, ◌≤◌, Bool, false, List, [], ◌∷◌, ◌++◌, length, take, Option, Some, None}
+use Rattle.std.specs.Prelude.{◌≡◌, ℕ, suc, ◌+◌, ◌-◌, ◌<◌, ◌≤◌, Bool, false, List, [], ◌∷◌, ◌++◌, length, take, Option}
+use Rattle.std.specs.Prelude.{Some, None}
 use Rattle.std.specs.List.{AllByRecursion}
 use Rattle.xs_keys.specs.Event.{Event}
 use Rattle.xs_tape.specs.Records.{CanBeSpelled, spellings}
@@ -57,7 +58,8 @@ MayHaveClosedLogs number pending (Some tape) events = HasClosedLogs number pendi
 abbrev pub AwaitsHeader : ℕ → Writing → List Event → Type 0
 AwaitsHeader number writing events = MayHaveClosedLogs number writing.pending writing.holds events
 
--- the files of a tape are logs with these events, all of them kept. The last one has this number, and may have no header
+-- the files of a tape are logs with these events, all of them kept. The last one has this number, and may have no
+-- header
 pub record AreLogs (number : ℕ) (tape : TapeBytes) (events : List Event) : Type 0 where
   pub before : List Event
   pub last : List Event

@@ -1,9 +1,10 @@
 //! What a crash has left of the logs on a tape.
-ghost use Rattle.std.specs.Prelude.{◌≡◌, ℕ, List, Bool, None, Some, map, IfOk, MatchResult};
+ghost use Rattle.std.specs.Prelude.{◌≡◌, ℕ, List, Bool, None, Some, drop, map, IfOk, MatchResult};
 ghost use Rattle.xs_bytes.specs.SortedMap.{empty};
 ghost use Rattle.xs_replay.specs.After.{contents_after, moment_after};
 ghost use Rattle.xs_keys.specs.Event.{Event};
-ghost use Rattle.xs_tape.specs.Crash.{CrashLeaves};
+ghost use Rattle.xs_tape.specs.Crash.{before_zero, CrashLeaves};
+ghost use Rattle.xs_tape.specs.Heads.{MayBeCut};
 ghost use Rattle.xs_tape.specs.Tape.{TapeBytes};
 ghost use Rattle.xs_log.specs.Fault.{IsWant};
 ghost use Rattle.xs_log.specs.Restart.{Restarts};
@@ -27,8 +28,11 @@ pub fn restart<R: Source + Drop>(
     // The content is that of some events.
     ensures content { IfOk result (λ found. (events : List Event)
         × (found.0.keyspace ≡ contents_after empty events) × (found.0.last ≡ moment_after None events)) }
-    // Whatever a crash has left of the logs that a tape had is read, unless memory, a reader or a number of 64 bits runs
-    // out. It gives the first of their events, all that were kept among them.
+    // What stands behind the whole records of the last file may be what a crash left of a record.
+    ensures cut { (file : List ℕ) → R.rest last ≡ Some file →
+        IfOk result (λ found. MayBeCut (drop found.1.whole (before_zero file))) }
+    // Whatever a crash has left of the logs that a tape had is read, unless memory, a reader or a number of 64 bits
+    // runs out. It gives the first of their events, all that were kept among them.
     ensures read { (broken : Bool) (number : ℕ) (pending : List ℕ) (tape : TapeBytes) (events : List Event) (kept : ℕ)
         (file : List ℕ) → IsLogOnTape broken number pending tape events kept →
         CrashLeaves tape.kept tape.written file →

@@ -16,6 +16,9 @@ pub enum LogFault {
     /// It doesn't begin as a log of this format.
     #[error("is no log of this program")]
     Foreign,
+    /// It is of another format.
+    #[error("is of another format, and this program has format 2")]
+    OtherFormat,
     /// It has another number than its name says.
     #[error("is the log of another number")]
     OtherNumber,

@@ -1,7 +1,8 @@
 //! The last log, which a crash may have torn.
-ghost use Rattle.std.specs.Prelude.{◌≡◌, ◌+◌, ◌≤◌, ℕ, List, Some, length, take, IfOk, IfErr, OnOk};
+ghost use Rattle.std.specs.Prelude.{◌≡◌, ◌+◌, ◌≤◌, ℕ, List, Some, length, take, drop, IfOk, IfErr, OnOk};
 ghost use Rattle.xs_keys.specs.Event.{Event};
 ghost use Rattle.xs_tape.specs.Crash.{before_zero};
+ghost use Rattle.xs_tape.specs.Heads.{MayBeCut};
 ghost use Rattle.xs_replay.specs.After.{contents_after, moment_after};
 ghost use Rattle.xs_replay.specs.Log.{HasEvents};
 ghost use Rattle.xs_log.specs.Fault.{IsWant};
@@ -28,6 +29,9 @@ pub fn read_last_log<R: Source + Drop>(
     ensures content { OnOk result ((events : List Event)
         × (recovered.new.keyspace ≡ contents_after recovered.old.keyspace events)
         × (recovered.new.last ≡ moment_after recovered.old.last events)) }
+    // What stands behind the whole records may be what a crash left of a record: its lengths haven't changed.
+    ensures cut { (left : List ℕ) → R.rest file ≡ Some left →
+        IfOk result (λ extent. MayBeCut (drop extent.whole (before_zero left))) }
     // Whatever a crash has left of a log is read, unless memory, the reader or a number of 64 bits runs out.
     ensures err { (events : List Event) (kept : ℕ) (left : List ℕ) → CrashLeavesLog number events kept left →
         R.rest file ≡ Some left → IfErr result IsWant }

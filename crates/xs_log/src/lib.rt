@@ -6,7 +6,6 @@ pub mod closed;
 pub mod fault;
 pub mod header;
 pub mod last;
-mod length;
 pub mod logs;
 pub mod reading;
 mod record;

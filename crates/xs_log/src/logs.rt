@@ -1,8 +1,9 @@
 //! All logs of a server, in their order.
-ghost use Rattle.std.specs.Prelude.{◌≡◌, ◌+◌, ◌≤◌, ◌++◌, ℕ, List, None, Some, length, take, IfErr, IfOk};
+ghost use Rattle.std.specs.Prelude.{◌≡◌, ◌+◌, ◌≤◌, ◌++◌, ℕ, List, None, Some, length, take, drop, IfErr, IfOk};
 ghost use Rattle.xs_bytes.specs.SortedMap.{empty};
 ghost use Rattle.xs_keys.specs.Event.{Event};
 ghost use Rattle.xs_tape.specs.Crash.{before_zero};
+ghost use Rattle.xs_tape.specs.Heads.{MayBeCut};
 ghost use Rattle.xs_replay.specs.After.{contents_after, moment_after};
 ghost use Rattle.xs_replay.specs.Log.{HasEvents};
 ghost use Rattle.xs_log.specs.Fault.{IsWant};
@@ -71,6 +72,9 @@ pub fn recover<R: Source + Drop>(
     // The content is that of some events.
     ensures content { IfOk result (λ found. (events : List Event)
         × (found.0.keyspace ≡ contents_after empty events) × (found.0.last ≡ moment_after None events)) }
+    // What stands behind the whole records of the last log may be what a crash left of a record.
+    ensures cut { (left : List ℕ) → R.rest last ≡ Some left →
+        IfOk result (λ found. MayBeCut (drop found.1.whole (before_zero left))) }
     // Closed logs that were written whole, and whatever a crash has left of the last one, are never refused.
     ensures err { (before events : List Event) (kept : ℕ) (left : List ℕ) →
         GiveClosedLogs R.rest first closed.items before →

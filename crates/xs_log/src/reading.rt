@@ -1,10 +1,13 @@
 //! A log that is read, and its events applied.
-ghost use Rattle.std.specs.Prelude.{◌≡◌, ◌⊎◌, ℕ, List, Option, None, Some, Ok, Err, false, IfOk, IfErr, OnOk};
+ghost use Rattle.std.specs.Prelude.{◌≡◌, ◌≢◌, ◌⊎◌, [], ℕ, List, Option, None, Some, Ok, Err, false, length, drop};
+ghost use Rattle.std.specs.Prelude.{IfOk, IfErr, OnOk};
 ghost use Rattle.std.specs.Io.KnownBytes.{Consumes, IsAtEnd};
 ghost use Rattle.xs_bytes.specs.SortedMap.{empty};
 ghost use Rattle.xs_resp.specs.Reading.{request};
+ghost use Rattle.xs_resp.specs.Grammar.{spelling};
 ghost use Rattle.xs_keys.specs.Event.{Event, event_moment};
 ghost use Rattle.xs_keys.specs.Content.{Content};
+ghost use Rattle.xs_tape.specs.Heads.{MayBeCut, IsCut};
 ghost use Rattle.xs_replay.specs.After.{after, contents_after, moment_after};
 ghost use Rattle.xs_replay.specs.Log.{IsRecordOf, HasEvents};
 ghost use Rattle.xs_log.specs.Fault.{IsWant};
@@ -12,13 +15,13 @@ ghost use Rattle.xs_log.specs.Reading.{IsPartOfLog, TakesRequest, MayStand, IsRe
 
 use crate::fault::LogFault;
 use crate::header::check_header;
-use crate::length::request_len;
 use crate::record::{RecordFault, read_record};
 use std::alloc::Global;
 use xs_devices::{Fill, FillFault, Source};
 use xs_keys::Keyspace;
 use xs_resp::{Fault, Reply, Request, Requests};
 use xs_stream::Moment;
+use xs_tape::may_be_cut;
 
 /// What the events of logs leave.
 #[derive(Drop)]
@@ -54,18 +57,20 @@ pub struct Extent {
     pub part: u64,
 }
 
-/// Applies the event of a record.
+/// Applies the event of a record that takes so many bytes.
 fn apply_record(
     alloc: Global,
     recovered: &mut Recovered,
-    sent: Request<'_>,
+    sent: &Request<'_>,
+    len: usize,
 ) -> Result<(), RecordFault>
-    ensures ok { OnOk result ((event : Event) × IsRecordOf sent.entry event
+    requires { sent.now ≢ [] → len ≡ length (spelling sent.now) }
+    ensures ok { OnOk result ((event : Event) × IsRecordOf sent.now event
         × (recovered.new.keyspace ≡ after recovered.old.keyspace event)
         × (recovered.new.last ≡ Some (event_moment event))) }
-    ensures damaged { result ≡ Err RecordFault.Damaged → (event : Event) → IsRecordOf sent.entry event → ⊥ }
+    ensures damaged { result ≡ Err RecordFault.Damaged → (event : Event) → IsRecordOf sent.now event → ⊥ }
 {
-    match read_record(alloc, sent) {
+    match read_record(alloc, sent, len) {
         Err(fault) => Err(fault),
         Ok((now, command)) => match recovered.keyspace.apply(now, &command) {
             Reply::Error(Fault::Memory) => Err(RecordFault::Memory),
@@ -78,22 +83,24 @@ fn apply_record(
     }
 }
 
-/// Takes the request at a byte: the header, or a record, whose event is applied.
+/// Takes the request at a byte, which takes so many: the header, or a record, whose event is applied.
 fn take_request(
     alloc: Global,
     number: u64,
     at: u64,
     recovered: &mut Recovered,
-    sent: Request<'_>,
+    sent: &Request<'_>,
+    len: usize,
 ) -> Result<(), LogFault>
-    ensures ok { OnOk result (TakesRequest number at sent.entry recovered.old.keyspace recovered.old.last
+    requires { sent.now ≢ [] → len ≡ length (spelling sent.now) }
+    ensures ok { OnOk result (TakesRequest number at sent.now recovered.old.keyspace recovered.old.last
         recovered.new.keyspace recovered.new.last) }
-    ensures err { IfErr result (λ fault. IsWant fault ⊎ (MayStand number at sent.entry → ⊥)) }
+    ensures err { IfErr result (λ fault. IsWant fault ⊎ (MayStand number at sent.now → ⊥)) }
 {
     if at == 0 {
-        return check_header(alloc, number, sent);
+        return check_header(alloc, number, sent, len);
     }
-    match apply_record(alloc, recovered, sent) {
+    match apply_record(alloc, recovered, sent, len) {
         Ok(()) => Ok(()),
         Err(RecordFault::Memory) => Err(LogFault::Memory),
         Err(RecordFault::Damaged) => Err(LogFault::Damaged(at)),
@@ -122,20 +129,36 @@ fn take_next(
         Ok(false) => return Ok(false),
         Err(_) => return Err(LogFault::Damaged(*at)),
     }
+    let len = requests.front_len();
+    let Some(end) = at.checked_add(len as u64) else {
+        return Err(LogFault::TooLong);
+    };
     let sent = requests.front();
-    let Some(size) = request_len(sent.again()) else {
-        return Err(LogFault::TooLong);
-    };
-    let Some(end) = at.checked_add(size) else {
-        return Err(LogFault::TooLong);
-    };
-    match take_request(alloc, number, *at, recovered, sent) {
+    match take_request(alloc, number, *at, recovered, &sent, len) {
         Ok(()) => {}
         Err(fault) => return Err(fault),
     }
     requests.skip();
     *at = end;
     Ok(true)
+}
+
+/// How far a log goes that was read to its end, whole requests up to this byte. What is held behind them has to be what
+/// a crash may leave of a record.
+fn extent_at_end(requests: &Requests, at: u64) -> Result<Extent, LogFault>
+    ensures whole { IfOk result (λ extent. extent.whole ≡ at) }
+    ensures part { (rest : List ℕ) → requests.now ≡ Ok rest →
+        IfOk result (λ extent. (extent.part ≡ length rest) × MayBeCut rest) }
+    ensures err { (rest : List ℕ) → requests.now ≡ Ok rest → IsCut rest → IfErr result IsWant }
+{
+    let part = requests.held_bytes();
+    if !may_be_cut(part) {
+        return Err(LogFault::Damaged(at));
+    }
+    Ok(Extent {
+        whole: at,
+        part: part.len() as u64,
+    })
 }
 
 /// Reads the log with this number to its end, and applies its events in their order, onto what the logs before it left.
@@ -154,12 +177,14 @@ pub fn read_log<R: Source>(
         × HasEvents number bytes events extent.whole extent.part
         × (recovered.new.keyspace ≡ contents_after recovered.old.keyspace events)
         × (recovered.new.last ≡ moment_after recovered.old.last events)) }
+    // What stands behind the whole records may be what a crash left of a record: its lengths haven't changed.
+    ensures cut { (bytes : List ℕ) → R.rest log.old ≡ Some bytes →
+        IfOk result (λ extent. MayBeCut (drop extent.whole bytes)) }
     // A beginning of a log that was written is never refused.
     ensures err { (bytes : List ℕ) → R.rest log.old ≡ Some bytes → IsPartOfLog number bytes → IfErr result IsWant }
 {
     let mut requests = Requests::new(alloc);
     let mut at: u64 = 0;
-    let mut read: u64 = 0;
     for _ in 0..u64::MAX {
         match take_next(alloc, number, &mut requests, recovered, &mut at) {
             Ok(true) => continue,
@@ -167,18 +192,8 @@ pub fn read_log<R: Source>(
             Err(fault) => return Err(fault),
         }
         match requests.fill(log) {
-            Ok(0) => {
-                return Ok(Extent {
-                    whole: at,
-                    part: read.saturating_sub(at),
-                });
-            }
-            Ok(count) => {
-                let Some(sum) = read.checked_add(count as u64) else {
-                    return Err(LogFault::TooLong);
-                };
-                read = sum;
-            }
+            Ok(0) => return extent_at_end(&requests, at),
+            Ok(_) => {}
             Err(FillFault::Memory) => return Err(LogFault::Memory),
             Err(FillFault::Read) => return Err(LogFault::Device),
         }

@@ -1,8 +1,10 @@
 //! The event of a record.
-ghost use Rattle.std.specs.Prelude.{◌≡◌, ◌≢◌, ◌<◌, ◌^◌, ℕ, List, Err, decimal, true, false, map, IfOk, MatchOption};
+ghost use Rattle.std.specs.Prelude.{◌≡◌, ◌≢◌, ◌<◌, ◌^◌, [], ℕ, List, Err, decimal, true, false, length, map};
+ghost use Rattle.std.specs.Prelude.{IfOk, MatchOption};
+ghost use Rattle.xs_resp.specs.Grammar.{spelling};
 ghost use Rattle.xs_keys.specs.Event.{Event};
 ghost use Rattle.xs_tape.specs.Escape.{escaped};
-ghost use Rattle.xs_tape.specs.Records.{with_checksum};
+ghost use Rattle.xs_tape.specs.Records.{with_checksum, with_size};
 ghost use Rattle.xs_replay.specs.Log.{IsRecordOf};
 
 use std::alloc::Global;
@@ -10,7 +12,7 @@ use xs_bytes::{Bytes, natural};
 use xs_command::{Command, Refusal, read_command};
 use xs_resp::Request;
 use xs_stream::Moment;
-use xs_tape::{checksum_of, unescaped};
+use xs_tape::{checksum_of, sized_words, unescaped};
 
 /// Why a record isn't read.
 #[derive(Clone, Copy, Debug, PartialEq, Eq)]
@@ -23,7 +25,7 @@ pub enum RecordFault {
 
 /// The words of a record, as they were before they were escaped.
 #[tactic(auto, using(crate::proofs::PlainWords::word_more, crate::proofs::PlainWords::words_done))]
-pub(crate) fn plain_words(alloc: Global, sent: Request<'_>) -> Result<Vec<Bytes>, RecordFault>
+fn plain_words(alloc: Global, sent: Request<'_>) -> Result<Vec<Bytes>, RecordFault>
     ensures ok { IfOk result (λ words. sent.entry ≡ map escaped words.items) }
     ensures damaged { result ≡ Err RecordFault.Damaged → (words : List (List ℕ)) → sent.entry ≢ map escaped words }
 {
@@ -44,6 +46,23 @@ pub(crate) fn plain_words(alloc: Global, sent: Request<'_>) -> Result<Vec<Bytes>
         left = behind;
     }
     Ok(words)
+}
+
+/// The words behind the size of a record that takes so many bytes, as they were before they were escaped.
+pub(crate) fn record_of(
+    alloc: Global,
+    sent: &Request<'_>,
+    len: usize,
+) -> Result<Vec<Bytes>, RecordFault>
+    requires { sent.now ≢ [] → len ≡ length (spelling sent.now) }
+    ensures ok { IfOk result (λ words. sent.now ≡ with_size (map escaped words.items)) }
+    ensures damaged { result ≡ Err RecordFault.Damaged →
+        (words : List (List ℕ)) → sent.now ≢ with_size (map escaped words) }
+{
+    let Some(behind) = sized_words(sent, len) else {
+        return Err(RecordFault::Damaged);
+    };
+    plain_words(alloc, behind)
 }
 
 /// Whether a word is a number.
@@ -92,15 +111,17 @@ fn moment_of(word: &Bytes) -> Option<Moment>
     Some(now)
 }
 
-/// The event of a record.
+/// The event of a record that takes so many bytes.
 pub(crate) fn read_record(
     alloc: Global,
-    sent: Request<'_>,
+    sent: &Request<'_>,
+    len: usize,
 ) -> Result<(Moment, Command), RecordFault>
-    ensures ok { IfOk result (λ event. IsRecordOf sent.entry event) }
-    ensures damaged { result ≡ Err RecordFault.Damaged → (event : Event) → IsRecordOf sent.entry event → ⊥ }
+    requires { sent.now ≢ [] → len ≡ length (spelling sent.now) }
+    ensures ok { IfOk result (λ event. IsRecordOf sent.now event) }
+    ensures damaged { result ≡ Err RecordFault.Damaged → (event : Event) → IsRecordOf sent.now event → ⊥ }
 {
-    let words = match plain_words(alloc, sent) {
+    let words = match record_of(alloc, sent, len) {
         Ok(words) => words,
         Err(fault) => return Err(fault),
     };

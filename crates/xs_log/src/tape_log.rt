@@ -36,7 +36,7 @@ fn number_word(alloc: Global, number: u64) -> Result<Bytes, AllocError>
 /// What stands in a header behind the name and the checksum.
 fn header_rest(alloc: Global, number: u64) -> Result<[Bytes; 3], AllocError>
     ensures { IfOk result (λ words. words
-        ≡ codes "1" ∷ decimal number ∷ decimal model_number ∷ []) }
+        ≡ codes "2" ∷ decimal number ∷ decimal model_number ∷ []) }
 {
     let format = Bytes::from_slice(alloc, FORMAT)?;
     let log_number = number_word(alloc, number)?;

@@ -2,4 +2,5 @@
 mod crash_points;
 mod log_text;
 mod tape_logs;
+mod turned_bits;
 mod two_logs;

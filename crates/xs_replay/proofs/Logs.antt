@@ -1,5 +1,5 @@
 -- Logs and their events.
-use Rattle.std.proofs.Common.{◌≡◌, ℕ, ◌≤◌, ◌+◌, zero, suc, List, [], ◌∷◌, ◌++◌, length, take, drop, decimal, Ok, codes}
+use Rattle.std.proofs.Common.{◌≡◌, ℕ, ◌≤◌, ◌+◌, zero, suc, List, [], ◌∷◌, ◌++◌, length, take, drop, map, decimal, Ok, codes}
 use Rattle.std.proofs.Common.{refl, sym, ap, ◌∙◌, subst, arith}
 use Rattle.std.proofs.lemmas.List.{take-append-drop, take_at}
 use Rattle.std.proofs.lemmas.List.Concat.{flat_map-append}
@@ -10,6 +10,7 @@ use Rattle.xs_keys.specs.Event.{Event}
 use Rattle.xs_tape.specs.Crash.{before_zero, CrashLeaves}
 use Rattle.xs_tape.specs.Records.{CanBeSpelled, CanBeLogged, with_checksum, record_words, spellings, AreTheFirst}
 use Rattle.xs_resp.specs.Grammar.{spelling}
+use Rattle.xs_tape.specs.Escape.{escaped}
 use Rattle.xs_tape.proofs.Escapes.{escaped-all}
 use Rattle.xs_tape.proofs.Zeros.{spellings-no-zero, record-logged}
 use Rattle.xs_tape.proofs.Crashes.{before_zero-written, before_zero-kept}
@@ -19,7 +20,8 @@ use Rattle.xs_replay.specs.Log.{model_number, IsRecordOf, AreRecordsOf, IsLog, H
 -- the words behind the checksum
 pub same-plain : (first other : List ℕ) (plain others : List (List ℕ)) → record_words first plain ≡ record_words other others → (first ≡ other) × (plain ≡ others)
 same-plain first other plain others e =
-    let same : with_checksum first plain ≡ with_checksum other others = escaped-all (with_checksum first plain) (with_checksum other others) e in
+    let words : map escaped (with_checksum first plain) ≡ map escaped (with_checksum other others) = cc in
+    let same : with_checksum first plain ≡ with_checksum other others = escaped-all (with_checksum first plain) (with_checksum other others) words in
     (cc, cc)
 
 -- a record is of one event
@@ -57,7 +59,7 @@ records-may (words ∷ records) (e ∷ events) are can = (record-may words e are
 pub log-may : (number : ℕ) (requests : List (List (List ℕ))) (events : List Event) → IsLog number requests events → AllByRecursion CanBeSpelled requests → AllByRecursion CanBeLogged requests
 log-may number [] events is can = tt
 log-may number (header ∷ records) events is can =
-    let rest = codes "1" ∷ decimal number ∷ decimal model_number ∷ [] in
+    let rest = codes "2" ∷ decimal number ∷ decimal model_number ∷ [] in
     (subst CanBeLogged (sym is.0) (record-logged (codes "xs-log") rest (subst CanBeSpelled is.0 can.0)), records-may records events is.1 can.1)
 
 -- the text of the first requests stands at the front

@@ -60,10 +60,10 @@ runs-join a b c first more said told one two past is =
     let s = two r.0 r.2 in
     (s.0, headline past (first ++ more) (said ++ told) s.0 (replied-join past first more said told r.0 s.0 r.1.replies s.1.replies), s.2, s.3)
 
-nothing-runs : (content : Content) → RunsOn content [] [] content
+pub nothing-runs : (content : Content) → RunsOn content [] [] content
 nothing-runs content past is = (past, headline past [] [] past refl, is, content-consistent past content is)
 
-step-runs : (old new : Content) (e : Event) (answer : Reply) → IsWellFormed (event_command e) → Step old (event_moment e) (event_command e) answer new → RunsOn old (e ∷ []) (answer ∷ []) new
+pub step-runs : (old new : Content) (e : Event) (answer : Reply) → IsWellFormed (event_command e) → Step old (event_moment e) (event_command e) answer new → RunsOn old (e ∷ []) (answer ∷ []) new
 step-runs old new e answer formed step past is =
     let next = step-follows past old new (event_moment e) (event_command e) answer formed is step in
     (next.0, headline past (e ∷ []) (answer ∷ []) next.0 (next.0, next.2, refl), next.1, content-consistent next.0 new next.1)

@@ -11,7 +11,7 @@ model_number = 1
 
 -- the header of a log: the format, the log's number and the model's
 abbrev pub header_words : ℕ → List (List ℕ)
-header_words number = record_words (codes "xs-log") (codes "1" ∷ decimal number ∷ decimal model_number ∷ [])
+header_words number = record_words (codes "xs-log") (codes "2" ∷ decimal number ∷ decimal model_number ∷ [])
 
 -- these words are the record of an event: its moment, and the words that its command is read from
 pub record IsRecordOf (words : List (List ℕ)) (event : Event) : Type 0 where

@@ -1,5 +1,5 @@
 //! Laws of logs. Each is a function that does nothing.
-ghost use Rattle.std.specs.Prelude.{◌≡◌, ◌+◌, ◌≤◌, ℕ, List, [], ◌++◌, false, true, not, length, take};
+ghost use Rattle.std.specs.Prelude.{◌≡◌, ◌+◌, ◌≤◌, ℕ, List, [], ◌∷◌, ◌++◌, false, true, not, length, take};
 ghost use Rattle.std.specs.List.{AllByRecursion};
 ghost use Rattle.xs_bytes.specs.SortedMap.{empty};
 ghost use Rattle.xs_resp.specs.declared.reply.Reply.{Reply};
@@ -56,6 +56,13 @@ pub fn a_crash_cuts_the_calls()
         survivors kept calls ≡ take (length (survivors kept calls)) calls }
     ensures all { (calls others : List Call) (kept : ℕ) → length (log_of calls) ≤ kept →
         (more : List Call) × (survivors kept (calls ++ others) ≡ calls ++ more) }
+{}
+
+/// A step of a well-formed command is a run.
+pub fn a_step_is_a_run()
+    ensures { (old new : Content) (now : ℕ) (command : Command) (answer : Reply) →
+        IsWellFormed command → Step old now command answer new →
+        RunsOn old ((now, command) ∷ []) (answer ∷ []) new }
 {}
 
 /// Runs, one after the other, are one run.

@@ -25,6 +25,13 @@ reached-end bytes progress f open' whole =
       | inr none ↦ follows-all bytes progress f (omega arith)
     ]
 
+-- where it is read to, it ends
+pub same-end : (bytes : List ℕ) (progress : Progress) (found : Found) → (f : IsProgressOf bytes progress) → (0 < progress.left → request bytes ≡ Ok None) → request bytes ≡ Ok (Some found) → progress.at ≡ found.end
+same-end bytes progress found f open' read =
+    let reached = reached-end bytes progress f open' (found, read) in
+    let same : record { words = f.passed; end = progress.at } ≡ found = cc in
+    ap (λ (f : Found). f.end) same
+
 -- where more bytes decide there is no request
 pub not-whole : (held : Held) (bytes : List ℕ) → HasNext held → held ≡ Ok bytes → request bytes ≡ Ok None → ⊥
 not-whole held bytes next is none =

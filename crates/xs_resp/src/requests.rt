@@ -42,7 +42,8 @@ impl Model for Requests {
 }
 
 impl Requests {
-    ghost use Rattle.std.specs.Prelude.{◌≡◌, ◌≢◌, List, ℕ, [], None, IfOk, Ok};
+    ghost use Rattle.std.specs.Prelude.{◌≡◌, ◌≢◌, List, ℕ, [], None, Some, IfOk, Ok};
+    ghost use Rattle.xs_resp.specs.Reading.{Found, request};
     ghost use Rattle.xs_resp.specs.HeldBytes.{with_piece, front_of, holds_bytes, HasNext, Next, Ready, Skips};
 
     /// A reader that holds nothing.
@@ -110,6 +111,19 @@ impl Requests {
         Request::new(header.number, rest_of(bytes, header.end))
     }
 
+    /// How many bytes the request at the front takes, which is whole. It takes no memory.
+    pub fn front_len(&self) -> usize
+        requires { HasNext self.now }
+        ensures { (bytes : List ℕ) (found : Found) → self.now ≡ Ok bytes → request bytes ≡ Ok (Some found) →
+            result ≡ found.end }
+    {
+        let progress = match self.state {
+            State::Within(progress) => Some(progress),
+            State::Between | State::Failed(_) => None,
+        };
+        read_on(self.input.bytes(), progress).unwrap().unwrap().at
+    }
+
     /// Drops the request at the front, which is whole. It takes no memory.
     pub fn skip(&mut self)
         requires { HasNext self.old }
@@ -144,6 +158,13 @@ impl Requests {
         };
         self.skip();
         Ok(Some(words))
+    }
+
+    /// The bytes that are held. It takes no memory.
+    pub fn held_bytes(&self) -> &[u8]
+        ensures { (bytes : List ℕ) → self.now ≡ Ok bytes → result.now ≡ bytes }
+    {
+        self.input.bytes()
     }
 
     /// Whether bytes are held. A failed reader holds none.

@@ -10,7 +10,7 @@ use Rattle.xs_keys.specs.Content.{Content}
 use Rattle.xs_keys.specs.Headline.{RunsOn}
 use Rattle.xs_keys.specs.Step.{Step}
 use Rattle.xs_keys.proofs.Runs.{RunsSoFar, runs-none, runs-more, runs-all}
-use Rattle.xs_server.specs.declared.connections.ending.Ending.{Ending}
+use Rattle.xs_session.specs.declared.ending.Ending.{Ending}
 use Rattle.xs_server.specs.declared.connections.ending.ServeFault.{ServeFault}
 use Rattle.xs_server.specs.declared.connections.ending.ServeFault.TheVariants as fault
 use Rattle.xs_server.specs.Answering.{Answered}

@@ -1,5 +1,5 @@
 -- How a connection goes on, and how it ends.
-use Rattle.std.proofs.Common.{◌≡◌, ℕ, ◌+◌, ◌<◌, ◌≤◌, Bool, true, false, ◌||◌, List, [], ◌∷◌, ◌++◌, length, take, drop}
+use Rattle.std.proofs.Common.{◌≡◌, ℕ, ◌+◌, ◌<◌, Bool, true, false, ◌||◌, List, [], ◌∷◌, ◌++◌, length, take, drop}
 use Rattle.std.proofs.Common.{Result, Ok, Err, inl, inr, sym, ap, ◌∙◌, subst, refl, append_assoc, arith, length-append}
 use Rattle.std.proofs.Common.{length-drop}
 use Rattle.std.proofs.lemmas.List.{append-nil, take-append-drop}
@@ -15,8 +15,8 @@ use Rattle.xs_resp.specs.LeftToWrite.{bytes_left}
 use Rattle.xs_resp.specs.Grammar.{FaultIn, IsOpen}
 use Rattle.xs_command.specs.declared.command.Command.{Command}
 use Rattle.xs_server.specs.declared.connections.connection.Connection.{Connection}
-use Rattle.xs_server.specs.declared.connections.ending.Ending.{Ending}
-use Rattle.xs_server.specs.declared.connections.ending.Ending.TheVariants as ending
+use Rattle.xs_session.specs.declared.ending.Ending.{Ending}
+use Rattle.xs_session.specs.declared.ending.Ending.TheVariants as ending
 use Rattle.xs_server.specs.declared.connections.ending.ServeFault.{ServeFault}
 use Rattle.xs_server.specs.declared.connections.ending.ServeFault.TheVariants as serve_fault
 use Rattle.xs_devices.specs.Device.{counter_at}

@@ -5,7 +5,7 @@ use Rattle.xs_command.specs.declared.command.Command.{Command}
 use Rattle.xs_desk.specs.Asking.{Asker, Asks, AskFails}
 use Rattle.xs_desk.specs.KeptRings.{KeepsSide}
 use Rattle.xs_desk.proofs.Sides.{side_again, ask_keeps_side}
-use Rattle.xs_server.specs.declared.connections.ending.Ending.{Ending}
+use Rattle.xs_session.specs.declared.ending.Ending.{Ending}
 use Rattle.xs_server.specs.declared.connections.ending.ServeFault.{ServeFault}
 use Rattle.xs_server.specs.declared.connections.ending.ServeFault.TheVariants as fault
 use Rattle.xs_server.specs.Answering.{Answered}

@@ -11,3 +11,6 @@ pub mod AloneRuns
 pub mod Lanes
 pub mod WorkerEnds
 pub mod ScriptTurns
+pub mod AheadCalls
+pub mod AheadTurns
+pub mod AheadWork

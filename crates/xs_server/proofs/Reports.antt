@@ -4,11 +4,15 @@ use Rattle.std.proofs.Common.{Result, Ok, Err, IfOk}
 use Rattle.std.specs.Io.KnownBytes.{Appends}
 use Rattle.std.proofs.KnownBytes.{Appends-trans}
 use Rattle.xs_desk.specs.declared.opening.DeskError.TheVariants as desk
-use Rattle.xs_desk.specs.declared.summary.Summary.{Summary}
 use Rattle.xs_server.specs.declared.work.fault.WorkFault.{WorkFault}
 use Rattle.xs_server.specs.declared.work.fault.WorkFault.TheVariants as work
+use Rattle.std.proofs.lemmas.List.{length-map}
+use Rattle.std.proofs.lemmas.List.Elements.{All-map}
+use Rattle.std.specs.Prelude.{All, length, map}
+use Rattle.xs_desk.specs.declared.summary.Summary.{Summary}
+use Rattle.xs_server.specs.Gates.{GateTrace, new_gate}
+use Rattle.xs_server.specs.WorkOutcome.{IsClosed, HasServed}
 use Rattle.xs_server.specs.Report.{Says, work_text, IsServeCause, ReportsWork}
-use Rattle.xs_server.specs.WorkOutcome.{IsClosed}
 
 -- where the writer fails, what was to follow isn't said
 pub fails-before : (a b : List ℕ) (old new : Option (List ℕ)) (broken : Bool) → Says a old new broken → broken ≡ true → Says (a ++ b) old new broken
@@ -26,16 +30,25 @@ is-cause (work.Desk desk.Depth) = inr (inr refl)
 is-cause (work.Desk desk.Memory) = inl refl
 is-cause work.Start = inr (inr refl)
 is-cause work.Gate = inr (inr refl)
+is-cause work.Lane = inr (inr refl)
 is-cause work.Close = inr (inr refl)
 is-cause work.Memory = inl refl
 
--- the status is 0 only after a summary
-pub closed-at-zero : {W : Type 0} (n : ℕ) (worked : Result Summary WorkFault) (status : ℕ) (old new : W) (held holds : Option (List ℕ)) (broken : Bool) → IfOk worked (IsClosed n) → ReportsWork worked status old new held holds broken → status ≡ 0 → (summary : Summary) × IsClosed n summary
-closed-at-zero n (Ok summary) status old new held holds broken closed told zero = (summary, closed)
-closed-at-zero n (Err fault) status old new held holds broken closed told zero =
+-- the status is 0 only after an outcome
+pub closed-at-zero : {W A : Type 0} (IsDone : A → Type 0) (worked : Result A WorkFault) (status : ℕ) (old new : W) (held holds : Option (List ℕ)) (broken : Bool) → IfOk worked IsDone → ReportsWork worked status old new held holds broken → status ≡ 0 → (outcome : A) × IsDone outcome
+closed-at-zero IsDone (Ok outcome) status old new held holds broken closed told zero = (outcome, closed)
+closed-at-zero IsDone (Err fault) status old new held holds broken closed told zero =
     let bad : 1 ≡ 0 = sym told.0 ∙ zero in absurd cc
 
 -- it is 0 and nothing is said, or 1 and a cause is said
-pub told-of-work : {W : Type 0} (worked : Result Summary WorkFault) (status : ℕ) (old new : W) (held holds : Option (List ℕ)) (broken : Bool) → ReportsWork worked status old new held holds broken → ((status ≡ 0) × (new ≡ old)) ⊎ ((status ≡ 1) × (cause : List ℕ) × IsServeCause cause × Says cause held holds broken)
-told-of-work (Ok summary) status old new held holds broken told = inl told
+pub told-of-work : {W A : Type 0} (worked : Result A WorkFault) (status : ℕ) (old new : W) (held holds : Option (List ℕ)) (broken : Bool) → ReportsWork worked status old new held holds broken → ((status ≡ 0) × (new ≡ old)) ⊎ ((status ≡ 1) × (cause : List ℕ) × IsServeCause cause × Says cause held holds broken)
+told-of-work (Ok outcome) status old new held holds broken told = inl told
 told-of-work (Err fault) status old new held holds broken told = inr (told.0, work_text fault, is-cause fault, told.1)
+
+-- after an outcome of work over new gates
+pub served-at-zero : {W G A : Type 0} (trace : G → GateTrace) (gates : List G) (n : ℕ) (now : A → List GateTrace) (summary : A → Summary) (worked : Result A WorkFault) (status : ℕ) (old new : W) (held holds : Option (List ℕ)) (broken : Bool)
+    → length gates ≡ n → All (λ gate. trace gate ≡ new_gate) gates → IfOk worked (λ outcome. IsClosed (map trace gates) (now outcome) (summary outcome))
+    → ReportsWork worked status old new held holds broken → status ≡ 0 → HasServed n
+served-at-zero trace gates n now summary worked status old new held holds broken count fresh closed told zero =
+    let done = closed-at-zero (λ outcome. IsClosed (map trace gates) (now outcome) (summary outcome)) worked status old new held holds broken closed told zero in
+    (map trace gates, now done.0, summary done.0, length-map gates trace ∙ count, All-map (λ (gate : GateTrace). gate ≡ new_gate) trace gates fresh, done.1)

@@ -1,7 +1,8 @@
 -- The ends that come back from the workers of a desk.
-use Rattle.std.specs.Prelude.{◌≡◌, ℕ, zero, suc, ◌+◌, ◌<◌, ◌≤◌, List, [], ◌∷◌, ◌++◌, length, map, slice_get, Some, refl}
-use Rattle.std.proofs.Common.{inl, inr, sym, ◌∙◌, ap, subst, arith}
-use Rattle.std.proofs.lemmas.List.{length-map}
+use Rattle.std.specs.Prelude.{◌≡◌, ℕ, zero, suc, ◌+◌, ◌<◌, ◌≤◌, false, List, [], ◌∷◌, ◌++◌, length, map, slice_get, Some, ⊤, Result, Ok, Err, OnOk, is_err, refl}
+use Rattle.std.proofs.Common.{inl, inr, sym, ◌∙◌, ap, subst, arith, append_assoc}
+use Rattle.std.specs.Result.{result_and}
+use Rattle.std.proofs.lemmas.List.{append-nil, length-map, map-append}
 use Rattle.xs_desk.specs.Callers.{Caller, HasEnd}
 use Rattle.xs_desk.specs.History.{LaneOf}
 use Rattle.xs_desk.specs.KeptRings.{KeepsSide, KeepSides}
@@ -10,8 +11,12 @@ use Rattle.xs_desk.specs.Opening.{IsDeskError}
 use Rattle.xs_desk.specs.declared.opening.DeskError.{DeskError}
 use Rattle.xs_desk.specs.declared.opening.DeskError.TheVariants as desk
 use Rattle.xs_server.specs.declared.work.fault.WorkFault.{WorkFault}
+use Rattle.xs_server.specs.declared.work.worker.WorkerFault.{WorkerFault}
 use Rattle.xs_server.specs.declared.work.fault.WorkFault.TheVariants as work
-use Rattle.xs_server.specs.WorkOutcome.{IsWorkFault}
+use Rattle.xs_server.specs.Gates.{GateTrace}
+use Rattle.xs_server.specs.Workers.{Works, WorkEach}
+use Rattle.xs_server.specs.WorkOutcome.{AreServed, IsUnused, IsWorkFault}
+use Rattle.xs_server.proofs.AheadWork.{works-side}
 use Rattle.xs_desk.proofs.Lists.{snoc-cases, still-at, last-at, some-at}
 
 pub sides-none : KeepSides [] []
@@ -36,7 +41,7 @@ new-number k depth (lane ∷ lanes) (first ∷ clients) new zero client at =
     let same : first ≡ client = cc in ap (λ (c : Caller). c.lane) (sym same) ∙ new.0.number ∙ omega arith
 new-number k depth (lane ∷ lanes) (first ∷ clients) new (suc i) client at = new-number (k + 1) depth lanes clients new.1 i client at ∙ omega arith
 
-new-count : (k depth : ℕ) (lanes : List LaneOf) (clients : List Caller) → AreNew k depth lanes clients → length clients ≡ length lanes
+pub new-count : (k depth : ℕ) (lanes : List LaneOf) (clients : List Caller) → AreNew k depth lanes clients → length clients ≡ length lanes
 new-count k depth [] [] new = refl
 new-count k depth (lane ∷ lanes) [] new = absurd new
 new-count k depth [] (first ∷ clients) new = absurd new
@@ -64,5 +69,99 @@ pub fewer_lanes : (depth : ℕ) (n : ℕ) (fault : WorkFault) → n ≤ 64 → I
 fewer_lanes depth n (work.Desk error) few is = fewer-desk depth n error few is
 fewer_lanes depth n work.Start few is = ((is.0.0, few), is.1)
 fewer_lanes depth n work.Gate few is = ((is.0.0, few), is.1)
+fewer_lanes depth n work.Lane few is = ((is.0.0, few), is.1)
 fewer_lanes depth n work.Close few is = is
 fewer_lanes depth n work.Memory few is = ((is.0.0, few), is.1)
+
+-- no worker has ended yet
+pub work-none : WorkEach [] [] [] []
+work-none i end at = absurd (cc)
+
+-- one more has
+pub work-more : (clients ends : List Caller) (before now : List GateTrace) (client end : Caller) (first last : GateTrace) → length clients ≡ length ends → length before ≡ length ends → length now ≡ length ends
+    → WorkEach clients ends before now → Works false client end first last → WorkEach (clients ++ client ∷ []) (ends ++ end ∷ []) (before ++ first ∷ []) (now ++ last ∷ [])
+work-more clients ends before now client end first last cs bs ns each works i e at = elim (snoc-cases ends end i e at) [
+  | inl p ↦
+      let (c, f, l, ac, af, al, w) = each i e p in
+      (c, f, l, still-at clients client i c ac, still-at before first i f af, still-at now last i l al, w)
+  | inr p ↦ (
+    client,
+    first,
+    last,
+    subst (λ (j : ℕ). slice_get (clients ++ client ∷ []) j ≡ Some client) (cs ∙ sym p.0) (last-at clients client),
+    subst (λ (j : ℕ). slice_get (before ++ first ∷ []) j ≡ Some first) (bs ∙ sym p.0) (last-at before first),
+    subst (λ (j : ℕ). slice_get (now ++ last ∷ []) j ≡ Some last) (ns ∙ sym p.0) (last-at now last),
+    subst (λ (x : Caller). Works false client x first last) (sym p.1) works,
+  )
+]
+
+new-unused : (k depth : ℕ) (lanes : List LaneOf) (clients : List Caller) → AreNew k depth lanes clients → (i : ℕ) (client : Caller) → slice_get clients i ≡ Some client → IsUnused client
+new-unused k depth [] [] new i client at = absurd (cc)
+new-unused k depth (lane ∷ lanes) [] new i client at = absurd (cc)
+new-unused k depth [] (first ∷ clients) new i client at = absurd new
+new-unused k depth (lane ∷ lanes) (first ∷ clients) new zero client at =
+    let same : first ≡ client = cc in subst IsUnused same (new.0.submitted, new.0.taken)
+new-unused k depth (lane ∷ lanes) (first ∷ clients) new (suc i) client at = new-unused (k + 1) depth lanes clients new.1 i client at
+
+-- workers over the clients of a new desk, one for each gate
+pub served-gates : (depth : ℕ) (lanes : List LaneOf) (clients ends : List Caller) (before now : List GateTrace) → AreNew 0 depth lanes clients → length lanes ≡ length before → length ends ≡ length clients
+    → length now ≡ length clients → WorkEach clients ends before now → AreServed ends before now
+served-gates depth lanes clients ends before now new count es ns each = record {
+  each = λ i end at.
+      let (client, first, last, ac, af, al, works) = each i end at in
+      let side = works-side false client end first last works in
+      (client, first, last, side.0 ∙ new-number 0 depth lanes clients new i client ac ∙ omega arith, new-unused 0 depth lanes clients new i client ac, af, al, works);
+  ends_count = es ∙ new-count 0 depth lanes clients new ∙ count;
+  gates_count = ns ∙ new-count 0 depth lanes clients new ∙ count;
+}
+
+map-of-map : {A B C : Type 0} (f : B → C) (h : A → B) (xs : List A) → map f (map h xs) ≡ map (λ x. f (h x)) xs
+map-of-map f h [] = refl
+map-of-map f h (x ∷ xs) = ap (λ ys. f (h x) ∷ ys) (map-of-map f h xs)
+
+work-and : (one other : Result ⊤ WorkerFault) (clients ends : List Caller) (before now : List GateTrace) (client end : Caller) (first last : GateTrace) → length clients ≡ length ends → length before ≡ length ends
+    → length now ≡ length ends → OnOk one (WorkEach clients ends before now) → Works (is_err other) client end first last
+    → OnOk (result_and one other) (WorkEach (clients ++ client ∷ []) (ends ++ end ∷ []) (before ++ first ∷ []) (now ++ last ∷ []))
+work-and (Ok done) (Ok also) clients ends before now client end first last cs bs ns each works = work-more clients ends before now client end first last cs bs ns each works
+work-and (Ok done) (Err fault) clients ends before now client end first last cs bs ns each works = tt
+work-and (Err fault) other clients ends before now client end first last cs bs ns each works = tt
+
+-- one more was joined, whose end and gate are put behind the others
+pub joined-more : {G : Type 0} (trace : G → GateTrace) (one other result : Result ⊤ WorkerFault) (clients ends later : List Caller) (before : List GateTrace) (gates after : List G) (client end : Caller) (first : GateTrace) (gate : G)
+    → length clients ≡ length ends → length before ≡ length ends → length gates ≡ length ends → later ≡ ends ++ end ∷ [] → after ≡ gates ++ gate ∷ [] → result ≡ result_and one other
+    → OnOk one (WorkEach clients ends before (map trace gates)) → Works (is_err other) client end first (trace gate)
+    → OnOk result (WorkEach (clients ++ client ∷ []) later (before ++ first ∷ []) (map trace after))
+joined-more trace one other result clients ends later before gates after client end first gate cs bs gs grown kept joined each works =
+    let now : map trace after ≡ map trace gates ++ trace gate ∷ [] = ap (map trace) kept ∙ map-append trace gates (gate ∷ []) in
+    let more = work-and one other clients ends before (map trace gates) client end first (trace gate) cs bs (length-map gates trace ∙ gs) each works in
+    let firsts = clients ++ client ∷ [] in
+    let befores = before ++ first ∷ [] in
+    subst (λ (r : Result ⊤ WorkerFault). OnOk r (WorkEach firsts later befores (map trace after))) (sym joined)
+    (subst (λ (es : List Caller). OnOk (result_and one other) (WorkEach firsts es befores (map trace after))) (sym grown)
+    (subst (λ (ns : List GateTrace). OnOk (result_and one other) (WorkEach firsts (ends ++ end ∷ []) befores ns)) (sym now) more))
+
+-- so it is where there is a worker for each client of a new desk and each gate
+pub served-pool : {W G : Type 0} (client_of : W → Caller) (gate_of : W → G) (trace : G → GateTrace) (outcome : Result ⊤ WorkerFault) (depth : ℕ) (lanes : List LaneOf) (clients ends : List Caller) (gates later : List G)
+    (workers : List W) → AreNew 0 depth lanes clients → length lanes ≡ length gates → map client_of workers ≡ clients → map gate_of workers ≡ gates → length ends ≡ length workers → length later ≡ length workers
+    → OnOk outcome (WorkEach (map client_of workers) ends (map (λ w. trace (gate_of w)) workers) (map trace later)) → OnOk outcome (AreServed ends (map trace gates) (map trace later))
+served-pool client_of gate_of trace (Err fault) depth lanes clients ends gates later workers new count cs gs es ls each = tt
+served-pool client_of gate_of trace (Ok done) depth lanes clients ends gates later workers new count cs gs es ls each =
+    let n : length workers ≡ length clients = sym (length-map workers client_of) ∙ ap length cs in
+    let traces : map (λ w. trace (gate_of w)) workers ≡ map trace gates = sym (map-of-map trace gate_of workers) ∙ ap (map trace) gs in
+    let over = subst (λ (bs : List GateTrace). WorkEach (map client_of workers) ends bs (map trace later)) traces each in
+    served-gates depth lanes clients ends (map trace gates) (map trace later) new (count ∙ sym (length-map gates trace)) (es ∙ n) (length-map later trace ∙ (ls ∙ n))
+    (subst (λ (firsts : List Caller). WorkEach firsts ends (map trace gates) (map trace later)) cs over)
+
+-- the same gates have the same traces
+pub same-traces : {A B G : Type 0} (trace : G → GateTrace) (f : A → G) (h : B → G) (xs : List A) (ys : List B) → map f xs ≡ map h ys → map (λ x. trace (f x)) xs ≡ map (λ y. trace (h y)) ys
+same-traces trace f h xs ys same = sym (map-of-map trace f xs) ∙ ap (map trace) same ∙ map-of-map trace h ys
+
+-- what was told of the first of a list, and what the others tell
+pub none-told : {H X : Type 0} (f : H → X) (rest all : List H) → rest ≡ all → [] ++ map f rest ≡ map f all
+none-told f rest all is = ap (map f) is
+
+pub one-told : {H X : Type 0} (f : H → X) (told : List X) (one : H) (rest later all : List H) → told ++ map f rest ≡ map f all → rest ≡ one ∷ later → (told ++ f one ∷ []) ++ map f later ≡ map f all
+one-told f told one rest later all are is = append_assoc told (f one ∷ []) (map f later) ∙ (ap (λ hs. told ++ map f hs) (sym is) ∙ are)
+
+pub all-told : {H X : Type 0} (f : H → X) (told : List X) (rest all : List H) → told ++ map f rest ≡ map f all → rest ≡ [] → told ≡ map f all
+all-told f told rest all are none = sym (append-nil told) ∙ (ap (λ hs. told ++ map f hs) (sym none) ∙ are)

@@ -5,7 +5,7 @@ use Rattle.xs_resp.specs.ReplyText.{text}
 use Rattle.xs_resp.specs.LeftToWrite.{bytes_left}
 use Rattle.xs_command.specs.declared.command.Command.{Command}
 use Rattle.xs_server.specs.declared.connections.connection.Connection.{Connection}
-use Rattle.xs_server.specs.declared.connections.ending.Ending.{Ending}
+use Rattle.xs_session.specs.declared.ending.Ending.{Ending}
 use Rattle.xs_server.specs.declared.connections.ending.ServeFault.{ServeFault}
 use Rattle.xs_server.specs.declared.connections.ending.ServeFault.TheVariants as fault
 use Rattle.xs_server.specs.Exchange.{Exchange, AreAnswered, is_quit}

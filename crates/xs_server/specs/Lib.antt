@@ -11,3 +11,6 @@ pub mod Connection
 pub mod Alone
 pub mod WorkOutcome
 pub mod WallTime
+pub mod Ahead
+pub mod Gates
+pub mod Workers

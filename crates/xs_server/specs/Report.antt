@@ -6,7 +6,6 @@ use Rattle.xs_server.specs.declared.script.fault.ScriptFault.TheVariants.{Line, 
 use Rattle.xs_server.specs.declared.work.fault.WorkFault.{WorkFault}
 use Rattle.xs_server.specs.declared.work.fault.WorkFault.TheVariants as work
 use Rattle.xs_desk.specs.declared.opening.DeskError.TheVariants as desk
-use Rattle.xs_desk.specs.declared.summary.Summary.{Summary}
 
 -- the status of the program where a script ends before its end: 2 for a line that is no script line, and 1 for a
 -- failed device or a want of memory
@@ -42,7 +41,7 @@ work_text _ = serving_text
 abbrev pub ready_text : ℕ → List ℕ
 ready_text port = codes "listening 127.0.0.1:" ++ decimal port ++ codes "\n"
 
--- the line of a server that has ended before its work did, or whose work gave no summary
+-- the line of a server that has ended before its work did, or whose work gave no outcome
 abbrev pub IsServeCause : List ℕ → Type 0
 IsServeCause line = (line ≡ memory_text) ⊎ (line ≡ listening_text) ⊎ (line ≡ serving_text)
 
@@ -67,8 +66,8 @@ abbrev pub Says : List ℕ → Option (List ℕ) → Option (List ℕ) → Bool 
 Says text old new broken =
     (part rest : List ℕ) × (text ≡ part ++ rest) × Appends old new part × ((rest ≡ []) ⊎ (broken ≡ true))
 
--- the status of the program after work, and what it says: nothing after a summary, else the line of the fault
+-- the status of the program after work, and what it says: nothing after an outcome, else the line of the fault
 abbrev pub ReportsWork :
-    {W : Type 0} → Result Summary WorkFault → ℕ → W → W → Option (List ℕ) → Option (List ℕ) → Bool → Type 0
-ReportsWork (Ok summary) status old new held holds broken = (status ≡ 0) × (new ≡ old)
+    {W A : Type 0} → Result A WorkFault → ℕ → W → W → Option (List ℕ) → Option (List ℕ) → Bool → Type 0
+ReportsWork (Ok outcome) status old new held holds broken = (status ≡ 0) × (new ≡ old)
 ReportsWork (Err fault) status old new held holds broken = (status ≡ 1) × Says (work_text fault) held holds broken

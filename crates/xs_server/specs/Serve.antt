@@ -9,8 +9,8 @@ use Rattle.xs_resp.specs.ReplyText.{text}
 use Rattle.xs_resp.specs.Grammar.{Spells, FaultIn, IsOpen}
 use Rattle.xs_command.specs.declared.command.Command.{Command}
 use Rattle.xs_command.specs.Read.{command_of_words}
-use Rattle.xs_server.specs.declared.connections.ending.Ending.{Ending}
-use Rattle.xs_server.specs.declared.connections.ending.Ending.TheVariants as ending
+use Rattle.xs_session.specs.declared.ending.Ending.{Ending}
+use Rattle.xs_session.specs.declared.ending.Ending.TheVariants as ending
 use Rattle.xs_server.specs.declared.connections.ending.ServeFault.{ServeFault}
 use Rattle.xs_server.specs.declared.connections.ending.ServeFault.TheVariants as fault
 use Rattle.xs_devices.specs.Device.{counter_at}

@@ -1,5 +1,5 @@
 -- The time of a server, between the clocks of its system.
-use Rattle.std.specs.Prelude.{◌≡◌, ◌+◌, ◌-◌, ◌/◌, ◌≤◌, ◌⊎◌, ℕ, max, min}
+use Rattle.std.specs.Prelude.{◌≡◌, ◌+◌, ◌-◌, ◌/◌, ◌⊎◌, ℕ, max, min}
 
 -- a time, and what the monotonic clock showed then, both in nanoseconds
 pub record Reading : Type 0 where

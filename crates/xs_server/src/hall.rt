@@ -25,6 +25,8 @@ struct Waiting {
     leaving: VecDeque<TcpStream>,
     // How many workers wait for a connection.
     idle_workers: usize,
+    // At most so many workers haven't come for their first connection yet.
+    starting_workers: usize,
     // No further connection comes.
     is_closed: bool,
 }
@@ -52,12 +54,15 @@ pub enum Overdue {
 }
 
 impl Hall {
-    /// A hall in which so many connections may wait, at least one.
-    pub fn new(alloc: Global, room: usize) -> Result<Hall, AllocError> {
+    /// A hall for so many workers, in which so many connections may wait beside those that workers are about to take,
+    /// at least one.
+    pub fn new(alloc: Global, room: usize, workers: usize) -> Result<Hall, AllocError> {
+        let most = room.max(1).saturating_add(workers);
         let waiting = Waiting {
-            arrivals: VecDeque::with_capacity(alloc, room.max(1))?,
+            arrivals: VecDeque::with_capacity(alloc, most)?,
             leaving: VecDeque::new(alloc),
             idle_workers: 0,
+            starting_workers: workers,
             is_closed: false,
         };
         Ok(Hall {
@@ -72,10 +77,14 @@ impl Hall {
     /// leave.
     pub fn enter<R: Wait>(&self, rt: &R, stream: TcpStream, since: Instant) {
         let mut waiting = self.waiting.lock(rt);
-        if waiting.arrivals.len() >= self.room {
+        let takers = waiting
+            .idle_workers
+            .saturating_add(waiting.starting_workers);
+        if waiting.arrivals.len() >= self.room.saturating_add(takers) {
             if let Some(arrival) = waiting.arrivals.pop_front() {
                 // Without memory it is closed at once.
                 let _ = waiting.leaving.push_back(arrival.stream);
+                self.crowded.notify_one();
             }
         }
         // There is room, so this takes no memory.
@@ -94,6 +103,7 @@ impl Hall {
     /// The connection that has waited longest; it waits for one. None if no further one comes.
     pub fn next<R: Wait>(&self, rt: &R) -> Option<TcpStream> {
         let mut waiting = self.waiting.lock(rt);
+        waiting.starting_workers = waiting.starting_workers.saturating_sub(1);
         waiting.idle_workers = waiting.idle_workers.saturating_add(1);
         let mut waiting = self.arrived.wait_while(rt, waiting, |waiting| {
             waiting.arrivals.is_empty() && !waiting.is_closed

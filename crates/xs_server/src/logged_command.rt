@@ -10,17 +10,24 @@ use crate::report::{report_memory, report_text, report_work};
 use crate::run_command::{Ready, make_ready};
 use crate::serve_command::DEPTH;
 use crate::wall_clock::WallClock;
+use crate::work::gate::Gate;
 use crate::work::logged::{LoggedEnd, work_logged};
+use crate::work::mode::Mode;
 use std::alloc::{Alloc, AllocError, Global};
 use std::fs::Files;
+use std::marker::Model;
 use std::net::{Net, TcpListener, TcpStream};
 use std::sync::Wait;
 use std::thread::Threads;
 use std::time::Clock;
 use xs_devices::{Sink, write_all};
-use xs_files::{FileTape, FolderFault, OpenedFolder, open_folder};
+use xs_files::{FileTape, FolderFault, OpenedFolder, SyncPolicy, open_folder};
+use xs_keys::Keyspace;
 use xs_log::TapeLog;
 use xs_replay::EventLog;
+
+/// How many calls share a write to the log, if it isn't synced for them: the workers of the first ones go on meanwhile.
+const ROUND: u64 = 32;
 
 /// Says why a folder isn't opened. It gives the status of the program.
 fn report_folder<E: Sink>(alloc: Global, folder: &str, fault: FolderFault, errors: &mut E) -> u8
@@ -104,6 +111,15 @@ pub fn open_logs<
     }
 }
 
+/// After how many calls answers that wait for the log are handed out. If each time is a sync, all calls that there are
+/// share it.
+fn most_held_back(policy: SyncPolicy) -> u64 {
+    match policy {
+        SyncPolicy::Always => u64::MAX,
+        SyncPolicy::EachSecond | SyncPolicy::Never => ROUND,
+    }
+}
+
 /// Starts the thread that syncs a log, if its policy asks for one.
 fn sync_beside<R: Threads + Wait + Clock + Copy + Send + Drop + 'static>(
     rt: &R,
@@ -114,6 +130,49 @@ fn sync_beside<R: Threads + Wait + Clock + Copy + Send + Drop + 'static>(
         Some(syncer) => start_syncing(rt, files, syncer),
         None => Ok(()),
     }
+}
+
+/// A keyspace, and the log that its content came from and is noted in. Contracts see the content.
+#[derive(Drop)]
+struct Store {
+    keyspace: Keyspace,
+    log: TapeLog<FileTape<HostRuntime>>,
+}
+
+impl Model for Store {
+    ghost use Rattle.std.specs.Prelude.{◌≡◌, false};
+    ghost use Rattle.xs_keys.specs.Content.{Content};
+    ghost use Rattle.xs_desk.specs.LogJournals.{ContinuesLog};
+
+    ghost Value = { Content };
+
+    ghost view = { λ s. s.keyspace };
+
+    ghost invariant = { λ s. ContinuesLog (⟦<TapeLog<FileTape<HostRuntime>> as EventLog>⟧.has) s.log s.keyspace
+        × (⟦<TapeLog<FileTape<HostRuntime>> as EventLog>⟧.broken s.log ≡ false) };
+}
+
+/// Work over gates at a desk over a store.
+fn work_over<
+    G: Gate + Send + Drop + 'static,
+    C: xs_keys::Clock + Send + Drop + 'static,
+    M: Mode<G> + Send + Drop + 'static,
+    R: Threads + Wait + Copy + Send + 'static,
+>(rt: &R, alloc: Global, gates: Vec<G>, clock: C, mode: M, store: Store) -> LoggedEnd {
+    let Store { keyspace, log } = store;
+    work_logged(rt, alloc, gates, DEPTH, clock, mode, keyspace, log)
+}
+
+/// Serves the connections of the gates, over a store, and says why it has ended.
+fn serve_store<R: Threads + Wait + Clock + Copy + Send + Drop + 'static>(
+    rt: &R,
+    alloc: Global,
+    ready: Ready<R>,
+    clock: WallClock<R>,
+    store: Store,
+) -> LoggedEnd {
+    let Ready { gates, patience } = ready;
+    work_over(rt, alloc, gates, clock, patience, store)
 }
 
 /// Listens, and serves the connections that come, over what a folder of logs has given, up to a signal or a failure of
@@ -150,6 +209,8 @@ pub fn run_logged<
         Ok(ready) => ready,
         Err(status) => return status,
     };
+    let patience = patience.with_most_held_back(most_held_back(log.policy));
+    let ready = Ready { gates, patience };
     let OpenedFolder {
         keyspace,
         last,
@@ -157,7 +218,11 @@ pub fn run_logged<
         dropped: _,
         log: tape_log,
     } = opened;
+    let store = Store {
+        keyspace,
+        log: tape_log,
+    };
     let clock = WallClock::not_before(*rt, last);
-    let end = work_logged(rt, alloc, gates, DEPTH, clock, patience, keyspace, tape_log);
+    let end = serve_store(rt, alloc, ready, clock, store);
     report_end(alloc, log, records, &end, errors)
 }

@@ -3,10 +3,10 @@
 //! While its call waits a worker sends the replies that it owes, and looks once a second whether its client is still
 //! there, and if not it lets the keeper answer as if the time of the wait were over. Before the keeper gives something
 //! to a call that has waited it looks too, so that a job goes to one that is there.
-use crate::connections::memory::ConnectionMemory;
 use crate::halves::Peer;
 use crate::run_gate::RunGate;
 use crate::work::mode::{KeeperMode, Mode};
+use crate::work::session_memory::SessionMemory;
 use std::alloc::{AllocError, Global};
 use std::sync::Wait;
 use std::time::{Clock, Duration};
@@ -59,6 +59,7 @@ pub struct Patience<S: Drop> {
     system: S,
     // The client of each lane.
     peers: Vec<Peer>,
+    most_held_back: u64,
 }
 
 impl<S: Wait + Clock + Copy + Drop> Patience<S> {
@@ -68,7 +69,18 @@ impl<S: Wait + Clock + Copy + Drop> Patience<S> {
         for gate in gates {
             peers.push(gate.peer()?)?;
         }
-        Ok(Patience { system, peers })
+        Ok(Patience {
+            system,
+            peers,
+            most_held_back: u64::MAX,
+        })
+    }
+
+    /// The same, but answers that wait for a log are handed out after so many calls.
+    pub fn with_most_held_back(self, calls: u64) -> Patience<S> {
+        let mut patience = self;
+        patience.most_held_back = calls;
+        patience
     }
 
     /// Whether the client of this lane has left.
@@ -90,11 +102,11 @@ impl<S: Wait + Clock + Copy + Send + Drop + 'static> Mode<RunGate<S>> for Patien
         })
     }
 
-    fn memory(&self, alloc: Global) -> Result<ConnectionMemory, AllocError> {
+    fn memory(&self, alloc: Global) -> Result<SessionMemory, AllocError> {
         if self.peers.len() <= MADE_AT_START {
-            return ConnectionMemory::made(alloc);
+            return SessionMemory::made(alloc);
         }
-        Ok(ConnectionMemory::lazy(alloc))
+        Ok(SessionMemory::lazy(alloc))
     }
 }
 
@@ -114,6 +126,10 @@ impl<S: Wait + Clock + Copy + Drop> KeeperMode for Patience<S> {
             }
             keeper.postpone(&self.system, lane);
         }
+    }
+
+    fn most_held_back(&self) -> u64 {
+        self.most_held_back
     }
 
     fn idle<J: Journal + Drop, R: Wait>(&self, _rt: &R, keeper: &Keeper<J>) {

@@ -7,12 +7,13 @@ ghost use Rattle.xs_server.specs.Report.{Says, ready_text, ReportsWork};
 
 use crate::script::fault::ScriptFault;
 use crate::work::fault::WorkFault;
+use crate::work::working::WorkOutcome;
 use itoa::Buffer;
-use xs_desk::{DeskError, Summary};
+use xs_desk::DeskError;
 use xs_devices::{Sink, write_all};
 
 /// Writes a text, up to a fault of the writer, and says whether it is whole.
-fn say<W: Sink>(errors: &mut W, text: &[u8]) -> bool
+pub fn say<W: Sink>(errors: &mut W, text: &[u8]) -> bool
     ensures said { Says text.now (W.held errors.old) (W.held errors.new) (W.broken errors.new) }
     ensures whole { result ≡ true → Appends (W.held errors.old) (W.held errors.new) text.now }
     ensures part { result ≡ false → W.broken errors.new ≡ true }
@@ -87,7 +88,10 @@ pub fn report_work<W: Sink>(errors: &mut W, fault: &WorkFault) -> u8
 }
 
 /// Gives the status of the program after work: 0 for a summary; else 1, and the line of its fault is written.
-pub fn report_worked<W: Sink>(errors: &mut W, worked: &Result<Summary, WorkFault>) -> u8
+pub fn report_worked<W: Sink, G: Drop>(
+    errors: &mut W,
+    worked: &Result<WorkOutcome<G>, WorkFault>,
+) -> u8
     ensures { ReportsWork worked.now result errors.old errors.new (W.held errors.old) (W.held errors.new)
         (W.broken errors.new) }
 {

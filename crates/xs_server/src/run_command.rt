@@ -1,7 +1,7 @@
 //! The program's command `run`: a server that stays.
-ghost use Rattle.std.specs.Prelude.{◌≡◌, length, IfOk, IfErr};
-ghost use Rattle.xs_desk.specs.declared.summary.Summary.{Summary};
-ghost use Rattle.xs_server.specs.WorkOutcome.{IsClosed};
+ghost use Rattle.std.specs.Prelude.{◌≡◌, length, All, IfOk, IfErr};
+ghost use Rattle.xs_server.specs.Gates.{new_gate};
+ghost use Rattle.xs_server.specs.WorkOutcome.{HasServed};
 
 use crate::announcement::Announcement;
 use crate::command_line::RunOptions;
@@ -14,6 +14,7 @@ use crate::run_gate::RunGate;
 use crate::serve_command::DEPTH;
 use crate::version::VERSION;
 use crate::wall_clock::WallClock;
+use crate::work::gate::Gate;
 use crate::work::working::work_with;
 use std::alloc::{Alloc, AllocError, Global};
 use std::fs::Files;
@@ -62,7 +63,8 @@ fn gates_of<S: Copy + Drop>(
     announcement: &Announcement,
     options: &RunOptions,
 ) -> Result<Vec<RunGate<S>>, AllocError>
-    ensures { IfOk result (λ gates. length gates.items ≡ options.now.workers) }
+    ensures count { IfOk result (λ gates. length gates.items ≡ options.now.workers) }
+    ensures new { IfOk result (λ gates. All (λ gate. ⟦<RunGate<S> as Gate>⟧.trace gate ≡ new_gate) gates.items) }
 {
     let idle = if options.idle == 0 {
         None
@@ -128,6 +130,7 @@ pub fn make_ready<
         + 'static,
 >(rt: &R, alloc: Global, options: &RunOptions, out: W, errors: &mut E) -> Result<Ready<R>, u8>
     ensures gates { IfOk result (λ ready. length ready.gates.items ≡ options.now.workers) }
+    ensures new { IfOk result (λ ready. All (λ gate. ⟦<RunGate<R> as Gate>⟧.trace gate ≡ new_gate) ready.gates.items) }
     ensures status { IfErr result (λ status. status ≡ 1) }
 {
     let files = open_files(rt);
@@ -142,7 +145,7 @@ pub fn make_ready<
     let Ok(line) = ready_line(alloc, address, options.workers, files) else {
         return Err(report_memory(errors));
     };
-    let Ok(hall) = hall_of(alloc, room) else {
+    let Ok(hall) = hall_of(alloc, room, options.workers) else {
         return Err(report_memory(errors));
     };
     let Ok(announcement) = Announcement::new(rt, alloc, out, line) else {
@@ -176,7 +179,7 @@ pub fn run_server<
         + Drop
         + 'static,
 >(rt: &R, alloc: Global, options: &RunOptions, out: W, errors: &mut E) -> u8
-    ensures served { result ≡ 0 → (summary : Summary) × IsClosed options.now.workers summary }
+    ensures served { result ≡ 0 → HasServed options.now.workers }
 {
     let Ready { gates, patience } = match make_ready(rt, alloc, options, out, errors) {
         Ok(ready) => ready,
@@ -186,9 +189,10 @@ pub fn run_server<
     report_worked(errors, &worked)
 }
 
-fn hall_of(alloc: Global, room: u64) -> Result<Arc<Hall>, AllocError> {
+fn hall_of(alloc: Global, room: u64, workers: u64) -> Result<Arc<Hall>, AllocError> {
     let room = usize::try_from(room).unwrap_or(1);
-    Ok(Arc::new(alloc, Hall::new(alloc, room)?)?)
+    let workers = usize::try_from(workers).unwrap_or(0);
+    Ok(Arc::new(alloc, Hall::new(alloc, room, workers)?)?)
 }
 
 /// Says that more files have to be open than may be. It gives the status of the program.

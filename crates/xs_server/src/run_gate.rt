@@ -1,8 +1,12 @@
 //! A gate of a server that stays: it takes connections from the hall, without end.
+ghost use Rattle.std.specs.Prelude.{◌≡◌, IfOk};
+ghost use Rattle.xs_server.specs.Gates.{new_gate};
+
 use crate::announcement::Announcement;
 use crate::hall::Hall;
 use crate::halves::{HalvesMemory, Incoming, Outgoing, Peer};
 use crate::work::gate::{Gate, GateFault};
+use crate::work::register::Register;
 use std::alloc::{AllocError, Global};
 use std::io::Write;
 use std::net::TcpStream;
@@ -23,6 +27,7 @@ pub struct RunGate<S: Drop> {
     announcement: Announcement,
     // How long a connection may send nothing.
     idle: Option<Duration>,
+    register: Register<FromRead<Incoming>, ToWrite<Outgoing>>,
 }
 
 impl<S: Copy + Drop> RunGate<S> {
@@ -33,13 +38,16 @@ impl<S: Copy + Drop> RunGate<S> {
         hall: Arc<Hall>,
         announcement: Announcement,
         idle: Option<Duration>,
-    ) -> Result<Self, AllocError> {
+    ) -> Result<Self, AllocError>
+        ensures { IfOk result (λ gate. ⟦<RunGate<S> as Gate>⟧.trace gate ≡ new_gate) }
+    {
         Ok(Self {
             system,
             memory: HalvesMemory::lazy(alloc)?,
             hall,
             announcement,
             idle,
+            register: Register::new(),
         })
     }
 
@@ -72,6 +80,17 @@ impl<S: Copy + Drop> RunGate<S> {
         }
         self.memory.halves_of(stream)
     }
+
+    /// Waits for the next connection of the hall, and gives its halves. None once the hall is closed.
+    fn take_next<R: Wait>(&self, rt: &R) -> Option<(FromRead<Incoming>, ToWrite<Outgoing>)> {
+        for _ in rt.forever() {
+            let stream = self.hall.next(rt)?;
+            if let Some(halves) = self.halves_of(stream) {
+                return Some(halves);
+            }
+        }
+        unreachable!()
+    }
 }
 
 impl<S: Copy + Drop> Gate for RunGate<S> {
@@ -79,19 +98,26 @@ impl<S: Copy + Drop> Gate for RunGate<S> {
 
     type Writer = ToWrite<Outgoing>;
 
+    ghost trace = { λ g. g.register };
+
     fn open_next<R: Wait>(
         &mut self,
         rt: &R,
     ) -> Result<Option<(FromRead<Incoming>, ToWrite<Outgoing>)>, GateFault> {
         self.announcement.make();
-        for _ in rt.forever() {
-            let Some(stream) = self.hall.next(rt) else {
-                return Err(GateFault::Refused);
-            };
-            if let Some(halves) = self.halves_of(stream) {
-                return Ok(Some(halves));
+        match self.take_next(rt) {
+            Some(connection) => {
+                self.register.give(&connection);
+                Ok(Some(connection))
+            }
+            None => {
+                self.register.end();
+                Err(GateFault::Refused)
             }
         }
-        unreachable!()
+    }
+
+    fn close(&mut self, reader: FromRead<Incoming>, writer: ToWrite<Outgoing>) {
+        self.register.take_back(&(reader, writer));
     }
 }

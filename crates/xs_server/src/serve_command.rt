@@ -1,14 +1,15 @@
 //! The program's command `serve`.
-ghost use Rattle.std.specs.Prelude.{◌≡◌, ◌⊎◌, ℕ, List, length, IfOk};
-ghost use Rattle.xs_desk.specs.declared.summary.Summary.{Summary};
+ghost use Rattle.std.specs.Prelude.{◌≡◌, ◌⊎◌, ℕ, List, length, All, IfOk};
 ghost use Rattle.xs_server.specs.Report.{Says, IsServeCause};
-ghost use Rattle.xs_server.specs.WorkOutcome.{IsClosed};
+ghost use Rattle.xs_server.specs.Gates.{new_gate};
+ghost use Rattle.xs_server.specs.WorkOutcome.{HasServed};
 
 use crate::announcement::Announcement;
 use crate::command_line::ServeOptions;
 use crate::report::{report_listening, report_memory, report_ready, report_worked};
 use crate::tcp::TcpGate;
 use crate::wall_clock::WallClock;
+use crate::work::gate::Gate;
 use crate::work::working::work;
 use std::alloc::{AllocError, Global};
 use std::io::ErrorKind;
@@ -19,7 +20,7 @@ use std::time::Clock;
 use xs_devices::{Sink, ToWrite};
 
 /// How many places the rings of a lane have.
-pub const DEPTH: usize = 16;
+pub const DEPTH: usize = 32;
 
 /// A gate for each worker, with its memory. They share the listener and the announcement of its port.
 fn gates_of<S: Clock + Copy + Drop>(
@@ -29,7 +30,8 @@ fn gates_of<S: Clock + Copy + Drop>(
     options: ServeOptions,
     announcement: &Announcement,
 ) -> Result<Vec<TcpGate<S>>, AllocError>
-    ensures { IfOk result (λ gates. length gates.items ≡ options.workers) }
+    ensures count { IfOk result (λ gates. length gates.items ≡ options.workers) }
+    ensures new { IfOk result (λ gates. All (λ gate. ⟦<TcpGate<S> as Gate>⟧.trace gate ≡ new_gate) gates.items) }
 {
     let listener = Arc::new(alloc, listener)?;
     let mut gates = Vec::new(alloc);
@@ -63,7 +65,7 @@ pub fn serve_and_report<
         + Drop
         + 'static,
 >(rt: &R, alloc: Global, options: ServeOptions, out: W, errors: &mut E) -> u8
-    ensures served { result ≡ 0 → (summary : Summary) × IsClosed options.workers summary }
+    ensures served { result ≡ 0 → HasServed options.workers }
     ensures told { ((result ≡ 0) × (errors.new ≡ errors.old))
         ⊎ ((result ≡ 1) × (cause : List ℕ) × IsServeCause cause
         × Says cause (E.held errors.old) (E.held errors.new) (E.broken errors.new)) }

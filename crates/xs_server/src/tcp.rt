@@ -1,7 +1,11 @@
 //! Connections over TCP.
+ghost use Rattle.std.specs.Prelude.{◌≡◌, IfOk};
+ghost use Rattle.xs_server.specs.Gates.{new_gate};
+
 use crate::announcement::Announcement;
 use crate::halves::{HalvesMemory, Incoming, Outgoing};
 use crate::work::gate::{Gate, GateFault};
+use crate::work::register::Register;
 use std::alloc::{AllocError, Global};
 use std::io::{Error, ErrorKind};
 use std::net::{TcpListener, TcpStream};
@@ -29,6 +33,7 @@ pub struct TcpGate<S: Clock + Drop> {
     listener: Arc<TcpListener>,
     announcement: Announcement,
     left: u64,
+    register: Register<FromRead<Incoming>, ToWrite<Outgoing>>,
 }
 
 impl<S: Clock + Drop> TcpGate<S> {
@@ -40,13 +45,16 @@ impl<S: Clock + Drop> TcpGate<S> {
         listener: Arc<TcpListener>,
         announcement: Announcement,
         count: u64,
-    ) -> Result<Self, AllocError> {
+    ) -> Result<Self, AllocError>
+        ensures { IfOk result (λ gate. ⟦<TcpGate<S> as Gate>⟧.trace gate ≡ new_gate) }
+    {
         Ok(Self {
             memory: HalvesMemory::new(alloc)?,
             system,
             listener,
             announcement,
             left: count,
+            register: Register::new(),
         })
     }
 }
@@ -88,25 +96,54 @@ fn accept<S: Clock>(system: &S, listener: &TcpListener) -> Result<TcpStream, Gat
     Err(GateFault::Refused)
 }
 
+/// Waits for the next of so many connections that are left, and gives its halves. None after the last.
+fn take_next<S: Clock>(
+    system: &S,
+    listener: &TcpListener,
+    memory: &HalvesMemory,
+    left: &mut u64,
+) -> Result<Option<(FromRead<Incoming>, ToWrite<Outgoing>)>, GateFault> {
+    for _ in 0..*left {
+        *left = left.saturating_sub(1);
+        let stream = accept(system, listener)?;
+        // Without it replies may be late. So a fault here is no reason to refuse the connection.
+        let _ = stream.set_nodelay(true);
+        if let Some(halves) = memory.halves_of(stream) {
+            return Ok(Some(halves));
+        }
+    }
+    Ok(None)
+}
+
 impl<S: Clock + Drop> Gate for TcpGate<S> {
     type Reader = FromRead<Incoming>;
 
     type Writer = ToWrite<Outgoing>;
+
+    ghost trace = { λ g. g.register };
 
     fn open_next<R: Wait>(
         &mut self,
         _rt: &R,
     ) -> Result<Option<(FromRead<Incoming>, ToWrite<Outgoing>)>, GateFault> {
         self.announcement.make();
-        for _ in 0..self.left {
-            self.left = self.left.saturating_sub(1);
-            let stream = accept(&self.system, &self.listener)?;
-            // Without it replies may be late. So a fault here is no reason to refuse the connection.
-            let _ = stream.set_nodelay(true);
-            if let Some(halves) = self.memory.halves_of(stream) {
-                return Ok(Some(halves));
+        match take_next(&self.system, &self.listener, &self.memory, &mut self.left) {
+            Ok(Some(connection)) => {
+                self.register.give(&connection);
+                Ok(Some(connection))
+            }
+            Ok(None) => {
+                self.register.end();
+                Ok(None)
+            }
+            Err(fault) => {
+                self.register.end();
+                Err(fault)
             }
         }
-        Ok(None)
+    }
+
+    fn close(&mut self, reader: FromRead<Incoming>, writer: ToWrite<Outgoing>) {
+        self.register.take_back(&(reader, writer));
     }
 }

@@ -5,6 +5,8 @@ pub mod keeper_thread;
 pub mod lifecycle;
 pub mod logged;
 pub mod mode;
+pub mod register;
+pub mod session_memory;
 pub mod started;
 pub mod worker;
 pub mod worker_pool;

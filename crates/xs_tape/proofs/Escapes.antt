@@ -1,5 +1,5 @@
 -- Escaped words.
-use Rattle.std.proofs.Common.{◌≡◌, ◌≢◌, ◌⊎◌, inl, inr, ℕ, zero, suc, ◌+◌, ◌≤◌, List, [], ◌∷◌, ◌++◌, map, refl, sym, ap, ◌∙◌, arith, eqb}
+use Rattle.std.proofs.Common.{◌≡◌, ◌≢◌, ◌⊎◌, inl, inr, ℕ, zero, suc, ◌+◌, ◌≤◌, List, [], ◌∷◌, ◌++◌, length, map, refl, sym, ap, ◌∙◌, arith, eqb, append_assoc, length-append}
 use Rattle.std.proofs.lemmas.Bool.{cases_eq, eq-eqb, ne_eqb, cond-true, cond-false}
 use Rattle.xs_tape.specs.Escape.{escape, escaped}
 
@@ -16,6 +16,11 @@ pub escape_pair : (byte : ℕ) → byte ≤ 1 → escape byte ≡ 1 ∷ (byte + 
 escape_pair zero le = refl
 escape_pair (suc zero) le = refl
 escape_pair (suc (suc byte)) le = absurd (omega arith)
+
+-- one behind the other
+pub escaped-append : (xs ys : List ℕ) → escaped (xs ++ ys) ≡ escaped xs ++ escaped ys
+escaped-append [] ys = refl
+escaped-append (x ∷ xs) ys = ap (λ b. escape x ++ b) (escaped-append xs ys) ∙ sym (append_assoc (escape x) (escaped xs) (escaped ys))
 
 -- a byte is written in one of three ways
 pub record Ways (byte : ℕ) : Type 0 where
@@ -84,3 +89,27 @@ escaped-all (a ∷ words) (b ∷ others) e =
     let head : escaped a ≡ escaped b = cc in
     let tail : map escaped words ≡ map escaped others = cc in
     ap (λ x. x ∷ words) (escaped-one a b head) ∙ ap (λ ws. b ∷ ws) (escaped-all words others tail)
+
+-- a word that takes no more bytes than it has stands for itself
+escaped-long : (word : List ℕ) → length word ≤ length (escaped word)
+escaped-long [] = omega arith
+escaped-long (byte ∷ word) =
+    let longer = escaped-long word in
+    let both = length-append (escape byte) (escaped word) in
+    elim (ways byte).way [
+      | inl a ↦ omega (arith, longer, both, ap length a.1)
+      | inr b ↦ elim b [ inl a ↦ omega (arith, longer, both, ap length a.1) | inr a ↦ omega (arith, longer, both, ap length a.2) ]
+    ]
+
+pub short-plain : (word : List ℕ) → length (escaped word) ≤ length word → escaped word ≡ word
+short-plain [] le = refl
+short-plain (byte ∷ word) le =
+    let longer = escaped-long word in
+    let both = length-append (escape byte) (escaped word) in
+    elim (ways byte).way [
+      | inl a ↦ absurd (omega (arith, le, longer, both, ap length a.1))
+      | inr b ↦ elim b [
+        | inl a ↦ absurd (omega (arith, le, longer, both, ap length a.1))
+        | inr a ↦ ap (λ first. first ++ escaped word) a.2 ∙ ap (λ rest. byte ∷ rest) (short-plain word (omega (arith, le, both, ap length a.2)))
+      ]
+    ]

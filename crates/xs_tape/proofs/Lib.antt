@@ -7,3 +7,8 @@ pub mod Walks
 pub mod Sizes
 pub mod Puts
 pub mod Runs
+pub mod Naturals
+pub mod Heads
+pub mod Counts
+pub mod Pushes
+pub mod Searches

@@ -3,9 +3,9 @@ use Rattle.std.proofs.Common.{◌≡◌, ℕ, ◌+◌, ◌-◌, ◌<◌, ◌≤�
 use Rattle.std.proofs.lemmas.List.{take_more, take_all, take-take, take-append-drop, drop-append-le, drop-take, drop_all, length-take-le}
 use Rattle.xs_tape.specs.Escape.{escape, escaped}
 use Rattle.xs_tape.specs.Writing.{Writing, Puts}
-use Rattle.xs_tape.proofs.Escapes.{escape-other}
+use Rattle.xs_tape.proofs.Escapes.{escape-other, escaped-append}
 use Rattle.xs_tape.proofs.Puts.{puts_join, puts_broken}
-use Rattle.xs_tape.proofs.Walks.{escaped-append, escaped_more}
+use Rattle.xs_tape.proofs.Walks.{escaped_more}
 
 -- what stands between two places, where a byte more is passed
 between-more : (word : List ℕ) (done at : ℕ) → done ≤ at → at < length word → drop done (take (at + 1) word) ≡ drop done (take at word) ++ get_or word at 0 ∷ []
@@ -101,3 +101,15 @@ pub passed_plain : (old here self : Writing) (word : List ℕ) (done at next : �
 passed_plain old here self word done at next so_far lt above self_is next_is =
     let there : IsPassed old here word done (at + 1) = (so_far.0, so_far.1, omega (arith, so_far.2), plain_more word done at so_far.2 lt above so_far.3) in
     subst (λ s. IsPassed old s word next (at + 1)) (sym self_is) (subst (λ n. IsPassed old here word n (at + 1)) (sym next_is) there)
+
+-- the first bytes, with one more above 1
+pub plain_next : (word : List ℕ) (at : ℕ) → at < length word → 1 < get_or word at 0 → escaped (take at word) ≡ take at word → escaped (take (at + 1) word) ≡ take (at + 1) word
+plain_next word at lt above plain = plain_more word 0 at (omega arith) lt above plain
+
+-- a text all of whose bytes stand for themselves
+pub plain_all : (text : List ℕ) (n : ℕ) → length text ≤ n → escaped (take n text) ≡ take n text → escaped text ≡ text
+plain_all text n all plain = ap escaped (sym (take_all n text all)) ∙ plain ∙ take_all n text all
+
+-- what stands behind the first bytes, which stand for themselves
+pub plain_front : (text : List ℕ) (n : ℕ) → escaped (take n text) ≡ take n text → text ≡ escaped (take n text) ++ drop n text
+plain_front text n plain = sym (take-append-drop n text) ∙ ap (λ t. t ++ drop n text) (sym plain)

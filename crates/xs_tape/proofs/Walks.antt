@@ -12,12 +12,8 @@ use Rattle.std.specs.Prelude.{Bool, Option, None, Some}
 use Rattle.std.specs.Io.KnownBytes.{Consumes, IsAtEnd}
 use Rattle.xs_tape.specs.BeforeZero.{rest_before}
 use Rattle.xs_tape.specs.Crash.{HasNoZero, before_zero}
-use Rattle.xs_tape.proofs.Escapes.{ways, escape-first}
+use Rattle.xs_tape.proofs.Escapes.{ways, escape-first, escaped-append}
 use Rattle.xs_tape.proofs.Zeros.{zero-append}
-
-pub escaped-append : (xs ys : List ℕ) → escaped (xs ++ ys) ≡ escaped xs ++ escaped ys
-escaped-append [] ys = refl
-escaped-append (x ∷ xs) ys = ap (λ b. escape x ++ b) (escaped-append xs ys) ∙ sym (append_assoc (escape x) (escaped xs) (escaped ys))
 
 pub escaped_more : (word : List ℕ) (i : ℕ) → i < length word → escaped (take (i + 1) word) ≡ escaped (take i word) ++ escape (get_or word i 0)
 escaped_more word i lt =

@@ -1,5 +1,5 @@
 -- What has no zero byte.
-use Rattle.std.proofs.Common.{◌≡◌, inl, inr, ℕ, ◌+◌, ◌%◌, ◌^◌, ◌<◌, List, [], ◌∷◌, ◌++◌, length, map, decimal, sym, subst, arith}
+use Rattle.std.proofs.Common.{◌≡◌, inl, inr, ℕ, ◌+◌, ◌%◌, ◌^◌, ◌<◌, List, [], ◌∷◌, ◌++◌, length, map, decimal, sym, ap, ◌∙◌, subst, arith}
 use Rattle.std.proofs.lemmas.Fmt.{decimal_by_steps}
 use Rattle.xs_resp.specs.Line.{crlf, line}
 use Rattle.xs_resp.specs.Grammar.{sent_word, sent_words, AreSizes}
@@ -8,7 +8,8 @@ use Rattle.xs_tape.specs.Crash.{HasNoZero}
 use Rattle.std.specs.List.{AllByRecursion}
 use Rattle.xs_resp.specs.Grammar.{spelling}
 use Rattle.xs_tape.specs.Records.{with_checksum, record_words, spellings, CanBeSpelled, CanBeLogged}
-use Rattle.xs_tape.proofs.Escapes.{ways}
+use Rattle.xs_tape.proofs.Escapes.{ways, escape-other, escaped-append}
+use Rattle.xs_tape.proofs.Sizes.{size-small}
 
 pub zero-append : (xs ys : List ℕ) → HasNoZero xs → HasNoZero ys → HasNoZero (xs ++ ys)
 zero-append [] ys h k = k
@@ -60,7 +61,18 @@ escaped-none-zero [] = tt
 escaped-none-zero (word ∷ words) = (escaped-no-zero word, escaped-none-zero words)
 
 pub record-logged : (first : List ℕ) (rest : List (List ℕ)) → CanBeSpelled (record_words first rest) → CanBeLogged (record_words first rest)
-record-logged first rest can = record { spelled = can; no_zero = escaped-none-zero (with_checksum first rest) }
+record-logged first rest can =
+    let words = map escaped (with_checksum first rest) in
+    record { spelled = can; no_zero = (decimal-no-zero (length (sent_words words)) (omega (arith, size-small words can)), escaped-none-zero (with_checksum first rest)) }
+
+-- a number is not escaped
+pub decimal_plain : (n : ℕ) → n < 2 ^ 64 → escaped (decimal n) ≡ decimal n
+decimal_plain n small =
+    decimal_by_steps (λ n ds. escaped ds ≡ ds) (λ n le. ap (λ b. b ++ []) (digit n))
+    (λ n ds le h. escaped-append ds ((48 + n % 10) ∷ []) ∙ ap (λ b. b ++ (escape (48 + n % 10) ++ [])) h ∙ ap (λ b. ds ++ (b ++ [])) (digit (n % 10))) n small
+  where
+    digit : (n : ℕ) → escape (48 + n) ≡ (48 + n) ∷ []
+    digit n = escape-other (48 + n) (λ e. absurd (omega (arith, e))) (λ e. absurd (omega (arith, e)))
 
 -- what is not escaped has no zero
 pub plain_no_zero : (bytes : List ℕ) → escaped bytes ≡ bytes → HasNoZero bytes

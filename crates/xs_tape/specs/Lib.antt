@@ -4,6 +4,7 @@ pub mod BeforeZero
 pub mod Checksum
 pub mod ExamplesChecksum
 pub mod Records
+pub mod Heads
 pub mod Tape
 pub mod Writing
 pub mod MemoryTape

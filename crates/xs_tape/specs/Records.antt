@@ -1,12 +1,12 @@
--- The records of a log: requests as RESP spells them (RESP protocol specification, version 2). The second word is the
--- checksum of the others, and each word is escaped.
+-- The records of a log: requests as RESP spells them (RESP protocol specification, version 2). The first word is the
+-- size of those behind it. Of these the second is the checksum of the others, and each is escaped.
 use Rattle.std.specs.Prelude.{◌≡◌, ℕ, ◌≤◌, List, ◌∷◌, ◌++◌, length, take, map, decimal, Ok, None}
 use Rattle.std.specs.List.{flat_map, concat, AllByRecursion}
 use mathlib.Core.List.{IsPrefix}
 use Rattle.xs_resp.specs.declared.header.Part.TheVariants.{Count}
 use Rattle.xs_resp.specs.HeaderPart.{limit}
 use Rattle.xs_resp.specs.Reading.{request}
-use Rattle.xs_resp.specs.Grammar.{spelling, AreSizes}
+use Rattle.xs_resp.specs.Grammar.{sent_words, spelling, AreSizes}
 use Rattle.xs_tape.specs.Checksum.{crc32c}
 use Rattle.xs_tape.specs.Crash.{HasNoZero}
 use Rattle.xs_tape.specs.Escape.{escaped}
@@ -15,9 +15,13 @@ use Rattle.xs_tape.specs.Escape.{escaped}
 abbrev pub with_checksum : List ℕ → List (List ℕ) → List (List ℕ)
 with_checksum first rest = first ∷ decimal (crc32c (concat (first ∷ rest))) ∷ rest
 
+-- words with their size in front: how many bytes they take as they are sent
+abbrev pub with_size : List (List ℕ) → List (List ℕ)
+with_size words = decimal (length (sent_words words)) ∷ words
+
 -- the words of a record as they stand in a log
 abbrev pub record_words : List ℕ → List (List ℕ) → List (List ℕ)
-record_words first rest = map escaped (with_checksum first rest)
+record_words first rest = with_size (map escaped (with_checksum first rest))
 
 -- a record as it stands in a log
 abbrev pub record_text : List ℕ → List (List ℕ) → List ℕ

@@ -4,6 +4,7 @@ ghost use Rattle.std.specs.Option.{option_map};
 ghost use Rattle.xs_tape.specs.Crash.{HasNoZero, before_zero};
 ghost use Rattle.xs_tape.specs.BeforeZero.{rest_before};
 
+use memchr::memchr;
 use xs_devices::{Failed, Source};
 
 /// Gives the bytes of a reader up to the first zero.
@@ -17,17 +18,11 @@ pub struct BeforeZero<R: Source + Drop> {
 }
 
 /// Where the first zero stands.
-#[tactic(auto, using(crate::proofs::Walks::no_zero_more, crate::proofs::Walks::before_zero_at))]
 fn zero_at(bytes: &[u8]) -> Option<usize>
     ensures { MatchOption result (HasNoZero bytes.now)
         (λ at. (at < length bytes.now) × HasNoZero (take at bytes.now) × (before_zero bytes.now ≡ take at bytes.now)) }
 {
-    for at in 0..bytes.len() {
-        if bytes[at] == 0 {
-            return Some(at);
-        }
-    }
-    None
+    memchr(0, bytes)
 }
 
 impl<R: Source + Drop> BeforeZero<R> {

@@ -1,7 +1,8 @@
 //! Words as they stand in a log.
-ghost use Rattle.std.specs.Prelude.{◌≡◌, ◌≢◌, ◌++◌, ◌+◌, ◌*◌, ◌<◌, ◌≤◌, ℕ, List, length, IfOk, MatchOption};
+ghost use Rattle.std.specs.Prelude.{◌≡◌, ◌≢◌, ◌++◌, ◌+◌, ◌*◌, ◌<◌, ◌≤◌, ℕ, List, length, take, IfOk, MatchOption};
 ghost use Rattle.xs_tape.specs.Escape.{escape, escaped};
 
+use memchr::memchr2;
 use std::alloc::{AllocError, Global};
 use xs_bytes::Bytes;
 
@@ -14,8 +15,16 @@ fn escape_len(byte: u8) -> usize
     if byte <= 1 { 2 } else { 1 }
 }
 
-/// How many bytes a word takes in a log.
-pub(crate) fn escaped_len(word: &[u8]) -> usize
+/// How many bytes stand before the first that is 0 or 1.
+pub(crate) fn plain_len(text: &[u8]) -> usize
+    ensures within { result ≤ length text.now }
+    ensures plain { escaped (take result text.now) ≡ take result text.now }
+{
+    memchr2(0, 1, text).unwrap_or(text.len())
+}
+
+/// How many bytes a word takes in a log, each of its bytes counted.
+fn counted_len(word: &[u8]) -> usize
     ensures { result ≡ length (escaped word.now) }
 {
     let mut size: usize = 0;
@@ -23,6 +32,17 @@ pub(crate) fn escaped_len(word: &[u8]) -> usize
         size += escape_len(*byte);
     }
     size
+}
+
+/// How many bytes a word takes in a log.
+pub(crate) fn escaped_len(word: &[u8]) -> usize
+    ensures { result ≡ length (escaped word.now) }
+{
+    let plain = plain_len(word);
+    if plain == word.len() {
+        return plain;
+    }
+    counted_len(word)
 }
 
 /// The byte that stands at the front of a word of a log, and what stands behind it; None where none does.
@@ -46,8 +66,23 @@ pub fn unescaped(alloc: Global, text: &[u8]) -> Result<Option<Bytes>, AllocError
     ensures { IfOk result (λ r. MatchOption r
         ((word : List ℕ) → text.now ≢ escaped word) (λ word. text.now ≡ escaped word)) }
 {
+    let plain = plain_len(text);
+    if plain == text.len() {
+        return Ok(Some(Bytes::from_slice(alloc, text)?));
+    }
+    unescaped_behind(alloc, text, plain)
+}
+
+/// The same of a text whose first bytes, so many, stand for themselves.
+fn unescaped_behind(alloc: Global, text: &[u8], plain: usize) -> Result<Option<Bytes>, AllocError>
+    requires within { plain ≤ length text.now }
+    requires plain { escaped (take plain text.now) ≡ take plain text.now }
+    ensures { IfOk result (λ r. MatchOption r
+        ((word : List ℕ) → text.now ≢ escaped word) (λ word. text.now ≡ escaped word)) }
+{
     let mut word = Vec::with_capacity(alloc, text.len())?;
-    let mut rest = text;
+    let (front, mut rest) = text.split_at(plain);
+    word.extend_from_slice(front)?;
     while !rest.is_empty() {
         let Some((byte, behind)) = first_byte(rest) else {
             return Ok(None);

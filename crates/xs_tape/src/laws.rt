@@ -3,6 +3,7 @@ ghost use Rattle.std.specs.Prelude.{◌≡◌, ◌≤◌, ℕ, List, ◌++◌, l
 ghost use Rattle.std.specs.List.{AllByRecursion};
 ghost use Rattle.xs_tape.specs.Escape.{escaped};
 ghost use Rattle.xs_tape.specs.Crash.{HasNoZero, before_zero, CrashLeaves};
+ghost use Rattle.xs_tape.specs.Heads.{HasHead, MayBeCut};
 ghost use Rattle.xs_tape.specs.Records.{CanBeSpelled, CanBeLogged, record_words, spellings, AreRequests, AreTheFirst};
 
 /// Words are told apart by how they are escaped, and what is escaped has no zero byte.
@@ -21,6 +22,12 @@ pub fn records_can_be_logged()
 pub fn logs_have_no_zero()
     ensures { (requests : List (List (List ℕ))) → AllByRecursion CanBeLogged requests →
         HasNoZero (spellings requests) }
+{}
+
+/// Where the head of a record stands, and as many bytes behind it as it says, nothing was cut, whatever these are.
+pub fn whole_records_are_not_cut()
+    ensures { (part : List ℕ) (size : ℕ) (behind : List ℕ) → HasHead part size behind → size ≤ length behind →
+        32 ≤ length part → MayBeCut part → ⊥ }
 {}
 
 /// What stands before the first zero of what a crash leaves was written, and has all that was kept.

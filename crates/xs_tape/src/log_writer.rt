@@ -1,5 +1,6 @@
 //! Bytes on their way to a tape. Once a writer is made it takes no memory.
-ghost use Rattle.std.specs.Prelude.{◌≡◌, ◌+◌, ◌≤◌, ◌++◌, [], ℕ, List, false, length, IfOk, IfSome, OnOk, is_err};
+ghost use Rattle.std.specs.Prelude.{◌≡◌, ◌≢◌, ◌+◌, ◌<◌, ◌≤◌, ◌++◌, ◌∷◌, [], ℕ, List, false, length};
+ghost use Rattle.std.specs.Prelude.{IfOk, IfSome, OnOk, is_err};
 ghost use Rattle.xs_tape.specs.Crash.{HasNoZero};
 ghost use Rattle.xs_tape.specs.Tape.{AllKept};
 ghost use Rattle.xs_tape.specs.Writing.{Has, Puts, Keeps, Closes};
@@ -75,7 +76,8 @@ impl<T: Tape + Drop> LogWriter<T> {
     }
 
     /// Makes room for so many bytes behind what is pending.
-    fn make_room(&mut self, size: usize) -> Result<(), TapeFailed>
+    #[inline(always)]
+    pub(crate) fn make_room(&mut self, size: usize) -> Result<(), TapeFailed>
         requires sound { self.old.broken ≡ false }
         requires small { size ≤ 65536 }
         ensures puts { Puts self.old self.new [] }
@@ -89,14 +91,28 @@ impl<T: Tape + Drop> LogWriter<T> {
     }
 
     /// Gathers bytes for which there is room.
-    fn gather(&mut self, bytes: &[u8])
+    pub(crate) fn gather(&mut self, bytes: &[u8])
         requires room { length self.old.pending + length bytes.now ≤ 65536 }
         requires bytes { HasNoZero bytes.now }
         requires sound { self.old.broken ≡ false }
         ensures puts { Puts self.old self.new bytes.now }
+        ensures more { length self.new.pending ≡ length self.old.pending + length bytes.now }
         ensures sound { self.new.broken ≡ false }
     {
         let _ = self.pending.extend_from_slice(bytes);
+    }
+
+    /// Gathers a byte for which there is room.
+    #[inline(always)]
+    pub(crate) fn gather_byte(&mut self, byte: u8)
+        requires room { length self.old.pending < 65536 }
+        requires byte { byte ≢ 0 }
+        requires sound { self.old.broken ≡ false }
+        ensures puts { Puts self.old self.new (byte ∷ []) }
+        ensures more { length self.new.pending ≡ length self.old.pending + 1 }
+        ensures sound { self.new.broken ≡ false }
+    {
+        self.pending.push_reserved(byte);
     }
 
     /// Writes what is pending, and then these bytes.

@@ -1,19 +1,21 @@
 //! Records as they are put behind a log.
-ghost use Rattle.std.specs.Prelude.{◌≡◌, ◌≢◌, ◌≤◌, ◌++◌, ◌∷◌, false, length, decimal, map, is_err};
-ghost use Rattle.std.specs.List.{concat};
-ghost use Rattle.xs_resp.specs.Line.{line};
+ghost use Rattle.std.specs.Prelude.{◌≡◌, ◌≢◌, ◌+◌, ◌≤◌, ◌++◌, false, decimal, length, map, is_err};
+ghost use Rattle.xs_resp.specs.Line.{crlf, line};
 ghost use Rattle.xs_resp.specs.Grammar.{sent_word, sent_words};
-ghost use Rattle.xs_tape.specs.Checksum.{crc32c};
 ghost use Rattle.xs_tape.specs.Escape.{escape, escaped};
-ghost use Rattle.xs_tape.specs.Records.{record_text};
+ghost use Rattle.xs_tape.specs.Records.{CanBeSpelled, record_words, record_text};
 ghost use Rattle.xs_tape.specs.Writing.{Puts};
 
 use crate::checksum::checksum_of;
 use crate::escape::escaped_len;
 use crate::log_writer::LogWriter;
+use crate::size::record_size;
 use crate::tape::{Tape, TapeFailed};
 use itoa::Buffer;
 use xs_bytes::Bytes;
+
+/// No line with a number has more bytes.
+const LINE: usize = 32;
 
 impl<T: Tape + Drop> LogWriter<T> {
     /// Puts bytes none of which is escaped, and one that is.
@@ -29,8 +31,8 @@ impl<T: Tape + Drop> LogWriter<T> {
         self.put(&[1, byte + 1])
     }
 
-    /// Puts a word as it stands in a log.
-    fn put_escaped(&mut self, word: &[u8]) -> Result<(), TapeFailed>
+    /// Puts a word as it stands in a log, byte by byte.
+    fn put_bytes(&mut self, word: &[u8]) -> Result<(), TapeFailed>
         requires sound { self.old.broken ≡ false }
         ensures puts { Puts self.old self.new (escaped word.now) }
         ensures fault { self.new.broken ≡ is_err result }
@@ -46,6 +48,33 @@ impl<T: Tape + Drop> LogWriter<T> {
         self.put(&word[done..])
     }
 
+    /// Gathers the end of a line, for which there is room.
+    #[inline(always)]
+    fn gather_end(&mut self)
+        requires room { length self.old.pending + 2 ≤ 65536 }
+        requires sound { self.old.broken ≡ false }
+        ensures puts { Puts self.old self.new crlf }
+        ensures sound { self.new.broken ≡ false }
+    {
+        self.gather_byte(b'\r');
+        self.gather_byte(b'\n');
+    }
+
+    /// Gathers a line with a number, for which there is room.
+    #[inline(always)]
+    fn gather_line(&mut self, marker: u8, number: usize)
+        requires room { length self.old.pending + 32 ≤ 65536 }
+        requires sound { self.old.broken ≡ false }
+        requires marker { marker ≢ 0 }
+        ensures puts { Puts self.old self.new (line marker number) }
+        ensures sound { self.new.broken ≡ false }
+    {
+        let mut buffer = Buffer::new();
+        self.gather_byte(marker);
+        self.gather(buffer.format(number as u64).as_bytes());
+        self.gather_end();
+    }
+
     /// Puts a line with a number.
     fn put_line(&mut self, marker: u8, number: usize) -> Result<(), TapeFailed>
         requires sound { self.old.broken ≡ false }
@@ -53,10 +82,33 @@ impl<T: Tape + Drop> LogWriter<T> {
         ensures puts { Puts self.old self.new (line marker number) }
         ensures fault { self.new.broken ≡ is_err result }
     {
-        let mut buffer = Buffer::new();
-        self.put(&[marker])?;
-        self.put(buffer.format(number as u64).as_bytes())?;
-        self.put(b"\r\n")
+        self.make_room(LINE)?;
+        self.gather_line(marker, number);
+        Ok(())
+    }
+
+    /// Puts the end of a line.
+    fn put_end(&mut self) -> Result<(), TapeFailed>
+        requires sound { self.old.broken ≡ false }
+        ensures puts { Puts self.old self.new crlf }
+        ensures fault { self.new.broken ≡ is_err result }
+    {
+        self.make_room(2)?;
+        self.gather_end();
+        Ok(())
+    }
+
+    /// Puts a word as it stands in a log, where it takes so many bytes.
+    fn put_escaped(&mut self, word: &[u8], size: usize) -> Result<(), TapeFailed>
+        requires sound { self.old.broken ≡ false }
+        requires size { size ≡ length (escaped word.now) }
+        ensures puts { Puts self.old self.new (escaped word.now) }
+        ensures fault { self.new.broken ≡ is_err result }
+    {
+        if size == word.len() {
+            return self.put(word);
+        }
+        self.put_bytes(word)
     }
 
     /// Puts a word as a request has it.
@@ -65,9 +117,10 @@ impl<T: Tape + Drop> LogWriter<T> {
         ensures puts { Puts self.old self.new (sent_word (escaped word.now)) }
         ensures fault { self.new.broken ≡ is_err result }
     {
-        self.put_line(b'$', escaped_len(word))?;
-        self.put_escaped(word)?;
-        self.put(b"\r\n")
+        let size = escaped_len(word);
+        self.put_line(b'$', size)?;
+        self.put_escaped(word, size)?;
+        self.put_end()
     }
 
     /// Puts words, one after the other.
@@ -82,26 +135,30 @@ impl<T: Tape + Drop> LogWriter<T> {
         Ok(())
     }
 
-    /// Puts the checksum of words.
-    fn put_checksum(&mut self, first: &[u8], rest: &[Bytes]) -> Result<(), TapeFailed>
+    /// Puts the head of a record: how many words it has, and the size of those behind the first.
+    fn put_head(&mut self, count: usize, size: usize) -> Result<(), TapeFailed>
         requires sound { self.old.broken ≡ false }
-        ensures puts { Puts self.old self.new
-            (sent_word (escaped (decimal (crc32c (concat (first.now ∷ rest.now)))))) }
+        ensures puts { Puts self.old self.new (line 42 count ++ sent_word (decimal size)) }
         ensures fault { self.new.broken ≡ is_err result }
     {
         let mut buffer = Buffer::new();
-        self.put_word(buffer.format(checksum_of(first, rest) as u64).as_bytes())
+        self.put_line(b'*', count)?;
+        self.put_word(buffer.format(size as u64).as_bytes())
     }
 
-    /// Puts a record behind the others: a first word, its checksum, and the words behind the first.
+    /// Puts a record behind the others: its size, a first word, its checksum, and the words behind the first.
     pub fn push(&mut self, first: &[u8], rest: &[Bytes]) -> Result<(), TapeFailed>
         requires sound { self.old.broken ≡ false }
+        requires spelled { CanBeSpelled (record_words first.now rest.now) }
         ensures puts { Puts self.old self.new (record_text first.now rest.now) }
         ensures fault { self.new.broken ≡ is_err result }
     {
-        self.put_line(b'*', rest.len() + 2)?;
+        let mut buffer = Buffer::new();
+        let sum = buffer.format(checksum_of(first, rest) as u64).as_bytes();
+        let size = record_size(first, sum, rest);
+        self.put_head(rest.len() + 3, size)?;
         self.put_word(first)?;
-        self.put_checksum(first, rest)?;
+        self.put_word(sum)?;
         self.put_words(rest)
     }
 }

@@ -9,7 +9,7 @@ ghost use Rattle.xs_tape.specs.Records.{CanBeSpelled, record_words};
 use crate::escape::escaped_len;
 use xs_bytes::Bytes;
 
-/// The most words of a record, its checksum among them.
+/// The most words of a record, its size and its checksum among them.
 const MOST_WORDS: usize = 1_048_576;
 
 /// The most bytes that a word takes in a log.
@@ -28,10 +28,10 @@ fn are_short(words: &[Bytes]) -> bool
 }
 
 /// Whether a log may have a record with these words behind its first, if that is short. It may if they are fewer than
-/// 1048575, and each takes no more than 512 MiB in a log, where the bytes 0 and 1 take two.
+/// 1048574, and each takes no more than 512 MiB in a log, where the bytes 0 and 1 take two.
 pub fn can_be_record(rest: &[Bytes]) -> bool
     ensures { result ≡ true → (first : List ℕ) → length (escaped first) ≤ limit Size →
         CanBeSpelled (record_words first rest.now) }
 {
-    rest.len() < MOST_WORDS - 1 && are_short(rest)
+    rest.len() < MOST_WORDS - 2 && are_short(rest)
 }

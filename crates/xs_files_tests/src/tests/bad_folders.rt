@@ -75,6 +75,37 @@ fn a_log_is_of_another_program(rt: HostRuntime) -> Result<(), Fail> {
 }
 
 #[test]
+fn a_log_is_of_another_format(rt: HostRuntime) -> Result<(), Fail> {
+    let first = b"*5\r\n$6\r\nxs-log\r\n$10\r\n1665449851\r\n$1\r\n1\r\n$1\r\n1\r\n$1\r\n1\r\n";
+    is_refused(&rt, &rt, first, LogFault::OtherFormat)?;
+    is_refused(&rt, &rt, b"*5\r\n$6\r\nxs-log\r\n", LogFault::Foreign)?;
+    remove_folder(&rt, "others");
+    Ok(())
+}
+
+/// The length of the last word says more bytes than it has, so that the record reads as an unfinished one.
+#[test]
+fn a_length_that_has_changed_is_damage(rt: HostRuntime) -> Result<(), Fail> {
+    empty_folder(&rt, "lengths")?;
+    note(&rt, "lengths", "XADD s * f v")?;
+    let whole = fs::read(&rt, "lengths/log-1")?.len() as u64;
+    note(&rt, "lengths", "DEL k")?;
+    let mut bytes = fs::read(&rt, "lengths/log-1")?;
+    let cut = bytes.len().saturating_sub(6);
+    bytes.truncate(cut);
+    bytes.extend_from_slice(b"9\r\nk\r\n")?;
+    fs::write(&rt, "lengths/log-1", bytes.as_slice())?;
+    assert_eq!(rt;
+        fault_of(&rt, "lengths"),
+        log_fault(1, LogFault::Damaged(whole))
+    );
+    let left = fs::read(&rt, "lengths/log-1")?;
+    assert!(rt; left.as_slice() == bytes.as_slice());
+    remove_folder(&rt, "lengths");
+    Ok(())
+}
+
+#[test]
 fn a_closed_log_has_no_zeros(rt: HostRuntime) -> Result<(), Fail> {
     empty_folder(&rt, "zeros")?;
     note(&rt, "zeros", "XADD s * f v")?;

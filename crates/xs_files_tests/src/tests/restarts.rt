@@ -31,7 +31,7 @@ fn a_torn_end_is_cut(rt: HostRuntime) -> Result<(), Fail> {
 #[test]
 fn a_header_that_a_crash_tore_is_written_again(rt: HostRuntime) -> Result<(), Fail> {
     empty_folder(&rt, "torn_header")?;
-    fs::write(&rt, "torn_header/log-1", b"*5\r\n$6\r\nxs\0\0\0\0")?;
+    fs::write(&rt, "torn_header/log-1", b"*6\r\n$2\r\n50\0\0\0\0")?;
     assert_eq!(rt; note(&rt, "torn_header", "XADD s * f v")?, (0, 10));
     assert_eq!(rt; note(&rt, "torn_header", "XADD s * f w")?, (1, 0));
     remove_folder(&rt, "torn_header");

@@ -50,6 +50,12 @@ pub fn record_numbered(number: usize) -> Option<Record> {
         9 => Some(Record::new(1009, 4145179784, "XACK s g 1004-0")),
         10 => Some(Record::new(1010, 3274068799, "XDEL s 1006-0")),
         11 => Some(Record::new(1010, 1258505685, "XGROUP DELCONSUMER s g a")),
+        12 => Some(Record::new(1011, 327788681, "DEL k")),
+        13 => Some(Record::new(
+            1012,
+            95327314,
+            "XADD long * a 1 b 2 c 3 d 4 e 5 f 6 g 7 h 8 i 9",
+        )),
         _ => None,
     }
 }
@@ -97,17 +103,22 @@ fn words_in(words: &str) -> u64 {
 impl LogText {
     /// The log with number 1, and all records.
     pub fn new(alloc: Global) -> Result<LogText, AllocError> {
-        LogText::with_header(alloc, 1_665_449_851, "1 1 1", 0, usize::MAX)
+        LogText::with_header(alloc, 2_305_457_928, "2 1 1", 0, usize::MAX)
     }
 
     /// The log with number 1, and so many records.
     pub fn first(alloc: Global, count: usize) -> Result<LogText, AllocError> {
-        LogText::with_header(alloc, 1_665_449_851, "1 1 1", 0, count)
+        LogText::part(alloc, 0, count)
+    }
+
+    /// The log with number 1, and the records from one on and below another.
+    pub fn part(alloc: Global, from: usize, end: usize) -> Result<LogText, AllocError> {
+        LogText::with_header(alloc, 2_305_457_928, "2 1 1", from, end)
     }
 
     /// The log with number 2, and the records from this one on.
     pub fn second(alloc: Global, from: usize) -> Result<LogText, AllocError> {
-        LogText::with_header(alloc, 1_470_306_274, "1 2 1", from, usize::MAX)
+        LogText::with_header(alloc, 3_180_189_585, "2 2 1", from, usize::MAX)
     }
 
     /// A header with this checksum and these words, and the records from one on and below another.
@@ -122,11 +133,11 @@ impl LogText {
             bytes: Vec::new(alloc),
             ends: Vec::new(alloc),
         };
-        push_line(&mut log.bytes, b"*", 5)?;
-        push_word(&mut log.bytes, b"xs-log")?;
-        push_number(&mut log.bytes, alloc, checksum)?;
-        push_words(&mut log.bytes, words)?;
-        log.ends.push(log.bytes.len())?;
+        let mut sent = Vec::new(alloc);
+        push_word(&mut sent, b"xs-log")?;
+        push_number(&mut sent, alloc, checksum)?;
+        push_words(&mut sent, words)?;
+        log.push_sized(alloc, 5, sent.as_slice())?;
         for number in from..end {
             let Some(record) = record_numbered(number) else {
                 break;
@@ -137,11 +148,19 @@ impl LogText {
     }
 
     fn push_record(&mut self, alloc: Global, record: Record) -> Result<(), AllocError> {
+        let mut sent = Vec::new(alloc);
+        push_number(&mut sent, alloc, record.moment)?;
+        push_number(&mut sent, alloc, record.checksum)?;
+        push_words(&mut sent, record.logged)?;
         let count = words_in(record.logged).saturating_add(2);
-        push_line(&mut self.bytes, b"*", count)?;
-        push_number(&mut self.bytes, alloc, record.moment)?;
-        push_number(&mut self.bytes, alloc, record.checksum)?;
-        push_words(&mut self.bytes, record.logged)?;
+        self.push_sized(alloc, count, sent.as_slice())
+    }
+
+    /// Appends so many words, which are spelled here, behind their size.
+    fn push_sized(&mut self, alloc: Global, count: u64, sent: &[u8]) -> Result<(), AllocError> {
+        push_line(&mut self.bytes, b"*", count.saturating_add(1))?;
+        push_number(&mut self.bytes, alloc, sent.len() as u64)?;
+        self.bytes.extend_from_slice(sent)?;
         self.ends.push(self.bytes.len())?;
         Ok(())
     }

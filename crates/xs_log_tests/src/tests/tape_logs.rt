@@ -15,7 +15,7 @@ use xs_stream::Moment;
 use xs_tape::{MemoryTape, can_be_record};
 
 /// How many records there are.
-const RECORDS: usize = 12;
+const RECORDS: usize = 14;
 
 /// More calls than are made.
 const ALL: u64 = 1_000;
@@ -130,7 +130,7 @@ fn survives<R: Abort>(
 /// Over a tape that fails at each of its calls, what was kept survives, in logs of so many bytes.
 fn survives_each_failure<R: Abort>(rt: &R, alloc: Global, full: u64) -> Result<(), Fail> {
     let answers = all_answers(alloc, &LogText::new(alloc)?)?;
-    for calls in 2..45 {
+    for calls in 2..50 {
         if let Ok(mut log) = TapeLog::new(alloc, MemoryTape::new(alloc, calls), 1, full) {
             let kept = keep_records(alloc, &mut log)?;
             survives(rt, alloc, answers.as_slice(), &log, kept)?;

@@ -7,12 +7,12 @@ ghost use Rattle.xs_server.specs.Connection.{IsNewConnection, ServesBy, Connecti
 
 use crate::connections::answering::{Said, answer};
 use crate::connections::ending::{Ending, ServeFault};
-use crate::connections::reserve::Reserve;
 use crate::machines::machine::{Machine, Turn};
 use std::alloc::{AllocError, Global};
 use std::sync::Wait;
 use xs_desk::Port;
 use xs_resp::{Encoder, Fault, Reply, Requests};
+use xs_session::Reserve;
 
 /// A connection: the bytes that came in and aren't taken yet, and the reply that it owes.
 #[derive(Drop)]

@@ -1,18 +1,6 @@
-//! How a connection ends.
+//! Why a connection ends before its end.
 use thiserror::Error;
-
-/// How a connection ended.
-#[derive(Clone, Copy, Debug, PartialEq, Eq)]
-pub enum Ending {
-    /// The input ended between two requests.
-    Closed,
-    /// The input ended within a request, which isn't executed.
-    Cut,
-    /// A QUIT was executed.
-    Quit,
-    /// The bytes aren't a request. The protocol error was written.
-    Protocol,
-}
+pub use xs_session::Ending;
 
 /// Why a connection ended before its end. `replies` is how many replies were written whole.
 #[derive(Clone, Copy, Debug, PartialEq, Eq, Error)]

@@ -1,9 +1,12 @@
 //! Work over gates that are no sockets.
+ghost use Rattle.std.specs.Prelude.{◌≡◌};
+
 use super::*;
 use crate::report::report_work;
 use crate::tests::fakes::{InTwo, Still, Tally};
 use crate::work::fault::WorkFault;
 use crate::work::gate::{Gate, GateFault};
+use crate::work::register::Register;
 use crate::work::working::work;
 use std::sync::atomic::{AtomicU64, Ordering};
 use std::sync::{Arc, Wait};
@@ -74,14 +77,14 @@ struct Scripted {
     refuses: bool,
     counted: Arc<AtomicU64>,
     awaited: Arc<AtomicU64>,
+    register: Register<Incoming, Outgoing>,
 }
 
-impl Gate for Scripted {
-    type Reader = Incoming;
-
-    type Writer = Outgoing;
-
-    fn open_next<R: Wait>(&mut self, _rt: &R) -> Result<Option<(Incoming, Outgoing)>, GateFault> {
+impl Scripted {
+    /// The reader and the writer of the next connection. None after the last.
+    fn take_next(&mut self) -> Result<Option<(Incoming, Outgoing)>, GateFault>
+        ensures { self.new.register ≡ self.old.register }
+    {
         let [script, left @ ..] = self.connections else {
             return if self.refuses {
                 Err(GateFault::Refused)
@@ -105,6 +108,35 @@ impl Gate for Scripted {
         });
         let writer = ToWrite::new(Tally::new(PONG, script.fails, counted));
         Ok(Some((Incoming(reader), Outgoing(writer))))
+    }
+}
+
+impl Gate for Scripted {
+    type Reader = Incoming;
+
+    type Writer = Outgoing;
+
+    ghost trace = { λ g. g.register };
+
+    fn open_next<R: Wait>(&mut self, _rt: &R) -> Result<Option<(Incoming, Outgoing)>, GateFault> {
+        match self.take_next() {
+            Ok(Some(connection)) => {
+                self.register.give(&connection);
+                Ok(Some(connection))
+            }
+            Ok(None) => {
+                self.register.end();
+                Ok(None)
+            }
+            Err(fault) => {
+                self.register.end();
+                Err(fault)
+            }
+        }
+    }
+
+    fn close(&mut self, reader: Incoming, writer: Outgoing) {
+        self.register.take_back(&(reader, writer));
     }
 }
 
@@ -149,14 +181,19 @@ fn work_over<R: Threads + Wait + Copy + Send + 'static>(
         refuses: false,
         counted: Arc::try_clone(&counted)?,
         awaited: Arc::try_clone(&counted_there)?,
+        register: Register::new(),
     })?;
     gates.push(Scripted {
         connections: other,
         refuses: other_refuses,
         counted: Arc::try_clone(&counted_there)?,
         awaited: Arc::try_clone(&counted)?,
+        register: Register::new(),
     })?;
-    let worked = work(rt, alloc, gates, 16, still());
+    let worked = match work(rt, alloc, gates, 16, still()) {
+        Ok(outcome) => Ok(outcome.summary),
+        Err(fault) => Err(fault),
+    };
     Ok((
         worked,
         counted.load(Ordering::SeqCst),
@@ -257,6 +294,7 @@ fn reports_each_fault_of_work(rt: HostRuntime) -> Result<(), Fail> {
         ),
         (WorkFault::Start, "xs_server: serving failed\n"),
         (WorkFault::Gate, "xs_server: serving failed\n"),
+        (WorkFault::Lane, "xs_server: serving failed\n"),
         (WorkFault::Close, "xs_server: serving failed\n"),
         (WorkFault::Memory, "xs_server: out of memory\n"),
     ] {

@@ -14,6 +14,9 @@ pub enum WorkFault {
     /// A gate refused a connection. The other gates were served to their ends.
     #[error("a connection can't be taken")]
     Gate,
+    /// The lane of a gate was gone before the gate came to its end.
+    #[error("nobody answers")]
+    Lane,
     /// The end of a lane is missing.
     #[error("the end of a lane is missing")]
     Close,

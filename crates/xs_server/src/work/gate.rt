@@ -13,11 +13,17 @@ pub enum GateFault {
 
 /// The connections of a worker, one after the other.
 pub trait Gate {
+    ghost use Rattle.std.specs.Prelude.{◌≡◌, MatchResult, MatchOption};
+    ghost use Rattle.xs_server.specs.Gates.{GateTrace, seen, with_given, with_returned, at_end};
+
     /// Where a connection's requests come from.
     type Reader: Source + Send + Drop;
 
     /// Where its replies go.
     type Writer: Sink + Send + Drop;
+
+    /// The connections that it gave and those that came back, and whether it gives no further one.
+    ghost trace: { Self → GateTrace };
 
     /// The next connection, or None after the last. It may wait.
     ///
@@ -26,5 +32,17 @@ pub trait Gate {
     fn open_next<R: Wait>(
         &mut self,
         rt: &R,
-    ) -> Result<Option<(Self::Reader, Self::Writer)>, GateFault>;
+    ) -> Result<Option<(Self::Reader, Self::Writer)>, GateFault>
+        ensures { MatchResult result
+            (λ next. MatchOption next (trace self.new ≡ at_end (trace self.old))
+            (λ one. trace self.new ≡ with_given (trace self.old)
+            (seen (Self.Reader.rest one.0) (Self.Reader.ended one.0) (Self.Reader.broken one.0)
+            (Self.Writer.held one.1) (Self.Writer.broken one.1))))
+            (λ _. trace self.new ≡ at_end (trace self.old)) };
+
+    /// Takes a connection back.
+    fn close(&mut self, reader: Self::Reader, writer: Self::Writer)
+        ensures { trace self.new ≡ with_returned (trace self.old)
+            (seen (Self.Reader.rest reader) (Self.Reader.ended reader) (Self.Reader.broken reader)
+            (Self.Writer.held writer) (Self.Writer.broken writer)) };
 }

@@ -14,18 +14,19 @@ use xs_keys::Clock;
 /// A keeper in its thread.
 pub type KeeperThread<J> = PromisedHandle<Keeper<J>, SameRings<J>>;
 
-/// Comes after a turn that served nobody: what was noted is kept, and the answers that wait for that are handed out. If
-/// there were none, it waits. It says whether the keeper goes on.
+/// Keeps what was noted, and hands out the answers that wait for that. If there were none, and the last turn served
+/// nobody, it waits. It says whether the keeper goes on.
 fn rest<J: Journal + Drop, M: KeeperMode, R: Wait>(
     rt: &R,
     keeper: &mut Keeper<J>,
     mode: &M,
     lifecycle: &Lifecycle,
+    is_idle: bool,
 ) -> bool
     ensures { keeper.new ≡ keeper.old }
 {
     match keeper.settle() {
-        Ok(0) => {
+        Ok(0) if is_idle => {
             if lifecycle.has_ended() {
                 return false;
             }
@@ -50,17 +51,21 @@ fn keep<J: Journal + Drop, C: Clock + Drop, M: KeeperMode + Drop, R: Wait>(
 {
     let mut keeper = keeper;
     let mut clock = clock;
+    // How many calls were served since answers were last handed out.
+    let mut served: u64 = 0;
     mode.begin(&mut keeper);
     for _ in rt.forever() {
         mode.before_turn(&mut keeper);
-        match keeper.turn(&mut clock) {
-            Ok(0) => {
-                if !rest(rt, &mut keeper, &mode, lifecycle) {
-                    break;
-                }
-            }
-            Ok(_) => {}
-            Err(_) => break,
+        let Ok(count) = keeper.turn(&mut clock) else {
+            break;
+        };
+        served = served.saturating_add(count);
+        if count > 0 && served < mode.most_held_back() {
+            continue;
+        }
+        served = 0;
+        if !rest(rt, &mut keeper, &mode, lifecycle, count == 0) {
+            break;
         }
     }
     keeper

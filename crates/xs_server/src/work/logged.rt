@@ -38,6 +38,7 @@ fn run_to_end_of_keeper<
         workers,
         started,
         ended: _,
+        gates: _,
         lifecycle,
     } = pool;
     let StartedThreads {

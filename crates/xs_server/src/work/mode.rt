@@ -1,5 +1,5 @@
 //! How the connections of gates are served: whether calls wait, and when the memory of connections is made.
-use crate::connections::memory::ConnectionMemory;
+use crate::work::session_memory::SessionMemory;
 use std::alloc::{AllocError, Global};
 use std::sync::Wait;
 use xs_desk::{Idle, Journal, Keeper, Pause};
@@ -16,6 +16,10 @@ pub trait KeeperMode {
     fn before_turn<J: Journal + Drop>(&self, keeper: &mut Keeper<J>)
         ensures { keeper.new ≡ keeper.old };
 
+    /// After so many calls what was noted is kept, and the answers that wait for that are handed out, though there may
+    /// be more calls.
+    fn most_held_back(&self) -> u64;
+
     /// Waits after a turn that served nobody.
     fn idle<J: Journal + Drop, R: Wait>(&self, rt: &R, keeper: &Keeper<J>);
 }
@@ -29,7 +33,7 @@ pub trait Mode<G>: KeeperMode {
     fn pause_of(&self, gate: &G) -> Result<Self::Pause, AllocError>;
 
     /// The memory of a worker's connections.
-    fn memory(&self, alloc: Global) -> Result<ConnectionMemory, AllocError>;
+    fn memory(&self, alloc: Global) -> Result<SessionMemory, AllocError>;
 }
 
 /// No call waits, and all memory is made at the start.
@@ -40,6 +44,10 @@ impl KeeperMode for Bounded {
     fn begin<J: Journal + Drop>(&self, _keeper: &mut Keeper<J>) {}
 
     fn before_turn<J: Journal + Drop>(&self, _keeper: &mut Keeper<J>) {}
+
+    fn most_held_back(&self) -> u64 {
+        u64::MAX
+    }
 
     fn idle<J: Journal + Drop, R: Wait>(&self, rt: &R, keeper: &Keeper<J>) {
         keeper.idle(rt);
@@ -53,7 +61,7 @@ impl<G> Mode<G> for Bounded {
         Ok(Idle)
     }
 
-    fn memory(&self, alloc: Global) -> Result<ConnectionMemory, AllocError> {
-        ConnectionMemory::made(alloc)
+    fn memory(&self, alloc: Global) -> Result<SessionMemory, AllocError> {
+        SessionMemory::made(alloc)
     }
 }

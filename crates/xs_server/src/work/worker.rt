@@ -1,15 +1,19 @@
 //! A worker: it serves the connections of one gate through one lane.
-ghost use Rattle.std.specs.Prelude.{◌≡◌};
+ghost use Rattle.std.specs.Prelude.{is_err};
 ghost use Rattle.xs_desk.specs.KeptRings.{KeepsSide};
+ghost use Rattle.xs_server.specs.Gates.{seen};
+ghost use Rattle.xs_server.specs.Workers.{ServesOne, Works};
 
-use crate::connections::ending::ServeFault;
-use crate::connections::memory::ConnectionMemory;
-use crate::connections::serve::serve_with;
+use crate::connections::ahead::{AheadFault, serve_ahead};
+use crate::report::say;
 use crate::work::gate::{Gate, GateFault};
 use crate::work::lifecycle::Lifecycle;
+use crate::work::session_memory::SessionMemory;
 use std::sync::Wait;
-use xs_desk::{Client, Ended, Lane, Pause};
-use xs_devices::write_all;
+use thiserror::Error;
+use xs_desk::{Client, Ended, Pause};
+use xs_devices::{Sink, Source};
+use xs_session::Ending;
 
 /// A worker before its thread is started.
 #[derive(Drop)]
@@ -18,42 +22,89 @@ pub struct Worker<G: Drop, P: Drop> {
     pub gate: G,
     /// How it waits for an answer.
     pub pause: P,
-    pub memory: ConnectionMemory,
+    pub memory: SessionMemory,
+}
+
+/// Why a worker ended before its gate came to its end.
+#[derive(Clone, Copy, Debug, PartialEq, Eq, Error)]
+pub enum WorkerFault {
+    /// It did not begin, since not all threads were started.
+    #[error("a thread wasn't started")]
+    Start,
+    /// Its gate refused a connection.
+    #[error("a connection can't be taken")]
+    Gate,
+    /// Its lane is gone.
+    #[error("nobody answers")]
+    Lane,
 }
 
 /// What is left of a worker.
 #[derive(Drop)]
-pub struct Worked {
+pub struct Worked<G: Drop> {
     /// The end of its lane.
     pub ended: Ended,
-    /// Its gate refused a connection.
-    pub refused: bool,
+    pub gate: G,
+    pub outcome: Result<(), WorkerFault>,
 }
 
 /// What a connection is told for which there is no memory.
 const NO_MEMORY: &[u8] = b"-OOM out of memory\r\n";
 
-/// Serves the connections of a gate, one after the other, up to the last. The fault of a connection ends that
-/// connection alone, and so does a lack of memory for it; but if nobody answers any more there is no further one.
-fn serve_gate<G: Gate, P: Pause + Drop, R: Wait>(
+/// Serves one connection. If it ends out of memory, its client is told.
+///
+/// # Errors
+/// An `AheadFault`, which ends this connection alone, but for `Port`.
+fn serve_one<S: Source, W: Sink, P: Pause, R: Wait>(
     rt: &R,
-    memory: &mut ConnectionMemory,
+    memory: &mut SessionMemory,
+    reader: &mut S,
+    writer: &mut W,
+    client: &mut Client,
+    pause: &P,
+) -> Result<Ending, AheadFault>
+    ensures { ServesOne result client.old client.new
+        (seen (S.rest reader.old) (S.ended reader.old) (S.broken reader.old) (W.held writer.old) (W.broken writer.old))
+        (seen (S.rest reader.new) (S.ended reader.new) (S.broken reader.new)
+        (W.held writer.new) (W.broken writer.new)) }
+{
+    let Ok(session) = memory.session() else {
+        say(writer, NO_MEMORY);
+        return Err(AheadFault::Memory);
+    };
+    match serve_ahead(rt, session, reader, writer, client, pause) {
+        Err(AheadFault::Memory) => {
+            say(writer, NO_MEMORY);
+            Err(AheadFault::Memory)
+        }
+        end => end,
+    }
+}
+
+/// Serves the connections of a gate, one after the other, up to the last, and gives each back to the gate. The fault of
+/// a connection ends that connection alone, but if nobody answers any more there is no further one.
+///
+/// # Errors
+/// `Gate` or `Lane`.
+fn serve_gate<G: Gate, P: Pause, R: Wait>(
+    rt: &R,
+    memory: &mut SessionMemory,
     gate: &mut G,
-    lane: &mut Lane<P>,
-) -> Result<(), GateFault>
-    ensures { KeepsSide lane.old.client lane.new.client }
+    client: &mut Client,
+    pause: &P,
+) -> Result<(), WorkerFault>
+    ensures { Works (is_err result) client.old client.new (G.trace gate.old) (G.trace gate.new) }
 {
     for _ in rt.forever() {
-        let Some((mut reader, mut writer)) = gate.open_next(rt)? else {
-            return Ok(());
+        let (mut reader, mut writer) = match gate.open_next(rt) {
+            Ok(Some(connection)) => connection,
+            Ok(None) => return Ok(()),
+            Err(GateFault::Refused) => return Err(WorkerFault::Gate),
         };
-        let Ok(connection) = memory.connection() else {
-            let _ = write_all(&mut writer, NO_MEMORY);
-            continue;
-        };
-        let served = serve_with(rt, connection, &mut reader, &mut writer, lane);
-        if matches!(served, Err(ServeFault::Port { .. })) {
-            return Ok(());
+        let served = serve_one(rt, memory, &mut reader, &mut writer, client, pause);
+        gate.close(reader, writer);
+        if matches!(served, Err(AheadFault::Port)) {
+            return Err(WorkerFault::Lane);
         }
     }
     unreachable!()
@@ -64,11 +115,13 @@ pub fn run_worker<G: Gate + Drop, P: Pause + Drop, R: Wait>(
     rt: &R,
     worker: Worker<G, P>,
     lifecycle: &Lifecycle,
-) -> Worked
-    ensures { KeepsSide worker.client result.ended }
+) -> Worked<G>
+    ensures side { KeepsSide worker.client result.ended }
+    ensures works { Works (is_err result.outcome) worker.client result.ended
+        (G.trace worker.gate) (G.trace result.gate) }
 {
     let Worker {
-        client,
+        mut client,
         mut gate,
         pause,
         mut memory,
@@ -76,14 +129,15 @@ pub fn run_worker<G: Gate + Drop, P: Pause + Drop, R: Wait>(
     if !lifecycle.wait_to_begin(rt) {
         return Worked {
             ended: client.finish(),
-            refused: false,
+            gate,
+            outcome: Err(WorkerFault::Start),
         };
     }
-    let mut lane = Lane::with_pause(client, pause);
-    let served = serve_gate(rt, &mut memory, &mut gate, &mut lane);
+    let outcome = serve_gate(rt, &mut memory, &mut gate, &mut client, &pause);
     lifecycle.end_worker();
     Worked {
-        ended: lane.end().finish(),
-        refused: served.is_err(),
+        ended: client.finish(),
+        gate,
+        outcome,
     }
 }

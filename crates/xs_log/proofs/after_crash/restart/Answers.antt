@@ -1,4 +1,4 @@
-use Rattle.std.proofs.Common.{◌+◌, length, sym, ap, ◌∙◌, subst}
+use Rattle.std.proofs.Common.{length, sym, ap, ◌∙◌, subst}
 use Rattle.xs_tape.specs.Crash.{before_zero}
 use Rattle.std.proofs.Common.{take, suc, None, ◌++◌}
 use Rattle.xs_bytes.specs.SortedMap.{empty}
@@ -6,7 +6,8 @@ use Rattle.xs_replay.specs.After.{contents_after, moment_after}
 use Rattle.xs_replay.specs.Log.{HasEvents}
 use Rattle.xs_log.specs.Logs.{CrashLeavesLog}
 use Rattle.xs_log.specs.TapeLog.{AreClosedLogs}
-use Rattle.xs_log.proofs.Restarts.{crash_of, given, given-unique, restarts_so, number_of, match_parts, if_ok_as}
+use Rattle.xs_log.proofs.Restarts.{crash_of, given, given-unique, restarts_so, number_of}
+use Rattle.xs_log.proofs.Results.{match_parts, if_ok_as}
 use Rattle.xs_log.proofs.after_crash.restart.Goals as goal
 
 pub returns-clause-content : goal.returns-clause-content

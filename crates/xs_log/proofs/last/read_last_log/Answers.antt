@@ -17,3 +17,6 @@ returns-clause-ok g c = λ events kept left is known.
 
 pub returns-clause-content : goal.returns-clause-content
 returns-clause-content g c = of-events c.read_log.result c.args.number _ _ c.args.recovered.now.keyspace c.read_log.new.recovered.keyspace c.args.recovered.now.last c.read_log.new.recovered.last c.read_log.ensures.ok
+
+pub returns-clause-cut : goal.returns-clause-cut
+returns-clause-cut g c = λ left known. c.read_log.ensures.cut (before_zero left) (c.new-before.ensures.rest ∙ ap (option_map before_zero) known)

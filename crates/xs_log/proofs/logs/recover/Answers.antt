@@ -1,4 +1,4 @@
-use Rattle.std.proofs.Common.{◌≡◌, ◌++◌, List, None, take, sym, ap, ◌∙◌, subst}
+use Rattle.std.proofs.Common.{◌++◌, None, take, sym, ap, ◌∙◌, subst}
 use Rattle.xs_bytes.specs.SortedMap.{empty}
 use Rattle.xs_tape.specs.Crash.{before_zero}
 use Rattle.xs_replay.specs.Log.{HasEvents}

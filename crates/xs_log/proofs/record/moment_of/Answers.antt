@@ -1,5 +1,6 @@
 use Rattle.std.proofs.Common.{sym, ap, ◌∙◌, decimal, arith}
-use Rattle.xs_log.proofs.Naturals.{spelled_once, moment_in, moment_over, no_number, same_number}
+use Rattle.xs_tape.proofs.Naturals.{spelled_once, no_number, same_number}
+use Rattle.xs_log.proofs.Naturals.{moment_in, moment_over}
 use Rattle.xs_log.proofs.record.moment_of.Goals as goal
 
 pub returns-in_default : goal.returns-in_default

@@ -1,6 +1,6 @@
-use Rattle.std.proofs.Common.{inl, inr, refl}
+use Rattle.std.proofs.Common.{inl, inr, refl, map}
 use Rattle.xs_server.specs.Report.{memory_text, listening_text}
-use Rattle.xs_server.proofs.Reports.{closed-at-zero, told-of-work}
+use Rattle.xs_server.proofs.Reports.{served-at-zero, told-of-work}
 use Rattle.xs_server.proofs.serve_command.serve_and_report.Goals as goal
 
 pub returns-in-Err-clause-told : goal.returns-in-Err-clause-told
@@ -15,8 +15,9 @@ returns-in_default-gates_of-clause-told g c =
 
 pub returns-clause-served : goal.returns-clause-served
 returns-clause-served g c =
-    let count = c.in-Ok-gates_of.ensures in
-    closed-at-zero c.args.options.workers c.work-worked.result _ _ _ _ _ _ (rw (count) at c.work-worked.ensures.closed) c.report_worked.ensures
+    let made = c.in-Ok-gates_of.ensures in
+    served-at-zero _ c.in-Ok-gates_of.gates.items c.args.options.workers (λ outcome. map (λ gate. gate.register) outcome.gates.items) (λ outcome. outcome.summary) c.work-worked.result _ _ _ _ _ _
+    made.count made.new c.work-worked.ensures.closed c.report_worked.ensures
 
 pub returns-clause-told : goal.returns-clause-told
 returns-clause-told g c = told-of-work c.work-worked.result _ _ _ _ _ _ c.report_worked.ensures

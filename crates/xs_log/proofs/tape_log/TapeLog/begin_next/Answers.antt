@@ -1,4 +1,4 @@
-use Rattle.std.proofs.Common.{◌+◌, length, sym, subst, arith}
+use Rattle.std.proofs.Common.{length, sym, subst, arith}
 use Rattle.xs_log.specs.TapeLog.{HasLog, AwaitsHeader}
 use Rattle.xs_log.proofs.TapeLogs.{log_begun, log_unbegun, closes_untold, or_false, with_failed, without_failed}
 use Rattle.xs_log.proofs.tape_log.TapeLog.begin_next.Goals as goal

@@ -1,4 +1,4 @@
-use Rattle.std.proofs.Common.{arith, ap, ◌∙◌, length}
+use Rattle.std.proofs.Common.{arith, ap, ◌∙◌}
 use Rattle.xs_tape.specs.Writing.{Writing}
 use Rattle.xs_log.proofs.TapeLogs.{logs_go_on, awaits_header}
 use Rattle.xs_log.proofs.tape_log.TapeLog.new.Goals as goal

@@ -1,13 +1,16 @@
-use Rattle.std.proofs.Common.{codes, length, subst, arith}
-use Rattle.xs_tape.specs.Records.{record_text}
+use Rattle.std.proofs.Common.{codes, length, sym, subst, arith}
+use Rattle.xs_tape.specs.Records.{CanBeSpelled, record_words, record_text}
 use Rattle.xs_tape.specs.Writing.{Puts}
-use Rattle.xs_log.proofs.TapeLogs.{header_missing, header_put, header_kept, header_unkept, puts_untold, keeps_untold, or_false, with_failed}
+use Rattle.xs_log.proofs.TapeLogs.{header_missing, header_spelled, header_put, header_kept, header_unkept, puts_untold, keeps_untold, or_false, with_failed}
 use Rattle.xs_log.proofs.tape_log.TapeLog.put_header.Goals as goal
 
 pub returns-in_default-clause-has : goal.returns-in_default-clause-has
 returns-in_default-clause-has g c = λ events awaits.
     let old = c.args.self.now in
     header_missing old.number old.writer.pending old.writer.holds events (omega arith) awaits
+
+pub push-requires-clause-spelled : goal.push-requires-clause-spelled
+push-requires-clause-spelled g c = subst (λ r. CanBeSpelled (record_words (codes "xs-log") r)) (sym c.in-Ok.ensures) (header_spelled c.args.self.now.number (omega arith))
 
 pub returns-in-Err-clause-has : goal.returns-in-Err-clause-has
 returns-in-Err-clause-has g c = λ events awaits.

@@ -1,8 +1,13 @@
-use Rattle.std.proofs.Common.{decimal, ap, ◌∙◌, subst}
-use Rattle.xs_tape.specs.Records.{record_text}
+use Rattle.std.proofs.Common.{decimal, sym, ap, ◌∙◌, subst}
+use Rattle.xs_tape.specs.Records.{CanBeSpelled, record_words, record_text}
 use Rattle.xs_tape.specs.Writing.{Puts}
 use Rattle.xs_log.proofs.TapeLogs.{noted, or_false, with_failed, without_failed}
 use Rattle.xs_log.proofs.tape_log.TapeLogEventLog.note.Goals as goal
+
+pub push-requires-clause-spelled : goal.push-requires-clause-spelled
+push-requires-clause-spelled g c =
+    let text = c.as_bytes-moment.ensures.value ∙ c.format.ensures.text ∙ ap decimal c.get.ensures.value in
+    subst (λ t. CanBeSpelled (record_words t c.args.words.now)) (sym text) c.requires.short
 
 pub returns-in-Err-clause-noted : goal.returns-in-Err-clause-noted
 returns-in-Err-clause-noted g c = λ command events kept is formed log.

@@ -1,32 +1,76 @@
 use Rattle.std.proofs.Common.{rules, arith, ◌≡◌, List, [], ◌∷◌, ◌++◌, ◌∙◌, sym, ap, subst, length, length-append, map}
-use Rattle.std.proofs.Common.{append_assoc}
+use Rattle.std.specs.Prelude.{OnOk}
+use Rattle.std.proofs.lemmas.List.{nil_from_length}
 use Rattle.std.specs.Vec.Iter.{into_iter_items}
-use Rattle.std.specs.declared.thread.PromisedHandle.{PromisedHandle}
 use Rattle.xs_desk.specs.Callers.{Caller}
 use Rattle.xs_desk.specs.KeptRings.{KeepSides}
-use Rattle.xs_server.specs.declared.work.worker.Worked.{Worked}
-use Rattle.xs_server.specs.declared.work.worker_pool.SameSide.{SameSide}
-use Rattle.xs_server.proofs.WorkerEnds.{sides-more}
+use Rattle.xs_server.specs.Gates.{GateTrace}
+use Rattle.xs_server.specs.Workers.{WorkEach}
+use Rattle.xs_server.proofs.WorkerEnds.{sides-none, sides-more, work-none, joined-more, none-told, one-told, all-told}
 use Rattle.xs_server.proofs.work.worker_pool.join_all.Goals as goal
-
-abbrev client_of : PromisedHandle Worked SameSide → Caller
-client_of s = s.promise.0.value
 
 pub loop-one-preserved : goal.loop-one-preserved
 loop-one-preserved g c =
     let before = c.loop-one.invariant in
-    let done = before.sides in
-    let client : Caller = client_of c.in-Some.one in
+    let trace = g.G.Gate.trace in
+    let ends = c.loop-one.ended.items in
+    let gates = c.loop-one.gates.items in
+    let one = c.in-Some.one in
+    let client : Caller = one.promise.0.value in
+    let first : GateTrace = trace one.promise.1.value in
     let end : Caller = c.join-worked.result.ended in
+    let gate = c.join-worked.result.gate in
     let pushed = rw c.if-is_err.ensures.negation at c.push.ensures.items in
-    let rest : into_iter_items c.loop-one.one-iterator ≡ c.in-Some.one ∷ into_iter_items c.next.new.self = search rules in
+    let kept = rw c.if-is_err-2.ensures.negation at c.push-in-loop-one.ensures.items in
+    let rest : into_iter_items c.loop-one.one-iterator ≡ one ∷ into_iter_items c.next.new.self = search rules in
     record {
       room = omega arith;
-      count = omega (arith, ap length pushed, length-append c.loop-one.ended.items (end ∷ []), ap length rest);
-      sides = (
-        done.0 ++ client ∷ [],
-        omega (arith, length-append done.0 (client ∷ []), done.1, ap length pushed, length-append c.loop-one.ended.items (end ∷ [])),
-        subst (λ (ends : List Caller). KeepSides (done.0 ++ client ∷ []) ends) (sym pushed) (sides-more done.0 c.loop-one.ended.items client end done.1 done.2 c.join-worked.ensures),
-        append_assoc done.0 (client ∷ []) (map client_of (into_iter_items c.next.new.self)) ∙ (ap (λ (hs : List (PromisedHandle Worked SameSide)). done.0 ++ map client_of hs) (sym rest) ∙ done.3),
-      );
+      gate_room = omega arith;
+      count = omega (arith, before.count, ap length pushed, length-append ends (end ∷ []), ap length rest);
+      len = omega (arith, before.len, ap length rest, c.in-Some.ensures.steps.1);
+      gates_count = omega (arith, before.gates_count, ap length pushed, length-append ends (end ∷ []), ap length kept, length-append gates (gate ∷ []));
+      done = before.done ++ client ∷ [];
+      before = before.before ++ first ∷ [];
+      done_count = omega (arith, length-append before.done (client ∷ []), before.done_count, ap length pushed, length-append ends (end ∷ []));
+      before_count = omega (arith, length-append before.before (first ∷ []), before.before_count, ap length pushed, length-append ends (end ∷ []));
+      sides = subst (λ (es : List Caller). KeepSides (before.done ++ client ∷ []) es) (sym pushed) (sides-more before.done ends client end before.done_count before.sides c.join-worked.ensures.0);
+      work =
+          joined-more trace c.loop-one.outcome c.join-worked.result.outcome c.and-outcome.result before.done ends c.push.new.self.items before.before gates c.push-in-loop-one.new.self.items client end first gate
+          before.done_count before.before_count before.gates_count pushed kept c.and-outcome.ensures before.work c.join-worked.ensures.1;
+      done_are = one-told _ before.done one _ _ _ before.done_are rest;
+      before_are = one-told _ before.before one _ _ _ before.before_are rest;
     }
+
+pub loop-one-init : goal.loop-one-init
+loop-one-init g c =
+    let trace = g.G.Gate.trace in
+    let none : c.args.ended.now.items ≡ [] = c.requires.room.0 in
+    let none-there : c.args.gates.now.items ≡ [] = c.requires.gate_room.0 in
+    let all : into_iter_items c.into_iter-one-iterator.result ≡ c.args.started.items = search rules in
+    record {
+      room = c.requires.room.1;
+      gate_room = c.requires.gate_room.1;
+      count = omega (arith, ap length none, ap length all);
+      len = search rules;
+      gates_count = omega (arith, ap length none, ap length none-there);
+      done = [];
+      before = [];
+      done_count = omega (arith, ap length none);
+      before_count = omega (arith, ap length none);
+      sides = subst (λ (ends : List Caller). KeepSides [] ends) (sym none) sides-none;
+      work =
+          subst (λ (ends : List Caller). WorkEach [] ends [] (map trace c.args.gates.now.items)) (sym none)
+          (subst (λ (now : List GateTrace). WorkEach [] [] [] now) (sym (ap (map trace) none-there)) work-none);
+      done_are = none-told _ _ _ all;
+      before_are = none-told _ _ _ all;
+    }
+
+pub returns-clause-work : goal.returns-clause-work
+returns-clause-work g c =
+    let inv = c.loop-one.invariant in
+    let trace = g.G.Gate.trace in
+    let none : into_iter_items c.loop-one.one-iterator ≡ [] = nil_from_length _ (sym inv.len ∙ c.in-None.ensures.steps.0) in
+    let done = all-told _ inv.done _ _ inv.done_are none in
+    let before = all-told _ inv.before _ _ inv.before_are none in
+    subst (λ (firsts : List Caller). OnOk c.loop-one.outcome (WorkEach firsts c.loop-one.ended.items (map (λ s. trace s.promise.1.value) c.args.started.items) (map trace c.loop-one.gates.items))) done
+    (subst (λ (gs : List GateTrace). OnOk c.loop-one.outcome (WorkEach inv.done c.loop-one.ended.items gs (map trace c.loop-one.gates.items))) before inv.work)

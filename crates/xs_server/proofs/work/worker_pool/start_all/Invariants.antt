@@ -8,4 +8,5 @@ invariant-loop-worker g l = record {
   room : length l.fn.workers.items ≤ vec_capacity l.started;
   count : length l.started.items + length (into_iter_items l.worker-iterator) ≡ length l.fn.workers.items;
   sides : map (λ s. s.promise.0.value) l.started.items ++ map (λ w. w.client) (into_iter_items l.worker-iterator) ≡ map (λ w. w.client) l.fn.workers.items;
+  gates : map (λ s. s.promise.1.value) l.started.items ++ map (λ w. w.gate) (into_iter_items l.worker-iterator) ≡ map (λ w. w.gate) l.fn.workers.items;
 }

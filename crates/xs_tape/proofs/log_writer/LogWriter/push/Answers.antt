@@ -1,36 +1,58 @@
-use Rattle.std.proofs.Common.{◌++◌, ◌∷◌, length, map, decimal, subst}
-use Rattle.std.specs.List.{concat}
+use Rattle.std.proofs.Common.{◌+◌, ◌++◌, length, map, decimal, refl, ap, ◌∙◌, subst}
 use Rattle.xs_resp.specs.Line.{line}
 use Rattle.xs_resp.specs.Grammar.{sent_word, sent_words}
-use Rattle.xs_tape.specs.Checksum.{crc32c}
 use Rattle.xs_tape.specs.Escape.{escaped}
-use Rattle.xs_tape.specs.Records.{record_words}
 use Rattle.xs_tape.specs.Writing.{Puts}
-use Rattle.xs_tape.proofs.Puts.{puts_broken, two_broken, three_broken}
-use Rattle.xs_tape.proofs.Sizes.{count_is}
+use Rattle.xs_tape.proofs.Puts.{puts_broken, puts_join, two_broken, three_broken}
+use Rattle.xs_tape.proofs.Pushes.{size_fits, record_parts}
 use Rattle.xs_tape.proofs.log_writer.LogWriter.push.Goals as goal
 
-pub returns-in_err-put_line-clause-puts : goal.returns-in_err-put_line-clause-puts
-returns-in_err-put_line-clause-puts g c =
+pub record_size-size-requires : goal.record_size-size-requires
+record_size-size-requires g c =
+    size_fits c.args.first.now c.as_bytes-sum.result.now c.args.rest.now c.requires.spelled (record { is = c.as_bytes-sum.ensures.value ∙ c.format.ensures.text ∙ ap decimal c.checksum_of.ensures })
+
+pub returns-in_err-put_head-clause-puts : goal.returns-in_err-put_head-clause-puts
+returns-in_err-put_head-clause-puts g c =
     let first = c.args.first.now in
     let rest = c.args.rest.now in
-    let count = subst (λ n. Puts c.args.self.now c.put_line.new.self (line 42 n)) (count_is first rest) c.in_err-put_line.ensures.puts in
-    puts_broken c.args.self.now c.put_line.new.self (line 42 (length (record_words first rest))) (sent_words (record_words first rest)) c.in_err-put_line.ensures.fault count
+    let sum = c.as_bytes-sum.result.now in
+    let size = c.record_size-size.result in
+    let text = record_parts first sum rest (length rest + 3) size refl c.record_size-size.ensures (record { is = c.as_bytes-sum.ensures.value ∙ c.format.ensures.text ∙ ap decimal c.checksum_of.ensures }) in
+    subst (λ t. Puts c.args.self.now c.put_head.new.self t) text
+    (puts_broken c.args.self.now c.put_head.new.self (line 42 (length rest + 3) ++ sent_word (decimal size)) (sent_word (escaped first) ++ (sent_word (escaped sum) ++ sent_words (map escaped rest)))
+    c.in_err-put_head.ensures.fault c.in_err-put_head.ensures.puts)
 
 pub returns-in_err-put_word-clause-puts : goal.returns-in_err-put_word-clause-puts
 returns-in_err-put_word-clause-puts g c =
     let first = c.args.first.now in
     let rest = c.args.rest.now in
-    let sum = sent_word (escaped (decimal (crc32c (concat (first ∷ rest))))) in
-    let count = subst (λ n. Puts c.args.self.now c.put_line.new.self (line 42 n)) (count_is first rest) c.in_ok-put_line.ensures.puts in
-    two_broken c.args.self.now c.put_line.new.self c.put_word.new.self (line 42 (length (record_words first rest))) (sent_word (escaped first)) (sum ++ sent_words (map escaped rest)) c.in_err-put_word.ensures.fault count
-    c.in_err-put_word.ensures.puts
+    let sum = c.as_bytes-sum.result.now in
+    let size = c.record_size-size.result in
+    let text = record_parts first sum rest (length rest + 3) size refl c.record_size-size.ensures (record { is = c.as_bytes-sum.ensures.value ∙ c.format.ensures.text ∙ ap decimal c.checksum_of.ensures }) in
+    subst (λ t. Puts c.args.self.now c.put_word.new.self t) text
+    (two_broken c.args.self.now c.put_head.new.self c.put_word.new.self (line 42 (length rest + 3) ++ sent_word (decimal size)) (sent_word (escaped first)) (sent_word (escaped sum) ++ sent_words (map escaped rest))
+    c.in_err-put_word.ensures.fault c.in_ok-put_head.ensures.puts c.in_err-put_word.ensures.puts)
 
-pub returns-in_err-put_checksum-clause-puts : goal.returns-in_err-put_checksum-clause-puts
-returns-in_err-put_checksum-clause-puts g c =
+pub returns-in_err-put_word-2-clause-puts : goal.returns-in_err-put_word-2-clause-puts
+returns-in_err-put_word-2-clause-puts g c =
     let first = c.args.first.now in
     let rest = c.args.rest.now in
-    let sum = sent_word (escaped (decimal (crc32c (concat (first ∷ rest))))) in
-    let count = subst (λ n. Puts c.args.self.now c.put_line.new.self (line 42 n)) (count_is first rest) c.in_ok-put_line.ensures.puts in
-    three_broken c.args.self.now c.put_line.new.self c.put_word.new.self c.put_checksum.new.self (line 42 (length (record_words first rest))) (sent_word (escaped first)) sum (sent_words (map escaped rest))
-    c.in_err-put_checksum.ensures.fault count c.in_ok-put_word.ensures.puts c.in_err-put_checksum.ensures.puts
+    let sum = c.as_bytes-sum.result.now in
+    let size = c.record_size-size.result in
+    let text = record_parts first sum rest (length rest + 3) size refl c.record_size-size.ensures (record { is = c.as_bytes-sum.ensures.value ∙ c.format.ensures.text ∙ ap decimal c.checksum_of.ensures }) in
+    subst (λ t. Puts c.args.self.now c.put_word-2.new.self t) text
+    (three_broken c.args.self.now c.put_head.new.self c.put_word.new.self c.put_word-2.new.self (line 42 (length rest + 3) ++ sent_word (decimal size)) (sent_word (escaped first)) (sent_word (escaped sum)) (sent_words (map escaped rest))
+    c.in_err-put_word-2.ensures.fault c.in_ok-put_head.ensures.puts c.in_ok-put_word.ensures.puts c.in_err-put_word-2.ensures.puts)
+
+pub returns-clause-puts : goal.returns-clause-puts
+returns-clause-puts g c =
+    let first = c.args.first.now in
+    let rest = c.args.rest.now in
+    let sum = c.as_bytes-sum.result.now in
+    let size = c.record_size-size.result in
+    let text = record_parts first sum rest (length rest + 3) size refl c.record_size-size.ensures (record { is = c.as_bytes-sum.ensures.value ∙ c.format.ensures.text ∙ ap decimal c.checksum_of.ensures }) in
+    subst (λ t. Puts c.args.self.now c.put_words.new.self t) text
+    (puts_join c.args.self.now c.put_head.new.self c.put_words.new.self (line 42 (length rest + 3) ++ sent_word (decimal size)) (sent_word (escaped first) ++ (sent_word (escaped sum) ++ sent_words (map escaped rest)))
+    c.in_ok-put_head.ensures.puts
+    (puts_join c.put_head.new.self c.put_word.new.self c.put_words.new.self (sent_word (escaped first)) (sent_word (escaped sum) ++ sent_words (map escaped rest)) c.in_ok-put_word.ensures.puts
+    (puts_join c.put_word.new.self c.put_word-2.new.self c.put_words.new.self (sent_word (escaped sum)) (sent_words (map escaped rest)) c.in_ok-put_word-2.ensures.puts c.put_words.ensures.puts)))

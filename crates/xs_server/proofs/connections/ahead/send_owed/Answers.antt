@@ -1,0 +1,52 @@
+use Rattle.std.proofs.Common.{rules, false, ◌≡◌, [], ◌++◌, length, take, ap, ◌∙◌, refl, append_assoc, arith, length-append}
+use Rattle.std.proofs.lemmas.List.{append-nil}
+use Rattle.std.proofs.KnownBytes.{Appends-nil, Appends-trans}
+use Rattle.xs_session.proofs.Tests.{empty-some}
+use Rattle.xs_server.proofs.AheadTurns.{part-sent}
+use Rattle.xs_server.proofs.connections.ahead.send_owed.Goals as goal
+
+pub pieces-init : goal.pieces-init
+pieces-init g c = record {
+  went = [];
+  appends = Appends-nil _;
+  after = λ read asked got sent s. rw (append-nil sent) s;
+  places = refl;
+  ended = refl;
+  held = refl;
+}
+
+pub pieces-preserved : goal.pieces-preserved
+pieces-preserved g c =
+    let inv = c.pieces.invariant in
+    let piece = c.pieces.session.owed.piece in
+    let wrote = rw (c.output-in-pieces.ensures.value) at c.in-Ok.ensures.ok in
+    record {
+      went = inv.went ++ piece;
+      appends = Appends-trans _ _ _ inv.went piece inv.appends wrote.1;
+      after = λ read asked got sent s. rw (← append_assoc) (c.mark_sent.ensures.after read asked got (sent ++ inv.went) (inv.after read asked got sent s));
+      places = c.mark_sent.ensures.places ∙ inv.places;
+      ended = c.mark_sent.ensures.ended ∙ inv.ended;
+      held = c.mark_sent.ensures.held ∙ inv.held;
+    }
+
+pub pieces-smaller : goal.pieces-smaller
+pieces-smaller g c =
+    let owed = c.pieces.session.owed in
+    let empty : c.is_empty.result ≡ false = search rules in
+    let some = empty-some c.output.result.now c.is_empty.result c.is_empty.ensures empty in
+    omega (arith, some, ap length c.output.ensures.value, ap length c.mark_sent.ensures.owed, length-append owed.piece owed.behind)
+
+pub returns-in-Err-clause-sends : goal.returns-in-Err-clause-sends
+returns-in-Err-clause-sends g c = λ read asked got sent s.
+    let inv = c.pieces.invariant in
+    let session = c.pieces.session in
+    let err = rw (c.output-in-pieces.ensures.value) at c.in-Err.ensures.err in (
+      inv.went ++ take c.in-Err.field-0 session.owed.piece,
+      Appends-trans _ _ _ inv.went _ inv.appends err.1,
+      part-sent read asked got sent inv.went session c.in-Err.field-0 err.0 (inv.after read asked got sent s),
+    )
+
+pub returns-clause-sends : goal.returns-clause-sends
+returns-clause-sends g c = λ read asked got sent s.
+    let inv = c.pieces.invariant in
+    (inv.went, inv.appends, inv.after read asked got sent s)

@@ -1,0 +1,43 @@
+use Rattle.std.proofs.Common.{◌++◌, ap, ◌∙◌, append_assoc}
+use Rattle.std.proofs.KnownBytes.{Appends-trans}
+use Rattle.xs_session.specs.Places.{has_open}
+use Rattle.xs_server.proofs.AheadTurns.{breaks-later}
+use Rattle.xs_server.proofs.connections.ahead.send_ready.Goals as goal
+
+pub answers-init : goal.answers-init
+answers-init g c =
+    let once = c.in-Ok.ensures in
+    record {
+      sends = λ read asked got sent s. once.sends read asked got sent s;
+      owed = once.none;
+      waits = ap has_open once.places;
+      ended = once.ended;
+      held = once.held;
+    }
+
+pub answers-preserved : goal.answers-preserved
+answers-preserved g c =
+    let inv = c.answers.invariant in
+    let begun = c.begin_answer.ensures in
+    let again = c.in-Ok-send_owed.ensures in
+    record {
+      sends = λ read asked got sent s.
+          let (went, appends, after) = inv.sends read asked got sent s in
+          let (more, also, later) = again.sends read asked got (sent ++ went) (begun.after read asked got (sent ++ went) after) in
+          (went ++ more, Appends-trans _ _ _ went more appends also, rw (← append_assoc) later);
+      owed = again.none;
+      waits = ap has_open again.places ∙ begun.open ∙ inv.waits;
+      ended = again.ended ∙ begun.ended ∙ inv.ended;
+      held = again.held ∙ begun.held ∙ inv.held;
+    }
+
+pub returns-clause-sends : goal.returns-clause-sends
+returns-clause-sends g c = λ read asked got sent s.
+    let (went, appends, after) = c.answers.invariant.sends read asked got sent s in
+    (went, appends, c.begin_answer.ensures.after read asked got (sent ++ went) after)
+
+pub returns-in-Err-send_owed-clause-sends : goal.returns-in-Err-send_owed-clause-sends
+returns-in-Err-send_owed-clause-sends g c = λ read asked got sent s.
+    let (went, appends, after) = c.answers.invariant.sends read asked got sent s in
+    let (more, also, breaks) = c.in-Err-send_owed.ensures.sends read asked got (sent ++ went) (c.begin_answer.ensures.after read asked got (sent ++ went) after) in
+    (went ++ more, Appends-trans _ _ _ went more appends also, breaks-later read asked got sent went more c.send_owed-in-answers.new.session breaks)

@@ -1,0 +1,45 @@
+-- The connections of a gate: those that it gave, and those that came back.
+use Rattle.std.specs.Prelude.{ℕ, Bool, true, false, List, [], ◌∷◌, ◌++◌, map, Option}
+
+-- a connection: the bytes that its reader has left and those that its writer holds, where they are told; whether the
+-- end of the input was met; and whether the reader and the writer have failed
+pub record Seen : Type 0 where
+  pub rest : Option (List ℕ)
+  pub ended : Bool
+  pub unread : Bool
+  pub held : Option (List ℕ)
+  pub unwritten : Bool
+
+abbrev pub seen : Option (List ℕ) → Bool → Bool → Option (List ℕ) → Bool → Seen
+seen rest ended unread held unwritten =
+    record { rest = rest; ended = ended; unread = unread; held = held; unwritten = unwritten }
+
+-- each of these readers and writers, as contracts see it
+abbrev pub all_seen :
+    {R W : Type 0} → (R → Option (List ℕ)) → (R → Bool) → (R → Bool) → (W → Option (List ℕ)) → (W → Bool) → List (R × W)
+    → List Seen
+all_seen rest ended unread held unwritten ones =
+    map (λ one. seen (rest one.0) (ended one.0) (unread one.0) (held one.1) (unwritten one.1)) ones
+
+-- a gate: the connections that it gave, each as it was then; those that came back, each as it was then; and whether it
+-- gives no further one
+pub record GateTrace : Type 0 where
+  pub given : List Seen
+  pub returned : List Seen
+  pub is_over : Bool
+
+-- one that has given nothing yet
+abbrev pub new_gate : GateTrace
+new_gate = record { given = []; returned = []; is_over = false }
+
+-- this one is given too
+abbrev pub with_given : GateTrace → Seen → GateTrace
+with_given gate one = record gate { given = gate.given ++ one ∷ [] }
+
+-- this one came back too
+abbrev pub with_returned : GateTrace → Seen → GateTrace
+with_returned gate one = record gate { returned = gate.returned ++ one ∷ [] }
+
+-- it gives no further one
+abbrev pub at_end : GateTrace → GateTrace
+at_end gate = record gate { is_over = true }

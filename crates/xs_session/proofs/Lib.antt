@@ -1,0 +1,7 @@
+pub mod Answering
+pub mod OpenCommands
+pub mod Placing
+pub mod SessionTurns
+pub mod Tests
+pub mod ReadOnce
+pub mod SpelledExamples

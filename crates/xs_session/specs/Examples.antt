@@ -1,0 +1,120 @@
+-- What becomes of requests, by examples: their words are commands, or have a fault, as docs/COMMANDS.md tells it; the
+-- texts are those of the RESP protocol specification (version 2). That a request may find no memory, and that some
+-- commands are asked alone, are this server's own rules.
+use Rattle.std.specs.Prelude.{◌≡◌, ℕ, Bool, true, false, List, [], ◌∷◌, codes, Some, None, Result, Ok}
+use Rattle.std.specs.Result.{result_map_both}
+use Rattle.xs_stream.specs.declared.add.AddId.TheVariants.{Exact}
+use Rattle.xs_stream.specs.Examples.{at}
+use Rattle.xs_resp.specs.declared.fault.Fault.{Fault}
+use Rattle.xs_resp.specs.declared.fault.Fault.TheVariants.{UnknownCommand, Arity, NotInteger, Memory}
+use Rattle.xs_resp.specs.declared.reply.Reply.TheVariants.{Simple, Error, Int}
+use Rattle.xs_resp.specs.declared.reply.Simple.TheVariants.{Pong}
+use Rattle.xs_command.specs.declared.command.Command.{Command}
+use Rattle.xs_command.specs.declared.command.Command.TheVariants as command
+use Rattle.xs_command.specs.Read.{command_of_words}
+use Rattle.xs_command.specs.Examples.{line}
+use Rattle.xs_command.specs.ExamplesStreams.{adds, scans}
+use Rattle.xs_session.specs.Answers.{Asks, Says, IsTaken, AreTaken, asked_of, answers_to}
+use Rattle.xs_session.specs.Answers.{is_alone, MayBeOpen, quits, has_quit}
+
+abbrev pub ping : Command
+ping = command.Ping None
+
+abbrev pub len : Command
+len = command.Len (codes "k")
+
+-- XADD k 1-1 f v
+abbrev pub add : Command
+add = adds None (Exact (at 1 1))
+
+-- what one request becomes
+pub record Takings : Type 0 where
+  pub a_command : IsTaken (line (codes "PING")) (Asks ping)
+  pub an_addition : IsTaken (line (codes "XADD k 1-1 f v")) (Asks add)
+  pub no_other_command : IsTaken (line (codes "PING")) (Asks command.Quit) → ⊥
+  pub no_fault_of_a_command : IsTaken (line (codes "PING")) (Says UnknownCommand) → ⊥
+  pub an_unknown_command : IsTaken (line (codes "GET k")) (Says UnknownCommand)
+  pub a_word_too_few : IsTaken (line (codes "XLEN")) (Says Arity)
+  pub no_number : IsTaken (line (codes "XTRIM k MAXLEN x")) (Says NotInteger)
+  pub no_other_fault : IsTaken (line (codes "GET k")) (Says Arity) → ⊥
+  pub no_command_of_a_fault : IsTaken (line (codes "GET k")) (Asks ping) → ⊥
+  pub no_memory_for_a_command : IsTaken (line (codes "XADD k 1-1 f v")) (Says Memory)
+  pub no_memory_to_find_a_fault : IsTaken (line (codes "GET k")) (Says Memory)
+
+-- what requests become, one after the other
+pub record TakenInOrder : Type 0 where
+  pub none : AreTaken [] []
+  pub three :
+      AreTaken (line (codes "PING") ∷ line (codes "GET k") ∷ line (codes "XLEN k") ∷ [])
+      (Asks ping ∷ Says UnknownCommand ∷ Asks len ∷ [])
+  pub no_words : AreTaken ([] ∷ line (codes "PING") ∷ [] ∷ []) (Asks ping ∷ [])
+  pub one_without_memory :
+      AreTaken (line (codes "PING") ∷ line (codes "XLEN k") ∷ []) (Says Memory ∷ Asks len ∷ [])
+  pub nothing_from_nowhere : AreTaken [] (Asks ping ∷ []) → ⊥
+  pub no_answer_to_no_words : AreTaken ([] ∷ []) (Says Memory ∷ []) → ⊥
+  pub none_left_out : AreTaken (line (codes "PING") ∷ line (codes "XLEN k") ∷ []) (Asks len ∷ []) → ⊥
+  pub none_twice : AreTaken (line (codes "PING") ∷ []) (Asks ping ∷ Asks ping ∷ []) → ⊥
+  pub no_other_order :
+      AreTaken (line (codes "PING") ∷ line (codes "XLEN k") ∷ []) (Asks len ∷ Asks ping ∷ []) → ⊥
+
+-- what is asked, and what each request is answered as the replies come
+pub record Answering : Type 0 where
+  pub nothing_asked : asked_of [] ≡ []
+  pub asked : asked_of (Says Memory ∷ Asks ping ∷ Says UnknownCommand ∷ Asks len ∷ []) ≡ ping ∷ len ∷ []
+  pub nothing_taken : answers_to [] [] ≡ []
+  pub no_reply_yet :
+      answers_to (Asks ping ∷ Says UnknownCommand ∷ Asks len ∷ []) []
+      ≡ None ∷ Some (Error UnknownCommand) ∷ None ∷ []
+  pub one_reply :
+      answers_to (Asks ping ∷ Says UnknownCommand ∷ Asks len ∷ []) (Simple Pong ∷ [])
+      ≡ Some (Simple Pong) ∷ Some (Error UnknownCommand) ∷ None ∷ []
+  pub both_replies :
+      answers_to (Asks ping ∷ Says UnknownCommand ∷ Asks len ∷ []) (Simple Pong ∷ Int 2 ∷ [])
+      ≡ Some (Simple Pong) ∷ Some (Error UnknownCommand) ∷ Some (Int 2) ∷ []
+  pub a_fault_before :
+      answers_to (Says Arity ∷ Asks ping ∷ []) (Simple Pong ∷ []) ≡ Some (Error Arity) ∷ Some (Simple Pong) ∷ []
+  pub a_quit : quits (Asks command.Quit) ≡ true
+  pub another_command : quits (Asks ping) ≡ false
+  pub no_quit_of_a_fault : quits (Says Memory) ≡ false
+  pub a_quit_behind_others : has_quit (Asks ping ∷ Says Memory ∷ Asks command.Quit ∷ []) ≡ true
+  pub no_quit_among_others : has_quit (Asks ping ∷ Says Memory ∷ []) ≡ false
+
+-- whether the command of a line is asked alone, or the fault in it
+abbrev pub asked_alone : List ℕ → Result Bool Fault
+asked_alone text = result_map_both is_alone (λ fault. fault) (command_of_words (line text))
+
+-- those whose replies may be of any size, or long in coming
+pub record Alone : Type 0 where
+  pub a_ping : asked_alone (codes "PING hello") ≡ Ok false
+  pub a_quit : asked_alone (codes "QUIT") ≡ Ok false
+  pub an_addition : asked_alone (codes "XADD k * f v") ≡ Ok false
+  pub a_deletion : asked_alone (codes "XDEL k 1-1") ≡ Ok false
+  pub a_trim : asked_alone (codes "XTRIM k MAXLEN 0") ≡ Ok false
+  pub a_length : asked_alone (codes "XLEN k") ≡ Ok false
+  pub a_range : asked_alone (codes "XRANGE k - +") ≡ Ok true
+  pub a_range_back : asked_alone (codes "XREVRANGE k + - COUNT 1") ≡ Ok true
+  pub a_new_group : asked_alone (codes "XGROUP CREATE k g 0") ≡ Ok false
+  pub a_new_consumer : asked_alone (codes "XGROUP CREATECONSUMER k g c") ≡ Ok false
+  pub a_consumer_that_goes : asked_alone (codes "XGROUP DELCONSUMER k g c") ≡ Ok false
+  pub a_group_that_goes : asked_alone (codes "XGROUP DESTROY k g") ≡ Ok false
+  pub a_read : asked_alone (codes "XREADGROUP GROUP g c BLOCK 0 STREAMS k >") ≡ Ok true
+  pub an_acknowledgement : asked_alone (codes "XACK k g 1-1") ≡ Ok false
+  pub a_summary : asked_alone (codes "XPENDING k g") ≡ Ok false
+  pub rows : asked_alone (codes "XPENDING k g - + 1") ≡ Ok true
+  pub a_claim : asked_alone (codes "XCLAIM k g c 0 1-1") ≡ Ok true
+  pub a_claim_by_a_scan : asked_alone (codes "XAUTOCLAIM k g c 0 0") ≡ Ok true
+  pub keys_that_go : asked_alone (codes "DEL k") ≡ Ok false
+
+abbrev pub scan : Command
+scan = scans (at 0 0) (at 9 9) None
+
+-- what may be open at once
+pub record Open : Type 0 where
+  pub none : MayBeOpen false []
+  pub several : MayBeOpen false (ping ∷ add ∷ len ∷ [])
+  pub one_alone : MayBeOpen true (scan ∷ [])
+  pub several_before_one_alone : MayBeOpen true (ping ∷ add ∷ len ∷ [])
+  pub one_alone_as_others : MayBeOpen false (scan ∷ []) → ⊥
+  pub one_alone_behind_another : MayBeOpen true (ping ∷ scan ∷ []) → ⊥
+  pub another_behind_one_alone : MayBeOpen true (scan ∷ ping ∷ []) → ⊥
+  pub two_alone : MayBeOpen true (scan ∷ scan ∷ []) → ⊥

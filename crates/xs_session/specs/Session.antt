@@ -1,0 +1,113 @@
+-- A session by its four lists: the bytes read, the commands asked, the replies got, the bytes sent.
+use Rattle.std.specs.Prelude.{◌≡◌, ◌⊎◌, ℕ, ◌≤◌, Bool, true, false, is_some, List, [], ◌∷◌, ◌++◌, length, drop, map}
+use Rattle.std.specs.Prelude.{Option, Some, None, Ok, Err}
+use Rattle.std.specs.List.{flat_map}
+use Rattle.xs_resp.specs.declared.fault.Fault.TheVariants.{Protocol}
+use Rattle.xs_resp.specs.declared.reply.Reply.{Reply}
+use Rattle.xs_resp.specs.declared.read_fault.ProtocolFault.{ProtocolFault}
+use Rattle.xs_resp.specs.ReplyText.{text}
+use Rattle.xs_resp.specs.Grammar.{SpellsAll, FaultIn, IsOpen}
+use Rattle.xs_resp.specs.HeldBytes.{Held, Skips}
+use Rattle.xs_resp.specs.LeftToWrite.{bytes_left}
+use Rattle.xs_command.specs.declared.command.Command.{Command}
+use Rattle.xs_command.specs.declared.command.Command.TheVariants.{Quit}
+use Rattle.xs_desk.specs.declared.answer.Call.{Call}
+use Rattle.xs_desk.specs.Calls.{IsFormed}
+use Rattle.xs_session.specs.declared.ending.Ending.{Ending}
+use Rattle.xs_session.specs.declared.ending.Ending.TheVariants as ending
+use Rattle.xs_session.specs.declared.session.Session.{Session}
+use Rattle.xs_session.specs.declared.session.Turn.{Turn}
+use Rattle.xs_session.specs.declared.session.Turn.TheVariants as turn
+use Rattle.xs_session.specs.Answers.{Taken, Asks, Says, AreTaken, MayBeOpen, is_alone, asked_of, answers_to, has_quit}
+
+-- the texts of replies
+abbrev pub texts : List Reply → List ℕ
+texts replies = flat_map text replies
+
+-- the protocol error has its place behind the requests
+abbrev pub refusal : Option Ending → List Taken
+refusal (Some ending.Protocol) = Says Protocol ∷ []
+refusal _ = []
+
+-- whether further requests are taken from the rest of what was read, which is held: not behind a QUIT, which is the
+-- last request, nor from a fault on
+abbrev pub Goes : Option Ending → List Taken → List ℕ → Held → Type 0
+Goes None taken rest held = (held ≡ Ok rest) × (has_quit taken ≡ false)
+Goes (Some ending.Quit) taken rest held =
+    (held ≡ Ok rest) × ((before : List Taken) × (taken ≡ before ++ Asks Quit ∷ []) × (has_quit before ≡ false))
+Goes (Some ending.Protocol) taken rest held =
+    (has_quit taken ≡ false) × ((wrong : ProtocolFault) × FaultIn rest wrong × (held ≡ Err wrong))
+Goes _ taken rest held = ⊥
+
+-- What was read begins with requests, each of which is taken; asked is what they ask, in their order. Of the answers,
+-- in the order of the requests, the first ones are begun, as far as all are there: sent is their texts, but for what is
+-- owed of them. The others have places, some of which wait for their reply.
+pub record IsAfter
+    (read : List ℕ) (asked : List Command) (got : List Reply) (sent : List ℕ)
+    (ended : Option Ending) (held : Held) (places : List (Option Reply)) (owed : List ℕ) : Type 0 where
+  pub requests : List (List (List ℕ))
+  pub front : List ℕ
+  pub rest : List ℕ
+  pub read_is : read ≡ front ++ rest
+  pub spelled : SpellsAll front requests
+  pub taken : List Taken
+  pub are_taken : AreTaken requests taken
+  pub goes : Goes ended taken rest held
+  pub asked_is : asked ≡ asked_of taken
+  pub fits : length got ≤ length asked
+  pub begun : List Reply
+  pub answers : answers_to (taken ++ refusal ended) got ≡ map Some begun ++ places
+  pub sent_is : texts begun ≡ sent ++ owed
+
+-- so is a session; and what it asks alone is open alone
+abbrev pub SessionIsAfter : List ℕ → List Command → List Reply → List ℕ → Session → Type 0
+SessionIsAfter read asked got sent session =
+    IsAfter read asked got sent session.ended session.requests session.places (bytes_left session.owed)
+    × MayBeOpen session.alone (drop (length got) asked)
+
+-- every answer is written
+abbrev pub IsWritten : Session → Type 0
+IsWritten session = (session.places ≡ []) × (bytes_left session.owed ≡ [])
+
+-- a QUIT ends it
+abbrev pub ending_of : Command → Option Ending
+ending_of Quit = Some ending.Quit
+ending_of _ = None
+
+-- nothing is read yet
+pub record IsNew (session : Session) : Type 0 where
+  pub ended : session.ended ≡ None
+  pub requests : session.requests ≡ Ok []
+  pub places : session.places ≡ []
+  pub owed : bytes_left session.owed ≡ []
+  pub alone : session.alone ≡ false
+
+-- what a turn asks
+abbrev pub asked_in : Turn → List Command
+asked_in (turn.Asks call) = call.command ∷ []
+asked_in _ = []
+
+-- the call of the request at the front was asked; alone only once every answer is written
+pub record AsksFront (old : Session) (call : Call) (result : Turn) (new : Session) : Type 0 where
+  pub asks : result ≡ turn.Asks call
+  pub skips : Skips old.requests new.requests
+  pub places : new.places ≡ old.places ++ None ∷ []
+  pub ended : new.ended ≡ ending_of call.command
+  pub alone : new.alone ≡ is_alone call.command
+  pub written : is_alone call.command ≡ true → IsWritten old
+
+-- it was, or it is to be asked alone and has to wait
+abbrev pub AsksOrWaits : Session → Call → Turn → Session → Type 0
+AsksOrWaits old call result new =
+    AsksFront old call result new ⊎ ((result ≡ turn.Full) × (new ≡ record old { alone = true }))
+
+-- a request was taken, or has to wait; what is asked is formed, and has its words if they are wanted
+abbrev pub Takes : Bool → Turn → Type 0
+Takes wants_words turn.Goes = Unit {0}
+Takes wants_words turn.Full = Unit {0}
+Takes wants_words (turn.Asks call) = IsFormed call × (wants_words ≡ true → is_some call.words ≡ true)
+Takes wants_words _ = ⊥
+
+-- it waits for bytes: no whole request is held, and no fault
+abbrev pub Waits : Option Ending → Held → Type 0
+Waits ended held = (ended ≡ None) × ((bytes : List ℕ) × (held ≡ Ok bytes) × IsOpen bytes)

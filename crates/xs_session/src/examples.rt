@@ -1,0 +1,57 @@
+//! Examples of what the definitions say, with values from outside.
+#![tactic(auto, unfolding(xs_command::proofs::Computing::example_functions))]
+
+ghost use Rattle.xs_session.specs.Examples.{Takings, TakenInOrder, Answering, Alone, Open};
+ghost use Rattle.xs_session.specs.ExamplesPlaces.{Places};
+ghost use Rattle.xs_session.specs.ExamplesSessions.{Sessions, NoSessions};
+ghost use Rattle.xs_session.specs.ExamplesTurns.{Turns, TurnsOfSessions};
+
+/// What one request becomes.
+pub fn takings()
+    ensures { Takings }
+{}
+
+/// What requests become, one after the other.
+pub fn taken_in_order()
+    ensures { TakenInOrder }
+{}
+
+/// What is asked, and what each request is answered as the replies come.
+pub fn answering()
+    ensures { Answering }
+{}
+
+/// Which commands are asked alone.
+pub fn alone()
+    ensures { Alone }
+{}
+
+/// What may be open at once.
+pub fn open()
+    ensures { Open }
+{}
+
+/// Places of answers.
+pub fn places()
+    ensures { Places }
+{}
+
+/// Sessions, by their four lists.
+pub fn sessions()
+    ensures { Sessions }
+{}
+
+/// What no session does.
+pub fn no_sessions()
+    ensures { NoSessions }
+{}
+
+/// What a turn may do.
+pub fn turns()
+    ensures { Turns }
+{}
+
+/// What turns of all sessions may do.
+pub fn turns_of_sessions()
+    ensures { TurnsOfSessions }
+{}

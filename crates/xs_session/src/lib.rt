@@ -1,0 +1,16 @@
+//! A connection with no IO, no thread and no port: it hands out the calls of the requests that it has read, and is handed
+//! the replies to them; nothing in it waits.
+#![tactic(auto)]
+
+pub mod ending;
+pub mod examples;
+pub mod places;
+pub mod reserve;
+pub mod session;
+pub mod taking;
+
+pub use ending::Ending;
+pub use places::{AHEAD, Places};
+pub use reserve::Reserve;
+pub use session::{Session, Turn};
+pub use taking::take_request;

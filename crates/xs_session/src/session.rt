@@ -1,0 +1,347 @@
+//! The session of a connection.
+ghost use Rattle.std.specs.Prelude.{◌≡◌, ◌<◌, ◌++◌, ◌∷◌, ◌⊎◌, List, ℕ, [], Ok, Err, Some, None, true, false};
+ghost use Rattle.std.specs.Prelude.{length, is_some, if◌then◌else◌, IfOk, OnErr};
+ghost use Rattle.std.specs.Io.KnownBytes.{Keeps};
+ghost use Rattle.xs_devices.specs.Device.{Gave};
+ghost use Rattle.xs_devices.specs.declared.fill.FillFault.{FillFault};
+ghost use Rattle.xs_resp.specs.declared.reply.Reply.{Reply};
+ghost use Rattle.xs_resp.specs.HeldBytes.{HasNext, Skips, holds_bytes};
+ghost use Rattle.xs_resp.specs.LeftToWrite.{bytes_left};
+ghost use Rattle.xs_command.specs.declared.command.Command.{Command};
+ghost use Rattle.xs_desk.specs.declared.answer.Call.{Call};
+ghost use Rattle.xs_desk.specs.Calls.{IsFormed};
+ghost use Rattle.xs_session.specs.declared.ending.Ending.{Ending};
+ghost use Rattle.xs_session.specs.Places.{has_open, NoneReady};
+ghost use Rattle.xs_session.specs.Answers.{is_alone};
+ghost use Rattle.xs_session.specs.Session.{SessionIsAfter, IsNew, IsWritten, Waits, Takes, AsksOrWaits};
+ghost use Rattle.xs_session.specs.Session.{asked_in, ending_of};
+
+use crate::ending::Ending;
+use crate::places::{AHEAD, Places};
+use crate::reserve::Reserve;
+use crate::taking::take_request;
+use std::alloc::{AllocError, Global};
+use xs_command::Command;
+use xs_desk::Call;
+use xs_devices::{Fill, FillFault, Source};
+use xs_resp::{Encoder, Fault, Reply, Requests};
+
+/// What a turn of a session comes to.
+#[derive(Debug, Drop)]
+pub enum Turn {
+    /// It goes on.
+    Goes,
+    /// This call is asked. Its reply is handed in by `hand_in`.
+    Asks(Call),
+    /// It waits for bytes.
+    Waits,
+    /// It takes no further request until the replies that are waited for are there and all answers are written.
+    Full,
+    /// It takes no further request.
+    Ends(Ending),
+}
+
+/// How many bytes of requests are held without more memory: those of one read, and twice a request of 16 KiB.
+const ROOM: usize = 131_072;
+
+/// A session: the bytes that came in and aren't taken yet, the places of the answers to the requests that are, and what
+/// is owed of those that are begun.
+#[derive(Drop)]
+pub struct Session {
+    alloc: Global,
+    reserve: Reserve,
+    pub requests: Requests,
+    pub places: Places,
+    /// What is being written.
+    pub owed: Encoder,
+    /// Why no further request is taken.
+    pub ended: Option<Ending>,
+    /// Nothing is taken before every answer is written: the last command was asked alone, or the next one will be.
+    pub alone: bool,
+    // How many answers may have places: fewer while memory is refused.
+    most: usize,
+}
+
+/// How a session ends behind a command, if it does.
+fn end_by(command: &Command) -> Option<Ending>
+    ensures { result ≡ ending_of command.now }
+{
+    match command {
+        Command::Quit => Some(Ending::Quit),
+        _ => None,
+    }
+}
+
+/// Whether the reply to a command may be of any size, or long in coming.
+fn is_alone(command: &Command) -> bool
+    ensures { result ≡ is_alone command.now }
+{
+    matches!(
+        command,
+        Command::Scan(_)
+            | Command::ReadGroup(_)
+            | Command::PendingRows(_)
+            | Command::Claim(_)
+            | Command::AutoClaim(_)
+    )
+}
+
+/// How many answers may have places behind a reply: one if memory was refused, and then one more with each. So a client
+/// that adds while memory is full has few commands that only take memory.
+fn next_most(most: usize, reply: &Reply) -> usize {
+    if matches!(reply, Reply::Error(Fault::Memory)) {
+        return 1;
+    }
+    most.saturating_add(1).min(AHEAD)
+}
+
+impl Session {
+    ghost use Rattle.xs_devices.specs.declared.fill.FillFault.{FillFault};
+    ghost use Rattle.xs_session.specs.declared.ending.Ending.{Ending};
+
+    /// A session before its first byte, with all the memory that small requests need.
+    pub fn new(alloc: Global) -> Result<Self, AllocError>
+        ensures { IfOk result IsNew }
+    {
+        Ok(Self {
+            alloc,
+            reserve: Reserve::new(alloc)?,
+            requests: Requests::with_capacity(alloc, ROOM)?,
+            places: Places::new(alloc)?,
+            owed: Encoder::new(alloc)?,
+            ended: None,
+            alone: false,
+            most: AHEAD,
+        })
+    }
+
+    /// Begins the next session, with the memory of this one.
+    pub fn clear(&mut self)
+        ensures { IsNew self.new }
+    {
+        self.requests.clear();
+        self.places.clear();
+        self.owed.clear();
+        self.ended = None;
+        self.alone = false;
+        self.most = AHEAD;
+    }
+
+    /// Whether every answer is written.
+    fn is_written(&self) -> bool
+        ensures { result ≡ true → IsWritten self.now }
+    {
+        self.places.is_empty() && self.owed.piece().is_empty()
+    }
+
+    /// Whether the next request has to wait until every answer is written.
+    fn waits_alone(&mut self) -> bool
+        ensures waits { result ≡ true → self.new ≡ self.old }
+        ensures goes { result ≡ false → self.new ≡ record self.old { alone = false } }
+        ensures settled { result ≡ false → self.old.alone ≡ true → IsWritten self.old }
+    {
+        if !self.alone {
+            return false;
+        }
+        if !self.is_written() {
+            return true;
+        }
+        self.alone = false;
+        false
+    }
+
+    /// Takes the next request, if there is one and room for its answer. A call has its words if they are wanted.
+    ///
+    /// A command whose reply may be of any size, or long in coming, is asked only once every answer before it is
+    /// written, and the next one once its own is. So nothing is written while it waits.
+    pub fn advance(&mut self, wants_words: bool) -> Turn
+        ensures turns { (read : List ℕ) (asked : List Command) (got : List Reply) (sent : List ℕ) →
+            SessionIsAfter read asked got sent self.old →
+            SessionIsAfter read (asked ++ asked_in result) got sent self.new }
+        ensures formed { (call : Call) → result ≡ Turn.Asks call → IsFormed call }
+        ensures words { wants_words ≡ true → (call : Call) → result ≡ Turn.Asks call → is_some call.words ≡ true }
+        ensures alone { (call : Call) → result ≡ Turn.Asks call →
+            (self.old.alone ≡ true) ⊎ (is_alone call.command ≡ true) → IsWritten self.old }
+        ensures ended { (ending : Ending) → result ≡ Turn.Ends ending → self.new.ended ≡ Some ending }
+        ensures waits { result ≡ Turn.Waits → Waits self.new.ended self.new.requests }
+        ensures owed { self.new.owed ≡ self.old.owed }
+    {
+        match self.ended {
+            Some(ending) => return Turn::Ends(ending),
+            None => {}
+        }
+        if !self.places.has_room(self.most) || self.waits_alone() {
+            return Turn::Full;
+        }
+        self.take_next(wants_words)
+    }
+
+    /// Takes the next request, if there is one: there is room for its answer.
+    fn take_next(&mut self, wants_words: bool) -> Turn
+        requires room { length self.old.places < 32 }
+        requires going { self.old.ended ≡ None }
+        requires several { self.old.alone ≡ false }
+        ensures turns { (read : List ℕ) (asked : List Command) (got : List Reply) (sent : List ℕ) →
+            SessionIsAfter read asked got sent self.old →
+            SessionIsAfter read (asked ++ asked_in result) got sent self.new }
+        ensures formed { (call : Call) → result ≡ Turn.Asks call → IsFormed call }
+        ensures words { wants_words ≡ true → (call : Call) → result ≡ Turn.Asks call → is_some call.words ≡ true }
+        ensures alone { (call : Call) → result ≡ Turn.Asks call → is_alone call.command ≡ true → IsWritten self.old }
+        ensures ended { (ending : Ending) → result ≡ Turn.Ends ending → self.new.ended ≡ Some ending }
+        ensures waits { result ≡ Turn.Waits → Waits self.new.ended self.new.requests }
+        ensures owed { self.new.owed ≡ self.old.owed }
+    {
+        match self.requests.has_next() {
+            Ok(true) => {}
+            Ok(false) => return Turn::Waits,
+            Err(_) => {
+                self.places.say(Fault::Protocol);
+                self.ended = Some(Ending::Protocol);
+                return Turn::Ends(Ending::Protocol);
+            }
+        }
+        // A part of it is better than none.
+        let _ = self.reserve.fill(self.alloc);
+        self.take_front(wants_words)
+    }
+
+    /// Takes the request at the front, unless it has to wait for the replies before it.
+    fn take_front(&mut self, wants_words: bool) -> Turn
+        requires whole { HasNext self.old.requests }
+        requires room { length self.old.places < 32 }
+        requires going { self.old.ended ≡ None }
+        requires several { self.old.alone ≡ false }
+        ensures turns { (read : List ℕ) (asked : List Command) (got : List Reply) (sent : List ℕ) →
+            SessionIsAfter read asked got sent self.old →
+            SessionIsAfter read (asked ++ asked_in result) got sent self.new }
+        ensures goes { Takes wants_words result }
+        ensures alone { (call : Call) → result ≡ Turn.Asks call → is_alone call.command ≡ true → IsWritten self.old }
+        ensures owed { self.new.owed ≡ self.old.owed }
+    {
+        let words = self.requests.front();
+        if words.is_empty() {
+            self.requests.skip();
+            return Turn::Goes;
+        }
+        match take_request(self.alloc, &mut self.reserve, wants_words, words) {
+            Ok(call) => self.ask(call),
+            Err(fault) => {
+                self.requests.skip();
+                self.places.say(fault);
+                Turn::Goes
+            }
+        }
+    }
+
+    /// Asks the call of the request at the front, unless it is to be asked alone and some answer isn't written.
+    fn ask(&mut self, call: Call) -> Turn
+        requires whole { HasNext self.old.requests }
+        requires room { length self.old.places < 32 }
+        requires several { self.old.alone ≡ false }
+        ensures asks { AsksOrWaits self.old call result self.new }
+        ensures owed { self.new.owed ≡ self.old.owed }
+    {
+        if is_alone(&call.command) {
+            self.alone = true;
+            if !self.is_written() {
+                return Turn::Full;
+            }
+        }
+        self.requests.skip();
+        self.places.ask();
+        self.ended = end_by(&call.command);
+        Turn::Asks(call)
+    }
+
+    /// Whether the reply to an asked command is waited for.
+    pub fn is_open(&self) -> bool
+        ensures { result ≡ has_open self.now.places }
+    {
+        self.places.is_open()
+    }
+
+    /// Hands in the reply to the first command that was asked and hasn't one. While memory is refused fewer commands
+    /// are asked ahead.
+    pub fn hand_in(&mut self, reply: Reply)
+        requires { has_open self.old.places ≡ true }
+        ensures after { (read : List ℕ) (asked : List Command) (got : List Reply) (sent : List ℕ) →
+            SessionIsAfter read asked got sent self.old →
+            SessionIsAfter read asked (got ++ reply ∷ []) sent self.new }
+        ensures owed { self.new.owed ≡ self.old.owed }
+        ensures ended { self.new.ended ≡ self.old.ended }
+        ensures held { self.new.requests ≡ self.old.requests }
+    {
+        self.most = next_most(self.most, &reply);
+        self.places.answer(reply);
+    }
+
+    /// Begins the next answer if it is there and nothing is owed, and says whether it did.
+    pub fn begin_answer(&mut self) -> bool
+        ensures after { (read : List ℕ) (asked : List Command) (got : List Reply) (sent : List ℕ) →
+            SessionIsAfter read asked got sent self.old → SessionIsAfter read asked got sent self.new }
+        ensures none { result ≡ false → bytes_left self.old.owed ≡ [] → NoneReady self.old.places × (self.new ≡ self.old) }
+        ensures fewer { result ≡ true → length self.new.places < length self.old.places }
+        ensures open { has_open self.new.places ≡ has_open self.old.places }
+        ensures ended { self.new.ended ≡ self.old.ended }
+        ensures held { self.new.requests ≡ self.old.requests }
+    {
+        if !self.owed.piece().is_empty() {
+            return false;
+        }
+        let Some(reply) = self.places.next() else {
+            return false;
+        };
+        self.owed.begin(reply);
+        true
+    }
+
+    /// The front of what is owed. It is empty only if nothing is owed.
+    pub fn output(&self) -> &[u8]
+        ensures value { result.now ≡ self.now.owed.piece }
+        ensures all { result.now ≡ [] → bytes_left self.now.owed ≡ [] }
+    {
+        self.owed.piece()
+    }
+
+    /// Says that the front of what is owed is written.
+    pub fn mark_sent(&mut self)
+        ensures after { (read : List ℕ) (asked : List Command) (got : List Reply) (sent : List ℕ) →
+            SessionIsAfter read asked got sent self.old →
+            SessionIsAfter read asked got (sent ++ self.old.owed.piece) self.new }
+        ensures owed { bytes_left self.new.owed ≡ self.old.owed.behind }
+        ensures places { self.new.places ≡ self.old.places }
+        ensures ended { self.new.ended ≡ self.old.ended }
+        ensures held { self.new.requests ≡ self.old.requests }
+    {
+        self.owed.advance();
+    }
+
+    /// Reads bytes in, at most 64 KiB, and says how many: 0 only at the end.
+    ///
+    /// # Errors
+    /// It is unchanged.
+    pub fn read_from<R: Source>(&mut self, reader: &mut R) -> Result<usize, FillFault>
+        requires { self.old.ended ≡ None }
+        ensures ok { IfOk result (λ n. Gave (R.rest reader.old) (R.rest reader.new) (R.ended reader.new) n
+            (λ more. (read : List ℕ) (asked : List Command) (got : List Reply) (sent : List ℕ) →
+            SessionIsAfter read asked got sent self.old → SessionIsAfter (read ++ more) asked got sent self.new)) }
+        ensures none { result ≡ Ok 0 → self.new ≡ self.old }
+        ensures err { OnErr result ((self.new ≡ self.old) × Keeps (R.rest reader.old) (R.rest reader.new)) }
+        ensures read { result ≡ Err FillFault.Read → R.broken reader.new ≡ true }
+        ensures same { (self.new.places ≡ self.old.places) × (self.new.owed ≡ self.old.owed)
+            × (self.new.ended ≡ self.old.ended) }
+    {
+        self.requests.fill(reader)
+    }
+
+    /// How it ends at the end of the input.
+    pub fn end(&self) -> Ending
+        ensures { result ≡ (if holds_bytes self.now.requests then Ending.Cut else Ending.Closed) }
+    {
+        if self.requests.partial() {
+            Ending::Cut
+        } else {
+            Ending::Closed
+        }
+    }
+}

@@ -1,0 +1,7 @@
+//! Lists that only clauses read.
+#![tactic(auto)]
+
+pub mod link;
+pub mod trace;
+
+pub use trace::Trace;

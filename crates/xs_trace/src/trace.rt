@@ -1,0 +1,47 @@
+//! A list that only clauses read.
+ghost use Rattle.std.specs.Prelude.{◌≡◌, [], ◌∷◌, ◌++◌};
+
+use crate::link::Link;
+use std::marker::Model;
+use std::snapshot::Snapshot;
+
+/// A list of values as clauses see them: it keeps none of them, and takes no memory but a byte. So a value can say what
+/// it was given, though that is gone.
+#[derive(Drop)]
+#[cycle(trace)]
+pub struct Trace<T> {
+    last: Link<T, Trace<T>>,
+}
+
+impl<T> Model for Trace<T> {
+    ghost use Rattle.std.specs.Prelude.{List, length};
+
+    ghost Value = { List T };
+
+    ghost use Rattle.xs_trace.specs.Items.{items_of};
+
+    ghost view = { λ t. items_of t.last };
+
+    ghost size = { length };
+
+    ghost use Rattle.std.proofs.Common.{arith, length-append};
+
+    ghost size_decreases = { λ a h. Prim.grind (arith, length-append) };
+}
+
+impl<T> Trace<T> {
+    /// Nothing.
+    pub fn new() -> Self
+        ensures { result ≡ [] }
+    {
+        Self { last: Link::First }
+    }
+
+    /// Puts an item behind the others.
+    pub fn add(&mut self, item: &T)
+        ensures { self.new ≡ self.old ++ item.now ∷ [] }
+    {
+        let before = Snapshot::of(self);
+        self.last = Link::Next(before, Snapshot::of(item));
+    }
+}
