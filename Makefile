@@ -80,12 +80,14 @@ compare:
 	python3 conformance/at_random.py $(PROGRAM) script
 	python3 conformance/at_random_served.py $(PROGRAM)
 
-# Runs the program as a server for clients of others, beside a real Redis 7.0. Those that aren't installed are skipped.
+# Runs the program as a server for clients of others, beside a real Redis 7.0, and for the examples. Clients that aren't
+# installed are skipped.
 # Debian: apt-get install redis-server redis-tools python3-redis python3-hiredis gcc libhiredis-dev node-redis ruby-redis
 # golang-go golang-github-gomodule-redigo-dev php-cli php-redis php-predis
 clients:
 	$(BUILD)
 	python3 conformance/clients.py $(PROGRAM)
+	python3 conformance/examples.py $(PROGRAM)
 
 # Runs the program as a server for clients that are hostile, unlucky or many, and kills it 200 times under load.
 hostile:

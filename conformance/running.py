@@ -27,7 +27,7 @@ from full_queue import MEGABYTE
 from great import bulk, number
 from real_redis import read_reply
 from served import (FULL, MOST_FAULTS, PATIENCE, PING, PONG, all_answer, asking, pass_together, passes, raw,
-                    read_to_end, reset, running, say, tell)
+                    read_to_end, reset, running, say, tell, timed)
 from waiting import NOTHING, NOTICED, OK, Clients, add, begin, comes, gives, make, nothing_comes, reading, refuses
 
 # How many workers the server has that the cases of readers share, and the most that there may be.
@@ -54,6 +54,7 @@ def is_refused(stream, began, least, most):
     assert least - 0.02 <= took <= most, f"refused after {took} s"
 
 
+@timed
 def forty_too_many(program):
     """With 4 workers that are busy, two of them with readers that wait, 40 more connections are refused after a second,
     and nothing that they sent is executed. When one ends, a new one is served."""
@@ -75,6 +76,7 @@ def forty_too_many(program):
         say(one, "XLEN refused", number(1))
 
 
+@timed
 def one_ends_in_time(program):
     """Of connections that come when all workers are busy as many are served, each request once, as others end within a
     second, and the rest is refused."""
@@ -101,6 +103,7 @@ def one_ends_in_time(program):
             held += served_ones
 
 
+@timed
 def in_their_order(program):
     """Of connections that wait for a worker the one that came first is served first."""
     with running(program, workers=1) as server, Clients(server.port) as clients:
@@ -136,6 +139,7 @@ def sends_while_it_waits(program):
         assert sent < most and grown < MEGABYTE, (sent, grown)
 
 
+@timed
 def more_than_may_wait(program):
     """More connections come than may wait for the one worker, for which there are too few descriptors: each is told so,
     and nothing that it sent is executed."""
@@ -161,6 +165,7 @@ def may_have(count):
     return True
 
 
+@timed
 def a_thousand(program):
     """1,024 connections are served at once. The next is refused, and what it sent isn't executed; when one ends, another
     one is served."""
@@ -252,6 +257,7 @@ def time_of_bursts(server, stream):
     return min(time_of(server, 200, ask) for _ in range(3))
 
 
+@timed
 def idle_ones_cost_little(program):
     """Requests cost about as much beside 1,000 connections that are idle as on a server of four workers."""
     if not may_have(3000):
@@ -278,6 +284,7 @@ def pieces_of_a_pipeline(program):
         assert pieces <= 50, pieces
 
 
+@timed
 def readers_cost_little(program):
     """An addition costs little though 500 readers wait for others: of the same group, or of other keys."""
     if not may_have(3000):
@@ -314,6 +321,7 @@ def readers_cost_little(program):
         assert max(of_others, of_one) < 4 * alone + 400, (alone, of_others, of_one)
 
 
+@timed
 def pauses_cost_little(program):
     """Requests that come a few milliseconds apart take little processor time: nobody looks for the next one for long."""
     with running(program) as server, raw(server.port) as one:
@@ -350,6 +358,7 @@ def ask_or_be_refused(stream, text):
     return got
 
 
+@timed
 def few_descriptors(program):
     """If no descriptor is left, connections are told at once that there are too many, and nothing that they sent is
     executed; those that are open are served, and nothing spins. When the limit is raised it serves again."""
@@ -372,6 +381,7 @@ def few_descriptors(program):
         all_answer(server)
 
 
+@timed
 def no_descriptors(program):
     """The same with a limit below all descriptors that it has. Connections may then wait; nothing spins, and when the
     limit is raised it serves again."""
@@ -497,7 +507,7 @@ def ends_idle(stream, began):
     stream.settimeout(5)
     got, _ = read_to_end(stream)
     took = time.monotonic() - began
-    assert got == b"" and 0.98 <= took <= 1.9, (got, took)
+    assert got == b"" and 0.95 <= took <= 1.9, (got, took)
 
 
 def sends_nothing(stream):
@@ -507,14 +517,16 @@ def sends_nothing(stream):
 
 def falls_silent(stream):
     """It is closed behind its last reply."""
+    began = time.monotonic()
     say(stream, "PING", PONG.decode())
-    ends_idle(stream, time.monotonic())
+    ends_idle(stream, began)
 
 
 def stops_within_a_request(stream):
     """It is closed behind half a request."""
+    began = time.monotonic()
     stream.sendall(PING[:7])
-    ends_idle(stream, time.monotonic())
+    ends_idle(stream, began)
 
 
 def waits(stream):
@@ -542,6 +554,7 @@ def sends_bytes(stream):
     comes(stream, PONG.decode())
 
 
+@timed
 def closes_the_idle(program):
     """With `--idle 1` connections that send nothing for a second are closed; one that waits, and one that sends now and
     then, isn't."""
@@ -664,6 +677,7 @@ def closed_pipe():
         os.close(writer)
 
 
+@timed
 def odd_errors(program):
     """It serves though its standard error is a pipe that is closed, or one that is full and that nobody reads; another
     connection than it can serve is refused there too."""

@@ -13,7 +13,8 @@ import time
 import served
 from great import array, bulk, entry, number
 from real_redis import read_reply
-from served import PATIENCE, PING, PONG, asking, raw, read_exactly, read_to_end, reset, running, say, say_at
+from served import (PATIENCE, PING, PONG, asking, raw, read_exactly, read_to_end, reset, running, say, say_at,
+                    timed)
 
 NOTHING, OK = "*-1\r\n", "+OK\r\n"
 # How many seconds a request takes at most to be read and to begin to wait, and a client that has gone to be noticed.
@@ -347,9 +348,9 @@ def before_and_behind(server):
         one, reader, brief = clients.new(), clients.new(), clients.new()
         make(one, "order")
         reader.sendall(asking("PING before") + asking(reading("a", "order")) + asking("XLEN order") * 2)
-        brief.sendall(asking("PING before") + asking(reading("b", "order", "BLOCK 300")) + PING)
+        brief.sendall(asking("PING before") + asking(reading("b", "order", "BLOCK 1500")) + PING)
         for stream in (reader, brief):
-            comes(stream, bulk("before"), within=0.25)
+            comes(stream, bulk("before"), within=1)
         nothing_comes(READ, reader)
         reader.sendall(PING)
         comes(brief, NOTHING + PONG.decode())
@@ -424,6 +425,7 @@ def sixty(program):
         say(one, "XPENDING jobs g - + 10", array([]))
 
 
+@timed
 def waiting_costs_nothing(program):
     """60 readers that wait take no processor time, and another client is answered meanwhile."""
     count = 60
@@ -484,6 +486,7 @@ def leaves(program, end, behind):
                                            array([array([bulk("b"), bulk("1")])])]))
 
 
+@timed
 def clients_that_go(program):
     """Each way in which a client goes while it waits, on a server of its own whose other workers are all busy."""
     def work(place):
@@ -493,6 +496,7 @@ def clients_that_go(program):
     served.together(len(WAYS), work)
 
 
+@timed
 def has_just_gone(program):
     """If who waits longest went 0.2 seconds before a job came, it goes to one who is there."""
     def work(half):
@@ -513,6 +517,7 @@ def has_just_gone(program):
     served.together(len(ENDS), work)
 
 
+@timed
 def many_have_just_gone(program):
     """If all who wait longest went 0.2 seconds before a job came, each in a way of its own, it goes to the one who is
     there."""
@@ -529,6 +534,7 @@ def many_have_just_gone(program):
         comes(other, gives("left", 1), within=2)
 
 
+@timed
 def terminated(program):
     """SIGTERM ends it at once by the signal, though calls wait. Their clients are answered nothing, and nothing was
     written on standard output."""
