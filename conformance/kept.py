@@ -12,7 +12,7 @@ from books import Connection
 from great import array, bulk, entry, number
 from logged import NEXT, goes_on, is_refusal, last_log, logged, new_folder, start
 from real_redis import read_reply
-from served import PING, PONG, asking, raw, read_to_end, say, say_at, timed
+from served import PING, PONG, asking, raw, read_to_end, say, say_at
 from waiting import NOTHING, Clients, add, begin, comes, gives, make, nothing_comes, reading
 
 
@@ -78,7 +78,6 @@ def replies_before_a_sync(program):
                 comes(one, gives("s", place) + PONG.decode())
 
 
-@timed
 def syncs_are_shared(program):
     """What 16 clients add while a sync lasts is kept by one more, or two if some of it comes late, and not by one for
     each."""
@@ -109,7 +108,6 @@ def is_kept_in_time(told, path):
         time.sleep(0.05)
 
 
-@timed
 def syncs_each_second(program):
     """With `--sync second` an addition waits for no sync, and is kept a few seconds later, though nothing more comes.
     While nothing comes nothing is synced, and what comes within a second shares a sync."""
@@ -135,7 +133,6 @@ def syncs_each_second(program):
             assert count <= took + 2, f"{count} syncs in {took} s"
 
 
-@timed
 def a_sync_beside_fails(program):
     """With `--sync second` a sync that fails ends it within seconds, though nobody waits for it."""
     with syncs.counted() as told, new_folder() as folder:

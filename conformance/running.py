@@ -54,7 +54,6 @@ def is_refused(stream, began, least, most):
     assert least - 0.02 <= took <= most, f"refused after {took} s"
 
 
-@timed
 def forty_too_many(program):
     """With 4 workers that are busy, two of them with readers that wait, 40 more connections are refused after a second,
     and nothing that they sent is executed. When one ends, a new one is served."""
@@ -76,7 +75,6 @@ def forty_too_many(program):
         say(one, "XLEN refused", number(1))
 
 
-@timed
 def one_ends_in_time(program):
     """Of connections that come when all workers are busy as many are served, each request once, as others end within a
     second, and the rest is refused."""
@@ -103,7 +101,6 @@ def one_ends_in_time(program):
             held += served_ones
 
 
-@timed
 def in_their_order(program):
     """Of connections that wait for a worker the one that came first is served first."""
     with running(program, workers=1) as server, Clients(server.port) as clients:
@@ -139,7 +136,6 @@ def sends_while_it_waits(program):
         assert sent < most and grown < MEGABYTE, (sent, grown)
 
 
-@timed
 def more_than_may_wait(program):
     """More connections come than may wait for the one worker, for which there are too few descriptors: each is told so,
     and nothing that it sent is executed."""
@@ -165,7 +161,6 @@ def may_have(count):
     return True
 
 
-@timed
 def a_thousand(program):
     """1,024 connections are served at once. The next is refused, and what it sent isn't executed; when one ends, another
     one is served."""
@@ -358,7 +353,6 @@ def ask_or_be_refused(stream, text):
     return got
 
 
-@timed
 def few_descriptors(program):
     """If no descriptor is left, connections are told at once that there are too many, and nothing that they sent is
     executed; those that are open are served, and nothing spins. When the limit is raised it serves again."""
@@ -381,7 +375,6 @@ def few_descriptors(program):
         all_answer(server)
 
 
-@timed
 def no_descriptors(program):
     """The same with a limit below all descriptors that it has. Connections may then wait; nothing spins, and when the
     limit is raised it serves again."""
@@ -677,7 +670,6 @@ def closed_pipe():
         os.close(writer)
 
 
-@timed
 def odd_errors(program):
     """It serves though its standard error is a pipe that is closed, or one that is full and that nobody reads; another
     connection than it can serve is refused there too."""

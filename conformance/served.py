@@ -312,7 +312,8 @@ def answers_at(port):
 
 
 def timed(case):
-    """Marks a case with bounds of time that a busy machine may break: it is tried three times, and one has to pass."""
+    """Marks a case that only tells how long something takes, or what it costs: a busy machine may break its bound, so it is
+    tried three times, and one has to pass. No case that says what is answered may have it."""
     case.tries = 3
     return case
 

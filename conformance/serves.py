@@ -24,7 +24,7 @@ import served
 from great import array, bulk, entry, number
 from real_redis import read_reply, request
 from served import (PING, PONG, add_many, all_answer, asking, fill, raw, read_exactly, read_to_end, reset, say, say_at,
-                    send_all_that_goes, serving, timed, together, try_all)
+                    send_all_that_goes, serving, together, try_all)
 
 WORKERS = 4
 PROTOCOL = b"-ERR Protocol error\r\n"
@@ -460,7 +460,6 @@ def too_little_to_start(program):
         assert done.stderr in (b"xs_server: serving failed\n", b"xs_server: out of memory\n"), done
 
 
-@timed
 def few_descriptors(program):
     """With fewer descriptors than workers no worker is lost, and none spins: as many connections are served as there are
     descriptors, and with more of them all workers serve."""

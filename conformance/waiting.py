@@ -486,7 +486,6 @@ def leaves(program, end, behind):
                                            array([array([bulk("b"), bulk("1")])])]))
 
 
-@timed
 def clients_that_go(program):
     """Each way in which a client goes while it waits, on a server of its own whose other workers are all busy."""
     def work(place):
@@ -496,7 +495,6 @@ def clients_that_go(program):
     served.together(len(WAYS), work)
 
 
-@timed
 def has_just_gone(program):
     """If who waits longest went 0.2 seconds before a job came, it goes to one who is there."""
     def work(half):
@@ -517,7 +515,6 @@ def has_just_gone(program):
     served.together(len(ENDS), work)
 
 
-@timed
 def many_have_just_gone(program):
     """If all who wait longest went 0.2 seconds before a job came, each in a way of its own, it goes to the one who is
     there."""
@@ -534,7 +531,6 @@ def many_have_just_gone(program):
         comes(other, gives("left", 1), within=2)
 
 
-@timed
 def terminated(program):
     """SIGTERM ends it at once by the signal, though calls wait. Their clients are answered nothing, and nothing was
     written on standard output."""
