@@ -326,7 +326,7 @@ def pauses_cost_little(program):
 
         apart = min(time_of(server, 500, pause_and_ask) for _ in range(2))
         print(f"{apart:.0f} us a request behind a pause", flush=True)
-        assert apart < 250, apart
+        assert apart < 170, apart
 
 
 # ---- descriptors and memory
