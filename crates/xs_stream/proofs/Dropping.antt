@@ -1,5 +1,5 @@
 -- The first entries of blocks, and how they go.
-use Rattle.std.proofs.Common.{◌≡◌, ℕ, ◌-◌, ◌<◌, ◌≤◌, suc, zero, true, false, not, List, [], ◌∷◌, ◌++◌, length, filter}
+use Rattle.std.proofs.Common.{◌≡◌, ℕ, ◌+◌, ◌-◌, ◌<◌, ◌≤◌, suc, zero, true, false, not, List, [], ◌∷◌, ◌++◌, length, filter}
 use Rattle.std.proofs.Common.{drop, Option, Some, None, sym, ap, ◌∙◌, refl, arith, append_assoc, subst, length-append}
 use Rattle.std.proofs.lemmas.List.{append-nil, drop-append-le, length-drop}
 use Rattle.std.proofs.lemmas.List.Elements.{filter-append}
@@ -50,6 +50,9 @@ pub drop-within : (count : ℕ) (es : Entries) (bs : Blocks) (newest : Entries) 
 drop-within count es bs newest h =
     append_assoc (drop count es) (entries_of_blocks bs) newest ∙ sym (ap (drop count) (append_assoc es (entries_of_blocks bs) newest) ∙ drop-append-le count es (entries_of_blocks bs ++ newest) h)
 
+pub length-popped : (es : Entries) (bs : Blocks) (newest : Entries) → length ((es ++ entries_of_blocks bs) ++ newest) ≡ length es + length (entries_of_blocks bs ++ newest)
+length-popped es bs newest = omega (arith, length-append (es ++ entries_of_blocks bs) newest, length-append es (entries_of_blocks bs), length-append (entries_of_blocks bs) newest)
+
 up_to-drop : (x : Id) (n : ℕ) (es : Entries) → AllUpTo x (ids_of es) → AllUpTo x (ids_of (drop n es))
 up_to-drop x zero es up = up
 up_to-drop x (suc n) [] up = tt
@@ -68,19 +71,20 @@ filed-within count under es bs newest h filed = (
 pub set-first : (under : Id) (es fs : Entries) (bs : Blocks) → set_value (is_same_id under) ((under, es) ∷ bs) fs ≡ (under, fs) ∷ bs
 set-first under es fs bs = rw (is_same_id-refl under) refl
 
-module _ (older : Blocks) (under : Id) (es : Entries) (bs : Blocks) (is : older ≡ (under, es) ∷ bs) where
-  found-first : lookup (is_same_id under) older ≡ Some es
+module _ {X : Type 0} (older : List (Id × X)) (under : Id) (x : X) (rest : List (Id × X)) (is : older ≡ (under, x) ∷ rest) where
+  found-first : lookup (is_same_id under) older ≡ Some x
   found-first = ap (lookup (is_same_id under)) is ∙ rw (is_same_id-refl under) refl
 
-  pub lent-first : (fs : Entries) → Some fs ≡ lookup (is_same_id under) older → fs ≡ es
-  lent-first fs e = let same : ◌≡◌ {A = Option Entries} (Some fs) (Some es) = e ∙ found-first in cc
+  pub lent-first : (y : X) → Some y ≡ lookup (is_same_id under) older → y ≡ x
+  lent-first y e = let same : ◌≡◌ {A = Option X} (Some y) (Some x) = e ∙ found-first in cc
 
+module _ (older : Blocks) (under : Id) (es : Entries) (bs : Blocks) (is : older ≡ (under, es) ∷ bs) where
   pub first-counted : (newest : Entries) → length es ≤ length (entries_of_blocks older ++ newest)
   first-counted newest =
       omega (arith, ap (λ cs. length (entries_of_blocks cs ++ newest)) is, length-append (es ++ entries_of_blocks bs) newest, length-append es (entries_of_blocks bs))
 
   pub never-absent : ◌≡◌ {A = Option Entries} None (lookup (is_same_id under) older) → ⊥
-  never-absent e = let never : ◌≡◌ {A = Option Entries} None (Some es) = e ∙ found-first in cc
+  never-absent e = let never : ◌≡◌ {A = Option Entries} None (Some es) = e ∙ found-first older under es bs is in cc
 
   pub written-first : (new : Blocks) (fs : Entries) → new ≡ set_value (is_same_id under) older fs → new ≡ (under, fs) ∷ bs
   written-first new fs e = e ∙ ap (λ cs. set_value (is_same_id under) cs fs) is ∙ set-first under es fs bs

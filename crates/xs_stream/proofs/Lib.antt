@@ -1,4 +1,5 @@
 pub mod Assigning
+pub mod Contents
 pub mod Dropping
 pub mod FiledBlocks
 pub mod Gaps
@@ -11,6 +12,7 @@ pub mod PackedCodes
 pub mod PassedEntries
 pub mod Past
 pub mod PlacesInLists
+pub mod Rooms
 pub mod WithinBlocks
 pub mod WithinEntries
 pub mod Computing

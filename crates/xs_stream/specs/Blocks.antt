@@ -1,5 +1,5 @@
 -- How a stream lays down its entries: in blocks, each filed under an id, and behind them the newest ones.
-use Rattle.std.specs.Prelude.{◌≡◌, ◌<◌, ◌^◌, not, false, List, [], ◌∷◌, ◌++◌, length, Option, Some, None}
+use Rattle.std.specs.Prelude.{◌≡◌, ℕ, ◌+◌, ◌<◌, ◌^◌, not, false, List, [], ◌∷◌, ◌++◌, length, Option, Some, None}
 use Rattle.std.specs.List.{flat_map}
 use Rattle.std.specs.Map.{keys_of, lookup, lookup_key, set_value}
 use Rattle.std.specs.declared.ops.Bound.{Bound}
@@ -10,14 +10,20 @@ use Rattle.xs_stream.specs.declared.entries.Entries.{Entries}
 use Rattle.xs_stream.specs.Id.{is_below, is_same_id}
 use Rattle.xs_stream.specs.StreamContent.{ids_of, AllAbove, AllUpTo}
 use Rattle.xs_stream.specs.ConsistentStream.{IsValidStream}
+use Rattle.xs_stream.specs.BlockState.{BlockState}
 
 -- the entries of blocks, one block after the other
 abbrev pub entries_of_blocks : List (Id × List (Id × List Field)) → List (Id × List Field)
 entries_of_blocks blocks = flat_map (λ b. b.1) blocks
 
+-- the entries that each block has
+abbrev pub contents : List (Id × BlockState) → List (Id × List (Id × List Field))
+contents [] = []
+contents (b ∷ bs) = (b.0, b.1.entries) ∷ contents bs
+
 -- all entries, in their order
 abbrev pub all_of : Entries → List (Id × List Field)
-all_of entries = entries_of_blocks entries.older.entries ++ entries.newest
+all_of entries = entries_of_blocks (contents entries.older.entries) ++ entries.newest.entries
 
 -- a block has entries, none of them above the id under which it is filed, and all later ones are above that id
 pub record IsFiled (block : Id × List (Id × List Field)) (later : List (Id × List Field)) : Type 0 where
@@ -29,9 +35,38 @@ abbrev pub AreFiled : List (Id × List (Id × List Field)) → List (Id × List 
 AreFiled [] newest = Unit {0}
 AreFiled (b ∷ bs) newest = IsFiled b (entries_of_blocks bs ++ newest) × AreFiled bs newest
 
+-- how many bytes a filed block takes beside its own: its place in the tree
+abbrev pub place_room : ℕ
+place_room = 128
+
+-- the memory of filed blocks
+abbrev pub room_of_blocks : List (Id × BlockState) → ℕ
+room_of_blocks [] = 0
+room_of_blocks (b ∷ bs) = (b.1.room + place_room) + room_of_blocks bs
+
+-- the memory of all blocks
+abbrev pub room_of : Entries → ℕ
+room_of entries = room_of_blocks entries.older.entries + entries.newest.room
+
+-- each block has less than 2^63 bytes, as each piece of memory does
+abbrev pub AllFit : List (Id × BlockState) → Type 0
+AllFit [] = Unit {0}
+AllFit (b ∷ bs) = (b.1.room < 2 ^ 63) × AllFit bs
+
+-- so many bytes are the memory of filed blocks, which are few enough to add it up
+pub record AreMeasured (blocks : List (Id × BlockState)) (room : ℕ) : Type 0 where
+  pub sum : room ≡ room_of_blocks blocks
+  pub fit : AllFit blocks
+  pub few : length blocks < 2 ^ 63
+
+-- the sum that is kept is the memory of the filed blocks
+abbrev pub IsMeasured : Entries → Type 0
+IsMeasured entries = AreMeasured entries.older.entries entries.room
+
 -- each block is filed, the count is that of the entries, and a signed number of 64 bits can tell it
 pub record IsLaidDown (entries : Entries) : Type 0 where
-  pub filed : AreFiled entries.older.entries entries.newest
+  pub filed : AreFiled (contents entries.older.entries) entries.newest.entries
+  pub measured : IsMeasured entries
   pub counted : entries.len ≡ length (all_of entries)
   pub small : entries.len < 2 ^ 63
 
@@ -49,7 +84,7 @@ BeginsFrom low (b ∷ bs) = is_below b.0 low ≡ false
 
 -- the ids under which blocks are filed
 abbrev pub block_ids : Entries → List Id
-block_ids entries = keys_of entries.older.entries
+block_ids entries = keys_of (contents entries.older.entries)
 
 -- what holds inside of a stream: it is valid, its entries are laid down, and none of those ids is above the top
 pub record IsSound (top : Id) (entries : Entries) : Type 0 where

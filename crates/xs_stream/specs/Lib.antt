@@ -5,6 +5,7 @@ pub mod StreamContent
 pub mod ConsistentStream
 pub mod Examples
 pub mod ExamplesKept
+pub mod BlockState
 pub mod Blocks
 pub mod PackedNumber
 pub mod PackedText

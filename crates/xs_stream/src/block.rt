@@ -1,5 +1,5 @@
 //! A block: entries that stand next to each other in a stream, packed into bytes.
-ghost use Rattle.std.specs.Prelude.{◌≡◌, ◌+◌, ◌-◌, ◌<◌, ◌≤◌, ◌==◌, ◌++◌, ◌∷◌, []};
+ghost use Rattle.std.specs.Prelude.{◌≡◌, ◌+◌, ◌-◌, ◌^◌, ◌<◌, ◌≤◌, ◌==◌, ◌++◌, ◌∷◌, []};
 ghost use Rattle.std.specs.Prelude.{true, false, if◌then◌else◌, OnOk, OnErr, IfOk};
 ghost use Rattle.std.specs.Prelude.{length, filter, take, drop, reverse, vec_len};
 ghost use Rattle.std.specs.List.{flat_map};
@@ -39,7 +39,8 @@ const MOST_LONGER: usize = 8;
 /// How many bytes an entry mostly takes beside its values.
 const BESIDE_VALUES: u64 = 12;
 
-/// Entries that stand next to each other in a stream, in the order of their ids. A contract sees the list of them.
+/// Entries that stand next to each other in a stream, in the order of their ids. A contract sees the list of them,
+/// and how much memory there is for them.
 #[derive(Drop)]
 pub(crate) struct Block {
     /// The milliseconds of the entry that was the first, from which those of all are counted.
@@ -53,14 +54,16 @@ pub(crate) struct Block {
 }
 
 impl Model for Block {
-    ghost use Rattle.std.specs.Prelude.{List};
-    ghost use Rattle.xs_stream.specs.declared.id.Id.{Id};
-    ghost use Rattle.xs_stream.specs.declared.field.Field.{Field};
+    ghost use Rattle.std.specs.Prelude.{vec_capacity};
+    ghost use Rattle.xs_stream.specs.BlockState.{BlockState};
     ghost use Rattle.xs_stream.specs.Packed.{block_entries, IsPacked};
 
-    ghost Value = { List (Id × List Field) };
+    ghost Value = { BlockState };
 
-    ghost view = { λ block. block_entries block.base block.count block.start block.bytes.items };
+    ghost view = { λ block. record {
+      entries = block_entries block.base block.count block.start block.bytes.items;
+      room = vec_capacity block.bytes;
+    } };
 
     ghost invariant = { λ block. IsPacked block.base block.count block.start block.bytes.items };
 }
@@ -68,7 +71,7 @@ impl Model for Block {
 impl Block {
     /// A block of no entries. It takes no memory.
     pub(crate) fn new(alloc: Global) -> Self
-        ensures { result ≡ [] }
+        ensures { result.entries ≡ [] }
     {
         Self {
             base: 0,
@@ -80,7 +83,7 @@ impl Block {
 
     /// A block of no entries, with all the memory that many small ones take, if there is so much.
     pub(crate) fn with_room(alloc: Global) -> Self
-        ensures { result ≡ [] }
+        ensures { result.entries ≡ [] }
     {
         let mut bytes = Vec::new(alloc);
         let _ = bytes.reserve_exact(ROOM);
@@ -92,24 +95,32 @@ impl Block {
         }
     }
 
+    /// How many bytes of memory it has.
+    pub(crate) fn room(&self) -> usize
+        ensures value { result ≡ self.now.room }
+        ensures small { result < 2 ^ 63 }
+    {
+        self.bytes.capacity()
+    }
+
     /// How many entries there are.
     pub(crate) fn len(&self) -> usize
-        ensures { result ≡ length self.now }
+        ensures { result ≡ length self.now.entries }
     {
         self.count
     }
 
     /// Whether it has no entries.
     pub(crate) fn is_empty(&self) -> bool
-        ensures { result ≡ (length self.now == 0) }
+        ensures { result ≡ (length self.now.entries == 0) }
     {
         self.count == 0
     }
 
     /// Whether another entry belongs here, whose values take so many bytes. An empty block has room for each.
     pub(crate) fn has_room(&self, values: u64) -> bool
-        ensures room { result ≡ true → length self.now < 128 }
-        ensures some { result ≡ false → 0 < length self.now }
+        ensures room { result ≡ true → length self.now.entries < 128 }
+        ensures some { result ≡ false → 0 < length self.now.entries }
     {
         if self.count == 0 {
             return true;
@@ -123,7 +134,7 @@ impl Block {
 
     /// Gives back the memory that no entry takes, unless it is a small piece.
     pub(crate) fn seal(&mut self)
-        ensures { self.new ≡ self.old }
+        ensures { self.new.entries ≡ self.old.entries }
     {
         if self.bytes.capacity().saturating_sub(self.bytes.len()) > SMALL_PIECE {
             self.bytes.shrink_to_fit();
@@ -132,10 +143,10 @@ impl Block {
 
     /// Puts an entry behind the others, whose values take so many bytes.
     pub(crate) fn push(&mut self, id: Id, values: u64, fields: &[Field]) -> Result<(), AllocError>
-        requires room { length self.old < 128 }
+        requires room { length self.old.entries < 128 }
         requires values { values ≡ length (flat_map (field_code true) fields.now) }
-        ensures ok { OnOk result (self.new ≡ self.old ++ (id, fields.now) ∷ []) }
-        ensures err { OnErr result (self.new ≡ self.old) }
+        ensures ok { OnOk result (self.new.entries ≡ self.old.entries ++ (id, fields.now) ∷ []) }
+        ensures err { OnErr result (self.new.entries ≡ self.old.entries) }
     {
         if self.count == 0 {
             self.begin(id, values, fields)
@@ -146,10 +157,10 @@ impl Block {
 
     /// Puts the first entry in, and its names before it.
     fn begin(&mut self, id: Id, values: u64, fields: &[Field]) -> Result<(), AllocError>
-        requires none { self.old ≡ [] }
+        requires none { self.old.entries ≡ [] }
         requires values { values ≡ length (flat_map (field_code true) fields.now) }
-        ensures ok { OnOk result (self.new ≡ (id, fields.now) ∷ []) }
-        ensures err { OnErr result (self.new ≡ []) }
+        ensures ok { OnOk result (self.new.entries ≡ (id, fields.now) ∷ []) }
+        ensures err { OnErr result (self.new.entries ≡ []) }
     {
         self.base = id.ms;
         self.count = 0;
@@ -170,11 +181,11 @@ impl Block {
 
     /// Puts an entry behind others.
     fn append(&mut self, id: Id, values: u64, fields: &[Field]) -> Result<(), AllocError>
-        requires room { length self.old < 128 }
-        requires some { 0 < length self.old }
+        requires room { length self.old.entries < 128 }
+        requires some { 0 < length self.old.entries }
         requires values { values ≡ length (flat_map (field_code true) fields.now) }
-        ensures ok { OnOk result (self.new ≡ self.old ++ (id, fields.now) ∷ []) }
-        ensures err { OnErr result (self.new ≡ self.old) }
+        ensures ok { OnOk result (self.new.entries ≡ self.old.entries ++ (id, fields.now) ∷ []) }
+        ensures err { OnErr result (self.new.entries ≡ self.old.entries) }
     {
         let before = self.bytes.len();
         let shared = shares(self.bytes.as_slice(), fields);
@@ -198,7 +209,7 @@ impl Block {
 
     /// Whether the entries of another block fit into the memory that it has, and belong there by their number.
     fn has_room_for(&self, other: &Block) -> bool
-        ensures { result ≡ true → length self.now + length other.now ≤ 128 }
+        ensures { result ≡ true → length self.now.entries + length other.now.entries ≤ 128 }
     {
         if self.count.saturating_add(other.count) > MOST_ENTRIES {
             return false;
@@ -212,8 +223,8 @@ impl Block {
     /// Puts the entries of another block behind its own, if they have the same names and fit into the memory that it
     /// has, and says whether it did.
     pub(crate) fn take_in(&mut self, other: &Block) -> bool
-        requires { 0 < length self.old }
-        ensures { self.new ≡ (if result then self.old ++ other.now else self.old) }
+        requires { 0 < length self.old.entries }
+        ensures { self.new.entries ≡ (if result then self.old.entries ++ other.now.entries else self.old.entries) }
     {
         if !self.has_room_for(other) {
             return false;
@@ -238,7 +249,7 @@ impl Block {
     /// Its entries as they are packed.
     #[inline(always)]
     fn packed(&self) -> PackedEntries<'_>
-        ensures { unpacked_entries result ≡ self.now }
+        ensures { unpacked_entries result ≡ self.now.entries }
     {
         PackedEntries {
             base: self.base,
@@ -250,15 +261,15 @@ impl Block {
 
     /// The fields of an entry.
     pub(crate) fn get(&self, id: Id) -> Option<PackedFields<'_>>
-        ensures { result ≡ fields_at self.now id }
+        ensures { result ≡ fields_at self.now.entries id }
     {
         self.packed().fields_of(id)
     }
 
     /// Takes the entry with this id out, and says whether there was one.
     pub(crate) fn remove(&mut self, id: Id) -> bool
-        ensures entries { self.new ≡ remove_entry (is_same_id id) self.old }
-        ensures count { length self.new + (if result then 1 else 0) ≡ length self.old }
+        ensures entries { self.new.entries ≡ remove_entry (is_same_id id) self.old.entries }
+        ensures count { length self.new.entries + (if result then 1 else 0) ≡ length self.old.entries }
     {
         // The contract of `packed` tells the entries; this needs where they lie.
         let entries = PackedEntries {
@@ -282,8 +293,8 @@ impl Block {
 
     /// Takes the entry with this id out of a block that has no neighbours to join, and says whether there was one.
     pub(crate) fn remove_alone(&mut self, id: Id) -> bool
-        ensures entries { self.new ≡ remove_entry (is_same_id id) self.old }
-        ensures count { length self.new + (if result then 1 else 0) ≡ length self.old }
+        ensures entries { self.new.entries ≡ remove_entry (is_same_id id) self.old.entries }
+        ensures count { length self.new.entries + (if result then 1 else 0) ≡ length self.old.entries }
     {
         let removed = self.remove(id);
         if self.is_sparse() {
@@ -294,7 +305,7 @@ impl Block {
 
     /// Takes all entries out.
     pub(crate) fn clear(&mut self)
-        ensures { self.new ≡ [] }
+        ensures { self.new.entries ≡ [] }
     {
         self.count = 0;
         self.start = 0;
@@ -303,7 +314,7 @@ impl Block {
 
     /// Takes the first entries out.
     pub(crate) fn drop_first(&mut self, count: usize)
-        ensures { self.new ≡ drop count self.old }
+        ensures { self.new.entries ≡ drop count self.old.entries }
     {
         if count >= self.count {
             self.clear();
@@ -314,8 +325,8 @@ impl Block {
 
     /// Takes some of the entries out, the first ones.
     fn drop_some(&mut self, count: usize)
-        requires { count < length self.old }
-        ensures { self.new ≡ drop count self.old }
+        requires { count < length self.old.entries }
+        ensures { self.new.entries ≡ drop count self.old.entries }
     {
         let bytes = self.bytes.as_slice();
         let left = after_entries(self.base, after(bytes, self.start), count);
@@ -327,8 +338,8 @@ impl Block {
     /// Tidies up, and gives memory back if its entries take less than half of it. A sparse block keeps it: another one
     /// may fit in.
     fn compact(&mut self)
-        requires { 0 < length self.old }
-        ensures { self.new ≡ self.old }
+        requires { 0 < length self.old.entries }
+        ensures { self.new.entries ≡ self.old.entries }
     {
         self.tidy();
         if self.entries_size() < self.bytes.capacity() / 2 && !self.is_sparse() {
@@ -347,8 +358,8 @@ impl Block {
     /// go one by one or many at once.
     #[inline(always)]
     fn tidy(&mut self)
-        requires { 0 < length self.old }
-        ensures { self.new ≡ self.old }
+        requires { 0 < length self.old.entries }
+        ensures { self.new.entries ≡ self.old.entries }
     {
         let bytes = self.bytes.as_slice();
         let quarter = bytes.len() / 4;
@@ -372,8 +383,8 @@ impl Block {
 
     /// Cuts out what lies between the names and the entries, if it is more than so many bytes.
     fn cut_gap(&mut self, most: usize)
-        requires { 0 < length self.old }
-        ensures { self.new ≡ self.old }
+        requires { 0 < length self.old.entries }
+        ensures { self.new.entries ≡ self.old.entries }
     {
         let end = names_end(self.bytes.as_slice());
         if self.start - end > most {
@@ -384,7 +395,7 @@ impl Block {
 
     /// How many of its entries have ids below this one.
     pub(crate) fn count_below(&self, low: Id) -> usize
-        ensures { result ≡ length (filter (λ e. is_below e.0 low) self.now) }
+        ensures { result ≡ length (filter (λ e. is_below e.0 low) self.now.entries) }
     {
         self.packed().count_below(low)
     }
@@ -398,7 +409,7 @@ impl Block {
     ) -> Result<(), AllocError>
         requires { length ids.old.items ≤ most }
         ensures { OnOk result (ids.new.items
-            ≡ take most (ids.old.items ++ filter (is_within range) (ids_of self.now))) }
+            ≡ take most (ids.old.items ++ filter (is_within range) (ids_of self.now.entries))) }
     {
         self.packed().push_ids(ids, range, most)
     }
@@ -412,7 +423,7 @@ impl Block {
     ) -> Result<(), AllocError>
         requires { length shown.old.items ≤ most }
         ensures { OnOk result (shown.new.items
-            ≡ take most (shown.old.items ++ filter (λ e. is_within range e.0) self.now)) }
+            ≡ take most (shown.old.items ++ filter (λ e. is_within range e.0) self.now.entries)) }
     {
         self.packed().push_entries(shown, range, most)
     }
@@ -426,7 +437,7 @@ impl Block {
     ) -> Result<(), AllocError>
         requires { length ids.old.items ≤ most }
         ensures { OnOk result (ids.new.items
-            ≡ take most (ids.old.items ++ reverse (filter (is_within range) (ids_of self.now)))) }
+            ≡ take most (ids.old.items ++ reverse (filter (is_within range) (ids_of self.now.entries)))) }
     {
         let from = ids.len();
         self.packed().push_all_ids(ids, range)?;
@@ -444,7 +455,7 @@ impl Block {
     ) -> Result<(), AllocError>
         requires { length shown.old.items ≤ most }
         ensures { OnOk result (shown.new.items
-            ≡ take most (shown.old.items ++ reverse (filter (λ e. is_within range e.0) self.now))) }
+            ≡ take most (shown.old.items ++ reverse (filter (λ e. is_within range e.0) self.now.entries))) }
     {
         let from = shown.len();
         self.packed().push_all_entries(shown, range)?;

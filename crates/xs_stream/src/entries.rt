@@ -1,5 +1,5 @@
 //! The entries of a stream, in the order of their ids. Ids only grow, so an addition goes to the end without a search.
-ghost use Rattle.std.specs.Prelude.{◌≡◌, ◌+◌, ◌-◌, ◌<◌, ◌++◌, ◌∷◌, [], false};
+ghost use Rattle.std.specs.Prelude.{◌≡◌, ◌+◌, ◌-◌, ◌^◌, ◌<◌, ◌≤◌, ◌++◌, ◌∷◌, [], false};
 ghost use Rattle.std.specs.Prelude.{true, not, if◌then◌else◌, IfOk, OnOk, OnErr};
 ghost use Rattle.std.specs.Prelude.{length, take, drop, filter, reverse};
 ghost use Rattle.std.specs.Map.{lookup_key, remove_entry};
@@ -9,7 +9,8 @@ ghost use Rattle.xs_stream.specs.Id.{is_below, is_same_id};
 ghost use Rattle.xs_stream.specs.StreamContent.{is_within, ids_of, fields_at, without, entries_after_trim, Ascends};
 ghost use Rattle.xs_stream.specs.StreamContent.{AllUpTo};
 ghost use Rattle.xs_stream.specs.ConsistentStream.{AllIds};
-ghost use Rattle.xs_stream.specs.Blocks.{all_of, AreFiled, BeginsFrom, IsLaidDown, block_ids, end_at, HasJoined};
+ghost use Rattle.xs_stream.specs.Blocks.{contents, all_of, AreFiled, BeginsFrom, IsLaidDown, IsMeasured, block_ids};
+ghost use Rattle.xs_stream.specs.Blocks.{end_at, HasJoined, place_room, room_of};
 
 use crate::block::Block;
 use crate::entry::Entry;
@@ -28,6 +29,9 @@ use xs_bytes::U63;
 /// No stream has more entries, since replies tell their number as `U63`.
 const MOST_IN_STREAM: usize = U63::MAX as usize;
 
+/// How many bytes a filed block takes beside its own: its place in the tree.
+const PLACE_ROOM: u128 = 128;
+
 /// The entries of a stream. What is added comes to the newest. Once these fill a block, it is filed under the top of
 /// the stream as it is then: none of its entries is above that id, and all later ones are.
 #[derive(Drop)]
@@ -37,6 +41,8 @@ pub(crate) struct Entries {
     newest: Block,
     /// How many entries there are.
     len: usize,
+    /// How many bytes the filed blocks take. Their sum is below 2^128, whatever they take.
+    room: u128,
     alloc: Global,
 }
 
@@ -51,6 +57,7 @@ impl Entries {
             older: BTreeMap::new(alloc),
             newest: Block::new(alloc),
             len: 0,
+            room: 0,
             alloc,
         }
     }
@@ -62,10 +69,18 @@ impl Entries {
         self.len
     }
 
+    /// How many bytes the blocks take.
+    pub(crate) fn room(&self) -> u128
+        requires { IsMeasured self.now }
+        ensures { result ≡ room_of self.now }
+    {
+        self.room + self.newest.room() as u128
+    }
+
     /// The id under which the one block is filed that may have the entry with this id. None where only the newest may.
     #[inline(always)]
     fn block_of(&self, id: Id) -> Option<Id>
-        ensures { result ≡ lookup_key (λ under. not (is_below under id)) self.now.older.entries }
+        ensures { result ≡ lookup_key (λ under. not (is_below under id)) (contents self.now.older.entries) }
     {
         let mut from = self.older.range(id..);
         match from.next() {
@@ -76,7 +91,7 @@ impl Entries {
 
     /// The id under which the first block is filed behind this id.
     fn block_after(&self, under: Id) -> Option<Id>
-        ensures { result ≡ lookup_key (λ other. is_below under other) self.now.older.entries }
+        ensures { result ≡ lookup_key (λ other. is_below under other) (contents self.now.older.entries) }
     {
         let mut from = self.older.range((Bound::Excluded(under), Bound::Unbounded));
         match from.next() {
@@ -112,7 +127,7 @@ impl Entries {
         requires laid_down { IsLaidDown self.old }
         requires up_to_top { AllUpTo top (ids_of (all_of self.old)) }
         requires filed_up_to_top { AllUpTo top (block_ids self.old) }
-        ensures room { OnOk result (length self.new.newest < 128) }
+        ensures room { OnOk result (length self.new.newest.entries < 128) }
         ensures same { all_of self.new ≡ all_of self.old }
         ensures laid_down { IsLaidDown self.new }
         ensures filed_up_to_top { AllUpTo top (block_ids self.new) }
@@ -122,8 +137,12 @@ impl Entries {
         }
         let mut full = mem::replace(&mut self.newest, Block::with_room(self.alloc));
         full.seal();
+        let room = full.room();
         match self.older.insert(top, full) {
-            Ok(_) => Ok(()),
+            Ok(_) => {
+                self.room += room as u128 + PLACE_ROOM;
+                Ok(())
+            }
             Err(refused) => {
                 let (_, full) = refused.value;
                 self.newest = full;
@@ -155,12 +174,29 @@ impl Entries {
         Ok(())
     }
 
+    /// Takes away the block under this id.
+    fn remove_block(&mut self, under: Id)
+        requires measured { IsMeasured self.old }
+        ensures blocks { self.new.older.entries ≡ remove_entry (is_same_id under) self.old.older.entries }
+        ensures measured { IsMeasured self.new }
+        ensures newest { self.new.newest ≡ self.old.newest }
+        ensures len { self.new.len ≡ self.old.len }
+    {
+        if let Some(block) = self.older.remove(&under) {
+            self.room -= block.room() as u128 + PLACE_ROOM;
+        }
+    }
+
     /// Puts the entries of a block in front of those of the block under this id, if both fit into the memory of the
     /// first one, and says whether it did.
     fn join_into(&mut self, next: Id, front: &mut Block) -> bool
-        requires { 0 < length front.old }
-        ensures joined { result ≡ true → HasJoined next front.old self.old.older.entries self.new.older.entries }
-        ensures refused { result ≡ false → (self.new.older.entries ≡ self.old.older.entries) × (front.new ≡ front.old) }
+        requires some { 0 < length front.old.entries }
+        requires measured { IsMeasured self.old }
+        ensures joined { result ≡ true → HasJoined next front.old.entries (contents self.old.older.entries)
+            (contents self.new.older.entries) }
+        ensures refused { result ≡ false → (contents self.new.older.entries ≡ contents self.old.older.entries)
+            × (front.new.entries ≡ front.old.entries) }
+        ensures measured { IsMeasured self.new }
         ensures newest { self.new.newest ≡ self.old.newest }
         ensures len { self.new.len ≡ self.old.len }
     {
@@ -170,15 +206,18 @@ impl Entries {
         if !front.take_in(block) {
             return false;
         }
+        self.room = recounted(self.room, block.room(), front.room());
         mem::swap(front, block);
         true
     }
 
     /// Joins the block under this id with the one behind it, if both fit into the memory of the first one.
     fn join_next(&mut self, under: Id)
-        requires { AreFiled self.old.older.entries self.old.newest }
+        requires filed { AreFiled (contents self.old.older.entries) self.old.newest.entries }
+        requires measured { IsMeasured self.old }
         ensures same { all_of self.new ≡ all_of self.old }
-        ensures filed { AreFiled self.new.older.entries self.new.newest }
+        ensures filed { AreFiled (contents self.new.older.entries) self.new.newest.entries }
+        ensures measured { IsMeasured self.new }
         ensures filed_up_to_top { (top : Id) → AllUpTo top (block_ids self.old) → AllUpTo top (block_ids self.new) }
         ensures len { self.new.len ≡ self.old.len }
     {
@@ -189,11 +228,13 @@ impl Entries {
             return;
         };
         let mut front = mem::replace(block, Block::new(self.alloc));
+        self.room = recounted(self.room, front.room(), block.room());
         if self.join_into(next, &mut front) {
-            let _ = self.older.remove(&under);
+            self.remove_block(under);
             return;
         }
         if let Some(block) = self.older.get_mut(&under) {
+            self.room = recounted(self.room, block.room(), front.room());
             *block = front;
         }
     }
@@ -201,9 +242,11 @@ impl Entries {
     /// Joins the block under this id with the one behind it, and the one before it with what comes behind that, if they
     /// fit.
     fn join_around(&mut self, under: Id)
-        requires { AreFiled self.old.older.entries self.old.newest }
+        requires filed { AreFiled (contents self.old.older.entries) self.old.newest.entries }
+        requires measured { IsMeasured self.old }
         ensures same { all_of self.new ≡ all_of self.old }
-        ensures filed { AreFiled self.new.older.entries self.new.newest }
+        ensures filed { AreFiled (contents self.new.older.entries) self.new.newest.entries }
+        ensures measured { IsMeasured self.new }
         ensures filed_up_to_top { (top : Id) → AllUpTo top (block_ids self.old) → AllUpTo top (block_ids self.new) }
         ensures len { self.new.len ≡ self.old.len }
     {
@@ -215,9 +258,11 @@ impl Entries {
 
     /// Joins the block under this id with those around it, if they fit, and gives back the memory that is left over.
     fn tighten(&mut self, under: Id)
-        requires { AreFiled self.old.older.entries self.old.newest }
+        requires filed { AreFiled (contents self.old.older.entries) self.old.newest.entries }
+        requires measured { IsMeasured self.old }
         ensures same { all_of self.new ≡ all_of self.old }
-        ensures filed { AreFiled self.new.older.entries self.new.newest }
+        ensures filed { AreFiled (contents self.new.older.entries) self.new.newest.entries }
+        ensures measured { IsMeasured self.new }
         ensures filed_up_to_top { (top : Id) → AllUpTo top (block_ids self.old) → AllUpTo top (block_ids self.new) }
         ensures len { self.new.len ≡ self.old.len }
     {
@@ -227,22 +272,28 @@ impl Entries {
 
     /// Gives back the memory that no entry of the block under this id takes.
     fn seal(&mut self, under: Id)
-        ensures blocks { self.new.older.entries ≡ self.old.older.entries }
+        requires measured { IsMeasured self.old }
+        ensures blocks { contents self.new.older.entries ≡ contents self.old.older.entries }
+        ensures measured { IsMeasured self.new }
         ensures newest { self.new.newest ≡ self.old.newest }
         ensures len { self.new.len ≡ self.old.len }
     {
         if let Some(block) = self.older.get_mut(&under) {
+            let before = block.room();
             block.seal();
+            self.room = recounted(self.room, before, block.room());
         }
     }
 
     /// Takes an entry out of the block under this id, and says whether it was there, and whether the block is sparse
     /// now. It isn't counted yet.
     fn take_from(&mut self, under: Id, id: Id) -> (bool, bool)
-        requires filed { AreFiled self.old.older.entries self.old.newest }
-        requires under { lookup_key (λ under. not (is_below under id)) self.old.older.entries ≡ Some under }
+        requires filed { AreFiled (contents self.old.older.entries) self.old.newest.entries }
+        requires measured { IsMeasured self.old }
+        requires under { lookup_key (λ under. not (is_below under id)) (contents self.old.older.entries) ≡ Some under }
         ensures entries { all_of self.new ≡ remove_entry (is_same_id id) (all_of self.old) }
-        ensures filed { AreFiled self.new.older.entries self.new.newest }
+        ensures filed { AreFiled (contents self.new.older.entries) self.new.newest.entries }
+        ensures measured { IsMeasured self.new }
         ensures filed_up_to_top { (top : Id) → AllUpTo top (block_ids self.old) → AllUpTo top (block_ids self.new) }
         ensures count { length (all_of self.new) + (if result.0 then 1 else 0) ≡ length (all_of self.old) }
         ensures len { self.new.len ≡ self.old.len }
@@ -250,19 +301,23 @@ impl Entries {
         let Some(block) = self.older.get_mut(&under) else {
             return (false, false);
         };
+        let before = block.room();
         let removed = block.remove(id);
         let is_sparse = block.is_sparse();
+        self.room = recounted(self.room, before, block.room());
         if block.is_empty() {
-            let _ = self.older.remove(&under);
+            self.remove_block(under);
         }
         (removed, is_sparse)
     }
 
     /// Takes the entry with this id out, and says whether it was there. It isn't counted yet.
     fn take(&mut self, id: Id) -> bool
-        requires { AreFiled self.old.older.entries self.old.newest }
+        requires filed { AreFiled (contents self.old.older.entries) self.old.newest.entries }
+        requires measured { IsMeasured self.old }
         ensures entries { all_of self.new ≡ remove_entry (is_same_id id) (all_of self.old) }
-        ensures filed { AreFiled self.new.older.entries self.new.newest }
+        ensures filed { AreFiled (contents self.new.older.entries) self.new.newest.entries }
+        ensures measured { IsMeasured self.new }
         ensures filed_up_to_top { (top : Id) → AllUpTo top (block_ids self.old) → AllUpTo top (block_ids self.new) }
         ensures count { length (all_of self.new) + (if result then 1 else 0) ≡ length (all_of self.old) }
         ensures len { self.new.len ≡ self.old.len }
@@ -320,9 +375,11 @@ impl Entries {
         };
         let under = *under;
         let len = block.len();
+        let room = block.room();
         if len <= count {
             let _ = self.older.pop_first();
             self.len -= len;
+            self.room -= room as u128 + PLACE_ROOM;
             return count - len;
         }
         let Some(block) = self.older.get_mut(&under) else {
@@ -330,6 +387,7 @@ impl Entries {
         };
         block.drop_first(count);
         self.len -= count;
+        self.room = recounted(self.room, room, block.room());
         0
     }
 
@@ -356,7 +414,7 @@ impl Entries {
         ensures laid_down { IsLaidDown self.new }
         ensures filed_up_to_top { (top : Id) → AllUpTo top (block_ids self.old) → AllUpTo top (block_ids self.new) }
         ensures fewer { result ≡ true → length self.new.older.entries < length self.old.older.entries }
-        ensures from { result ≡ false → BeginsFrom low self.new.older.entries }
+        ensures from { result ≡ false → BeginsFrom low (contents self.new.older.entries) }
     {
         let Some((under, block)) = self.older.first_key_value() else {
             return false;
@@ -365,15 +423,17 @@ impl Entries {
             return false;
         }
         let len = block.len();
+        let room = block.room();
         let _ = self.older.pop_first();
         self.len -= len;
+        self.room -= room as u128 + PLACE_ROOM;
         true
     }
 
     /// How many entries have ids below this one, where no block is filed below it.
     fn count_below(&self, low: Id) -> usize
-        requires filed { AreFiled self.now.older.entries self.now.newest }
-        requires from { BeginsFrom low self.now.older.entries }
+        requires filed { AreFiled (contents self.now.older.entries) self.now.newest.entries }
+        requires from { BeginsFrom low (contents self.now.older.entries) }
         ensures { result ≡ length (filter (λ e. is_below e.0 low) (all_of self.now)) }
     {
         match self.older.first_key_value() {
@@ -411,7 +471,7 @@ impl Entries {
 
     /// Where a walk down through the blocks begins that may meet no id above this one.
     fn end_at(&self, high: Id) -> Bound<Id>
-        ensures { result ≡ end_at high self.now.older.entries }
+        ensures { result ≡ end_at high (contents self.now.older.entries) }
     {
         match self.block_of(high) {
             Some(under) => Bound::Included(under),
@@ -544,4 +604,13 @@ fn surplus(len: usize, most: u64) -> usize
         return 0;
     }
     len - most as usize
+}
+
+/// A sum in which one part has become another.
+fn recounted(sum: u128, before: usize, after: usize) -> u128
+    requires part { before ≤ sum }
+    requires fits { sum + after < 2 ^ 128 }
+    ensures { result + before ≡ sum + after }
+{
+    sum - before as u128 + after as u128
 }

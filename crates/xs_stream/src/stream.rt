@@ -65,6 +65,11 @@ impl Stream {
         self.entries.len()
     }
 
+    /// How many bytes its entries take, with the memory that is kept for further ones.
+    pub fn room(&self) -> u128 {
+        self.entries.room()
+    }
+
     /// The fields of an entry.
     pub fn get(&self, id: Id) -> Option<PackedFields<'_>>
         ensures { result ≡ fields_at self.now.entries id }

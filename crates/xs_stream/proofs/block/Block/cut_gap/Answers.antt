@@ -1,5 +1,6 @@
 use Rattle.std.proofs.Common.{◌≡◌, ℕ, List, ◌<◌, ◌++◌, ◌∙◌, ◌-◌, [], ap, arith, length, sym}
 use Rattle.std.specs.List.{remove_range}
+use Rattle.xs_stream.specs.BlockState.{BlockState}
 use Rattle.xs_stream.specs.PackedText.{text_code, first_text, after_text}
 use Rattle.xs_stream.specs.Packed.{block_entries, entries_code}
 use Rattle.xs_stream.proofs.PackedBlocks.{named-up_to, tidied-code, tidied-begins, length-block_entries, repacked}
@@ -40,4 +41,4 @@ invariant_of-self c =
 pub returns-then-self-end : goal.returns-then-self-end
 returns-then-self-end c =
     let inside = c.self.inside in
-    repacked inside.base _ _ _ _ _ _ c.self.invariant.base_fits (code c) (begins c) (sym (length-block_entries inside.base inside.count inside.start inside.bytes.items)) ∙ c.self.view_is
+    repacked inside.base _ _ _ _ _ _ c.self.invariant.base_fits (code c) (begins c) (sym (length-block_entries inside.base inside.count inside.start inside.bytes.items)) ∙ ap (λ (b : BlockState). b.entries) c.self.view_is

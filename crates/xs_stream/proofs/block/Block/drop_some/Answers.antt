@@ -1,5 +1,6 @@
 use Rattle.std.proofs.Common.{◌≡◌, ℕ, List, ◌<◌, ◌≤◌, ◌∙◌, ◌-◌, ap, arith, length, drop}
 use Rattle.std.proofs.lemmas.List.{length-drop}
+use Rattle.xs_stream.specs.BlockState.{BlockState}
 use Rattle.xs_stream.specs.Packed.{after_entries}
 use Rattle.xs_stream.proofs.PackedBlocks.{length-after_entries, dropped-code, dropped-begins, length-dropped}
 use Rattle.xs_stream.proofs.PackedBlocks.{length-block_entries, repacked, repacked-packed}
@@ -49,4 +50,4 @@ returns c =
     let begins = left _ _ _ bytes inside.start c.args.count c.after.ensures c.after_entries-left.ensures c.as_slice-bytes.ensures.value
     ∙ dropped-begins inside.base inside.count inside.start bytes c.self.invariant some c.args.count within in
     let count = length-dropped inside.base inside.count inside.start bytes c.self.invariant some c.args.count in
-    c.tidy.ensures ∙ repacked inside.base _ _ _ _ _ _ c.self.invariant.base_fits code begins count ∙ ap (drop c.args.count) c.self.view_is
+    c.tidy.ensures ∙ repacked inside.base _ _ _ _ _ _ c.self.invariant.base_fits code begins count ∙ ap (λ (b : BlockState). drop c.args.count b.entries) c.self.view_is

@@ -1,4 +1,5 @@
 use Rattle.std.proofs.Common.{◌≡◌, ◌<◌, ◌++◌, ◌∙◌, false, [], ap, arith, drop, sym}
+use Rattle.xs_stream.specs.BlockState.{BlockState}
 use Rattle.xs_stream.specs.PackedText.{text_code}
 use Rattle.xs_stream.specs.Packed.{block_entries, entries_code, shares_names}
 use Rattle.xs_stream.proofs.PackedBlocks.{fronted-code, fronted-begins, length-block_entries, repacked, repacked-packed}
@@ -21,4 +22,4 @@ invariant_of-self c =
 pub returns-else-shares_names : goal.returns-else-shares_names
 returns-else-shares_names c =
     let inside = c.self.inside in
-    repacked inside.base _ _ _ _ _ _ c.self.invariant.base_fits (code c) fronted-begins (sym (length-block_entries inside.base inside.count inside.start inside.bytes.items)) ∙ c.self.view_is
+    repacked inside.base _ _ _ _ _ _ c.self.invariant.base_fits (code c) fronted-begins (sym (length-block_entries inside.base inside.count inside.start inside.bytes.items)) ∙ ap (λ (b : BlockState). b.entries) c.self.view_is

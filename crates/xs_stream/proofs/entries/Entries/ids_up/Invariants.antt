@@ -1,12 +1,12 @@
 use Rattle.std.proofs.Common.{◌≡◌, ◌≤◌, ◌++◌, length, take}
-use Rattle.xs_stream.specs.Blocks.{entries_of_blocks, all_of, AreFiled}
+use Rattle.xs_stream.specs.Blocks.{contents, entries_of_blocks, all_of, AreFiled}
 use Rattle.xs_stream.proofs.WithinBlocks.{within}
 use Rattle.xs_stream.proofs.entries.Entries.ids_up.Given as goal
 
 -- the ids so far and those to come are those of the range
 abbrev pub invariant-loop-under : goal.invariant-loop-under
 invariant-loop-under l = record {
-  all : take l.most (l.ids.items ++ within l.fn.range (entries_of_blocks l.under-iterator ++ l.self.newest)) ≡ take l.most (within l.fn.range (all_of l.self));
+  all : take l.most (l.ids.items ++ within l.fn.range (entries_of_blocks (contents l.under-iterator) ++ l.self.newest.entries)) ≡ take l.most (within l.fn.range (all_of l.self));
   few : length l.ids.items ≤ l.most;
-  filed : AreFiled l.under-iterator l.self.newest;
+  filed : AreFiled (contents l.under-iterator) l.self.newest.entries;
 }
