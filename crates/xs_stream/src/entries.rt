@@ -206,7 +206,7 @@ impl Entries {
         if !front.take_in(block) {
             return false;
         }
-        self.room = recounted(self.room, block.room(), front.room());
+        self.room = sum_after(self.room, block.room(), front.room());
         mem::swap(front, block);
         true
     }
@@ -228,13 +228,13 @@ impl Entries {
             return;
         };
         let mut front = mem::replace(block, Block::new(self.alloc));
-        self.room = recounted(self.room, front.room(), block.room());
+        self.room = sum_after(self.room, front.room(), block.room());
         if self.join_into(next, &mut front) {
             self.remove_block(under);
             return;
         }
         if let Some(block) = self.older.get_mut(&under) {
-            self.room = recounted(self.room, block.room(), front.room());
+            self.room = sum_after(self.room, block.room(), front.room());
             *block = front;
         }
     }
@@ -281,7 +281,7 @@ impl Entries {
         if let Some(block) = self.older.get_mut(&under) {
             let before = block.room();
             block.seal();
-            self.room = recounted(self.room, before, block.room());
+            self.room = sum_after(self.room, before, block.room());
         }
     }
 
@@ -304,7 +304,7 @@ impl Entries {
         let before = block.room();
         let removed = block.remove(id);
         let is_sparse = block.is_sparse();
-        self.room = recounted(self.room, before, block.room());
+        self.room = sum_after(self.room, before, block.room());
         if block.is_empty() {
             self.remove_block(under);
         }
@@ -387,7 +387,7 @@ impl Entries {
         };
         block.drop_first(count);
         self.len -= count;
-        self.room = recounted(self.room, room, block.room());
+        self.room = sum_after(self.room, room, block.room());
         0
     }
 
@@ -607,7 +607,7 @@ fn surplus(len: usize, most: u64) -> usize
 }
 
 /// A sum in which one part has become another.
-fn recounted(sum: u128, before: usize, after: usize) -> u128
+fn sum_after(sum: u128, before: usize, after: usize) -> u128
     requires part { before ≤ sum }
     requires fits { sum + after < 2 ^ 128 }
     ensures { result + before ≡ sum + after }

@@ -87,14 +87,14 @@ overflow_sub-self-2 c =
     let split = first-splits all.older.entries (c.in-Some.under.now, c.in-Some.block.now) c.in-Some.ensures.first in
     omega (arith, c.len-len.ensures, c.if-len-count.false, c.requires.laid_down.counted, first-counted (contents all.older.entries) c.in-Some.under.now c.in-Some.block.now.entries (contents split.0) (ap contents split.1) all.newest.entries)
 
-pub recounted-self-requires-clause-part : goal.recounted-self-requires-clause-part
-recounted-self-requires-clause-part c =
+pub sum_after-self-requires-clause-part : goal.sum_after-self-requires-clause-part
+sum_after-self-requires-clause-part c =
     let all = c.args.self.now in
     let split = first-splits all.older.entries (c.in-Some.under.now, c.in-Some.block.now) c.in-Some.ensures.first in
     omega (arith, c.room-room.ensures.value, first-room-within all.older.entries [] all.room c.requires.laid_down.measured (c.in-Some.under.now, c.in-Some.block.now) split.0 split.1)
 
-pub recounted-self-requires-clause-fits : goal.recounted-self-requires-clause-fits
-recounted-self-requires-clause-fits c = omega (arith, c.room.ensures.small, adds-up _ _ c.requires.laid_down.measured)
+pub sum_after-self-requires-clause-fits : goal.sum_after-self-requires-clause-fits
+sum_after-self-requires-clause-fits c = omega (arith, c.room.ensures.small, adds-up _ _ c.requires.laid_down.measured)
 
 pub returns-clause-filed_up_to_top : goal.returns-clause-filed_up_to_top
 returns-clause-filed_up_to_top c = λ top up.
@@ -107,8 +107,8 @@ returns-clause-laid_down c =
     let left = c.drop_first-2.new.self in
     record {
       filed = subst (λ bs. AreFiled bs newest) (sym (shorter c)) (filed-within c.args.count c.in-Some.under.now c.in-Some.block.now.entries (contents (first c).0) newest (few c) (subst (λ bs. AreFiled (contents bs) newest) (first c).1 c.requires.laid_down.filed));
-      measured = measured-set all.older.entries _ all.room c.requires.laid_down.measured c.in-Some.under.now c.in-Some-get_mut.block.now c.in-Some-get_mut.ensures.value left c.recounted-self.result (c.get_mut.follows.holds left).0
-          (omega (arith, c.room.ensures.value, c.room.ensures.small)) (omega (arith, c.recounted-self.ensures, c.room-room.ensures.value, c.room.ensures.value, ap (λ (b : BlockState). b.room) (lent c)));
+      measured = measured-set all.older.entries _ all.room c.requires.laid_down.measured c.in-Some.under.now c.in-Some-get_mut.block.now c.in-Some-get_mut.ensures.value left c.sum_after-self.result (c.get_mut.follows.holds left).0
+          (omega (arith, c.room.ensures.value, c.room.ensures.small)) (omega (arith, c.sum_after-self.ensures, c.room-room.ensures.value, c.room.ensures.value, ap (λ (b : BlockState). b.room) (lent c)));
       counted = omega (arith, c.requires.laid_down.counted, ap length (entries c), length-drop c.args.count (entries_of_blocks (contents all.older.entries) ++ newest));
       small = omega (arith, c.requires.laid_down.small);
     }

@@ -20,13 +20,13 @@ returns-then-not-take_in-clause-measured c =
     let block = c.in-Some.block.now in
     measured-kept all.older.entries _ all.room c.requires.measured c.args.next block c.in-Some.ensures.value (c.get_mut.follows.holds block).0
 
-pub recounted-self-requires-clause-part : goal.recounted-self-requires-clause-part
-recounted-self-requires-clause-part c =
+pub sum_after-self-requires-clause-part : goal.sum_after-self-requires-clause-part
+sum_after-self-requires-clause-part c =
     let all = c.args.self.now in
     omega (arith, c.room.ensures.value, room-within all.older.entries [] all.room c.requires.measured c.args.next c.in-Some.block.now c.in-Some.ensures.value)
 
-pub recounted-self-requires-clause-fits : goal.recounted-self-requires-clause-fits
-recounted-self-requires-clause-fits c = omega (arith, c.room-2.ensures.small, adds-up _ _ c.requires.measured)
+pub sum_after-self-requires-clause-fits : goal.sum_after-self-requires-clause-fits
+sum_after-self-requires-clause-fits c = omega (arith, c.room-2.ensures.small, adds-up _ _ c.requires.measured)
 
 pub returns-clause-joined : goal.returns-clause-joined
 returns-clause-joined c = λ done.
@@ -42,5 +42,5 @@ returns-clause-measured c =
     let all = c.args.self.now in
     let left = c.swap.new.y in
     let whole = ap (λ (b : BlockState). b.room) c.swap.ensures.y_after in
-    measured-set all.older.entries _ all.room c.requires.measured c.args.next c.in-Some.block.now c.in-Some.ensures.value left c.recounted-self.result (c.get_mut.follows.holds left).0
-    (omega (arith, whole, c.room-2.ensures.value, c.room-2.ensures.small)) (omega (arith, whole, c.recounted-self.ensures, c.room.ensures.value, c.room-2.ensures.value))
+    measured-set all.older.entries _ all.room c.requires.measured c.args.next c.in-Some.block.now c.in-Some.ensures.value left c.sum_after-self.result (c.get_mut.follows.holds left).0
+    (omega (arith, whole, c.room-2.ensures.value, c.room-2.ensures.small)) (omega (arith, whole, c.sum_after-self.ensures, c.room.ensures.value, c.room-2.ensures.value))

@@ -13,13 +13,13 @@ use Rattle.xs_stream.proofs.entries.Entries.join_next.Goals as goal
 
 -- ---- the block is taken out, and an empty one stands in its place
 
-pub recounted-self-requires-clause-part : goal.recounted-self-requires-clause-part
-recounted-self-requires-clause-part c =
+pub sum_after-self-requires-clause-part : goal.sum_after-self-requires-clause-part
+sum_after-self-requires-clause-part c =
     let all = c.args.self.now in
     omega (arith, c.room.ensures.value, ap (λ (b : BlockState). b.room) c.replace-front.ensures.value, room-within all.older.entries [] all.room c.requires.measured c.args.under c.in-Some-get_mut.block.now c.in-Some-get_mut.ensures.value)
 
-pub recounted-self-requires-clause-fits : goal.recounted-self-requires-clause-fits
-recounted-self-requires-clause-fits c = omega (arith, c.room-2.ensures.small, adds-up _ _ c.requires.measured)
+pub sum_after-self-requires-clause-fits : goal.sum_after-self-requires-clause-fits
+sum_after-self-requires-clause-fits c = omega (arith, c.room-2.ensures.small, adds-up _ _ c.requires.measured)
 
 pub join_into-requires-clause-some : goal.join_into-requires-clause-some
 join_into-requires-clause-some c =
@@ -32,8 +32,8 @@ join_into-requires-clause-measured c =
     let all = c.args.self.now in
     let left = c.replace-front.new.dest in
     let whole = ap (λ (b : BlockState). b.room) c.replace-front.ensures.value in
-    measured-set all.older.entries _ all.room c.requires.measured c.args.under c.in-Some-get_mut.block.now c.in-Some-get_mut.ensures.value left c.recounted-self.result (c.get_mut.follows.holds left).0
-    (omega (arith, c.room-2.ensures.value, c.room-2.ensures.small)) (omega (arith, whole, c.recounted-self.ensures, c.room.ensures.value, c.room-2.ensures.value))
+    measured-set all.older.entries _ all.room c.requires.measured c.args.under c.in-Some-get_mut.block.now c.in-Some-get_mut.ensures.value left c.sum_after-self.result (c.get_mut.follows.holds left).0
+    (omega (arith, c.room-2.ensures.value, c.room-2.ensures.small)) (omega (arith, whole, c.sum_after-self.ensures, c.room.ensures.value, c.room-2.ensures.value))
 
 -- ---- joined
 
@@ -69,13 +69,13 @@ returns-then-join_into-clause-filed_up_to_top c = λ top up. rw (gone c) (keys-j
 
 -- ---- put back
 
-pub recounted-self-requires-in-Some-get_mut-2-clause-part : goal.recounted-self-requires-in-Some-get_mut-2-clause-part
-recounted-self-requires-in-Some-get_mut-2-clause-part c =
+pub sum_after-self-requires-in-Some-get_mut-2-clause-part : goal.sum_after-self-requires-in-Some-get_mut-2-clause-part
+sum_after-self-requires-in-Some-get_mut-2-clause-part c =
     let now = c.join_into.new.self in
     omega (arith, c.room-in-Some-get_mut-2.ensures.value, room-within now.older.entries [] now.room c.join_into.ensures.measured c.args.under c.in-Some-get_mut-2.block.now c.in-Some-get_mut-2.ensures.value)
 
-pub recounted-self-requires-in-Some-get_mut-2-clause-fits : goal.recounted-self-requires-in-Some-get_mut-2-clause-fits
-recounted-self-requires-in-Some-get_mut-2-clause-fits c = omega (arith, c.room-in-Some-get_mut-2-2.ensures.small, adds-up _ _ c.join_into.ensures.measured)
+pub sum_after-self-requires-in-Some-get_mut-2-clause-fits : goal.sum_after-self-requires-in-Some-get_mut-2-clause-fits
+sum_after-self-requires-in-Some-get_mut-2-clause-fits c = omega (arith, c.room-in-Some-get_mut-2-2.ensures.small, adds-up _ _ c.join_into.ensures.measured)
 
 back : (c : goal.After-drop-block) → contents (c.get_mut-2.follows.lender c.join_into.new.front).entries ≡ contents c.args.self.now.older.entries
 back c =
@@ -105,8 +105,8 @@ pub returns-in-Some-get_mut-2-clause-measured : goal.returns-in-Some-get_mut-2-c
 returns-in-Some-get_mut-2-clause-measured c =
     let now = c.join_into.new.self in
     let front = c.join_into.new.front in
-    measured-set now.older.entries _ now.room c.join_into.ensures.measured c.args.under c.in-Some-get_mut-2.block.now c.in-Some-get_mut-2.ensures.value front c.recounted-self-in-Some-get_mut-2.result (c.get_mut-2.follows.holds front).0
-    (omega (arith, c.room-in-Some-get_mut-2-2.ensures.value, c.room-in-Some-get_mut-2-2.ensures.small)) (omega (arith, c.recounted-self-in-Some-get_mut-2.ensures, c.room-in-Some-get_mut-2.ensures.value, c.room-in-Some-get_mut-2-2.ensures.value))
+    measured-set now.older.entries _ now.room c.join_into.ensures.measured c.args.under c.in-Some-get_mut-2.block.now c.in-Some-get_mut-2.ensures.value front c.sum_after-self-in-Some-get_mut-2.result (c.get_mut-2.follows.holds front).0
+    (omega (arith, c.room-in-Some-get_mut-2-2.ensures.value, c.room-in-Some-get_mut-2-2.ensures.small)) (omega (arith, c.sum_after-self-in-Some-get_mut-2.ensures, c.room-in-Some-get_mut-2.ensures.value, c.room-in-Some-get_mut-2-2.ensures.value))
 
 pub returns-in_default-get_mut-2 : goal.returns-in_default-get_mut-2
 returns-in_default-get_mut-2 c =

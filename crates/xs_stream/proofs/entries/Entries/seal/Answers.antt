@@ -7,13 +7,13 @@ use Rattle.xs_stream.proofs.Joining.{rewritten}
 use Rattle.xs_stream.proofs.Rooms.{adds-up, room-within, measured-set}
 use Rattle.xs_stream.proofs.entries.Entries.seal.Goals as goal
 
-pub recounted-self-requires-clause-part : goal.recounted-self-requires-clause-part
-recounted-self-requires-clause-part c =
+pub sum_after-self-requires-clause-part : goal.sum_after-self-requires-clause-part
+sum_after-self-requires-clause-part c =
     let all = c.args.self.now in
     omega (arith, c.room-before.ensures.value, room-within all.older.entries [] all.room c.requires.measured c.args.under c.in-Some.block.now c.in-Some.ensures.value)
 
-pub recounted-self-requires-clause-fits : goal.recounted-self-requires-clause-fits
-recounted-self-requires-clause-fits c = omega (arith, c.room.ensures.small, adds-up _ _ c.requires.measured)
+pub sum_after-self-requires-clause-fits : goal.sum_after-self-requires-clause-fits
+sum_after-self-requires-clause-fits c = omega (arith, c.room.ensures.small, adds-up _ _ c.requires.measured)
 
 pub returns-in-Some-clause-blocks : goal.returns-in-Some-clause-blocks
 returns-in-Some-clause-blocks c =
@@ -26,5 +26,5 @@ pub returns-in-Some-clause-measured : goal.returns-in-Some-clause-measured
 returns-in-Some-clause-measured c =
     let all = c.args.self.now in
     let left = c.seal.new.self in
-    measured-set all.older.entries _ all.room c.requires.measured c.args.under c.in-Some.block.now c.in-Some.ensures.value left c.recounted-self.result (c.get_mut.follows.holds left).0
-    (omega (arith, c.room.ensures.value, c.room.ensures.small)) (omega (arith, c.recounted-self.ensures, c.room-before.ensures.value, c.room.ensures.value))
+    measured-set all.older.entries _ all.room c.requires.measured c.args.under c.in-Some.block.now c.in-Some.ensures.value left c.sum_after-self.result (c.get_mut.follows.holds left).0
+    (omega (arith, c.room.ensures.value, c.room.ensures.small)) (omega (arith, c.sum_after-self.ensures, c.room-before.ensures.value, c.room.ensures.value))

@@ -21,21 +21,21 @@ returns-in_default-clause-entries c =
 
 -- ---- the memory
 
-pub recounted-self-requires-clause-part : goal.recounted-self-requires-clause-part
-recounted-self-requires-clause-part c =
+pub sum_after-self-requires-clause-part : goal.sum_after-self-requires-clause-part
+sum_after-self-requires-clause-part c =
     let all = c.args.self.now in
     omega (arith, c.room-before.ensures.value, room-within all.older.entries [] all.room c.requires.measured c.args.under c.in-Some.block.now c.in-Some.ensures.value)
 
-pub recounted-self-requires-clause-fits : goal.recounted-self-requires-clause-fits
-recounted-self-requires-clause-fits c = omega (arith, c.room.ensures.small, adds-up _ _ c.requires.measured)
+pub sum_after-self-requires-clause-fits : goal.sum_after-self-requires-clause-fits
+sum_after-self-requires-clause-fits c = omega (arith, c.room.ensures.small, adds-up _ _ c.requires.measured)
 
 pub remove_block-requires : goal.remove_block-requires
 remove_block-requires c =
     let all = c.args.self.now in
     let left = c.remove-removed.new.self in
     record {
-      measured = measured-set all.older.entries _ all.room c.requires.measured c.args.under c.in-Some.block.now c.in-Some.ensures.value left c.recounted-self.result (c.get_mut.follows.holds left).0
-          (omega (arith, c.room.ensures.value, c.room.ensures.small)) (omega (arith, c.recounted-self.ensures, c.room-before.ensures.value, c.room.ensures.value));
+      measured = measured-set all.older.entries _ all.room c.requires.measured c.args.under c.in-Some.block.now c.in-Some.ensures.value left c.sum_after-self.result (c.get_mut.follows.holds left).0
+          (omega (arith, c.room.ensures.value, c.room.ensures.small)) (omega (arith, c.sum_after-self.ensures, c.room-before.ensures.value, c.room.ensures.value));
     }
 
 -- ---- the block goes with its last entry
@@ -109,8 +109,8 @@ pub returns-else-is_empty-clause-measured : goal.returns-else-is_empty-clause-me
 returns-else-is_empty-clause-measured c =
     let all = c.args.self.now in
     let left = c.remove-removed.new.self in
-    measured-set all.older.entries _ all.room c.requires.measured c.args.under c.in-Some.block.now c.in-Some.ensures.value left c.recounted-self.result (c.get_mut.follows.holds left).0
-    (omega (arith, c.room.ensures.value, c.room.ensures.small)) (omega (arith, c.recounted-self.ensures, c.room-before.ensures.value, c.room.ensures.value))
+    measured-set all.older.entries _ all.room c.requires.measured c.args.under c.in-Some.block.now c.in-Some.ensures.value left c.sum_after-self.result (c.get_mut.follows.holds left).0
+    (omega (arith, c.room.ensures.value, c.room.ensures.small)) (omega (arith, c.sum_after-self.ensures, c.room-before.ensures.value, c.room.ensures.value))
 
 pub returns-else-is_empty-clause-count : goal.returns-else-is_empty-clause-count
 returns-else-is_empty-clause-count c =
