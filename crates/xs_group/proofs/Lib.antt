@@ -4,6 +4,7 @@ pub mod Views
 pub mod Agreeing
 pub mod Ordered
 pub mod RemovedRows
+pub mod CountedNames
 pub mod NewRows
 pub mod Cursors
 pub mod Touching

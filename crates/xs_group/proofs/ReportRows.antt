@@ -61,6 +61,14 @@ keys-names_of m o =
     (λ q. get-of_entries nat_list_cmp_total (map named m.entries) q))
     ∙ keys-units m.entries
 
+length-keys : {X : Type 0} (es : List (List ℕ × X)) → length (keys_of es) ≡ length es
+length-keys [] = refl
+length-keys (e ∷ es) = ap suc (length-keys es)
+
+-- as many consumers as the index has
+pub length-names_of : (m : Index) → IsOrdered (slice_cmp nat_cmp) m → length (names_of m.entries).entries ≡ length m.entries
+length-names_of m o = sym (length-keys (names_of m.entries).entries) ∙ ap length (keys-names_of m o) ∙ length-keys m.entries
+
 -- ---- rows
 
 pub rows-between : (s : Selection) (rows : List (Id × RowState))

@@ -3,6 +3,7 @@ pub mod Claims
 pub mod Report
 pub mod Indexes
 pub mod ConsistentGroup
+pub mod GroupRoom
 pub mod Deliveries
 pub mod Verdict
 pub mod Listing

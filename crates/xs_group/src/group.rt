@@ -1,8 +1,9 @@
 //! A consumer group: its cursor, its consumers, and what is pending.
-ghost use Rattle.std.specs.Prelude.{◌≡◌, ◌<◌, ◌+◌, ◌^◌, not, length, IfOk, OnOk, OnErr};
+ghost use Rattle.std.specs.Prelude.{◌≡◌, ◌<◌, ◌+◌, ◌^◌, not, length, if◌then◌else◌, IfOk, OnOk, OnErr};
 ghost use Rattle.xs_group.specs.GroupState.{GroupState, has_name, with_consumer, new_group, group_after_ack};
 ghost use Rattle.xs_group.specs.GroupState.{without_consumer, group_after_delivery};
 ghost use Rattle.xs_group.specs.GroupState.{group_after_reread};
+ghost use Rattle.xs_group.specs.GroupRoom.{room_of_group, bytes_of_names};
 ghost use Rattle.xs_group.specs.Report.{owned_count, summary_of, pending_of};
 ghost use Rattle.xs_group.specs.ConsistentGroup.{IsConsistentGroup, IsUpTo};
 ghost use Rattle.xs_group.specs.Claims.{claim_by_ids, scan_of, group_after_claim};
@@ -21,18 +22,29 @@ use std::marker::Model;
 use xs_bytes::{Bytes, List};
 use xs_stream::{Id, Moment, Range, Stream};
 
+/// How many bytes a group of no consumers takes.
+const GROUP_ROOM: u128 = 230;
+
+/// How many bytes a consumer takes beside its name.
+const CONSUMER_ROOM: u128 = 90;
+
+/// How many bytes a pending row takes.
+const ROW_ROOM: u128 = 118;
+
 /// A consumer group. A contract sees its cursor, its consumers and its pending rows. A call that is
 /// refused for want of memory leaves the group as it was.
 #[derive(Drop)]
 pub struct Group {
     cursor: Id,
     pending: Pending,
+    /// How many bytes the consumers' names have.
+    name_bytes: u64,
 }
 
 impl Model for Group {
     ghost use Rattle.xs_group.specs.GroupState.{GroupState};
     ghost use Rattle.xs_group.specs.Indexes.{coded_state};
-    ghost use Rattle.xs_group.specs.ConsistentGroup.{IsUpTo};
+    ghost use Rattle.xs_group.specs.GroupRoom.{IsCounted};
 
     ghost Value = { GroupState };
 
@@ -40,7 +52,7 @@ impl Model for Group {
 
     ghost view = { λ g. record { cursor = g.cursor; consumers = g.pending.consumers; rows = g.pending.rows } };
 
-    ghost invariant = { λ g. IsUpTo g.cursor g.pending.rows };
+    ghost invariant = { λ g. IsCounted g.cursor g.pending g.name_bytes };
 }
 
 impl Group {
@@ -51,6 +63,26 @@ impl Group {
         Self {
             cursor: start,
             pending: Pending::new(alloc),
+            name_bytes: 0,
+        }
+    }
+
+    /// How many bytes it is counted with.
+    pub fn room(&self) -> u128
+        ensures { result ≡ room_of_group self.now }
+    {
+        let consumers = CONSUMER_ROOM * self.pending.count_consumers() as u128;
+        let rows = ROW_ROOM * self.pending.len() as u128;
+        GROUP_ROOM + consumers + self.name_bytes as u128 + rows
+    }
+
+    /// How many bytes the names have with this one more. More than 2^64 are refused, as other memory is.
+    fn name_bytes_with(&self, consumer: &Bytes) -> Result<u64, AllocError>
+        ensures { IfOk result (λ bytes. bytes ≡ bytes_of_names self.now.consumers + length consumer.now) }
+    {
+        match self.name_bytes.checked_add(consumer.len() as u64) {
+            Some(bytes) => Ok(bytes),
+            None => Err(AllocError),
         }
     }
 
@@ -86,7 +118,10 @@ impl Group {
         ensures ok { OnOk result (self.new ≡ with_consumer consumer.now self.old) }
         ensures err { OnErr result (self.new ≡ self.old) }
     {
-        self.pending.add_consumer(alloc, consumer)
+        let name_bytes = self.name_bytes_with(consumer)?;
+        let made = self.pending.add_consumer(alloc, consumer)?;
+        self.name_bytes = either(made, name_bytes, self.name_bytes);
+        Ok(made)
     }
 
     /// Removes a consumer with its pending entries, and says how many there were (XGROUP
@@ -96,7 +131,10 @@ impl Group {
         ensures count { result ≡ owned_count consumer.now self.old }
         ensures small { result < 2 ^ 63 }
     {
-        self.pending.remove_consumer(consumer)
+        let there = self.pending.has_consumer(consumer);
+        let count = self.pending.remove_consumer(consumer);
+        self.name_bytes -= either(there, consumer.len() as u64, 0);
+        count
     }
 
     /// Delivers the entries above the cursor to a consumer, who is there from then on (XREADGROUP with
@@ -153,7 +191,9 @@ impl Group {
         let ids = self.pending.own_ids(alloc, consumer, from, limit)?;
         let rows = self.pending.shown_rows(alloc, stream, ids.as_slice())?;
         let text = Bytes::from_slice(alloc, consumer.as_slice())?;
+        let name_bytes = self.name_bytes_with(consumer)?;
         let created = self.pending.add_consumer(alloc, consumer)?;
+        self.name_bytes = either(created, name_bytes, self.name_bytes);
         self.pending.set_touches(&Some(now), rows.as_slice());
         Ok(Delivery {
             consumer: text,
@@ -170,8 +210,11 @@ impl Group {
         requires { (before : GroupState) × IsMade before self.old delivery }
         ensures { (before : GroupState) → IsMade before self.old delivery → self.new ≡ before }
     {
+        let there = self.pending.has_consumer(&delivery.consumer);
+        let name = either(there, delivery.consumer.len() as u64, 0);
         self.pending.undo(&delivery);
         self.cursor = delivery.cursor_before;
+        self.name_bytes -= either(delivery.created, name, 0);
     }
 
     /// What a claim of these ids takes and removes (XCLAIM). It changes nothing.
@@ -235,7 +278,10 @@ impl Group {
             moment: now,
             rule: *rule,
         };
+        let there = self.pending.has_consumer(consumer);
+        let name_bytes = self.name_bytes_with(consumer)?;
         self.pending.settle(alloc, consumer, &terms, claim)?;
+        self.name_bytes = either(there, self.name_bytes, name_bytes);
         Ok(())
     }
 
@@ -293,13 +339,16 @@ impl Group {
         ensures err { OnErr result (self.new ≡ self.old) }
     {
         let last = reading::last_id(self.cursor, ids);
+        let name_bytes = self.name_bytes_with(consumer)?;
         if noack {
             let made = self.pending.add_consumer(alloc, consumer)?;
             self.cursor = last;
+            self.name_bytes = either(made, name_bytes, self.name_bytes);
             return Ok(made);
         }
         let made = self.pending.deliver(alloc, consumer, now, ids)?;
         self.cursor = last;
+        self.name_bytes = either(made, name_bytes, self.name_bytes);
         Ok(made)
     }
 }
@@ -311,4 +360,14 @@ fn kind_of(noack: bool) -> DeliveryKind
         return DeliveryKind::NoAck;
     }
     DeliveryKind::New
+}
+
+/// One of two numbers.
+fn either(first: bool, one: u64, other: u64) -> u64
+    ensures { result ≡ (if first then one else other) }
+{
+    if first {
+        return one;
+    }
+    other
 }

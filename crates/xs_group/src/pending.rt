@@ -421,6 +421,14 @@ impl Pending {
         count as u64
     }
 
+    /// How many consumers there are.
+    pub(crate) fn count_consumers(&self) -> usize
+        ensures value { result ≡ length self.now.consumers.entries }
+        ensures small { result < 2 ^ 63 }
+    {
+        self.owners.len()
+    }
+
     /// How many entries are pending.
     pub(crate) fn len(&self) -> usize
         ensures value { result ≡ length self.now.rows.entries }

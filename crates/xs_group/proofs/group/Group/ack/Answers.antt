@@ -9,7 +9,10 @@ overflow_sub-result c =
     omega arith
 
 pub invariant_of-self : goal.invariant_of-self
-invariant_of-self c = rw c.take_all.ensures (up_to-change (unless_acked c.args.ids.now) c.self.inside.cursor c.self.inside.pending.rows c.self.invariant)
+invariant_of-self c = rw c.take_all.ensures (record {
+  up_to_cursor = up_to-change (unless_acked c.args.ids.now) c.self.inside.cursor c.self.inside.pending.rows c.self.invariant.up_to_cursor;
+  names_counted = c.self.invariant.names_counted;
+})
 
 pub returns-clause-count : goal.returns-clause-count
 returns-clause-count c =

@@ -1,5 +1,6 @@
-use Rattle.xs_group.proofs.Terms.{◌≡◌, sym, ap, ◌∙◌, subst, GroupState, IsUpTo}
+use Rattle.xs_group.proofs.Terms.{◌≡◌, cond, sym, ap, ◌∙◌, subst, GroupState, IsUpTo}
 use Rattle.xs_group.proofs.group.Group.undo.Goals as goal
+use Rattle.xs_group.proofs.CountedNames.{counted-undone, within-undone}
 use Rattle.xs_group.proofs.UndoneReads.{undone, undone-before}
 
 pub returns : goal.returns
@@ -14,4 +15,13 @@ invariant_of-self c =
     let is : record { cursor = c.args.delivery.cursor_before; consumers = c.undo.new.self.consumers; rows = c.undo.new.self.rows } ≡ before =
     ap (λ held. record { cursor = c.args.delivery.cursor_before; consumers = held.consumers; rows = held.rows }) c.undo.ensures
     ∙ ap (undone c.args.delivery) c.self.view_is ∙ undone-before before c.args.self.now c.args.delivery made in
-    subst (λ (g : GroupState). IsUpTo g.cursor g.rows) (sym is) made.0.up_to_cursor
+    record {
+      up_to_cursor = subst (λ (g : GroupState). IsUpTo g.cursor g.rows) (sym is) made.0.up_to_cursor;
+      names_counted = rw c.undo.ensures (counted-undone c.self.inside.pending c.args.delivery c.has_consumer-there.result c.self.inside.name_bytes c.either-name.result c.either.result c.self.invariant.names_counted
+          c.has_consumer-there.ensures (c.either-name.ensures ∙ ap (λ k. cond c.has_consumer-there.result k 0) c.len.ensures) c.either.ensures);
+    }
+
+pub overflow_sub-self : goal.overflow_sub-self
+overflow_sub-self c =
+    within-undone c.self.inside.pending c.args.delivery c.has_consumer-there.result c.self.inside.name_bytes c.either-name.result c.either.result c.self.invariant.names_counted
+    c.has_consumer-there.ensures (c.either-name.ensures ∙ ap (λ k. cond c.has_consumer-there.result k 0) c.len.ensures) c.either.ensures

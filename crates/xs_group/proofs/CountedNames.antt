@@ -1,0 +1,117 @@
+-- How the bytes of names follow when a name comes or goes.
+use Rattle.xs_group.proofs.Terms.{◌≡◌, ℕ, Bool, true, false, cond, not, ◌&&◌, List, [], ◌∷◌, is_some, ap, ◌∙◌, refl, ◌+◌, suc, T}
+use Rattle.xs_group.proofs.Terms.{arith, length, sym, slice_cmp, nat_list_cmp_total, nat_cmp, eq_by_cmp, Names}
+use Rattle.xs_group.proofs.Terms.{has_name, with_name, find, is_sorted, below_all, Ordering, ◌-◌, ◌≤◌}
+use Rattle.xs_bytes.specs.SortedMap.{remove, get, insert_by, empty}
+use Rattle.std.specs.FinMap.Entries.{put, where_key, by_order, length-put, length_without}
+use Rattle.std.specs.declared.cmp.Ordering.TheVariants.{Less, Equal, Greater}
+use Rattle.xs_group.proofs.Terms.{list_without_delivery, without_new_consumer, rows_taken_back}
+use Rattle.xs_group.specs.Indexes.{PendingList}
+use Rattle.xs_group.specs.declared.delivery.Delivery.{Delivery}
+use Rattle.xs_group.specs.GroupRoom.{bytes_of_keys, bytes_of_names}
+use Rattle.xs_group.proofs.ByConsumer.{is_same_name-eq}
+
+abbrev Entries : Type 0
+Entries = List (List ℕ × Unit {0})
+
+abbrev cmp : List ℕ → List ℕ → Ordering
+cmp = slice_cmp nat_cmp
+
+tail_sorted : (e : List ℕ × Unit {0}) (es : Entries) → T (is_sorted cmp (e ∷ es)) → T (is_sorted cmp es)
+tail_sorted e es h = by (below_all cmp e.0 es) h where
+  by : (t : Bool) → T (t && is_sorted cmp es) → T (is_sorted cmp es)
+  by true h = h
+  by false h = absurd h
+
+bytes-put : (name : List ℕ) (es : Entries) → T (is_sorted cmp es) → bytes_of_keys (put cmp name tt es) ≡ bytes_of_keys es + cond (is_some (find cmp name es)) 0 (length name)
+bytes-put name [] h = omega arith
+bytes-put name (e ∷ es) h = by (bytes-put name es (tail_sorted e es h)) (cmp name e.0) refl where
+  by : bytes_of_keys (put cmp name tt es) ≡ bytes_of_keys es + cond (is_some (find cmp name es)) 0 (length name) → (o : Ordering) → cmp name e.0 ≡ o → bytes_of_keys (by_order o ((name, tt) ∷ e ∷ es) ((e.0, tt) ∷ es) (e ∷ put cmp name tt es)) ≡ (length e.0 + bytes_of_keys es) + cond (is_some (find cmp name (e ∷ es))) 0 (length name)
+  by rest Less is = new (is_some (find cmp name (e ∷ es))) refl where
+    grown : length (put cmp name tt (e ∷ es)) ≡ suc (suc (length es))
+    grown = rw is refl
+
+    new : (t : Bool) → is_some (find cmp name (e ∷ es)) ≡ t → length name + (length e.0 + bytes_of_keys es) ≡ (length e.0 + bytes_of_keys es) + cond t 0 (length name)
+    new true there =
+        let known : length (put cmp name tt (e ∷ es)) ≡ cond (is_some (find cmp name (e ∷ es))) (suc (length es)) (suc (length es) + 1) = length-put cmp nat_list_cmp_total name tt (e ∷ es) h in
+        let same : length (put cmp name tt (e ∷ es)) ≡ suc (length es) = known ∙ ap (λ t. cond t (suc (length es)) (suc (length es) + 1)) there in
+        absurd (omega (arith, grown, same))
+    new false absent = omega arith
+  by rest Equal is = rw is (omega arith)
+  by rest Greater is = rw is (omega (arith, rest))
+
+bytes-without : (name : List ℕ) (es : Entries) → T (is_sorted cmp es) → bytes_of_keys (where_key cmp (λ x. not (eq_by_cmp cmp name x)) es) + cond (is_some (find cmp name es)) (length name) 0 ≡ bytes_of_keys es
+bytes-without name [] h = refl
+bytes-without name (e ∷ es) h = by (bytes-without name es (tail_sorted e es h)) (length_without cmp nat_list_cmp_total name es (tail_sorted e es h)) (length_without cmp nat_list_cmp_total name (e ∷ es) h) (eq_by_cmp cmp name e.0) refl where
+  rest : Entries
+  rest = where_key cmp (λ x. not (eq_by_cmp cmp name x)) es
+
+  by : bytes_of_keys rest + cond (is_some (find cmp name es)) (length name) 0 ≡ bytes_of_keys es
+      → cond (is_some (find cmp name es)) 1 0 + length rest ≡ length es
+      → cond (is_some (find cmp name (e ∷ es))) 1 0 + length (where_key cmp (λ x. not (eq_by_cmp cmp name x)) (e ∷ es)) ≡ suc (length es)
+      → (t : Bool) → eq_by_cmp cmp name e.0 ≡ t
+      → bytes_of_keys (where_key cmp (λ x. not (eq_by_cmp cmp name x)) (e ∷ es)) + cond (is_some (find cmp name (e ∷ es))) (length name) 0 ≡ length e.0 + bytes_of_keys es
+  by sum fewer all true is =
+      let one : 1 + length rest ≡ suc (length es) = rw is at all in
+      let same : name ≡ e.0 = is_same_name-eq name e.0 is in
+      rw is (none (is_some (find cmp name es)) sum fewer one (ap length same)) where
+        none : (t : Bool) → bytes_of_keys rest + cond t (length name) 0 ≡ bytes_of_keys es → cond t 1 0 + length rest ≡ length es → 1 + length rest ≡ suc (length es) → length name ≡ length e.0
+            → bytes_of_keys rest + length name ≡ length e.0 + bytes_of_keys es
+        none true sum fewer one same = absurd (omega arith)
+        none false sum fewer one same = omega arith
+  by sum fewer all false is = rw is (omega arith)
+
+-- a name more, unless it is there
+pub counted-with : (names : Names) (name : List ℕ) → bytes_of_names (with_name names name) ≡ bytes_of_names names + cond (has_name names name) 0 (length name)
+unfolding get insert_by
+counted-with names name = bytes-put name names.entries names.sorted
+
+-- a name less, if it is there
+pub counted-without : (names : Names) (name : List ℕ) → bytes_of_names (remove names name) + cond (has_name names name) (length name) 0 ≡ bytes_of_names names
+unfolding get remove
+counted-without names name = bytes-without name names.entries names.sorted
+
+pub counted-none : 0 ≡ bytes_of_names empty
+unfolding empty
+counted-none = refl
+
+-- what is kept when a name comes
+pub counted-made : (names : Names) (name : List ℕ) (made : Bool) (before more after : ℕ) → before ≡ bytes_of_names names → more ≡ bytes_of_names names + length name → made ≡ not (has_name names name)
+    → after ≡ cond made more before → after ≡ bytes_of_names (with_name names name)
+counted-made names name made before more after b m new a = a ∙ by (has_name names name) made new ∙ sym (counted-with names name) where
+  by : (t u : Bool) → u ≡ not t → cond u more before ≡ bytes_of_names names + cond t 0 (length name)
+  by true u is = rw is (omega (arith, b))
+  by false u is = rw is m
+
+pub counted-there : (names : Names) (name : List ℕ) (there : Bool) (before more after : ℕ) → before ≡ bytes_of_names names → more ≡ bytes_of_names names + length name → there ≡ has_name names name
+    → after ≡ cond there before more → after ≡ bytes_of_names (with_name names name)
+counted-there names name there before more after b m known a = a ∙ by (has_name names name) there known ∙ sym (counted-with names name) where
+  by : (t u : Bool) → u ≡ t → cond u before more ≡ bytes_of_names names + cond t 0 (length name)
+  by true u is = rw is (omega (arith, b))
+  by false u is = rw is m
+
+-- and when one goes
+pub counted-gone : (names : Names) (name : List ℕ) (there : Bool) (before less : ℕ) → before ≡ bytes_of_names names → there ≡ has_name names name → less ≡ cond there (length name) 0
+    → before - less ≡ bytes_of_names (remove names name)
+counted-gone names name there before less b known l =
+    omega (arith, counted-without names name, b, l ∙ ap (λ t. cond t (length name) 0) known)
+
+pub counted-within : (names : Names) (name : List ℕ) (there : Bool) (before less : ℕ) → before ≡ bytes_of_names names → there ≡ has_name names name → less ≡ cond there (length name) 0 → less ≤ before
+counted-within names name there before less b known l =
+    omega (arith, counted-without names name, b, l ∙ ap (λ t. cond t (length name) 0) known)
+
+-- what is kept when a read is undone
+module _ (held : PendingList) (delivery : Delivery) (there : Bool) (before name less : ℕ) (b : before ≡ bytes_of_names held.consumers) (known : there ≡ has_name held.consumers delivery.consumer)
+    (n : name ≡ cond there (length delivery.consumer) 0) (l : less ≡ cond delivery.created name 0) where
+  pub counted-undone : before - less ≡ bytes_of_names (list_without_delivery delivery held).consumers
+  counted-undone = by delivery.created l where
+    by : (created : Bool) → less ≡ cond created name 0
+        → before - less ≡ bytes_of_names (without_new_consumer created delivery.consumer (record { consumers = held.consumers; rows = rows_taken_back delivery.kind delivery.rows held.rows })).consumers
+    by true l = ap (λ k. before - k) l ∙ counted-gone held.consumers delivery.consumer there before name b known n
+    by false l = omega (arith, b, l)
+
+  pub within-undone : less ≤ before
+  within-undone = by delivery.created l where
+    by : (created : Bool) → less ≡ cond created name 0 → less ≤ before
+    by true l = omega (arith, l, counted-within held.consumers delivery.consumer there before name b known n)
+    by false l = omega (arith, l)
