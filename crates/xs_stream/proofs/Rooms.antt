@@ -117,6 +117,10 @@ module _ (key : Id) (new : BlockState) where
 pub adds-up : (bs : Filed) (room : ℕ) → AreMeasured bs room → room + 2 ^ 64 + 2 ^ 64 < 2 ^ 128
 adds-up bs room measured = omega (arith, room-bound bs measured.fit, measured.sum, measured.few)
 
+-- the sum is far below what can be told
+pub sum-small : (bs : Filed) (room : ℕ) → AreMeasured bs room → room + 2 ^ 64 < 2 ^ 127
+sum-small bs room measured = omega (arith, room-bound bs measured.fit, measured.sum, measured.few)
+
 module _ (bs new : Filed) (room : ℕ) (measured : AreMeasured bs room) where
   module _ (under : Id) (block : BlockState) (found : Some block ≡ lookup (is_same_id under) bs) where
     -- the memory of a filed block is part of the sum

@@ -14,6 +14,16 @@ pub record StreamState : Type 0 where
   pub top : Id
   pub entries : List (Id × List Field)
 
+-- a stream, and for how many bytes there is room in the memory that it has
+pub record StreamInMemory : Type 0 where
+  pub top : Id
+  pub entries : List (Id × List Field)
+  pub room : ℕ
+
+-- what it keeps, whatever memory it has for that
+abbrev pub state_of : StreamInMemory → StreamState
+state_of stream = record { top = stream.top; entries = stream.entries }
+
 abbrev pub ids_of : List (Id × List Field) → List Id
 ids_of entries = map (λ e. e.0) entries
 

@@ -72,7 +72,8 @@ impl Entries {
     /// How many bytes the blocks take.
     pub(crate) fn room(&self) -> u128
         requires { IsMeasured self.now }
-        ensures { result ≡ room_of self.now }
+        ensures value { result ≡ room_of self.now }
+        ensures small { result < 2 ^ 127 }
     {
         self.room + self.newest.room() as u128
     }

@@ -5,7 +5,7 @@ ghost use Rattle.std.specs.Prelude.{filter};
 ghost use Rattle.xs_stream.specs.Id.{zero_id, is_below, id_of_addition};
 ghost use Rattle.xs_stream.specs.StreamContent.{ids_of, fields_at, without, entries_after_trim};
 ghost use Rattle.xs_stream.specs.StreamContent.{ids_within, entries_within, up_to_limit, AreEntriesOf};
-ghost use Rattle.xs_stream.specs.StreamContent.{Ascends, AllUpTo};
+ghost use Rattle.xs_stream.specs.StreamContent.{Ascends, AllUpTo, state_of};
 
 use crate::add::{AddError, AddId};
 use crate::entries::Entries;
@@ -20,7 +20,7 @@ use std::alloc::{AllocError, Global};
 use std::marker::Model;
 use xs_bytes::List;
 
-/// A stream of entries. A contract sees its top id and the list of its entries.
+/// A stream of entries. A contract sees its top id, the list of its entries, and how much memory there is for them.
 #[derive(Drop)]
 pub struct Stream {
     top: Id,
@@ -28,12 +28,12 @@ pub struct Stream {
 }
 
 impl Model for Stream {
-    ghost use Rattle.xs_stream.specs.StreamContent.{StreamState};
-    ghost use Rattle.xs_stream.specs.Blocks.{all_of, IsSound};
+    ghost use Rattle.xs_stream.specs.StreamContent.{StreamInMemory};
+    ghost use Rattle.xs_stream.specs.Blocks.{all_of, room_of, IsSound};
 
-    ghost Value = { StreamState };
+    ghost Value = { StreamInMemory };
 
-    ghost view = { λ s. record { top = s.top; entries = all_of s.entries } };
+    ghost view = { λ s. record { top = s.top; entries = all_of s.entries; room = room_of s.entries } };
 
     ghost invariant = { λ s. IsSound s.top s.entries };
 }
@@ -41,7 +41,7 @@ impl Model for Stream {
 impl Stream {
     /// An empty stream, whose top is `0-0`. It takes no memory.
     pub fn new(alloc: Global) -> Self
-        ensures { result ≡ record { top = zero_id; entries = [] } }
+        ensures { state_of result ≡ record { top = zero_id; entries = [] } }
     {
         Self {
             top: Id::ZERO,
@@ -66,7 +66,10 @@ impl Stream {
     }
 
     /// How many bytes its entries take, with the memory that is kept for further ones.
-    pub fn room(&self) -> u128 {
+    pub fn room(&self) -> u128
+        ensures value { result ≡ self.now.room }
+        ensures small { result < 2 ^ 127 }
+    {
         self.entries.room()
     }
 
@@ -85,12 +88,12 @@ impl Stream {
         assigned_id(now, self.top, id)
     }
 
-    /// Puts an entry with an id above the top behind the others. The stream is unchanged on refusal.
+    /// Puts an entry with an id above the top behind the others. What the stream keeps is unchanged on refusal.
     pub fn push(&mut self, id: Id, fields: &[Field]) -> Result<(), AllocError>
         requires { is_below self.old.top id ≡ true }
-        ensures ok { OnOk result (self.new
+        ensures ok { OnOk result (state_of self.new
             ≡ record { top = id; entries = self.old.entries ++ (id, fields.now) ∷ [] }) }
-        ensures err { OnErr result (self.new ≡ self.old) }
+        ensures err { OnErr result (state_of self.new ≡ state_of self.old) }
     {
         match self.entries.push(self.top, id, fields) {
             Ok(()) => {
@@ -101,14 +104,14 @@ impl Stream {
         }
     }
 
-    /// Adds an entry above all that were ever added (XADD). The stream is unchanged on each error.
+    /// Adds an entry above all that were ever added (XADD). What the stream keeps is unchanged on each error.
     pub fn add(&mut self, now: Moment, id: AddId, fields: &[Field]) -> Result<Id, AddError>
         ensures ok { IfOk result (λ given. (id_of_addition now self.old.top id ≡ Ok given)
-            × (self.new ≡ record { top = given; entries = self.old.entries ++ (given, fields.now) ∷ [] })) }
+            × (state_of self.new ≡ record { top = given; entries = self.old.entries ++ (given, fields.now) ∷ [] })) }
         ensures small { IsErrOf result AddError.Small ↔ (id_of_addition now self.old.top id ≡ Err AddError.Small) }
         ensures exhausted { IsErrOf result AddError.Exhausted ↔ (id_of_addition now self.old.top id
             ≡ Err AddError.Exhausted) }
-        ensures err { OnErr result (self.new ≡ self.old) }
+        ensures err { OnErr result (state_of self.new ≡ state_of self.old) }
     {
         let given = self.assign(now, id)?;
         match self.push(given, fields) {
@@ -119,7 +122,8 @@ impl Stream {
 
     /// Removes the entries with these ids, and says how many there were (XDEL).
     pub fn delete(&mut self, ids: &[Id]) -> u64
-        ensures entries { self.new ≡ record self.old { entries = without ids.now self.old.entries } }
+        ensures entries { state_of self.new
+            ≡ record (state_of self.old) { entries = without ids.now self.old.entries } }
         ensures count { result + length self.new.entries ≡ length self.old.entries }
         ensures small { result < 2 ^ 63 }
     {
@@ -130,7 +134,8 @@ impl Stream {
 
     /// Trims exactly, and says how many entries went (XTRIM).
     pub fn trim(&mut self, trim: Trim) -> u64
-        ensures entries { self.new ≡ record self.old { entries = entries_after_trim trim self.old.entries } }
+        ensures entries { state_of self.new
+            ≡ record (state_of self.old) { entries = entries_after_trim trim self.old.entries } }
         ensures count { result + length self.new.entries ≡ length self.old.entries }
         ensures small { result < 2 ^ 63 }
     {
