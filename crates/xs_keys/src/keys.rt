@@ -23,6 +23,7 @@ pub struct Slot {
 }
 
 impl Model for Slot {
+    ghost use Rattle.xs_stream.specs.StreamContent.{state_of};
     ghost use Rattle.xs_keys.specs.Content.{KeyState};
     ghost use Rattle.xs_keys.specs.Codes.{coded_key};
 
@@ -30,7 +31,7 @@ impl Model for Slot {
 
     ghost coded = { coded_key };
 
-    ghost view = { λ s. record { stream = s.stream; groups = s.groups } };
+    ghost view = { λ s. record { stream = state_of s.stream; groups = s.groups } };
 }
 
 /// The keys. A contract sees their content.

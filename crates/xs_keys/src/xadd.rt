@@ -2,6 +2,7 @@
 ghost use Rattle.std.specs.Prelude.{◌≡◌, Some, Ok, Err, None, true, is_ok, IfOk, OnErr, IsErrOf};
 ghost use Rattle.xs_bytes.specs.SortedMap as map;
 ghost use Rattle.xs_stream.specs.Id.{id_of_addition};
+ghost use Rattle.xs_stream.specs.StreamContent.{state_of};
 ghost use Rattle.xs_command.specs.WellFormed.{IsAddId};
 ghost use Rattle.xs_keys.specs.Life.{add_entry};
 ghost use Rattle.xs_keys.specs.ContentAfter.{stream_after};
@@ -28,12 +29,13 @@ fn try_add(
     add: &AddCommand,
 ) -> Result<Bytes, AddError>
     ensures ok { IfOk result (λ text. (text_of (id_of_addition now stream.old.top add.now.id) ≡ Some text)
-        × (stream.new ≡ stream_after (add_entry now add.now.id add.now.fields add.now.trim) stream.old)) }
+        × (state_of stream.new
+        ≡ stream_after (add_entry now add.now.id add.now.fields add.now.trim) (state_of stream.old))) }
     ensures small { IsErrOf result AddError.Small → id_of_addition now stream.old.top add.now.id ≡ Err AddError.Small }
     ensures exhausted { IsErrOf result AddError.Exhausted → id_of_addition now stream.old.top add.now.id
         ≡ Err AddError.Exhausted }
     ensures memory { IsErrOf result AddError.Memory → is_ok (id_of_addition now stream.old.top add.now.id) ≡ true }
-    ensures err { OnErr result (stream.new ≡ stream.old) }
+    ensures err { OnErr result (state_of stream.new ≡ state_of stream.old) }
 {
     let id = match stream.assign(now, add.id) {
         Ok(id) => id,
@@ -75,7 +77,7 @@ fn add_to(
     now: Moment,
     add: &AddCommand,
 ) -> Reply
-    ensures { Adds stream.old now add.now result stream.new }
+    ensures { Adds (state_of stream.old) now add.now result (state_of stream.new) }
 {
     match try_add(reserve, alloc, stream, now, add) {
         Ok(text) => Reply::Bulk(text),

@@ -1,4 +1,5 @@
 use Rattle.std.proofs.Common.{Some, sym, ap, ◌∙◌, inl}
+use Rattle.xs_stream.specs.StreamContent.{state_of}
 use Rattle.xs_keys.specs.Terms.{GroupState, insert, ids_of, scan_of}
 use Rattle.xs_keys.specs.Content.{KeyState}
 use Rattle.xs_keys.specs.ContentAfter.{with_group}
@@ -9,7 +10,7 @@ use Rattle.xs_keys.proofs.xautoclaim.claim.Goals as goal
 pub returns-in-Ok : goal.returns-in-Ok
 returns-in-Ok c =
     let command = c.args.command.now in
-    let key : KeyState = record { stream = c.slot.inside.stream; groups = c.slot.inside.groups } in
+    let key : KeyState = record { stream = state_of c.slot.inside.stream; groups = c.slot.inside.groups } in
     let found = sym c.in-Some.ensures.value ∙ ap Some (sym c.slot.view_is) in
     let put = λ (group : GroupState). insert c.args.keys.now command.key (with_group key command.group group) in
     inl (record {

@@ -1,5 +1,6 @@
 use Rattle.std.proofs.Common.{◌≡◌, ◌∙◌, Some, sym, ap}
 use Rattle.xs_bytes.specs.SortedMap.{get, insert}
+use Rattle.xs_stream.specs.StreamContent.{state_of}
 use Rattle.xs_stream.proofs.PackedCodes.{on_err-holds}
 use Rattle.xs_group.specs.GroupState.{GroupState}
 use Rattle.xs_group.specs.Deliveries.{row_ids}
@@ -11,7 +12,7 @@ use Rattle.xs_keys.proofs.xreadgroup.serve_at.Goals as goal
 use Rattle.xs_keys.proofs.xreadgroup.serve_at.Goals.{After-read_group}
 
 abbrev key : After-read_group → KeyState
-key c = record { stream = c.slot.inside.stream; groups = c.slot.inside.groups }
+key c = record { stream = state_of c.slot.inside.stream; groups = c.slot.inside.groups }
 
 had : (c : After-read_group) → get c.args.keys.now c.args.one.now.key ≡ Some (key c)
 had c = sym c.in-Some.ensures.value ∙ ap Some (sym c.slot.view_is)

@@ -1,6 +1,7 @@
 use Rattle.std.proofs.Common.{◌≡◌, ◌∙◌, Some, is_some, sym, ap}
 use Rattle.std.proofs.lemmas.Bool.{false≢true}
 use Rattle.xs_bytes.specs.SortedMap.{get, insert}
+use Rattle.xs_stream.specs.StreamContent.{state_of}
 use Rattle.xs_group.specs.GroupState.{GroupState}
 use Rattle.xs_keys.specs.Content.{KeyState}
 use Rattle.xs_keys.specs.ContentAfter.{group_in, with_group}
@@ -9,7 +10,7 @@ use Rattle.xs_keys.proofs.xreadgroup.undo_at.Goals as goal
 use Rattle.xs_keys.proofs.xreadgroup.undo_at.Goals.{After-slot}
 
 abbrev key : After-slot → KeyState
-key c = record { stream = c.slot.inside.stream; groups = c.slot.inside.groups }
+key c = record { stream = state_of c.slot.inside.stream; groups = c.slot.inside.groups }
 
 found : (c : After-slot) → get c.args.keys.now c.args.key.now ≡ Some (key c)
 found c = sym c.in-Some.ensures.value ∙ ap Some (sym c.slot.view_is)
