@@ -18,6 +18,9 @@ pub mod ConsistentContents
 pub mod Lives
 pub mod CodeMaps
 pub mod NameMaps
+pub mod NamedRooms
+pub mod KeysContent
+pub mod Counted
 pub mod NothingNew
 pub mod Owners
 pub mod PresentEntries

@@ -11,6 +11,7 @@ pub mod GroupLife
 pub mod Content
 pub mod ConsistentContent
 pub mod ContentAfter
+pub mod KeysRoom
 pub mod ReplyParts
 pub mod Reply
 pub mod Step

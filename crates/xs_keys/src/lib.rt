@@ -1,6 +1,7 @@
 //! The keyspace: one event at a time, and whole runs of events, each as the model of whole histories says.
 #![tactic(auto)]
 
+mod account;
 pub mod clock;
 mod del;
 pub mod examples;

@@ -1,0 +1,46 @@
+-- How many bytes of memory the keys are counted with.
+use Rattle.std.specs.Prelude.{◌≡◌, ℕ, ◌+◌, ◌^◌, ◌%◌, List, [], ◌∷◌, length, map, Option, Bool, ◌&&◌, nat_lt}
+use Rattle.xs_bytes.specs.MapOf.{from_entries}
+use Rattle.xs_stream.specs.StreamContent.{StreamInMemory, state_of}
+use Rattle.xs_group.specs.GroupRoom.{room_of_group}
+use Rattle.xs_keys.specs.Terms.{option_map, NameMap, GroupState}
+use Rattle.xs_keys.specs.Content.{KeyState, Content}
+
+-- what a key has in memory: its stream, and its groups by name
+pub record KeyInMemory : Type 0 where
+  pub stream : StreamInMemory
+  pub groups : NameMap GroupState
+
+-- what it holds, whatever memory it has for that
+abbrev pub key_state_of : KeyInMemory → KeyState
+key_state_of key = record { stream = state_of key.stream; groups = key.groups }
+
+abbrev pub state_in : Option KeyInMemory → Option KeyState
+state_in key = option_map key_state_of key
+
+-- the content of all keys
+abbrev pub content_of : NameMap KeyInMemory → Content
+content_of keys = from_entries (map (λ e. (e.0, key_state_of e.1)) keys.entries)
+
+-- what has a name: the bytes of the name, and the room of what has it
+abbrev pub room_of_named : {X : Type 0} → (X → ℕ) → List (List ℕ × X) → ℕ
+room_of_named room [] = 0
+room_of_named room (e ∷ es) = (length e.0 + room e.1) + room_of_named room es
+
+-- so many bytes for a key beside its name: its place in the tree
+abbrev pub key_room : ℕ
+key_room = 400
+
+abbrev pub room_of_key : KeyInMemory → ℕ
+room_of_key key = key_room + key.stream.room + room_of_named room_of_group key.groups.entries
+
+abbrev pub room_of_keys : NameMap KeyInMemory → ℕ
+room_of_keys keys = room_of_named room_of_key keys.entries
+
+-- so many bytes more are above a bound; a bound of 0 is none
+abbrev pub is_above : ℕ → ℕ → ℕ → Bool
+is_above bound held more = nat_lt 0 bound && nat_lt bound (held + more)
+
+-- what is kept of a sum: it is the sum itself, as long as that is below 2^128
+abbrev pub IsCountOf : ℕ → ℕ → Type 0
+IsCountOf sum held = held ≡ sum % 2 ^ 128

@@ -1,0 +1,49 @@
+//! The count of the bytes that are held, and the bound that additions keep to.
+ghost use Rattle.std.specs.Prelude.{◌≡◌, ◌+◌, ◌^◌, ◌%◌, ◌<◌};
+ghost use Rattle.xs_keys.specs.KeysRoom.{is_above};
+
+/// How many bytes are held, and how many may be. The count is kept modulo 2^128, so no sum is too great for it.
+#[derive(Drop)]
+pub(crate) struct Account {
+    /// How many bytes are held.
+    held: u128,
+    /// How many may be held when an addition comes; 0 if there is no bound.
+    bound: u64,
+}
+
+impl Account {
+    /// Nothing is held, and there is no bound.
+    pub(crate) fn new() -> Self
+        ensures held { result.held ≡ 0 }
+        ensures bound { result.bound ≡ 0 }
+    {
+        Self { held: 0, bound: 0 }
+    }
+
+    /// From now on additions are refused where they would take more than so many bytes; 0 if there is no bound.
+    pub(crate) fn set_bound(&mut self, bound: u64)
+        ensures { self.new ≡ record self.old { bound = bound } }
+    {
+        self.bound = bound;
+    }
+
+    /// Whether so many bytes more are above the bound.
+    pub(crate) fn is_full_for(&self, more: u64) -> bool
+        ensures { result ≡ is_above self.now.bound self.now.held more }
+    {
+        if self.bound == 0 {
+            return false;
+        }
+        let bound = u128::from(self.bound);
+        self.held > bound || u128::from(more) > bound - self.held
+    }
+
+    /// What took so many bytes takes so many others now.
+    pub(crate) fn change(&mut self, before: u128, after: u128)
+        ensures held { (self.new.held + before) % 2 ^ 128 ≡ (self.old.held + after) % 2 ^ 128 }
+        ensures small { self.new.held < 2 ^ 128 }
+        ensures bound { self.new.bound ≡ self.old.bound }
+    {
+        self.held = self.held.wrapping_sub(before).wrapping_add(after);
+    }
+}
