@@ -1,11 +1,11 @@
 -- A read that finds nothing, for a consumer that its groups know, changes nothing.
-use Rattle.std.proofs.Common.{◌≡◌, ◌&&◌, ℕ, Bool, true, false, cond, List, [], ◌∷◌, Option, Some, None, is_some, sym, ap, ◌∙◌, refl}
+use Rattle.std.proofs.Common.{◌≡◌, ℕ, Bool, true, false, cond, List, [], ◌∷◌, Option, Some, None, is_some, sym, ap, ◌∙◌, refl}
 use Rattle.std.proofs.lemmas.Bool.{false≢true}
-use Rattle.xs_keys.specs.Terms.{list_all, option_map_or, get, insert, Id, ids_of, has_name, GroupState, ReadGroupCommand, ReadOne, New, ReadGroup}
+use Rattle.xs_keys.specs.Terms.{list_all, get, insert, has_name, GroupState, ReadGroupCommand, ReadOne, ReadGroup}
 use Rattle.xs_group.specs.GroupState.{Rows}
 use Rattle.xs_keys.specs.GroupLife.{ask_of_read}
-use Rattle.xs_keys.specs.Content.{Content, KeyState}
-use Rattle.xs_keys.specs.ContentAfter.{after_ask, after_reads, group_after, with_group, group_in, content_after}
+use Rattle.xs_keys.specs.Content.{Content}
+use Rattle.xs_keys.specs.ContentAfter.{after_ask, after_reads, with_group}
 use Rattle.xs_keys.specs.Waiting.{finds_none_in, finds_nothing, knows_reader_in, reads_in_vain, ChangesNothing}
 use Rattle.xs_keys.proofs.NameMaps.{insert-same}
 use Rattle.xs_keys.proofs.AskSteps.{put_same}

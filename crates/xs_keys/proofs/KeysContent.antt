@@ -1,15 +1,14 @@
 -- What the keys in memory hold, where a key comes, goes or changes.
 use Rattle.std.proofs.Common.{◌≡◌, ℕ, Bool, true, false, cond, ◌&&◌, List, [], ◌∷◌, map, length, suc, Option, Some, None, sym, ap, ◌∙◌, refl}
-use Rattle.std.proofs.Common.{subst}
+use Rattle.std.proofs.Common.{subst, Result, Ok, Err, OnOk}
 use Rattle.std.specs.Prelude.{T}
 use Rattle.std.specs.FinMap.Entries.{find, is_sorted, below_all, same_entries}
 use Rattle.std.specs.Ordering.{nat_cmp, is_lt}
 use Rattle.std.specs.Cmp.Lexicographic.{slice_cmp, nat_list_cmp_total}
-use Rattle.xs_bytes.specs.MapOf.{from_entries}
 use Rattle.xs_bytes.specs.SortedMap.{NameMap, get, insert, remove, empty}
 use Rattle.xs_bytes.proofs.SortedMaps.{get-of_entries, get-empty}
 use Rattle.xs_keys.specs.Terms.{is_same_name}
-use Rattle.xs_keys.specs.Content.{KeyState, Content}
+use Rattle.xs_keys.specs.Content.{KeyState}
 use Rattle.xs_keys.specs.KeysRoom.{KeyInMemory, key_state_of, state_in, content_of}
 use Rattle.xs_keys.proofs.NameMaps.{name_exact, same_map, get-insert, get-remove}
 
@@ -35,6 +34,12 @@ pub content-insert : (m : NameMap KeyInMemory) (name : List ℕ) (key : KeyInMem
 content-insert m name key = same_map _ _ (λ q.
     get-content (insert m name key) q ∙ ap state_in (get-insert m name key q) ∙ push (is_same_name q name) (Some key) (get m q)
     ∙ ap (cond (is_same_name q name) (Some (key_state_of key))) (sym (get-content m q)) ∙ sym (get-insert (content_of m) name (key_state_of key) q))
+
+-- and where it may be refused
+pub content-put : {A E : Type 0} (r : Result A E) (m n : NameMap KeyInMemory) (name : List ℕ) (key : KeyInMemory) → OnOk r (n ≡ insert m name key)
+    → OnOk r (content_of n ≡ insert (content_of m) name (key_state_of key))
+content-put (Ok done) m n name key is = ap content_of is ∙ content-insert m name key
+content-put (Err error) m n name key is = tt
 
 pub content-remove : (m : NameMap KeyInMemory) (name : List ℕ) → content_of (remove m name) ≡ remove (content_of m) name
 content-remove m name = same_map _ _ (λ q.

@@ -21,6 +21,7 @@ pub mod NameMaps
 pub mod NamedRooms
 pub mod KeysContent
 pub mod Counted
+pub mod CountedKeys
 pub mod NothingNew
 pub mod Owners
 pub mod PresentEntries

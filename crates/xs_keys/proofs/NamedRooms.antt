@@ -1,6 +1,6 @@
 -- How the memory of named values follows when one comes, goes or changes.
 use Rattle.std.proofs.Common.{◌≡◌, ℕ, Bool, true, false, cond, not, ◌&&◌, List, [], ◌∷◌, Option, Some, None, is_some, ap, ◌∙◌, refl}
-use Rattle.std.proofs.Common.{◌+◌, suc, arith, length, sym, Ordering}
+use Rattle.std.proofs.Common.{◌+◌, suc, arith, length, Ordering}
 use Rattle.std.specs.Prelude.{T}
 use Rattle.std.specs.Ordering.{nat_cmp, eq_by_cmp}
 use Rattle.std.specs.Cmp.Lexicographic.{slice_cmp, nat_list_cmp_total}

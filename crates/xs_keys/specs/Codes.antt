@@ -7,8 +7,9 @@ use Rattle.xs_group.specs.GroupState.{GroupState}
 use Rattle.xs_group.specs.Indexes.{coded_id, coded_state}
 use Rattle.xs_stream.specs.declared.id.Id.{Id}
 use Rattle.xs_stream.specs.declared.field.Field.{Field}
-use Rattle.xs_stream.specs.StreamContent.{StreamState}
+use Rattle.xs_stream.specs.StreamContent.{StreamState, StreamInMemory, state_of}
 use Rattle.xs_keys.specs.Content.{KeyState, Content}
+use Rattle.xs_keys.specs.KeysRoom.{KeyInMemory}
 
 abbrev pub coded_field : Coded Field
 coded_field =
@@ -27,3 +28,13 @@ coded_key =
 
 abbrev pub coded_content : Coded Content
 coded_content = coded_map (coded_list coded_ℕ) coded_key
+
+abbrev pub coded_stream : Coded StreamInMemory
+coded_stream =
+    code_by (StreamState × ℕ) (coded× coded_kept coded_ℕ) (λ s. (state_of s, s.room))
+    (λ p. record { top = p.0.top; entries = p.0.entries; room = p.1 }) (λ _. refl)
+
+abbrev pub coded_key_in_memory : Coded KeyInMemory
+coded_key_in_memory =
+    code_by (StreamInMemory × NameMap GroupState) (coded× coded_stream (coded_map (coded_list coded_ℕ) coded_state))
+    (λ k. (k.stream, k.groups)) (λ p. record { stream = p.0; groups = p.1 }) (λ _. refl)

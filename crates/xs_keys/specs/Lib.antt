@@ -33,6 +33,7 @@ pub mod Reading
 pub mod Grouping
 pub mod Codes
 pub mod LentValue
+pub mod LentSlot
 pub mod PlayedLines
 pub mod Examples
 pub mod ExamplesHistory

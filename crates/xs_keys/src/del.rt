@@ -17,7 +17,7 @@ fn remove_all(keys: &mut Keys, names: &[Bytes]) -> u64
 {
     let before = keys.len();
     for name in names {
-        let _ = keys.remove(name);
+        keys.remove(name);
     }
     (before - keys.len()) as u64
 }

@@ -1,19 +1,26 @@
 //! The keys, and what a key holds.
-ghost use Rattle.std.specs.Prelude.{◌≡◌};
-ghost use Rattle.std.specs.Option.{option_copied};
-ghost use Rattle.xs_bytes.specs.SortedMap.{get};
+ghost use Rattle.std.specs.Prelude.{◌≡◌, ◌<◌, ◌^◌, ◌%◌, length, OnOk, OnErr};
+ghost use Rattle.std.specs.Borrow.{sem};
+ghost use Rattle.std.specs.Option.{option_copied, option_copied_mut};
+ghost use Rattle.xs_bytes.specs.SortedMap.{empty, get, insert, remove};
+ghost use Rattle.xs_group.specs.GroupRoom.{room_of_group};
+ghost use Rattle.xs_keys.specs.KeysRoom.{key_state_of, state_in, room_of_named, room_of_key};
 ghost use Rattle.xs_keys.specs.ContentAfter.{group_in};
 
 use crate::name_map::NameMap;
+use std::alloc::{AllocError, Global};
 use std::marker::Model;
 use xs_bytes::Bytes;
 use xs_group::Group;
 use xs_stream::Stream;
 
+/// How many bytes a key is counted with beside its name, its stream and its groups.
+const KEY_ROOM: u128 = 400;
+
 /// The groups of a key.
 pub type Groups = NameMap<Group>;
 
-/// What a key holds: a stream, and its groups.
+/// What a key holds: a stream, and its groups. A contract sees their memory too.
 #[derive(Drop)]
 pub struct Slot {
     /// The stream.
@@ -23,19 +30,106 @@ pub struct Slot {
 }
 
 impl Model for Slot {
-    ghost use Rattle.xs_stream.specs.StreamContent.{state_of};
-    ghost use Rattle.xs_keys.specs.Content.{KeyState};
-    ghost use Rattle.xs_keys.specs.Codes.{coded_key};
+    ghost use Rattle.xs_keys.specs.KeysRoom.{KeyInMemory};
+    ghost use Rattle.xs_keys.specs.Codes.{coded_key_in_memory};
 
-    ghost Value = { KeyState };
+    ghost Value = { KeyInMemory };
 
-    ghost coded = { coded_key };
+    ghost coded = { coded_key_in_memory };
 
-    ghost view = { λ s. record { stream = state_of s.stream; groups = s.groups } };
+    ghost view = { λ s. record { stream = s.stream; groups = s.groups } };
+}
+
+impl Slot {
+    /// How many bytes it is counted with, beside its name.
+    pub fn room(&self) -> u128
+        ensures { result ≡ room_of_key self.now % 2 ^ 128 }
+    {
+        (KEY_ROOM + self.stream.room()).wrapping_add(room_of_groups(&self.groups))
+    }
+}
+
+/// How many bytes groups are counted with, and their names.
+fn room_of_groups(groups: &Groups) -> u128
+    ensures { result ≡ room_of_named room_of_group groups.now.entries % 2 ^ 128 }
+{
+    let mut room = 0u128;
+    for (name, group) in groups.iter() {
+        room = room
+            .wrapping_add(name.len() as u128)
+            .wrapping_add(group.room());
+    }
+    room
 }
 
 /// The keys. A contract sees their content.
-pub type Keys = NameMap<Slot>;
+#[derive(Drop)]
+pub struct Keys {
+    slots: NameMap<Slot>,
+}
+
+impl Model for Keys {
+    ghost use Rattle.xs_keys.specs.Content.{Content};
+    ghost use Rattle.xs_keys.specs.Codes.{coded_content};
+    ghost use Rattle.xs_keys.specs.KeysRoom.{content_of};
+
+    ghost Value = { Content };
+
+    ghost coded = { coded_content };
+
+    ghost view = { λ k. content_of k.slots };
+}
+
+impl Keys {
+    ghost use Rattle.xs_keys.specs.LentSlot.{lends_slot};
+
+    /// No keys. It takes no memory.
+    pub fn new(alloc: Global) -> Self
+        ensures { result ≡ empty }
+    {
+        Self {
+            slots: NameMap::new(alloc),
+        }
+    }
+
+    /// What a key holds.
+    pub fn get(&self, key: &Bytes) -> Option<&Slot>
+        ensures { state_in (option_copied result) ≡ get self.now key.now }
+    {
+        self.slots.get(key)
+    }
+
+    /// What a key holds, to be changed.
+    pub fn get_mut(&mut self, key: &Bytes) -> Option<&mut Slot>
+        ensures* writes_back { sem 𝓛 (lends_slot self.entry key.now result) }
+        ensures value { state_in (option_copied_mut result) ≡ get self.old key.now }
+    {
+        self.slots.get_mut(key)
+    }
+
+    /// How many keys there are.
+    pub fn len(&self) -> usize
+        ensures value { result ≡ length self.now.entries }
+        ensures small { result < 2 ^ 63 }
+    {
+        self.slots.len()
+    }
+
+    /// Puts a key in.
+    pub fn insert(&mut self, key: Bytes, slot: Slot) -> Result<(), AllocError>
+        ensures ok { OnOk result (self.new ≡ insert self.old key (key_state_of slot)) }
+        ensures err { OnErr result (self.new ≡ self.old) }
+    {
+        self.slots.insert(key, slot)
+    }
+
+    /// Takes a key out.
+    pub fn remove(&mut self, key: &Bytes)
+        ensures { self.new ≡ remove self.old key.now }
+    {
+        let _ = self.slots.remove(key);
+    }
+}
 
 /// The group of a key, where both are there.
 pub fn group_at<'a>(keys: &'a Keys, key: &Bytes, group: &Bytes) -> Option<&'a Group>

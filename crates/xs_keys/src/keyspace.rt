@@ -6,7 +6,6 @@ ghost use Rattle.xs_keys.specs.Headline.{RunsOn};
 ghost use Rattle.xs_keys.specs.Step.{Step};
 
 use crate::keys::Keys;
-use crate::name_map::NameMap;
 use crate::reserve::Reserve;
 use crate::{
     del, in_vain, ping, xack, xadd, xautoclaim, xclaim, xdel, xgroup, xlen, xpending, xrange,
@@ -49,7 +48,7 @@ impl Keyspace {
         ensures { result ≡ map.empty }
     {
         Self {
-            keys: NameMap::new(alloc),
+            keys: Keys::new(alloc),
             reserve: Reserve::new(alloc),
             alloc,
         }

@@ -6,6 +6,7 @@ ghost use Rattle.xs_bytes.specs.SortedMap.{empty, get, has_key, insert, remove};
 
 use std::alloc::{AllocError, Global};
 use std::collections::BTreeMap;
+use std::collections::btree_map::Iter;
 use std::marker::Model;
 use xs_bytes::Bytes;
 
@@ -61,6 +62,13 @@ impl<V> NameMap<V> {
         ensures small { result < 2 ^ 63 }
     {
         self.entries.len()
+    }
+
+    /// The names with their values, in the order of the names' bytes.
+    pub fn iter(&self) -> Iter<'_, Bytes, V>
+        ensures { result ≡ self.now.entries }
+    {
+        self.entries.iter()
     }
 
     /// Whether the name has a value.

@@ -9,4 +9,4 @@ loop-name-preserved c =
     let name = c.name-item.result in
     let next = drop_more names c.loop-name.name-index name c.loop-name-test.true ∙ ap (λ n. n ∷ drop (c.loop-name.name-index + 1) names) (sym c.name-item.is) in
     let done = rw next at c.loop-name.invariant in
-    rw c.remove.ensures.map (done.0, omega (arith, done.1, length-remove c.loop-name.keys name))
+    rw c.remove.ensures (done.0, omega (arith, done.1, length-remove c.loop-name.keys name))

@@ -8,6 +8,7 @@ use Rattle.xs_keys.specs.Content.{KeyState}
 use Rattle.xs_keys.specs.ContentAfter.{with_group}
 use Rattle.xs_keys.proofs.AskSteps.{put_same}
 use Rattle.xs_keys.proofs.ReadSteps.{served-at}
+use Rattle.xs_keys.specs.KeysRoom.{KeyInMemory, key_state_of}
 use Rattle.xs_keys.proofs.xreadgroup.serve_at.Goals as goal
 use Rattle.xs_keys.proofs.xreadgroup.serve_at.Goals.{After-read_group}
 
@@ -15,7 +16,7 @@ abbrev key : After-read_group → KeyState
 key c = record { stream = state_of c.slot.inside.stream; groups = c.slot.inside.groups }
 
 had : (c : After-read_group) → get c.args.keys.now c.args.one.now.key ≡ Some (key c)
-had c = sym c.in-Some.ensures.value ∙ ap Some (sym c.slot.view_is)
+had c = sym c.in-Some.ensures.value ∙ ap (λ (k : KeyInMemory). Some (key_state_of k)) (sym c.slot.view_is)
 
 -- a group that is as before leaves the keys as before
 same : (c : After-read_group) (group : GroupState) → group ≡ c.in-Some-get_mut.group.now

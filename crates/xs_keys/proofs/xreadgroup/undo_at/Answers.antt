@@ -6,6 +6,7 @@ use Rattle.xs_group.specs.GroupState.{GroupState}
 use Rattle.xs_keys.specs.Content.{KeyState}
 use Rattle.xs_keys.specs.ContentAfter.{group_in, with_group}
 use Rattle.xs_keys.proofs.ReadSteps.{made-there, made-state, taken-back}
+use Rattle.xs_keys.specs.KeysRoom.{KeyInMemory, key_state_of}
 use Rattle.xs_keys.proofs.xreadgroup.undo_at.Goals as goal
 use Rattle.xs_keys.proofs.xreadgroup.undo_at.Goals.{After-slot}
 
@@ -13,7 +14,7 @@ abbrev key : After-slot → KeyState
 key c = record { stream = state_of c.slot.inside.stream; groups = c.slot.inside.groups }
 
 found : (c : After-slot) → get c.args.keys.now c.args.key.now ≡ Some (key c)
-found c = sym c.in-Some.ensures.value ∙ ap Some (sym c.slot.view_is)
+found c = sym c.in-Some.ensures.value ∙ ap (λ (k : KeyInMemory). Some (key_state_of k)) (sym c.slot.view_is)
 
 pub unreachable-requires : goal.unreachable-requires
 unreachable-requires c =
