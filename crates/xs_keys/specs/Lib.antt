@@ -33,7 +33,6 @@ pub mod Reading
 pub mod Grouping
 pub mod Codes
 pub mod LentValue
-pub mod LentSlot
 pub mod PlayedLines
 pub mod Examples
 pub mod ExamplesHistory

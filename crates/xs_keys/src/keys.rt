@@ -1,12 +1,12 @@
 //! The keys, and what a key holds.
-ghost use Rattle.std.specs.Prelude.{◌≡◌, ◌<◌, ◌^◌, ◌%◌, length, OnOk, OnErr};
-ghost use Rattle.std.specs.Borrow.{sem};
-ghost use Rattle.std.specs.Option.{option_copied, option_copied_mut};
+ghost use Rattle.std.specs.Prelude.{◌≡◌, ◌<◌, ◌^◌, ◌%◌, length, None, OnOk, OnErr};
+ghost use Rattle.std.specs.Option.{option_copied};
 ghost use Rattle.xs_bytes.specs.SortedMap.{empty, get, insert, remove};
 ghost use Rattle.xs_group.specs.GroupRoom.{room_of_group};
 ghost use Rattle.xs_keys.specs.KeysRoom.{key_state_of, state_in, room_of_named, room_of_key};
 ghost use Rattle.xs_keys.specs.ContentAfter.{group_in};
 
+use crate::account::Account;
 use crate::name_map::NameMap;
 use std::alloc::{AllocError, Global};
 use std::marker::Model;
@@ -65,31 +65,41 @@ fn room_of_groups(groups: &Groups) -> u128
 /// The keys. A contract sees their content.
 #[derive(Drop)]
 pub struct Keys {
-    slots: NameMap<Slot>,
+    pub(crate) slots: NameMap<Slot>,
+    /// How many bytes they are counted with, and how many may be.
+    pub(crate) account: Account,
 }
 
 impl Model for Keys {
     ghost use Rattle.xs_keys.specs.Content.{Content};
     ghost use Rattle.xs_keys.specs.Codes.{coded_content};
-    ghost use Rattle.xs_keys.specs.KeysRoom.{content_of};
+    ghost use Rattle.xs_keys.specs.KeysRoom.{content_of, room_of_keys, IsCountOf};
 
     ghost Value = { Content };
 
     ghost coded = { coded_content };
 
     ghost view = { λ k. content_of k.slots };
+
+    ghost invariant = { λ k. IsCountOf (room_of_keys k.slots) k.account.held };
 }
 
 impl Keys {
-    ghost use Rattle.xs_keys.specs.LentSlot.{lends_slot};
-
     /// No keys. It takes no memory.
     pub fn new(alloc: Global) -> Self
         ensures { result ≡ empty }
     {
         Self {
             slots: NameMap::new(alloc),
+            account: Account::new(),
         }
+    }
+
+    /// From now on additions are refused where more than so many bytes would be counted; 0 if there is no bound.
+    pub fn set_bound(&mut self, bytes: u64)
+        ensures { self.new ≡ self.old }
+    {
+        self.account.set_bound(bytes);
     }
 
     /// What a key holds.
@@ -97,14 +107,6 @@ impl Keys {
         ensures { state_in (option_copied result) ≡ get self.now key.now }
     {
         self.slots.get(key)
-    }
-
-    /// What a key holds, to be changed.
-    pub fn get_mut(&mut self, key: &Bytes) -> Option<&mut Slot>
-        ensures* writes_back { sem 𝓛 (lends_slot self.entry key.now result) }
-        ensures value { state_in (option_copied_mut result) ≡ get self.old key.now }
-    {
-        self.slots.get_mut(key)
     }
 
     /// How many keys there are.
@@ -115,19 +117,30 @@ impl Keys {
         self.slots.len()
     }
 
-    /// Puts a key in.
+    /// Puts a key in that isn't there.
     pub fn insert(&mut self, key: Bytes, slot: Slot) -> Result<(), AllocError>
+        requires { get self.old key ≡ None }
         ensures ok { OnOk result (self.new ≡ insert self.old key (key_state_of slot)) }
         ensures err { OnErr result (self.new ≡ self.old) }
     {
-        self.slots.insert(key, slot)
+        let room = (key.len() as u128).wrapping_add(slot.room());
+        match self.slots.insert(key, slot) {
+            Ok(()) => {
+                self.account.change(0, room);
+                Ok(())
+            }
+            Err(error) => Err(error),
+        }
     }
 
     /// Takes a key out.
     pub fn remove(&mut self, key: &Bytes)
         ensures { self.new ≡ remove self.old key.now }
     {
-        let _ = self.slots.remove(key);
+        if let Some(slot) = self.slots.remove(key) {
+            let room = (key.len() as u128).wrapping_add(slot.room());
+            self.account.change(room, 0);
+        }
     }
 }
 

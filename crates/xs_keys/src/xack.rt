@@ -12,11 +12,14 @@ use xs_stream::Id;
 pub fn acknowledge(keys: &mut Keys, key: &Bytes, group: &Bytes, ids: &Operands<Id>) -> Reply
     ensures { StepAtAnyTime keys.old (Command.Ack key.now group.now ids.now) result keys.new }
 {
-    let Some(slot) = keys.get_mut(key) else {
+    let Some(slot) = keys.slots.get_mut(key) else {
         return Reply::Int(U63::new(0));
     };
     let Some(group) = slot.groups.get_mut(group) else {
         return Reply::Int(U63::new(0));
     };
-    Reply::Int(U63::new(group.ack(ids.as_slice())))
+    let before = group.room();
+    let count = group.ack(ids.as_slice());
+    keys.account.change(before, group.room());
+    Reply::Int(U63::new(count))
 }

@@ -1,5 +1,5 @@
 //! XADD.
-ghost use Rattle.std.specs.Prelude.{◌≡◌, Some, Ok, Err, None, true, is_ok, IfOk, OnErr, IsErrOf};
+ghost use Rattle.std.specs.Prelude.{◌≡◌, ◌+◌, ◌%◌, ◌^◌, ◌<◌, Some, Ok, Err, None, true, is_ok, IfOk, OnErr, IsErrOf};
 ghost use Rattle.xs_bytes.specs.SortedMap as map;
 ghost use Rattle.xs_stream.specs.Id.{id_of_addition};
 ghost use Rattle.xs_stream.specs.StreamContent.{state_of};
@@ -10,6 +10,7 @@ ghost use Rattle.xs_keys.specs.Adding.{text_of, Adds};
 ghost use Rattle.xs_keys.specs.ReplyParts.{fault_of_addition};
 ghost use Rattle.xs_keys.specs.Step.{Step};
 
+use crate::account::Account;
 use crate::keys::{Keys, Slot};
 use crate::name_map::NameMap;
 use crate::reserve::{Reserve, reply_bytes};
@@ -23,6 +24,7 @@ use xs_stream::{AddError, Moment, Stream};
 /// memory leaves the stream as it was.
 fn try_add(
     reserve: &mut Reserve,
+    account: &Account,
     alloc: Global,
     stream: &mut Stream,
     now: Moment,
@@ -42,7 +44,7 @@ fn try_add(
         Err(error) => return Err(error),
     };
     let reply_bytes = reply_bytes(add.fields.as_slice());
-    if reserve.admit(alloc, reply_bytes).is_err() {
+    if account.is_full_for(reply_bytes as u64) || reserve.admit(alloc, reply_bytes).is_err() {
         return Err(AddError::Memory);
     }
     let Ok(text) = id.text(alloc) else {
@@ -72,14 +74,21 @@ fn fault_of_refusal(refusal: AddError) -> Fault
 /// Adds an entry to a stream, and gives the reply.
 fn add_to(
     reserve: &mut Reserve,
+    account: &mut Account,
     alloc: Global,
     stream: &mut Stream,
     now: Moment,
     add: &AddCommand,
 ) -> Reply
-    ensures { Adds (state_of stream.old) now add.now result (state_of stream.new) }
+    ensures adds { Adds (state_of stream.old) now add.now result (state_of stream.new) }
+    ensures counted { (account.new.held + stream.old.room) % 2 ^ 128
+        ≡ (account.old.held + stream.new.room) % 2 ^ 128 }
+    ensures small { account.new.held < 2 ^ 128 }
 {
-    match try_add(reserve, alloc, stream, now, add) {
+    let before = stream.room();
+    let added = try_add(reserve, account, alloc, stream, now, add);
+    account.change(before, stream.room());
+    match added {
         Ok(text) => Reply::Bulk(text),
         Err(refusal) => Reply::Error(fault_of_refusal(refusal)),
     }
@@ -104,7 +113,7 @@ fn add_missing(
         return Reply::Error(Fault::Memory);
     };
     let mut stream = Stream::new(alloc);
-    let Ok(text) = try_add(reserve, alloc, &mut stream, now, add) else {
+    let Ok(text) = try_add(reserve, &keys.account, alloc, &mut stream, now, add) else {
         return Reply::Error(Fault::Memory);
     };
     let groups = NameMap::new(alloc);
@@ -125,8 +134,15 @@ pub fn add(
     requires { IsAddId add.now.id }
     ensures { Step keys.old now (Command.Add add.now) result keys.new }
 {
-    match keys.get_mut(&add.key) {
-        Some(slot) => add_to(reserve, alloc, &mut slot.stream, now, add),
+    match keys.slots.get_mut(&add.key) {
+        Some(slot) => add_to(
+            reserve,
+            &mut keys.account,
+            alloc,
+            &mut slot.stream,
+            now,
+            add,
+        ),
         None => add_missing(keys, reserve, alloc, now, add),
     }
 }

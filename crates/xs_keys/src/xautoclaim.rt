@@ -93,13 +93,16 @@ fn claim_in(
 pub fn claim(keys: &mut Keys, alloc: Global, now: Moment, command: &AutoClaimCommand) -> Reply
     ensures { Step keys.old now (Command.AutoClaim command.now) result keys.new }
 {
-    let Some(slot) = keys.get_mut(&command.key) else {
+    let Some(slot) = keys.slots.get_mut(&command.key) else {
         return Reply::Error(Fault::NoGroup);
     };
     let Some(group) = slot.groups.get_mut(&command.group) else {
         return Reply::Error(Fault::NoGroup);
     };
-    match claim_in(group, alloc, &slot.stream, now, command) {
+    let before = group.room();
+    let claimed = claim_in(group, alloc, &slot.stream, now, command);
+    keys.account.change(before, group.room());
+    match claimed {
         Ok(reply) => reply,
         Err(AllocError) => Reply::Error(Fault::Memory),
     }

@@ -11,8 +11,13 @@ use xs_stream::Id;
 pub fn delete(keys: &mut Keys, key: &Bytes, ids: &Operands<Id>) -> Reply
     ensures { StepAtAnyTime keys.old (Command.Delete key.now ids.now) result keys.new }
 {
-    match keys.get_mut(key) {
-        Some(slot) => Reply::Int(U63::new(slot.stream.delete(ids.as_slice()))),
+    match keys.slots.get_mut(key) {
+        Some(slot) => {
+            let before = slot.stream.room();
+            let count = slot.stream.delete(ids.as_slice());
+            keys.account.change(before, slot.stream.room());
+            Reply::Int(U63::new(count))
+        }
         None => Reply::Int(U63::new(0)),
     }
 }

@@ -1,5 +1,7 @@
 //! XGROUP: groups and their consumers.
-ghost use Rattle.std.specs.Prelude.{◌≡◌, None, OnOk, OnErr, if◌then◌else◌};
+ghost use Rattle.std.specs.Prelude.{◌≡◌, ◌+◌, ◌%◌, ◌^◌, ◌<◌, length, None, IfOk, OnOk, OnErr, if◌then◌else◌};
+ghost use Rattle.xs_group.specs.GroupRoom.{room_of_group};
+ghost use Rattle.xs_keys.specs.KeysRoom.{room_of_named};
 ghost use Rattle.xs_bytes.specs.SortedMap.{get, insert};
 ghost use Rattle.xs_group.specs.GroupState.{new_group};
 ghost use Rattle.xs_keys.specs.ContentAfter.{new_key, with_group};
@@ -7,6 +9,7 @@ ghost use Rattle.xs_keys.specs.GroupLife.{starting_id};
 ghost use Rattle.xs_keys.specs.Grouping.{Creates};
 ghost use Rattle.xs_keys.specs.Step.{StepAtAnyTime};
 
+use crate::account::Account;
 use crate::keys::{Groups, Keys, Slot};
 use crate::name_map::NameMap;
 use crate::reserve::Reserve;
@@ -16,6 +19,12 @@ use xs_command::{Command, GroupCreateCommand, GroupStart};
 use xs_group::Group;
 use xs_resp::{Fault, Reply, Simple};
 use xs_stream::{Id, Stream};
+
+/// How many bytes a new group takes.
+const NEW_GROUP: u64 = 500;
+
+/// How many bytes a new consumer takes.
+const NEW_CONSUMER: u64 = 100;
 
 /// The id behind which a group starts, in a stream with this top.
 fn start_id(start: GroupStart, top: Id) -> Id
@@ -27,21 +36,30 @@ fn start_id(start: GroupStart, top: Id) -> Id
     }
 }
 
-/// Puts a new group among those of a key with this top.
+/// Puts a new group among those of a key with this top, and says how many bytes it is counted with.
 fn insert_group(
     groups: &mut Groups,
     reserve: &mut Reserve,
+    account: &Account,
     alloc: Global,
     top: Id,
     command: &GroupCreateCommand,
-) -> Result<(), AllocError>
+) -> Result<u128, AllocError>
     ensures ok { let group = new_group (starting_id command.now.start top) in
         OnOk result (groups.new ≡ insert groups.old command.now.group group) }
+    ensures room { let group = new_group (starting_id command.now.start top) in
+        IfOk result (λ room. room ≡ (length command.now.group + room_of_group group) % 2 ^ 128) }
     ensures err { OnErr result (groups.new ≡ groups.old) }
 {
+    let group = Group::new(alloc, start_id(command.start, top));
+    let room = (command.group.len() as u128).wrapping_add(group.room());
+    if account.is_full_for(NEW_GROUP) {
+        return Err(AllocError);
+    }
     reserve.admit(alloc, 0)?;
     let name = Bytes::from_slice(alloc, command.group.as_slice())?;
-    groups.insert(name, Group::new(alloc, start_id(command.start, top)))
+    groups.insert(name, group)?;
+    Ok(room)
 }
 
 /// Puts a new key with its first group. Both come by one insertion, so that a refusal of memory leaves
@@ -52,6 +70,7 @@ fn insert_key(
     alloc: Global,
     command: &GroupCreateCommand,
 ) -> Result<(), AllocError>
+    requires { get keys.old command.now.key ≡ None }
     ensures ok { let group = new_group (starting_id command.now.start new_key.stream.top) in
         OnOk result (keys.new ≡ insert keys.old command.now.key (with_group new_key command.now.group group)) }
     ensures err { OnErr result (keys.new ≡ keys.old) }
@@ -59,7 +78,14 @@ fn insert_key(
     let key = Bytes::from_slice(alloc, command.key.as_slice())?;
     let stream = Stream::new(alloc);
     let mut groups = NameMap::new(alloc);
-    insert_group(&mut groups, reserve, alloc, stream.top(), command)?;
+    let _ = insert_group(
+        &mut groups,
+        reserve,
+        &keys.account,
+        alloc,
+        stream.top(),
+        command,
+    )?;
     keys.insert(key, Slot { stream, groups })
 }
 
@@ -67,17 +93,24 @@ fn insert_key(
 fn create_in(
     groups: &mut Groups,
     reserve: &mut Reserve,
+    account: &mut Account,
     alloc: Global,
     top: Id,
     command: &GroupCreateCommand,
 ) -> Reply
-    ensures { Creates command.now top groups.old result groups.new }
+    ensures creates { Creates command.now top groups.old result groups.new }
+    ensures counted { (account.new.held + room_of_named room_of_group groups.old.entries) % 2 ^ 128
+        ≡ (account.old.held + room_of_named room_of_group groups.new.entries) % 2 ^ 128 }
+    ensures small { account.new.held < 2 ^ 128 }
 {
     if groups.contains_key(&command.group) {
         return Reply::Error(Fault::Busy);
     }
-    match insert_group(groups, reserve, alloc, top, command) {
-        Ok(()) => Reply::Simple(Simple::Okay),
+    match insert_group(groups, reserve, account, alloc, top, command) {
+        Ok(room) => {
+            account.change(0, room);
+            Reply::Simple(Simple::Okay)
+        }
         Err(AllocError) => Reply::Error(Fault::Memory),
     }
 }
@@ -110,10 +143,17 @@ pub fn create(
 ) -> Reply
     ensures { StepAtAnyTime keys.old (Command.GroupCreate command.now) result keys.new }
 {
-    match keys.get_mut(&command.key) {
+    match keys.slots.get_mut(&command.key) {
         Some(slot) => {
             let top = slot.stream.top();
-            create_in(&mut slot.groups, reserve, alloc, top, command)
+            create_in(
+                &mut slot.groups,
+                reserve,
+                &mut keys.account,
+                alloc,
+                top,
+                command,
+            )
         }
         None => create_missing(keys, reserve, alloc, command),
     }
@@ -130,8 +170,15 @@ fn one_where(is: bool) -> Reply
 pub fn destroy(keys: &mut Keys, key: &Bytes, group: &Bytes) -> Reply
     ensures { StepAtAnyTime keys.old (Command.GroupDestroy key.now group.now) result keys.new }
 {
-    match keys.get_mut(key) {
-        Some(slot) => one_where(slot.groups.remove(group).is_some()),
+    match keys.slots.get_mut(key) {
+        Some(slot) => {
+            let removed = slot.groups.remove(group);
+            if let Some(gone) = &removed {
+                let room = (group.len() as u128).wrapping_add(gone.room());
+                keys.account.change(room, 0);
+            }
+            one_where(removed.is_some())
+        }
         None => Reply::Error(Fault::NoKey),
     }
 }
@@ -147,13 +194,19 @@ pub fn create_consumer(
 ) -> Reply
     ensures { StepAtAnyTime keys.old (Command.ConsumerCreate key.now group.now consumer.now) result keys.new }
 {
-    let Some(slot) = keys.get_mut(key) else {
+    let Some(slot) = keys.slots.get_mut(key) else {
         return Reply::Error(Fault::NoKey);
     };
     let Some(group) = slot.groups.get_mut(group) else {
         return Reply::Error(Fault::NoGroup);
     };
-    match group.add_consumer(alloc, consumer) {
+    if keys.account.is_full_for(NEW_CONSUMER) {
+        return Reply::Error(Fault::Memory);
+    }
+    let before = group.room();
+    let added = group.add_consumer(alloc, consumer);
+    keys.account.change(before, group.room());
+    match added {
         Ok(made) => one_where(made),
         Err(AllocError) => Reply::Error(Fault::Memory),
     }
@@ -164,11 +217,14 @@ pub fn create_consumer(
 pub fn delete_consumer(keys: &mut Keys, key: &Bytes, group: &Bytes, consumer: &Bytes) -> Reply
     ensures { StepAtAnyTime keys.old (Command.ConsumerDelete key.now group.now consumer.now) result keys.new }
 {
-    let Some(slot) = keys.get_mut(key) else {
+    let Some(slot) = keys.slots.get_mut(key) else {
         return Reply::Error(Fault::NoKey);
     };
     let Some(group) = slot.groups.get_mut(group) else {
         return Reply::Error(Fault::NoGroup);
     };
-    Reply::Int(U63::new(group.remove_consumer(consumer)))
+    let before = group.room();
+    let count = group.remove_consumer(consumer);
+    keys.account.change(before, group.room());
+    Reply::Int(U63::new(count))
 }

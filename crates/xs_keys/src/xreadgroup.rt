@@ -128,16 +128,20 @@ fn serve_at(
     ensures ok { IfOk result (IsServedAt now read.now one.now keys.old keys.new tokens.old tokens.new) }
     ensures err { OnErr result (keys.new ≡ keys.old) }
 {
-    let Some(slot) = keys.get_mut(&one.key) else {
+    let Some(slot) = keys.slots.get_mut(&one.key) else {
         unreachable!();
     };
     let Some(group) = slot.groups.get_mut(&read.group) else {
         unreachable!();
     };
+    let before = group.room();
     let delivery = read_group(group, alloc, &slot.stream, now, read, one.from)?;
     let rows = delivery.rows.as_slice();
     match push_part(tokens, alloc, &slot.stream, &one.key, one.from, rows) {
-        Ok(parts) => Ok(Served { delivery, parts }),
+        Ok(parts) => {
+            keys.account.change(before, group.room());
+            Ok(Served { delivery, parts })
+        }
         Err(error) => {
             group.undo(delivery);
             Err(error)
@@ -150,13 +154,15 @@ fn undo_at(keys: &mut Keys, key: &Bytes, group: &Bytes, delivery: Delivery)
     requires { (before : Content) × IsMadeAt group.now key.now before keys.old delivery }
     ensures { (before : Content) → IsMadeAt group.now key.now before keys.old delivery → keys.new ≡ before }
 {
-    let Some(slot) = keys.get_mut(key) else {
+    let Some(slot) = keys.slots.get_mut(key) else {
         unreachable!();
     };
     let Some(group) = slot.groups.get_mut(group) else {
         unreachable!();
     };
+    let before = group.room();
     group.undo(delivery);
+    keys.account.change(before, group.room());
 }
 
 /// Takes reads back, the last first.

@@ -11,8 +11,13 @@ use xs_stream::Trim;
 pub fn trim(keys: &mut Keys, key: &Bytes, trim: Trim) -> Reply
     ensures { StepAtAnyTime keys.old (Command.TrimTo key.now trim) result keys.new }
 {
-    match keys.get_mut(key) {
-        Some(slot) => Reply::Int(U63::new(slot.stream.trim(trim))),
+    match keys.slots.get_mut(key) {
+        Some(slot) => {
+            let before = slot.stream.room();
+            let count = slot.stream.trim(trim);
+            keys.account.change(before, slot.stream.room());
+            Reply::Int(U63::new(count))
+        }
         None => Reply::Int(U63::new(0)),
     }
 }
