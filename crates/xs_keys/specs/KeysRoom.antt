@@ -1,6 +1,7 @@
 -- How many bytes of memory the keys are counted with.
 use Rattle.std.specs.Prelude.{◌≡◌, ℕ, ◌+◌, ◌^◌, ◌%◌, List, [], ◌∷◌, length, map, Option, Bool, ◌&&◌, nat_lt}
 use Rattle.xs_bytes.specs.MapOf.{from_entries}
+use Rattle.xs_stream.specs.declared.field.Field.{Field}
 use Rattle.xs_stream.specs.StreamContent.{StreamInMemory, state_of}
 use Rattle.xs_group.specs.GroupRoom.{room_of_group}
 use Rattle.xs_keys.specs.Terms.{option_map, NameMap, GroupState}
@@ -26,6 +27,11 @@ content_of keys = from_entries (map (λ e. (e.0, key_state_of e.1)) keys.entries
 abbrev pub room_of_named : {X : Type 0} → (X → ℕ) → List (List ℕ × X) → ℕ
 room_of_named room [] = 0
 room_of_named room (e ∷ es) = (length e.0 + room e.1) + room_of_named room es
+
+-- the names and values of fields
+abbrev pub bytes_of_fields : List Field → ℕ
+bytes_of_fields [] = 0
+bytes_of_fields (f ∷ fs) = (length f.name + length f.value) + bytes_of_fields fs
 
 -- so many bytes for a key beside its name: its place in the tree
 abbrev pub key_room : ℕ

@@ -20,7 +20,7 @@ impl Account {
         Self { held: 0, bound: 0 }
     }
 
-    /// From now on additions are refused where they would take more than so many bytes; 0 if there is no bound.
+    /// From now on so many bytes may be held; 0 if there is no bound.
     pub(crate) fn set_bound(&mut self, bound: u64)
         ensures { self.new ≡ record self.old { bound = bound } }
     {
@@ -28,14 +28,14 @@ impl Account {
     }
 
     /// Whether so many bytes more are above the bound.
-    pub(crate) fn is_full_for(&self, more: u64) -> bool
+    pub(crate) fn is_full_for(&self, more: u128) -> bool
         ensures { result ≡ is_above self.now.bound self.now.held more }
     {
         if self.bound == 0 {
             return false;
         }
         let bound = u128::from(self.bound);
-        self.held > bound || u128::from(more) > bound - self.held
+        self.held > bound || more > bound - self.held
     }
 
     /// What took so many bytes takes so many others now.

@@ -62,6 +62,14 @@ impl Keyspace {
         self.reserve.leave_free(bytes);
     }
 
+    /// From now on `XADD`, `XGROUP CREATE` and `XGROUP CREATECONSUMER` are answered `OOM` if what is held and what they
+    /// take are more than so many bytes; 0 if there is no bound.
+    pub fn set_bound(&mut self, bytes: u64)
+        ensures { self.new ≡ self.old }
+    {
+        self.keys.set_bound(bytes);
+    }
+
     /// Applies one command at a moment, and gives its reply. What is refused changes nothing. The reply
     /// `OOM` says out of memory, and comes only if there is no other refusal.
     pub fn apply(&mut self, now: Moment, command: &Command) -> Reply

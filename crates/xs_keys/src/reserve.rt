@@ -3,7 +3,6 @@ ghost use Rattle.std.specs.Prelude.{◌≡◌, ◌==◌, OnOk, not};
 
 use std::alloc::{AllocError, Global};
 use std::marker::Model;
-use xs_stream::Field;
 
 /// How many pieces a whole reserve has: 4 MiB of memory.
 const PIECES: usize = 64;
@@ -23,15 +22,13 @@ const REPLIES: usize = 2;
 /// How many bytes the name of a field and its value take in a reply beside their own, at most.
 const FIELD_BYTES: usize = 64;
 
-/// How many bytes it takes at most to make the reply of one entry with these fields.
-pub(crate) fn reply_bytes(fields: &[Field]) -> usize {
-    let mut bytes = fields.len().saturating_mul(FIELD_BYTES);
-    for field in fields {
-        bytes = bytes
-            .saturating_add(field.name.len())
-            .saturating_add(field.value.len());
-    }
-    bytes.saturating_mul(GROWTH)
+/// How many bytes it takes at most to make the reply of one entry with so many fields, whose names and values have so
+/// many bytes together.
+pub(crate) fn reply_bytes(fields: usize, bytes: usize) -> usize {
+    fields
+        .saturating_mul(FIELD_BYTES)
+        .saturating_add(bytes)
+        .saturating_mul(GROWTH)
 }
 
 /// Memory that no command uses. It is made whole before each addition, and given back if a command of a consumer finds

@@ -1,9 +1,10 @@
 //! XADD.
-ghost use Rattle.std.specs.Prelude.{◌≡◌, ◌+◌, ◌%◌, ◌^◌, ◌<◌, Some, Ok, Err, None, true, is_ok, IfOk, OnErr, IsErrOf};
+ghost use Rattle.std.specs.Prelude.{◌≡◌, ◌≤◌, ◌+◌, ◌%◌, ◌^◌, ◌<◌, Some, Ok, Err, None, true, is_ok, IfOk, OnErr, IsErrOf};
 ghost use Rattle.xs_bytes.specs.SortedMap as map;
 ghost use Rattle.xs_stream.specs.Id.{id_of_addition};
 ghost use Rattle.xs_stream.specs.StreamContent.{state_of};
 ghost use Rattle.xs_command.specs.WellFormed.{IsAddId};
+ghost use Rattle.xs_keys.specs.KeysRoom.{bytes_of_fields};
 ghost use Rattle.xs_keys.specs.Life.{add_entry};
 ghost use Rattle.xs_keys.specs.ContentAfter.{stream_after};
 ghost use Rattle.xs_keys.specs.Adding.{text_of, Adds};
@@ -18,7 +19,20 @@ use std::alloc::{AllocError, Global};
 use xs_bytes::Bytes;
 use xs_command::{AddCommand, Command};
 use xs_resp::{Fault, Reply};
-use xs_stream::{AddError, Moment, Stream};
+use xs_stream::{AddError, Field, Moment, Stream};
+
+/// How many bytes the names and values of fields have: an entry takes at least as many.
+fn bytes_of(fields: &[Field]) -> usize
+    ensures { result ≤ bytes_of_fields fields.now }
+{
+    let mut bytes = 0usize;
+    for field in fields {
+        bytes = bytes
+            .saturating_add(field.name.len())
+            .saturating_add(field.value.len());
+    }
+    bytes
+}
 
 /// Adds an entry to a stream and trims it then. The text of the id is made first, so that a refusal of
 /// memory leaves the stream as it was.
@@ -43,8 +57,9 @@ fn try_add(
         Ok(id) => id,
         Err(error) => return Err(error),
     };
-    let reply_bytes = reply_bytes(add.fields.as_slice());
-    if account.is_full_for(reply_bytes as u64) || reserve.admit(alloc, reply_bytes).is_err() {
+    let bytes = bytes_of(add.fields.as_slice());
+    let reply_bytes = reply_bytes(add.fields.len(), bytes);
+    if account.is_full_for(bytes as u128) || reserve.admit(alloc, reply_bytes).is_err() {
         return Err(AddError::Memory);
     }
     let Ok(text) = id.text(alloc) else {

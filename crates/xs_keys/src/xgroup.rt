@@ -20,12 +20,6 @@ use xs_group::Group;
 use xs_resp::{Fault, Reply, Simple};
 use xs_stream::{Id, Stream};
 
-/// How many bytes a new group takes.
-const NEW_GROUP: u64 = 500;
-
-/// How many bytes a new consumer takes.
-const NEW_CONSUMER: u64 = 100;
-
 /// The id behind which a group starts, in a stream with this top.
 fn start_id(start: GroupStart, top: Id) -> Id
     ensures { result ≡ starting_id start top }
@@ -53,7 +47,7 @@ fn insert_group(
 {
     let group = Group::new(alloc, start_id(command.start, top));
     let room = (command.group.len() as u128).wrapping_add(group.room());
-    if account.is_full_for(NEW_GROUP) {
+    if account.is_full_for(room) {
         return Err(AllocError);
     }
     reserve.admit(alloc, 0)?;
@@ -200,7 +194,7 @@ pub fn create_consumer(
     let Some(group) = slot.groups.get_mut(group) else {
         return Reply::Error(Fault::NoGroup);
     };
-    if keys.account.is_full_for(NEW_CONSUMER) {
+    if !group.has_consumer(consumer) && keys.account.is_full_for(consumer.len() as u128) {
         return Reply::Error(Fault::Memory);
     }
     let before = group.room();
