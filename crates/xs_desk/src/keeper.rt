@@ -256,6 +256,14 @@ impl<J: Journal + Drop> Keeper<J> {
         self.schedule.lets_wait = true;
     }
 
+    /// From now on additions, new groups and new consumers are refused if what the keyspace holds and what they take are
+    /// more than so many bytes; 0 if there is no bound.
+    pub fn set_bound(&mut self, bytes: u64)
+        ensures { self.new ≡ self.old }
+    {
+        self.keyspace.set_bound(bytes);
+    }
+
     /// Ends the waits whose time is over: the next turns serve those calls. It reads the clock only if a call waits.
     pub fn read_clock<S: time::Clock>(&mut self, system: &S)
         ensures { self.new ≡ self.old }

@@ -3,7 +3,7 @@ ghost use Rattle.std.specs.Prelude.{◌≡◌, ◌<◌, ◌+◌, ◌^◌, not, l
 ghost use Rattle.xs_group.specs.GroupState.{GroupState, has_name, with_consumer, new_group, group_after_ack};
 ghost use Rattle.xs_group.specs.GroupState.{without_consumer, group_after_delivery};
 ghost use Rattle.xs_group.specs.GroupState.{group_after_reread};
-ghost use Rattle.xs_group.specs.GroupRoom.{room_of_group, bytes_of_names};
+ghost use Rattle.xs_group.specs.GroupRoom.{room_of_group, room_of_map, bytes_of_names};
 ghost use Rattle.xs_group.specs.Report.{owned_count, summary_of, pending_of};
 ghost use Rattle.xs_group.specs.ConsistentGroup.{IsConsistentGroup, IsUpTo};
 ghost use Rattle.xs_group.specs.Claims.{claim_by_ids, scan_of, group_after_claim};
@@ -23,13 +23,29 @@ use xs_bytes::{Bytes, List};
 use xs_stream::{Id, Moment, Range, Stream};
 
 /// How many bytes a group of no consumers takes.
-const GROUP_ROOM: u128 = 230;
+const GROUP_ROOM: u128 = 225;
 
-/// How many bytes a consumer takes beside its name.
-const CONSUMER_ROOM: u128 = 90;
+/// How many bytes a place of a small map takes, in both indexes of what is pending.
+const PLACE_ROOM: u128 = 61;
 
-/// How many bytes a pending row takes.
-const ROW_ROOM: u128 = 118;
+/// How many bytes a node of a great map takes.
+const NODE_ROOM: u128 = 960;
+
+/// How many bytes a map of so many entries is counted with. Up to eight are in a vector, up to fifteen in a node, more in
+/// a tree of nodes that have eight each.
+fn room_of_map(count: usize) -> u128
+    ensures { result ≡ room_of_map count }
+{
+    match count {
+        0 => 0,
+        1 => PLACE_ROOM * 2,
+        2 => PLACE_ROOM * 3,
+        3..=4 => PLACE_ROOM * 5,
+        5..=8 => PLACE_ROOM * 9,
+        9..=15 => NODE_ROOM,
+        _ => NODE_ROOM * (count as u128 / 8 + 1),
+    }
+}
 
 /// A consumer group. A contract sees its cursor, its consumers and its pending rows. A call that is
 /// refused for want of memory leaves the group as it was.
@@ -71,8 +87,8 @@ impl Group {
     pub fn room(&self) -> u128
         ensures { result ≡ room_of_group self.now }
     {
-        let consumers = CONSUMER_ROOM * self.pending.count_consumers() as u128;
-        let rows = ROW_ROOM * self.pending.len() as u128;
+        let consumers = room_of_map(self.pending.count_consumers());
+        let rows = room_of_map(self.pending.len());
         GROUP_ROOM + consumers + self.name_bytes as u128 + rows
     }
 

@@ -3,6 +3,7 @@ ghost use Rattle.std.specs.Prelude.{◌≡◌, ◌≢◌, ◌⊎◌, map, codes,
 ghost use Rattle.clap.specs.Words.{kind_of, found_of};
 ghost use Rattle.xs_server.specs.CommandLine.{AsksScript, IsValueOf};
 
+use crate::byte_count::byte_count;
 use crate::version::VERSION;
 use clap::builder::ValueParser;
 use clap::error::{Error, ErrorKind};
@@ -45,6 +46,8 @@ pub struct RunOptions {
     pub workers: u64,
     /// After how many seconds a connection is closed that sends nothing; 0 is never.
     pub idle: u64,
+    /// How many bytes the queues may hold when something is added; 0 if there is no bound.
+    pub max_memory: u64,
     /// The log, if there is one.
     pub log: Option<LogOptions>,
 }
@@ -76,6 +79,9 @@ const ABOUT_SERVE: &str = "Serves so many connections on a port of 127.0.0.1, an
 const ABOUT_RUN: &str = "Serves connections until it is stopped; XREADGROUP with BLOCK waits";
 
 const NO_ADDRESS: &str = "error: the value of --bind is no IPv4 or IPv6 address\n";
+
+const NO_BYTES: &str =
+    "error: the value of --max-memory is no number of bytes such as 1500000, 200k, 64m or 2g\n";
 
 const NO_POLICY: &str = "error: the value of --sync is none of always, second and no\n";
 
@@ -164,6 +170,12 @@ fn run_command<'a>(alloc: Global) -> Result<Command<'a>, AllocError> {
         .long("bind")
         .default_value("127.0.0.1")
         .help("The address to listen on");
+    let max_memory = Arg::new(alloc, "max-memory")
+        .long("max-memory")
+        .value_name("BYTES")
+        .default_value("0")
+        .allow_negative_numbers(true)
+        .help("Refuses additions beyond so many bytes, such as 64m or 2g; 0 is no bound");
     let log = Arg::new(alloc, "log").long("log").value_name("FOLDER").help(
         "Keeps all in the files of this folder, which a restart reads",
     );
@@ -193,6 +205,7 @@ fn run_command<'a>(alloc: Global) -> Result<Command<'a>, AllocError> {
             "After how many seconds a connection that sends nothing is closed; 0 is never",
         ))?
         .arg(open)?
+        .arg(max_memory)?
         .arg(log)?
         .arg(sync)
 }
@@ -220,6 +233,14 @@ fn bind_of(matches: &ArgMatches) -> Result<IpAddr, &'static str> {
         Ok(address)
     } else {
         Err(NOT_OPEN)
+    }
+}
+
+/// How many bytes the queues of `run` may hold, or what is wrong with the word that says it.
+fn max_memory_of(matches: &ArgMatches) -> Result<u64, &'static str> {
+    match matches.get_str("max-memory") {
+        Some(text) => byte_count(text).ok_or(NO_BYTES),
+        None => Err(NO_BYTES),
     }
 }
 
@@ -258,6 +279,7 @@ fn log_of(
 fn run_options_of(
     matches: &ArgMatches,
     bind: IpAddr,
+    max_memory: u64,
     log: Option<LogOptions>,
 ) -> Option<RunOptions> {
     Some(RunOptions {
@@ -265,6 +287,7 @@ fn run_options_of(
         port: matches.get_one::<u16>("port")?,
         workers: matches.get_one::<u64>("workers")?,
         idle: matches.get_one::<u64>("idle")?,
+        max_memory,
         log,
     })
 }
@@ -317,12 +340,16 @@ fn parse_run(alloc: Global, matches: &ArgMatches) -> Result<Others, Error> {
         Ok(bind) => bind,
         Err(text) => return Ok(Others::Refused(text)),
     };
+    let max_memory = match max_memory_of(matches) {
+        Ok(bytes) => bytes,
+        Err(text) => return Ok(Others::Refused(text)),
+    };
     let policy = match policy_of(matches) {
         Ok(policy) => policy,
         Err(text) => return Ok(Others::Refused(text)),
     };
     let log = log_of(alloc, matches, policy)?;
-    Ok(match run_options_of(matches, bind, log) {
+    Ok(match run_options_of(matches, bind, max_memory, log) {
         Some(options) => Others::Run(options),
         None => Others::Nothing,
     })

@@ -4,6 +4,7 @@
 #![tactic(auto)]
 
 mod announcement;
+mod byte_count;
 mod command_line;
 mod connections;
 mod door;

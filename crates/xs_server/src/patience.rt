@@ -60,11 +60,18 @@ pub struct Patience<S: Drop> {
     // The client of each lane.
     peers: Vec<Peer>,
     most_held_back: u64,
+    // How many bytes the keyspace may hold; 0 if there is no bound.
+    max_memory: u64,
 }
 
 impl<S: Wait + Clock + Copy + Drop> Patience<S> {
-    /// The way of the workers of these gates.
-    pub fn new(system: S, alloc: Global, gates: &[RunGate<S>]) -> Result<Patience<S>, AllocError> {
+    /// The way of the workers of these gates, over a keyspace that may hold so many bytes; 0 if there is no bound.
+    pub fn new(
+        system: S,
+        alloc: Global,
+        gates: &[RunGate<S>],
+        max_memory: u64,
+    ) -> Result<Patience<S>, AllocError> {
         let mut peers = Vec::with_capacity(alloc, gates.len())?;
         for gate in gates {
             peers.push(gate.peer()?)?;
@@ -73,6 +80,7 @@ impl<S: Wait + Clock + Copy + Drop> Patience<S> {
             system,
             peers,
             most_held_back: u64::MAX,
+            max_memory,
         })
     }
 
@@ -113,6 +121,7 @@ impl<S: Wait + Clock + Copy + Send + Drop + 'static> Mode<RunGate<S>> for Patien
 impl<S: Wait + Clock + Copy + Drop> KeeperMode for Patience<S> {
     fn begin<J: Journal + Drop>(&self, keeper: &mut Keeper<J>) {
         keeper.let_wait();
+        keeper.set_bound(self.max_memory);
     }
 
     fn before_turn<J: Journal + Drop>(&self, keeper: &mut Keeper<J>) {

@@ -154,7 +154,7 @@ pub fn make_ready<
     let Ok(gates) = gates_of(*rt, alloc, &hall, &announcement, options) else {
         return Err(report_memory(errors));
     };
-    let Ok(patience) = Patience::new(*rt, alloc, gates.as_slice()) else {
+    let Ok(patience) = Patience::new(*rt, alloc, gates.as_slice(), options.max_memory) else {
         return Err(report_memory(errors));
     };
     if open_door(rt, alloc, listener, &hall).is_err() {

@@ -159,6 +159,7 @@ fn reports_each_fault(rt: HostRuntime) -> Result<(), Fail> {
 mod fakes;
 mod gates;
 mod of_bytes;
+mod options;
 mod sessions;
 mod tcp;
 mod wrapped;

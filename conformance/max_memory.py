@@ -1,0 +1,195 @@
+"""A server whose queues may hold so many bytes: `run --max-memory`.
+
+What is refused and what isn't is as the Redis page on eviction has it of *noeviction*: commands that add are answered
+OOM, others are served. docs/COMMANDS.md has the texts of errors.
+"""
+import contextlib
+import re
+import subprocess
+import tempfile
+import threading
+import time
+
+from full_queue import MEGABYTE, NO_MEMORY, add_until_full, consume, producing
+from great import array, bulk, entry, number
+from real_redis import read_reply
+from served import all_answer, asking, raw, running, say, say_at
+
+OOM = NO_MEMORY.decode()
+# The growth of resident memory and what is counted differ by so much at most.
+A_TENTH = 0.1
+# Entries as bench/memory.py has them: how many fields, and the bytes of a name and of a value.
+SHAPES = ((1, 1, 60), (5, 10, 20), (1, 1, 1000), (6, 10, 40))
+
+
+def asked(stream, replies, commands):
+    """The replies to many requests, 100 of them sent at once."""
+    commands, got = list(commands), []
+    for first in range(0, len(commands), 100):
+        piece = commands[first:first + 100]
+        stream.sendall(b"".join(map(asking, piece)))
+        got += [read_reply(replies) for _ in piece]
+    return got
+
+
+def adding(shape, place):
+    count, name, value = shape
+    fields = " ".join(f"{chr(97 + k) * name} {'v' * value}" for k in range(count))
+    return f"XADD s {1700000000000 + place // 5}-{place % 5 + 1} {fields}"
+
+
+def refuses_what_grows(program):
+    """Full, it refuses additions, new groups and new consumers, and nothing else; another error comes first."""
+    with running(program, "--max-memory", "1m") as server, raw(server.port) as one:
+        say(one, "XGROUP CREATE q g 0 MKSTREAM", "+OK\r\n")
+        say(one, "XGROUP CREATECONSUMER q g a", number(1))
+        say(one, "XADD r 5-1 f v", bulk("5-1"))
+        added = add_until_full(server)
+        # The fields of a job have 1,001 bytes.
+        assert 950 < added < 1047, added
+        job = "v" * 1000
+        full = {
+            f"XADD q * f {job}": OOM,
+            f"XADD new * f {job}": OOM,
+            f"XADD r 5-1 f {job}": "-ERR The ID specified in XADD is equal or smaller than the target stream top item\r\n",
+            f"XADD new NOMKSTREAM * f {job}": "$-1\r\n",
+            f"XGROUP CREATE r {job} 0": OOM,
+            f"XGROUP CREATE new {job} 0 MKSTREAM": OOM,
+            "XGROUP CREATE q g 0": "-BUSYGROUP Consumer Group name already exists\r\n",
+            f"XGROUP CREATECONSUMER q g {job}": OOM,
+            "XGROUP CREATECONSUMER q g a": number(0),
+            "XLEN q": number(added),
+            "XRANGE r - +": array([entry("5-1", "f", "v")]),
+            "XRANGE new - +": "*0\r\n",
+        }
+        for text, reply in full.items():
+            say(one, text, reply)
+        assert len(consume(server, 10, "XDEL")) == len(consume(server, 10, "NOACK")) == 10
+        all_answer(server)
+
+
+def makes_room(program):
+    """Each way of taking something out makes room for as much: deletion, trim, the end of a group and of a key."""
+    def ask(text):
+        one.sendall(asking(text))
+        return read_reply(replies)
+
+    def is_full():
+        return ask(f"XADD q * f {'v' * 1000}") == NO_MEMORY
+
+    with running(program, "--max-memory", "1m") as server, raw(server.port) as one, one.makefile("rb") as replies:
+        ask("XGROUP CREATE q g 0 MKSTREAM")
+        add_until_full(server)
+        assert len(consume(server, 100, "XDEL")) == 100 and not is_full()
+        assert 90 < add_until_full(server) < 105
+        assert ask("XTRIM q MAXLEN 500").startswith(b":4") and not is_full()
+        assert add_until_full(server) > 400
+        # Rows go beyond the bound, by 118 bytes each, until their group goes.
+        assert len(ask("XREADGROUP GROUP g a COUNT 400 STREAMS q >")) > 400_000
+        got = ask("XTRIM q MAXLEN 920")
+        assert got.startswith(b":") and got != b":0\r\n" and is_full(), got
+        assert ask("XGROUP DESTROY q g") == b":1\r\n" and not is_full()
+        add_until_full(server)
+        assert ask("DEL q") == b":1\r\n" and not is_full()
+        assert add_until_full(server) > 950
+
+
+def counts_what_is_resident(program):
+    """What resident memory grows by until additions are refused is the bound, to a tenth, whatever entries have; and what
+    is left is, once a random half is deleted."""
+    bound = 48 * MEGABYTE
+    for shape in SHAPES:
+        with running(program, "--max-memory", "48m", workers=1) as server:
+            with raw(server.port) as one, one.makefile("rb") as replies:
+                asked(one, replies, ["XADD other 1-1 f v"])
+                before, place = server.resident(), 0
+                while NO_MEMORY not in asked(one, replies, (adding(shape, place + k) for k in range(1, 1001))):
+                    place += 1000
+                grown = server.resident() - before
+                print(f"{shape}: {place} entries, {grown / bound:.3f} of the bound", flush=True)
+                assert abs(grown / bound - 1) <= A_TENTH, (shape, grown)
+
+
+def rows_go_beyond(program):
+    """Reads are never refused: their rows, 118 bytes each, go beyond the bound. Additions wait until jobs are done."""
+    with running(program, "--max-memory", "8m") as server, raw(server.port) as one, one.makefile("rb") as replies:
+        say(one, "XGROUP CREATE q g 0 MKSTREAM", "+OK\r\n")
+        added = 0
+        while NO_MEMORY not in (got := asked(one, replies, ("XADD q * f v" for _ in range(1000)))):
+            added += 1000
+        added += 1000 - got.count(NO_MEMORY)
+        before = server.resident()
+        ids = []
+        while taken := [text.decode() for text in
+                        re.findall(rb"\d+-\d+", asked(one, replies, ["XREADGROUP GROUP g a COUNT 1000 STREAMS q >"])[0])]:
+            ids += taken
+        assert len(ids) == len(set(ids)) == added > 100_000, (len(ids), added)
+        grown = server.resident() - before
+        print(f"{added} rows of {grown / added:.1f} bytes", flush=True)
+        assert grown < added * 118 * 1.1 + MEGABYTE, grown
+        assert asked(one, replies, ["XADD q * f v"]) == [NO_MEMORY]
+        for first in range(0, added, 1000):
+            piece = ids[first:first + 1000]
+            done = asked(one, replies, [f"XACK q g {' '.join(piece)}", f"XDEL q {' '.join(piece)}"])
+            assert done == [number(len(piece)).encode()] * 2, done
+        assert asked(one, replies, ["XADD q * f v"]) != [NO_MEMORY]
+
+
+def beside_producers(program, seconds=6, consumers=4):
+    """Producers that never stop and consumers: none of these is refused, each job is read once, and resident memory
+    stays within 1.3 times the bound."""
+    with running(program, "--max-memory", "64m", workers=8) as server:
+        say_at(server, "XGROUP CREATE q g 0 MKSTREAM", "+OK\r\n")
+        before, most, taken, faults = server.resident(), 0, [[] for _ in range(consumers)], []
+        end = time.monotonic() + seconds
+
+        def work(place):
+            try:
+                while time.monotonic() < end:
+                    taken[place] += consume(server, (1, 10, 100)[len(taken[place]) % 3], "XDEL")
+            except (AssertionError, OSError) as fault:
+                faults.append(fault)
+
+        with producing(server):
+            assert add_until_full(server) > 50_000
+            threads = [threading.Thread(target=work, args=(place,)) for place in range(consumers)]
+            for thread in threads:
+                thread.start()
+            while time.monotonic() < end:
+                most = max(most, server.resident() - before)
+                time.sleep(0.05)
+            for thread in threads:
+                thread.join()
+        ids = [one for each in taken for one in each]
+        print(f"{len(ids)} jobs done, at most {most / (64 * MEGABYTE):.2f} of the bound", flush=True)
+        assert not faults and len(ids) == len(set(ids)) > 100, (faults, len(ids), len(set(ids)))
+        assert most <= 1.3 * 64 * MEGABYTE, most
+
+
+def over_a_log(program):
+    """The bound doesn't hold while a log is read: all is there again, additions are refused until jobs are done."""
+    with tempfile.TemporaryDirectory() as folder:
+        with running(program, "--log", folder, "--sync", "no") as server, raw(server.port) as one:
+            say(one, "XGROUP CREATE q g 0 MKSTREAM", "+OK\r\n")
+            with one.makefile("rb") as replies:
+                assert NO_MEMORY not in asked(one, replies, (f"XADD q * f {'v' * 1000}" for _ in range(2000)))
+        with running(program, "--log", folder, "--max-memory", "1m") as server, raw(server.port) as one:
+            say(one, "XLEN q", number(2000))
+            say(one, "XADD q * f v", OOM)
+            while consume(server, 400, "XDEL"):
+                pass
+            with one.makefile("rb") as replies:
+                assert asked(one, replies, ["XADD q * f v"])[0].startswith(b"$")
+
+
+def options(program):
+    """A number of bytes, and k, m or g behind it; 0 is no bound. Others end the program with status 2."""
+    for word in ("0", "4096", "64K", "64m", "1G", "18446744073709551615", "17179869183g"):
+        with running(program, "--max-memory", word, workers=1) as server:
+            say_at(server, "XADD s 1-1 f v", bulk("1-1") if word != "x" else OOM)
+    for word in ("", "m", "x", "-1", "1.5g", "64mb", "64 m", "17179869184g", "18446744073709551616"):
+        done = subprocess.run([program, "run", "--port", "1", "--max-memory", word], capture_output=True, timeout=30)
+        assert (done.returncode, done.stdout) == (2, b"") and b"--max-memory" in done.stderr, (word, done)
+
+
+CASES = (options, refuses_what_grows, makes_room, counts_what_is_resident, rows_go_beyond, beside_producers, over_a_log)
