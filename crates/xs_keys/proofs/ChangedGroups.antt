@@ -1,7 +1,7 @@
 -- A group of a key that changes: what the keys hold then, and that a group that is as before leaves them as before.
 use Rattle.std.proofs.Common.{◌≡◌, ℕ, List, Some, None, sym, ap, ◌∙◌}
 use Rattle.xs_keys.specs.Terms.{NameMap, get, insert, GroupState}
-use Rattle.xs_keys.specs.Content.{Content, KeyState}
+use Rattle.xs_keys.specs.Content.{Content}
 use Rattle.xs_keys.specs.ContentAfter.{with_group}
 use Rattle.xs_keys.specs.KeysRoom.{KeyInMemory, key_state_of, state_in, content_of, room_of_keys, IsCountOf}
 use Rattle.xs_keys.proofs.NameMaps.{insert-same}

@@ -1,4 +1,4 @@
-use Rattle.std.proofs.Common.{◌≡◌, Some, None, sym, ap, ◌∙◌, refl, inl, length, arith}
+use Rattle.std.proofs.Common.{◌≡◌, Some, sym, ap, ◌∙◌, refl, inl, length, arith}
 use Rattle.xs_keys.specs.Terms.{get, insert, GroupState, Int}
 use Rattle.xs_keys.specs.ContentAfter.{with_group}
 use Rattle.xs_keys.specs.KeysRoom.{KeyInMemory, key_state_of}

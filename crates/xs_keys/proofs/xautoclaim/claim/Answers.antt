@@ -52,7 +52,7 @@ returns c =
     let left = group-put c.keys.inside.slots c.args.keys.now c.keys.view_is command.key (key at) command.group c.claim_in-claimed.new.group in
     let put = λ (group : GroupState). insert c.args.keys.now command.key (with_group (key_state_of (key at)) command.group group) in
     elim c.match-claimed.branch [
-      in-Ok w ↦ rw w.result-is (inl (record {
+      | in-Ok w ↦ rw w.result-is (inl (record {
         answer_is = w.in-Ok.ensures.answer
             ∙ sym (said-of c.args.keys.now command.key command.group (key_state_of (key at)) c.in-Some-get_mut.group.now (had at) has
             (λ entries g. scan_reply command.rule.just_id entries (scan_of g.rows.entries (ids_of entries) c.args.now command.rule command.start command.limit)));

@@ -56,7 +56,7 @@ returns c =
     let left = group-put c.keys.inside.slots c.args.keys.now c.keys.view_is command.key (key at) command.group c.claim_in-claimed.new.group in
     let put = λ (group : GroupState). insert c.args.keys.now command.key (with_group (key_state_of (key at)) command.group group) in
     elim c.match-claimed.branch [
-      in-Ok w ↦ rw w.result-is (inl (record {
+      | in-Ok w ↦ rw w.result-is (inl (record {
         answer_is = rw (had at, has) w.in-Ok.ensures.answer;
         content_is = left ∙ ap put w.in-Ok.ensures.ok ∙ rw (had at, has) refl;
       }))

@@ -3,13 +3,13 @@ use Rattle.std.proofs.lemmas.Bool.{false≢true}
 use Rattle.xs_stream.proofs.PackedCodes.{on_err-holds}
 use Rattle.xs_group.specs.Deliveries.{row_ids}
 use Rattle.xs_keys.specs.Terms.{get, insert, GroupState}
-use Rattle.xs_keys.specs.ContentAfter.{group_in, with_group}
+use Rattle.xs_keys.specs.ContentAfter.{group_in}
 use Rattle.xs_keys.specs.KeysRoom.{KeyInMemory, key_state_of, content_of}
 use Rattle.xs_keys.proofs.ReadSteps.{served-at}
 use Rattle.xs_keys.proofs.CountedKeys.{counted-group}
 use Rattle.xs_keys.proofs.ChangedGroups.{with_group_in_memory, key-none, key-there, group-put, slots-again, counted-again}
 use Rattle.xs_keys.proofs.xreadgroup.serve_at.Goals as goal
-use Rattle.xs_keys.proofs.xreadgroup.serve_at.Goals.{After-slot, After-read_group}
+use Rattle.xs_keys.proofs.xreadgroup.serve_at.Goals.{After-slot}
 
 abbrev key : After-slot → KeyInMemory
 key c = record { stream = c.slot.inside.stream; groups = c.slot.inside.groups }
@@ -37,21 +37,19 @@ unreachable-requires-in_default-get_mut c =
     ∙ c.requires)
 
 -- with a group that is as before the keys are as before
-again : (c : After-read_group) (group : GroupState) → group ≡ c.in-Some-get_mut.group.now
-    → insert c.keys.inside.slots c.args.one.now.key (with_group_in_memory (record { stream = c.slot.inside.stream; groups = c.slot.inside.groups }) c.args.read.now.group group) ≡ c.keys.inside.slots
-again c group same =
-    slots-again c.keys.inside.slots c.args.one.now.key c.args.read.now.group (record { stream = c.slot.inside.stream; groups = c.slot.inside.groups }) c.in-Some-get_mut.group.now group
-    (sym c.in-Some.ensures.value ∙ ap Some (sym c.slot.view_is)) (sym c.in-Some-get_mut.ensures.value) same
+again : (c : After-slot) (was group : GroupState) → get c.slot.inside.groups c.args.read.now.group ≡ Some was → group ≡ was
+    → insert c.keys.inside.slots c.args.one.now.key (with_group_in_memory (key c) c.args.read.now.group group) ≡ c.keys.inside.slots
+again c was group has same = slots-again c.keys.inside.slots c.args.one.now.key c.args.read.now.group (key c) was group (found c) has same
 
 pub invariant_of-keys-in-Break-1 : goal.invariant_of-keys-in-Break-1
 invariant_of-keys-in-Break-1 c =
-    let at = (goal.at.invariant_of-keys-in-Break-1 c).After-read_group in
-    rw (again at c.read_group.new.group c.in_err-delivery.ensures.err) c.keys.invariant
+    let at = (goal.at.invariant_of-keys-in-Break-1 c).After-slot in
+    rw (again at c.in-Some-get_mut.group.now c.read_group.new.group (sym c.in-Some-get_mut.ensures.value) c.in_err-delivery.ensures.err) c.keys.invariant
 
 pub returns-in_err-delivery-clause-err : goal.returns-in_err-delivery-clause-err
 returns-in_err-delivery-clause-err c =
-    let at = (goal.at.returns-in_err-delivery-clause-err c).After-read_group in
-    on_err-holds c.from_residual.result (ap content_of (again at c.read_group.new.group c.in_err-delivery.ensures.err) ∙ c.keys.view_is)
+    let at = (goal.at.returns-in_err-delivery-clause-err c).After-slot in
+    on_err-holds c.from_residual.result (ap content_of (again at c.in-Some-get_mut.group.now c.read_group.new.group (sym c.in-Some-get_mut.ensures.value) c.in_err-delivery.ensures.err) ∙ c.keys.view_is)
 
 pub invariant_of-keys-in-Ok : goal.invariant_of-keys-in-Ok
 invariant_of-keys-in-Ok c =
@@ -70,10 +68,10 @@ returns-in-Ok-clause-ok c =
 
 pub invariant_of-keys-in-Err : goal.invariant_of-keys-in-Err
 invariant_of-keys-in-Err c =
-    let at = (goal.at.invariant_of-keys-in-Err c).After-read_group in
-    rw (again at c.undo.new.self (c.undo.ensures c.in-Some-get_mut.group.now c.in_ok-delivery.ensures.made)) c.keys.invariant
+    let at = (goal.at.invariant_of-keys-in-Err c).After-slot in
+    rw (again at c.in-Some-get_mut.group.now c.undo.new.self (sym c.in-Some-get_mut.ensures.value) (c.undo.ensures c.in-Some-get_mut.group.now c.in_ok-delivery.ensures.made)) c.keys.invariant
 
 pub returns-in-Err-clause-err : goal.returns-in-Err-clause-err
 returns-in-Err-clause-err c =
-    let at = (goal.at.returns-in-Err-clause-err c).After-read_group in
-    ap content_of (again at c.undo.new.self (c.undo.ensures c.in-Some-get_mut.group.now c.in_ok-delivery.ensures.made)) ∙ c.keys.view_is
+    let at = (goal.at.returns-in-Err-clause-err c).After-slot in
+    ap content_of (again at c.in-Some-get_mut.group.now c.undo.new.self (sym c.in-Some-get_mut.ensures.value) (c.undo.ensures c.in-Some-get_mut.group.now c.in_ok-delivery.ensures.made)) ∙ c.keys.view_is
