@@ -8,7 +8,6 @@ use xs_resp::Reply;
 use xs_stream::Id;
 
 /// Takes these ids out of what is pending in a group, and says how many were.
-#[tactic(auto, using(crate::proofs::AskSteps::asked_nothing))]
 pub fn acknowledge(keys: &mut Keys, key: &Bytes, group: &Bytes, ids: &Operands<Id>) -> Reply
     ensures { StepAtAnyTime keys.old (Command.Ack key.now group.now ids.now) result keys.new }
 {

@@ -89,7 +89,6 @@ fn claim_in(
 }
 
 /// Claims entries of a group from a start upwards.
-#[tactic(auto, using(crate::proofs::AskSteps::asked_nothing, crate::proofs::AskSteps::put_same))]
 pub fn claim(keys: &mut Keys, alloc: Global, now: Moment, command: &AutoClaimCommand) -> Reply
     ensures { Step keys.old now (Command.AutoClaim command.now) result keys.new }
 {

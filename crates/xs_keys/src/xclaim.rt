@@ -63,7 +63,6 @@ fn claim_in(
 }
 
 /// Claims entries of a group by their ids.
-#[tactic(auto, using(crate::proofs::AskSteps::asked_nothing, crate::proofs::AskSteps::put_same))]
 pub fn claim(keys: &mut Keys, alloc: Global, now: Moment, command: &ClaimCommand) -> Reply
     ensures { Step keys.old now (Command.Claim command.now) result keys.new }
 {

@@ -1,34 +1,67 @@
-use Rattle.std.proofs.Common.{Some, sym, ap, ◌∙◌, refl, inl, inr}
-use Rattle.xs_stream.specs.StreamContent.{state_of}
-use Rattle.xs_keys.specs.Terms.{GroupState, insert, ids_of, scan_of}
-use Rattle.xs_keys.specs.Content.{KeyState}
+use Rattle.std.proofs.Common.{◌≡◌, Some, sym, ap, ◌∙◌, refl, inl, inr}
+use Rattle.xs_keys.specs.Terms.{get, insert, GroupState, ids_of, scan_of}
 use Rattle.xs_keys.specs.ContentAfter.{with_group}
 use Rattle.xs_keys.specs.ReplyParts.{scan_reply}
-use Rattle.xs_keys.proofs.AskSteps.{said-of, put_same}
 use Rattle.xs_keys.specs.KeysRoom.{KeyInMemory, key_state_of}
+use Rattle.xs_keys.proofs.AskSteps.{said-of, put_same}
+use Rattle.xs_keys.proofs.CountedKeys.{counted-group}
+use Rattle.xs_keys.proofs.ChangedGroups.{key-none, key-there, key-again, group-put, counted-again}
 use Rattle.xs_keys.proofs.xautoclaim.claim.Goals as goal
+use Rattle.xs_keys.proofs.xautoclaim.claim.Goals.{After-slot, in-Ok, in-Err}
 
-pub returns-in-Ok : goal.returns-in-Ok
-returns-in-Ok c =
-    let command = c.args.command.now in
-    let key : KeyState = record { stream = state_of c.slot.inside.stream; groups = c.slot.inside.groups } in
-    let found = sym c.in-Some.ensures.value ∙ ap (λ (k : KeyInMemory). Some (key_state_of k)) (sym c.slot.view_is) in
-    let put = λ (group : GroupState). insert c.args.keys.now command.key (with_group key command.group group) in
+abbrev key : After-slot → KeyInMemory
+key c = record { stream = c.slot.inside.stream; groups = c.slot.inside.groups }
+
+found : (c : After-slot) → get c.keys.inside.slots c.args.command.now.key ≡ Some (key c)
+found c = sym c.in-Some.ensures.value ∙ ap Some (sym c.slot.view_is)
+
+had : (c : After-slot) → get c.args.keys.now c.args.command.now.key ≡ Some (key_state_of (key c))
+had c = key-there c.keys.inside.slots c.args.keys.now c.keys.view_is c.args.command.now.key (key c) (found c)
+
+pub returns-in_default : goal.returns-in_default
+returns-in_default c =
+    let none = key-none c.keys.inside.slots c.args.keys.now c.keys.view_is c.args.command.now.key (sym c.in_default.ensures.value) in
+    rw c.keys.view_is (inl (record { answer_is = rw none refl; content_is = rw none refl }))
+
+pub invariant_of-keys-in_default-get_mut : goal.invariant_of-keys-in_default-get_mut
+invariant_of-keys-in_default-get_mut c =
+    let at = (goal.at.invariant_of-keys-in_default-get_mut c).After-slot in
+    counted-again c.keys.inside.slots c.keys.inside.account.held c.keys.invariant c.args.command.now.key (key at) (found at)
+
+pub returns-in_default-get_mut : goal.returns-in_default-get_mut
+returns-in_default-get_mut c =
+    let at = (goal.at.returns-in_default-get_mut c).After-slot in
+    let none = sym c.in_default-get_mut.ensures.value in
     inl (record {
-      answer_is = c.in-Ok.ensures.answer
-          ∙ sym (said-of c.args.keys.now command.key command.group key c.in-Some-get_mut.group.now found (sym c.in-Some-get_mut.ensures.value)
-          (λ entries g. scan_reply command.rule.just_id entries (scan_of g.rows.entries (ids_of entries) c.args.now command.rule command.start command.limit)));
-      content_is = rw (← c.in-Some.ensures.value, ← c.slot.view_is, ← c.in-Some-get_mut.ensures.value) (ap put c.in-Ok.ensures.ok);
+      answer_is = rw (had at, none) refl;
+      content_is = key-again c.keys.inside.slots c.args.keys.now c.keys.view_is c.args.command.now.key (key at) (found at) ∙ rw (had at, none) refl;
     })
 
-pub returns-in-Err : goal.returns-in-Err
-returns-in-Err c =
-    let key : KeyState = record { stream = state_of c.slot.inside.stream; groups = c.slot.inside.groups } in
-    let found = sym c.in-Some.ensures.value ∙ ap (λ (k : KeyInMemory). Some (key_state_of k)) (sym c.slot.view_is) in
-    let put = λ (group : GroupState). insert c.args.keys.now c.args.command.now.key (with_group key c.args.command.now.group group) in
-    inr (record {
-      takes = refl;
-      no_other = rw (← c.in-Some.ensures.value, ← c.slot.view_is, ← c.in-Some-get_mut.ensures.value) refl;
-      answer_is = refl;
-      content_is = ap put c.in-Err.ensures.err ∙ put_same c.args.keys.now c.args.command.now.key c.args.command.now.group key c.in-Some-get_mut.group.now found (sym c.in-Some-get_mut.ensures.value);
-    })
+pub invariant_of-keys-2 : goal.invariant_of-keys-2
+invariant_of-keys-2 c =
+    let at = (goal.at.invariant_of-keys-2 c).After-slot in
+    counted-group c.keys.inside.slots c.keys.inside.account.held c.change.new.self.held c.keys.invariant c.change.ensures.small c.args.command.now.key (key at) (found at)
+    c.args.command.now.group c.in-Some-get_mut.group.now c.claim_in-claimed.new.group (sym c.in-Some-get_mut.ensures.value)
+    (rw (c.room-before.ensures, c.room.ensures) at c.change.ensures.held)
+
+pub returns : goal.returns
+returns c =
+    let at = (goal.at.returns c).After-slot in
+    let command = c.args.command.now in
+    let has = sym c.in-Some-get_mut.ensures.value in
+    let left = group-put c.keys.inside.slots c.args.keys.now c.keys.view_is command.key (key at) command.group c.claim_in-claimed.new.group in
+    let put = λ (group : GroupState). insert c.args.keys.now command.key (with_group (key_state_of (key at)) command.group group) in
+    elim c.match-claimed.branch [
+      | in-Ok w ↦ rw w.result-is (inl (record {
+        answer_is = w.in-Ok.ensures.answer
+            ∙ sym (said-of c.args.keys.now command.key command.group (key_state_of (key at)) c.in-Some-get_mut.group.now (had at) has
+            (λ entries g. scan_reply command.rule.just_id entries (scan_of g.rows.entries (ids_of entries) c.args.now command.rule command.start command.limit)));
+        content_is = left ∙ ap put w.in-Ok.ensures.ok ∙ rw (had at, has) refl;
+      }))
+      | in-Err w ↦ rw w.result-is (inr (record {
+        takes = refl;
+        no_other = rw (had at, has) refl;
+        answer_is = refl;
+        content_is = left ∙ ap put w.in-Err.ensures.err ∙ put_same c.args.keys.now command.key command.group (key_state_of (key at)) c.in-Some-get_mut.group.now (had at) has;
+      }))
+    ]
