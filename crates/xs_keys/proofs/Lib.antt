@@ -22,6 +22,7 @@ pub mod NamedRooms
 pub mod KeysContent
 pub mod Counted
 pub mod CountedKeys
+pub mod KeyInPlace
 pub mod NothingNew
 pub mod Owners
 pub mod PresentEntries
