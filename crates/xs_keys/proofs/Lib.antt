@@ -7,6 +7,7 @@ pub mod Contents
 pub mod Deliveries
 pub mod FirstIds
 pub mod GroupMaking
+pub mod ConsumerMaking
 pub mod GroupRows
 pub mod GroupSteps
 pub mod Histories

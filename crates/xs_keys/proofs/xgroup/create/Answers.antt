@@ -1,6 +1,6 @@
-use Rattle.std.proofs.Common.{Some, sym, ap, ◌∙◌, arith}
+use Rattle.std.proofs.Common.{Some, sym, ap, ◌∙◌, refl, arith}
 use Rattle.xs_group.specs.GroupRoom.{room_of_group}
-use Rattle.xs_keys.specs.KeysRoom.{KeyInMemory, key_state_of, room_of_named}
+use Rattle.xs_keys.specs.KeysRoom.{KeyInMemory, key_state_of, content_of, room_of_named}
 use Rattle.xs_keys.proofs.CountedKeys.{counted-key}
 use Rattle.xs_keys.proofs.KeyInPlace.{shown-none, shown-key, shown-change}
 use Rattle.xs_keys.proofs.GroupMaking.{creates_step}
@@ -25,7 +25,7 @@ returns-in-Some c = λ now.
     (creates_step content now c.args.command.now c.create_in.result (key_state_of key) new.groups had (rw c.top-top.ensures.value at c.create_in.ensures.creates))
 
 pub create_missing-requires : goal.create_missing-requires
-create_missing-requires c = ?
+create_missing-requires c = shown-none c.keys.inside.slots (content_of c.keys.inside.slots) refl c.args.command.now.key (sym c.in-None.ensures.value)
 
 pub returns-in-None : goal.returns-in-None
-returns-in-None c = ?
+returns-in-None c = rw (← c.keys.view_is) c.create_missing.ensures
