@@ -1,5 +1,5 @@
 -- The creation of consumers.
-use Rattle.std.proofs.Common.{◌≡◌, ℕ, Bool, true, false, cond, not, List, Some, ap, sym, ◌∙◌, refl, inl, inr}
+use Rattle.std.proofs.Common.{◌≡◌, ℕ, Bool, true, false, cond, not, List, Some, ap, ◌∙◌, refl, inl, inr}
 use Rattle.xs_keys.specs.Terms.{get, insert, GroupState, with_consumer, has_name, Int, Error, Memory, ConsumerCreate}
 use Rattle.xs_keys.specs.Content.{Content, KeyState}
 use Rattle.xs_keys.specs.ContentAfter.{with_group}

@@ -1,4 +1,4 @@
-use Rattle.std.proofs.Common.{◌≡◌, Some, None, sym, ap, ◌∙◌, refl, inl, arith}
+use Rattle.std.proofs.Common.{◌≡◌, Some, None, sym, ap, ◌∙◌, refl, inl}
 use Rattle.xs_keys.specs.Terms.{get, insert}
 use Rattle.xs_keys.specs.KeysRoom.{KeyInMemory, key_state_of}
 use Rattle.xs_keys.proofs.KeyInPlace.{shown-none, shown-key, shown-change, shown-same, counted-same}
@@ -65,6 +65,6 @@ returns c = λ now.
     let there : get key.groups c.args.group.now ≡ Some was = sym c.in-Some-get_mut.ensures.value in
     rw (shown-change c.keys.inside.slots content c.keys.view_is name new)
     (elim c.match-added.branch [
-      in-Ok w ↦ rw (w.result-is, w.one_where.ensures) (makes-consumer content now name c.args.group.now c.args.consumer.now (key_state_of key) was after had there w.in-Ok.made w.in-Ok.ensures.made w.in-Ok.ensures.ok)
-    | in-Err w ↦ rw w.result-is (refuses-consumer content now name c.args.group.now c.args.consumer.now (key_state_of key) was after had there w.in-Err.ensures.err)
+      | in-Ok w ↦ rw (w.result-is, w.one_where.ensures) (makes-consumer content now name c.args.group.now c.args.consumer.now (key_state_of key) was after had there w.in-Ok.made w.in-Ok.ensures.made w.in-Ok.ensures.ok)
+      | in-Err w ↦ rw w.result-is (refuses-consumer content now name c.args.group.now c.args.consumer.now (key_state_of key) was after had there w.in-Err.ensures.err)
     ])

@@ -1,6 +1,5 @@
 use Rattle.std.proofs.Common.{◌≡◌, Some, None, sym, ap, ◌∙◌, refl, inl}
 use Rattle.xs_keys.specs.Terms.{get, insert, GroupState, Int}
-use Rattle.xs_keys.specs.Content.{KeyState}
 use Rattle.xs_keys.specs.ContentAfter.{with_group}
 use Rattle.xs_keys.specs.KeysRoom.{KeyInMemory, key_state_of}
 use Rattle.xs_keys.proofs.KeyInPlace.{shown-none, shown-key, shown-change, shown-same, counted-same}
