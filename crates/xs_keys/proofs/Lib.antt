@@ -7,6 +7,7 @@ pub mod Contents
 pub mod Deliveries
 pub mod FirstIds
 pub mod GroupMaking
+pub mod ConsumerMaking
 pub mod GroupRows
 pub mod GroupSteps
 pub mod Histories
@@ -22,6 +23,7 @@ pub mod NamedRooms
 pub mod KeysContent
 pub mod Counted
 pub mod CountedKeys
+pub mod KeyInPlace
 pub mod ChangedGroups
 pub mod NothingNew
 pub mod Owners

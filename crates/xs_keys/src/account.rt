@@ -9,6 +9,7 @@ pub(crate) struct Account {
     held: u128,
     /// How many may be held when an addition comes; 0 if there is no bound.
     bound: u64,
+    ghost small: { held < 2 ^ 128 },
 }
 
 impl Account {

@@ -178,7 +178,6 @@ pub fn destroy(keys: &mut Keys, key: &Bytes, group: &Bytes) -> Reply
 }
 
 /// XGROUP CREATECONSUMER.
-#[tactic(auto, using(crate::proofs::AskSteps::asked_nothing, crate::proofs::AskSteps::put_same))]
 pub fn create_consumer(
     keys: &mut Keys,
     alloc: Global,
@@ -207,7 +206,6 @@ pub fn create_consumer(
 }
 
 /// XGROUP DELCONSUMER.
-#[tactic(auto, using(crate::proofs::AskSteps::asked_nothing))]
 pub fn delete_consumer(keys: &mut Keys, key: &Bytes, group: &Bytes, consumer: &Bytes) -> Reply
     ensures { StepAtAnyTime keys.old (Command.ConsumerDelete key.now group.now consumer.now) result keys.new }
 {

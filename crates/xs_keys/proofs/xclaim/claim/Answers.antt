@@ -5,7 +5,8 @@ use Rattle.xs_keys.specs.Step.{is_error}
 use Rattle.xs_keys.specs.KeysRoom.{KeyInMemory, key_state_of}
 use Rattle.xs_keys.proofs.AskSteps.{put_same}
 use Rattle.xs_keys.proofs.CountedKeys.{counted-group}
-use Rattle.xs_keys.proofs.ChangedGroups.{key-none, key-there, key-again, group-put, counted-again}
+use Rattle.xs_keys.proofs.KeyInPlace.{shown-none, shown-key, shown-same, counted-same}
+use Rattle.xs_keys.proofs.ChangedGroups.{group-put}
 use Rattle.xs_keys.proofs.xclaim.claim.Goals as goal
 use Rattle.xs_keys.proofs.xclaim.claim.Goals.{After-slot, in-Ok, in-Err}
 
@@ -16,7 +17,7 @@ found : (c : After-slot) → get c.keys.inside.slots c.args.command.now.key ≡ 
 found c = sym c.in-Some.ensures.value ∙ ap Some (sym c.slot.view_is)
 
 had : (c : After-slot) → get c.args.keys.now c.args.command.now.key ≡ Some (key_state_of (key c))
-had c = key-there c.keys.inside.slots c.args.keys.now c.keys.view_is c.args.command.now.key (key c) (found c)
+had c = shown-key c.keys.inside.slots c.args.keys.now c.keys.view_is c.args.command.now.key (key c) (found c)
 
 no_error : (b : Bool) (x y : Reply) → is_error x ≡ false → is_error y ≡ false → is_error (cond b x y) ≡ false
 no_error true x y one other = one
@@ -24,13 +25,13 @@ no_error false x y one other = other
 
 pub returns-in_default : goal.returns-in_default
 returns-in_default c =
-    let none = key-none c.keys.inside.slots c.args.keys.now c.keys.view_is c.args.command.now.key (sym c.in_default.ensures.value) in
+    let none = shown-none c.keys.inside.slots c.args.keys.now c.keys.view_is c.args.command.now.key (sym c.in_default.ensures.value) in
     rw c.keys.view_is (inl (record { answer_is = rw none refl; content_is = rw none refl }))
 
 pub invariant_of-keys-in_default-get_mut : goal.invariant_of-keys-in_default-get_mut
 invariant_of-keys-in_default-get_mut c =
     let at = (goal.at.invariant_of-keys-in_default-get_mut c).After-slot in
-    counted-again c.keys.inside.slots c.keys.inside.account.held c.keys.invariant c.args.command.now.key (key at) (found at)
+    counted-same c.keys.inside.slots c.keys.inside.account.held c.keys.invariant c.args.command.now.key (key at) (found at)
 
 pub returns-in_default-get_mut : goal.returns-in_default-get_mut
 returns-in_default-get_mut c =
@@ -38,7 +39,7 @@ returns-in_default-get_mut c =
     let none = sym c.in_default-get_mut.ensures.value in
     inl (record {
       answer_is = rw (had at, none) refl;
-      content_is = key-again c.keys.inside.slots c.args.keys.now c.keys.view_is c.args.command.now.key (key at) (found at) ∙ rw (had at, none) refl;
+      content_is = shown-same c.keys.inside.slots c.args.keys.now c.keys.view_is c.args.command.now.key (key at) (found at) ∙ rw (had at, none) refl;
     })
 
 pub invariant_of-keys-2 : goal.invariant_of-keys-2

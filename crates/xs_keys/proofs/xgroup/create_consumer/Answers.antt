@@ -1,20 +1,70 @@
-use Rattle.std.proofs.Common.{Some, sym, ap, ◌∙◌, refl, inr}
-use Rattle.xs_stream.specs.StreamContent.{state_of}
-use Rattle.xs_keys.specs.Terms.{GroupState, insert}
-use Rattle.xs_keys.specs.Content.{KeyState}
-use Rattle.xs_keys.specs.ContentAfter.{with_group}
+use Rattle.std.proofs.Common.{◌≡◌, Some, None, sym, ap, ◌∙◌, refl, inl}
+use Rattle.xs_keys.specs.Terms.{get, insert}
 use Rattle.xs_keys.specs.KeysRoom.{KeyInMemory, key_state_of}
-use Rattle.xs_keys.proofs.AskSteps.{put_same}
+use Rattle.xs_keys.proofs.KeyInPlace.{shown-none, shown-key, shown-change, shown-same, counted-same}
+use Rattle.xs_keys.proofs.CountedKeys.{counted-group}
+use Rattle.xs_keys.proofs.ConsumerMaking.{makes-consumer, refuses-consumer}
 use Rattle.xs_keys.proofs.xgroup.create_consumer.Goals as goal
+use Rattle.xs_keys.proofs.xgroup.create_consumer.Goals.{in-Ok, in-Err}
 
-pub returns-in-Err : goal.returns-in-Err
-returns-in-Err c = λ now.
-    let key : KeyState = record { stream = state_of c.slot.inside.stream; groups = c.slot.inside.groups } in
-    let found = sym c.in-Some.ensures.value ∙ ap (λ (k : KeyInMemory). Some (key_state_of k)) (sym c.slot.view_is) in
-    let put = λ (group : GroupState). insert c.args.keys.now c.args.key.now (with_group key c.args.group.now group) in
-    inr (record {
-      takes = refl;
-      no_other = rw (← c.in-Some.ensures.value, ← c.slot.view_is, ← c.in-Some-get_mut.ensures.value) refl;
-      answer_is = refl;
-      content_is = ap put c.in-Err.ensures.err ∙ put_same c.args.keys.now c.args.key.now c.args.group.now key c.in-Some-get_mut.group.now found (sym c.in-Some-get_mut.ensures.value);
+pub returns-in_default : goal.returns-in_default
+returns-in_default c = λ now.
+    let none = shown-none c.keys.inside.slots c.args.keys.now c.keys.view_is c.args.key.now (sym c.in_default.ensures.value) in
+    rw c.keys.view_is (inl (record { answer_is = rw none refl; content_is = rw none refl }))
+
+pub invariant_of-keys-in_default-get_mut : goal.invariant_of-keys-in_default-get_mut
+invariant_of-keys-in_default-get_mut c =
+    let key : KeyInMemory = record { stream = c.slot.inside.stream; groups = c.slot.inside.groups } in
+    counted-same c.keys.inside.slots c.keys.inside.account.held c.keys.invariant c.args.key.now key (sym c.in-Some.ensures.value ∙ ap Some (sym c.slot.view_is))
+
+pub returns-in_default-get_mut : goal.returns-in_default-get_mut
+returns-in_default-get_mut c = λ now.
+    let key : KeyInMemory = record { stream = c.slot.inside.stream; groups = c.slot.inside.groups } in
+    let found = sym c.in-Some.ensures.value ∙ ap Some (sym c.slot.view_is) in
+    let had = shown-key c.keys.inside.slots c.args.keys.now c.keys.view_is c.args.key.now key found in
+    let none : get key.groups c.args.group.now ≡ None = sym c.in_default-get_mut.ensures.value in
+    inl (record {
+      answer_is = rw (had, none) refl;
+      content_is = shown-same c.keys.inside.slots c.args.keys.now c.keys.view_is c.args.key.now key found ∙ rw (had, none) refl;
     })
+
+pub invariant_of-keys-then-is_full_for : goal.invariant_of-keys-then-is_full_for
+invariant_of-keys-then-is_full_for c =
+    let key : KeyInMemory = record { stream = c.slot.inside.stream; groups = c.slot.inside.groups } in
+    let was = c.in-Some-get_mut.group.now in
+    counted-group c.keys.inside.slots c.keys.inside.account.held c.keys.inside.account.held c.keys.invariant c.keys.inside.account.small c.args.key.now key
+    (sym c.in-Some.ensures.value ∙ ap Some (sym c.slot.view_is)) c.args.group.now was was (sym c.in-Some-get_mut.ensures.value) refl
+
+pub returns-then-is_full_for : goal.returns-then-is_full_for
+returns-then-is_full_for c = λ now.
+    let content = c.args.keys.now in
+    let name = c.args.key.now in
+    let key : KeyInMemory = record { stream = c.slot.inside.stream; groups = c.slot.inside.groups } in
+    let was = c.in-Some-get_mut.group.now in
+    let new : KeyInMemory = record { stream = c.slot.inside.stream; groups = insert c.slot.inside.groups c.args.group.now was } in
+    let had = shown-key c.keys.inside.slots content c.keys.view_is name key (sym c.in-Some.ensures.value ∙ ap Some (sym c.slot.view_is)) in
+    rw (shown-change c.keys.inside.slots content c.keys.view_is name new)
+    (refuses-consumer content now name c.args.group.now c.args.consumer.now (key_state_of key) was was had (sym c.in-Some-get_mut.ensures.value) refl)
+
+pub invariant_of-keys-2 : goal.invariant_of-keys-2
+invariant_of-keys-2 c =
+    let key : KeyInMemory = record { stream = c.slot.inside.stream; groups = c.slot.inside.groups } in
+    counted-group c.keys.inside.slots c.keys.inside.account.held c.change.new.self.held c.keys.invariant c.change.ensures.small c.args.key.now key
+    (sym c.in-Some.ensures.value ∙ ap Some (sym c.slot.view_is)) c.args.group.now c.in-Some-get_mut.group.now c.add_consumer-added.new.self (sym c.in-Some-get_mut.ensures.value)
+    (rw (c.room-before.ensures, c.room.ensures) at c.change.ensures.held)
+
+pub returns : goal.returns
+returns c = λ now.
+    let content = c.args.keys.now in
+    let name = c.args.key.now in
+    let key : KeyInMemory = record { stream = c.slot.inside.stream; groups = c.slot.inside.groups } in
+    let was = c.in-Some-get_mut.group.now in
+    let after = c.add_consumer-added.new.self in
+    let new : KeyInMemory = record { stream = c.slot.inside.stream; groups = insert c.slot.inside.groups c.args.group.now after } in
+    let had = shown-key c.keys.inside.slots content c.keys.view_is name key (sym c.in-Some.ensures.value ∙ ap Some (sym c.slot.view_is)) in
+    let there : get key.groups c.args.group.now ≡ Some was = sym c.in-Some-get_mut.ensures.value in
+    rw (shown-change c.keys.inside.slots content c.keys.view_is name new)
+    (elim c.match-added.branch [
+      | in-Ok w ↦ rw (w.result-is, w.one_where.ensures) (makes-consumer content now name c.args.group.now c.args.consumer.now (key_state_of key) was after had there w.in-Ok.made w.in-Ok.ensures.made w.in-Ok.ensures.ok)
+      | in-Err w ↦ rw w.result-is (refuses-consumer content now name c.args.group.now c.args.consumer.now (key_state_of key) was after had there w.in-Err.ensures.err)
+    ])

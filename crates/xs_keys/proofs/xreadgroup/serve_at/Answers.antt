@@ -7,7 +7,8 @@ use Rattle.xs_keys.specs.ContentAfter.{group_in}
 use Rattle.xs_keys.specs.KeysRoom.{KeyInMemory, key_state_of, content_of}
 use Rattle.xs_keys.proofs.ReadSteps.{served-at}
 use Rattle.xs_keys.proofs.CountedKeys.{counted-group}
-use Rattle.xs_keys.proofs.ChangedGroups.{with_group_in_memory, key-none, key-there, group-put, slots-again, counted-again}
+use Rattle.xs_keys.proofs.KeyInPlace.{shown-none, shown-key, counted-same}
+use Rattle.xs_keys.proofs.ChangedGroups.{with_group_in_memory, group-put, slots-again}
 use Rattle.xs_keys.proofs.xreadgroup.serve_at.Goals as goal
 use Rattle.xs_keys.proofs.xreadgroup.serve_at.Goals.{After-slot}
 
@@ -18,17 +19,17 @@ found : (c : After-slot) → get c.keys.inside.slots c.args.one.now.key ≡ Some
 found c = sym c.in-Some.ensures.value ∙ ap Some (sym c.slot.view_is)
 
 had : (c : After-slot) → get c.args.keys.now c.args.one.now.key ≡ Some (key_state_of (key c))
-had c = key-there c.keys.inside.slots c.args.keys.now c.keys.view_is c.args.one.now.key (key c) (found c)
+had c = shown-key c.keys.inside.slots c.args.keys.now c.keys.view_is c.args.one.now.key (key c) (found c)
 
 pub unreachable-requires : goal.unreachable-requires
 unreachable-requires c =
-    let none = key-none c.keys.inside.slots c.args.keys.now c.keys.view_is c.args.one.now.key (sym c.in_default.ensures.value) in
+    let none = shown-none c.keys.inside.slots c.args.keys.now c.keys.view_is c.args.one.now.key (sym c.in_default.ensures.value) in
     false≢true (ap (λ k. is_some (group_in k c.args.read.now.group)) (sym none) ∙ c.requires)
 
 pub invariant_of-keys-in_default-get_mut : goal.invariant_of-keys-in_default-get_mut
 invariant_of-keys-in_default-get_mut c =
     let at = (goal.at.invariant_of-keys-in_default-get_mut c).After-slot in
-    counted-again c.keys.inside.slots c.keys.inside.account.held c.keys.invariant c.args.one.now.key (key at) (found at)
+    counted-same c.keys.inside.slots c.keys.inside.account.held c.keys.invariant c.args.one.now.key (key at) (found at)
 
 pub unreachable-requires-in_default-get_mut : goal.unreachable-requires-in_default-get_mut
 unreachable-requires-in_default-get_mut c =

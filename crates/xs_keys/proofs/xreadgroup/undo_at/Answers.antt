@@ -5,7 +5,8 @@ use Rattle.xs_keys.specs.ContentAfter.{group_in, with_group}
 use Rattle.xs_keys.specs.KeysRoom.{KeyInMemory, key_state_of}
 use Rattle.xs_keys.proofs.ReadSteps.{made-there, made-state, taken-back}
 use Rattle.xs_keys.proofs.CountedKeys.{counted-group}
-use Rattle.xs_keys.proofs.ChangedGroups.{key-none, key-there, group-put, counted-again}
+use Rattle.xs_keys.proofs.KeyInPlace.{shown-none, shown-key, counted-same}
+use Rattle.xs_keys.proofs.ChangedGroups.{group-put}
 use Rattle.xs_keys.proofs.xreadgroup.undo_at.Goals as goal
 use Rattle.xs_keys.proofs.xreadgroup.undo_at.Goals.{After-slot}
 
@@ -16,18 +17,18 @@ found : (c : After-slot) → get c.keys.inside.slots c.args.key.now ≡ Some (ke
 found c = sym c.in-Some.ensures.value ∙ ap Some (sym c.slot.view_is)
 
 had : (c : After-slot) → get c.args.keys.now c.args.key.now ≡ Some (key_state_of (key c))
-had c = key-there c.keys.inside.slots c.args.keys.now c.keys.view_is c.args.key.now (key c) (found c)
+had c = shown-key c.keys.inside.slots c.args.keys.now c.keys.view_is c.args.key.now (key c) (found c)
 
 pub unreachable-requires : goal.unreachable-requires
 unreachable-requires c =
-    let none = key-none c.keys.inside.slots c.args.keys.now c.keys.view_is c.args.key.now (sym c.in_default.ensures.value) in
+    let none = shown-none c.keys.inside.slots c.args.keys.now c.keys.view_is c.args.key.now (sym c.in_default.ensures.value) in
     false≢true (ap (λ k. is_some (group_in k c.args.group.now)) (sym none)
     ∙ made-there c.args.group.now c.args.key.now c.requires.0 c.args.keys.now c.args.delivery c.requires.1)
 
 pub invariant_of-keys-in_default-get_mut : goal.invariant_of-keys-in_default-get_mut
 invariant_of-keys-in_default-get_mut c =
     let at = (goal.at.invariant_of-keys-in_default-get_mut c).After-slot in
-    counted-again c.keys.inside.slots c.keys.inside.account.held c.keys.invariant c.args.key.now (key at) (found at)
+    counted-same c.keys.inside.slots c.keys.inside.account.held c.keys.invariant c.args.key.now (key at) (found at)
 
 pub unreachable-requires-in_default-get_mut : goal.unreachable-requires-in_default-get_mut
 unreachable-requires-in_default-get_mut c =
