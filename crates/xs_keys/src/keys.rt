@@ -137,10 +137,11 @@ impl Keys {
     pub fn remove(&mut self, key: &Bytes)
         ensures { self.new ≡ remove self.old key.now }
     {
-        if let Some(slot) = self.slots.remove(key) {
-            let room = (key.len() as u128).wrapping_add(slot.room());
-            self.account.change(room, 0);
-        }
+        let Some(slot) = self.slots.remove(key) else {
+            return;
+        };
+        let room = (key.len() as u128).wrapping_add(slot.room());
+        self.account.change(room, 0);
     }
 }
 

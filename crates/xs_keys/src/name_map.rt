@@ -5,15 +5,14 @@ ghost use Rattle.std.specs.Option.{option_copied, option_copied_mut};
 ghost use Rattle.xs_bytes.specs.SortedMap.{empty, get, has_key, insert, remove};
 
 use std::alloc::{AllocError, Global};
-use std::collections::BTreeMap;
-use std::collections::btree_map::Iter;
 use std::marker::Model;
 use xs_bytes::Bytes;
+use xs_maps::{Entries, SmallMap};
 
 /// Values by names, in the order of the names' bytes. A contract sees a sorted map.
 #[derive(Drop)]
 pub struct NameMap<V> {
-    entries: BTreeMap<Bytes, V>,
+    entries: SmallMap<Bytes, V>,
 }
 
 impl<V> Model for NameMap<V> {
@@ -37,7 +36,7 @@ impl<V> NameMap<V> {
         ensures { result ≡ empty }
     {
         Self {
-            entries: BTreeMap::new(alloc),
+            entries: SmallMap::new(alloc),
         }
     }
 
@@ -65,7 +64,7 @@ impl<V> NameMap<V> {
     }
 
     /// The names with their values, in the order of the names' bytes.
-    pub fn iter(&self) -> Iter<'_, Bytes, V>
+    pub fn iter(&self) -> Entries<'_, Bytes, V>
         ensures { result ≡ self.now.entries }
     {
         self.entries.iter()
@@ -85,10 +84,7 @@ impl<V: Drop> NameMap<V> {
         ensures ok { OnOk result (self.new ≡ insert self.old name value) }
         ensures err { OnErr result (self.new ≡ self.old) }
     {
-        match self.entries.insert(name, value) {
-            Ok(_) => Ok(()),
-            Err(_) => Err(AllocError),
-        }
+        self.entries.insert(name, value)
     }
 
     /// Takes the value at a name out.

@@ -22,8 +22,8 @@ returns-in-Some c =
     rw (shown-change c.keys.inside.slots content c.keys.view_is name new)
     (adds_step content c.args.now c.args.add.now c.add_to.result (key_state_of key) (state_of new.stream) had c.add_to.ensures.adds)
 
-pub add_missing-requires : goal.add_missing-requires
-add_missing-requires c = shown-none c.keys.inside.slots (content_of c.keys.inside.slots) refl c.args.add.now.key (sym c.in-None.ensures.value)
+pub add_missing-requires-clause-missing : goal.add_missing-requires-clause-missing
+add_missing-requires-clause-missing c = shown-none c.keys.inside.slots (content_of c.keys.inside.slots) refl c.args.add.now.key (sym c.in-None.ensures.value)
 
 pub returns-in-None : goal.returns-in-None
 returns-in-None c = rw (← c.keys.view_is) c.add_missing.ensures
