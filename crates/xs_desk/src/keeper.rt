@@ -256,8 +256,8 @@ impl<J: Journal + Drop> Keeper<J> {
         self.schedule.lets_wait = true;
     }
 
-    /// From now on additions, new groups and new consumers are refused if what the keyspace holds and what they take are
-    /// more than so many bytes; 0 if there is no bound.
+    /// From now on additions, new groups and new consumers are refused if what the keyspace holds and what they take
+    /// are more than so many bytes; 0 if there is no bound.
     pub fn set_bound(&mut self, bytes: u64)
         ensures { self.new ≡ self.old }
     {

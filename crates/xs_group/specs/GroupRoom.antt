@@ -26,7 +26,7 @@ room_of_map count =
 -- the group with its consumers, their names, and its rows
 abbrev pub room_of_group : GroupState → ℕ
 room_of_group group =
-    225 + room_of_map (length group.consumers.entries) + bytes_of_names group.consumers
+    205 + room_of_map (length group.consumers.entries) + bytes_of_names group.consumers
     + room_of_map (length group.rows.entries)
 
 -- what holds inside of a group: no row is above its cursor, and the bytes of its consumers' names are counted

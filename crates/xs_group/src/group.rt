@@ -22,17 +22,17 @@ use std::marker::Model;
 use xs_bytes::{Bytes, List};
 use xs_stream::{Id, Moment, Range, Stream};
 
-/// How many bytes a group of no consumers takes.
-const GROUP_ROOM: u128 = 225;
+/// How many bytes a group of no consumers is counted with.
+const GROUP_ROOM: u128 = 205;
 
-/// How many bytes a place of a small map takes, in both indexes of what is pending.
+/// How many bytes a place of a small map is counted with, for rows in both indexes.
 const PLACE_ROOM: u128 = 61;
 
-/// How many bytes a node of a great map takes.
+/// How many bytes a node of a great map is counted with.
 const NODE_ROOM: u128 = 960;
 
-/// How many bytes a map of so many entries is counted with. Up to eight are in a vector, up to fifteen in a node, more in
-/// a tree of nodes that have eight each.
+/// How many bytes a map of so many entries is counted with. Up to eight are in a vector, up to fifteen in a node, more
+/// in a tree of nodes that have eight each.
 fn room_of_map(count: usize) -> u128
     ensures { result ≡ room_of_map count }
 {

@@ -33,9 +33,9 @@ abbrev pub bytes_of_fields : List Field → ℕ
 bytes_of_fields [] = 0
 bytes_of_fields (f ∷ fs) = (length f.name + length f.value) + bytes_of_fields fs
 
--- so many bytes for a key beside its name: its place in the tree
+-- a key beside its name, its stream and its groups. The figure is measured
 abbrev pub key_room : ℕ
-key_room = 400
+key_room = 330
 
 abbrev pub room_of_key : KeyInMemory → ℕ
 room_of_key key = key_room + key.stream.room + room_of_named room_of_group key.groups.entries

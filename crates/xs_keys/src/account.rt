@@ -42,7 +42,6 @@ impl Account {
     /// What took so many bytes takes so many others now.
     pub(crate) fn change(&mut self, before: u128, after: u128)
         ensures held { (self.new.held + before) % 2 ^ 128 ≡ (self.old.held + after) % 2 ^ 128 }
-        ensures small { self.new.held < 2 ^ 128 }
         ensures bound { self.new.bound ≡ self.old.bound }
     {
         self.held = self.held.wrapping_sub(before).wrapping_add(after);

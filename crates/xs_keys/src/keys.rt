@@ -15,7 +15,7 @@ use xs_group::Group;
 use xs_stream::Stream;
 
 /// How many bytes a key is counted with beside its name, its stream and its groups.
-const KEY_ROOM: u128 = 400;
+const KEY_ROOM: u128 = 330;
 
 /// The groups of a key.
 pub type Groups = NameMap<Group>;

@@ -1,5 +1,5 @@
 //! XADD.
-ghost use Rattle.std.specs.Prelude.{◌≡◌, ◌≤◌, ◌+◌, ◌%◌, ◌^◌, ◌<◌, Some, Ok, Err, None, true, is_ok, IfOk, OnErr, IsErrOf};
+ghost use Rattle.std.specs.Prelude.{◌≡◌, ◌≤◌, ◌+◌, ◌%◌, ◌^◌, Some, Ok, Err, None, true, is_ok, IfOk, OnErr, IsErrOf};
 ghost use Rattle.xs_bytes.specs.SortedMap as map;
 ghost use Rattle.xs_stream.specs.Id.{id_of_addition};
 ghost use Rattle.xs_stream.specs.StreamContent.{state_of};
@@ -98,7 +98,6 @@ fn add_to(
     ensures adds { Adds (state_of stream.old) now add.now result (state_of stream.new) }
     ensures counted { (account.new.held + stream.old.room) % 2 ^ 128
         ≡ (account.old.held + stream.new.room) % 2 ^ 128 }
-    ensures small { account.new.held < 2 ^ 128 }
 {
     let before = stream.room();
     let added = try_add(reserve, account, alloc, stream, now, add);

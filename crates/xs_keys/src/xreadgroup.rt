@@ -283,8 +283,8 @@ fn finds_none(
     has_none_past(&slot.stream, alloc, group.cursor(), read.limit)
 }
 
-/// Whether each key is read from `>`, each group is there, and nothing is new to any. Memory is taken only at a key that
-/// has something new.
+/// Whether each key is read from `>`, each group is there, and nothing is new to any. Memory is taken only at a key
+/// that has something new.
 pub fn finds_nothing(
     keys: &Keys,
     alloc: Global,

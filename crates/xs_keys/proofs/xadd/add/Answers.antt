@@ -1,4 +1,4 @@
-use Rattle.std.proofs.Common.{Some, sym, ap, ◌∙◌, refl, arith}
+use Rattle.std.proofs.Common.{Some, sym, ap, ◌∙◌, refl}
 use Rattle.xs_stream.specs.StreamContent.{state_of}
 use Rattle.xs_keys.specs.KeysRoom.{KeyInMemory, key_state_of, content_of}
 use Rattle.xs_keys.proofs.CountedKeys.{counted-stream}
@@ -9,7 +9,7 @@ use Rattle.xs_keys.proofs.xadd.add.Goals as goal
 pub invariant_of-keys : goal.invariant_of-keys
 invariant_of-keys c =
     let key : KeyInMemory = record { stream = c.slot.inside.stream; groups = c.slot.inside.groups } in
-    counted-stream c.keys.inside.slots c.keys.inside.account.held c.add_to.new.account.held c.keys.invariant c.add_to.ensures.small c.args.add.now.key key
+    counted-stream c.keys.inside.slots c.keys.inside.account.held c.add_to.new.account.held c.keys.invariant c.add_to.new.account.small c.args.add.now.key key
     (sym c.in-Some.ensures.value ∙ ap Some (sym c.slot.view_is)) c.add_to.new.stream c.add_to.ensures.counted
 
 pub returns-in-Some : goal.returns-in-Some

@@ -41,7 +41,7 @@ returns-in_default-get_mut c =
 pub invariant_of-keys-2 : goal.invariant_of-keys-2
 invariant_of-keys-2 c =
     let at = (goal.at.invariant_of-keys-2 c).After-slot in
-    counted-group c.keys.inside.slots c.keys.inside.account.held c.change.new.self.held c.keys.invariant c.change.ensures.small c.args.command.now.key (key at) (found at)
+    counted-group c.keys.inside.slots c.keys.inside.account.held c.change.new.self.held c.keys.invariant c.change.new.self.small c.args.command.now.key (key at) (found at)
     c.args.command.now.group c.in-Some-get_mut.group.now c.claim_in-claimed.new.group (sym c.in-Some-get_mut.ensures.value)
     (rw (c.room-before.ensures, c.room.ensures) at c.change.ensures.held)
 

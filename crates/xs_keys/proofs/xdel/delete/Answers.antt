@@ -1,6 +1,6 @@
 use Rattle.std.proofs.Common.{◌≡◌, Some, None, sym, ap, ◌∙◌, refl, inl, length, arith}
 use Rattle.xs_keys.specs.Terms.{get, insert, StreamState, Int}
-use Rattle.xs_keys.specs.Content.{Content, KeyState}
+use Rattle.xs_keys.specs.Content.{Content}
 use Rattle.xs_keys.specs.KeysRoom.{KeyInMemory, key_state_of, state_in}
 use Rattle.xs_keys.proofs.KeysContent.{get-content, content-insert}
 use Rattle.xs_keys.proofs.CountedKeys.{counted-stream}
@@ -9,7 +9,7 @@ use Rattle.xs_keys.proofs.xdel.delete.Goals as goal
 pub invariant_of-keys : goal.invariant_of-keys
 invariant_of-keys c =
     let key : KeyInMemory = record { stream = c.slot.inside.stream; groups = c.slot.inside.groups } in
-    counted-stream c.keys.inside.slots c.keys.inside.account.held c.change.new.self.held c.keys.invariant c.change.ensures.small c.args.key.now key
+    counted-stream c.keys.inside.slots c.keys.inside.account.held c.change.new.self.held c.keys.invariant c.change.new.self.small c.args.key.now key
     (sym c.in-Some.ensures.value ∙ ap Some (sym c.slot.view_is)) c.delete-count.new.self
     (rw (c.room-before.ensures.value, c.room.ensures.value) at c.change.ensures.held)
 

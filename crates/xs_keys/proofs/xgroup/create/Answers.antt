@@ -10,7 +10,7 @@ pub invariant_of-keys : goal.invariant_of-keys
 invariant_of-keys c =
     let key : KeyInMemory = record { stream = c.slot.inside.stream; groups = c.slot.inside.groups } in
     let new : KeyInMemory = record { stream = c.slot.inside.stream; groups = c.create_in.new.groups } in
-    counted-key c.keys.inside.slots c.keys.inside.account.held c.create_in.new.account.held c.keys.invariant c.create_in.ensures.small c.args.command.now.key key new
+    counted-key c.keys.inside.slots c.keys.inside.account.held c.create_in.new.account.held c.keys.invariant c.create_in.new.account.small c.args.command.now.key key new
     (room_of_named room_of_group key.groups.entries) (room_of_named room_of_group new.groups.entries) (sym c.in-Some.ensures.value ∙ ap Some (sym c.slot.view_is))
     (omega arith) c.create_in.ensures.counted
 

@@ -49,7 +49,7 @@ returns-then-is_full_for c = λ now.
 pub invariant_of-keys-2 : goal.invariant_of-keys-2
 invariant_of-keys-2 c =
     let key : KeyInMemory = record { stream = c.slot.inside.stream; groups = c.slot.inside.groups } in
-    counted-group c.keys.inside.slots c.keys.inside.account.held c.change.new.self.held c.keys.invariant c.change.ensures.small c.args.key.now key
+    counted-group c.keys.inside.slots c.keys.inside.account.held c.change.new.self.held c.keys.invariant c.change.new.self.small c.args.key.now key
     (sym c.in-Some.ensures.value ∙ ap Some (sym c.slot.view_is)) c.args.group.now c.in-Some-get_mut.group.now c.add_consumer-added.new.self (sym c.in-Some-get_mut.ensures.value)
     (rw (c.room-before.ensures, c.room.ensures) at c.change.ensures.held)
 

@@ -11,7 +11,7 @@ use Rattle.xs_keys.proofs.xgroup.destroy.Goals.{in-Some-removed, in_default}
 pub invariant_of-keys : goal.invariant_of-keys
 invariant_of-keys c =
     let key : KeyInMemory = record { stream = c.slot.inside.stream; groups = c.slot.inside.groups } in
-    rw c.remove-removed.ensures.map (counted-group-gone c.keys.inside.slots c.keys.inside.account.held c.change.new.self.held c.keys.invariant c.change.ensures.small c.args.key.now key
+    rw c.remove-removed.ensures.map (counted-group-gone c.keys.inside.slots c.keys.inside.account.held c.change.new.self.held c.keys.invariant c.change.new.self.small c.args.key.now key
     (sym c.in-Some.ensures.value ∙ ap Some (sym c.slot.view_is)) c.args.group.now c.in-Some-removed.gone (sym c.remove-removed.ensures.value ∙ c.in-Some-removed.is)
     (omega (arith, c.len.ensures, c.room.ensures, c.change.ensures.held)))
 

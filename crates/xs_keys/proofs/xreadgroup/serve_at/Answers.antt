@@ -55,7 +55,7 @@ returns-in_err-delivery-clause-err c =
 pub invariant_of-keys-in-Ok : goal.invariant_of-keys-in-Ok
 invariant_of-keys-in-Ok c =
     let at = (goal.at.invariant_of-keys-in-Ok c).After-slot in
-    counted-group c.keys.inside.slots c.keys.inside.account.held c.change.new.self.held c.keys.invariant c.change.ensures.small c.args.one.now.key (key at) (found at)
+    counted-group c.keys.inside.slots c.keys.inside.account.held c.change.new.self.held c.keys.invariant c.change.new.self.small c.args.one.now.key (key at) (found at)
     c.args.read.now.group c.in-Some-get_mut.group.now c.read_group.new.group (sym c.in-Some-get_mut.ensures.value)
     (rw (c.room-before.ensures, c.room.ensures) at c.change.ensures.held)
 

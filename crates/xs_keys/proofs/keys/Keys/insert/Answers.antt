@@ -16,7 +16,7 @@ invariant_of-self c =
     let slots = c.self.inside.slots in
     let none : get slots c.args.key ≡ None =
     state-none (get slots c.args.key) (sym (get-content slots c.args.key) ∙ ap (λ (m : Content). get m c.args.key) c.self.view_is ∙ c.requires) in
-    rw c.in-Ok.ensures.ok (counted-new slots c.self.inside.account.held c.change.new.self.held c.self.invariant c.change.ensures.small c.args.key c.args.slot _ _ none refl
+    rw c.in-Ok.ensures.ok (counted-new slots c.self.inside.account.held c.change.new.self.held c.self.invariant c.change.new.self.small c.args.key c.args.slot _ _ none refl
     (omega (arith, c.len.ensures, c.room.ensures)) c.change.ensures.held)
 
 pub returns-in-Ok-clause-ok : goal.returns-in-Ok-clause-ok

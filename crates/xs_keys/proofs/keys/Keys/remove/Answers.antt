@@ -1,5 +1,5 @@
-use Rattle.std.proofs.Common.{◌≡◌, Some, None, sym, ap, ◌∙◌, ◌%◌, ◌^◌, refl, arith}
-use Rattle.xs_bytes.specs.SortedMap.{get, remove}
+use Rattle.std.proofs.Common.{sym, ap, ◌∙◌, ◌%◌, ◌^◌, refl, arith}
+use Rattle.xs_bytes.specs.SortedMap.{remove}
 use Rattle.xs_keys.specs.Content.{Content}
 use Rattle.xs_keys.specs.KeysRoom.{content_of, room_of_key}
 use Rattle.xs_keys.proofs.KeysContent.{content-remove}
@@ -10,7 +10,7 @@ use Rattle.xs_keys.proofs.keys.Keys.remove.Goals as goal
 pub invariant_of-self-2 : goal.invariant_of-self-2
 invariant_of-self-2 c =
     let slots = c.self.inside.slots in
-    rw c.remove.ensures.map (counted-gone slots c.self.inside.account.held c.change.new.self.held c.self.invariant c.change.ensures.small c.args.key.now c.in-Some.slot _ _
+    rw c.remove.ensures.map (counted-gone slots c.self.inside.account.held c.change.new.self.held c.self.invariant c.change.new.self.small c.args.key.now c.in-Some.slot _ _
     (sym c.in-Some.ensures.value) refl (omega (arith, c.len.ensures, c.room.ensures)) c.change.ensures.held)
 
 pub invariant_of-self : goal.invariant_of-self
