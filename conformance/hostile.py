@@ -18,6 +18,7 @@ import threading
 import time
 
 import full_queue
+import max_memory
 import sessions
 from full_queue import MEGABYTE, NO_MEMORY, limit_memory
 from great import array, bulk, entry, number
@@ -266,6 +267,11 @@ def full_queues(program):
     full_queue.with_many_workers(program, "NOACK")
 
 
+def bounded_queue(program):
+    """Producers and consumers for a minute, over a queue that is full by its bound."""
+    max_memory.beside_producers(program, seconds=60)
+
+
 def no_memory_kept(program):
     """After 10,000 connections the server has the memory that it had after 100, up to 1 MB."""
     with serving(program, workers=WORKERS) as server:
@@ -290,7 +296,7 @@ def main(arguments):
         return 2
     return try_all(arguments[0], (never_reads, random_bytes, random_value, almost_requests, great_promises,
                                   great_requests, most_words, killed_in_reply, with_pauses, greedy),
-                   (little_memory, no_memory_for_connections, full_queues, no_memory_kept), WORKERS)
+                   (little_memory, no_memory_for_connections, full_queues, bounded_queue, no_memory_kept), WORKERS)
 
 
 if __name__ == "__main__":

@@ -10,10 +10,10 @@ import tempfile
 import threading
 import time
 
-from full_queue import MEGABYTE, NO_MEMORY, add_until_full, consume, producing
+from full_queue import MEGABYTE, NO_MEMORY, add_until_full, consume, limit_memory, producing
 from great import array, bulk, entry, number
 from real_redis import read_reply
-from served import asking, raw, running, say, say_at
+from served import all_answer, asking, raw, running, say, say_at
 
 OOM = NO_MEMORY.decode()
 # The growth of resident memory and what is counted differ by so much at most.
@@ -156,9 +156,11 @@ def rows_go_beyond(program):
 
 
 def beside_producers(program, seconds=6, consumers=4):
-    """Producers that never stop and consumers: none of these is refused, each job is read once, and resident memory
-    stays within 1.3 times the bound."""
+    """Producers that never stop and consumers, where the process may have twice the bound more than at first: no consumer
+    is refused, each job is read once, and resident memory stays within 1.3 times the bound."""
     with running(program, "--max-memory", "64m", workers=8) as server:
+        all_answer(server)
+        limit_memory(server, 2 * 64 * MEGABYTE)
         say_at(server, "XGROUP CREATE q g 0 MKSTREAM", "+OK\r\n")
         before, most, taken, faults = server.resident(), 0, [[] for _ in range(consumers)], []
         end = time.monotonic() + seconds

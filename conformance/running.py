@@ -4,7 +4,8 @@
     running.py PROGRAM
 
 Readers that wait and the clients that leave them (conformance/waiting.py), more connections than workers, few
-descriptors, little memory, a wall clock that is set (conformance/clock_steps.py), the options. Cases that mostly wait
+descriptors, little memory, a bound on what is held (conformance/max_memory.py), a wall clock that is set
+(conformance/clock_steps.py), the options. Cases that mostly wait
 are tried together. It needs Python's standard library, and a C compiler for the clock. The last line is 'N passed, M
 failed'; the status is 1 if M > 0.
 """
@@ -20,6 +21,7 @@ import time
 
 import clock_steps
 import full_queue
+import max_memory
 import served
 import serves
 import waiting
@@ -613,7 +615,7 @@ def tells_of_itself(program):
         for word in ("--help", "-h", "help"):
             done = run([program, *before, word])
             assert (done.returncode, done.stderr) == (0, b"") and done.stdout, (before, word, done)
-            options = ("--port", "--bind", "--workers", "--idle", "--open") if before == ["run"] else ()
+            options = ("--port", "--bind", "--workers", "--idle", "--open", "--max-memory") if before == ["run"] else ()
             assert all(option.encode() in done.stdout for option in options), (before, word, done.stdout)
     done = run([program, "--version"])
     assert (done.returncode, done.stderr) == (0, b""), done
@@ -726,7 +728,7 @@ def main(arguments):
              too_little_memory_to_start, readers_over_one_server, waiting.ends_in_time, waiting.sixty,
              waiting.waiting_costs_nothing, without_delay, pieces_of_a_pipeline, idle_ones_cost_little,
              readers_cost_little, pauses_cost_little, a_thousand, busy_among_idle, a_thousand_wait, full_memory,
-             full_queue_beside_producers, memory_of_the_gone)
+             full_queue_beside_producers, memory_of_the_gone, *max_memory.CASES)
     at_once = (waiting.clients_that_go, waiting.has_just_gone, waiting.many_have_just_gone, waiting.terminated,
                forty_too_many, one_ends_in_time, few_descriptors, no_descriptors, closes_the_idle, keeps_the_idle,
                odd_errors, never_waits, clock_steps.clock_is_set, in_their_order, sends_while_it_waits,
