@@ -268,8 +268,8 @@ def full_queues(program):
 
 
 def bounded_queue(program):
-    """Producers and consumers for a minute, over a queue that is full by its bound."""
-    max_memory.beside_producers(program, seconds=60)
+    """Producers and consumers for a minute, over a queue that is full by its bound, with many workers."""
+    max_memory.beside_producers(program, workers=64, seconds=60)
 
 
 def no_memory_kept(program):

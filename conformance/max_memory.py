@@ -155,12 +155,13 @@ def rows_go_beyond(program):
         assert asked(one, replies, ["XADD q * f v"]) != [NO_MEMORY]
 
 
-def beside_producers(program, seconds=6, consumers=4):
-    """Producers that never stop and consumers, where the process may have twice the bound more than at first: no consumer
-    is refused, each job is read once, and resident memory stays within 1.3 times the bound."""
-    with running(program, "--max-memory", "64m", workers=8) as server:
+def beside_producers(program, workers=8, seconds=6):
+    """Producers that never stop and consumers, in a process that may have as much memory as docs/CLIENTS.md says: no
+    consumer is refused, each job is read once, and resident memory stays within 1.3 times the bound."""
+    consumers = workers // 2
+    with running(program, "--max-memory", "64m", workers=workers) as server:
         all_answer(server)
-        limit_memory(server, 2 * 64 * MEGABYTE)
+        limit_memory(server, (83 + 40 * workers) * MEGABYTE)
         say_at(server, "XGROUP CREATE q g 0 MKSTREAM", "+OK\r\n")
         before, most, taken, faults = server.resident(), 0, [[] for _ in range(consumers)], []
         end = time.monotonic() + seconds
