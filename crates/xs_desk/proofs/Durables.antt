@@ -13,13 +13,13 @@ use Rattle.xs_replay.proofs.Served.{all-survive}
 use Rattle.xs_desk.specs.declared.answer.Answer.{Answer}
 use Rattle.xs_desk.specs.declared.lane_end.LaneEnd.{LaneEnd}
 use Rattle.xs_desk.specs.History.{ServedCall, Desk, of_lane, answers_of, IsHistory}
-use Rattle.xs_desk.specs.KeeperTurns.{Turns}
+use Rattle.xs_desk.specs.KeeperTurns.{Turns, HistoryGoesOn}
 use Rattle.xs_desk.specs.LaneEnds.{lane_of, desk_of, handed_out}
 use Rattle.xs_desk.specs.Noting.{KeepsAtOnce}
 use Rattle.xs_desk.specs.Durable.{AreMarked, NotesAll, NotesTurn, IsDurable}
 use Rattle.xs_desk.proofs.Lists.{some-of-map}
 use Rattle.xs_desk.proofs.Notings.{serves-join, log-join, marks-join}
-use Rattle.xs_desk.proofs.Histories.{history-runs}
+use Rattle.xs_desk.proofs.Histories.{history-runs, history-goes-on}
 
 marked-length : (marked : List Call) (history : List ServedCall) → AreMarked marked history → length marked ≡ length history
 marked-length marked history marks = sym (length-map marked (λ c. c.event)) ∙ ap length marks.events ∙ length-map history (λ c. (c.answer.moment, c.command))
@@ -144,14 +144,15 @@ module _ {J : Type 0} (has : J → List Event → ℕ → Type 0) where
       subst (λ b. (history : List ServedCall) × IsHistory history (desk_of others new next b) × IsDurable has history others b new after) (sym same)
       (h.0 ++ t.turns.calls, is, durable-more h.0 ends others start old new before after t.turns.calls h.2 t.notes t.handed (handed-first others new next start (h.0 ++ t.turns.calls) is))
 
-  pub turn-serves : {C E : Type 0} (gives : C → ℕ → C → Type 0) (old : Desk) (clock : C) (before : J) (ends : List LaneEnd) (high : ℕ) (others : List LaneEnd) (new : Content) (next : ℕ) (start begin : Content) (later : C) (after : J)
-      (Z : Type 0) (r : Result ℕ E) → begin ≡ start
-      → MatchResult r (λ n. NotesTurn has gives old clock before ends n high (desk_of others new next start) later after others)
-      (λ _. (n : ℕ) × NotesTurn has gives old clock before ends n high (desk_of others new next start) later after others × Z)
-      → MatchResult r (λ n. Turns gives old clock n high (desk_of others new next begin) later) (λ _. (n : ℕ) × Turns gives old clock n high (desk_of others new next begin) later × Z)
-  turn-serves gives old clock before ends high others new next start begin later after Z r same m =
-      subst (λ b. MatchResult r (λ n. Turns gives old clock n high (desk_of others new next b) later) (λ _. (n : ℕ) × Turns gives old clock n high (desk_of others new next b) later × Z)) (sym same)
-      (turns-of gives old clock before ends high (desk_of others new next start) later after others Z r m)
+  pub turn-goes-on : {C : Type 0} (gives : C → ℕ → C → Type 0) (clock : C) (before : J) (ends : List LaneEnd) (later : C) (after : J) (others : List LaneEnd) (n : ℕ)
+      (old new start begin : Content) (place next : ℕ) → begin ≡ start
+      → ((history : List ServedCall) × IsHistory history (desk_of ends old place start) × IsDurable has history ends start old before)
+      → NotesTurn has gives (desk_of ends old place start) clock before ends n (length ends) (desk_of others new next start) later after others
+      → HistoryGoesOn gives (desk_of ends old place start) clock n (length (map lane_of ends)) (desk_of others new next begin) later
+  turn-goes-on gives clock before ends later after others n old new start begin place next same h t =
+      subst (λ b. HistoryGoesOn gives (desk_of ends old place start) clock n (length (map lane_of ends)) (desk_of others new next b) later) (sym same)
+      (subst (λ high. HistoryGoesOn gives (desk_of ends old place start) clock n high (desk_of others new next start) later) (sym (length-map ends lane_of))
+      (history-goes-on gives (desk_of ends old place start) clock n (length ends) (desk_of others new next start) later h.0 h.1 t.turns))
 
   pub settle-keeps : (ends others : List LaneEnd) (keyspace : Content) (place : ℕ) (start begin : Content) (before after : J) → begin ≡ start → map lane_of others ≡ map lane_of ends
       → ((events : List Event) (kept : ℕ) → has before events kept → has after events (length events))

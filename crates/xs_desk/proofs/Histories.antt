@@ -12,7 +12,7 @@ use Rattle.xs_keys.specs.Headline.{RunsOn}
 use Rattle.xs_replay.proofs.Served.{step-runs, runs-join}
 use Rattle.xs_desk.specs.History.{ServedCall, LaneOf, Desk, of_lane, commands_of, answers_of, events_of, replies_of}
 use Rattle.xs_desk.specs.History.{CountUp, IsHistory}
-use Rattle.xs_desk.specs.KeeperTurns.{with_call, ServesCall, ServesAll, HasPlaces}
+use Rattle.xs_desk.specs.KeeperTurns.{with_call, ServesCall, ServesAll, Turns, HistoryGoesOn, HasPlaces}
 use Rattle.xs_desk.proofs.Lists.{snoc-cases, set-cases, length-slice_set}
 
 -- ---- the calls of a lane
@@ -100,6 +100,24 @@ pub history-runs : (history : List ServedCall) (old : Desk) (calls : List Served
 history-runs history old [] new is serves = subst (λ desk. IsHistory (history ++ []) desk) (sym serves) (subst (λ h. IsHistory h old) (sym (append-nil history)) is)
 history-runs history old (call ∷ calls) new is serves =
     subst (λ h. IsHistory h new) (append_assoc history (call ∷ []) calls) (history-runs (history ++ call ∷ []) serves.0 calls new (history-more history old call serves.0 is serves.1) serves.2)
+
+start-stays : (old : Desk) (calls : List ServedCall) (new : Desk) → ServesAll old calls new → new.start ≡ old.start
+start-stays old [] new serves = ap (λ (desk : Desk). desk.start) serves
+start-stays old (call ∷ calls) new serves = start-stays serves.0 calls new serves.2 ∙ serves.1.start_is
+
+-- ---- a turn
+
+pub history-goes-on : {C : Type 0} (gives : C → ℕ → C → Type 0) (old : Desk) (clock : C) (n high : ℕ) (new : Desk) (later : C) (history : List ServedCall)
+    → IsHistory history old → Turns gives old clock n high new later → HistoryGoesOn gives old clock n high new later
+history-goes-on gives old clock n high new later history is t = record {
+  turns = t;
+  before = history;
+  old_is = is;
+  new_is = history-runs history old t.calls new is t.served;
+  start_is = start-stays old t.calls new t.served;
+}
+
+-- ---- what follows from a history
 
 pub history-has-places : (history : List ServedCall) (desk : Desk) → IsHistory history desk → HasPlaces desk
 history-has-places history desk is k lane at =

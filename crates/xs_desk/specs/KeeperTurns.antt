@@ -2,7 +2,7 @@
 use Rattle.std.specs.Prelude.{◌≡◌, ℕ, ◌+◌, ◌≤◌, List, [], ◌∷◌, ◌++◌, length, slice_get, slice_set, Some}
 use Rattle.xs_command.specs.WellFormed.{IsWellFormed}
 use Rattle.xs_keys.specs.Step.{Step}
-use Rattle.xs_desk.specs.History.{ServedCall, LaneOf, Desk}
+use Rattle.xs_desk.specs.History.{ServedCall, LaneOf, Desk, IsHistory}
 
 -- a lane with one call more
 abbrev pub with_call : LaneOf → ServedCall → LaneOf
@@ -49,6 +49,17 @@ pub record Turns
   pub in_order : LanesAscend 0 calls high
   pub moments : TellsMoments gives clock calls later
   pub counted : count ≡ length calls
+
+-- A turn, by whose calls the history of the desk goes on: the calls served before are its history as it was, and with
+-- the calls of the turn behind them they are its history as it is, from the same start.
+pub record HistoryGoesOn
+    {C : Type 0} (gives : C → ℕ → C → Type 0) (old : Desk) (clock : C) (count high : ℕ) (new : Desk) (later : C)
+    : Type 0 where
+  pub turns : Turns gives old clock count high new later
+  pub before : List ServedCall
+  pub old_is : IsHistory before old
+  pub new_is : IsHistory (before ++ turns.calls) new
+  pub start_is : new.start ≡ old.start
 
 -- no lane has more answers than there were places
 abbrev pub HasPlaces : Desk → Type 0

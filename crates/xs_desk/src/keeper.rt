@@ -153,7 +153,7 @@ fn release_each(lane_ends: &mut Vec<LaneEnd>) -> u64
 impl<J: Journal + Drop> Keeper<J> {
     ghost use Rattle.std.specs.Prelude.{◌≡◌, ℕ, ◌+◌, ◌^◌, ◌<◌, length, List, [], slice_get, Some, MatchResult};
     ghost use Rattle.xs_desk.specs.History.{ServedCall, IsHistory};
-    ghost use Rattle.xs_desk.specs.KeeperTurns.{Turns};
+    ghost use Rattle.xs_desk.specs.KeeperTurns.{HistoryGoesOn};
     ghost use Rattle.xs_desk.specs.LaneEnds.{desk_of};
     ghost use Rattle.xs_desk.specs.KeptRings.{KeepsRings};
 
@@ -190,15 +190,16 @@ impl<J: Journal + Drop> Keeper<J> {
     /// Looks at each lane once, in order, and serves at most one call of each, at the moment that the clock gives. A
     /// lane that has had no call while others had many is passed over until its client gives notice of a call, or of
     /// room for an answer. A call whose answer has no room stays in its lane. It takes no memory but that of
-    /// `Keyspace::apply`, whose refusal is the reply `OOM`. It answers how many calls it served.
+    /// `Keyspace::apply`, whose refusal is the reply `OOM`. It answers how many calls it served. All that was served so
+    /// far is one history, answered as the model says, and goes on by these calls.
     ///
     /// # Errors
     /// `Exhausted` at the last place, 2^64 - 1, and nobody is served any more. What the turn served before
     /// stands.
     pub fn turn<C: Clock>(&mut self, clock: &mut C) -> Result<u64, KeeperError>
-        ensures served { MatchResult result
-            (λ n. Turns C.gives self.old clock.old n (length self.old.lanes) self.new clock.new)
-            (λ _. (n : ℕ) × Turns C.gives self.old clock.old n (length self.old.lanes) self.new clock.new
+        ensures history { MatchResult result
+            (λ n. HistoryGoesOn C.gives self.old clock.old n (length self.old.lanes) self.new clock.new)
+            (λ _. (n : ℕ) × HistoryGoesOn C.gives self.old clock.old n (length self.old.lanes) self.new clock.new
             × (self.new.place + 1 ≡ 2 ^ 64)) }
         ensures rings { KeepsRings self.old self.new }
         ensures last { self.new.place < 2 ^ 64 }

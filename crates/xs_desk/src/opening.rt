@@ -128,7 +128,7 @@ fn open_desk<J: Journal + Drop>(
     requires start { J.start journal ≡ keyspace }
     requires has { J.has journal [] 0 }
     ensures { IfOk result (λ r. AreNew 0 depth r.0.lanes r.1.items × (length r.0.lanes ≡ count)
-        × (r.0.keyspace ≡ keyspace) × (r.0.place ≡ 0)) }
+        × (r.0.keyspace ≡ keyspace) × (r.0.place ≡ 0) × (r.0.start ≡ keyspace)) }
 {
     let mut keyspace = keyspace;
     keyspace.leave_free(LEFT_FREE);
@@ -176,8 +176,8 @@ fn check_counts(most: usize, n: usize, depth: usize) -> Result<(), DeskError>
 /// # Errors
 /// A `DeskError`.
 pub fn desk(alloc: Global, n: usize, depth: usize) -> Result<(Keeper, Vec<Client>), DeskError>
-    ensures new { IfOk result
-        (λ r. AreNew 0 depth r.0.lanes r.1.items × (length r.0.lanes ≡ n) × (r.0.keyspace ≡ empty) × (r.0.place ≡ 0)) }
+    ensures new { IfOk result (λ r. AreNew 0 depth r.0.lanes r.1.items × (length r.0.lanes ≡ n)
+        × (r.0.keyspace ≡ empty) × (r.0.place ≡ 0) × (r.0.start ≡ empty)) }
     ensures cause { MatchResult result (λ _. IsLaneCount 64 n × IsDepth depth) (IsDeskError 64 n depth) }
 {
     check_counts(MAX_LANES, n, depth)?;
@@ -190,8 +190,8 @@ pub fn desk(alloc: Global, n: usize, depth: usize) -> Result<(Keeper, Vec<Client
 /// # Errors
 /// A `DeskError`.
 pub fn wide_desk(alloc: Global, n: usize, depth: usize) -> Result<(Keeper, Vec<Client>), DeskError>
-    ensures new { IfOk result
-        (λ r. AreNew 0 depth r.0.lanes r.1.items × (length r.0.lanes ≡ n) × (r.0.keyspace ≡ empty) × (r.0.place ≡ 0)) }
+    ensures new { IfOk result (λ r. AreNew 0 depth r.0.lanes r.1.items × (length r.0.lanes ≡ n)
+        × (r.0.keyspace ≡ empty) × (r.0.place ≡ 0) × (r.0.start ≡ empty)) }
     ensures cause { MatchResult result (λ _. IsLaneCount 1024 n × IsDepth depth) (IsDeskError 1024 n depth) }
 {
     check_counts(MOST_LANES, n, depth)?;
@@ -213,7 +213,7 @@ pub fn logged_desk<L: EventLog + Drop>(
     requires log { ContinuesLog L.has log keyspace }
     requires sound { L.broken log ≡ false }
     ensures new { IfOk result (λ r. AreNew 0 depth r.0.lanes r.1.items × (length r.0.lanes ≡ n)
-        × (r.0.keyspace ≡ keyspace) × (r.0.place ≡ 0)) }
+        × (r.0.keyspace ≡ keyspace) × (r.0.place ≡ 0) × (r.0.start ≡ keyspace)) }
     ensures cause { MatchResult result (λ _. IsLaneCount 1024 n × IsDepth depth) (IsDeskError 1024 n depth) }
 {
     check_counts(MOST_LANES, n, depth)?;

@@ -4,13 +4,17 @@ use Rattle.xs_resp.specs.declared.reply.Reply.{Reply}
 use Rattle.xs_keys.specs.Event.{History}
 use Rattle.xs_keys.specs.Content.{Content}
 use Rattle.xs_keys.specs.Headline.{RunsOn}
-use Rattle.xs_desk.specs.History.{Desk, events_of, replies_of}
+use Rattle.xs_desk.specs.History.{LaneOf, Desk, events_of, replies_of}
+use Rattle.xs_desk.specs.Callers.{AreEnds}
 use Rattle.xs_desk.specs.Closing.{AreEven}
 use Rattle.xs_desk.proofs.Histories.{history-even}
 use Rattle.xs_desk.proofs.closing.close.Goals as goal
 
 runs-of : (old start new left : Content) (events : History) (replies : List Reply) → old ≡ start → new ≡ left → RunsOn old events replies new → RunsOn start events replies left
 runs-of old start new left events replies begins ends runs = subst (λ c. RunsOn c events replies left) begins (subst (λ c. RunsOn old events replies c) ends runs)
+
+pub sum_up_all-requires-clause-ends : goal.sum_up_all-requires-clause-ends
+sum_up_all-requires-clause-ends c = subst (λ (ls : List LaneOf). AreEnds ls c.args.ended.items) (ap (λ (d : Desk). d.lanes) c.into_parts-lane_ends.ensures.parts.1) c.requires
 
 pub sum_up_all-requires-clause-even : goal.sum_up_all-requires-clause-even
 sum_up_all-requires-clause-even c =

@@ -1,6 +1,6 @@
 use Rattle.xs_desk.specs.LaneEnds.{desk_of}
 use Rattle.xs_desk.proofs.Histories.{history-has-places}
-use Rattle.xs_desk.proofs.Durables.{turns-of, turn-keeps}
+use Rattle.xs_desk.proofs.Durables.{turns-of, turn-keeps, turn-goes-on}
 use Rattle.xs_desk.proofs.Keeps.{turn-keeps-rings}
 use Rattle.xs_desk.proofs.keeper.Keeper.turn.Goals as goal
 
@@ -11,11 +11,19 @@ serve_each-served-requires g c =
 pub invariant_of-self : goal.invariant_of-self
 invariant_of-self g c = turn-keeps g.J.Journal.has _ _ _ _ _ _ _ _ _ _ _ _ _ _ _ _ c.serve_each-served.ensures.start c.self.invariant c.serve_each-served.ensures.turned
 
+pub returns-clause-history : goal.returns-clause-history
+returns-clause-history g c = rw (← c.self.view_is) (turn-goes-on g.J.Journal.has _ _ _ _ _ _ _ _ _ _ _ _ _ _ c.serve_each-served.ensures.start c.self.invariant c.in-Ok.ensures.turned)
+
 pub returns-clause-rings : goal.returns-clause-rings
 returns-clause-rings g c = rw (← c.self.view_is) (turn-keeps-rings _ _ _ _ _ _ _ _ (turns-of g.J.Journal.has _ _ _ _ _ _ _ _ _ _ _ _ c.serve_each-served.ensures.turned))
 
 pub invariant_of-self-2 : goal.invariant_of-self-2
 invariant_of-self-2 g c = turn-keeps g.J.Journal.has _ _ _ _ _ _ _ _ _ _ _ _ _ _ _ _ c.serve_each-served.ensures.start c.self.invariant c.serve_each-served.ensures.turned
+
+pub returns-in_default-clause-history : goal.returns-in_default-clause-history
+returns-in_default-clause-history g c =
+    let turned = c.in_default.ensures.turned in
+    rw (← c.self.view_is) (turned.0, turn-goes-on g.J.Journal.has _ _ _ _ _ _ _ _ _ _ _ _ _ _ c.serve_each-served.ensures.start c.self.invariant turned.1, turned.2)
 
 pub returns-in_default-clause-rings : goal.returns-in_default-clause-rings
 returns-in_default-clause-rings g c = rw (← c.self.view_is) (turn-keeps-rings _ _ _ _ _ _ _ _ (turns-of g.J.Journal.has _ _ _ _ _ _ _ _ _ _ _ _ c.serve_each-served.ensures.turned))
