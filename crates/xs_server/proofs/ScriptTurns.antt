@@ -19,7 +19,7 @@ use Rattle.xs_server.specs.Line.{is_line_end, script_lines, line_of, line_limit}
 use Rattle.xs_server.specs.Machine.{Cause, input, reader, writer}
 use Rattle.xs_server.specs.Script.{Script, IsScript, with_end}
 use Rattle.xs_keys.specs.Step.{StepAt}
-use Rattle.xs_server.specs.ScriptMachine.{piece, IsFew, IsRead, IsInHand, IsReadOut, ScriptStands, RunsBy}
+use Rattle.xs_server.specs.ScriptMachine.{piece, IsFew, IsRead, IsInHand, IsReadOut, IsPaid, ScriptStands, EndsOncePaid, RunsBy}
 use Rattle.xs_server.proofs.ScriptLines.{read-more, read-line, read-lines, lines-last}
 use Rattle.xs_server.proofs.ScriptHeadline.{served-line, is-script, capped-more, capped-sent}
 
@@ -84,17 +84,16 @@ stands-with-more read sent got script later keyspace s none small is same number
 }
 
 -- what is owed is written
-pub stands-paid : (read sent : List ℕ) (script later : Machine) (keyspace : Content) → ScriptStands read sent script keyspace → later.held ≡ script.held → later.owed.items ≡ [] → later.number ≡ script.number
-    → later.written ≡ counter_at (script.written + length script.owed.items) → ScriptStands read (sent ++ script.owed.items) later keyspace
-stands-paid read sent script later keyspace s same none numbered counted = record {
+pub stands-paid : (read sent : List ℕ) (script later : Machine) (keyspace : Content) → ScriptStands read sent script keyspace → IsPaid script later → ScriptStands read (sent ++ script.owed.items) later keyspace
+stands-paid read sent script later keyspace s paid = record {
   lines = s.lines;
   past = s.past;
-  said = subst (λ (o : List ℕ). Script [] s.lines o s.past) (sym (ap (λ o. (sent ++ script.owed.items) ++ o) none ∙ append-nil (sent ++ script.owed.items))) s.said;
+  said = subst (λ (o : List ℕ). Script [] s.lines o s.past) (sym (ap (λ o. (sent ++ script.owed.items) ++ o) paid.owed ∙ append-nil (sent ++ script.owed.items))) s.said;
   content = s.content;
-  is_read = subst (λ (h : List ℕ). IsRead read s.lines h) (sym same) s.is_read;
-  few = subst (λ (h : List ℕ). IsFew h) (sym same) s.few;
-  number = numbered ∙ s.number;
-  written = capped-sent script.written later.written sent script.owed.items s.written counted;
+  is_read = subst (λ (h : List ℕ). IsRead read s.lines h) (sym paid.held) s.is_read;
+  few = subst (λ (h : List ℕ). IsFew h) (sym paid.held) s.few;
+  number = paid.number ∙ s.number;
+  written = capped-sent script.written later.written sent script.owed.items s.written paid.written;
 }
 
 -- ---- how a script ends
@@ -131,10 +130,17 @@ replies-broken read sent owed written lines after said are counted count few =
       inr refl,
     )
 
-pub stands-broken : (read sent : List ℕ) (script : Machine) (keyspace : Content) → ScriptStands read sent script keyspace
-    → (count : ℕ) → count < length script.owed.items → RunsBy writer (Err (fault.Write (counter_at (script.written + count)))) read (sent ++ take count script.owed.items)
-stands-broken read sent script keyspace s =
-    replies-broken read sent script.owed.items script.written s.lines (script_lines script.held) (all-said read sent script keyspace s) (read-lines read s.lines script.held s.is_read) s.written
+pub stands-broken : (read sent : List ℕ) (script : Machine) (keyspace : Content) (end : Result ℕ ScriptFault) → ScriptStands read sent script keyspace
+    → (count : ℕ) → count < length script.owed.items → end ≡ Err (fault.Write (counter_at (script.written + count))) → RunsBy writer end read (sent ++ take count script.owed.items)
+stands-broken read sent script keyspace end s count few is =
+    subst (λ (e : Result ℕ ScriptFault). RunsBy writer e read (sent ++ take count script.owed.items)) (sym is)
+    (replies-broken read sent script.owed.items script.written s.lines (script_lines script.held) (all-said read sent script keyspace s) (read-lines read s.lines script.held s.is_read) s.written count few)
+
+-- the writer fails once a script has ended
+pub ends-broken : (cause : Cause) (end broken : Result ℕ ScriptFault) (read sent : List ℕ) (script : Machine) → EndsOncePaid cause end read sent script
+    → (count : ℕ) → count < length script.owed.items → broken ≡ Err (fault.Write (counter_at (script.written + count))) → RunsBy writer broken read (sent ++ take count script.owed.items)
+ends-broken cause end broken read sent script ends count few is =
+    subst (λ (e : Result ℕ ScriptFault). RunsBy writer e read (sent ++ take count script.owed.items)) (sym is) (ends.1 count few)
 
 total : (sent owed : List ℕ) (written : ℕ) → written ≡ counter_at (length sent) → counter_at (written + length owed) ≡ counter_at (length (sent ++ owed))
 total sent owed written counted = capped-sent written (counter_at (written + length owed)) sent owed counted refl

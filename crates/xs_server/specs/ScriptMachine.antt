@@ -1,11 +1,13 @@
 -- A script with no IO of its own, and how it ends.
-use Rattle.std.specs.Prelude.{◌≡◌, ℕ, ◌+◌, ◌<◌, ◌≤◌, true, false, ◌⊎◌, Bool, List, [], ◌∷◌, ◌++◌, length, Option, None}
-use Rattle.std.specs.Prelude.{Result, Ok, Err}
+use Rattle.std.specs.Prelude.{◌≡◌, ℕ, ◌+◌, ◌<◌, ◌≤◌, true, false, ◌⊎◌, Bool, List, [], ◌∷◌, ◌++◌, length, take}
+use Rattle.std.specs.Prelude.{Option, None, Result, Ok, Err}
 use Rattle.std.specs.Io.KnownBytes.{IsAtEnd}
 use Rattle.std.specs.List.{flat_map, list_any}
 use Rattle.xs_keys.specs.Event.{History}
 use Rattle.xs_keys.specs.Content.{Content, IsContent}
 use Rattle.xs_server.specs.declared.script.machine.Script.{Script as Machine}
+use Rattle.xs_server.specs.declared.script.machine.Turn.{Turn}
+use Rattle.xs_server.specs.declared.script.machine.Turn.TheVariants.{Ends}
 use Rattle.xs_server.specs.declared.script.fault.ScriptFault.{ScriptFault}
 use Rattle.xs_server.specs.declared.script.fault.ScriptFault.TheVariants.{Line, Read, Write, Memory}
 use Rattle.xs_devices.specs.Device.{counter_at}
@@ -94,3 +96,26 @@ abbrev pub RunsBy : Cause → Result ℕ ScriptFault → List ℕ → List ℕ �
 RunsBy cause result read sent =
     ((rest : Option (List ℕ)) (ended : Bool) → (cause ≡ input → IsAtEnd rest × (ended ≡ true))
     → Runs result read sent rest ended) × ((cause_of_script result ≡ itself) ⊎ (cause ≡ cause_of_script result))
+
+-- no line is whole, nor is it past the limit
+abbrev pub IsWaiting : List ℕ → Type 0
+IsWaiting held = (list_any is_line_end held ≡ false) × (length held ≤ line_limit)
+
+-- after a turn a script stands, or it has ended
+abbrev pub AfterTurn : Turn → Type 0 → (Result ℕ ScriptFault → Type 0) → Type 0
+AfterTurn (Ends end) Stands HasEnded = HasEnded end
+AfterTurn _ Stands HasEnded = Stands
+
+-- a script ends so once all that it owes is written; or as one whose writer failed, where a part of that was written
+abbrev pub EndsOncePaid : Cause → Result ℕ ScriptFault → List ℕ → List ℕ → Machine → Type 0
+EndsOncePaid cause end read sent script =
+    RunsBy cause end read (sent ++ script.owed.items)
+    × ((count : ℕ) → count < length script.owed.items
+    → RunsBy writer (Err (Write (counter_at (script.written + count)))) read (sent ++ take count script.owed.items))
+
+-- all that was owed is written
+pub record IsPaid (old new : Machine) : Type 0 where
+  pub held : new.held ≡ old.held
+  pub owed : new.owed.items ≡ []
+  pub number : new.number ≡ old.number
+  pub written : new.written ≡ counter_at (old.written + length old.owed.items)

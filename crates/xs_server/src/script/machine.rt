@@ -1,12 +1,10 @@
 //! A script, with no IO of its own: each of its turns answers a line.
-ghost use Rattle.std.specs.Prelude.{◌≡◌, ◌≤◌, ◌+◌, ℕ, [], false, length, Err};
-ghost use Rattle.std.specs.List.{list_any};
+ghost use Rattle.std.specs.Prelude.{◌≡◌, ◌+◌, ◌<◌, ◌≤◌, ℕ, List, length, Err};
 ghost use Rattle.xs_devices.specs.Device.{counter_at};
-ghost use Rattle.xs_server.specs.Line.{is_line_end, line_limit};
-ghost use Rattle.xs_server.specs.ScriptMachine.{IsNewScript, RunsBy, ScriptStands};
+ghost use Rattle.xs_server.specs.Machine.{itself, input};
+ghost use Rattle.xs_server.specs.ScriptMachine.{IsNewScript, IsWaiting, IsPaid, ScriptStands, AfterTurn, EndsOncePaid};
 
 use crate::lines::held::HeldBytes;
-use crate::machines::machine::{Machine, Turn};
 use crate::script::fault::ScriptFault;
 use crate::script::serving::{LineFault, serve_line};
 use std::alloc::Global;
@@ -14,6 +12,17 @@ use xs_keys::Keyspace;
 
 /// The most bytes of a line, without its LF.
 const LINE_LIMIT: usize = 1_048_576;
+
+/// What a turn of a script comes to.
+#[derive(Clone, Copy, Debug, PartialEq, Eq)]
+pub enum Turn {
+    /// It goes on.
+    Goes,
+    /// It waits for bytes.
+    Waits,
+    /// It has ended.
+    Ends(Result<u64, ScriptFault>),
+}
 
 /// A script: the bytes that came in and aren't taken yet, and the replies that it owes.
 #[derive(Drop)]
@@ -60,44 +69,41 @@ impl Script {
     }
 
     /// The end where memory runs out.
-    fn out_of_memory(&self) -> Result<u64, ScriptFault>
+    pub fn out_of_memory(&self) -> Result<u64, ScriptFault>
         ensures { result ≡ Err (ScriptFault.Memory (counter_at (self.now.written + length self.now.owed.items))) }
     {
         Err(ScriptFault::Memory {
             written: self.total(),
         })
     }
-}
 
-impl Machine<Keyspace, ()> for Script {
-    ghost use Rattle.xs_server.specs.declared.script.fault.ScriptFault.{ScriptFault};
+    /// The end where no more can be read.
+    pub fn read_error(&self) -> Result<u64, ScriptFault>
+        ensures { result ≡ Err (ScriptFault.Read (counter_at (self.now.written + length self.now.owed.items))) }
+    {
+        Err(ScriptFault::Read {
+            written: self.total(),
+        })
+    }
 
-    type End = Result<u64, ScriptFault>;
+    /// The end where the writer failed behind so many of the bytes that it owes.
+    pub fn write_error(&self, count: usize) -> Result<u64, ScriptFault>
+        ensures { result ≡ Err (ScriptFault.Write (counter_at (self.now.written + count))) }
+    {
+        Err(ScriptFault::Write {
+            written: self.written.saturating_add(count as u64),
+        })
+    }
 
-    type Input = HeldBytes;
-
-    /// Replies are held up to so many bytes.
-    const ENOUGH: usize = 65_536;
-
-    ghost ENOUGH = { 65536 };
-
-    ghost owes = { λ script. script.owed.items };
-
-    ghost front = { λ script. script.owed.items };
-
-    ghost held = { λ script. length script.held };
-
-    ghost with_input = { λ script held. record script { held = held } };
-
-    ghost is_waiting = { λ script. (list_any is_line_end script.held ≡ false) × (length script.held ≤ line_limit) };
-
-    ghost stands = { λ first read sent script keyspace. ScriptStands read sent script keyspace };
-
-    ghost has_ended = { λ cause end first read sent keyspace. RunsBy cause end read sent };
-
-    ghost breaks = { λ script count. Err (ScriptFault.Write (counter_at (script.written + count))) };
-
-    fn advance(&mut self, _rt: &(), keyspace: &mut Keyspace) -> Turn<Result<u64, ScriptFault>> {
+    /// Takes the next turn: a line is answered, if one is whole.
+    pub fn advance(&mut self, keyspace: &mut Keyspace) -> Turn
+        ensures turns { (read sent : List ℕ) → ScriptStands read sent self.old keyspace.old →
+            AfterTurn result (ScriptStands read sent self.new keyspace.new)
+            (λ end. EndsOncePaid itself end read sent self.new) }
+        ensures waits { result ≡ Turn.Waits → IsWaiting self.new.held }
+        ensures less { result ≡ Turn.Goes → length self.new.held < length self.old.held }
+        ensures same { length self.new.held ≤ length self.old.held }
+    {
         let Some(at) = self.held.line_end() else {
             if self.held.bytes().len() > LINE_LIMIT {
                 return Turn::Ends(self.line_error());
@@ -118,11 +124,12 @@ impl Machine<Keyspace, ()> for Script {
         Turn::Goes
     }
 
-    fn input(&mut self) -> &mut HeldBytes {
-        &mut self.held
-    }
-
-    fn end(&mut self, keyspace: &mut Keyspace) -> Result<u64, ScriptFault> {
+    /// Ends, since the input has ended: the last line may lack its end.
+    pub fn end(&mut self, keyspace: &mut Keyspace) -> Result<u64, ScriptFault>
+        requires { IsWaiting self.old.held }
+        ensures { (read sent : List ℕ) → ScriptStands read sent self.old keyspace.old →
+            EndsOncePaid input result read sent self.new }
+    {
         let line = self.held.bytes();
         if line.is_empty() {
             return Ok(self.total());
@@ -134,27 +141,10 @@ impl Machine<Keyspace, ()> for Script {
         }
     }
 
-    fn read_error(&self) -> Result<u64, ScriptFault> {
-        Err(ScriptFault::Read {
-            written: self.total(),
-        })
-    }
-
-    fn memory_error(&self) -> Result<u64, ScriptFault> {
-        self.out_of_memory()
-    }
-
-    fn write_error(&self, count: usize) -> Result<u64, ScriptFault> {
-        Err(ScriptFault::Write {
-            written: self.written.saturating_add(count as u64),
-        })
-    }
-
-    fn owed(&self) -> &[u8] {
-        self.owed.as_slice()
-    }
-
-    fn paid(&mut self) {
+    /// Says that all that it owed was written.
+    pub fn mark_paid(&mut self)
+        ensures { IsPaid self.old self.new }
+    {
         self.written = self.total();
         self.owed.clear();
     }

@@ -4,10 +4,10 @@ use Rattle.xs_server.specs.Machine.{itself}
 use Rattle.xs_server.specs.Line.{line_limit}
 use Rattle.xs_server.proofs.ScriptLines.{in-hand-last}
 use Rattle.xs_server.proofs.ScriptTurns.{all-said, ends-memory, ends-wrong, in-hand, line-long, stands-more}
-use Rattle.xs_server.proofs.script.machine.ScriptMachineKeyspaceUnit.advance.Goals as goal
+use Rattle.xs_server.proofs.script.machine.Script.advance.Goals as goal
 
 pub returns-then-bytes-gt-LINE_LIMIT-clause-turns : goal.returns-then-bytes-gt-LINE_LIMIT-clause-turns
-returns-then-bytes-gt-LINE_LIMIT-clause-turns c = λ first read sent s.
+returns-then-bytes-gt-LINE_LIMIT-clause-turns c = λ read sent s.
     let script = c.args.self.now in
     let same = c.line_end.ensures.same in
     let none = rw (same) at c.in_default.ensures.found in
@@ -16,7 +16,7 @@ returns-then-bytes-gt-LINE_LIMIT-clause-turns c = λ first read sent s.
     (in-hand-last read s.lines script.held s.is_read none) (λ rest ended met. inr (inr long)) (line-long script.held long) s.number)
 
 pub returns-then-at-gt-LINE_LIMIT-clause-turns : goal.returns-then-at-gt-LINE_LIMIT-clause-turns
-returns-then-at-gt-LINE_LIMIT-clause-turns c = λ first read sent s.
+returns-then-at-gt-LINE_LIMIT-clause-turns c = λ read sent s.
     let script = c.args.self.now in
     let held = c.line_end.new.self in
     let at = c.in-Some.at in
@@ -28,7 +28,7 @@ returns-then-at-gt-LINE_LIMIT-clause-turns c = λ first read sent s.
     (in-hand read s.lines script.held line (10 ∷ drop (at + 1) held) s.is_read (sym c.line_end.ensures.same ∙ found.2) found.1) (λ rest ended met. inl (drop (at + 1) held, refl)) (line-long line long) s.number)
 
 pub returns-in-Err-NoLine-clause-turns : goal.returns-in-Err-NoLine-clause-turns
-returns-in-Err-NoLine-clause-turns c = λ first read sent s.
+returns-in-Err-NoLine-clause-turns c = λ read sent s.
     let script = c.args.self.now in
     let held = c.line_end.new.self in
     let at = c.in-Some.at in
@@ -39,7 +39,7 @@ returns-in-Err-NoLine-clause-turns c = λ first read sent s.
     (in-hand read s.lines script.held line (10 ∷ drop (at + 1) held) s.is_read (sym c.line_end.ensures.same ∙ found.2) found.1) (λ rest ended met. inl (drop (at + 1) held, refl)) wrong s.number)
 
 pub returns-in-Err-Memory-clause-turns : goal.returns-in-Err-Memory-clause-turns
-returns-in-Err-Memory-clause-turns c = λ first read sent s.
+returns-in-Err-Memory-clause-turns c = λ read sent s.
     let script = c.args.self.now in
     let held = c.line_end.new.self in
     let at = c.in-Some.at in
@@ -50,7 +50,7 @@ returns-in-Err-Memory-clause-turns c = λ first read sent s.
     (in-hand read s.lines script.held (take at held) (10 ∷ drop (at + 1) held) s.is_read split found.1) (omega (arith, few)))
 
 pub returns-clause-turns : goal.returns-clause-turns
-returns-clause-turns c = λ first read sent s.
+returns-clause-turns c = λ read sent s.
     let script = c.args.self.now in
     let held = c.line_end.new.self in
     let at = c.in-Some.at in
