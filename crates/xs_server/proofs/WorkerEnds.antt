@@ -3,8 +3,12 @@ use Rattle.std.specs.Prelude.{◌≡◌, ℕ, zero, suc, ◌+◌, ◌<◌, ◌�
 use Rattle.std.proofs.Common.{inl, inr, sym, ◌∙◌, ap, subst, arith, append_assoc}
 use Rattle.std.specs.Result.{result_and}
 use Rattle.std.proofs.lemmas.List.{append-nil, length-map, map-append}
-use Rattle.xs_desk.specs.Callers.{Caller, HasEnd}
-use Rattle.xs_desk.specs.History.{LaneOf}
+use Rattle.xs_bytes.specs.SortedMap.{empty}
+use Rattle.xs_keys.specs.Headline.{RunsOn}
+use Rattle.xs_desk.specs.declared.summary.Summary.{Summary}
+use Rattle.xs_desk.specs.Callers.{Caller, AreEnds, HasEnd}
+use Rattle.xs_desk.specs.Closing.{SumUp}
+use Rattle.xs_desk.specs.History.{LaneOf, ServedCall, Desk, IsHistory, events_of, replies_of}
 use Rattle.xs_desk.specs.KeptRings.{KeepsSide, KeepSides}
 use Rattle.xs_desk.specs.Opening.{AreNew}
 use Rattle.xs_desk.specs.Opening.{IsDeskError}
@@ -15,7 +19,7 @@ use Rattle.xs_server.specs.declared.work.worker.WorkerFault.{WorkerFault}
 use Rattle.xs_server.specs.declared.work.fault.WorkFault.TheVariants as work
 use Rattle.xs_server.specs.Gates.{GateTrace}
 use Rattle.xs_server.specs.Workers.{Works, WorkEach}
-use Rattle.xs_server.specs.WorkOutcome.{AreServed, IsUnused, IsWorkFault}
+use Rattle.xs_server.specs.WorkOutcome.{AreServed, IsClosed, IsUnused, IsWorkFault}
 use Rattle.xs_server.proofs.AheadWork.{works-side, gate-lost}
 use Rattle.xs_desk.proofs.Lists.{snoc-cases, still-at, last-at, some-at}
 
@@ -162,6 +166,22 @@ served-pool client_of gate_of trace faulty depth lanes clients ends gates later 
     let over = subst (λ (bs : List GateTrace). WorkEach faulty (map client_of workers) ends bs (map trace later)) traces each in
     served-gates faulty depth lanes clients ends (map trace gates) (map trace later) new (count ∙ sym (length-map gates trace)) (es ∙ n) (length-map later trace ∙ (ls ∙ n))
     (subst (λ (firsts : List Caller). WorkEach faulty firsts ends (map trace gates) (map trace later)) cs over)
+
+-- a desk whose workers did this was closed
+pub closed-desk : (faulty : Bool) (desk : Desk) (ends : List Caller) (before now : List GateTrace) (summary : Summary) → AreEnds desk.lanes ends → SumUp desk.lanes ends (length desk.lanes) summary.lanes.items
+    → ((history : List ServedCall) × IsHistory history desk × RunsOn empty (events_of history) (replies_of history) summary.keyspace) → length desk.lanes ≡ length before → AreServed faulty ends before now
+    → IsClosed faulty before now summary
+closed-desk faulty desk ends before now summary are lanes history count served = record {
+  desk = desk;
+  ends = ends;
+  history = history.0;
+  count = count;
+  are_ends = are;
+  served = served;
+  lanes = subst (λ (n : ℕ). SumUp desk.lanes ends n summary.lanes.items) count lanes;
+  is_history = history.1;
+  runs = history.2;
+}
 
 -- the same gates have the same traces
 pub same-traces : {A B G : Type 0} (trace : G → GateTrace) (f : A → G) (h : B → G) (xs : List A) (ys : List B) → map f xs ≡ map h ys → map (λ x. trace (f x)) xs ≡ map (λ y. trace (h y)) ys

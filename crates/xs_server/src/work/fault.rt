@@ -2,8 +2,8 @@
 use thiserror::Error;
 use xs_desk::DeskError;
 
-/// Why work over gates didn't come to its end. If several hold, the first is told; but if no memory is left to close the
-/// desk, that is told and not what its workers met.
+/// Why work over gates didn't come to its end. If several hold, the first is told; but if no memory is left to close
+/// the desk, that is told and not what its workers met.
 #[derive(Clone, Copy, Debug, PartialEq, Eq, Error)]
 pub enum WorkFault {
     /// No desk was made.

@@ -39,9 +39,9 @@ pub struct WorkFailed<G: Drop> {
     pub outcome: Option<WorkOutcome<G>>,
 }
 
-impl<G: Drop> From<WorkFault> for WorkFailed<G> {
-    /// A fault without an outcome.
-    fn from(fault: WorkFault) -> Self
+impl<G: Drop> WorkFailed<G> {
+    /// A fault that left nothing.
+    fn without_outcome(fault: WorkFault) -> Self
         ensures fault { result.fault ≡ fault }
         ensures outcome { result.outcome ≡ None }
     {
@@ -144,8 +144,10 @@ fn conclude<G: Gate + Drop>(alloc: Global, done: Done<G>) -> Result<WorkOutcome<
     } = done;
     let summary = match close(alloc, keeper, ended) {
         Ok(summary) => summary,
-        Err(CloseError::Unfinished(_, _)) => return Err(WorkFault::Close.into()),
-        Err(CloseError::Memory(_, _)) => return Err(WorkFault::Memory.into()),
+        Err(CloseError::Unfinished(_, _)) => return Err(WorkFailed::without_outcome(
+            WorkFault::Close,
+        )),
+        Err(CloseError::Memory(_, _)) => return Err(WorkFailed::without_outcome(WorkFault::Memory)),
     };
     let closed = WorkOutcome { summary, gates };
     match outcome {
@@ -157,14 +159,20 @@ fn conclude<G: Gate + Drop>(alloc: Global, done: Done<G>) -> Result<WorkOutcome<
     }
 }
 
-fn open(alloc: Global, n: usize, depth: usize) -> Result<(Keeper, Vec<Client>), WorkFault>
+fn open<G: Drop>(
+    alloc: Global,
+    n: usize,
+    depth: usize,
+) -> Result<(Keeper, Vec<Client>), WorkFailed<G>>
     ensures new { IfOk result (λ r. AreNew 0 depth r.0.lanes r.1.items × (length r.0.lanes ≡ n)) }
     ensures count { IfOk result (λ _. IsLaneCount 1024 n × IsDepth depth) }
-    ensures fault { IfErr result (IsWorkFault 1024 n depth) }
+    ensures fault { IfErr result (λ failed. IsWorkFault 1024 n depth failed.fault) }
+    ensures told { IfErr result (λ failed. IsOfWorker failed.fault → IsSome failed.outcome) }
+    ensures none { IfErr result (λ failed. failed.outcome ≡ None) }
 {
     match wide_desk(alloc, n, depth) {
         Ok(made) => Ok(made),
-        Err(fault) => Err(WorkFault::Desk(fault)),
+        Err(fault) => Err(WorkFailed::without_outcome(WorkFault::Desk(fault))),
     }
 }
 
@@ -192,7 +200,7 @@ pub fn work<
     ensures fault { IfErr result (λ failed. IsWorkFault 64 (length gates.items) depth failed.fault) }
 {
     if gates.len() > MAX_GATES {
-        return Err(WorkFault::Desk(DeskError::Lanes).into());
+        return Err(WorkFailed::without_outcome(WorkFault::Desk(DeskError::Lanes)));
     }
     work_with(rt, alloc, gates, depth, clock, Bounded)
 }
@@ -223,12 +231,12 @@ pub fn work_with<
     ensures told { IfErr result (λ failed. IsOfWorker failed.fault → IsSome failed.outcome) }
     ensures fault { IfErr result (λ failed. IsWorkFault 1024 (length gates.items) depth failed.fault) }
 {
-    let (keeper, clients) = open(alloc, gates.len(), depth)?;
+    let (keeper, clients) = open::<G>(alloc, gates.len(), depth)?;
     let Ok(pool) = make_pool(alloc, &keeper, clients, gates, &mode) else {
-        return Err(WorkFault::Memory.into());
+        return Err(WorkFailed::without_outcome(WorkFault::Memory));
     };
     let Some(done) = run_all(rt, keeper, clock, mode, pool) else {
-        return Err(WorkFault::Start.into());
+        return Err(WorkFailed::without_outcome(WorkFault::Start));
     };
     conclude(alloc, done)
 }
