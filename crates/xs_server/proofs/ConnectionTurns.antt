@@ -29,10 +29,10 @@ use Rattle.xs_server.specs.declared.connections.ending.ServeFault.TheVariants as
 use Rattle.xs_devices.specs.Device.{counter_at}
 use Rattle.xs_server.specs.Exchange.{Exchange, AreAnswered, texts, is_quit, has_quit}
 use Rattle.xs_server.specs.Serve.{Written, WrittenTo, IsPart, ConnectionEndsBy, WriteFails, Ends, ServesConnection, cause_of_connection}
-use Rattle.xs_server.specs.Machine.{HasCause}
+use Rattle.xs_server.specs.Cause.{HasCause}
 use Rattle.xs_server.specs.Ahead.{AheadEnds}
 use Rattle.xs_server.proofs.AheadTurns.{end-waits}
-use Rattle.xs_server.proofs.MachineTurns.{none-came}
+use Rattle.xs_server.proofs.Emptiness.{none-came}
 use Rattle.xs_server.specs.Connection.{IsAtRest, refusals, GoesBehind, TakesOne, LeavesOne, SendsAll, SendsPart, InputEnds, IsServedAfter}
 use Rattle.xs_server.proofs.AnsweredRequests.{AreReplied, exchanges_of, replied-fits, run-taken, answers-all, goes-behind, left-one, answered-again, answered-read}
 

@@ -284,7 +284,8 @@ impl Session {
     pub fn begin_answer(&mut self) -> bool
         ensures after { (read : List ℕ) (asked : List Command) (got : List Reply) (sent : List ℕ) →
             SessionIsAfter read asked got sent self.old → SessionIsAfter read asked got sent self.new }
-        ensures none { result ≡ false → bytes_left self.old.owed ≡ [] → NoneReady self.old.places × (self.new ≡ self.old) }
+        ensures none { result ≡ false → bytes_left self.old.owed ≡ [] →
+            NoneReady self.old.places × (self.new ≡ self.old) }
         ensures fewer { result ≡ true → length self.new.places < length self.old.places }
         ensures begins { result ≡ true → (reply : Reply) × (self.old.places ≡ Some reply ∷ self.new.places)
             × (bytes_left self.new.owed ≡ text reply) }

@@ -214,8 +214,8 @@ fn send_before<W: Sink, P: Pause, T: Wait>(
     }
 }
 
-/// Takes an answer if one is waited for, and says so; else all that is owed is sent. It waits only once what is there is
-/// sent.
+/// Takes an answer if one is waited for, and says so; else all that is owed is sent. It waits only once what is there
+/// is sent.
 fn settle<W: Sink, P: Pause, T: Wait>(
     rt: &T,
     session: &mut Session,

@@ -8,7 +8,7 @@ ghost use Rattle.xs_resp.specs.LeftToWrite.{bytes_left};
 ghost use Rattle.xs_session.specs.Session.{Waits};
 ghost use Rattle.xs_server.specs.Connection.{IsAtRest, TakesOne, LeavesOne, SendsAll, SendsPart, InputEnds};
 ghost use Rattle.xs_server.specs.Connection.{IsServedAfter};
-ghost use Rattle.xs_server.specs.Machine.{HasCause, reads_limit};
+ghost use Rattle.xs_server.specs.Cause.{HasCause, reads_limit};
 ghost use Rattle.xs_server.specs.Serve.{ServesConnection, cause_of_connection};
 
 use crate::connections::ahead::send_owed;

@@ -4,11 +4,11 @@ ghost use Rattle.std.specs.Prelude.{OnOk, OnErr, IfErr, MatchResult};
 ghost use Rattle.std.specs.Io.KnownBytes.{Appends, Consumes};
 ghost use Rattle.xs_devices.specs.Device.{counter_at};
 ghost use Rattle.xs_keys.specs.Content.{Content};
-ghost use Rattle.xs_server.specs.Machine.{Cause, HasCause, reads_limit, writer as writer_failed};
-ghost use Rattle.xs_server.specs.ScriptMachine.{Runs, RunsBy, ScriptStands, EndsOncePaid, IsPaid, cause_of_script};
+ghost use Rattle.xs_server.specs.Cause.{Cause, HasCause, reads_limit, writer as writer_failed};
+ghost use Rattle.xs_server.specs.ScriptRun.{Runs, RunsBy, ScriptStands, EndsOncePaid, IsPaid, cause_of_script};
 
 use crate::script::fault::ScriptFault;
-use crate::script::machine::{Script, Turn};
+use crate::script::state::{Script, Turn};
 use std::alloc::Global;
 use xs_devices::{Fill, FillFault, Sink, Source, write_all};
 use xs_keys::Keyspace;

@@ -2,7 +2,7 @@ use Rattle.std.proofs.Common.{◌≡◌, ℕ, ◌+◌, List}
 use Rattle.std.specs.Io.KnownBytes.{Appends, Consumes}
 use Rattle.xs_devices.specs.Device.{counter_at}
 use Rattle.xs_server.specs.Connection.{IsServedAfter}
-use Rattle.xs_server.specs.Machine.{reads_limit}
+use Rattle.xs_server.specs.Cause.{reads_limit}
 use Rattle.xs_server.proofs.connections.serve.serve.Given as goal
 
 -- these bytes were read and sent, and all answers are written

@@ -1,7 +1,7 @@
 use Rattle.std.proofs.Common.{◌++◌, [], Err, inl, inr, sym, ap, refl, arith, length-append}
 use Rattle.std.proofs.lemmas.List.{append-nil}
 use Rattle.std.proofs.KnownBytes.{Consumes-nil, Consumes-kept}
-use Rattle.xs_server.specs.Machine.{itself, input, reader}
+use Rattle.xs_server.specs.Cause.{itself, input, reader}
 use Rattle.xs_server.proofs.ScriptLines.{in-hand-last}
 use Rattle.xs_server.proofs.ScriptTurns.{all-said, ends-memory, ends-read, stands-with-more}
 use Rattle.xs_server.proofs.script.run.come.Goals as goal

@@ -1,6 +1,6 @@
 use Rattle.std.proofs.Common.{[], ◌++◌, inl, inr, refl, ◌∙◌}
 use Rattle.std.proofs.KnownBytes.{Consumes-nil, Appends-nil, Consumes-trans, Appends-trans}
-use Rattle.xs_server.specs.Machine.{writer}
+use Rattle.xs_server.specs.Cause.{writer}
 use Rattle.xs_server.proofs.script.run.drive.Goals as goal
 
 pub turns-init : goal.turns-init

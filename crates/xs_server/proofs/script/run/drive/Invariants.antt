@@ -1,8 +1,8 @@
 use Rattle.std.proofs.Common.{◌≡◌, ℕ, ◌+◌, ◌*◌, List, length}
 use Rattle.std.specs.Io.KnownBytes.{Consumes, Appends}
 use Rattle.xs_devices.specs.Device.{counter_at}
-use Rattle.xs_server.specs.Machine.{reads_limit}
-use Rattle.xs_server.specs.ScriptMachine.{ScriptStands}
+use Rattle.xs_server.specs.Cause.{reads_limit}
+use Rattle.xs_server.specs.ScriptRun.{ScriptStands}
 use Rattle.xs_server.proofs.script.run.drive.Given as goal
 
 -- these bytes were read, and these written

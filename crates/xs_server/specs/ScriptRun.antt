@@ -5,14 +5,14 @@ use Rattle.std.specs.Io.KnownBytes.{IsAtEnd}
 use Rattle.std.specs.List.{flat_map, list_any}
 use Rattle.xs_keys.specs.Event.{History}
 use Rattle.xs_keys.specs.Content.{Content, IsContent}
-use Rattle.xs_server.specs.declared.script.machine.Script.{Script as Machine}
-use Rattle.xs_server.specs.declared.script.machine.Turn.{Turn}
-use Rattle.xs_server.specs.declared.script.machine.Turn.TheVariants.{Ends}
+use Rattle.xs_server.specs.declared.script.state.Script.{Script as State}
+use Rattle.xs_server.specs.declared.script.state.Turn.{Turn}
+use Rattle.xs_server.specs.declared.script.state.Turn.TheVariants.{Ends}
 use Rattle.xs_server.specs.declared.script.fault.ScriptFault.{ScriptFault}
 use Rattle.xs_server.specs.declared.script.fault.ScriptFault.TheVariants.{Line, Read, Write, Memory}
 use Rattle.xs_devices.specs.Device.{counter_at}
 use Rattle.xs_server.specs.Line.{is_line_end, script_lines, line_of, line_limit}
-use Rattle.xs_server.specs.Machine.{Cause, itself, input, reader, writer}
+use Rattle.xs_server.specs.Cause.{Cause, itself, input, reader, writer}
 use Rattle.xs_server.specs.Script.{Script, IsScript, with_end, AreLines}
 
 -- the replies to these lines are sent, so many bytes
@@ -67,7 +67,7 @@ abbrev pub IsFew : List ℕ → Type 0
 IsFew held = (line rest : List ℕ) → held ≡ line ++ 10 ∷ rest → list_any is_line_end line ≡ false → length rest ≤ piece
 
 -- these lines are read and answered; some of the replies are written, and the others are owed
-pub record ScriptStands (read sent : List ℕ) (script : Machine) (keyspace : Content) : Type 0 where
+pub record ScriptStands (read sent : List ℕ) (script : State) (keyspace : Content) : Type 0 where
   pub lines : List (List ℕ)
   pub past : History
   pub said : Script [] lines (sent ++ script.owed.items) past
@@ -78,7 +78,7 @@ pub record ScriptStands (read sent : List ℕ) (script : Machine) (keyspace : Co
   pub written : script.written ≡ counter_at (length sent)
 
 -- nothing is read, answered or owed
-pub record IsNewScript (script : Machine) : Type 0 where
+pub record IsNewScript (script : State) : Type 0 where
   pub held : script.held ≡ []
   pub owed : script.owed.items ≡ []
   pub number : script.number ≡ 0
@@ -107,14 +107,14 @@ AfterTurn (Ends end) Stands HasEnded = HasEnded end
 AfterTurn _ Stands HasEnded = Stands
 
 -- a script ends so once all that it owes is written; or as one whose writer failed, where a part of that was written
-abbrev pub EndsOncePaid : Cause → Result ℕ ScriptFault → List ℕ → List ℕ → Machine → Type 0
+abbrev pub EndsOncePaid : Cause → Result ℕ ScriptFault → List ℕ → List ℕ → State → Type 0
 EndsOncePaid cause end read sent script =
     RunsBy cause end read (sent ++ script.owed.items)
     × ((count : ℕ) → count < length script.owed.items
     → RunsBy writer (Err (Write (counter_at (script.written + count)))) read (sent ++ take count script.owed.items))
 
 -- all that was owed is written
-pub record IsPaid (old new : Machine) : Type 0 where
+pub record IsPaid (old new : State) : Type 0 where
   pub held : new.held ≡ old.held
   pub owed : new.owed.items ≡ []
   pub number : new.number ≡ old.number

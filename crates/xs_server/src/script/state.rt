@@ -1,8 +1,8 @@
 //! A script, with no IO of its own: each of its turns answers a line.
 ghost use Rattle.std.specs.Prelude.{◌≡◌, ◌+◌, ◌<◌, ◌≤◌, ℕ, List, length, Err};
 ghost use Rattle.xs_devices.specs.Device.{counter_at};
-ghost use Rattle.xs_server.specs.Machine.{itself, input};
-ghost use Rattle.xs_server.specs.ScriptMachine.{IsNewScript, IsWaiting, IsPaid, ScriptStands, AfterTurn, EndsOncePaid};
+ghost use Rattle.xs_server.specs.Cause.{itself, input};
+ghost use Rattle.xs_server.specs.ScriptRun.{IsNewScript, IsWaiting, IsPaid, ScriptStands, AfterTurn, EndsOncePaid};
 
 use crate::lines::held::HeldBytes;
 use crate::script::fault::ScriptFault;

@@ -1,9 +1,9 @@
 use Rattle.std.proofs.Common.{◌==◌, [], ◌∷◌, ◌++◌, length, Err, inl, inr, refl, ap, ◌∙◌, arith}
-use Rattle.xs_server.specs.Machine.{input}
-use Rattle.xs_server.proofs.MachineTurns.{empty-none, empty-some}
+use Rattle.xs_server.specs.Cause.{input}
+use Rattle.xs_server.proofs.Emptiness.{empty-none, empty-some}
 use Rattle.xs_server.proofs.ScriptLines.{in-hand-last}
 use Rattle.xs_server.proofs.ScriptTurns.{all-said, ends-memory, ends-well, ends-wrong, last-answered, none-left}
-use Rattle.xs_server.proofs.script.machine.Script.end.Goals as goal
+use Rattle.xs_server.proofs.script.state.Script.end.Goals as goal
 
 pub returns-then-is_empty : goal.returns-then-is_empty
 returns-then-is_empty c = λ read sent s.

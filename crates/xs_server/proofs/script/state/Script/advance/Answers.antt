@@ -1,10 +1,10 @@
 use Rattle.std.proofs.Common.{◌+◌, ◌<◌, [], ◌∷◌, ◌++◌, length, take, drop, Err, inl, inr, refl, sym, ap, ◌∙◌, arith}
 use Rattle.std.proofs.lemmas.List.{length-take-le}
-use Rattle.xs_server.specs.Machine.{itself}
+use Rattle.xs_server.specs.Cause.{itself}
 use Rattle.xs_server.specs.Line.{line_limit}
 use Rattle.xs_server.proofs.ScriptLines.{in-hand-last}
 use Rattle.xs_server.proofs.ScriptTurns.{all-said, ends-memory, ends-wrong, in-hand, line-long, stands-more}
-use Rattle.xs_server.proofs.script.machine.Script.advance.Goals as goal
+use Rattle.xs_server.proofs.script.state.Script.advance.Goals as goal
 
 pub returns-then-bytes-gt-LINE_LIMIT-clause-turns : goal.returns-then-bytes-gt-LINE_LIMIT-clause-turns
 returns-then-bytes-gt-LINE_LIMIT-clause-turns c = λ read sent s.
