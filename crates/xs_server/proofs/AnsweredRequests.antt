@@ -1,17 +1,23 @@
--- Connections: requests that were answered, and how a connection ends.
-use Rattle.std.proofs.Common.{◌≡◌, ℕ, ◌<◌, ◌==◌, Bool, false, List, [], ◌∷◌, ◌++◌, length, drop, Option, Some, Ok, sym}
-use Rattle.std.proofs.Common.{ap, ◌∙◌, subst, refl, append_assoc, arith}
+-- Connections: what the requests that a session has taken are answered.
+use Rattle.std.proofs.Common.{◌≡◌, ◌⊎◌, ℕ, ◌||◌, Bool, true, false, List, [], ◌∷◌, ◌++◌, length, map, Option, Some, None, Err}
+use Rattle.std.proofs.Common.{inl, inr, sym, ap, ◌∙◌, subst, refl, append_assoc, arith}
+use Rattle.std.proofs.lemmas.List.Folds.{list_any-append}
+use Rattle.xs_resp.specs.declared.fault.Fault.{Fault}
+use Rattle.xs_resp.specs.declared.fault.Fault.TheVariants.{Memory}
 use Rattle.xs_resp.specs.declared.reply.Reply.{Reply}
-use Rattle.xs_resp.specs.Grammar.{Spells, SpellsAll}
-use Rattle.xs_resp.specs.Reading.{Found, request}
-use Rattle.xs_resp.specs.HeldBytes.{Held, Next}
-use Rattle.xs_resp.proofs.NextRequest.{took, next-words}
+use Rattle.xs_resp.specs.declared.reply.Reply.TheVariants.{Error}
+use Rattle.xs_resp.specs.Grammar.{SpellsAll}
+use Rattle.xs_resp.specs.HeldBytes.{Held}
 use Rattle.xs_command.specs.declared.command.Command.{Command}
+use Rattle.xs_command.specs.declared.command.Command.TheVariants.{Quit}
 use Rattle.xs_command.specs.Read.{command_of_words}
-use Rattle.xs_server.specs.Answering.{Answered}
+use Rattle.xs_session.specs.declared.ending.Ending.{Ending}
+use Rattle.xs_session.specs.declared.ending.Ending.TheVariants as ending
+use Rattle.xs_session.specs.Answers.{Taken, Asks, Says, IsTaken, AreTaken, asked_of, answers_to, quits, has_quit}
+use Rattle.xs_session.specs.Session.{refusal, Goes}
 use Rattle.xs_server.specs.Exchange.{Exchange, Run, AreAnswered, is_quit}
-use Rattle.xs_server.specs.Serve.{PortFails}
-use Rattle.xs_server.proofs.MachineTurns.{empty-some}
+use Rattle.xs_server.specs.Exchange.{has_quit as asks_quit}
+use Rattle.xs_server.specs.Connection.{refusals, GoesBehind, LeavesOne}
 
 -- requests behind others
 spells-all : (a b : List ℕ) (first others : List (List (List ℕ))) → SpellsAll a first → SpellsAll b others → SpellsAll (a ++ b) (first ++ others)
@@ -53,51 +59,127 @@ answered-read Replies old new bytes rest got exchanges a = record {
   run = a.run;
 }
 
--- ---- a turn
+-- ---- what a session has taken
 
--- a request of no words is taken
-pub answered-empty : {P : Type 0} (Replies : P → Command → Reply → P → Type 0) (port : P) (bytes : List ℕ) (found : Found) → request bytes ≡ Ok (Some found) → found.words ≡ []
-    → AreAnswered Replies port port bytes [] (drop found.end bytes)
-answered-empty Replies port bytes found next none =
-    let t = took bytes [] bytes [] found refl refl next in
-    record { requests = [] ∷ []; front = t.first; bytes_are = t.split; spelled = subst (λ w. SpellsAll t.first (w ∷ [])) none t.spelled; run = (refl, refl) }
+-- a port replied to these commands, one after the other
+abbrev pub AreReplied : {P : Type 0} → (P → Command → Reply → P → Type 0) → P → List Command → List Reply → P → Type 0
+AreReplied Replies old [] [] new = new ≡ old
+AreReplied {P} Replies old (command ∷ commands) (reply ∷ replies) new = (mid : P) × Replies old command reply mid × AreReplied Replies mid commands replies new
+AreReplied Replies old commands replies new = ⊥
 
-answered-one : {P : Type 0} (Replies : P → Command → Reply → P → Type 0) (old new : P) (bytes : List ℕ) (found : Found) (words : List (List ℕ)) (exchange : Exchange)
-    → request bytes ≡ Ok (Some found) → found.words ≡ words → 0 < length words → Answered Replies old words exchange.asked exchange.answer new
-    → AreAnswered Replies old new bytes (exchange ∷ []) (drop found.end bytes)
-answered-one Replies old new bytes found [] exchange next is some answered = absurd (omega arith)
-answered-one Replies old new bytes found (word ∷ words) exchange next is some answered =
-    let t = took bytes [] bytes [] found refl refl next in
+abbrev pub exchanges_of : List Taken → List Reply → List Exchange
+exchanges_of [] got = []
+exchanges_of (Says fault ∷ taken) got = (record { asked = None; answer = Error fault }) ∷ exchanges_of taken got
+exchanges_of (Asks command ∷ taken) [] = []
+exchanges_of (Asks command ∷ taken) (reply ∷ got) = (record { asked = Some command; answer = reply }) ∷ exchanges_of taken got
+
+pub replied-fits : {P : Type 0} (Replies : P → Command → Reply → P → Type 0) (old new : P) (asked : List Command) (got : List Reply) → AreReplied Replies old asked got new → length got ≡ length asked
+replied-fits Replies old new [] [] replied = refl
+replied-fits Replies old new [] (reply ∷ got) replied = absurd replied
+replied-fits Replies old new (command ∷ asked) [] replied = absurd replied
+replied-fits Replies old new (command ∷ asked) (reply ∷ got) (mid, step, rest) = omega (arith, replied-fits Replies mid new asked got rest)
+
+said : (words : List (List ℕ)) (fault : Fault) → IsTaken words (Says fault) → ((other : Fault) × (command_of_words words ≡ Err other) × (Error fault ≡ Error other)) ⊎ (Error fault ≡ Error Memory)
+said words fault (inl is) = inl (fault, is, refl)
+said words fault (inr memory) = inr (ap Error memory)
+
+pub run-taken : {P : Type 0} (Replies : P → Command → Reply → P → Type 0) (old new : P) (requests : List (List (List ℕ))) (taken : List Taken) (got : List Reply)
+    → AreTaken requests taken → AreReplied Replies old (asked_of taken) got new → Run Replies old requests (exchanges_of taken got) new
+run-taken Replies old new [] (one ∷ taken) got none replied = absurd (omega (arith, ap length none))
+run-taken Replies old new [] [] [] none replied = (refl, replied)
+run-taken Replies old new [] [] (reply ∷ got) none replied = absurd replied
+run-taken Replies old new ([] ∷ requests) taken got are replied = run-taken Replies old new requests taken got are replied
+run-taken Replies old new ((word ∷ words) ∷ requests) [] got (first, others, is, one, are) replied = absurd (omega (arith, ap length is))
+run-taken Replies old new ((word ∷ words) ∷ requests) (Says fault ∷ taken) got (first, others, is, one, are) replied =
+    let same : first ≡ Says fault = cc in
+    let rest : others ≡ taken = cc in (
+      record { asked = None; answer = Error fault },
+      exchanges_of taken got,
+      old,
+      refl,
+      (refl, said (word ∷ words) fault (subst (IsTaken (word ∷ words)) same one)),
+      run-taken Replies old new requests taken got (subst (AreTaken requests) rest are) replied,
+    )
+run-taken Replies old new ((word ∷ words) ∷ requests) (Asks command ∷ taken) [] taken_so replied = absurd replied
+run-taken Replies old new ((word ∷ words) ∷ requests) (Asks command ∷ taken) (reply ∷ got) (first, others, is, one, are) (mid, step, replied) =
+    let same : first ≡ Asks command = cc in
+    let rest : others ≡ taken = cc in (
+      record { asked = Some command; answer = reply },
+      exchanges_of taken got,
+      mid,
+      refl,
+      (subst (IsTaken (word ∷ words)) same one, step),
+      run-taken Replies mid new requests taken got (subst (AreTaken requests) rest are) replied,
+    )
+
+answers-refused : (ended : Option Ending) (got : List Reply) → answers_to (refusal ended) got ≡ map Some (refusals ended)
+answers-refused None got = refl
+answers-refused (Some ending.Closed) got = refl
+answers-refused (Some ending.Cut) got = refl
+answers-refused (Some ending.Quit) got = refl
+answers-refused (Some ending.Protocol) got = refl
+
+-- the answers to all that was taken, where each reply is there
+pub answers-all : (taken : List Taken) (got : List Reply) (ended : Option Ending) → length got ≡ length (asked_of taken)
+    → answers_to (taken ++ refusal ended) got ≡ map Some (map (λ (exchange : Exchange). exchange.answer) (exchanges_of taken got) ++ refusals ended)
+answers-all [] got ended fits = answers-refused ended got
+answers-all (Says fault ∷ taken) got ended fits = ap (λ answers. Some (Error fault) ∷ answers) (answers-all taken got ended fits)
+answers-all (Asks command ∷ taken) [] ended fits = absurd (omega (arith, fits))
+answers-all (Asks command ∷ taken) (reply ∷ got) ended fits = ap (λ answers. Some reply ∷ answers) (answers-all taken got ended (omega (arith, fits)))
+
+quits-is : (command : Command) → quits (Asks command) ≡ is_quit (Some command)
+quits-is Quit = refl
+quits-is _ = refl
+
+has-quit : (taken : List Taken) (got : List Reply) → length got ≡ length (asked_of taken) → asks_quit (exchanges_of taken got) ≡ has_quit taken
+has-quit [] got fits = refl
+has-quit (Says fault ∷ taken) got fits = has-quit taken got fits
+has-quit (Asks command ∷ taken) [] fits = absurd (omega (arith, fits))
+has-quit (Asks command ∷ taken) (reply ∷ got) fits =
+    ap (λ b. b || asks_quit (exchanges_of taken got)) (sym (quits-is command)) ∙ ap (λ b. quits (Asks command) || b) (has-quit taken got (omega (arith, fits)))
+
+pub goes-behind : (ended : Option Ending) (taken : List Taken) (got : List Reply) (rest : List ℕ) (held : Held) → length got ≡ length (asked_of taken) → Goes ended taken rest held
+    → GoesBehind ended (exchanges_of taken got) rest held
+goes-behind None taken got rest held fits goes = (goes.0, has-quit taken got fits ∙ goes.1)
+goes-behind (Some ending.Quit) taken got rest held fits (is, (before, all, none)) =
+    has-quit taken got fits ∙ ap has_quit all ∙ list_any-append quits before (Asks Quit ∷ []) ∙ ap (λ b. b || true) none
+goes-behind (Some ending.Protocol) taken got rest held fits (none, (wrong, fault, is)) = (has-quit taken got fits ∙ none, (wrong, fault))
+goes-behind (Some ending.Closed) taken got rest held fits goes = absurd goes
+goes-behind (Some ending.Cut) taken got rest held fits goes = absurd goes
+
+-- the port gives no answer to the first request that has words
+pub left-one : {P : Type 0} (Replies : P → Command → Reply → P → Type 0) (Fails : P → Command → P → Type 0) (old new : P) (command : Command) → Fails old command new
+    → (requests : List (List (List ℕ))) (bytes front rest : List ℕ) → AreTaken requests (Asks command ∷ []) → bytes ≡ front ++ rest → SpellsAll front requests → LeavesOne Replies Fails old new bytes
+left-one Replies Fails old new command fails [] bytes front rest are is spelled = absurd (omega (arith, ap length are))
+left-one Replies Fails old new command fails ([] ∷ requests) bytes front rest are is (first, others, split, spells, all) =
+    let later = left-one Replies Fails old new command fails requests (others ++ rest) others rest are refl all in
+    let a = later.answered in
     record {
-      requests = (word ∷ words) ∷ [];
-      front = t.first;
-      bytes_are = t.split;
-      spelled = subst (λ w. SpellsAll t.first (w ∷ [])) is t.spelled;
-      run = (exchange, [], new, refl, answered, (refl, refl));
+      rest = later.rest;
+      answered =
+          record {
+            requests = [] ∷ a.requests;
+            front = first ++ a.front;
+            bytes_are = is ∙ ap (λ f. f ++ rest) split ∙ append_assoc first others rest ∙ ap (λ o. first ++ o) a.bytes_are ∙ sym (append_assoc first a.front later.rest);
+            spelled = (first, a.front, refl, spells, a.spelled);
+            run = a.run;
+          };
+      fails = later.fails;
     }
-
--- the next request has words, which are answered
-pub one-answered : {P : Type 0} (Replies : P → Command → Reply → P → Type 0) (old new : P) (bytes : List ℕ) (before held : Held) (words : List (List ℕ)) (reply : Reply) (is_last empty : Bool)
-    → before ≡ Ok bytes → Next before (Ok (Some words)) held → empty ≡ (length words == 0) → empty ≡ false
-    → (asked : Option Command) × Answered Replies old words asked reply new × (is_last ≡ is_quit asked)
-    → (rest : List ℕ) × (exchange : Exchange) × AreAnswered Replies old new bytes (exchange ∷ []) rest × (held ≡ Ok rest) × (exchange.answer ≡ reply) × (is_quit exchange.asked ≡ is_last)
-one-answered Replies old new bytes before held words reply is_last empty is next are some (asked, answered, quits) =
-    let n = next-words before bytes words held is next in
-    let exchange : Exchange = record { asked = asked; answer = reply } in
-    (drop n.found.end bytes, exchange, answered-one Replies old new bytes n.found words exchange n.read n.words_are (empty-some words empty are some) answered, n.left, refl, sym quits)
-
--- the port answers none
-pub port-fails : {P : Type 0} (Fails : P → Command → P → Type 0) (old new : P) (bytes : List ℕ) (found : Found) (words : List (List ℕ)) (command : Command)
-    → request bytes ≡ Ok (Some found) → found.words ≡ words → command_of_words words ≡ Ok command → Fails old command new → PortFails Fails old new bytes
-port-fails Fails old new bytes found words command next is reads_as fails =
-    let t = took bytes [] bytes [] found refl refl next in
+left-one Replies Fails old new command fails ((word ∷ words) ∷ requests) bytes front rest (one, more, split, taken_so, are) is (first, others, parts, spells, all) =
+    let same : one ≡ Asks command = cc in
     record {
-      first = t.first;
-      others = drop found.end bytes;
-      words = words;
-      command = command;
-      rest_is = t.split;
-      spelled = subst (λ w. Spells t.first w) is t.spells;
-      reads_as = reads_as;
-      fails = fails;
+      rest = bytes;
+      answered = answered-none Replies old bytes;
+      fails =
+          record {
+            first = first;
+            others = others ++ rest;
+            words = word ∷ words;
+            command = command;
+            rest_is = is ∙ ap (λ f. f ++ rest) parts ∙ append_assoc first others rest;
+            spelled = spells;
+            reads_as = subst (IsTaken (word ∷ words)) same taken_so;
+            fails = fails;
+          };
     }

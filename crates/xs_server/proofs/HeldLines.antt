@@ -5,7 +5,7 @@ use Rattle.std.specs.List.{list_any}
 use Rattle.std.proofs.lemmas.List.{append-nil, take-append-drop, take-append-le, drop-append-le, length-take-le}
 use Rattle.std.proofs.lemmas.List.Folds.{list_any-append}
 use Rattle.xs_server.specs.Line.{is_line_end}
-use Rattle.xs_server.proofs.MachineTurns.{none-came}
+use Rattle.xs_server.proofs.Emptiness.{none-came}
 
 cut-at : (held front rest : List ℕ) (n : ℕ) → held ≡ front ++ 10 ∷ rest → length front ≡ n → (take n held ≡ front) × (drop (n + 1) held ≡ rest)
 cut-at held front rest n is len =

@@ -1,5 +1,5 @@
 pub mod Reports
-pub mod MachineTurns
+pub mod Emptiness
 pub mod LineEnds
 pub mod HeldLines
 pub mod ScriptLines

@@ -1,5 +1,5 @@
 -- Texts that a writer takes one after the other, and what is said of work.
-use Rattle.std.proofs.Common.{◌≡◌, ◌⊎◌, inl, inr, refl, Bool, true, ℕ, List, ◌++◌, Option, sym, ap, ◌∙◌, append_assoc}
+use Rattle.std.proofs.Common.{◌≡◌, ◌⊎◌, inl, inr, refl, Bool, true, false, ℕ, List, ◌++◌, Option, sym, ap, ◌∙◌, append_assoc}
 use Rattle.std.proofs.Common.{Result, Ok, Err, IfOk}
 use Rattle.std.specs.Io.KnownBytes.{Appends}
 use Rattle.std.proofs.KnownBytes.{Appends-trans}
@@ -35,20 +35,23 @@ is-cause work.Close = inr (inr refl)
 is-cause work.Memory = inl refl
 
 -- the status is 0 only after an outcome
-pub closed-at-zero : {W A : Type 0} (IsDone : A → Type 0) (worked : Result A WorkFault) (status : ℕ) (old new : W) (held holds : Option (List ℕ)) (broken : Bool) → IfOk worked IsDone → ReportsWork worked status old new held holds broken → status ≡ 0 → (outcome : A) × IsDone outcome
-closed-at-zero IsDone (Ok outcome) status old new held holds broken closed told zero = (outcome, closed)
-closed-at-zero IsDone (Err fault) status old new held holds broken closed told zero =
+pub closed-at-zero : {W A B : Type 0} (fault_of : B → WorkFault) (IsDone : A → Type 0) (worked : Result A B) (status : ℕ) (old new : W) (held holds : Option (List ℕ)) (broken : Bool)
+    → IfOk worked IsDone → ReportsWork fault_of worked status old new held holds broken → status ≡ 0 → (outcome : A) × IsDone outcome
+closed-at-zero fault_of IsDone (Ok outcome) status old new held holds broken closed told zero = (outcome, closed)
+closed-at-zero fault_of IsDone (Err failed) status old new held holds broken closed told zero =
     let bad : 1 ≡ 0 = sym told.0 ∙ zero in absurd cc
 
 -- it is 0 and nothing is said, or 1 and a cause is said
-pub told-of-work : {W A : Type 0} (worked : Result A WorkFault) (status : ℕ) (old new : W) (held holds : Option (List ℕ)) (broken : Bool) → ReportsWork worked status old new held holds broken → ((status ≡ 0) × (new ≡ old)) ⊎ ((status ≡ 1) × (cause : List ℕ) × IsServeCause cause × Says cause held holds broken)
-told-of-work (Ok outcome) status old new held holds broken told = inl told
-told-of-work (Err fault) status old new held holds broken told = inr (told.0, work_text fault, is-cause fault, told.1)
+pub told-of-work : {W A B : Type 0} (fault_of : B → WorkFault) (worked : Result A B) (status : ℕ) (old new : W) (held holds : Option (List ℕ)) (broken : Bool)
+    → ReportsWork fault_of worked status old new held holds broken → ((status ≡ 0) × (new ≡ old)) ⊎ ((status ≡ 1) × (cause : List ℕ) × IsServeCause cause × Says cause held holds broken)
+told-of-work fault_of (Ok outcome) status old new held holds broken told = inl told
+told-of-work fault_of (Err failed) status old new held holds broken told = inr (told.0, work_text (fault_of failed), is-cause (fault_of failed), told.1)
 
 -- after an outcome of work over new gates
-pub served-at-zero : {W G A : Type 0} (trace : G → GateTrace) (gates : List G) (n : ℕ) (now : A → List GateTrace) (summary : A → Summary) (worked : Result A WorkFault) (status : ℕ) (old new : W) (held holds : Option (List ℕ)) (broken : Bool)
-    → length gates ≡ n → All (λ gate. trace gate ≡ new_gate) gates → IfOk worked (λ outcome. IsClosed (map trace gates) (now outcome) (summary outcome))
-    → ReportsWork worked status old new held holds broken → status ≡ 0 → HasServed n
-served-at-zero trace gates n now summary worked status old new held holds broken count fresh closed told zero =
-    let done = closed-at-zero (λ outcome. IsClosed (map trace gates) (now outcome) (summary outcome)) worked status old new held holds broken closed told zero in
+pub served-at-zero : {W G A B : Type 0} (fault_of : B → WorkFault) (trace : G → GateTrace) (gates : List G) (n : ℕ) (now : A → List GateTrace) (summary : A → Summary) (worked : Result A B) (status : ℕ) (old new : W)
+    (held holds : Option (List ℕ)) (broken : Bool)
+    → length gates ≡ n → All (λ gate. trace gate ≡ new_gate) gates → IfOk worked (λ outcome. IsClosed false (map trace gates) (now outcome) (summary outcome))
+    → ReportsWork fault_of worked status old new held holds broken → status ≡ 0 → HasServed n
+served-at-zero fault_of trace gates n now summary worked status old new held holds broken count fresh closed told zero =
+    let done = closed-at-zero fault_of (λ outcome. IsClosed false (map trace gates) (now outcome) (summary outcome)) worked status old new held holds broken closed told zero in
     (map trace gates, now done.0, summary done.0, length-map gates trace ∙ count, All-map (λ (gate : GateTrace). gate ≡ new_gate) trace gates fresh, done.1)

@@ -6,7 +6,7 @@ use Rattle.std.proofs.lemmas.List.{append-nil}
 use Rattle.std.proofs.lemmas.Bool.{false≢true}
 use Rattle.xs_server.specs.Line.{is_line_end, onto_first, script_lines}
 use Rattle.xs_server.specs.Script.{with_end, AreLines}
-use Rattle.xs_server.specs.ScriptMachine.{IsRead, IsInHand}
+use Rattle.xs_server.specs.ScriptRun.{IsRead, IsInHand}
 
 -- a line that ends with LF is a line
 pub lines-ended : (line tail : List ℕ) → list_any is_line_end line ≡ false → script_lines (line ++ 10 ∷ tail) ≡ line ∷ script_lines tail

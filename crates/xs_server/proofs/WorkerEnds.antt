@@ -1,10 +1,14 @@
 -- The ends that come back from the workers of a desk.
-use Rattle.std.specs.Prelude.{◌≡◌, ℕ, zero, suc, ◌+◌, ◌<◌, ◌≤◌, false, List, [], ◌∷◌, ◌++◌, length, map, slice_get, Some, ⊤, Result, Ok, Err, OnOk, is_err, refl}
+use Rattle.std.specs.Prelude.{◌≡◌, ℕ, zero, suc, ◌+◌, ◌<◌, ◌≤◌, Bool, true, false, List, [], ◌∷◌, ◌++◌, length, map, slice_get, Some, ⊤, Result, Ok, Err, is_err, refl}
 use Rattle.std.proofs.Common.{inl, inr, sym, ◌∙◌, ap, subst, arith, append_assoc}
 use Rattle.std.specs.Result.{result_and}
 use Rattle.std.proofs.lemmas.List.{append-nil, length-map, map-append}
-use Rattle.xs_desk.specs.Callers.{Caller, HasEnd}
-use Rattle.xs_desk.specs.History.{LaneOf}
+use Rattle.xs_bytes.specs.SortedMap.{empty}
+use Rattle.xs_keys.specs.Headline.{RunsOn}
+use Rattle.xs_desk.specs.declared.summary.Summary.{Summary}
+use Rattle.xs_desk.specs.Callers.{Caller, AreEnds, HasEnd}
+use Rattle.xs_desk.specs.Closing.{SumUp}
+use Rattle.xs_desk.specs.History.{LaneOf, ServedCall, Desk, IsHistory, events_of, replies_of}
 use Rattle.xs_desk.specs.KeptRings.{KeepsSide, KeepSides}
 use Rattle.xs_desk.specs.Opening.{AreNew}
 use Rattle.xs_desk.specs.Opening.{IsDeskError}
@@ -15,8 +19,8 @@ use Rattle.xs_server.specs.declared.work.worker.WorkerFault.{WorkerFault}
 use Rattle.xs_server.specs.declared.work.fault.WorkFault.TheVariants as work
 use Rattle.xs_server.specs.Gates.{GateTrace}
 use Rattle.xs_server.specs.Workers.{Works, WorkEach}
-use Rattle.xs_server.specs.WorkOutcome.{AreServed, IsUnused, IsWorkFault}
-use Rattle.xs_server.proofs.AheadWork.{works-side}
+use Rattle.xs_server.specs.WorkOutcome.{AreServed, IsClosed, IsUnused, IsWorkFault}
+use Rattle.xs_server.proofs.AheadWork.{works-side, gate-lost}
 use Rattle.xs_desk.proofs.Lists.{snoc-cases, still-at, last-at, some-at}
 
 pub sides-none : KeepSides [] []
@@ -74,13 +78,23 @@ fewer_lanes depth n work.Close few is = is
 fewer_lanes depth n work.Memory few is = ((is.0.0, few), is.1)
 
 -- no worker has ended yet
-pub work-none : WorkEach [] [] [] []
+pub work-none : WorkEach false [] [] [] []
 work-none i end at = absurd (cc)
 
+-- of a worker that may have had a fault less is said
+works-loose : (faulty : Bool) (first last : Caller) (before now : GateTrace) → Works faulty first last before now → Works true first last before now
+works-loose true first last before now w = w
+works-loose false first last before now w = record { served = gate-lost first last before now w.served; over = λ no. absurd cc }
+
+work-loose : (faulty : Bool) (clients ends : List Caller) (before now : List GateTrace) → WorkEach faulty clients ends before now → WorkEach true clients ends before now
+work-loose faulty clients ends before now each i end at =
+    let (client, first, last, ac, af, al, works) = each i end at in
+    (client, first, last, ac, af, al, works-loose faulty client end first last works)
+
 -- one more has
-pub work-more : (clients ends : List Caller) (before now : List GateTrace) (client end : Caller) (first last : GateTrace) → length clients ≡ length ends → length before ≡ length ends → length now ≡ length ends
-    → WorkEach clients ends before now → Works false client end first last → WorkEach (clients ++ client ∷ []) (ends ++ end ∷ []) (before ++ first ∷ []) (now ++ last ∷ [])
-work-more clients ends before now client end first last cs bs ns each works i e at = elim (snoc-cases ends end i e at) [
+work-more : (faulty : Bool) (clients ends : List Caller) (before now : List GateTrace) (client end : Caller) (first last : GateTrace) → length clients ≡ length ends → length before ≡ length ends → length now ≡ length ends
+    → WorkEach faulty clients ends before now → Works faulty client end first last → WorkEach faulty (clients ++ client ∷ []) (ends ++ end ∷ []) (before ++ first ∷ []) (now ++ last ∷ [])
+work-more faulty clients ends before now client end first last cs bs ns each works i e at = elim (snoc-cases ends end i e at) [
   | inl p ↦
       let (c, f, l, ac, af, al, w) = each i e p in
       (c, f, l, still-at clients client i c ac, still-at before first i f af, still-at now last i l al, w)
@@ -91,7 +105,7 @@ work-more clients ends before now client end first last cs bs ns each works i e 
     subst (λ (j : ℕ). slice_get (clients ++ client ∷ []) j ≡ Some client) (cs ∙ sym p.0) (last-at clients client),
     subst (λ (j : ℕ). slice_get (before ++ first ∷ []) j ≡ Some first) (bs ∙ sym p.0) (last-at before first),
     subst (λ (j : ℕ). slice_get (now ++ last ∷ []) j ≡ Some last) (ns ∙ sym p.0) (last-at now last),
-    subst (λ (x : Caller). Works false client x first last) (sym p.1) works,
+    subst (λ (x : Caller). Works faulty client x first last) (sym p.1) works,
   )
 ]
 
@@ -104,12 +118,12 @@ new-unused k depth (lane ∷ lanes) (first ∷ clients) new zero client at =
 new-unused k depth (lane ∷ lanes) (first ∷ clients) new (suc i) client at = new-unused (k + 1) depth lanes clients new.1 i client at
 
 -- workers over the clients of a new desk, one for each gate
-pub served-gates : (depth : ℕ) (lanes : List LaneOf) (clients ends : List Caller) (before now : List GateTrace) → AreNew 0 depth lanes clients → length lanes ≡ length before → length ends ≡ length clients
-    → length now ≡ length clients → WorkEach clients ends before now → AreServed ends before now
-served-gates depth lanes clients ends before now new count es ns each = record {
+pub served-gates : (faulty : Bool) (depth : ℕ) (lanes : List LaneOf) (clients ends : List Caller) (before now : List GateTrace) → AreNew 0 depth lanes clients → length lanes ≡ length before → length ends ≡ length clients
+    → length now ≡ length clients → WorkEach faulty clients ends before now → AreServed faulty ends before now
+served-gates faulty depth lanes clients ends before now new count es ns each = record {
   each = λ i end at.
       let (client, first, last, ac, af, al, works) = each i end at in
-      let side = works-side false client end first last works in
+      let side = works-side faulty client end first last works in
       (client, first, last, side.0 ∙ new-number 0 depth lanes clients new i client ac ∙ omega arith, new-unused 0 depth lanes clients new i client ac, af, al, works);
   ends_count = es ∙ new-count 0 depth lanes clients new ∙ count;
   gates_count = ns ∙ new-count 0 depth lanes clients new ∙ count;
@@ -120,37 +134,54 @@ map-of-map f h [] = refl
 map-of-map f h (x ∷ xs) = ap (λ ys. f (h x) ∷ ys) (map-of-map f h xs)
 
 work-and : (one other : Result ⊤ WorkerFault) (clients ends : List Caller) (before now : List GateTrace) (client end : Caller) (first last : GateTrace) → length clients ≡ length ends → length before ≡ length ends
-    → length now ≡ length ends → OnOk one (WorkEach clients ends before now) → Works (is_err other) client end first last
-    → OnOk (result_and one other) (WorkEach (clients ++ client ∷ []) (ends ++ end ∷ []) (before ++ first ∷ []) (now ++ last ∷ []))
-work-and (Ok done) (Ok also) clients ends before now client end first last cs bs ns each works = work-more clients ends before now client end first last cs bs ns each works
-work-and (Ok done) (Err fault) clients ends before now client end first last cs bs ns each works = tt
-work-and (Err fault) other clients ends before now client end first last cs bs ns each works = tt
+    → length now ≡ length ends → WorkEach (is_err one) clients ends before now → Works (is_err other) client end first last
+    → WorkEach (is_err (result_and one other)) (clients ++ client ∷ []) (ends ++ end ∷ []) (before ++ first ∷ []) (now ++ last ∷ [])
+work-and (Ok done) (Ok also) clients ends before now client end first last cs bs ns each works = work-more false clients ends before now client end first last cs bs ns each works
+work-and (Ok done) (Err fault) clients ends before now client end first last cs bs ns each works =
+    work-more true clients ends before now client end first last cs bs ns (work-loose false clients ends before now each) works
+work-and (Err fault) other clients ends before now client end first last cs bs ns each works =
+    work-more true clients ends before now client end first last cs bs ns each (works-loose (is_err other) client end first last works)
 
 -- one more was joined, whose end and gate are put behind the others
 pub joined-more : {G : Type 0} (trace : G → GateTrace) (one other result : Result ⊤ WorkerFault) (clients ends later : List Caller) (before : List GateTrace) (gates after : List G) (client end : Caller) (first : GateTrace) (gate : G)
     → length clients ≡ length ends → length before ≡ length ends → length gates ≡ length ends → later ≡ ends ++ end ∷ [] → after ≡ gates ++ gate ∷ [] → result ≡ result_and one other
-    → OnOk one (WorkEach clients ends before (map trace gates)) → Works (is_err other) client end first (trace gate)
-    → OnOk result (WorkEach (clients ++ client ∷ []) later (before ++ first ∷ []) (map trace after))
+    → WorkEach (is_err one) clients ends before (map trace gates) → Works (is_err other) client end first (trace gate)
+    → WorkEach (is_err result) (clients ++ client ∷ []) later (before ++ first ∷ []) (map trace after)
 joined-more trace one other result clients ends later before gates after client end first gate cs bs gs grown kept joined each works =
     let now : map trace after ≡ map trace gates ++ trace gate ∷ [] = ap (map trace) kept ∙ map-append trace gates (gate ∷ []) in
     let more = work-and one other clients ends before (map trace gates) client end first (trace gate) cs bs (length-map gates trace ∙ gs) each works in
     let firsts = clients ++ client ∷ [] in
     let befores = before ++ first ∷ [] in
-    subst (λ (r : Result ⊤ WorkerFault). OnOk r (WorkEach firsts later befores (map trace after))) (sym joined)
-    (subst (λ (es : List Caller). OnOk (result_and one other) (WorkEach firsts es befores (map trace after))) (sym grown)
-    (subst (λ (ns : List GateTrace). OnOk (result_and one other) (WorkEach firsts (ends ++ end ∷ []) befores ns)) (sym now) more))
+    subst (λ (r : Result ⊤ WorkerFault). WorkEach (is_err r) firsts later befores (map trace after)) (sym joined)
+    (subst (λ (es : List Caller). WorkEach (is_err (result_and one other)) firsts es befores (map trace after)) (sym grown)
+    (subst (λ (ns : List GateTrace). WorkEach (is_err (result_and one other)) firsts (ends ++ end ∷ []) befores ns) (sym now) more))
 
 -- so it is where there is a worker for each client of a new desk and each gate
-pub served-pool : {W G : Type 0} (client_of : W → Caller) (gate_of : W → G) (trace : G → GateTrace) (outcome : Result ⊤ WorkerFault) (depth : ℕ) (lanes : List LaneOf) (clients ends : List Caller) (gates later : List G)
+pub served-pool : {W G : Type 0} (client_of : W → Caller) (gate_of : W → G) (trace : G → GateTrace) (faulty : Bool) (depth : ℕ) (lanes : List LaneOf) (clients ends : List Caller) (gates later : List G)
     (workers : List W) → AreNew 0 depth lanes clients → length lanes ≡ length gates → map client_of workers ≡ clients → map gate_of workers ≡ gates → length ends ≡ length workers → length later ≡ length workers
-    → OnOk outcome (WorkEach (map client_of workers) ends (map (λ w. trace (gate_of w)) workers) (map trace later)) → OnOk outcome (AreServed ends (map trace gates) (map trace later))
-served-pool client_of gate_of trace (Err fault) depth lanes clients ends gates later workers new count cs gs es ls each = tt
-served-pool client_of gate_of trace (Ok done) depth lanes clients ends gates later workers new count cs gs es ls each =
+    → WorkEach faulty (map client_of workers) ends (map (λ w. trace (gate_of w)) workers) (map trace later) → AreServed faulty ends (map trace gates) (map trace later)
+served-pool client_of gate_of trace faulty depth lanes clients ends gates later workers new count cs gs es ls each =
     let n : length workers ≡ length clients = sym (length-map workers client_of) ∙ ap length cs in
     let traces : map (λ w. trace (gate_of w)) workers ≡ map trace gates = sym (map-of-map trace gate_of workers) ∙ ap (map trace) gs in
-    let over = subst (λ (bs : List GateTrace). WorkEach (map client_of workers) ends bs (map trace later)) traces each in
-    served-gates depth lanes clients ends (map trace gates) (map trace later) new (count ∙ sym (length-map gates trace)) (es ∙ n) (length-map later trace ∙ (ls ∙ n))
-    (subst (λ (firsts : List Caller). WorkEach firsts ends (map trace gates) (map trace later)) cs over)
+    let over = subst (λ (bs : List GateTrace). WorkEach faulty (map client_of workers) ends bs (map trace later)) traces each in
+    served-gates faulty depth lanes clients ends (map trace gates) (map trace later) new (count ∙ sym (length-map gates trace)) (es ∙ n) (length-map later trace ∙ (ls ∙ n))
+    (subst (λ (firsts : List Caller). WorkEach faulty firsts ends (map trace gates) (map trace later)) cs over)
+
+-- a desk whose workers did this was closed
+pub closed-desk : (faulty : Bool) (desk : Desk) (ends : List Caller) (before now : List GateTrace) (summary : Summary) → AreEnds desk.lanes ends → SumUp desk.lanes ends (length desk.lanes) summary.lanes.items
+    → ((history : List ServedCall) × IsHistory history desk × RunsOn empty (events_of history) (replies_of history) summary.keyspace) → length desk.lanes ≡ length before → AreServed faulty ends before now
+    → IsClosed faulty before now summary
+closed-desk faulty desk ends before now summary are lanes history count served = record {
+  desk = desk;
+  ends = ends;
+  history = history.0;
+  count = count;
+  are_ends = are;
+  served = served;
+  lanes = subst (λ (n : ℕ). SumUp desk.lanes ends n summary.lanes.items) count lanes;
+  is_history = history.1;
+  runs = history.2;
+}
 
 -- the same gates have the same traces
 pub same-traces : {A B G : Type 0} (trace : G → GateTrace) (f : A → G) (h : B → G) (xs : List A) (ys : List B) → map f xs ≡ map h ys → map (λ x. trace (f x)) xs ≡ map (λ y. trace (h y)) ys

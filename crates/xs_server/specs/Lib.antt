@@ -1,8 +1,8 @@
-pub mod Machine
+pub mod Cause
 pub mod Line
 pub mod Answering
 pub mod Script
-pub mod ScriptMachine
+pub mod ScriptRun
 pub mod Report
 pub mod CommandLine
 pub mod Exchange

@@ -68,6 +68,7 @@ Says text old new broken =
 
 -- the status of the program after work, and what it says: nothing after an outcome, else the line of the fault
 abbrev pub ReportsWork :
-    {W A : Type 0} → Result A WorkFault → ℕ → W → W → Option (List ℕ) → Option (List ℕ) → Bool → Type 0
-ReportsWork (Ok outcome) status old new held holds broken = (status ≡ 0) × (new ≡ old)
-ReportsWork (Err fault) status old new held holds broken = (status ≡ 1) × Says (work_text fault) held holds broken
+    {W A B : Type 0} → (B → WorkFault) → Result A B → ℕ → W → W → Option (List ℕ) → Option (List ℕ) → Bool → Type 0
+ReportsWork fault_of (Ok outcome) status old new held holds broken = (status ≡ 0) × (new ≡ old)
+ReportsWork fault_of (Err failed) status old new held holds broken =
+    (status ≡ 1) × Says (work_text (fault_of failed)) held holds broken

@@ -14,7 +14,7 @@ use Rattle.xs_session.specs.declared.ending.Ending.TheVariants as ending
 use Rattle.xs_server.specs.declared.connections.ending.ServeFault.{ServeFault}
 use Rattle.xs_server.specs.declared.connections.ending.ServeFault.TheVariants as fault
 use Rattle.xs_devices.specs.Device.{counter_at}
-use Rattle.xs_server.specs.Machine.{Cause, itself, input, reader, writer}
+use Rattle.xs_server.specs.Cause.{Cause, itself, input, reader, writer}
 use Rattle.xs_server.specs.Exchange.{Exchange, AreAnswered, texts, is_quit, has_quit}
 
 -- the answers are written, and none of them is to a QUIT

@@ -1,5 +1,5 @@
 -- What work over gates comes to.
-use Rattle.std.specs.Prelude.{◌≡◌, ℕ, false, List, [], length, slice_get, Some, All}
+use Rattle.std.specs.Prelude.{◌≡◌, ◌⊎◌, ℕ, Bool, false, List, [], length, slice_get, Some, All}
 use Rattle.xs_bytes.specs.SortedMap.{empty}
 use Rattle.xs_keys.specs.Headline.{RunsOn}
 use Rattle.xs_desk.specs.declared.summary.Summary.{Summary}
@@ -20,26 +20,26 @@ use Rattle.xs_server.specs.declared.work.logged.LoggedEnd.TheVariants as logged
 abbrev pub IsUnused : Caller → Type 0
 IsUnused client = (client.submitted ≡ []) × (client.taken ≡ [])
 
--- Each end is of the lane of its place. The gate of that place was served to its end through that lane, from the lane's
--- first call to its last. Each gate is there, and came back.
-pub record AreServed (ends : List Caller) (before now : List GateTrace) : Type 0 where
+-- Each end is of the lane of its place. The gate of that place was served through that lane, from the lane's first call
+-- to its last, and to its end unless a worker had a fault. Each gate is there, and came back.
+pub record AreServed (faulty : Bool) (ends : List Caller) (before now : List GateTrace) : Type 0 where
   pub each : (i : ℕ) (end : Caller) → slice_get ends i ≡ Some end
       → (client : Caller) × (first last : GateTrace) × (end.lane ≡ i) × IsUnused client
-      × (slice_get before i ≡ Some first) × (slice_get now i ≡ Some last) × Works false client end first last
+      × (slice_get before i ≡ Some first) × (slice_get now i ≡ Some last) × Works faulty client end first last
   pub ends_count : length ends ≡ length before
   pub gates_count : length now ≡ length before
 
 -- A desk was closed that has a lane for each gate. The ends that came back are sides of its lanes, each gate was served
--- to its end through its lane, and the summary has a part for each lane, which counts what its two sides tell; the
--- calls that were served, in the order of their places, are the history of the desk; and they are a run from the empty
--- keyspace on, which gave these replies and left the summary's keyspace.
-pub record IsClosed (before now : List GateTrace) (summary : Summary) : Type 0 where
+-- through its lane, and to its end unless a worker had a fault, and the summary has a part for each lane, which counts
+-- what its two sides tell; the calls that were served, in the order of their places, are the history of the desk; and
+-- they are a run from the empty keyspace on, which gave these replies and left the summary's keyspace.
+pub record IsClosed (faulty : Bool) (before now : List GateTrace) (summary : Summary) : Type 0 where
   pub desk : Desk
   pub ends : List Caller
   pub history : List ServedCall
   pub count : length desk.lanes ≡ length before
   pub are_ends : AreEnds desk.lanes ends
-  pub served : AreServed ends before now
+  pub served : AreServed faulty ends before now
   pub lanes : SumUp desk.lanes ends (length before) summary.lanes.items
   pub is_history : IsHistory history desk
   pub runs : RunsOn empty (events_of history) (replies_of history) summary.keyspace
@@ -48,13 +48,17 @@ pub record IsClosed (before now : List GateTrace) (summary : Summary) : Type 0 w
 abbrev pub HasServed : ℕ → Type 0
 HasServed n =
     (before now : List GateTrace) × (summary : Summary) × (length before ≡ n) × All (λ gate. gate ≡ new_gate) before
-    × IsClosed before now summary
+    × IsClosed false before now summary
 
 -- what the fault of a worker is for work
 abbrev pub work_fault : WorkerFault → WorkFault
 work_fault worker.Start = fault.Start
 work_fault worker.Gate = fault.Gate
 work_fault worker.Lane = fault.Lane
+
+-- the fault of a worker that had begun
+abbrev pub IsOfWorker : WorkFault → Type 0
+IsOfWorker why = (why ≡ fault.Gate) ⊎ (why ≡ fault.Lane)
 
 -- there was no desk for so many lanes of so many places; or there was one, and something else was amiss
 abbrev pub IsWorkFault : ℕ → ℕ → ℕ → WorkFault → Type 0

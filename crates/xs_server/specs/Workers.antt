@@ -55,8 +55,8 @@ pub record Works (faulty : Bool) (first last : Caller) (before now : GateTrace) 
   pub over : faulty ≡ false → now.is_over ≡ true
 
 -- so did each worker, from its client to its end, over its gate
-abbrev pub WorkEach : List Caller → List Caller → List GateTrace → List GateTrace → Type 0
-WorkEach clients ends before now =
+abbrev pub WorkEach : Bool → List Caller → List Caller → List GateTrace → List GateTrace → Type 0
+WorkEach faulty clients ends before now =
     (i : ℕ) (end : Caller) → slice_get ends i ≡ Some end
     → (client : Caller) × (first last : GateTrace) × (slice_get clients i ≡ Some client)
-    × (slice_get before i ≡ Some first) × (slice_get now i ≡ Some last) × Works false client end first last
+    × (slice_get before i ≡ Some first) × (slice_get now i ≡ Some last) × Works faulty client end first last

@@ -1,7 +1,5 @@
-//! Connections: requests in, replies out, over any port.
+//! Connections: requests in, replies out, over any port or a lane.
 pub mod ahead;
-pub mod answering;
-pub mod connection;
 pub mod ending;
 pub mod serve;
 pub mod serve_alone;

@@ -14,7 +14,6 @@ mod limits;
 mod lines;
 mod log_threads;
 mod logged_command;
-mod machines;
 mod patience;
 mod report;
 mod run_command;

@@ -7,7 +7,7 @@ ghost use Rattle.xs_server.specs.Report.{Says, ready_text, ReportsWork};
 
 use crate::script::fault::ScriptFault;
 use crate::work::fault::WorkFault;
-use crate::work::working::WorkOutcome;
+use crate::work::working::{WorkFailed, WorkOutcome};
 use itoa::Buffer;
 use xs_desk::DeskError;
 use xs_devices::{Sink, write_all};
@@ -90,14 +90,14 @@ pub fn report_work<W: Sink>(errors: &mut W, fault: &WorkFault) -> u8
 /// Gives the status of the program after work: 0 for a summary; else 1, and the line of its fault is written.
 pub fn report_worked<W: Sink, G: Drop>(
     errors: &mut W,
-    worked: &Result<WorkOutcome<G>, WorkFault>,
+    worked: &Result<WorkOutcome<G>, WorkFailed<G>>,
 ) -> u8
-    ensures { ReportsWork worked.now result errors.old errors.new (W.held errors.old) (W.held errors.new)
-        (W.broken errors.new) }
+    ensures { ReportsWork (λ failed. failed.fault) worked.now result errors.old errors.new
+        (W.held errors.old) (W.held errors.new) (W.broken errors.new) }
 {
     match worked {
         Ok(_) => 0,
-        Err(fault) => report_work(errors, fault),
+        Err(failed) => report_work(errors, &failed.fault),
     }
 }
 

@@ -319,23 +319,30 @@ after-even read asked got sent ended held places owed s closed =
     let count : length (asked_of all) ≡ length asked = ap length (asked-refusal ended s.taken ∙ sym s.asked_is) in
     omega (arith, s.fits, closed-fits all got none, count)
 
--- nothing is read yet
-pub after-new : (ended : Option Ending) (held : Held) (places : List (Option Reply)) (owed : List ℕ) → ended ≡ None → held ≡ Ok [] → places ≡ [] → owed ≡ [] → IsAfter [] [] [] [] ended held places owed
-after-new ended held places owed going none empty all = subst (λ (e : Option Ending). IsAfter [] [] [] [] e held places owed) (sym going) (record {
+-- nothing is taken yet
+pub after-new : (bytes : List ℕ) (ended : Option Ending) (held : Held) (places : List (Option Reply)) (owed : List ℕ) → ended ≡ None → held ≡ Ok bytes → places ≡ [] → owed ≡ [] → IsAfter bytes [] [] [] ended held places owed
+after-new bytes ended held places owed going is empty all = subst (λ (e : Option Ending). IsAfter bytes [] [] [] e held places owed) (sym going) (record {
   requests = [];
   front = [];
-  rest = [];
+  rest = bytes;
   read_is = refl;
   spelled = refl;
   taken = [];
   are_taken = refl;
-  goes = (none, refl);
+  goes = (is, refl);
   asked_is = refl;
   fits = omega arith;
   begun = [];
   answers = sym empty;
   sent_is = sym all;
 })
+
+none-open : (alone : Bool) → MayBeOpen alone []
+none-open true = inl tt
+none-open false = tt
+
+pub session-new : (bytes : List ℕ) (session : Session) → session.ended ≡ None → session.requests ≡ Ok bytes → IsWritten session → SessionIsAfter bytes [] [] [] session
+session-new bytes session going is written = (after-new bytes session.ended session.requests session.places (bytes_left session.owed) going is written.0 written.1, none-open session.alone)
 
 -- ---- turns of a whole session
 

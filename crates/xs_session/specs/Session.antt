@@ -3,7 +3,9 @@ use Rattle.std.specs.Prelude.{◌≡◌, ◌⊎◌, ℕ, ◌≤◌, Bool, true, 
 use Rattle.std.specs.Prelude.{Option, Some, None, Ok, Err}
 use Rattle.std.specs.List.{flat_map}
 use Rattle.xs_resp.specs.declared.fault.Fault.TheVariants.{Protocol}
+use Rattle.xs_resp.specs.declared.fault.Fault.{Fault}
 use Rattle.xs_resp.specs.declared.reply.Reply.{Reply}
+use Rattle.xs_resp.specs.declared.reply.Reply.TheVariants.{Error}
 use Rattle.xs_resp.specs.declared.read_fault.ProtocolFault.{ProtocolFault}
 use Rattle.xs_resp.specs.ReplyText.{text}
 use Rattle.xs_resp.specs.Grammar.{SpellsAll, FaultIn, IsOpen}
@@ -107,6 +109,11 @@ Takes wants_words turn.Goes = Unit {0}
 Takes wants_words turn.Full = Unit {0}
 Takes wants_words (turn.Asks call) = IsFormed call × (wants_words ≡ true → is_some call.words ≡ true)
 Takes wants_words _ = ⊥
+
+-- a turn takes one place at most: of a call that is asked, which waits for its reply; else of an error, which is there
+abbrev pub TakesPlace : Turn → List (Option Reply) → List (Option Reply) → Type 0
+TakesPlace (turn.Asks call) old new = new ≡ old ++ None ∷ []
+TakesPlace _ old new = (new ≡ old) ⊎ ((fault : Fault) × (new ≡ old ++ Some (Error fault) ∷ []))
 
 -- it waits for bytes: no whole request is held, and no fault
 abbrev pub Waits : Option Ending → Held → Type 0

@@ -1,19 +1,20 @@
 //! The session of a connection.
-ghost use Rattle.std.specs.Prelude.{◌≡◌, ◌<◌, ◌++◌, ◌∷◌, ◌⊎◌, List, ℕ, [], Ok, Err, Some, None, true, false};
+ghost use Rattle.std.specs.Prelude.{◌≡◌, ◌≢◌, ◌+◌, ◌<◌, ◌++◌, ◌∷◌, ◌⊎◌, List, ℕ, [], Ok, Err, Some, None, true, false};
 ghost use Rattle.std.specs.Prelude.{length, is_some, if◌then◌else◌, IfOk, OnErr};
 ghost use Rattle.std.specs.Io.KnownBytes.{Keeps};
-ghost use Rattle.xs_devices.specs.Device.{Gave};
+ghost use Rattle.xs_devices.specs.Device.{counter_at, Gave};
 ghost use Rattle.xs_devices.specs.declared.fill.FillFault.{FillFault};
 ghost use Rattle.xs_resp.specs.declared.reply.Reply.{Reply};
-ghost use Rattle.xs_resp.specs.HeldBytes.{HasNext, Skips, holds_bytes};
+ghost use Rattle.xs_resp.specs.HeldBytes.{HasNext, Skips, holds_bytes, with_piece};
+ghost use Rattle.xs_resp.specs.ReplyText.{text};
 ghost use Rattle.xs_resp.specs.LeftToWrite.{bytes_left};
 ghost use Rattle.xs_command.specs.declared.command.Command.{Command};
 ghost use Rattle.xs_desk.specs.declared.answer.Call.{Call};
 ghost use Rattle.xs_desk.specs.Calls.{IsFormed};
 ghost use Rattle.xs_session.specs.declared.ending.Ending.{Ending};
-ghost use Rattle.xs_session.specs.Places.{has_open, NoneReady};
+ghost use Rattle.xs_session.specs.Places.{has_open, fill_first, NoneReady};
 ghost use Rattle.xs_session.specs.Answers.{is_alone};
-ghost use Rattle.xs_session.specs.Session.{SessionIsAfter, IsNew, IsWritten, Waits, Takes, AsksOrWaits};
+ghost use Rattle.xs_session.specs.Session.{SessionIsAfter, IsNew, IsWritten, Waits, Takes, TakesPlace, AsksOrWaits};
 ghost use Rattle.xs_session.specs.Session.{asked_in, ending_of};
 
 use crate::ending::Ending;
@@ -164,6 +165,7 @@ impl Session {
             (self.old.alone ≡ true) ⊎ (is_alone call.command ≡ true) → IsWritten self.old }
         ensures ended { (ending : Ending) → result ≡ Turn.Ends ending → self.new.ended ≡ Some ending }
         ensures waits { result ≡ Turn.Waits → Waits self.new.ended self.new.requests }
+        ensures places { TakesPlace result self.old.places self.new.places }
         ensures owed { self.new.owed ≡ self.old.owed }
     {
         match self.ended {
@@ -189,6 +191,7 @@ impl Session {
         ensures alone { (call : Call) → result ≡ Turn.Asks call → is_alone call.command ≡ true → IsWritten self.old }
         ensures ended { (ending : Ending) → result ≡ Turn.Ends ending → self.new.ended ≡ Some ending }
         ensures waits { result ≡ Turn.Waits → Waits self.new.ended self.new.requests }
+        ensures places { TakesPlace result self.old.places self.new.places }
         ensures owed { self.new.owed ≡ self.old.owed }
     {
         match self.requests.has_next() {
@@ -216,6 +219,7 @@ impl Session {
             SessionIsAfter read (asked ++ asked_in result) got sent self.new }
         ensures goes { Takes wants_words result }
         ensures alone { (call : Call) → result ≡ Turn.Asks call → is_alone call.command ≡ true → IsWritten self.old }
+        ensures places { TakesPlace result self.old.places self.new.places }
         ensures owed { self.new.owed ≡ self.old.owed }
     {
         let words = self.requests.front();
@@ -268,6 +272,7 @@ impl Session {
             SessionIsAfter read asked got sent self.old →
             SessionIsAfter read asked (got ++ reply ∷ []) sent self.new }
         ensures owed { self.new.owed ≡ self.old.owed }
+        ensures places { self.new.places ≡ fill_first reply self.old.places }
         ensures ended { self.new.ended ≡ self.old.ended }
         ensures held { self.new.requests ≡ self.old.requests }
     {
@@ -279,8 +284,11 @@ impl Session {
     pub fn begin_answer(&mut self) -> bool
         ensures after { (read : List ℕ) (asked : List Command) (got : List Reply) (sent : List ℕ) →
             SessionIsAfter read asked got sent self.old → SessionIsAfter read asked got sent self.new }
-        ensures none { result ≡ false → bytes_left self.old.owed ≡ [] → NoneReady self.old.places × (self.new ≡ self.old) }
+        ensures none { result ≡ false → bytes_left self.old.owed ≡ [] →
+            NoneReady self.old.places × (self.new ≡ self.old) }
         ensures fewer { result ≡ true → length self.new.places < length self.old.places }
+        ensures begins { result ≡ true → (reply : Reply) × (self.old.places ≡ Some reply ∷ self.new.places)
+            × (bytes_left self.new.owed ≡ text reply) }
         ensures open { has_open self.new.places ≡ has_open self.old.places }
         ensures ended { self.new.ended ≡ self.old.ended }
         ensures held { self.new.requests ≡ self.old.requests }
@@ -323,11 +331,14 @@ impl Session {
     pub fn read_from<R: Source>(&mut self, reader: &mut R) -> Result<usize, FillFault>
         requires { self.old.ended ≡ None }
         ensures ok { IfOk result (λ n. Gave (R.rest reader.old) (R.rest reader.new) (R.ended reader.new) n
-            (λ more. (read : List ℕ) (asked : List Command) (got : List Reply) (sent : List ℕ) →
-            SessionIsAfter read asked got sent self.old → SessionIsAfter (read ++ more) asked got sent self.new)) }
+            (λ more. (self.new.requests ≡ with_piece self.old.requests more)
+            × ((read : List ℕ) (asked : List Command) (got : List Reply) (sent : List ℕ) →
+            SessionIsAfter read asked got sent self.old → SessionIsAfter (read ++ more) asked got sent self.new))) }
         ensures none { result ≡ Ok 0 → self.new ≡ self.old }
         ensures err { OnErr result ((self.new ≡ self.old) × Keeps (R.rest reader.old) (R.rest reader.new)) }
+        ensures memory { result ≡ Err FillFault.Memory → reader.new ≡ reader.old }
         ensures read { result ≡ Err FillFault.Read → R.broken reader.new ≡ true }
+        ensures counted { result ≢ Err FillFault.Memory → R.calls reader.new ≡ counter_at (R.calls reader.old + 1) }
         ensures same { (self.new.places ≡ self.old.places) × (self.new.owed ≡ self.old.owed)
             × (self.new.ended ≡ self.old.ended) }
     {

@@ -8,9 +8,10 @@ ghost use Rattle.xs_command.specs.declared.command.Command.{Command};
 ghost use Rattle.xs_desk.specs.Calls.{IsFormed};
 ghost use Rattle.xs_desk.specs.Callers.{Caller};
 ghost use Rattle.xs_session.specs.Places.{has_open, NoneReady};
-ghost use Rattle.xs_session.specs.Session.{SessionIsAfter, Waits};
+ghost use Rattle.xs_session.specs.Session.{IsNew, SessionIsAfter, Waits};
 ghost use Rattle.xs_server.specs.Ahead.{IsAheadAfter, AheadEnds, AheadFails, ServesAhead, IsDone, IsLost, BreaksOff};
 ghost use Rattle.xs_server.specs.Ahead.{HasCauseOf};
+ghost use Rattle.xs_server.specs.Serve.{IsPart};
 
 use std::sync::Wait;
 use thiserror::Error;
@@ -112,7 +113,9 @@ fn submit<P: Pause, T: Wait>(
 }
 
 /// Sends what is owed, piece by piece.
-fn send_owed<W: Sink>(writer: &mut W, session: &mut Session) -> Result<(), AheadFault>
+pub fn send_owed<W: Sink>(writer: &mut W, session: &mut Session) -> Result<(), AheadFault>
+    ensures exact { (more : List ℕ) × Appends (W.held writer.old) (W.held writer.new) more × MatchResult result
+        (λ _. more ≡ bytes_left session.old.owed) (λ _. IsPart more (bytes_left session.old.owed)) }
     ensures sends { (read : List ℕ) (asked : List Command) (got : List Reply) (sent : List ℕ) →
         SessionIsAfter read asked got sent session.old →
         (more : List ℕ) × Appends (W.held writer.old) (W.held writer.new) more × MatchResult result
@@ -211,8 +214,8 @@ fn send_before<W: Sink, P: Pause, T: Wait>(
     }
 }
 
-/// Takes an answer if one is waited for, and says so; else all that is owed is sent. It waits only once what is there is
-/// sent.
+/// Takes an answer if one is waited for, and says so; else all that is owed is sent. It waits only once what is there
+/// is sent.
 fn settle<W: Sink, P: Pause, T: Wait>(
     rt: &T,
     session: &mut Session,
@@ -330,6 +333,7 @@ pub fn serve_ahead<R: Source, W: Sink, P: Pause, T: Wait>(
         × ServesAhead result client.old client.new read sent }
     ensures cause { HasCauseOf result (R.rest reader.new) (R.ended reader.new) (R.broken reader.new)
         (W.broken writer.new) }
+    ensures clear { IsNew session.new }
 {
     session.clear();
     for _ in rt.forever() {

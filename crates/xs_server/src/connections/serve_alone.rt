@@ -2,7 +2,7 @@
 ghost use Rattle.std.specs.Prelude.{◌≢◌, List, ℕ, Err};
 ghost use Rattle.std.specs.Io.KnownBytes.{Appends, Consumes};
 ghost use Rattle.xs_server.specs.Serve.{ServesConnection, cause_of_connection};
-ghost use Rattle.xs_server.specs.Machine.{HasCause};
+ghost use Rattle.xs_server.specs.Cause.{HasCause};
 ghost use Rattle.xs_server.specs.Alone.{RunsAlone};
 
 use crate::connections::ending::{Ending, ServeFault};

@@ -3,7 +3,7 @@ ghost use Rattle.std.specs.Prelude.{◌≡◌, ℕ, List, Result};
 ghost use Rattle.std.specs.Io.KnownBytes.{Appends, Consumes};
 ghost use Rattle.xs_server.specs.declared.script.fault.ScriptFault.{ScriptFault as Fault};
 ghost use Rattle.xs_server.specs.Report.{status_of_run, text_of_run, Says};
-ghost use Rattle.xs_server.specs.ScriptMachine.{Runs};
+ghost use Rattle.xs_server.specs.ScriptRun.{Runs};
 
 use crate::report::report_script;
 use crate::script::run::run_script;

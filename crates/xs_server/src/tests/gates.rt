@@ -164,6 +164,9 @@ const UNHEARD_PING: Script = Script {
     fails: true,
 };
 
+/// Why work didn't come to its end, and the summary that it has all the same.
+type Fault = (WorkFault, Option<Summary>);
+
 /// Works over two gates, each of which may wait for the replies to the other one, and answers what `work` answers and
 /// how many replies were counted at each.
 fn work_over<R: Threads + Wait + Copy + Send + 'static>(
@@ -172,7 +175,7 @@ fn work_over<R: Threads + Wait + Copy + Send + 'static>(
     one: &'static [Script],
     other: &'static [Script],
     other_refuses: bool,
-) -> Result<(Result<Summary, WorkFault>, u64, u64), AllocError> {
+) -> Result<(Result<Summary, Fault>, u64, u64), AllocError> {
     let counted = Arc::new(alloc, AtomicU64::new(0))?;
     let counted_there = Arc::new(alloc, AtomicU64::new(0))?;
     let mut gates = Vec::new(alloc);
@@ -192,7 +195,7 @@ fn work_over<R: Threads + Wait + Copy + Send + 'static>(
     })?;
     let worked = match work(rt, alloc, gates, 16, still()) {
         Ok(outcome) => Ok(outcome.summary),
-        Err(fault) => Err(fault),
+        Err(failed) => Err((failed.fault, failed.outcome.map(|outcome| outcome.summary))),
     };
     Ok((
         worked,
@@ -224,8 +227,10 @@ fn gate_two_connections(rt: HostRuntime) -> Result<(), Fail> {
 fn a_gate_that_refuses_ends_alone(rt: HostRuntime) -> Result<(), Fail> {
     let (worked, one, _) = work_over(&rt, rt.alloc(), &[PING], &[], true)?;
     assert_eq!(rt; one, 1);
-    let fault = worked.err().ok_or("a fault")?;
+    let (fault, summary) = worked.err().ok_or("a fault")?;
     assert_eq!(rt; fault, WorkFault::Gate);
+    let lanes = summary.ok_or("a summary")?.lanes;
+    assert_eq!(rt; lanes.as_slice(), [served(1), served(0)].as_slice());
     let mut errors = sips(rt.alloc())?;
     assert_eq!(rt; report_work(&mut errors, &fault), 1);
     assert_eq!(rt;
@@ -253,7 +258,7 @@ fn a_failed_connection_ends_alone(rt: HostRuntime) -> Result<(), Fail> {
 // With any one allocation refused, in whichever thread, work gives a summary or says what it lacked; then it is whole.
 #[test]
 fn a_refused_work_is_done_again(rt: HostRuntime) -> Result<(), Fail> {
-    if let Ok((Err(fault), _, _)) = work_over(&rt, rt.alloc(), &[PING], &[PING], false) {
+    if let Ok((Err((fault, _)), _, _)) = work_over(&rt, rt.alloc(), &[PING], &[PING], false) {
         assert!(rt;
             matches!(
                 fault,
@@ -272,8 +277,8 @@ fn a_refused_work_is_done_again(rt: HostRuntime) -> Result<(), Fail> {
 fn without_a_gate_there_is_no_desk(rt: HostRuntime) -> Result<(), Fail> {
     let alloc = rt.alloc();
     let gates: Vec<Scripted> = Vec::new(alloc);
-    let fault = work(&rt, alloc, gates, 16, still()).err();
-    assert_eq!(rt; fault, Some(WorkFault::Desk(DeskError::Lanes)));
+    let failed = work(&rt, alloc, gates, 16, still()).err().ok_or("a fault")?;
+    assert_eq!(rt; failed.fault, WorkFault::Desk(DeskError::Lanes));
     Ok(())
 }
 

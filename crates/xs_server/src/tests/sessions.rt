@@ -1,10 +1,8 @@
 //! Whole connections over a keyspace alone, at moment 1000.
 use super::*;
-use crate::connections::connection::Connection;
 use crate::connections::ending::{Ending, ServeFault};
 use crate::connections::serve::serve;
 use crate::connections::serve_alone::serve_alone;
-use crate::machines::machine::Machine;
 use crate::tests::fakes::{InTwo, Still};
 use std::sync::atomic::AtomicU64;
 use std::sync::{Arc, Wait};
@@ -12,6 +10,7 @@ use xs_bytes::Bytes;
 use xs_desk::{Alone, Lane, desk};
 use xs_keys::Keyspace;
 use xs_resp::Reply;
+use xs_session::Session;
 use xs_stream::Moment;
 
 /// An empty keyspace at moment 1000.
@@ -201,20 +200,19 @@ fn a_refused_connection_is_served_again(rt: HostRuntime) -> Result<(), Fail> {
     Ok(())
 }
 
-// A great string is lent to the writer, and the reply counts once all of it is written.
+// A great string is lent to the writer, as a piece of its own.
 #[test]
-fn pays_a_great_reply_in_pieces(rt: HostRuntime) -> Result<(), Fail> {
+fn gives_a_great_reply_in_pieces(rt: HostRuntime) -> Result<(), Fail> {
     let alloc = rt.alloc();
-    let reply = Reply::Bulk(Bytes::new(vec![in alloc; b'x'; 1_000_000]?));
-    let mut connection = Connection::new(alloc)?;
-    connection.owed.begin(reply);
+    let mut session = Session::new(alloc)?;
+    session
+        .owed
+        .begin(Reply::Bulk(Bytes::new(vec![in alloc; b'x'; 1_000_000]?)));
     for length in [10, 1_000_000, 2] {
-        assert_eq!(rt; connection.owed.piece().len(), length);
-        assert_eq!(rt; connection.replies, 0);
-        Machine::<Alone<Still>, HostRuntime>::paid(&mut connection);
+        assert_eq!(rt; session.output().len(), length);
+        session.mark_sent();
     }
-    assert!(rt; connection.owed.piece().is_empty());
-    assert_eq!(rt; connection.replies, 1);
+    assert!(rt; session.output().is_empty());
     Ok(())
 }
 

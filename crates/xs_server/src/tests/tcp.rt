@@ -107,8 +107,8 @@ fn is_seen_to_leave(rt: &HostRuntime, peer: &Peer) -> bool {
     false
 }
 
-// A client that leaves behind nothing, half a request, and whole ones. What it sent is read afterwards, then the end. The
-// next client of the same halves gets nothing of it.
+// A client that leaves behind nothing, half a request, and whole ones. What it sent is read afterwards, then the end.
+// The next client of the same halves gets nothing of it.
 #[test]
 fn a_client_that_leaves_is_seen(rt: HostRuntime) -> Result<(), Fail> {
     let alloc = rt.alloc();

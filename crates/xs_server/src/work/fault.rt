@@ -1,8 +1,9 @@
-//! Why work over gates gives no summary.
+//! Why work over gates doesn't come to its end.
 use thiserror::Error;
 use xs_desk::DeskError;
 
-/// Why work over gates gave no summary. Where several hold, the first is told.
+/// Why work over gates didn't come to its end. If several hold, the first is told; but if no memory is left to close
+/// the desk, that is told and not what its workers met.
 #[derive(Clone, Copy, Debug, PartialEq, Eq, Error)]
 pub enum WorkFault {
     /// No desk was made.

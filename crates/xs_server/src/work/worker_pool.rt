@@ -1,5 +1,5 @@
 //! The workers, each in a thread of its own.
-ghost use Rattle.std.specs.Prelude.{◌≡◌, ◌≤◌, true, [], length, map, vec_capacity, IfOk, IfSome, OnOk};
+ghost use Rattle.std.specs.Prelude.{◌≡◌, ◌≤◌, true, [], length, map, vec_capacity, IfOk, IfSome, is_err};
 ghost use Rattle.xs_desk.specs.KeptRings.{KeepsSide, KeepSides};
 ghost use Rattle.xs_server.specs.Workers.{WorkEach};
 
@@ -128,8 +128,8 @@ pub fn join_all<G: Gate + Drop, R: Threads>(
     ensures count { length ended.new.items ≡ length started.items }
     ensures gates { length gates.new.items ≡ length started.items }
     ensures sides { KeepSides (map (λ s. s.promise.0.value) started.items) ended.new.items }
-    ensures work { OnOk result (WorkEach (map (λ s. s.promise.0.value) started.items) ended.new.items
-        (map (λ s. G.trace s.promise.1.value) started.items) (map G.trace gates.new.items)) }
+    ensures work { WorkEach (is_err result) (map (λ s. s.promise.0.value) started.items) ended.new.items
+        (map (λ s. G.trace s.promise.1.value) started.items) (map G.trace gates.new.items) }
 {
     let mut outcome = Ok(());
     for one in started {

@@ -1,12 +1,12 @@
 //! Work over gates: a thread for each, and one for the keeper of their desk.
-ghost use Rattle.std.specs.Prelude.{◌≡◌, ◌<◌, ◌≤◌, ℕ, true, false, [], length, map, vec_capacity};
-ghost use Rattle.std.specs.Prelude.{List, Err, IfOk, IfErr, IfSome, OnOk};
+ghost use Rattle.std.specs.Prelude.{◌≡◌, ◌⊎◌, ◌<◌, ◌≤◌, ℕ, true, false, [], length, map, vec_capacity};
+ghost use Rattle.std.specs.Prelude.{List, None, IfOk, IfErr, IfSome, IsSome, IsErrAnd, OnOk, is_err};
 ghost use Rattle.xs_desk.specs.Callers.{AreEnds, HasEnd};
 ghost use Rattle.xs_desk.specs.KeptRings.{KeepsRings, KeepSides};
 ghost use Rattle.xs_desk.specs.Opening.{AreNew, IsLaneCount, IsDepth};
 ghost use Rattle.xs_server.specs.Gates.{GateTrace};
 ghost use Rattle.xs_server.specs.Workers.{WorkEach};
-ghost use Rattle.xs_server.specs.WorkOutcome.{AreServed, IsClosed, IsWorkFault, work_fault};
+ghost use Rattle.xs_server.specs.WorkOutcome.{AreServed, IsClosed, IsOfWorker, IsWorkFault, work_fault};
 
 use crate::work::fault::WorkFault;
 use crate::work::gate::Gate;
@@ -29,6 +29,27 @@ pub struct WorkOutcome<G: Drop> {
     pub summary: Summary,
     /// In the order in which they were given.
     pub gates: Vec<G>,
+}
+
+/// Why work over gates didn't come to its end.
+#[derive(Drop)]
+pub struct WorkFailed<G: Drop> {
+    pub fault: WorkFault,
+    /// What it came to all the same. It is there if the fault is that of a worker: `Gate` or `Lane`.
+    pub outcome: Option<WorkOutcome<G>>,
+}
+
+impl<G: Drop> WorkFailed<G> {
+    /// A fault that left nothing.
+    fn without_outcome(fault: WorkFault) -> Self
+        ensures fault { result.fault ≡ fault }
+        ensures outcome { result.outcome ≡ None }
+    {
+        Self {
+            fault,
+            outcome: None,
+        }
+    }
 }
 
 /// What came back from the threads.
@@ -56,8 +77,8 @@ fn run_all<
     ensures sides { IfSome result (λ done. KeepSides (map (λ w. w.client) pool.workers.items) done.ended.items) }
     ensures count { IfSome result (λ done. length done.ended.items ≡ length pool.workers.items) }
     ensures all { IfSome result (λ done. length done.gates.items ≡ length pool.workers.items) }
-    ensures work { IfSome result (λ done. OnOk done.outcome (WorkEach (map (λ w. w.client) pool.workers.items)
-        done.ended.items (map (λ w. G.trace w.gate) pool.workers.items) (map G.trace done.gates.items))) }
+    ensures work { IfSome result (λ done. WorkEach (is_err done.outcome) (map (λ w. w.client) pool.workers.items)
+        done.ended.items (map (λ w. G.trace w.gate) pool.workers.items) (map G.trace done.gates.items)) }
 {
     let WorkerPool {
         workers,
@@ -98,15 +119,22 @@ fn fault_of(fault: WorkerFault) -> WorkFault
 }
 
 /// Closes the desk. All ends are there.
-fn conclude<G: Gate + Drop>(alloc: Global, done: Done<G>) -> Result<WorkOutcome<G>, WorkFault>
+fn conclude<G: Gate + Drop>(alloc: Global, done: Done<G>) -> Result<WorkOutcome<G>, WorkFailed<G>>
     requires ends { AreEnds done.keeper.lanes done.ended.items }
     requires all { (k : ℕ) → k < length done.keeper.lanes → HasEnd done.ended.items k }
     ensures closed { (before : List GateTrace) → length done.keeper.lanes ≡ length before
-        → OnOk done.outcome (AreServed done.ended.items before (map G.trace done.gates.items))
-        → IfOk result (λ outcome. IsClosed before (map G.trace outcome.gates.items) outcome.summary) }
-    ensures fault { (most n depth : ℕ) → IsLaneCount most n × IsDepth depth → IfErr result (IsWorkFault most n depth) }
-    ensures worker { IfErr done.outcome (λ fault. result ≡ Err (work_fault fault)) }
-    ensures memory { OnOk done.outcome (IfErr result (λ fault. fault ≡ WorkFault.Memory)) }
+        → AreServed (is_err done.outcome) done.ended.items before (map G.trace done.gates.items)
+        → IfOk result (λ outcome. IsClosed false before (map G.trace outcome.gates.items) outcome.summary) }
+    ensures stopped { (before : List GateTrace) → length done.keeper.lanes ≡ length before
+        → AreServed (is_err done.outcome) done.ended.items before (map G.trace done.gates.items)
+        → IfErr result (λ failed. IfSome failed.outcome (λ outcome. IsClosed true before
+        (map G.trace outcome.gates.items) outcome.summary)) }
+    ensures told { IfErr result (λ failed. IsOfWorker failed.fault → IsSome failed.outcome) }
+    ensures fault { (most n depth : ℕ) → IsLaneCount most n × IsDepth depth
+        → IfErr result (λ failed. IsWorkFault most n depth failed.fault) }
+    ensures worker { IfErr done.outcome (λ fault. IsErrAnd result (λ failed. (failed.fault ≡ work_fault fault)
+        ⊎ (failed.fault ≡ WorkFault.Memory))) }
+    ensures memory { OnOk done.outcome (IfErr result (λ failed. failed.fault ≡ WorkFault.Memory)) }
 {
     let Done {
         keeper,
@@ -114,45 +142,65 @@ fn conclude<G: Gate + Drop>(alloc: Global, done: Done<G>) -> Result<WorkOutcome<
         gates,
         outcome,
     } = done;
-    let closed = close(alloc, keeper, ended);
+    let summary = match close(alloc, keeper, ended) {
+        Ok(summary) => summary,
+        Err(CloseError::Unfinished(_, _)) => return Err(WorkFailed::without_outcome(
+            WorkFault::Close,
+        )),
+        Err(CloseError::Memory(_, _)) => return Err(WorkFailed::without_outcome(WorkFault::Memory)),
+    };
+    let closed = WorkOutcome { summary, gates };
     match outcome {
-        Ok(()) => {}
-        Err(fault) => return Err(fault_of(fault)),
-    }
-    match closed {
-        Ok(summary) => Ok(WorkOutcome { summary, gates }),
-        Err(CloseError::Unfinished(_, _)) => Err(WorkFault::Close),
-        Err(CloseError::Memory(_, _)) => Err(WorkFault::Memory),
+        Ok(()) => Ok(closed),
+        Err(fault) => Err(WorkFailed {
+            fault: fault_of(fault),
+            outcome: Some(closed),
+        }),
     }
 }
 
-fn open(alloc: Global, n: usize, depth: usize) -> Result<(Keeper, Vec<Client>), WorkFault>
+fn open<G: Drop>(
+    alloc: Global,
+    n: usize,
+    depth: usize,
+) -> Result<(Keeper, Vec<Client>), WorkFailed<G>>
     ensures new { IfOk result (λ r. AreNew 0 depth r.0.lanes r.1.items × (length r.0.lanes ≡ n)) }
     ensures count { IfOk result (λ _. IsLaneCount 1024 n × IsDepth depth) }
-    ensures fault { IfErr result (IsWorkFault 1024 n depth) }
+    ensures fault { IfErr result (λ failed. IsWorkFault 1024 n depth failed.fault) }
+    ensures told { IfErr result (λ failed. IsOfWorker failed.fault → IsSome failed.outcome) }
+    ensures none { IfErr result (λ failed. failed.outcome ≡ None) }
 {
     match wide_desk(alloc, n, depth) {
         Ok(made) => Ok(made),
-        Err(fault) => Err(WorkFault::Desk(fault)),
+        Err(fault) => Err(WorkFailed::without_outcome(WorkFault::Desk(fault))),
     }
 }
 
 /// Serves the connections of 1 to 64 gates as `work_with` does. No call waits.
 ///
 /// # Errors
-/// A `WorkFault`.
+/// `WorkFailed`.
 #[tactic(auto, using(crate::proofs::WorkerEnds::fewer_lanes))]
 pub fn work<
     G: Gate + Send + Drop + 'static,
     C: Clock + Send + Drop + 'static,
     R: Threads + Wait + Copy + Send + 'static,
->(rt: &R, alloc: Global, gates: Vec<G>, depth: usize, clock: C) -> Result<WorkOutcome<G>, WorkFault>
-    ensures closed { IfOk result (λ outcome. IsClosed (map G.trace gates.items) (map G.trace outcome.gates.items)
-        outcome.summary) }
-    ensures fault { IfErr result (IsWorkFault 64 (length gates.items) depth) }
+>(
+    rt: &R,
+    alloc: Global,
+    gates: Vec<G>,
+    depth: usize,
+    clock: C,
+) -> Result<WorkOutcome<G>, WorkFailed<G>>
+    ensures closed { IfOk result (λ outcome. IsClosed false (map G.trace gates.items)
+        (map G.trace outcome.gates.items) outcome.summary) }
+    ensures stopped { IfErr result (λ failed. IfSome failed.outcome (λ outcome. IsClosed true
+        (map G.trace gates.items) (map G.trace outcome.gates.items) outcome.summary)) }
+    ensures told { IfErr result (λ failed. IsOfWorker failed.fault → IsSome failed.outcome) }
+    ensures fault { IfErr result (λ failed. IsWorkFault 64 (length gates.items) depth failed.fault) }
 {
     if gates.len() > MAX_GATES {
-        return Err(WorkFault::Desk(DeskError::Lanes));
+        return Err(WorkFailed::without_outcome(WorkFault::Desk(DeskError::Lanes)));
     }
     work_with(rt, alloc, gates, depth, clock, Bounded)
 }
@@ -162,7 +210,7 @@ pub fn work<
 /// is closed. The fault of a connection ends that connection alone.
 ///
 /// # Errors
-/// A `WorkFault`.
+/// `WorkFailed`.
 pub fn work_with<
     G: Gate + Send + Drop + 'static,
     C: Clock + Send + Drop + 'static,
@@ -175,17 +223,20 @@ pub fn work_with<
     depth: usize,
     clock: C,
     mode: M,
-) -> Result<WorkOutcome<G>, WorkFault>
-    ensures closed { IfOk result (λ outcome. IsClosed (map G.trace gates.items) (map G.trace outcome.gates.items)
-        outcome.summary) }
-    ensures fault { IfErr result (IsWorkFault 1024 (length gates.items) depth) }
+) -> Result<WorkOutcome<G>, WorkFailed<G>>
+    ensures closed { IfOk result (λ outcome. IsClosed false (map G.trace gates.items)
+        (map G.trace outcome.gates.items) outcome.summary) }
+    ensures stopped { IfErr result (λ failed. IfSome failed.outcome (λ outcome. IsClosed true
+        (map G.trace gates.items) (map G.trace outcome.gates.items) outcome.summary)) }
+    ensures told { IfErr result (λ failed. IsOfWorker failed.fault → IsSome failed.outcome) }
+    ensures fault { IfErr result (λ failed. IsWorkFault 1024 (length gates.items) depth failed.fault) }
 {
-    let (keeper, clients) = open(alloc, gates.len(), depth)?;
+    let (keeper, clients) = open::<G>(alloc, gates.len(), depth)?;
     let Ok(pool) = make_pool(alloc, &keeper, clients, gates, &mode) else {
-        return Err(WorkFault::Memory);
+        return Err(WorkFailed::without_outcome(WorkFault::Memory));
     };
     let Some(done) = run_all(rt, keeper, clock, mode, pool) else {
-        return Err(WorkFault::Start);
+        return Err(WorkFailed::without_outcome(WorkFault::Start));
     };
     conclude(alloc, done)
 }

@@ -6,6 +6,6 @@ pub returns : goal.returns
 returns g c = record {
   served =
       let made = c.in-Ok.ensures in
-      served-at-zero _ c.in-Ok.ready.gates.items c.args.options.now.workers (λ outcome. map (λ gate. gate.register) outcome.gates.items) (λ outcome. outcome.summary) c.work_with-worked.result _ _ _ _ _ _
+      served-at-zero (λ failed. failed.fault) _ c.in-Ok.ready.gates.items c.args.options.now.workers (λ outcome. map (λ gate. gate.register) outcome.gates.items) (λ outcome. outcome.summary) c.work_with-worked.result _ _ _ _ _ _
       made.gates made.new c.work_with-worked.ensures.closed c.report_worked.ensures;
 }

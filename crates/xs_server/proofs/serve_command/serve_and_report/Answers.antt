@@ -16,8 +16,8 @@ returns-in_default-gates_of-clause-told g c =
 pub returns-clause-served : goal.returns-clause-served
 returns-clause-served g c =
     let made = c.in-Ok-gates_of.ensures in
-    served-at-zero _ c.in-Ok-gates_of.gates.items c.args.options.workers (λ outcome. map (λ gate. gate.register) outcome.gates.items) (λ outcome. outcome.summary) c.work-worked.result _ _ _ _ _ _
+    served-at-zero (λ failed. failed.fault) _ c.in-Ok-gates_of.gates.items c.args.options.workers (λ outcome. map (λ gate. gate.register) outcome.gates.items) (λ outcome. outcome.summary) c.work-worked.result _ _ _ _ _ _
     made.count made.new c.work-worked.ensures.closed c.report_worked.ensures
 
 pub returns-clause-told : goal.returns-clause-told
-returns-clause-told g c = told-of-work c.work-worked.result _ _ _ _ _ _ c.report_worked.ensures
+returns-clause-told g c = told-of-work (λ failed. failed.fault) c.work-worked.result _ _ _ _ _ _ c.report_worked.ensures

@@ -10,8 +10,8 @@ use Rattle.xs_server.proofs.connections.ahead.read_on.Goals as goal
 
 pub returns-in-Ok-eq0-clause-reads : goal.returns-in-Ok-eq0-clause-reads
 returns-in-Ok-eq0-clause-reads g c = λ read asked got sent s.
-    let (more, size, small, came, end, after) = c.in-Ok-eq0.ensures.ok in
-    (more, came, after read asked got sent s)
+    let (more, size, small, came, end, is) = c.in-Ok-eq0.ensures.ok in
+    (more, came, is.1 read asked got sent s)
 
 pub returns-in-Ok-eq0-clause-ends : goal.returns-in-Ok-eq0-clause-ends
 returns-in-Ok-eq0-clause-ends g c =
@@ -41,5 +41,5 @@ returns-in-Err-Read-clause-ends g c =
 
 pub returns-in-Ok-clause-reads : goal.returns-in-Ok-clause-reads
 returns-in-Ok-clause-reads g c = λ read asked got sent s.
-    let (more, size, small, came, end, after) = c.in-Ok.ensures.ok in
-    (more, came, after read asked got sent s)
+    let (more, size, small, came, end, is) = c.in-Ok.ensures.ok in
+    (more, came, is.1 read asked got sent s)

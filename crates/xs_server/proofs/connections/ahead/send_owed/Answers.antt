@@ -1,7 +1,8 @@
-use Rattle.std.proofs.Common.{rules, false, ◌≡◌, [], ◌++◌, length, take, ap, ◌∙◌, refl, append_assoc, arith, length-append}
-use Rattle.std.proofs.lemmas.List.{append-nil}
+use Rattle.std.proofs.Common.{rules, true, false, ◌≡◌, [], ◌++◌, length, take, drop, sym, ap, ◌∙◌, refl, append_assoc, arith, length-append, length-drop}
+use Rattle.std.proofs.lemmas.List.{append-nil, take-append-drop}
 use Rattle.std.proofs.KnownBytes.{Appends-nil, Appends-trans}
-use Rattle.xs_session.proofs.Tests.{empty-some}
+use Rattle.xs_resp.specs.LeftToWrite.{bytes_left}
+use Rattle.xs_session.proofs.Tests.{empty-none, empty-some}
 use Rattle.xs_server.proofs.AheadTurns.{part-sent}
 use Rattle.xs_server.proofs.connections.ahead.send_owed.Goals as goal
 
@@ -10,6 +11,7 @@ pieces-init g c = record {
   went = [];
   appends = Appends-nil _;
   after = λ read asked got sent s. rw (append-nil sent) s;
+  owed = refl;
   places = refl;
   ended = refl;
   held = refl;
@@ -24,6 +26,7 @@ pieces-preserved g c =
       went = inv.went ++ piece;
       appends = Appends-trans _ _ _ inv.went piece inv.appends wrote.1;
       after = λ read asked got sent s. rw (← append_assoc) (c.mark_sent.ensures.after read asked got (sent ++ inv.went) (inv.after read asked got sent s));
+      owed = inv.owed ∙ ap (λ o. inv.went ++ (piece ++ o)) (sym c.mark_sent.ensures.owed) ∙ sym (append_assoc inv.went piece (bytes_left c.mark_sent.new.self.owed));
       places = c.mark_sent.ensures.places ∙ inv.places;
       ended = c.mark_sent.ensures.ended ∙ inv.ended;
       held = c.mark_sent.ensures.held ∙ inv.held;
@@ -50,3 +53,25 @@ pub returns-clause-sends : goal.returns-clause-sends
 returns-clause-sends g c = λ read asked got sent s.
     let inv = c.pieces.invariant in
     (inv.went, inv.appends, inv.after read asked got sent s)
+
+pub returns-in-Err-clause-exact : goal.returns-in-Err-clause-exact
+returns-in-Err-clause-exact g c =
+    let inv = c.pieces.invariant in
+    let owed = c.pieces.session.owed in
+    let count = c.in-Err.field-0 in
+    let err = rw (c.output-in-pieces.ensures.value) at c.in-Err.ensures.err in
+    let part = take count owed.piece in
+    let rest = drop count owed.piece ++ owed.behind in
+    let split = ap (λ p. p ++ owed.behind) (sym (take-append-drop count owed.piece)) ∙ append_assoc part (drop count owed.piece) owed.behind in (
+      inv.went ++ part,
+      Appends-trans _ _ _ inv.went part inv.appends err.1,
+      (rest, inv.owed ∙ ap (λ o. inv.went ++ o) split ∙ sym (append_assoc inv.went part rest), omega (arith, err.0, length-drop count owed.piece, length-append (drop count owed.piece) owed.behind)),
+    )
+
+pub returns-clause-exact : goal.returns-clause-exact
+returns-clause-exact g c =
+    let inv = c.pieces.invariant in
+    let owed = c.pieces.session.owed in
+    let empty : c.is_empty.result ≡ true = search rules in
+    let none = c.output.ensures.all (empty-none c.output.result.now c.is_empty.result c.is_empty.ensures empty) in
+    (inv.went, inv.appends, sym (inv.owed ∙ ap (λ o. inv.went ++ o) none ∙ append-nil inv.went))

@@ -12,6 +12,7 @@ invariant-pieces g l = record {
   went : List ℕ;
   appends : Appends (g.W.Sink.held l.initial.writer) (g.W.Sink.held l.writer) went;
   after : (read : List ℕ) (asked : List Command) (got : List Reply) (sent : List ℕ) → SessionIsAfter read asked got sent l.initial.session → SessionIsAfter read asked got (sent ++ went) l.session;
+  owed : bytes_left l.initial.session.owed ≡ went ++ bytes_left l.session.owed;
   places : l.session.places ≡ l.initial.session.places;
   ended : l.session.ended ≡ l.initial.session.ended;
   held : l.session.requests ≡ l.initial.session.requests;

@@ -1,14 +1,11 @@
-use Rattle.std.proofs.Common.{[], ◌++◌, Bool, sym, subst}
-use Rattle.xs_session.specs.Answers.{MayBeOpen}
+use Rattle.std.proofs.Common.{[], ◌++◌}
 use Rattle.std.proofs.KnownBytes.{Consumes-nil, Appends-nil, Consumes-trans, Appends-trans}
-use Rattle.xs_resp.specs.LeftToWrite.{bytes_left}
-use Rattle.xs_session.proofs.SessionTurns.{after-new}
+use Rattle.xs_session.proofs.SessionTurns.{session-new}
 use Rattle.xs_server.proofs.AheadCalls.{calls-none}
 use Rattle.xs_server.proofs.connections.ahead.serve_ahead.Goals as goal
 
 pub loop-init : goal.loop-init
 loop-init g c =
-    let session = c.clear.new.self in
     let new = c.clear.ensures in
     record {
       read = [];
@@ -19,7 +16,7 @@ loop-init g c =
       after =
           record {
             got = [];
-            after = (after-new session.ended session.requests session.places (bytes_left session.owed) new.ended new.requests new.places new.owed, subst (λ (b : Bool). MayBeOpen b []) (sym new.alone) tt);
+            after = session-new [] c.clear.new.self new.ended new.requests (new.places, new.owed);
             calls = calls-none c.args.client.now;
           };
     }

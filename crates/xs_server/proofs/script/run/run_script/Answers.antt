@@ -3,8 +3,8 @@ use Rattle.xs_keys.proofs.Contents.{content-none}
 use Rattle.xs_server.proofs.ScriptTurns.{few-none}
 use Rattle.xs_server.proofs.script.run.run_script.Goals as goal
 
-pub drive-requires-clause-new : goal.drive-requires-clause-new
-drive-requires-clause-new g c =
+pub drive-requires : goal.drive-requires
+drive-requires g c =
     let new = c.new-script.ensures in
     record {
       lines = [];

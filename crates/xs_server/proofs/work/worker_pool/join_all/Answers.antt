@@ -1,5 +1,5 @@
 use Rattle.std.proofs.Common.{rules, arith, ◌≡◌, List, [], ◌∷◌, ◌++◌, ◌∙◌, sym, ap, subst, length, length-append, map}
-use Rattle.std.specs.Prelude.{OnOk}
+use Rattle.std.specs.Prelude.{is_err, false}
 use Rattle.std.proofs.lemmas.List.{nil_from_length}
 use Rattle.std.specs.Vec.Iter.{into_iter_items}
 use Rattle.xs_desk.specs.Callers.{Caller}
@@ -59,8 +59,8 @@ loop-one-init g c =
       before_count = omega (arith, ap length none);
       sides = subst (λ (ends : List Caller). KeepSides [] ends) (sym none) sides-none;
       work =
-          subst (λ (ends : List Caller). WorkEach [] ends [] (map trace c.args.gates.now.items)) (sym none)
-          (subst (λ (now : List GateTrace). WorkEach [] [] [] now) (sym (ap (map trace) none-there)) work-none);
+          subst (λ (ends : List Caller). WorkEach false [] ends [] (map trace c.args.gates.now.items)) (sym none)
+          (subst (λ (now : List GateTrace). WorkEach false [] [] [] now) (sym (ap (map trace) none-there)) work-none);
       done_are = none-told _ _ _ all;
       before_are = none-told _ _ _ all;
     }
@@ -72,5 +72,5 @@ returns-clause-work g c =
     let none : into_iter_items c.loop-one.one-iterator ≡ [] = nil_from_length _ (sym inv.len ∙ c.in-None.ensures.steps.0) in
     let done = all-told _ inv.done _ _ inv.done_are none in
     let before = all-told _ inv.before _ _ inv.before_are none in
-    subst (λ (firsts : List Caller). OnOk c.loop-one.outcome (WorkEach firsts c.loop-one.ended.items (map (λ s. trace s.promise.1.value) c.args.started.items) (map trace c.loop-one.gates.items))) done
-    (subst (λ (gs : List GateTrace). OnOk c.loop-one.outcome (WorkEach inv.done c.loop-one.ended.items gs (map trace c.loop-one.gates.items))) before inv.work)
+    subst (λ (firsts : List Caller). WorkEach (is_err c.loop-one.outcome) firsts c.loop-one.ended.items (map (λ s. trace s.promise.1.value) c.args.started.items) (map trace c.loop-one.gates.items)) done
+    (subst (λ (gs : List GateTrace). WorkEach (is_err c.loop-one.outcome) inv.done c.loop-one.ended.items gs (map trace c.loop-one.gates.items)) before inv.work)

@@ -1,5 +1,5 @@
 use Rattle.std.proofs.Common.{◌≡◌, ◌≤◌, ◌+◌, ◌++◌, List, length, map, vec_capacity}
-use Rattle.std.specs.Prelude.{OnOk}
+use Rattle.std.specs.Prelude.{is_err}
 use Rattle.std.specs.Vec.Iter.{into_iter_items, into_iter_len}
 use Rattle.xs_desk.specs.Callers.{Caller}
 use Rattle.xs_desk.specs.KeptRings.{KeepSides}
@@ -20,7 +20,7 @@ invariant-loop-one g l = record {
   done_count : length done ≡ length l.ended.items;
   before_count : length before ≡ length l.ended.items;
   sides : KeepSides done l.ended.items;
-  work : OnOk l.outcome (WorkEach done l.ended.items before (map g.G.Gate.trace l.gates.items));
+  work : WorkEach (is_err l.outcome) done l.ended.items before (map g.G.Gate.trace l.gates.items);
   done_are : done ++ map (λ s. s.promise.0.value) (into_iter_items l.one-iterator) ≡ map (λ s. s.promise.0.value) l.fn.started.items;
   before_are : before ++ map (λ s. g.G.Gate.trace s.promise.1.value) (into_iter_items l.one-iterator) ≡ map (λ s. g.G.Gate.trace s.promise.1.value) l.fn.started.items;
 }

@@ -1,21 +1,15 @@
-use Rattle.std.proofs.Common.{ℕ, subst}
-use Rattle.xs_desk.specs.Closing.{SumUp}
+use Rattle.std.proofs.Common.{map}
+use Rattle.xs_server.proofs.WorkerEnds.{closed-desk}
 use Rattle.xs_server.proofs.work.working.conclude.Goals as goal
 
-pub returns-in-Ok-closed-clause-closed : goal.returns-in-Ok-closed-clause-closed
-returns-in-Ok-closed-clause-closed g c = λ before count served.
-    let desk = c.args.done.keeper in
-    let ends = c.args.done.ended.items in
-    let summary = c.in-Ok-closed.summary in
-    let told = c.in-Ok-closed.ensures in
-    record {
-      desk = desk;
-      ends = ends;
-      history = told.history.0;
-      count = count;
-      are_ends = c.requires.ends;
-      served = rw c.in-Ok.is at served;
-      lanes = subst (λ (n : ℕ). SumUp desk.lanes ends n summary.lanes.items) count told.lanes;
-      is_history = told.history.1;
-      runs = told.history.2;
-    }
+pub returns-in-Ok-outcome-clause-closed : goal.returns-in-Ok-outcome-clause-closed
+returns-in-Ok-outcome-clause-closed g c = λ before count served.
+    let done = c.args.done in
+    let told = c.in-Ok.ensures in
+    closed-desk _ done.keeper done.ended.items before (map g.G.Gate.trace done.gates.items) c.in-Ok.summary c.requires.ends told.lanes told.history count (rw c.in-Ok-outcome.is at served)
+
+pub returns-in-Err-clause-stopped : goal.returns-in-Err-clause-stopped
+returns-in-Err-clause-stopped g c = λ before count served.
+    let done = c.args.done in
+    let told = c.in-Ok.ensures in
+    closed-desk _ done.keeper done.ended.items before (map g.G.Gate.trace done.gates.items) c.in-Ok.summary c.requires.ends told.lanes told.history count (rw c.in-Err.is at served)

@@ -1,5 +1,5 @@
 use Rattle.std.proofs.Common.{rules, ◌≡◌, true, List, ◌∙◌, subst, map}
-use Rattle.std.specs.Prelude.{OnOk}
+use Rattle.std.specs.Prelude.{is_err}
 use Rattle.xs_desk.specs.Callers.{Caller}
 use Rattle.xs_desk.specs.KeptRings.{KeepSides}
 use Rattle.xs_server.specs.Gates.{GateTrace}
@@ -30,6 +30,6 @@ returns-clause-work g c =
     let workers = c.args.pool.workers.items in
     let later = map trace joined.new.gates.items in
     let ends = joined.new.ended.items in
-    subst (λ (firsts : List Caller). OnOk joined.result (WorkEach firsts ends (map (λ w. trace w.gate) workers) later)) (c.in_ok-threads.ensures.all all)
-    (subst (λ (before : List GateTrace). OnOk joined.result (WorkEach (map (λ s. s.promise.0.value) c.in_ok-threads.threads.workers.items) ends before later))
+    subst (λ (firsts : List Caller). WorkEach (is_err joined.result) firsts ends (map (λ w. trace w.gate) workers) later) (c.in_ok-threads.ensures.all all)
+    (subst (λ (before : List GateTrace). WorkEach (is_err joined.result) (map (λ s. s.promise.0.value) c.in_ok-threads.threads.workers.items) ends before later)
     (same-traces trace _ _ c.in_ok-threads.threads.workers.items workers (c.in_ok-threads.ensures.gates all)) joined.ensures.work)

@@ -1,4 +1,5 @@
 use Rattle.std.proofs.Common.{rules, arith, ◌≡◌, List, ◌∙◌, ap, sym, subst, length, map}
+use Rattle.std.specs.Prelude.{is_err}
 use Rattle.std.proofs.lemmas.List.{length-map}
 use Rattle.xs_desk.specs.Callers.{Caller}
 use Rattle.xs_desk.specs.KeptRings.{KeepSides}
@@ -31,8 +32,8 @@ make_pool-requires-clause-count g c κs within =
     let gates : c.len.result ≡ length c.args.gates.items = search rules in
     new-count 0 c.args.depth c.in_ok-keeper.keeper.lanes c.in_ok-keeper.clients.items new.0 ∙ (new.1 ∙ gates)
 
-pub returns-clause-closed : goal.returns-clause-closed
-returns-clause-closed g c =
+pub returns : goal.returns
+returns g c =
     let new = c.in_ok-keeper.ensures.new in
     let keeper = c.in_ok-keeper.keeper in
     let done = c.in-Some.done in
@@ -41,6 +42,12 @@ returns-clause-closed g c =
     let gates : c.len.result ≡ length c.args.gates.items = search rules in
     let lanes : length keeper.lanes ≡ length c.args.gates.items = new.1 ∙ gates in
     let served =
-    served-pool (λ w. w.client) (λ w. w.gate) trace done.outcome c.args.depth keeper.lanes c.in_ok-keeper.clients.items done.ended.items c.args.gates.items done.gates.items pool.workers.items new.0 lanes
+    served-pool (λ w. w.client) (λ w. w.gate) trace (is_err done.outcome) c.args.depth keeper.lanes c.in_ok-keeper.clients.items done.ended.items c.args.gates.items done.gates.items pool.workers.items new.0 lanes
     c.in-Ok.ensures.workers c.in-Ok.ensures.served c.in-Some.ensures.count c.in-Some.ensures.all c.in-Some.ensures.work in
-    c.conclude.ensures.closed (map trace c.args.gates.items) (keeps-count keeper done.keeper c.in-Some.ensures.keeper ∙ (lanes ∙ sym (length-map c.args.gates.items trace))) served
+    let count = keeps-count keeper done.keeper c.in-Some.ensures.keeper ∙ (lanes ∙ sym (length-map c.args.gates.items trace)) in
+    record {
+      closed = c.conclude.ensures.closed (map trace c.args.gates.items) count served;
+      stopped = c.conclude.ensures.stopped (map trace c.args.gates.items) count served;
+      told = search rules;
+      fault = search rules;
+    }

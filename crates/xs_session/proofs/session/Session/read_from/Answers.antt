@@ -6,4 +6,4 @@ use Rattle.xs_session.proofs.session.Session.read_from.Goals as goal
 pub returns-clause-ok : goal.returns-clause-ok
 returns-clause-ok g c =
     let session = c.args.self.now in
-    gave-more c.fill.result _ _ _ _ _ (λ more is read asked got sent s. (after-read read asked got sent session.ended session.requests c.fill.new.self session.places (bytes_left session.owed) more c.requires is s.0, s.1)) c.fill.ensures.ok
+    gave-more c.fill.result _ _ _ _ _ (λ more is. (is, λ read asked got sent s. (after-read read asked got sent session.ended session.requests c.fill.new.self session.places (bytes_left session.owed) more c.requires is s.0, s.1))) c.fill.ensures.ok

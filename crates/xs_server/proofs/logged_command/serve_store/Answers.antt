@@ -1,0 +1,15 @@
+use denote.RattleType.{RattleType}
+use denote.Param.{copied}
+use denote.Param.Send.{IsSend, sendable}
+use Rattle.std.proofs.Crossing.{crosses}
+use Rattle.xs_trace.proofs.trace.Trace.TheLaws.TheKnot.{crosses as traces}
+use Rattle.xs_server.specs.contracts.run_gate.RunGate
+use Rattle.xs_server.proofs.logged_command.serve_store.Goals as goal
+
+gate-send : (S : RattleType) → IsSend S → IsSend (RunGate.the_row S)
+gate-send S clock = search (sendable, crosses, traces) depth 60
+
+pub work_over-requires-send-G : goal.work_over-requires-send-G
+work_over-requires-send-G g c κs within =
+    let gate : IsSend (RunGate.the_row (copied 0 g.row.R)) = gate-send (copied 0 g.row.R) c.type_bounds.send-R in
+    search sendable depth 10
