@@ -1,5 +1,5 @@
 -- How a connection over a lane goes on, and how it ends.
-use Rattle.std.proofs.Common.{◌≡◌, ◌⊎◌, inl, inr, ℕ, ◌<◌, ◌==◌, not, if◌then◌else◌, Bool, true, false, List, [], ◌∷◌, ◌++◌, length, Option, Some, Result, Ok, Err, sym, ap, ◌∙◌, subst, refl}
+use Rattle.std.proofs.Common.{◌≡◌, ◌⊎◌, inl, inr, ℕ, ◌<◌, ◌≤◌, ◌==◌, not, if◌then◌else◌, Bool, true, false, List, [], ◌∷◌, ◌++◌, length, Option, Some, Result, Ok, Err, sym, ap, ◌∙◌, subst, refl}
 use Rattle.std.specs.Prelude.{IfErr, MatchResult}
 use Rattle.std.proofs.Common.{append_assoc, arith, take, drop, length-drop, length-append}
 use Rattle.std.proofs.lemmas.List.{append-nil, take-append-drop}
@@ -175,8 +175,8 @@ module _ (first now : Caller) (read sent : List ℕ) where
   }
 
   pub fails-write : (asked put : List Command) (got : List Reply) (ended : Option Ending) (held : Held) (places : List (Option Reply)) (owed : List ℕ)
-      → IsAfter read asked got sent ended held places owed → Calls first now put got → has_open places ≡ false → 0 < length owed → AheadFails fault.Write first now read asked put sent
-  fails-write asked put got ended held places owed after calls closed some = record {
+      → IsAfter read asked got sent ended held places owed → Calls first now put got → has_open places ≡ false → 0 < length owed → length places ≤ 32 → AheadFails fault.Write first now read asked put sent
+  fails-write asked put got ended held places owed after calls closed some few = record {
     got = got;
     ended = ended;
     held = held;
@@ -184,7 +184,7 @@ module _ (first now : Caller) (read sent : List ℕ) where
     owed = owed;
     after = after;
     calls = calls;
-    ends = (closed, some);
+    ends = (closed, some, few);
     closed = λ other. closed;
   }
 
@@ -198,17 +198,17 @@ module _ (first now : Caller) (read sent : List ℕ) where
 -- the answers that were waited for have come once the writer had failed, or the lane is gone
 pub gives-up : (first old new : Caller) (read : List ℕ) (asked put : List Command) (sent more : List ℕ) (was is : Session) (got : List Reply) (wrong : AheadFault) → BreaksOff read asked got sent more was → Calls first old put got
     → ((s : List ℕ) → IsAheadAfter first old read asked put s was → IsAheadAfter first new read asked put s is)
-    → ((wrong ≡ fault.Write) × (has_open is.places ≡ false)) ⊎ (wrong ≡ fault.Port) → is.owed ≡ was.owed → AheadFails wrong first new read asked put (sent ++ more)
+    → ((wrong ≡ fault.Write) × (has_open is.places ≡ false) × (length is.places ≤ 32)) ⊎ (wrong ≡ fault.Port) → is.owed ≡ was.owed → AheadFails wrong first new read asked put (sent ++ more)
 gives-up first old new read asked put sent more was is got wrong b calls takes ends same = by (takes (sent ++ b.before) (record { got = got; after = b.after; calls = calls })) ends where
   later : (got : List Reply) → SessionIsAfter read asked got (sent ++ b.before) is → IsAfter read asked got (sent ++ more) is.ended is.requests is.places b.rest
   later got s =
       subst (λ (o : List ℕ). IsAfter read asked got o is.ended is.requests is.places b.rest) (append_assoc sent b.before b.part ∙ ap (λ m. sent ++ m) (sym b.more_is))
       (after-sent read asked got (sent ++ b.before) is.ended is.requests is.places (bytes_left is.owed) b.part b.rest s.0 (ap bytes_left same ∙ b.owed_is))
 
-  by : IsAheadAfter first new read asked put (sent ++ b.before) is → ((wrong ≡ fault.Write) × (has_open is.places ≡ false)) ⊎ (wrong ≡ fault.Port) → AheadFails wrong first new read asked put (sent ++ more)
-  by a (inl (write, closed)) =
+  by : IsAheadAfter first new read asked put (sent ++ b.before) is → ((wrong ≡ fault.Write) × (has_open is.places ≡ false) × (length is.places ≤ 32)) ⊎ (wrong ≡ fault.Port) → AheadFails wrong first new read asked put (sent ++ more)
+  by a (inl (write, closed, few)) =
       subst (λ (w : AheadFault). AheadFails w first new read asked put (sent ++ more)) (sym write)
-      (fails-write first new read (sent ++ more) asked put a.got is.ended is.requests is.places b.rest (later a.got a.after) a.calls closed b.some)
+      (fails-write first new read (sent ++ more) asked put a.got is.ended is.requests is.places b.rest (later a.got a.after) a.calls closed b.some few)
   by a (inr port) =
       subst (λ (w : AheadFault). AheadFails w first new read asked put (sent ++ more)) (sym port) (record {
         got = a.got;
@@ -223,8 +223,8 @@ gives-up first old new read asked put sent more was is got wrong b calls takes e
       })
 
 -- by a fault of the writer, or since nobody answers
-pub lost-is : {X : Type 0} (wrong : AheadFault) (unwritten : Bool) → ((wrong ≡ fault.Write) × X) ⊎ (wrong ≡ fault.Port) → unwritten ≡ true → IsLost wrong unwritten
-lost-is wrong unwritten (inl (write, x)) failed = subst (λ (w : AheadFault). IsLost w unwritten) (sym write) failed
+pub lost-is : {X Y : Type 0} (wrong : AheadFault) (unwritten : Bool) → ((wrong ≡ fault.Write) × X × Y) ⊎ (wrong ≡ fault.Port) → unwritten ≡ true → IsLost wrong unwritten
+lost-is wrong unwritten (inl (write, x, y)) failed = subst (λ (w : AheadFault). IsLost w unwritten) (sym write) failed
 lost-is wrong unwritten (inr port) failed = subst (λ (w : AheadFault). IsLost w unwritten) (sym port) tt
 
 pub lost-cause : (wrong : AheadFault) (left : Option (List ℕ)) (over broken unwritten : Bool) → IsLost wrong unwritten → HasCauseOf (Err wrong) left over broken unwritten

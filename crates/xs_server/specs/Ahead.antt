@@ -1,5 +1,5 @@
 -- A connection whose requests are asked through a lane, several at once.
-use Rattle.std.specs.Prelude.{◌≡◌, ◌≢◌, ℕ, ◌<◌, Bool, true, false, List, [], ◌++◌, length, map}
+use Rattle.std.specs.Prelude.{◌≡◌, ◌≢◌, ℕ, ◌<◌, ◌≤◌, Bool, true, false, List, [], ◌++◌, length, map}
 use Rattle.std.specs.Prelude.{Option, Some, None, Result, Ok, Err}
 use Rattle.xs_resp.specs.declared.reply.Reply.{Reply}
 use Rattle.xs_resp.specs.Grammar.{IsOpen}
@@ -46,7 +46,7 @@ pub record BreaksOff (read : List ℕ) (asked : List Command) (got : List Reply)
 abbrev pub IsDone : List (Option Reply) → List ℕ → Type 0
 IsDone places owed = (places ≡ []) × (owed ≡ [])
 
--- how a connection ends
+-- How a connection ends. Where the writer fails, of one answer a part was sent at most, and of 32 at most nothing.
 abbrev pub AheadEnds : Result Ending AheadFault → Option Ending → Held → List (Option Reply) → List ℕ → Type 0
 AheadEnds (Ok ending.Closed) ended held places owed = (ended ≡ None) × (held ≡ Ok []) × IsDone places owed
 AheadEnds (Ok ending.Cut) ended held places owed =
@@ -54,7 +54,8 @@ AheadEnds (Ok ending.Cut) ended held places owed =
 AheadEnds (Ok end) ended held places owed = (ended ≡ Some end) × IsDone places owed
 AheadEnds (Err fault.Read) ended held places owed = Waits ended held × IsDone places owed
 AheadEnds (Err fault.Memory) ended held places owed = Waits ended held × IsDone places owed
-AheadEnds (Err fault.Write) ended held places owed = (has_open places ≡ false) × (0 < length owed)
+AheadEnds (Err fault.Write) ended held places owed =
+    (has_open places ≡ false) × (0 < length owed) × (length places ≤ 32)
 AheadEnds (Err fault.Port) ended held places owed = Unit {0}
 
 -- what a reader that has these bytes left, and a writer, tell of how a connection ended

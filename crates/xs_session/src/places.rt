@@ -71,9 +71,10 @@ impl Places {
         self.ready.is_empty() && self.behind.is_empty()
     }
 
-    /// Whether an answer is waited for.
+    /// Whether an answer is waited for. There are never more than 32 places.
     pub fn is_open(&self) -> bool
-        ensures { result ≡ has_open self.now }
+        ensures open { result ≡ has_open self.now }
+        ensures few { length self.now ≤ 32 }
     {
         !self.behind.is_empty()
     }

@@ -1,5 +1,5 @@
 //! The session of a connection.
-ghost use Rattle.std.specs.Prelude.{◌≡◌, ◌≢◌, ◌+◌, ◌<◌, ◌++◌, ◌∷◌, ◌⊎◌, List, ℕ, [], Ok, Err, Some, None, true, false};
+ghost use Rattle.std.specs.Prelude.{◌≡◌, ◌≢◌, ◌+◌, ◌<◌, ◌≤◌, ◌++◌, ◌∷◌, ◌⊎◌, List, ℕ, [], Ok, Err, Some, None, true, false};
 ghost use Rattle.std.specs.Prelude.{length, is_some, if◌then◌else◌, IfOk, OnErr};
 ghost use Rattle.std.specs.Io.KnownBytes.{Keeps};
 ghost use Rattle.xs_devices.specs.Device.{counter_at, Gave};
@@ -257,9 +257,10 @@ impl Session {
         Turn::Asks(call)
     }
 
-    /// Whether the reply to an asked command is waited for.
+    /// Whether the reply to an asked command is waited for. At most 32 answers are waited for or not begun.
     pub fn is_open(&self) -> bool
-        ensures { result ≡ has_open self.now.places }
+        ensures open { result ≡ has_open self.now.places }
+        ensures few { length self.now.places ≤ 32 }
     {
         self.places.is_open()
     }

@@ -1,6 +1,6 @@
 //! A connection over a reader, a writer and a lane: its requests are asked ahead of the answers.
 ghost use Rattle.std.specs.Prelude.{◌≡◌, ◌⊎◌, ◌++◌, ◌∷◌, [], Bool, ℕ, List, true, false, Ok};
-ghost use Rattle.std.specs.Prelude.{OnOk, OnErr, IfErr, MatchResult};
+ghost use Rattle.std.specs.Prelude.{◌≤◌, length, OnOk, OnErr, IfErr, MatchResult};
 ghost use Rattle.std.specs.Io.KnownBytes.{Appends, Consumes};
 ghost use Rattle.xs_resp.specs.declared.reply.Reply.{Reply};
 ghost use Rattle.xs_resp.specs.LeftToWrite.{bytes_left};
@@ -173,8 +173,8 @@ fn give_up<P: Pause, T: Wait>(
     ensures after { (first : Caller) (read : List ℕ) (asked put : List Command) (sent : List ℕ) →
         IsAheadAfter first client.old read asked put sent session.old →
         IsAheadAfter first client.new read asked put sent session.new }
-    ensures fault { ((result ≡ AheadFault.Write) × (has_open session.new.places ≡ false))
-        ⊎ (result ≡ AheadFault.Port) }
+    ensures fault { ((result ≡ AheadFault.Write) × (has_open session.new.places ≡ false)
+        × (length session.new.places ≤ 32)) ⊎ (result ≡ AheadFault.Port) }
     ensures owed { session.new.owed ≡ session.old.owed }
 {
     for _ in rt.forever() {
