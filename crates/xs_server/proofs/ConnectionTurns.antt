@@ -10,9 +10,8 @@ use Rattle.xs_resp.specs.declared.fault.Fault.{Fault}
 use Rattle.xs_resp.specs.declared.fault.Fault.TheVariants.{Protocol}
 use Rattle.xs_resp.specs.declared.reply.Reply.{Reply}
 use Rattle.xs_resp.specs.declared.reply.Reply.TheVariants.{Simple, Error, Int, Bulk, NullBulk, Array, NullArray}
-use Rattle.xs_resp.specs.declared.read_fault.ProtocolFault.{ProtocolFault}
 use Rattle.xs_resp.specs.ReplyText.{text}
-use Rattle.xs_resp.specs.Grammar.{FaultIn, IsOpen}
+use Rattle.xs_resp.specs.Grammar.{IsOpen}
 use Rattle.xs_resp.specs.HeldBytes.{Held, holds_bytes, with_piece}
 use Rattle.xs_resp.specs.LeftToWrite.{bytes_left}
 use Rattle.xs_command.specs.declared.command.Command.{Command}

@@ -1,4 +1,4 @@
-use Rattle.std.proofs.Common.{[], ◌++◌, Ok, Err, Option, sym, ap, ◌∙◌, subst, refl}
+use Rattle.std.proofs.Common.{[], ◌++◌, Ok, Option, sym, ap, ◌∙◌, subst}
 use Rattle.std.proofs.lemmas.List.{append-nil}
 use Rattle.std.proofs.KnownBytes.{Consumes-nil, Appends-nil}
 use Rattle.xs_resp.specs.HeldBytes.{Held}

@@ -1,4 +1,4 @@
-use Rattle.std.proofs.Common.{◌++◌, [], Err, inl, inr, sym, ap, refl, arith, length-append}
+use Rattle.std.proofs.Common.{◌++◌, [], Err, inl, inr, ap, refl, arith}
 use Rattle.std.proofs.lemmas.List.{append-nil}
 use Rattle.std.proofs.KnownBytes.{Consumes-nil, Consumes-kept}
 use Rattle.xs_server.specs.Cause.{itself, input, reader}

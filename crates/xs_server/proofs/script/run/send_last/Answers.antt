@@ -1,4 +1,4 @@
-use Rattle.std.proofs.Common.{◌++◌, take, inl, inr}
+use Rattle.std.proofs.Common.{take, inl, inr}
 use Rattle.xs_server.proofs.ScriptTurns.{ends-broken}
 use Rattle.xs_server.proofs.script.run.send_last.Goals as goal
 

@@ -1,4 +1,4 @@
-use Rattle.std.proofs.Common.{[], ◌++◌, take, length, inl, inr, ap, arith}
+use Rattle.std.proofs.Common.{[], take, length, inr, ap, arith}
 use Rattle.std.proofs.lemmas.List.{append-nil}
 use Rattle.std.proofs.KnownBytes.{Appends-nil}
 use Rattle.xs_server.proofs.ScriptTurns.{stands-paid, stands-broken}
