@@ -46,7 +46,7 @@ pub record BreaksOff (read : List ℕ) (asked : List Command) (got : List Reply)
 abbrev pub IsDone : List (Option Reply) → List ℕ → Type 0
 IsDone places owed = (places ≡ []) × (owed ≡ [])
 
--- How a connection ends. Where the writer fails, of one answer a part was sent at most, and of 32 at most nothing.
+-- How a connection ends. If the writer fails, some of what is owed wasn't sent, and at most 32 answers weren't begun.
 abbrev pub AheadEnds : Result Ending AheadFault → Option Ending → Held → List (Option Reply) → List ℕ → Type 0
 AheadEnds (Ok ending.Closed) ended held places owed = (ended ≡ None) × (held ≡ Ok []) × IsDone places owed
 AheadEnds (Ok ending.Cut) ended held places owed =
