@@ -8,6 +8,10 @@ pub record Passing : Type 0 where
   -- what it has given, or taken, since it was made
   pub passed : List ℕ
 
+-- what is known of the bytes of a reader
+abbrev pub known_by : {R : Type 0} → (R → Passing) → R → Option (List ℕ)
+known_by rest reader = (rest reader).known
+
 -- nothing has passed yet
 abbrev pub at_first : Option (List ℕ) → Passing
 at_first known = record { known = known; passed = [] }

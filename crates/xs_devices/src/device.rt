@@ -57,7 +57,7 @@ pub trait Sink {
 #[derive(Drop)]
 pub struct FromRead<R: Read + Drop> {
     inner: R,
-    given: Trace<u8>,
+    passed: Trace<u8>,
     calls: u64,
     broken: bool,
     ended: bool,
@@ -73,7 +73,7 @@ impl<R: Read + Drop> FromRead<R> {
     {
         Self {
             inner,
-            given: Trace::new(),
+            passed: Trace::new(),
             calls: 0,
             broken: false,
             ended: false,
@@ -82,7 +82,7 @@ impl<R: Read + Drop> FromRead<R> {
 }
 
 impl<R: Read + Drop> Source for FromRead<R> {
-    ghost rest = { λ s. record { known = R.remaining s.inner; passed = s.given } };
+    ghost rest = { λ s. record { known = R.remaining s.inner; passed = s.passed } };
 
     ghost calls = { λ s. s.calls };
 
@@ -98,7 +98,7 @@ impl<R: Read + Drop> Source for FromRead<R> {
                 if count == 0 && room {
                     self.ended = true;
                 }
-                self.given.add_all(&into[..count]);
+                self.passed.add_all(&into[..count]);
                 Ok(count)
             }
             Err(_) => {
@@ -113,7 +113,7 @@ impl<R: Read + Drop> Source for FromRead<R> {
 #[derive(Drop)]
 pub struct ToWrite<W: Write + Drop> {
     inner: W,
-    taken: Trace<u8>,
+    passed: Trace<u8>,
     calls: u64,
     broken: bool,
 }
@@ -127,7 +127,7 @@ impl<W: Write + Drop> ToWrite<W> {
     {
         Self {
             inner,
-            taken: Trace::new(),
+            passed: Trace::new(),
             calls: 0,
             broken: false,
         }
@@ -143,7 +143,7 @@ impl<W: Write + Drop> ToWrite<W> {
 }
 
 impl<W: Write + Drop> Sink for ToWrite<W> {
-    ghost held = { λ s. record { known = W.contents s.inner; passed = s.taken } };
+    ghost held = { λ s. record { known = W.contents s.inner; passed = s.passed } };
 
     ghost calls = { λ s. s.calls };
 
@@ -156,7 +156,7 @@ impl<W: Write + Drop> Sink for ToWrite<W> {
                 if count == 0 && !from.is_empty() {
                     self.broken = true;
                 }
-                self.taken.add_all(&from[..count]);
+                self.passed.add_all(&from[..count]);
                 Ok(count)
             }
             Err(_) => {
