@@ -73,10 +73,10 @@ impl<R: Source + Drop> Source for BeforeZero<R> {
                     }
                     None => count,
                 };
+                self.passed.add_all(&into[..given]);
                 if given == 0 && room {
                     self.ended = true;
                 }
-                self.passed.add_all(&into[..given]);
                 Ok(given)
             }
         }
