@@ -31,7 +31,8 @@ fn zero_at(bytes: &[u8]) -> Option<usize>
 impl<R: Source + Drop> BeforeZero<R> {
     /// The reader, before its first call. It takes no memory.
     pub fn new(inner: R) -> Self
-        ensures { ⟦<BeforeZero<R> as Source>⟧.rest result ≡ at_first (option_map before_zero (R.rest inner).known) }
+        ensures rest { ⟦<BeforeZero<R> as Source>⟧.rest result
+            ≡ at_first (option_map before_zero (R.rest inner).known) }
     {
         Self {
             inner,
