@@ -164,7 +164,6 @@ def beside_producers(program, workers=8, seconds=6):
         limit_memory(server, (83 + 40 * workers) * MEGABYTE)
         say_at(server, "XGROUP CREATE q g 0 MKSTREAM", "+OK\r\n")
         before, most, taken, faults = server.resident(), 0, [[] for _ in range(consumers)], []
-        end = time.monotonic() + seconds
 
         def work(place):
             try:
@@ -175,6 +174,7 @@ def beside_producers(program, workers=8, seconds=6):
 
         with producing(server):
             add_until_full(server)
+            end = time.monotonic() + seconds
             threads = [threading.Thread(target=work, args=(place,)) for place in range(consumers)]
             for thread in threads:
                 thread.start()
