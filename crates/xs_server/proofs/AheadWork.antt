@@ -2,8 +2,8 @@
 use Rattle.std.proofs.Common.{◌≡◌, ◌≢◌, inl, inr, Bool, true, false, List, [], ◌∷◌, ◌++◌, Result, Ok, Err, sym, ap, ◌∙◌, subst, refl}
 use Rattle.std.proofs.Common.{append_assoc, arith, length, length-append, ℕ, Option, None}
 use Rattle.std.proofs.lemmas.List.{append-nil}
-use Rattle.std.specs.Io.KnownBytes.{Appends, Consumes}
-use Rattle.std.proofs.KnownBytes.{Appends-trans}
+use Rattle.xs_devices.specs.Passing.{Passing, Appends, Consumes}
+use Rattle.xs_devices.proofs.Passing.{Appends-trans}
 use Rattle.xs_resp.specs.declared.header.Part.TheVariants.{Count}
 use Rattle.xs_resp.specs.declared.read_fault.ProtocolFault.{ProtocolFault}
 use Rattle.xs_resp.specs.declared.read_fault.ProtocolFault.TheVariants as protocol
@@ -137,7 +137,7 @@ serves-none client = record {
 }
 
 -- a connection that ended out of memory, whose client was told
-pub serves-told : (first last : Caller) (read sent : List ℕ) (given back : Seen) (held : Option (List ℕ)) → Consumes given.rest back.rest read → Appends given.held held sent → ServesAhead (Err fault.Memory) first last read sent
+pub serves-told : (first last : Caller) (read sent : List ℕ) (given back : Seen) (held : Passing) → Consumes given.rest back.rest read → Appends given.held held sent → ServesAhead (Err fault.Memory) first last read sent
     → Says no_memory held back.held back.unwritten → ServesOne (Err fault.Memory) first last given back
 serves-told first last read sent given back held consumes appends served says = record {
   read = read;

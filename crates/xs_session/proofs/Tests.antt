@@ -1,7 +1,8 @@
 -- What tests of emptiness tell.
-use Rattle.std.proofs.Common.{◌≡◌, ℕ, ◌<◌, ◌==◌, Bool, true, false, List, [], ◌∷◌, ◌++◌, length, Option, Result, Ok, Err}
+use Rattle.std.proofs.Common.{◌≡◌, ℕ, ◌<◌, ◌==◌, Bool, true, false, List, [], ◌∷◌, ◌++◌, length, Result, Ok, Err}
 use Rattle.std.proofs.Common.{sym, ap, ◌∙◌, refl, arith}
 use Rattle.std.specs.Prelude.{IfOk}
+use Rattle.xs_devices.specs.Passing.{Passing}
 use Rattle.xs_devices.specs.Device.{Gave}
 
 pub empty-none : {A : Type 0} (items : List A) (empty : Bool) → empty ≡ (length items == 0) → empty ≡ true → items ≡ []
@@ -21,7 +22,7 @@ some-owed [] behind some none = omega (arith, some)
 some-owed (b ∷ piece) behind some none = omega (arith, ap length none)
 
 -- what was read
-pub gave-more : {E : Type 0} (result : Result ℕ E) (old new : Option (List ℕ)) (ended : Bool) (P Q : List ℕ → Type 0) → ((more : List ℕ) → P more → Q more)
+pub gave-more : {E : Type 0} (result : Result ℕ E) (old new : Passing) (ended : Bool) (P Q : List ℕ → Type 0) → ((more : List ℕ) → P more → Q more)
     → IfOk result (λ n. Gave old new ended n P) → IfOk result (λ n. Gave old new ended n Q)
 gave-more (Ok n) old new ended P Q f (got, size, small, came, end, is) = (got, size, small, came, end, f got is)
 gave-more (Err e) old new ended P Q f gave = gave

@@ -1,7 +1,7 @@
 //! The session of a connection.
 ghost use Rattle.std.specs.Prelude.{◌≡◌, ◌≢◌, ◌+◌, ◌<◌, ◌≤◌, ◌++◌, ◌∷◌, ◌⊎◌, List, ℕ, [], Ok, Err, Some, None, true, false};
 ghost use Rattle.std.specs.Prelude.{length, is_some, if◌then◌else◌, IfOk, OnErr};
-ghost use Rattle.std.specs.Io.KnownBytes.{Keeps};
+ghost use Rattle.xs_devices.specs.Passing.{Keeps};
 ghost use Rattle.xs_devices.specs.Device.{counter_at, Gave};
 ghost use Rattle.xs_devices.specs.declared.fill.FillFault.{FillFault};
 ghost use Rattle.xs_resp.specs.declared.reply.Reply.{Reply};

@@ -1,5 +1,5 @@
 use Rattle.std.proofs.Common.{◌++◌, ap, ◌∙◌, append_assoc}
-use Rattle.std.proofs.KnownBytes.{Appends-trans}
+use Rattle.xs_devices.proofs.Passing.{Appends-trans}
 use Rattle.xs_session.specs.Places.{has_open}
 use Rattle.xs_server.proofs.AheadTurns.{breaks-later}
 use Rattle.xs_server.proofs.connections.ahead.send_ready.Goals as goal

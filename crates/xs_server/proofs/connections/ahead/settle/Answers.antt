@@ -1,5 +1,5 @@
 use Rattle.std.proofs.Common.{[], ◌++◌}
-use Rattle.std.proofs.KnownBytes.{Appends-nil}
+use Rattle.xs_devices.proofs.Passing.{Appends-nil}
 use Rattle.xs_server.proofs.AheadTurns.{sent-none, fails-gone}
 use Rattle.xs_server.proofs.connections.ahead.settle.Goals as goal
 

@@ -1,5 +1,5 @@
 use Rattle.std.proofs.Common.{[], ◌∙◌}
-use Rattle.std.proofs.KnownBytes.{Appends-nil}
+use Rattle.xs_devices.proofs.Passing.{Appends-nil}
 use Rattle.xs_resp.specs.LeftToWrite.{bytes_left}
 use Rattle.xs_server.proofs.ConnectionTurns.{sends-none, sends-one, sends-part}
 use Rattle.xs_server.proofs.connections.serve.send_answer.Goals as goal

@@ -1,5 +1,5 @@
 use Rattle.std.proofs.Common.{[]}
-use Rattle.std.proofs.KnownBytes.{Consumes-nil, Appends-nil}
+use Rattle.xs_devices.proofs.Passing.{Consumes-nil, Appends-nil}
 use Rattle.xs_server.proofs.AheadWork.{serves-none, serves-told}
 use Rattle.xs_server.proofs.work.worker.serve_one.Goals as goal
 
