@@ -19,7 +19,7 @@ const BEAT_MILLIS: u64 = 1000;
 const PROMPT_MILLIS: u64 = 1;
 
 /// Up to so many workers have the memory of their connections from the start on. Of more, most may never serve anybody.
-pub const MADE_AT_START: usize = 64;
+const MADE_AT_START: usize = 64;
 
 /// How a worker waits whose client may leave.
 #[derive(Drop)]
@@ -37,19 +37,17 @@ impl<S: Wait + Clock + Drop> Pause for Watch<S> {
         if self.peer.was_seen_to_leave() {
             client.hurry();
         }
-        if client.is_blocked() {
-            self.peer.send();
-        }
-        let owes = self.peer.is_owed_bytes();
-        let millis = if owes { PROMPT_MILLIS } else { BEAT_MILLIS };
-        if !client.idle_for(&self.system, Duration::from_millis(millis)) {
-            return;
-        }
-        if owes {
-            self.peer.send();
-        } else if self.peer.has_left() {
+        if client.idle_for(&self.system, Duration::from_millis(BEAT_MILLIS)) && self.peer.has_left() {
             client.hurry();
         }
+    }
+
+    fn pause_briefly<R: Wait>(&self, rt: &R, client: &Client) -> bool {
+        if !client.will_sleep() {
+            client.idle(rt);
+            return false;
+        }
+        client.is_blocked() || client.idle_for(&self.system, Duration::from_millis(PROMPT_MILLIS))
     }
 }
 
@@ -64,7 +62,7 @@ pub struct Patience<S: Drop> {
     max_memory: u64,
 }
 
-impl<S: Wait + Clock + Copy + Drop> Patience<S> {
+impl<S: Wait + Clock + Copy + Send + Drop> Patience<S> {
     /// The way of the workers of these gates, over a keyspace that may hold so many bytes; 0 if there is no bound.
     pub fn new(
         system: S,
@@ -118,7 +116,7 @@ impl<S: Wait + Clock + Copy + Send + Drop + 'static> Mode<RunGate<S>> for Patien
     }
 }
 
-impl<S: Wait + Clock + Copy + Drop> KeeperMode for Patience<S> {
+impl<S: Wait + Clock + Copy + Send + Drop> KeeperMode for Patience<S> {
     fn begin<J: Journal + Drop>(&self, keeper: &mut Keeper<J>) {
         keeper.let_wait();
         keeper.set_bound(self.max_memory);
