@@ -2,8 +2,8 @@
 use Rattle.std.specs.Prelude.{ℕ, Bool, true, false, List, [], ◌∷◌, ◌++◌, map, Option}
 use Rattle.xs_devices.specs.Passing.{Passing}
 
--- a connection: the bytes that its reader has left and those that its writer holds, where they are told; whether the
--- end of the input was met; and whether the reader and the writer have failed
+-- a connection: the bytes that have passed through its reader and its writer, and those that are left or held, where
+-- they are told; whether the end of the input was met; and whether the reader and the writer have failed
 pub record Seen : Type 0 where
   pub rest : Passing
   pub ended : Bool

@@ -288,19 +288,20 @@ fn settle<W: Sink, P: Pause, T: Wait>(
     if take_answer(session, client) {
         return Ok(true);
     }
-    if session.is_open() {
-        match receive_briefly(rt, session, client, pause) {
-            Ok(true) => return Ok(true),
-            Ok(false) => {}
-            Err(_) => return Err(AheadFault::Port),
-        }
+    if !session.is_open() {
+        return match send_before(rt, session, writer, client, pause) {
+            Ok(()) => Ok(false),
+            Err(fault) => Err(fault),
+        };
+    }
+    match receive_briefly(rt, session, client, pause) {
+        Ok(true) => return Ok(true),
+        Ok(false) => {}
+        Err(_) => return Err(AheadFault::Port),
     }
     match send_before(rt, session, writer, client, pause) {
         Ok(()) => {}
         Err(fault) => return Err(fault),
-    }
-    if !session.is_open() {
-        return Ok(false);
     }
     match receive(rt, session, client, pause) {
         Ok(()) => Ok(true),
