@@ -15,10 +15,10 @@ use Rattle.xs_session.specs.declared.ending.Ending.{Ending}
 use Rattle.xs_session.proofs.SessionTurns.{after-new}
 use Rattle.xs_server.specs.declared.connections.ahead.AheadFault.{AheadFault}
 use Rattle.xs_server.specs.declared.connections.ahead.AheadFault.TheVariants as fault
-use Rattle.xs_server.specs.Ahead.{ServesAhead}
+use Rattle.xs_server.specs.Ahead.{ServesAhead, HasCauseOf}
 use Rattle.xs_server.specs.Report.{Says}
 use Rattle.xs_server.specs.Gates.{Seen, GateTrace, with_given, with_returned, at_end}
-use Rattle.xs_server.specs.Workers.{no_memory, ServesOne, ServesEach, ServesGate, Works}
+use Rattle.xs_server.specs.Workers.{no_memory, IsTold, ServesOne, ServesEach, ServesGate, Works}
 use Rattle.xs_server.proofs.AheadCalls.{calls-none}
 
 -- one more
@@ -149,3 +149,23 @@ serves-told first last read sent given back held consumes appends served says = 
   cause = tt;
   is_told = (says.1, says.2, says.4);
 }
+
+-- a connection that ended so that nothing was told
+pub serves-untold : (result : Result Ending AheadFault) (first last : Caller) (read sent : List ℕ) (given back : Seen) → result ≢ Err fault.Memory → Consumes given.rest back.rest read → Appends given.held back.held sent
+    → ServesAhead result first last read sent → HasCauseOf result back.rest back.ended back.unread back.unwritten → ServesOne result first last given back
+serves-untold result first last read sent given back other consumes appends served cause = record {
+  read = read;
+  sent = sent;
+  told = [];
+  consumes = consumes;
+  appends = rw (append-nil sent) appends;
+  served = served;
+  cause = cause;
+  is_told = untold result back.unwritten other;
+} where
+  untold : (result : Result Ending AheadFault) (unwritten : Bool) → result ≢ Err fault.Memory → IsTold result [] unwritten
+  untold (Ok end) unwritten other = refl
+  untold (Err fault.Read) unwritten other = refl
+  untold (Err fault.Write) unwritten other = refl
+  untold (Err fault.Memory) unwritten other = absurd (other refl)
+  untold (Err fault.Port) unwritten other = refl
