@@ -303,7 +303,8 @@ def main(arguments):
         return 2
     return try_all(arguments[0], (never_reads, random_bytes, random_value, almost_requests, great_promises,
                                   great_requests, most_words, killed_in_reply, with_pauses, greedy),
-                   (little_memory, no_memory_for_connections, full_queues, four_gigabytes, bounded_queue, no_memory_kept), WORKERS)
+                   (little_memory, no_memory_for_connections, full_queues, four_gigabytes, bounded_queue,
+                    no_memory_kept), WORKERS)
 
 
 if __name__ == "__main__":

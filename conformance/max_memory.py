@@ -18,7 +18,7 @@ from served import all_answer, asking, raw, running, say, say_at
 OOM = NO_MEMORY.decode()
 # The growth of resident memory and what is counted differ by so much at most.
 A_TENTH = 0.1
-# Where three of four entries were deleted, and the room was filled again, resident memory is up to so much of the bound.
+# Where three of four entries were deleted, and the room was filled again, resident memory is up to so much of it.
 HERE_AND_THERE = 1.8
 # Entries as bench/memory.py has them: how many fields, and the bytes of a name and of a value.
 SHAPES = ((1, 1, 60), (5, 10, 20), (1, 1, 1000), (6, 10, 40))
@@ -171,8 +171,8 @@ def ends_of_groups(taken):
 
 
 def counts_behind_removals(program):
-    """The same when most of what was added is gone, and additions have filled the room that it left, but for entries that
-    are deleted here and there: the pieces that blocks give back are too small for new blocks."""
+    """The same when most of what was added is gone, and additions have filled the room that it left, but for entries
+    that are deleted here and there: the pieces that blocks give back are too small for new blocks."""
     works = {f"{removal.__name__} of {shape}": (entries_of(shape), removal, most)
              for shape in SHAPES for removal, most in ((trim, 1 + A_TENTH), (deletions, HERE_AND_THERE))}
     works |= {f"{removal.__name__} of {rows} rows": (groups_of(rows), removal, 1 + A_TENTH)
@@ -275,4 +275,5 @@ def options(program):
         assert (done.returncode, done.stdout) == (2, b"") and b"--max-memory" in done.stderr, (word, done)
 
 
-CASES = (options, refuses_what_grows, makes_room, counts_what_is_resident, counts_behind_removals, rows_go_beyond, beside_producers, over_a_log)
+CASES = (options, refuses_what_grows, makes_room, counts_what_is_resident, counts_behind_removals, rows_go_beyond,
+         beside_producers, over_a_log)
