@@ -18,6 +18,8 @@ from served import all_answer, asking, raw, running, say, say_at
 OOM = NO_MEMORY.decode()
 # The growth of resident memory and what is counted differ by so much at most.
 A_TENTH = 0.1
+# So much where rows are acknowledged one by one, which leaves small pieces between groups.
+A_FIFTH = 0.2
 # Where three of four entries were deleted, and the room was filled again, resident memory is up to so much of it.
 HERE_AND_THERE = 1.8
 # Entries as bench/memory.py has them: how many fields, and the bytes of a name and of a value.
@@ -175,8 +177,8 @@ def counts_behind_removals(program):
     that are deleted here and there: the pieces that blocks give back are too small for new blocks."""
     works = {f"{removal.__name__} of {shape}": (entries_of(shape), removal, most)
              for shape in SHAPES for removal, most in ((trim, 1 + A_TENTH), (deletions, HERE_AND_THERE))}
-    works |= {f"{removal.__name__} of {rows} rows": (groups_of(rows), removal, 1 + A_TENTH)
-              for rows in (1, 8, 9) for removal in (acknowledgements, ends_of_groups)}
+    works |= {f"{removal.__name__} of {rows} rows": (groups_of(rows), removal, most)
+              for rows in (1, 8, 9) for removal, most in ((acknowledgements, 1 + A_FIFTH), (ends_of_groups, 1 + A_TENTH))}
     for what, (commands, removal, most) in works.items():
         with running(program, "--max-memory", "4m", workers=1) as server:
             with raw(server.port) as one, one.makefile("rb") as replies:

@@ -1,5 +1,5 @@
 //! The count of the bytes that are held, and the bound that additions keep to.
-ghost use Rattle.std.specs.Prelude.{◌≡◌, ◌+◌, ◌^◌, ◌%◌, ◌<◌, Ok, Err, tt, if◌then◌else◌};
+ghost use Rattle.std.specs.Prelude.{◌≡◌, ◌+◌, ◌^◌, ◌%◌, ◌<◌, Ok, Err, if◌then◌else◌};
 ghost use Rattle.xs_keys.specs.KeysRoom.{is_above};
 
 use std::alloc::AllocError;
@@ -14,6 +14,8 @@ pub(crate) enum NoMemory {
 }
 
 impl From<AllocError> for NoMemory {
+    ghost use Rattle.xs_keys.specs.declared.account.NoMemory.{NoMemory};
+
     ghost from_gives = { λ _ why. why ≡ NoMemory.System };
 
     fn from(_refused: AllocError) -> Self {

@@ -23,23 +23,28 @@ use xs_stream::{AddError, Field, Moment, Stream};
 
 /// Why an entry isn't added.
 #[derive(Clone, Copy, Debug, PartialEq, Eq)]
-enum Refusal {
+enum NotAdded {
     /// It can't have an id.
     Id(AddError),
     /// It can, and there is no memory.
     Memory(NoMemory),
 }
 
-impl From<NoMemory> for Refusal {
-    ghost from_gives = { λ why refusal. refusal ≡ Refusal.Memory why };
+impl From<NoMemory> for NotAdded {
+    ghost use Rattle.xs_keys.specs.declared.xadd.NotAdded.{NotAdded};
+
+    ghost from_gives = { λ why not_added. not_added ≡ NotAdded.Memory why };
 
     fn from(why: NoMemory) -> Self {
         Self::Memory(why)
     }
 }
 
-impl From<AllocError> for Refusal {
-    ghost from_gives = { λ _ refusal. refusal ≡ Refusal.Memory NoMemory.System };
+impl From<AllocError> for NotAdded {
+    ghost use Rattle.xs_keys.specs.declared.account.NoMemory.{NoMemory};
+    ghost use Rattle.xs_keys.specs.declared.xadd.NotAdded.{NotAdded};
+
+    ghost from_gives = { λ _ not_added. not_added ≡ NotAdded.Memory NoMemory.System };
 
     fn from(_refused: AllocError) -> Self {
         Self::Memory(NoMemory::System)
@@ -66,24 +71,24 @@ fn try_add(
     stream: &mut Stream,
     now: Moment,
     add: &AddCommand,
-) -> Result<Bytes, Refusal>
+) -> Result<Bytes, NotAdded>
     ensures ok { IfOk result (λ text. (text_of (id_of_addition now stream.old.top add.now.id) ≡ Some text)
         × (state_of stream.new
         ≡ stream_after (add_entry now add.now.id add.now.fields add.now.trim) (state_of stream.old))) }
-    ensures id { (error : AddError) → result ≡ Err (Refusal.Id error)
+    ensures id { (error : AddError) → result ≡ Err (NotAdded.Id error)
         → id_of_addition now stream.old.top add.now.id ≡ Err error }
-    ensures memory { (why : NoMemory) → result ≡ Err (Refusal.Memory why)
+    ensures memory { (why : NoMemory) → result ≡ Err (NotAdded.Memory why)
         → is_ok (id_of_addition now stream.old.top add.now.id) ≡ true }
-    ensures bound { result ≡ Err (Refusal.Memory NoMemory.Bound)
+    ensures bound { result ≡ Err (NotAdded.Memory NoMemory.Bound)
         → is_above account.now.bound account.now.held (bytes_of_fields add.now.fields) ≡ true }
     ensures above { is_above account.now.bound account.now.held (bytes_of_fields add.now.fields) ≡ true
         → is_ok (id_of_addition now stream.old.top add.now.id) ≡ true
-        → result ≡ Err (Refusal.Memory NoMemory.Bound) }
+        → result ≡ Err (NotAdded.Memory NoMemory.Bound) }
     ensures err { OnErr result (state_of stream.new ≡ state_of stream.old) }
 {
     let id = match stream.assign(now, add.id) {
         Ok(id) => id,
-        Err(error) => return Err(Refusal::Id(error)),
+        Err(error) => return Err(NotAdded::Id(error)),
     };
     let bytes = bytes_of(add.fields.as_slice());
     account.admit(bytes)?;
@@ -99,14 +104,14 @@ fn try_add(
 }
 
 /// The error of a refused addition.
-fn fault_of_refusal(refusal: Refusal) -> Fault
-    ensures id { (error : AddError) → refusal ≡ Refusal.Id error → result ≡ fault_of_addition error }
-    ensures memory { (why : NoMemory) → refusal ≡ Refusal.Memory why → result ≡ Fault.Memory }
+fn fault_of_refusal(refusal: NotAdded) -> Fault
+    ensures id { (error : AddError) → refusal ≡ NotAdded.Id error → result ≡ fault_of_addition error }
+    ensures memory { (why : NoMemory) → refusal ≡ NotAdded.Memory why → result ≡ Fault.Memory }
 {
     match refusal {
-        Refusal::Id(AddError::Small) => Fault::SmallId,
-        Refusal::Id(AddError::Exhausted) => Fault::Exhausted,
-        Refusal::Id(AddError::Memory) | Refusal::Memory(_) => Fault::Memory,
+        NotAdded::Id(AddError::Small) => Fault::SmallId,
+        NotAdded::Id(AddError::Exhausted) => Fault::Exhausted,
+        NotAdded::Id(AddError::Memory) | NotAdded::Memory(_) => Fault::Memory,
     }
 }
 
