@@ -121,16 +121,16 @@ def producing(server, producers=2):
     assert not faults, faults
 
 
-def consume_beside_producers(server, rounds):
-    """Producers fill the memory and never stop. Meanwhile consumers on new connections read, acknowledge and delete,
-    one job and many at once: no command of theirs is refused."""
+def consume_beside_producers(server, rounds, counts=(1, 5, 20)):
+    """Producers fill the memory and never stop. Meanwhile consumers on new connections read, acknowledge and delete
+    so many jobs at once, by turns: no command of theirs is refused."""
     say_at(server, "XGROUP CREATE q g 0 MKSTREAM", "+OK\r\n")
     add_until_full(server)
     taken = []
     with producing(server):
         for turn in range(rounds):
-            taken += consume(server, (1, 5, 20)[turn % 3], "XDEL")
-    assert len(taken) == len(set(taken)) and len(taken) > rounds, (len(taken), len(set(taken)), rounds)
+            taken += consume(server, counts[turn % len(counts)], "XDEL")
+    assert len(taken) == len(set(taken)) and len(taken) >= rounds, (len(taken), len(set(taken)), rounds)
 
 
 def under_a_bound(program, takes):

@@ -23,8 +23,8 @@ import sessions
 from full_queue import MEGABYTE, NO_MEMORY, limit_memory
 from great import array, bulk, entry, number
 from real_redis import request
-from served import (PING, PONG, all_answer, asking, fill, raw, read_exactly, read_to_end, reset, say, say_at, serving,
-                    together, try_all)
+from served import (PING, PONG, all_answer, asking, fill, raw, read_exactly, read_to_end, reset, running, say, say_at,
+                    serving, together, try_all)
 
 WORKERS = 8
 PROTOCOL = b"-ERR Protocol error\r\n"
@@ -267,6 +267,13 @@ def full_queues(program):
     full_queue.with_many_workers(program, "NOACK")
 
 
+def four_gigabytes(program):
+    """Consumers take jobs one by one from 64 workers, while memory is full under a bound of 4 GiB that was set at the
+    start, and two producers never stop."""
+    with running(program, workers=64, limits={resource.RLIMIT_AS: 4096 * MEGABYTE}) as server:
+        full_queue.consume_beside_producers(server, 3000, (1,))
+
+
 def bounded_queue(program):
     """Producers and consumers for a minute, over a queue that is full by its bound, with many workers."""
     max_memory.beside_producers(program, workers=64, seconds=60)
@@ -296,7 +303,8 @@ def main(arguments):
         return 2
     return try_all(arguments[0], (never_reads, random_bytes, random_value, almost_requests, great_promises,
                                   great_requests, most_words, killed_in_reply, with_pauses, greedy),
-                   (little_memory, no_memory_for_connections, full_queues, bounded_queue, no_memory_kept), WORKERS)
+                   (little_memory, no_memory_for_connections, full_queues, four_gigabytes, bounded_queue,
+                    no_memory_kept), WORKERS)
 
 
 if __name__ == "__main__":

@@ -18,6 +18,10 @@ from served import all_answer, asking, raw, running, say, say_at
 OOM = NO_MEMORY.decode()
 # The growth of resident memory and what is counted differ by so much at most.
 A_TENTH = 0.1
+# So much where rows are acknowledged one by one, which leaves small pieces between groups.
+A_FIFTH = 0.2
+# Where three of four entries were deleted, and the room was filled again, resident memory is up to so much of it.
+HERE_AND_THERE = 1.8
 # Entries as bench/memory.py has them: how many fields, and the bytes of a name and of a value.
 SHAPES = ((1, 1, 60), (5, 10, 20), (1, 1, 1000), (6, 10, 40))
 
@@ -130,6 +134,63 @@ def counts_what_is_resident(program):
                 assert abs(share - 1) <= A_TENTH, (what, share)
 
 
+def filled(one, replies, commands):
+    """Asks these commands until one is refused, and gives those that were not, each with its reply."""
+    taken = []
+    while True:
+        piece = list(itertools.islice(commands, 100))
+        got = asked(one, replies, piece)
+        taken += [(text, reply) for text, reply in zip(piece, got) if reply != NO_MEMORY]
+        if NO_MEMORY in got:
+            return taken
+
+
+def deletions(taken):
+    """Deletes three of four entries."""
+    ids = [reply.split()[1].decode() for place, (_, reply) in enumerate(taken) if place % 4]
+    return [f"XDEL s {' '.join(ids[first:first + 100])}" for first in range(0, len(ids), 100)]
+
+
+def trim(taken):
+    """Trims to a tenth."""
+    return [f"XTRIM s MAXLEN {len(taken) // 10}"]
+
+
+def groups_in(taken):
+    """The names of groups that were made."""
+    return [text.split()[3] for text, _ in taken if text.startswith("XGROUP")]
+
+
+def acknowledgements(taken):
+    """Acknowledges all rows of the groups."""
+    ids = " ".join(text.split()[2] for text, _ in taken if text.startswith("XADD"))
+    return [f"XACK s {group} {ids}" for group in groups_in(taken)]
+
+
+def ends_of_groups(taken):
+    """Destroys three of four groups."""
+    return [f"XGROUP DESTROY s {group}" for place, group in enumerate(groups_in(taken)) if place % 4]
+
+
+def counts_behind_removals(program):
+    """The same when most of what was added is gone, and additions have filled the room that it left, but for entries
+    that are deleted here and there: the pieces that blocks give back are too small for new blocks."""
+    works = {f"{removal.__name__} of {shape}": (entries_of(shape), removal, most)
+             for shape in SHAPES for removal, most in ((trim, 1 + A_TENTH), (deletions, HERE_AND_THERE))}
+    works |= {f"{removal.__name__} of {rows} rows": (groups_of(rows), removal, most)
+              for rows in (1, 8, 9) for removal, most in ((acknowledgements, 1 + A_FIFTH), (ends_of_groups, 1 + A_TENTH))}
+    for what, (commands, removal, most) in works.items():
+        with running(program, "--max-memory", "4m", workers=1) as server:
+            with raw(server.port) as one, one.makefile("rb") as replies:
+                asked(one, replies, ["XADD other 1-1 f v"])
+                before = server.resident()
+                asked(one, replies, removal(filled(one, replies, commands)))
+                filled(one, replies, commands)
+                share = (server.resident() - before) / (4 * MEGABYTE)
+                print(f"{what}: {share:.3f} of the bound", flush=True)
+                assert 1 - A_TENTH <= share <= most, (what, share)
+
+
 def rows_go_beyond(program):
     """Reads are never refused: their rows, 118 bytes each, go beyond the bound. Additions wait until jobs are done."""
     with running(program, "--max-memory", "1m") as server, raw(server.port) as one, one.makefile("rb") as replies:
@@ -216,4 +277,5 @@ def options(program):
         assert (done.returncode, done.stdout) == (2, b"") and b"--max-memory" in done.stderr, (word, done)
 
 
-CASES = (options, refuses_what_grows, makes_room, counts_what_is_resident, rows_go_beyond, beside_producers, over_a_log)
+CASES = (options, refuses_what_grows, makes_room, counts_what_is_resident, counts_behind_removals, rows_go_beyond,
+         beside_producers, over_a_log)

@@ -1,6 +1,27 @@
 //! The count of the bytes that are held, and the bound that additions keep to.
-ghost use Rattle.std.specs.Prelude.{◌≡◌, ◌+◌, ◌^◌, ◌%◌, ◌<◌};
+ghost use Rattle.std.specs.Prelude.{◌≡◌, ◌+◌, ◌^◌, ◌%◌, ◌<◌, Ok, Err, if◌then◌else◌};
 ghost use Rattle.xs_keys.specs.KeysRoom.{is_above};
+
+use std::alloc::AllocError;
+
+/// Why there is no memory for what is to be added.
+#[derive(Clone, Copy, Debug, PartialEq, Eq)]
+pub(crate) enum NoMemory {
+    /// The system gave none.
+    System,
+    /// More would be held than the bound.
+    Bound,
+}
+
+impl From<AllocError> for NoMemory {
+    ghost use Rattle.xs_keys.specs.declared.account.NoMemory.{NoMemory};
+
+    ghost from_gives = { λ _ why. why ≡ NoMemory.System };
+
+    fn from(_refused: AllocError) -> Self {
+        Self::System
+    }
+}
 
 /// How many bytes are held, and how many may be. The count is kept modulo 2^128, so no sum is too great for it.
 #[derive(Drop)]
@@ -28,15 +49,15 @@ impl Account {
         self.bound = bound;
     }
 
-    /// Whether so many bytes more are above the bound.
-    pub(crate) fn is_full_for(&self, more: u128) -> bool
-        ensures { result ≡ is_above self.now.bound self.now.held more }
+    /// Whether so many bytes more may be held: not if they are above the bound.
+    pub(crate) fn admit(&self, more: u128) -> Result<(), NoMemory>
+        ensures { result ≡ if is_above self.now.bound self.now.held more then Err NoMemory.Bound else Ok tt }
     {
-        if self.bound == 0 {
-            return false;
-        }
         let bound = u128::from(self.bound);
-        self.held > bound || more > bound - self.held
+        if bound > 0 && (self.held > bound || more > bound - self.held) {
+            return Err(NoMemory::Bound);
+        }
+        Ok(())
     }
 
     /// What took so many bytes takes so many others now.

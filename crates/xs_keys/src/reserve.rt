@@ -24,7 +24,8 @@ const FIELD_BYTES: usize = 64;
 
 /// How many bytes it takes at most to make the reply of one entry with so many fields, whose names and values have so
 /// many bytes together.
-pub(crate) fn reply_bytes(fields: usize, bytes: usize) -> usize {
+pub(crate) fn reply_bytes(fields: usize, bytes: u128) -> usize {
+    let bytes = usize::try_from(bytes).unwrap_or(usize::MAX);
     fields
         .saturating_mul(FIELD_BYTES)
         .saturating_add(bytes)

@@ -1,17 +1,17 @@
 //! XADD.
-ghost use Rattle.std.specs.Prelude.{◌≡◌, ◌≤◌, ◌+◌, ◌%◌, ◌^◌, Some, Ok, Err, None, true, is_ok, IfOk, OnErr, IsErrOf};
+ghost use Rattle.std.specs.Prelude.{◌≡◌, ◌+◌, ◌%◌, ◌^◌, Some, Ok, Err, None, true, is_ok, IfOk, OnErr};
 ghost use Rattle.xs_bytes.specs.SortedMap as map;
 ghost use Rattle.xs_stream.specs.Id.{id_of_addition};
 ghost use Rattle.xs_stream.specs.StreamContent.{state_of};
 ghost use Rattle.xs_command.specs.WellFormed.{IsAddId};
-ghost use Rattle.xs_keys.specs.KeysRoom.{bytes_of_fields};
+ghost use Rattle.xs_keys.specs.KeysRoom.{bytes_of_fields, is_above};
 ghost use Rattle.xs_keys.specs.Life.{add_entry};
 ghost use Rattle.xs_keys.specs.ContentAfter.{stream_after};
 ghost use Rattle.xs_keys.specs.Adding.{text_of, Adds};
 ghost use Rattle.xs_keys.specs.ReplyParts.{fault_of_addition};
 ghost use Rattle.xs_keys.specs.Step.{Step};
 
-use crate::account::Account;
+use crate::account::{Account, NoMemory};
 use crate::keys::{Keys, Slot};
 use crate::name_map::NameMap;
 use crate::reserve::{Reserve, reply_bytes};
@@ -21,21 +21,49 @@ use xs_command::{AddCommand, Command};
 use xs_resp::{Fault, Reply};
 use xs_stream::{AddError, Field, Moment, Stream};
 
+/// Why an entry isn't added.
+#[derive(Clone, Copy, Debug, PartialEq, Eq)]
+enum NotAdded {
+    /// It can't have an id.
+    Id(AddError),
+    /// It can, and there is no memory.
+    Memory(NoMemory),
+}
+
+impl From<NoMemory> for NotAdded {
+    ghost use Rattle.xs_keys.specs.declared.xadd.NotAdded.{NotAdded};
+
+    ghost from_gives = { λ why not_added. not_added ≡ NotAdded.Memory why };
+
+    fn from(why: NoMemory) -> Self {
+        Self::Memory(why)
+    }
+}
+
+impl From<AllocError> for NotAdded {
+    ghost use Rattle.xs_keys.specs.declared.account.NoMemory.{NoMemory};
+    ghost use Rattle.xs_keys.specs.declared.xadd.NotAdded.{NotAdded};
+
+    ghost from_gives = { λ _ not_added. not_added ≡ NotAdded.Memory NoMemory.System };
+
+    fn from(_refused: AllocError) -> Self {
+        Self::Memory(NoMemory::System)
+    }
+}
+
 /// How many bytes the names and values of fields have: an entry takes at least as many.
-fn bytes_of(fields: &[Field]) -> usize
-    ensures { result ≤ bytes_of_fields fields.now }
+fn bytes_of(fields: &[Field]) -> u128
+    ensures { result ≡ bytes_of_fields fields.now }
 {
-    let mut bytes = 0usize;
+    let mut bytes = 0u128;
     for field in fields {
-        bytes = bytes
-            .saturating_add(field.name.len())
-            .saturating_add(field.value.len());
+        bytes = bytes + field.name.len() as u128 + field.value.len() as u128;
     }
     bytes
 }
 
 /// Adds an entry to a stream and trims it then. The text of the id is made first, so that a refusal of
-/// memory leaves the stream as it was.
+/// memory leaves the stream as it was. The bound refuses it exactly if its fields are above the bound.
 fn try_add(
     reserve: &mut Reserve,
     account: &Account,
@@ -43,31 +71,31 @@ fn try_add(
     stream: &mut Stream,
     now: Moment,
     add: &AddCommand,
-) -> Result<Bytes, AddError>
+) -> Result<Bytes, NotAdded>
     ensures ok { IfOk result (λ text. (text_of (id_of_addition now stream.old.top add.now.id) ≡ Some text)
         × (state_of stream.new
         ≡ stream_after (add_entry now add.now.id add.now.fields add.now.trim) (state_of stream.old))) }
-    ensures small { IsErrOf result AddError.Small → id_of_addition now stream.old.top add.now.id ≡ Err AddError.Small }
-    ensures exhausted { IsErrOf result AddError.Exhausted → id_of_addition now stream.old.top add.now.id
-        ≡ Err AddError.Exhausted }
-    ensures memory { IsErrOf result AddError.Memory → is_ok (id_of_addition now stream.old.top add.now.id) ≡ true }
+    ensures id { (error : AddError) → result ≡ Err (NotAdded.Id error)
+        → id_of_addition now stream.old.top add.now.id ≡ Err error }
+    ensures memory { (why : NoMemory) → result ≡ Err (NotAdded.Memory why)
+        → is_ok (id_of_addition now stream.old.top add.now.id) ≡ true }
+    ensures bound { result ≡ Err (NotAdded.Memory NoMemory.Bound)
+        → is_above account.now.bound account.now.held (bytes_of_fields add.now.fields) ≡ true }
+    ensures above { is_above account.now.bound account.now.held (bytes_of_fields add.now.fields) ≡ true
+        → is_ok (id_of_addition now stream.old.top add.now.id) ≡ true
+        → result ≡ Err (NotAdded.Memory NoMemory.Bound) }
     ensures err { OnErr result (state_of stream.new ≡ state_of stream.old) }
 {
     let id = match stream.assign(now, add.id) {
         Ok(id) => id,
-        Err(error) => return Err(error),
+        Err(error) => return Err(NotAdded::Id(error)),
     };
     let bytes = bytes_of(add.fields.as_slice());
+    account.admit(bytes)?;
     let reply_bytes = reply_bytes(add.fields.len(), bytes);
-    if account.is_full_for(bytes as u128) || reserve.admit(alloc, reply_bytes).is_err() {
-        return Err(AddError::Memory);
-    }
-    let Ok(text) = id.text(alloc) else {
-        return Err(AddError::Memory);
-    };
-    if stream.push(id, add.fields.as_slice()).is_err() {
-        return Err(AddError::Memory);
-    }
+    reserve.admit(alloc, reply_bytes)?;
+    let text = id.text(alloc)?;
+    stream.push(id, add.fields.as_slice())?;
     reserve.hold(reply_bytes);
     if let Some(trim) = add.trim {
         let _ = stream.trim(trim);
@@ -76,13 +104,14 @@ fn try_add(
 }
 
 /// The error of a refused addition.
-fn fault_of_refusal(refusal: AddError) -> Fault
-    ensures { result ≡ fault_of_addition refusal }
+fn fault_of_refusal(refusal: NotAdded) -> Fault
+    ensures id { (error : AddError) → refusal ≡ NotAdded.Id error → result ≡ fault_of_addition error }
+    ensures memory { (why : NoMemory) → refusal ≡ NotAdded.Memory why → result ≡ Fault.Memory }
 {
     match refusal {
-        AddError::Small => Fault::SmallId,
-        AddError::Exhausted => Fault::Exhausted,
-        AddError::Memory => Fault::Memory,
+        NotAdded::Id(AddError::Small) => Fault::SmallId,
+        NotAdded::Id(AddError::Exhausted) => Fault::Exhausted,
+        NotAdded::Id(AddError::Memory) | NotAdded::Memory(_) => Fault::Memory,
     }
 }
 

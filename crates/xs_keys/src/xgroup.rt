@@ -1,15 +1,15 @@
 //! XGROUP: groups and their consumers.
-ghost use Rattle.std.specs.Prelude.{◌≡◌, ◌+◌, ◌%◌, ◌^◌, length, None, IfOk, OnOk, OnErr, if◌then◌else◌};
+ghost use Rattle.std.specs.Prelude.{◌≡◌, ◌↔◌, ◌&&◌, ◌+◌, ◌%◌, ◌^◌, length, not, true, None, Err, IfOk, OnOk, OnErr, if◌then◌else◌};
 ghost use Rattle.xs_group.specs.GroupRoom.{room_of_group};
-ghost use Rattle.xs_keys.specs.KeysRoom.{room_of_named};
-ghost use Rattle.xs_bytes.specs.SortedMap.{get, insert};
-ghost use Rattle.xs_group.specs.GroupState.{new_group};
+ghost use Rattle.xs_keys.specs.KeysRoom.{is_above, room_of_named};
+ghost use Rattle.xs_bytes.specs.SortedMap.{empty, get, insert};
+ghost use Rattle.xs_group.specs.GroupState.{new_group, has_name, with_consumer};
 ghost use Rattle.xs_keys.specs.ContentAfter.{new_key, with_group};
 ghost use Rattle.xs_keys.specs.GroupLife.{starting_id};
 ghost use Rattle.xs_keys.specs.Grouping.{Creates};
 ghost use Rattle.xs_keys.specs.Step.{StepAtAnyTime};
 
-use crate::account::Account;
+use crate::account::{Account, NoMemory};
 use crate::keys::{Groups, Keys, Slot};
 use crate::name_map::NameMap;
 use crate::reserve::Reserve;
@@ -30,7 +30,8 @@ fn start_id(start: GroupStart, top: Id) -> Id
     }
 }
 
-/// Puts a new group among those of a key with this top, and says how many bytes it is counted with.
+/// Puts a new group among those of a key with this top, and says how many bytes it is counted with. The bound refuses
+/// it exactly if these are above the bound.
 fn insert_group(
     groups: &mut Groups,
     reserve: &mut Reserve,
@@ -38,22 +39,42 @@ fn insert_group(
     alloc: Global,
     top: Id,
     command: &GroupCreateCommand,
-) -> Result<u128, AllocError>
+) -> Result<u128, NoMemory>
     ensures ok { let group = new_group (starting_id command.now.start top) in
         OnOk result (groups.new ≡ insert groups.old command.now.group group) }
     ensures room { let group = new_group (starting_id command.now.start top) in
-        IfOk result (λ room. room ≡ (length command.now.group + room_of_group group) % 2 ^ 128) }
+        IfOk result (λ room. room ≡ length command.now.group + room_of_group group) }
+    ensures bound { let group = new_group (starting_id command.now.start top) in
+        let room = length command.now.group + room_of_group group in
+        (result ≡ Err NoMemory.Bound) ↔ (is_above account.now.bound account.now.held room ≡ true) }
     ensures err { OnErr result (groups.new ≡ groups.old) }
 {
     let group = Group::new(alloc, start_id(command.start, top));
-    let room = (command.group.len() as u128).wrapping_add(group.room());
-    if account.is_full_for(room) {
-        return Err(AllocError);
-    }
+    let room = command.group.len() as u128 + group.room();
+    account.admit(room)?;
     reserve.admit(alloc, 0)?;
     let name = Bytes::from_slice(alloc, command.group.as_slice())?;
     groups.insert(name, group)?;
     Ok(room)
+}
+
+/// The groups of a new key: the first one. The bound refuses it exactly if it is above the bound.
+fn first_groups(
+    reserve: &mut Reserve,
+    account: &Account,
+    alloc: Global,
+    top: Id,
+    command: &GroupCreateCommand,
+) -> Result<Groups, NoMemory>
+    ensures ok { let group = new_group (starting_id command.now.start top) in
+        IfOk result (λ groups. groups ≡ insert empty command.now.group group) }
+    ensures bound { let group = new_group (starting_id command.now.start top) in
+        let room = length command.now.group + room_of_group group in
+        (result ≡ Err NoMemory.Bound) ↔ (is_above account.now.bound account.now.held room ≡ true) }
+{
+    let mut groups = NameMap::new(alloc);
+    let _ = insert_group(&mut groups, reserve, account, alloc, top, command)?;
+    Ok(groups)
 }
 
 /// Puts a new key with its first group. Both come by one insertion, so that a refusal of memory leaves
@@ -63,7 +84,7 @@ fn insert_key(
     reserve: &mut Reserve,
     alloc: Global,
     command: &GroupCreateCommand,
-) -> Result<(), AllocError>
+) -> Result<(), NoMemory>
     requires { get keys.old command.now.key ≡ None }
     ensures ok { let group = new_group (starting_id command.now.start new_key.stream.top) in
         OnOk result (keys.new ≡ insert keys.old command.now.key (with_group new_key command.now.group group)) }
@@ -71,16 +92,9 @@ fn insert_key(
 {
     let key = Bytes::from_slice(alloc, command.key.as_slice())?;
     let stream = Stream::new(alloc);
-    let mut groups = NameMap::new(alloc);
-    let _ = insert_group(
-        &mut groups,
-        reserve,
-        &keys.account,
-        alloc,
-        stream.top(),
-        command,
-    )?;
-    keys.insert(key, Slot { stream, groups })
+    let groups = first_groups(reserve, &keys.account, alloc, stream.top(), command)?;
+    keys.insert(key, Slot { stream, groups })?;
+    Ok(())
 }
 
 /// Makes a group among those of a key with this top.
@@ -104,7 +118,7 @@ fn create_in(
             account.change(0, room);
             Reply::Simple(Simple::Okay)
         }
-        Err(AllocError) => Reply::Error(Fault::Memory),
+        Err(_) => Reply::Error(Fault::Memory),
     }
 }
 
@@ -123,7 +137,7 @@ fn create_missing(
     }
     match insert_key(keys, reserve, alloc, command) {
         Ok(()) => Reply::Simple(Simple::Okay),
-        Err(AllocError) => Reply::Error(Fault::Memory),
+        Err(_) => Reply::Error(Fault::Memory),
     }
 }
 
@@ -176,6 +190,27 @@ pub fn destroy(keys: &mut Keys, key: &Bytes, group: &Bytes) -> Reply
     }
 }
 
+/// Adds a consumer to a group, and says whether it is new. The bound refuses it exactly if it is new, and its name is
+/// above the bound.
+fn add_consumer(
+    account: &Account,
+    alloc: Global,
+    group: &mut Group,
+    consumer: &Bytes,
+) -> Result<bool, NoMemory>
+    ensures made { IfOk result (λ made. made ≡ not (has_name group.old.consumers consumer.now)) }
+    ensures ok { OnOk result (group.new ≡ with_consumer consumer.now group.old) }
+    ensures bound { let is_above = is_above account.now.bound account.now.held (length consumer.now) in
+        (result ≡ Err NoMemory.Bound) ↔ ((not (has_name group.old.consumers consumer.now) && is_above) ≡ true) }
+    ensures err { OnErr result (group.new ≡ group.old) }
+{
+    if !group.has_consumer(consumer) {
+        account.admit(consumer.len() as u128)?;
+    }
+    let made = group.add_consumer(alloc, consumer)?;
+    Ok(made)
+}
+
 /// XGROUP CREATECONSUMER.
 pub fn create_consumer(
     keys: &mut Keys,
@@ -192,15 +227,12 @@ pub fn create_consumer(
     let Some(group) = slot.groups.get_mut(group) else {
         return Reply::Error(Fault::NoGroup);
     };
-    if !group.has_consumer(consumer) && keys.account.is_full_for(consumer.len() as u128) {
-        return Reply::Error(Fault::Memory);
-    }
     let before = group.room();
-    let added = group.add_consumer(alloc, consumer);
+    let added = add_consumer(&keys.account, alloc, group, consumer);
     keys.account.change(before, group.room());
     match added {
         Ok(made) => one_where(made),
-        Err(AllocError) => Reply::Error(Fault::Memory),
+        Err(_) => Reply::Error(Fault::Memory),
     }
 }
 

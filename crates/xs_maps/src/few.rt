@@ -111,7 +111,16 @@ pub(crate) fn value_in<'a, K: Ord, V>(few: &'a Vec<(K, V)>, key: &K) -> Option<&
     }
 }
 
-/// Takes the value at a key out.
+/// Gives back the room that entries don't need any more: they have as much as if they had come one by one.
+fn halve<T>(few: &mut Vec<T>)
+    ensures { few.new.items ≡ few.old.items }
+{
+    if matches!(few.len(), 0 | 1 | 2 | 4) {
+        few.shrink_to_fit();
+    }
+}
+
+/// Takes the value at a key out, and gives back the room that the others don't need.
 pub(crate) fn remove_few<K: Ord + Drop, V: Drop>(few: &mut Vec<(K, V)>, key: &K) -> Option<V>
     requires { IsStrictlySortedBy K.cmp (keys_of few.old.items) }
     ensures value { result ≡ lookup (is_at (K.cmp key.now)) few.old.items }
@@ -121,6 +130,7 @@ pub(crate) fn remove_few<K: Ord + Drop, V: Drop>(few: &mut Vec<(K, V)>, key: &K)
     match place(few.as_slice(), key) {
         Ok(at) => {
             let (_, value) = few.remove(at);
+            halve(few);
             Some(value)
         }
         Err(_) => None,

@@ -72,6 +72,21 @@ impl<K: Ord, V> Form<K, V> {
     }
 }
 
+/// Takes the value at a key out of a tree. A tree of no entries takes no memory then.
+fn remove_many<K: Ord + Drop, V: Drop>(many: &mut BTreeMap<K, V>, key: &K) -> Option<V>
+    requires { IsOrdered K.cmp many.old }
+    ensures value { result ≡ get K.cmp many.old key.now }
+    ensures updates { UpdatesBy K.cmp (K.cmp key.now) many.old many.new None }
+    ensures unchanged { IfNone result (IsUnchanged many.old many.new) }
+    ensures ordered { IsOrdered K.cmp many.new }
+{
+    let value = many.remove(key);
+    if many.is_empty() {
+        many.clear();
+    }
+    value
+}
+
 impl<K: Ord + Drop, V: Drop> Form<K, V> {
     /// Moves the entries to a tree where the vector is full.
     fn make_room(&mut self) -> Result<(), AllocError>
@@ -116,7 +131,7 @@ impl<K: Ord + Drop, V: Drop> Form<K, V> {
         self.put(key, value)
     }
 
-    /// Takes the value at a key out.
+    /// Takes the value at a key out, and gives back the room that the others don't need.
     pub(crate) fn remove(&mut self, key: &K) -> Option<V>
         requires { IsOrdered K.cmp (seen self.old) }
         ensures value { result ≡ get K.cmp (seen self.old) key.now }
@@ -126,7 +141,7 @@ impl<K: Ord + Drop, V: Drop> Form<K, V> {
     {
         match self {
             Form::Few(few) => few::remove_few(&mut few.entries, key),
-            Form::Many(many) => many.remove(key),
+            Form::Many(many) => remove_many(many, key),
         }
     }
 }

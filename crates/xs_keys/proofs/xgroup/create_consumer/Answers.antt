@@ -28,29 +28,11 @@ returns-in_default-get_mut c = λ now.
       content_is = shown-same c.keys.inside.slots c.args.keys.now c.keys.view_is c.args.key.now key found ∙ rw (had, none) refl;
     })
 
-pub invariant_of-keys-then-is_full_for : goal.invariant_of-keys-then-is_full_for
-invariant_of-keys-then-is_full_for c =
-    let key : KeyInMemory = record { stream = c.slot.inside.stream; groups = c.slot.inside.groups } in
-    let was = c.in-Some-get_mut.group.now in
-    counted-group c.keys.inside.slots c.keys.inside.account.held c.keys.inside.account.held c.keys.invariant c.keys.inside.account.small c.args.key.now key
-    (sym c.in-Some.ensures.value ∙ ap Some (sym c.slot.view_is)) c.args.group.now was was (sym c.in-Some-get_mut.ensures.value) refl
-
-pub returns-then-is_full_for : goal.returns-then-is_full_for
-returns-then-is_full_for c = λ now.
-    let content = c.args.keys.now in
-    let name = c.args.key.now in
-    let key : KeyInMemory = record { stream = c.slot.inside.stream; groups = c.slot.inside.groups } in
-    let was = c.in-Some-get_mut.group.now in
-    let new : KeyInMemory = record { stream = c.slot.inside.stream; groups = insert c.slot.inside.groups c.args.group.now was } in
-    let had = shown-key c.keys.inside.slots content c.keys.view_is name key (sym c.in-Some.ensures.value ∙ ap Some (sym c.slot.view_is)) in
-    rw (shown-change c.keys.inside.slots content c.keys.view_is name new)
-    (refuses-consumer content now name c.args.group.now c.args.consumer.now (key_state_of key) was was had (sym c.in-Some-get_mut.ensures.value) refl)
-
 pub invariant_of-keys-2 : goal.invariant_of-keys-2
 invariant_of-keys-2 c =
     let key : KeyInMemory = record { stream = c.slot.inside.stream; groups = c.slot.inside.groups } in
     counted-group c.keys.inside.slots c.keys.inside.account.held c.change.new.self.held c.keys.invariant c.change.new.self.small c.args.key.now key
-    (sym c.in-Some.ensures.value ∙ ap Some (sym c.slot.view_is)) c.args.group.now c.in-Some-get_mut.group.now c.add_consumer-added.new.self (sym c.in-Some-get_mut.ensures.value)
+    (sym c.in-Some.ensures.value ∙ ap Some (sym c.slot.view_is)) c.args.group.now c.in-Some-get_mut.group.now c.add_consumer-added.new.group (sym c.in-Some-get_mut.ensures.value)
     (rw (c.room-before.ensures, c.room.ensures) at c.change.ensures.held)
 
 pub returns : goal.returns
@@ -59,7 +41,7 @@ returns c = λ now.
     let name = c.args.key.now in
     let key : KeyInMemory = record { stream = c.slot.inside.stream; groups = c.slot.inside.groups } in
     let was = c.in-Some-get_mut.group.now in
-    let after = c.add_consumer-added.new.self in
+    let after = c.add_consumer-added.new.group in
     let new : KeyInMemory = record { stream = c.slot.inside.stream; groups = insert c.slot.inside.groups c.args.group.now after } in
     let had = shown-key c.keys.inside.slots content c.keys.view_is name key (sym c.in-Some.ensures.value ∙ ap Some (sym c.slot.view_is)) in
     let there : get key.groups c.args.group.now ≡ Some was = sym c.in-Some-get_mut.ensures.value in

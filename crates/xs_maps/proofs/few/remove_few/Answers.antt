@@ -22,7 +22,7 @@ returns-in-Ok-clause-entries g c =
     let compare = g.K.Ord.cmp c.args.key.now in
     let items = c.args.few.now.items in
     let ok = ap (seek compare) (sym c.as_slice.ensures.value) ∙ sym c.place.ensures ∙ c.in-Ok.is in
-    c.remove-value.ensures.items ∙ (found_at compare items c.in-Ok.at ok).removes
+    c.halve.ensures ∙ c.remove-value.ensures.items ∙ (found_at compare items c.in-Ok.at ok).removes
 
 pub returns-in-Err-clause-value : goal.returns-in-Err-clause-value
 returns-in-Err-clause-value g c =
