@@ -17,27 +17,27 @@ use Rattle.xs_server.specs.declared.connections.ahead.AheadFault.{AheadFault}
 use Rattle.xs_server.specs.declared.connections.ahead.AheadFault.TheVariants as fault
 use Rattle.xs_server.specs.Ahead.{ServesAhead, HasCauseOf}
 use Rattle.xs_server.specs.Report.{Says}
-use Rattle.xs_server.specs.Gates.{Seen, GateTrace, with_given, with_returned, at_end}
+use Rattle.xs_server.specs.Gates.{Seen, GateTrace, AreFresh, with_given, with_returned, at_end}
 use Rattle.xs_server.specs.Workers.{no_memory, IsTold, ServesOne, ServesEach, ServesGate, Works}
 use Rattle.xs_server.proofs.AheadCalls.{calls-none}
 
 -- one more
 serves-more : (lost : Bool) (first mid last : Caller) (given returned : List Seen) (one back : Seen) (result : Result Ending AheadFault) → ServesEach lost first given returned mid
-    → (lost ≡ false → result ≢ Err fault.Port) → ServesOne result mid last one back → ServesEach lost first (given ++ one ∷ []) (returned ++ back ∷ []) last
-serves-more lost first mid last [] [] one back result none answered served =
-    (result, last, answered, subst (λ (c : Caller). ServesOne result c last one back) none served, refl)
-serves-more lost first mid last [] (other ∷ returned) one back result none answered served = absurd none
-serves-more lost first mid last (other ∷ given) [] one back result none answered served = absurd none
-serves-more lost first mid last (other ∷ given) (came ∷ returned) one back result (ended, next, fine, begun, rest) answered served =
-    (ended, next, fine, begun, serves-more lost next mid last given returned one back result rest answered served)
+    → (lost ≡ false → result ≢ Err fault.Port) → AreFresh one.rest one.held → ServesOne result mid last one back → ServesEach lost first (given ++ one ∷ []) (returned ++ back ∷ []) last
+serves-more lost first mid last [] [] one back result none answered fresh served =
+    (result, last, answered, fresh, subst (λ (c : Caller). ServesOne result c last one back) none served, refl)
+serves-more lost first mid last [] (other ∷ returned) one back result none answered fresh served = absurd none
+serves-more lost first mid last (other ∷ given) [] one back result none answered fresh served = absurd none
+serves-more lost first mid last (other ∷ given) (came ∷ returned) one back result (ended, next, fine, new, begun, rest) answered fresh served =
+    (ended, next, fine, new, begun, serves-more lost next mid last given returned one back result rest answered fresh served)
 
 -- where all were answered, the lane may be lost later
 serves-lost : (first last : Caller) (given returned : List Seen) → ServesEach false first given returned last → ServesEach true first given returned last
 serves-lost first last [] [] is = is
 serves-lost first last [] (back ∷ returned) is = absurd is
 serves-lost first last (one ∷ given) [] is = absurd is
-serves-lost first last (one ∷ given) (back ∷ returned) (ended, mid, fine, served, rest) =
-    (ended, mid, (λ n. absurd cc), served, serves-lost mid last given returned rest)
+serves-lost first last (one ∷ given) (back ∷ returned) (ended, mid, fine, fresh, served, rest) =
+    (ended, mid, (λ n. absurd cc), fresh, served, serves-lost mid last given returned rest)
 
 pub gate-none : (client : Caller) (gate : GateTrace) → ServesGate false client client gate gate
 gate-none client gate = record {
@@ -69,8 +69,8 @@ gate-over lost first last before now later s is = record {
 
 -- one more connection was given, served, and came back
 pub gate-more : (lost : Bool) (first mid last : Caller) (before now opened closed : GateTrace) (one back : Seen) (result : Result Ending AheadFault) → ServesGate lost first mid before now
-    → opened ≡ with_given now one → closed ≡ with_returned opened back → (lost ≡ false → result ≢ Err fault.Port) → ServesOne result mid last one back → ServesGate lost first last before closed
-gate-more lost first mid last before now opened closed one back result s opens closes answered served = record {
+    → (opened ≡ with_given now one) × AreFresh one.rest one.held → closed ≡ with_returned opened back → (lost ≡ false → result ≢ Err fault.Port) → ServesOne result mid last one back → ServesGate lost first last before closed
+gate-more lost first mid last before now opened closed one back result s (opens, fresh) closes answered served = record {
   given = s.given ++ one ∷ [];
   returned = s.returned ++ back ∷ [];
   given_is =
@@ -79,7 +79,7 @@ gate-more lost first mid last before now opened closed one back result s opens c
   returned_is =
       ap (λ (g : GateTrace). g.returned) closes ∙ ap (λ (g : GateTrace). g.returned ++ back ∷ []) opens
       ∙ ap (λ gs. gs ++ back ∷ []) s.returned_is ∙ append_assoc before.returned s.returned (back ∷ []);
-  served = serves-more lost first mid last s.given s.returned one back result s.served answered served;
+  served = serves-more lost first mid last s.given s.returned one back result s.served answered fresh served;
 }
 
 -- the rings and the number of the lane stay
@@ -91,7 +91,7 @@ each-side : (lost : Bool) (first last : Caller) (given returned : List Seen) →
 each-side lost first last [] [] is = subst (λ (c : Caller). KeepsSide first c) (sym is) (refl, refl, refl)
 each-side lost first last [] (back ∷ returned) is = absurd is
 each-side lost first last (one ∷ given) [] is = absurd is
-each-side lost first last (one ∷ given) (back ∷ returned) (ended, mid, fine, served, rest) =
+each-side lost first last (one ∷ given) (back ∷ returned) (ended, mid, fine, fresh, served, rest) =
     side_again first mid last (serves-side first mid served.read served.sent ended served.served) (each-side lost mid last given returned rest)
 
 pub works-side : (faulty : Bool) (first last : Caller) (before now : GateTrace) → Works faulty first last before now → KeepsSide first last

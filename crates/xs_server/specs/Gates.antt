@@ -1,5 +1,5 @@
 -- The connections of a gate: those that it gave, and those that came back.
-use Rattle.std.specs.Prelude.{ℕ, Bool, true, false, List, [], ◌∷◌, ◌++◌, map, Option}
+use Rattle.std.specs.Prelude.{◌≡◌, ℕ, Bool, true, false, List, [], ◌∷◌, ◌++◌, map, Option}
 use Rattle.xs_devices.specs.Passing.{Passing}
 
 -- a connection: the bytes that have passed through its reader and its writer, and those that are left or held, where
@@ -14,6 +14,10 @@ pub record Seen : Type 0 where
 abbrev pub seen : Passing → Bool → Bool → Passing → Bool → Seen
 seen rest ended unread held unwritten =
     record { rest = rest; ended = ended; unread = unread; held = held; unwritten = unwritten }
+
+-- no byte has passed through a reader or a writer yet
+abbrev pub AreFresh : Passing → Passing → Type 0
+AreFresh rest held = (rest.passed ≡ []) × (held.passed ≡ [])
 
 -- each of these readers and writers, as contracts see it
 abbrev pub all_seen :

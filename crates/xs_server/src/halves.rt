@@ -3,14 +3,15 @@
 //! While a call waits nobody reads, so somebody has to look whether the client is still there. Whether it has closed
 //! its side shows only behind the bytes that it sent before. So a look reads them, without waiting, into a buffer that
 //! the reader takes them from later.
-ghost use Rattle.std.specs.Prelude.{◌≤◌, length, IfOk};
+ghost use Rattle.std.specs.Prelude.{◌≤◌, length, IfOk, IfSome};
+ghost use Rattle.xs_server.specs.Gates.{AreFresh};
 
 use std::alloc::{AllocError, Global};
 use std::io;
 use std::io::{ErrorKind, Read, Write};
 use std::net::TcpStream;
 use std::sync::{Arc, Mutex, Wait};
-use xs_devices::{FromRead, ToWrite};
+use xs_devices::{FromRead, Sink, Source, ToWrite};
 
 /// How many bytes are read while a call waits, and how many at once.
 const AHEAD: usize = 65_536;
@@ -202,6 +203,9 @@ impl Peer {
     }
 }
 
+/// Both halves of a connection.
+pub type Halves<S> = (FromRead<Incoming>, ToWrite<Outgoing<S>>);
+
 /// The memory of the halves of connections, one after the other.
 #[derive(Drop)]
 pub struct HalvesMemory {
@@ -230,11 +234,10 @@ impl HalvesMemory {
     }
 
     /// Both halves of a stream. They take no memory. None while the halves of another connection are in use.
-    pub fn halves_of<S: Wait + Drop>(
-        &self,
-        system: S,
-        stream: TcpStream,
-    ) -> Option<(FromRead<Incoming>, ToWrite<Outgoing<S>>)> {
+    pub fn halves_of<S: Wait + Drop>(&self, system: S, stream: TcpStream) -> Option<Halves<S>>
+        ensures { IfSome result (λ one. AreFresh (⟦<FromRead<Incoming> as Source>⟧.rest one.0)
+            (⟦<ToWrite<Outgoing<S>> as Sink>⟧.held one.1)) }
+    {
         let shared = Arc::try_clone(&self.shared).ok()?;
         let other = Arc::try_clone(&self.shared).ok()?;
         {

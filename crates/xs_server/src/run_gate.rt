@@ -1,17 +1,17 @@
 //! A gate of a server that stays: it takes connections from the hall, without end.
-ghost use Rattle.std.specs.Prelude.{◌≡◌, IfOk};
-ghost use Rattle.xs_server.specs.Gates.{new_gate};
+ghost use Rattle.std.specs.Prelude.{◌≡◌, IfOk, IfSome};
+ghost use Rattle.xs_server.specs.Gates.{AreFresh, new_gate};
 
 use crate::announcement::Announcement;
 use crate::hall::Hall;
-use crate::halves::{HalvesMemory, Incoming, Outgoing, Peer};
+use crate::halves::{Halves, HalvesMemory, Incoming, Outgoing, Peer};
 use crate::work::gate::{Gate, GateFault};
 use crate::work::register::Register;
 use std::alloc::{AllocError, Global};
 use std::net::TcpStream;
 use std::sync::{Arc, Wait};
 use std::time::Duration;
-use xs_devices::{FromRead, ToWrite};
+use xs_devices::{FromRead, Sink, Source, ToWrite};
 
 /// A gate that takes connections from a hall, which other gates share.
 #[derive(Drop)]
@@ -58,7 +58,10 @@ impl<S: Wait + Copy + Send + Drop> RunGate<S> {
     }
 
     /// Both halves of a stream.
-    fn halves_of(&self, stream: TcpStream) -> Option<(FromRead<Incoming>, ToWrite<Outgoing<S>>)> {
+    fn halves_of(&self, stream: TcpStream) -> Option<Halves<S>>
+        ensures { IfSome result (λ one. AreFresh (⟦<FromRead<Incoming> as Source>⟧.rest one.0)
+            (⟦<ToWrite<Outgoing<S>> as Sink>⟧.held one.1)) }
+    {
         // Without these replies may be late, and an idle connection stays: no reason to refuse it.
         let _ = stream.set_nodelay(true);
         if self.idle.is_some() {
@@ -68,7 +71,10 @@ impl<S: Wait + Copy + Send + Drop> RunGate<S> {
     }
 
     /// Waits for the next connection of the hall, and gives its halves. None once the hall is closed.
-    fn take_next<R: Wait>(&self, rt: &R) -> Option<(FromRead<Incoming>, ToWrite<Outgoing<S>>)> {
+    fn take_next<R: Wait>(&self, rt: &R) -> Option<Halves<S>>
+        ensures { IfSome result (λ one. AreFresh (⟦<FromRead<Incoming> as Source>⟧.rest one.0)
+            (⟦<ToWrite<Outgoing<S>> as Sink>⟧.held one.1)) }
+    {
         for _ in rt.forever() {
             let stream = self.hall.next(rt)?;
             if let Some(halves) = self.halves_of(stream) {
@@ -89,7 +95,7 @@ impl<S: Wait + Copy + Send + Drop> Gate for RunGate<S> {
     fn open_next<R: Wait>(
         &mut self,
         rt: &R,
-    ) -> Result<Option<(FromRead<Incoming>, ToWrite<Outgoing<S>>)>, GateFault> {
+    ) -> Result<Option<Halves<S>>, GateFault> {
         self.announcement.make();
         match self.take_next(rt) {
             Some(connection) => {

@@ -1,9 +1,9 @@
 //! Connections over TCP.
-ghost use Rattle.std.specs.Prelude.{◌≡◌, IfOk};
-ghost use Rattle.xs_server.specs.Gates.{new_gate};
+ghost use Rattle.std.specs.Prelude.{◌≡◌, IfOk, IfSome};
+ghost use Rattle.xs_server.specs.Gates.{AreFresh, new_gate};
 
 use crate::announcement::Announcement;
-use crate::halves::{HalvesMemory, Incoming, Outgoing};
+use crate::halves::{Halves, HalvesMemory, Incoming, Outgoing};
 use crate::work::gate::{Gate, GateFault};
 use crate::work::register::Register;
 use std::alloc::{AllocError, Global};
@@ -12,7 +12,7 @@ use std::net::{TcpListener, TcpStream};
 use std::sync::{Arc, Wait};
 use std::thread;
 use std::time::{Clock, Duration};
-use xs_devices::{FromRead, ToWrite};
+use xs_devices::{FromRead, Sink, Source, ToWrite};
 
 /// Linux's numbers of the errors of `accept` that a listener gives for good: its descriptor is closed, it doesn't
 /// listen any more, and its descriptor is another file's.
@@ -102,7 +102,10 @@ fn take_next<S: Clock + Wait + Copy + Drop>(
     listener: &TcpListener,
     memory: &HalvesMemory,
     left: &mut u64,
-) -> Result<Option<(FromRead<Incoming>, ToWrite<Outgoing<S>>)>, GateFault> {
+) -> Result<Option<Halves<S>>, GateFault>
+    ensures { IfOk result (λ next. IfSome next (λ one. AreFresh (⟦<FromRead<Incoming> as Source>⟧.rest one.0)
+        (⟦<ToWrite<Outgoing<S>> as Sink>⟧.held one.1))) }
+{
     for _ in 0..*left {
         *left = left.saturating_sub(1);
         let stream = accept(system, listener)?;
@@ -125,7 +128,7 @@ impl<S: Clock + Wait + Copy + Send + Drop> Gate for TcpGate<S> {
     fn open_next<R: Wait>(
         &mut self,
         _rt: &R,
-    ) -> Result<Option<(FromRead<Incoming>, ToWrite<Outgoing<S>>)>, GateFault> {
+    ) -> Result<Option<Halves<S>>, GateFault> {
         self.announcement.make();
         match take_next(&self.system, &self.listener, &self.memory, &mut self.left) {
             Ok(Some(connection)) => {
