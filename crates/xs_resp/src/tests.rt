@@ -2,6 +2,7 @@
 use super::*;
 use std::alloc::{AllocError, Global};
 use std::test::Fail;
+use xs_bytes::Bytes;
 
 /// A string of so many bytes, no two neighbours of which are alike.
 fn string(alloc: Global, length: usize) -> Result<Vec<u8>, AllocError> {
