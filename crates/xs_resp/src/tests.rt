@@ -72,7 +72,13 @@ fn gathers_short_tokens_and_lends_long_strings(rt: HostRuntime) -> Result<(), Fa
     let alloc = rt.alloc();
     let mut encoder = Encoder::new(alloc)?;
     // A lent string makes two pieces: the one in front of it, and itself.
-    for (length, wanted) in [(0, 1), (13_000, 1), (14_000, 2), (32_769, 11), (100_000, 11)] {
+    for (length, wanted) in [
+        (0, 1),
+        (13_000, 1),
+        (14_000, 2),
+        (32_769, 11),
+        (100_000, 11),
+    ] {
         let bytes = string(alloc, length)?;
         encoder.clear();
         encoder.begin(five(alloc, bytes.as_slice())?);

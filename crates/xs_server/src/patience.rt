@@ -37,7 +37,9 @@ impl<S: Wait + Clock + Drop> Pause for Watch<S> {
         if self.peer.was_seen_to_leave() {
             client.hurry();
         }
-        if client.idle_for(&self.system, Duration::from_millis(BEAT_MILLIS)) && self.peer.has_left() {
+        if client.idle_for(&self.system, Duration::from_millis(BEAT_MILLIS))
+            && self.peer.has_left()
+        {
             client.hurry();
         }
     }

@@ -92,10 +92,7 @@ impl<S: Wait + Copy + Send + Drop> Gate for RunGate<S> {
 
     ghost trace = { λ g. g.register };
 
-    fn open_next<R: Wait>(
-        &mut self,
-        rt: &R,
-    ) -> Result<Option<Halves<S>>, GateFault> {
+    fn open_next<R: Wait>(&mut self, rt: &R) -> Result<Option<Halves<S>>, GateFault> {
         self.announcement.make();
         match self.take_next(rt) {
             Some(connection) => {

@@ -125,10 +125,7 @@ impl<S: Clock + Wait + Copy + Send + Drop> Gate for TcpGate<S> {
 
     ghost trace = { λ g. g.register };
 
-    fn open_next<R: Wait>(
-        &mut self,
-        _rt: &R,
-    ) -> Result<Option<Halves<S>>, GateFault> {
+    fn open_next<R: Wait>(&mut self, _rt: &R) -> Result<Option<Halves<S>>, GateFault> {
         self.announcement.make();
         match take_next(&self.system, &self.listener, &self.memory, &mut self.left) {
             Ok(Some(connection)) => {
