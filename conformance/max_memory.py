@@ -180,13 +180,13 @@ def counts_behind_removals(program):
     works |= {f"{removal.__name__} of {rows} rows": (groups_of(rows), removal, most)
               for rows in (1, 8, 9) for removal, most in ((acknowledgements, 1 + A_FIFTH), (ends_of_groups, 1 + A_TENTH))}
     for what, (commands, removal, most) in works.items():
-        with running(program, "--max-memory", "4m", workers=1) as server:
+        with running(program, "--max-memory", "3m", workers=1) as server:
             with raw(server.port) as one, one.makefile("rb") as replies:
                 asked(one, replies, ["XADD other 1-1 f v"])
                 before = server.resident()
                 asked(one, replies, removal(filled(one, replies, commands)))
                 filled(one, replies, commands)
-                share = (server.resident() - before) / (4 * MEGABYTE)
+                share = (server.resident() - before) / (3 * MEGABYTE)
                 print(f"{what}: {share:.3f} of the bound", flush=True)
                 assert 1 - A_TENTH <= share <= most, (what, share)
 
