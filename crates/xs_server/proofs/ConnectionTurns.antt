@@ -53,7 +53,7 @@ none-begun (reply ∷ begun) none = absurd (omega (arith, some-text reply, ap le
 -- ---- what a turn takes
 
 pub at-rest : (session : Session) (rest : List ℕ) → IsAtRest session rest → SessionIsAfter rest [] [] [] session
-at-rest session rest r = session-new rest session r.ended r.holds (r.places, r.owed)
+at-rest session rest r = session-new rest session r.ended r.holds r.places r.owed
 
 module _ (bytes : List ℕ) (asked : List Command) (got : List Reply) (ended : Option Ending) (held : Held) (places : List (Option Reply)) where
   -- nothing is sent or begun yet

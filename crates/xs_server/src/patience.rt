@@ -64,7 +64,7 @@ pub struct Patience<S: Drop> {
     max_memory: u64,
 }
 
-impl<S: Wait + Clock + Copy + Send + Drop> Patience<S> {
+impl<S: Wait + Clock + Copy + Drop> Patience<S> {
     /// The way of the workers of these gates, over a keyspace that may hold so many bytes; 0 if there is no bound.
     pub fn new(
         system: S,
@@ -118,7 +118,7 @@ impl<S: Wait + Clock + Copy + Send + Drop + 'static> Mode<RunGate<S>> for Patien
     }
 }
 
-impl<S: Wait + Clock + Copy + Send + Drop> KeeperMode for Patience<S> {
+impl<S: Wait + Clock + Copy + Drop> KeeperMode for Patience<S> {
     fn begin<J: Journal + Drop>(&self, keeper: &mut Keeper<J>) {
         keeper.let_wait();
         keeper.set_bound(self.max_memory);

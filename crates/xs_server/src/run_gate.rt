@@ -46,7 +46,9 @@ impl<S: Wait + Copy + Send + Drop> RunGate<S> {
             register: Register::new(),
         })
     }
+}
 
+impl<S: Wait + Copy + Drop> RunGate<S> {
     /// The clock that its worker waits by.
     pub fn system(&self) -> S {
         self.system

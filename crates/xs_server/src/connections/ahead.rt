@@ -1,6 +1,6 @@
 //! A connection over a reader, a writer and a lane: its requests are asked ahead of the answers.
 ghost use Rattle.std.specs.Prelude.{◌≡◌, ◌⊎◌, ◌++◌, ◌∷◌, [], Bool, ℕ, List, true, false, Ok};
-ghost use Rattle.std.specs.Prelude.{◌≤◌, length, OnOk, OnErr, IfErr, MatchResult};
+ghost use Rattle.std.specs.Prelude.{◌<◌, ◌≤◌, length, OnOk, OnErr, IfErr, MatchResult};
 ghost use Rattle.xs_devices.specs.Passing.{Appends, Consumes};
 ghost use Rattle.xs_resp.specs.declared.reply.Reply.{Reply};
 ghost use Rattle.xs_resp.specs.LeftToWrite.{bytes_left};

@@ -1,6 +1,8 @@
-use Rattle.std.proofs.Common.{◌++◌, ap, ◌∙◌, append_assoc}
+use Rattle.std.proofs.Common.{◌++◌, ap, sym, ◌∙◌, subst, append_assoc}
 use Rattle.xs_devices.proofs.Passing.{Appends-trans}
-use Rattle.xs_session.specs.Places.{has_open}
+use Rattle.xs_resp.specs.LeftToWrite.{bytes_left}
+use Rattle.xs_session.specs.declared.session.Session.{Session}
+use Rattle.xs_session.specs.Places.{has_open, NoneReady}
 use Rattle.xs_session.proofs.Tests.{none-behind}
 use Rattle.xs_server.proofs.AheadTurns.{breaks-later}
 use Rattle.xs_server.proofs.connections.ahead.send_ready.Goals as goal
@@ -49,4 +51,9 @@ returns-in-Err-send_owed-clause-sends g c = λ read asked got sent s.
     (went ++ more, Appends-trans _ _ _ went more appends also, breaks-later read asked got sent went more c.send_owed-in-answers.new.session breaks)
 
 pub returns-clause-none : goal.returns-clause-none
-returns-clause-none g c = ?
+returns-clause-none g c =
+    let begun = c.gather_answers-in-answers.ensures in
+    let owed = c.answers.session.owed in
+    let same = begun.none c.answers-test.false in
+    let ready = begun.last c.answers-test.false (none-behind owed.piece owed.behind c.answers.invariant.owed) in
+    (ap (λ (s : Session). bytes_left s.owed) same ∙ c.answers.invariant.owed, subst (λ (s : Session). NoneReady s.places) (sym same) ready)
