@@ -332,6 +332,7 @@ def two_logs(program):
         first, last = (os.path.getsize(logs.path_of(folder, place)) for place in (1, 2))
         assert logs.FULL <= first < logs.FULL + 2 * len(value) and last > 0, (first, last)
         assert told.kept(logs.path_of(folder, 1)) == first, "the first log isn't kept"
+        assert told.last(logs.path_of(folder, 1)) < told.last(folder), "the next log is there before the first is kept"
         files = [os.stat(logs.path_of(folder, place)) for place in (1, 2)]
         limits = served.with_limits({resource.RLIMIT_AS: 64 * MEGABYTE})
         is_refusal(start(program, folder, before=limits), folder, "log-[12] out of memory")
