@@ -260,5 +260,5 @@ def wrong_options(program):
         assert b"--log" in done.stdout and b"--sync" in done.stdout, done
 
 
-CASES = (wrong_options, wrong_folders, no_access, in_use, in_use_before_it_is_read, torn_ends, torn_next_log, where_it_is_made,
-         turned_bits)
+CASES = (wrong_options, wrong_folders, no_access, in_use, in_use_before_it_is_read, torn_ends, torn_next_log,
+         where_it_is_made, turned_bits)

@@ -348,6 +348,17 @@ def two_logs(program):
         assert now[1].st_size > last and logs.numbers(folder) == [1, 2]
 
 
+def many_logs(program):
+    """A folder may have more logs than the server may have descriptors: each is open only while it is read."""
+    with new_folder() as folder:
+        records = [logs.record(1_700_000_000_000 + place, [b"XADD", b"s", b"%d-0" % place, b"f", b"v"])
+                   for place in range(1, 81)]
+        logs.write_logs(folder, *(logs.header(place) + one for place, one in enumerate(records, 1)))
+        with logged(program, folder, workers=2, limits={resource.RLIMIT_NOFILE: 60}) as server:
+            assert read_at_start(server, folder) == (80, 0)
+            say_at(server, "XLEN s", number(80))
+
+
 def full_memory(program):
     """Additions that are refused since there is no memory are in no log: a start with ample memory has those alone that
     were answered."""
@@ -378,7 +389,7 @@ def tells_how_far_it_is(program):
 
 CASES = (*bad_folders.CASES, what_a_log_has, tells_how_far_it_is, *kept_log.CASES, stopped_and_started, at_random,
          the_clock_is_late, waits_across_a_restart, *crash_points.CASES, *refused_logs.CASES, *kept.CASES, two_logs,
-         full_memory, killed_without_syncs, killed_between_syncs)
+         many_logs, full_memory, killed_without_syncs, killed_between_syncs)
 
 
 def main():

@@ -163,8 +163,8 @@ def syncs_each_second(program):
 
 
 def is_synced_once_it_can_be_opened(program):
-    """With `--sync second`, while there is no descriptor to open the log by, it isn't kept; it is once there is one, though
-    nothing more comes."""
+    """With `--sync second`, while there is no descriptor to open the log by, it isn't kept; it is once there is one,
+    though nothing more comes."""
     with syncs.counted() as told, new_folder() as folder:
         with logged(program, folder, "second", environment=told.environment) as server, raw(server.port) as one:
             say(one, "PING", PONG.decode())
@@ -290,8 +290,8 @@ def a_sync_fails_within_a_pipeline(program):
 
 
 def a_sync_of_a_closed_log_fails(program):
-    """With `--sync no` a log that is full is synced before the next one is begun. If that fails it ends; what was answered
-    is there at the next start."""
+    """With `--sync no` a log that is full is synced before the next one is begun. If that fails it ends; what was
+    answered is there at the next start."""
     value = b"v" * 1_000_000
     with syncs.counted() as told, new_folder() as folder:
         with logged(program, folder, "no", environment=told.environment) as server, Connection(server.port) as one:
@@ -412,5 +412,7 @@ def no_room_to_start(program):
 
 
 CASES = (answers_wait_for_the_sync, replies_before_a_sync, syncs_are_shared, syncs_are_shared_behind_a_refusal,
-         writes_are_shared, syncs_each_second, what_it_read_is_kept, headers_are_kept, names_are_kept, the_next_log_is_kept, a_sync_fails, a_sync_beside_fails,
-         is_synced_once_it_can_be_opened, a_sync_fails_within_a_pipeline, a_sync_of_a_closed_log_fails, idle_costs_no_sync, no_room_to_start, no_room, no_room_for_many)
+         writes_are_shared, syncs_each_second, what_it_read_is_kept, headers_are_kept, names_are_kept,
+         the_next_log_is_kept, a_sync_fails, a_sync_beside_fails, is_synced_once_it_can_be_opened,
+         a_sync_fails_within_a_pipeline, a_sync_of_a_closed_log_fails, idle_costs_no_sync, no_room_to_start, no_room,
+         no_room_for_many)

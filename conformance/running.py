@@ -80,8 +80,8 @@ def forty_too_many(program):
 
 
 def sends_on_though_it_is_told(program):
-    """One that is told that there are too many, and sends on a little, isn't reset meanwhile: some systems would drop what
-    it was told. The machine may be busy, and its time over; so one of five tries counts."""
+    """One that is told that there are too many, and sends on a little, isn't reset meanwhile: some systems would drop
+    what it was told. The machine may be busy, and its time over; so one of five tries counts."""
     def is_left_alone(stream):
         stream.settimeout(3)
         select.select([stream], [], [], 3)
@@ -204,6 +204,8 @@ def a_thousand(program):
     if not may_have(3000):
         return
     with running(program, workers=MOST_WORKERS) as server, Clients(server.port) as clients:
+        # docs/CLIENTS.md says 418 MiB: the memory of so many connections is made when they come
+        assert server.address_space() < 460 * MEGABYTE, server.address_space()
         held = [clients.new() for _ in range(MOST_WORKERS)]
         for _ in range(2):
             for stream in held:
@@ -406,7 +408,7 @@ def keys_cost_little(program):
 
 @timed
 def pieces_of_a_request_cost_little(program):
-    """A request of 50,000 words that comes in 1,000 pieces costs little: what was read of it isn't read again with each."""
+    """A request of 50,000 words that comes in 1,000 pieces costs little: what was read isn't read again with each."""
     with running(program) as server, raw(server.port) as one:
         one.setsockopt(socket.IPPROTO_TCP, socket.TCP_NODELAY, 1)
         asked, before = asking("XDEL s" + " 1-1" * 50_000), server.processor_time()
@@ -810,7 +812,8 @@ def wrong_options(program):
 
 
 def taken(program):
-    """A port in use is told on standard error, with status 1, and who has it goes on; so is an address that isn't there."""
+    """A port in use is told on standard error, with status 1, and who has it goes on; so is an address that isn't
+    there."""
     with running(program, workers=2) as server:
         done = run(served.words_of_run(program, server.port, 2))
         line = f"xs_server: listening on 127.0.0.1:{server.port} failed: address in use\n".encode()
@@ -888,9 +891,9 @@ def main(arguments):
     alone = (tells_of_itself, wrong_options, taken, listener_ends, defaults, addresses, too_few_to_start,
              too_little_memory_to_start, readers_over_one_server, waiting.ends_in_time, waiting.sixty,
              waiting.waiting_costs_nothing, without_delay, pieces_of_a_pipeline, idle_ones_cost_little,
-             readers_cost_little, pauses_cost_little, fast_ones_behind_pauses_wake_few, keys_cost_little, pieces_of_a_request_cost_little, a_thousand, busy_among_idle, a_thousand_wait, full_memory,
-             full_memory_of_many,
-             full_queue_beside_producers, memory_of_the_gone, *max_memory.CASES)
+             readers_cost_little, pauses_cost_little, fast_ones_behind_pauses_wake_few, keys_cost_little,
+             pieces_of_a_request_cost_little, a_thousand, busy_among_idle, a_thousand_wait, full_memory,
+             full_memory_of_many, full_queue_beside_producers, memory_of_the_gone, *max_memory.CASES)
     at_once = (waiting.clients_that_go, waiting.has_just_gone, waiting.many_have_just_gone, waiting.terminated,
                forty_too_many, one_ends_in_time, few_descriptors, no_descriptors, closes_the_idle, keeps_the_idle,
                odd_errors, never_waits, clock_steps.clock_is_set, in_their_order, sends_while_it_waits,

@@ -229,7 +229,8 @@ def add_many(server, key, first, count, size):
 
 
 def copy_of(server, number):
-    """A copy of a descriptor of the server, as a socket. Linux lets a parent have it, if nothing forbids it: then None."""
+    """A copy of a descriptor of the server, as a socket. Linux lets a parent have it, if nothing forbids it, and then
+    there is none."""
     process = os.pidfd_open(server.child.pid)
     # 438 is the number of pidfd_getfd, which Python doesn't name
     copy = ctypes.CDLL(None, use_errno=True).syscall(438, process, number, 0)
