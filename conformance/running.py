@@ -28,7 +28,7 @@ import served
 import serves
 import waiting
 from full_queue import MEGABYTE
-from great import array, bulk, entry, number
+from great import bulk, number
 from real_redis import read_reply
 from served import (FULL, MOST_FAULTS, PATIENCE, PING, PONG, all_answer, asking, pass_together, passes, raw,
                     read_to_end, reset, running, say, tell, timed)
@@ -688,21 +688,11 @@ def sends_bytes(stream):
     comes(stream, PONG.decode())
 
 
-def reads_late(stream):
-    """It isn't closed while a reply waits for its reader, and has that whole."""
-    value, count = "v" * 1_000_000, 30
-    for place in range(1, count + 1):
-        say(stream, f"XADD late {place}-0 f {value}", bulk(f"{place}-0"))
-    stream.sendall(asking("XRANGE late - +"))
-    time.sleep(3)
-    comes(stream, array([entry(f"{place}-0", "f", value) for place in range(1, count + 1)]))
-
-
 @timed
 def closes_the_idle(program):
-    """With `--idle 1` connections that send nothing for a second are closed; one that waits, one that sends now and then,
-    and one that reads late, isn't."""
-    kinds = (sends_nothing, falls_silent, stops_within_a_request, waits, sends_requests, sends_bytes, reads_late)
+    """With `--idle 1` connections that send nothing for a second are closed; one that waits, and one that sends now and
+    then, isn't."""
+    kinds = (sends_nothing, falls_silent, stops_within_a_request, waits, sends_requests, sends_bytes)
     with running(program, "--idle", "1", workers=len(kinds)) as server:
         def work(place):
             with raw(server.port) as stream:
