@@ -79,8 +79,8 @@ def replies_before_a_sync(program):
 
 
 def syncs_are_shared(program):
-    """What 16 clients add while a sync lasts is kept by one more, or two if some of it comes late, and not by one for
-    each."""
+    """What 16 clients add while a sync lasts, 20 entries each, is kept by one more, or two if some of it comes late, and
+    not by one for each."""
     with syncs.counted() as told, new_folder() as folder:
         with (logged(program, folder, workers=20, environment=told.environment) as server,
               Clients(server.port) as clients):
@@ -92,12 +92,13 @@ def syncs_are_shared(program):
                 streams[0].sendall(asking("XADD s0 1-0 f v"))
                 told.one_begins(before)
                 for place, stream in enumerate(streams[1:], 1):
-                    stream.sendall(asking(f"XADD s{place} 1-0 f v"))
+                    stream.sendall(b"".join(asking(f"XADD s{place} {one}-0 f v") for one in range(1, 21)))
                 time.sleep(0.3)
-            for stream in streams:
-                comes(stream, bulk("1-0"))
+            comes(streams[0], bulk("1-0"))
+            for stream in streams[1:]:
+                comes(stream, "".join(bulk(f"{one}-0") for one in range(1, 21)))
             count = told.number(syncs.BEGUN) - before
-            assert count <= 4, f"17 additions took {count} syncs"
+            assert count <= 4, f"321 additions took {count} syncs"
 
 
 def syncs_are_shared_behind_a_refusal(program):
