@@ -510,17 +510,11 @@ def great_request(stream, size):
     assert read_exactly(stream, 22) == b"-ERR unknown command\r\n"
 
 
-def great_request_and_a_half(stream, size):
-    """The same, and half a request behind it."""
-    stream.sendall(request([b"NONE", b"v" * size]) + PING[:9])
-    assert read_exactly(stream, 22) == b"-ERR unknown command\r\n"
-
-
 def idle_behind_great_ones(program):
     """Connections that stay open behind a great reply or a great request hold no more memory than others. The size is
     one that the C library gives back at once."""
     size = 40_000_000
-    for ask in (great_reply, great_request, great_request_and_a_half):
+    for ask in (great_reply, great_request):
         with serving(program, workers=3) as server, contextlib.ExitStack() as open_ones:
             if ask == great_reply:
                 fill(server, "great", 1, size)
