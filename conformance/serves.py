@@ -668,7 +668,8 @@ def full_queue_beside_producers(program):
 
 
 def full_queue_of_great_jobs(program):
-    """A job of 5 MB, one of 3 MB in 1,000 fields, and three of 500 KB at once, are taken and claimed while memory is full."""
+    """A job of 5 MB, one of 3 MB in 1,000 fields, and three of 500 KB at once, are taken and claimed while memory is
+    full."""
     for size, count, fields in ((5_000_000, 1, 1), (3_000_000, 1, 1000), (500_000, 3, 1)):
         full_queue.great_jobs(program, size, count, fields)
 
