@@ -118,7 +118,7 @@ def key_deleted(server):
         other = clients.waiting("c", "kept")
         say(one, "DEL odd", number(1))
         nothing_comes(READ, alone, second, other)
-        say(one, "DEL odd gone", number(1))
+        say(one, "DEL odd gone odd", number(1))
         refuses(alone, "NOGROUP")
         refuses(second, "NOGROUP")
         nothing_comes(READ, other)
@@ -470,7 +470,8 @@ def leaver(port, behind, options="BLOCK 0"):
 
 
 def leaves(program, end, behind):
-    """A client goes while it waits. Two seconds later its worker serves another one; a job goes to who still waits."""
+    """A client goes while it waits. Two seconds later its worker serves another one, who may wait too; a job goes to who
+    still waits."""
     with running(program, workers=3) as server, Clients(server.port) as clients:
         one = clients.new()
         make(one, "left")
@@ -480,6 +481,8 @@ def leaves(program, end, behind):
         late = clients.new()
         late.sendall(PING)
         comes(late, PONG.decode(), within=0.9)
+        begin(late, reading("late", "left"))
+        nothing_comes(READ, late)
         add(one, "left", 1)
         comes(other, gives("left", 1))
         say(one, "XPENDING left g", array([number(1), bulk("1-0"), bulk("1-0"),
