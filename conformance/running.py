@@ -602,6 +602,10 @@ def full_queue_beside_producers(program):
         all_answer(server)
         full_queue.limit_memory(server, 64 * MEGABYTE)
         full_queue.consume_beside_producers(server, 600)
+    # without that variable some are, as docs/CLIENTS.md says
+    with running(program, workers=16, limits={resource.RLIMIT_AS: 500_000 * 1024},
+                 environment={"MALLOC_ARENA_MAX": "1"}) as server:
+        full_queue.consume_beside_producers(server, 600)
 
 
 # What the server may have five seconds after clients have left who asked for 100 MB that stay stored: Redis 7.0 has 131
