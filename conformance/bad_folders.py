@@ -3,10 +3,12 @@ import os
 import random
 import shutil
 import subprocess
+import tempfile
 
+import clock_steps
 import logs
 import served
-from great import array, bulk, entry
+from great import array, bulk, entry, number
 from logged import GOOD, NEXT, RECORDS, goes_on, is_refusal, logged, new_folder, options_of, read_at_start, start
 from real_redis import request
 from served import raw, say_at
@@ -140,6 +142,21 @@ def in_use(program):
         goes_on(program, folder, "s", 2, 2)
 
 
+def in_use_before_it_is_read(program):
+    """A start takes the lock before it reads: what it had read before would be too little once the other server has gone
+    on and ended."""
+    records = [logs.record(1_700_000_000_000 + place, [b"XADD", b"s", b"%d-0" % place, b"f", b"v" * 60_000])
+               for place in range(1, 41)]
+    with new_folder() as folder, tempfile.TemporaryDirectory() as above:
+        logs.write_logs(folder, logs.header(1) + b"".join(records))
+        environment = {"LD_PRELOAD": clock_steps.library_of("slow_reads.c", above)}
+        with logged(program, folder) as server:
+            refused = start(program, folder, environment=environment)
+            is_refusal(refused, folder, "another server uses it")
+            assert b" bytes read\n" not in refused.stderr, refused
+            say_at(server, "XLEN s", number(40))
+
+
 def turned_bits(program):
     """A bit of a record in the middle is turned, in each of its lines: the start tells the file and the byte where the
     record begins, and changes nothing."""
@@ -243,5 +260,5 @@ def wrong_options(program):
         assert b"--log" in done.stdout and b"--sync" in done.stdout, done
 
 
-CASES = (wrong_options, wrong_folders, no_access, in_use, torn_ends, torn_next_log, where_it_is_made,
-         turned_bits)
+CASES = (wrong_options, wrong_folders, no_access, in_use, in_use_before_it_is_read, torn_ends, torn_next_log,
+         where_it_is_made, turned_bits)

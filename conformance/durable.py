@@ -332,6 +332,7 @@ def two_logs(program):
         first, last = (os.path.getsize(logs.path_of(folder, place)) for place in (1, 2))
         assert logs.FULL <= first < logs.FULL + 2 * len(value) and last > 0, (first, last)
         assert told.kept(logs.path_of(folder, 1)) == first, "the first log isn't kept"
+        assert told.last(logs.path_of(folder, 1)) < told.last(folder), "the next log is there before the first is kept"
         files = [os.stat(logs.path_of(folder, place)) for place in (1, 2)]
         limits = served.with_limits({resource.RLIMIT_AS: 64 * MEGABYTE})
         is_refusal(start(program, folder, before=limits), folder, "log-[12] out of memory")
@@ -345,6 +346,17 @@ def two_logs(program):
         now = [os.stat(logs.path_of(folder, place)) for place in (1, 2)]
         assert (now[0].st_mtime_ns, now[0].st_size) == (files[0].st_mtime_ns, first), "a closed log was changed"
         assert now[1].st_size > last and logs.numbers(folder) == [1, 2]
+
+
+def many_logs(program):
+    """A folder may have more logs than the server may have descriptors: each is open only while it is read."""
+    with new_folder() as folder:
+        records = [logs.record(1_700_000_000_000 + place, [b"XADD", b"s", b"%d-0" % place, b"f", b"v"])
+                   for place in range(1, 81)]
+        logs.write_logs(folder, *(logs.header(place) + one for place, one in enumerate(records, 1)))
+        with logged(program, folder, workers=2, limits={resource.RLIMIT_NOFILE: 60}) as server:
+            assert read_at_start(server, folder) == (80, 0)
+            say_at(server, "XLEN s", number(80))
 
 
 def full_memory(program):
@@ -377,7 +389,7 @@ def tells_how_far_it_is(program):
 
 CASES = (*bad_folders.CASES, what_a_log_has, tells_how_far_it_is, *kept_log.CASES, stopped_and_started, at_random,
          the_clock_is_late, waits_across_a_restart, *crash_points.CASES, *refused_logs.CASES, *kept.CASES, two_logs,
-         full_memory, killed_without_syncs, killed_between_syncs)
+         many_logs, full_memory, killed_without_syncs, killed_between_syncs)
 
 
 def main():

@@ -147,9 +147,9 @@ def with_many_workers(program, takes):
         empty_full_queue(server, takes, 30_000)
 
 
-def great_jobs(program, size, count):
-    """Jobs of so many bytes, and behind them small ones until memory is full: so many of them are taken, claimed by id
-    and by scan, and acknowledged at once."""
+def great_jobs(program, size, count, fields=1):
+    """Jobs of so many bytes, in so many fields, and behind them small ones until memory is full, again and again: so many
+    of them are taken, claimed by id and by scan, and acknowledged at once."""
     with serving(program, workers=4, limits={resource.RLIMIT_AS: 140_000 * 1024}) as server:
         say_at(server, "XGROUP CREATE q g 0 MKSTREAM", "+OK\r\n")
         with raw(server.port) as stream, stream.makefile("rb") as replies:
@@ -157,11 +157,11 @@ def great_jobs(program, size, count):
                 stream.sendall(asking(text))
                 return read_reply(replies)
 
+            parts = ["f", "v" * (size // fields)] * fields
             for place in range(1, count + 1):
-                assert ask(f"XADD q {place}-0 f {'v' * size}") == f"$3\r\n{place}-0\r\n".encode()
-            add_until_full(server)
+                assert ask(f"XADD q {place}-0 {' '.join(parts)}") == f"$3\r\n{place}-0\r\n".encode()
             ids = [f"{place}-0" for place in range(1, count + 1)]
-            entries = array([entry(one, "f", "v" * size) for one in ids])
+            entries = array([entry(one, *parts) for one in ids])
             asked = {
                 f"XREADGROUP GROUP g a COUNT {count} STREAMS q >": array([array([bulk("q"), entries])]),
                 f"XCLAIM q g b 0 {' '.join(ids)}": entries,
@@ -169,5 +169,6 @@ def great_jobs(program, size, count):
                 f"XACK q g {' '.join(ids)}": number(count),
             }
             for text, reply in asked.items():
+                add_until_full(server)
                 got = ask(text)
                 assert got == reply.encode(), f"{text[:40]}: {got[:60]}"

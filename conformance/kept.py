@@ -79,8 +79,8 @@ def replies_before_a_sync(program):
 
 
 def syncs_are_shared(program):
-    """What 16 clients add while a sync lasts is kept by one more, or two if some of it comes late, and not by one for
-    each."""
+    """What 16 clients add while a sync lasts, 20 entries each, is kept by one more, or two if some of it comes late, and
+    not by one for each."""
     with syncs.counted() as told, new_folder() as folder:
         with (logged(program, folder, workers=20, environment=told.environment) as server,
               Clients(server.port) as clients):
@@ -92,12 +92,42 @@ def syncs_are_shared(program):
                 streams[0].sendall(asking("XADD s0 1-0 f v"))
                 told.one_begins(before)
                 for place, stream in enumerate(streams[1:], 1):
-                    stream.sendall(asking(f"XADD s{place} 1-0 f v"))
+                    stream.sendall(b"".join(asking(f"XADD s{place} {one}-0 f v") for one in range(1, 21)))
                 time.sleep(0.3)
-            for stream in streams:
-                comes(stream, bulk("1-0"))
+            comes(streams[0], bulk("1-0"))
+            for stream in streams[1:]:
+                comes(stream, "".join(bulk(f"{one}-0") for one in range(1, 21)))
             count = told.number(syncs.BEGUN) - before
-            assert count <= 4, f"17 additions took {count} syncs"
+            assert count <= 4, f"321 additions took {count} syncs"
+
+
+def syncs_are_shared_behind_a_refusal(program):
+    """While memory is refused few requests of a connection are asked ahead; behind that as many as before, so that 320
+    additions that come in one piece share a few syncs."""
+    with syncs.counted() as told, new_folder() as folder:
+        with (logged(program, folder, environment=told.environment, bound="2m") as server, raw(server.port) as one,
+              one.makefile("rb") as replies):
+            one.sendall(b"".join(asking(f"XADD {key} 1-0 f {'v' * 1_100_000}") for key in ("great", "s")))
+            got = [read_reply(replies) for _ in range(2)]
+            assert got == [bulk("1-0").encode(), b"-OOM out of memory\r\n"], got
+            say(one, "DEL great", number(1))
+            before = told.number(syncs.BEGUN)
+            one.sendall(b"".join(asking(f"XADD s {place}-0 f v") for place in range(1, 321)))
+            comes(one, "".join(bulk(f"{place}-0") for place in range(1, 321)))
+            count = told.number(syncs.BEGUN) - before
+            assert count <= 100, f"320 additions took {count} syncs"
+
+
+def writes_are_shared(program):
+    """With `--sync no` 3,200 additions that come in one piece share the writes to the log."""
+    with new_folder() as folder:
+        with logged(program, folder, "no") as server, raw(server.port) as one:
+            before = server.writes()
+            one.sendall(b"".join(asking(f"XADD s {place}-0 f v") for place in range(1, 3201)))
+            comes(one, "".join(bulk(f"{place}-0") for place in range(1, 3201)))
+            count = server.writes() - before
+            print(f"3,200 additions took {count} writes to the log and to the client", flush=True)
+            assert count <= 1600, count
 
 
 def is_kept_in_time(told, path):
@@ -131,6 +161,20 @@ def syncs_each_second(program):
             is_kept_in_time(told, last_log(folder))
             count, took = told.number(syncs.BEGUN) - before, time.monotonic() - began
             assert count <= took + 2, f"{count} syncs in {took} s"
+
+
+def is_synced_once_it_can_be_opened(program):
+    """With `--sync second`, while there is no descriptor to open the log by, it isn't kept; it is once there is one,
+    though nothing more comes."""
+    with syncs.counted() as told, new_folder() as folder:
+        with logged(program, folder, "second", environment=told.environment) as server, raw(server.port) as one:
+            say(one, "PING", PONG.decode())
+            limits = resource.prlimit(server.child.pid, resource.RLIMIT_NOFILE)
+            resource.prlimit(server.child.pid, resource.RLIMIT_NOFILE, (3, limits[1]))
+            add(one, "s", 1)
+            time.sleep(1.5)
+            resource.prlimit(server.child.pid, resource.RLIMIT_NOFILE, limits)
+            is_kept_in_time(told, last_log(folder))
 
 
 def a_sync_beside_fails(program):
@@ -180,6 +224,12 @@ def names_are_kept(program):
             with logged(program, folder, sync, environment=told.environment):
                 for path in (folder, os.path.dirname(folder)):
                     assert told.kept(path) > 0, f"with --sync {sync} the names in {path} aren't kept"
+    with syncs.counted() as told, new_folder() as folder:
+        above, port = os.path.dirname(folder), served.free_port()
+        words = ["env", "-C", above, *served.words_of_run(os.path.abspath(program), port, 2), "--log", "log"]
+        with served.Server(words, port, 2, None, told.environment) as server:
+            server.lines_until(server.child.stderr, "listening on")
+            assert told.kept(above) > 0, f"the names in {above} aren't kept if the folder's name is no path"
 
 
 def the_next_log_is_kept(program):
@@ -238,6 +288,23 @@ def a_sync_fails_within_a_pipeline(program):
             assert count is not None, f"behind {answered} replies {got[:200]!r} came"
             assert answered or count == 0, f"{count} additions were answered that no sync had kept"
             goes_on(program, folder, "s", 1 + answered + count, last)
+
+
+def a_sync_of_a_closed_log_fails(program):
+    """With `--sync no` a log that is full is synced before the next one is begun. If that fails it ends; what was
+    answered is there at the next start."""
+    value = b"v" * 1_000_000
+    with syncs.counted() as told, new_folder() as folder:
+        with logged(program, folder, "no", environment=told.environment) as server, Connection(server.port) as one:
+            told.fail()
+            with contextlib.suppress(OSError):
+                for place in range(1, 69):
+                    one.ask("XADD", "s", f"{place}-0", "f", value)
+            failed_log(server)
+            assert logs.numbers(folder) == [1]
+        told.fail(0)
+        with logged(program, folder, "no") as server:
+            say_at(server, "XLEN s", number(68))
 
 
 def idle_costs_no_sync(program):
@@ -345,6 +412,8 @@ def no_room_to_start(program):
             goes_on(program, folder, "s", 0, 0)
 
 
-CASES = (answers_wait_for_the_sync, replies_before_a_sync, syncs_are_shared, syncs_each_second, what_it_read_is_kept,
-         headers_are_kept, names_are_kept, the_next_log_is_kept, a_sync_fails, a_sync_beside_fails,
-         a_sync_fails_within_a_pipeline, idle_costs_no_sync, no_room_to_start, no_room, no_room_for_many)
+CASES = (answers_wait_for_the_sync, replies_before_a_sync, syncs_are_shared, syncs_are_shared_behind_a_refusal,
+         writes_are_shared, syncs_each_second, what_it_read_is_kept, headers_are_kept, names_are_kept,
+         the_next_log_is_kept, a_sync_fails, a_sync_beside_fails, is_synced_once_it_can_be_opened,
+         a_sync_fails_within_a_pipeline, a_sync_of_a_closed_log_fails, idle_costs_no_sync, no_room_to_start, no_room,
+         no_room_for_many)

@@ -41,9 +41,9 @@ def options_of(folder, sync):
 
 
 @contextlib.contextmanager
-def logged(program, folder, sync="always", workers=WORKERS, **how):
-    """A new server that keeps a log in this folder, which ends with the block."""
-    with running(program, *options_of(folder, sync), workers=workers, **how) as server:
+def logged(program, folder, sync="always", workers=WORKERS, bound="0", **how):
+    """A new server that keeps a log in this folder, which ends with the block. Its queues may hold so much."""
+    with running(program, *options_of(folder, sync), "--max-memory", bound, workers=workers, **how) as server:
         yield server
 
 
@@ -59,10 +59,11 @@ def read_at_start(server, folder):
     return int(found[2]), int(found[3])
 
 
-def start(program, folder, sync="always", before=None):
+def start(program, folder, sync="always", before=None, environment=None):
     """What becomes of a program that ends at its start."""
     words = [*served.words_of_run(program, served.free_port(), 2), *options_of(folder, sync)]
-    return subprocess.run(words, capture_output=True, timeout=30, preexec_fn=before)
+    return subprocess.run(words, capture_output=True, timeout=30, preexec_fn=before,
+                          env={**os.environ, **(environment or {})})
 
 
 def kill_while_it_starts(program, folder, port, sync, after, environment):

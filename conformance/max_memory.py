@@ -96,6 +96,15 @@ def makes_room(program):
         assert add_until_full(server) > 950
 
 
+def trims_make_room_of_great_ones(program):
+    """A trim that leaves nothing of a great entry makes room for as much, as a deletion does."""
+    for removal in ("XDEL q 1-0", "XTRIM q MAXLEN 0", "XTRIM q MINID 2-0"):
+        with running(program, "--max-memory", "8m") as server, raw(server.port) as one:
+            say(one, f"XADD q 1-0 f {'v' * 6_000_000}", bulk("1-0"))
+            say(one, removal, number(1))
+            say(one, f"XADD other 1-0 f {'v' * 4_000_000}", bulk("1-0"))
+
+
 def entries_of(shape):
     """Additions of entries of one shape."""
     return (adding(shape, place) for place in itertools.count(1))
@@ -277,5 +286,5 @@ def options(program):
         assert (done.returncode, done.stdout) == (2, b"") and b"--max-memory" in done.stderr, (word, done)
 
 
-CASES = (options, refuses_what_grows, makes_room, counts_what_is_resident, counts_behind_removals, rows_go_beyond,
-         beside_producers, over_a_log)
+CASES = (options, refuses_what_grows, makes_room, trims_make_room_of_great_ones, counts_what_is_resident,
+         counts_behind_removals, rows_go_beyond, beside_producers, over_a_log)

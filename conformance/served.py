@@ -114,6 +114,19 @@ class Server:
             fields = stat.read().rpartition(")")[2].split()
         return (int(fields[11]) + int(fields[12])) / os.sysconf("SC_CLK_TCK")
 
+    def writes(self):
+        """How many calls that write the process has made."""
+        with open(f"/proc/{self.child.pid}/io", encoding="ascii") as lines:
+            return next(int(line.split()[1]) for line in lines if line.startswith("syscw:"))
+
+    def waits(self):
+        """How often its threads have gone to sleep."""
+        folder, count = f"/proc/{self.child.pid}/task", 0
+        for name in os.listdir(folder):
+            with open(f"{folder}/{name}/status", encoding="ascii") as lines:
+                count += next(int(line.split()[1]) for line in lines if line.startswith("voluntary_ctxt_switches:"))
+        return count
+
     def stop_and_continue(self):
         """Stops the process by a signal, and lets it go on once it has stopped."""
         self.child.send_signal(signal.SIGSTOP)
@@ -123,6 +136,11 @@ class Server:
                     break
             time.sleep(0.001)
         self.child.send_signal(signal.SIGCONT)
+
+    def address_space(self):
+        """The bytes of address space that the process has taken."""
+        with open(f"/proc/{self.child.pid}/statm", encoding="ascii") as statm:
+            return int(statm.read().split()[0]) * 4096
 
     def resident(self):
         """The bytes of memory that the process has in use."""
@@ -210,24 +228,54 @@ def add_many(server, key, first, count, size):
             assert read_exactly(stream, len(wanted)) == wanted
 
 
-def shut_listener(server):
-    """Shuts the socket down that the server listens on, so that it gives no connection any more, and says whether it
-    could. It is reached by a descriptor of the server's, which Linux lets a parent have, if nothing forbids it."""
-    with open(f"/proc/{server.child.pid}/net/tcp", encoding="ascii") as rows:
-        fields = [row.split() for row in list(rows)[1:]]
-    # 0A is the state of a socket that listens
-    inode = next(it[9] for it in fields if it[3] == "0A" and it[1].endswith(f":{server.port:04X}"))
-    folder = f"/proc/{server.child.pid}/fd"
-    number = next(int(name) for name in os.listdir(folder) if os.readlink(f"{folder}/{name}") == f"socket:[{inode}]")
+def copy_of(server, number):
+    """A copy of a descriptor of the server, as a socket. Linux lets a parent have it, if nothing forbids it, and then
+    there is none."""
     process = os.pidfd_open(server.child.pid)
     # 438 is the number of pidfd_getfd, which Python doesn't name
     copy = ctypes.CDLL(None, use_errno=True).syscall(438, process, number, 0)
     os.close(process)
     if copy < 0 and ctypes.get_errno() in (errno.EPERM, errno.ENOSYS):
         print("passed over: the system gives no descriptor of another process", flush=True)
-        return False
+        return None
     assert copy >= 0, os.strerror(ctypes.get_errno())
-    with socket.socket(fileno=copy) as listener:
+    return socket.socket(fileno=copy)
+
+
+def sockets_of(server):
+    """The numbers of the server's descriptors that are sockets, each with its inode."""
+    folder = f"/proc/{server.child.pid}/fd"
+    links = [(int(name), os.readlink(f"{folder}/{name}")) for name in os.listdir(folder)]
+    return [(number, link[8:-1]) for number, link in links if link.startswith("socket:[")]
+
+
+def receive_timeouts(server):
+    """After how many seconds each socket of the server gives up to wait for bytes, 0 if never; none if Linux doesn't
+    show it."""
+    found = []
+    for number, _ in sockets_of(server):
+        if not (copy := copy_of(server, number)):
+            return []
+        with copy:
+            found.append(struct.unpack("ll", copy.getsockopt(socket.SOL_SOCKET, socket.SO_RCVTIMEO, 16))[0])
+    return found
+
+
+def listeners(server):
+    """The numbers of the server's descriptors for the socket that it listens on."""
+    with open(f"/proc/{server.child.pid}/net/tcp", encoding="ascii") as rows:
+        fields = [row.split() for row in list(rows)[1:]]
+    # 0A is the state of a socket that listens
+    inode = next(it[9] for it in fields if it[3] == "0A" and it[1].endswith(f":{server.port:04X}"))
+    return [number for number, one in sockets_of(server) if one == inode]
+
+
+def shut_listener(server):
+    """Shuts the socket down that the server listens on, so that it gives no connection any more, and says whether it
+    could."""
+    if not (listener := copy_of(server, listeners(server)[0])):
+        return False
+    with listener:
         listener.shutdown(socket.SHUT_RDWR)
     return True
 

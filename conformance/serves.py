@@ -576,6 +576,22 @@ def memory_of_small_ones(program):
             assert each < most, (kind, each)
 
 
+def memory_of_rows_read_one_by_one(program):
+    """The rows of a consumer share its name, also if each was read by itself: docs/CLIENTS.md says 118 bytes a row."""
+    count, name = 5000, "c" * 1000
+    with serving(program) as server:
+        all_answer(server)
+        add_many(server, "read", 1, count, 10)
+        say_at(server, "XGROUP CREATE read g 0", "+OK\r\n")
+        with raw(server.port) as stream:
+            ask_together(stream, 100, lambda _: [f"XREADGROUP GROUP g {name} COUNT 1 STREAMS read >"])
+            before = server.resident()
+            ask_together(stream, count - 100, lambda _: [f"XREADGROUP GROUP g {name} COUNT 1 STREAMS read >"])
+        each = (server.resident() - before) / (count - 100)
+        print(f"{each:.0f} bytes a row that was read by itself", flush=True)
+        assert each < 400, each
+
+
 def memory_of_deleted_entries(program):
     """Of deleted entries little memory is kept, also if one in a hundred stays, which is about one in each block of
     small entries: what they took serves the next ones."""
@@ -652,9 +668,10 @@ def full_queue_beside_producers(program):
 
 
 def full_queue_of_great_jobs(program):
-    """A job of 3 MB, and three of 500 KB at once, are taken and claimed while memory is full."""
-    for size, count in ((3_000_000, 1), (500_000, 3)):
-        full_queue.great_jobs(program, size, count)
+    """A job of 5 MB, one of 3 MB in 1,000 fields, and three of 500 KB at once, are taken and claimed while memory is
+    full."""
+    for size, count, fields in ((5_000_000, 1, 1), (3_000_000, 1, 1000), (500_000, 3, 1)):
+        full_queue.great_jobs(program, size, count, fields)
 
 
 def full_queue_handed_out(program):
@@ -671,7 +688,8 @@ def main(arguments):
                    nothing_of_another, listens_here_alone, idle, stopped_and_continued)
     over_program = (as_many_as_workers, more_than_workers, ends, taken, options, stopped, full_output,
                     too_little_to_start, few_descriptors, listener_ends, waits_take_no_time, idle_behind_great_ones,
-                    memory_of_entries, memory_of_small_ones, memory_of_deleted_entries, full_queue_deleted,
+                    memory_of_entries, memory_of_small_ones, memory_of_rows_read_one_by_one, memory_of_deleted_entries,
+                    full_queue_deleted,
                     full_queue_trimmed, full_queue_handed_out, full_queue_beside_producers, full_queue_of_great_jobs)
     return try_all(arguments[0], over_server, over_program, WORKERS)
 

@@ -16,7 +16,7 @@ static volatile struct {
     int64_t begun, done;       /* how many calls have begun, and how many have ended well */
     int64_t hold;              /* while this isn't 0 calls wait */
     int64_t fail;              /* while this isn't 0 calls fail, and nothing is synced */
-    struct { int64_t file, size; } rows[ROWS];  /* which bytes of a file, by its inode, are kept */
+    struct { int64_t file, size, last; } rows[ROWS];  /* which bytes of a file, by its inode, are kept, and by which call */
 } *shared;
 
 __attribute__((constructor)) static void find_shared(void) {
@@ -32,6 +32,7 @@ static void note(const struct stat *kept) {
         if (shared->rows[place].file == 0) shared->rows[place].file = (int64_t)kept->st_ino;
         if (shared->rows[place].file != (int64_t)kept->st_ino) continue;
         shared->rows[place].size = kept->st_size;
+        shared->rows[place].last = __atomic_add_fetch(&shared->done, 1, __ATOMIC_SEQ_CST);
         return;
     }
     abort();
@@ -49,7 +50,6 @@ static int sync_by(long call, int file) {
     }
     int done = (int)syscall(call, file);
     if (done == 0 && found == 0) note(&before);
-    if (done == 0) __atomic_add_fetch(&shared->done, 1, __ATOMIC_SEQ_CST);
     return done;
 }
 

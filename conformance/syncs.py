@@ -17,7 +17,7 @@ class Syncs:
 
     def __init__(self, library, path):
         with open(path, "w+b") as file:
-            file.truncate(8 * (FAIL + 1) + 16 * ROWS)
+            file.truncate(8 * (FAIL + 1) + 24 * ROWS)
             self.shared = mmap.mmap(file.fileno(), 0)
         self.environment = {"LD_PRELOAD": library, "SYNCS": path}
 
@@ -51,14 +51,22 @@ class Syncs:
             assert time.monotonic() < deadline, "nothing is synced"
             time.sleep(0.001)
 
-    def kept(self, path):
-        """How many bytes of a file are kept if the machine stops: all that was written before a sync began."""
+    def row(self, path):
+        """How many bytes of a file are kept, and the number of the call by which it was last synced."""
         file = os.stat(path).st_ino
         for place in range(ROWS):
-            found, size = struct.unpack_from("qq", self.shared, 8 * (FAIL + 1) + 16 * place)
+            found, size, last = struct.unpack_from("qqq", self.shared, 8 * (FAIL + 1) + 24 * place)
             if found == file:
-                return size
-        return 0
+                return size, last
+        return 0, 0
+
+    def kept(self, path):
+        """How many bytes of a file are kept if the machine stops: all that was written before a sync began."""
+        return self.row(path)[0]
+
+    def last(self, path):
+        """The number of the call by which a file was last synced; those that ended earlier have smaller ones."""
+        return self.row(path)[1]
 
 
 @contextlib.contextmanager

@@ -118,7 +118,7 @@ def key_deleted(server):
         other = clients.waiting("c", "kept")
         say(one, "DEL odd", number(1))
         nothing_comes(READ, alone, second, other)
-        say(one, "DEL odd gone", number(1))
+        say(one, "DEL odd gone odd", number(1))
         refuses(alone, "NOGROUP")
         refuses(second, "NOGROUP")
         nothing_comes(READ, other)
@@ -447,7 +447,8 @@ READS = asking(reading("a", "left")) * 10
 ENDS = {"FIN": socket.socket.close, "RST": reset}
 BEHIND = {"nothing": (b"", b""), "half a request": (b"", PING[:9]), "half a request, in one piece": (PING[:9], b""),
           "whole requests": (b"", PING * 3), "whole requests, in one piece": (PING * 3, b""),
-          "many requests": (b"", PING * 3000), "further reads": (b"", READS), "further reads, in one piece": (READS, b"")}
+          "many requests": (b"", PING * 3000), "more than is held": (b"", PING * 6000),
+          "further reads": (b"", READS), "further reads, in one piece": (READS, b"")}
 WAYS = [(end, behind) for end in ENDS for behind in BEHIND]
 
 
@@ -470,7 +471,8 @@ def leaver(port, behind, options="BLOCK 0"):
 
 
 def leaves(program, end, behind):
-    """A client goes while it waits. Two seconds later its worker serves another one; a job goes to who still waits."""
+    """A client goes while it waits. Two seconds later its worker serves another one, who may wait too; a job goes to who
+    still waits."""
     with running(program, workers=3) as server, Clients(server.port) as clients:
         one = clients.new()
         make(one, "left")
@@ -480,6 +482,8 @@ def leaves(program, end, behind):
         late = clients.new()
         late.sendall(PING)
         comes(late, PONG.decode(), within=0.9)
+        begin(late, reading("late", "left"))
+        nothing_comes(READ, late)
         add(one, "left", 1)
         comes(other, gives("left", 1))
         say(one, "XPENDING left g", array([number(1), bulk("1-0"), bulk("1-0"),

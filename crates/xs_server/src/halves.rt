@@ -2,7 +2,7 @@
 //!
 //! While a call waits nobody reads, so somebody has to look whether the client is still there. Whether it has closed
 //! its side shows only behind the bytes that it sent before. So a look reads them, without waiting, into a buffer that
-//! the reader takes them from later.
+//! the reader takes them from later. Once that is full a reset connection alone shows.
 ghost use Rattle.std.specs.Prelude.{◌≤◌, length, IfOk, IfSome};
 ghost use Rattle.xs_server.specs.Gates.{AreFresh};
 
@@ -14,7 +14,7 @@ use std::sync::{Arc, Mutex, Wait};
 use xs_devices::{FromRead, Sink, Source, ToWrite};
 
 /// How many bytes are read while a call waits, and how many at once.
-const AHEAD: usize = 65_536;
+const AHEAD: usize = 1_048_576;
 
 const PIECE: usize = 4096;
 
@@ -51,6 +51,13 @@ fn send(shared: &Shared, from: &[u8]) -> io::Result<usize>
     Err(io::Error::from(ErrorKind::Interrupted))
 }
 
+/// Drops what was read ahead, and its memory.
+fn forget_ahead(shared: &mut Shared) {
+    shared.ahead.clear();
+    shared.ahead.shrink_to_fit();
+    shared.ahead_at = 0;
+}
+
 /// Takes bytes that were read ahead.
 fn take_ahead(shared: &mut Shared, into: &mut [u8]) -> usize
     ensures { result ≤ length into.new }
@@ -62,8 +69,7 @@ fn take_ahead(shared: &mut Shared, into: &mut [u8]) -> usize
     into[..count].copy_from_slice(&ahead[..count]);
     shared.ahead_at = shared.ahead_at.saturating_add(count);
     if shared.ahead_at >= shared.ahead.len() {
-        shared.ahead.clear();
-        shared.ahead_at = 0;
+        forget_ahead(shared);
     }
     count
 }
@@ -96,13 +102,18 @@ fn is_without_bytes(error: &io::Error) -> bool {
     matches!(error.kind(), ErrorKind::WouldBlock | ErrorKind::TimedOut)
 }
 
+/// Whether a connection has failed. It reads nothing, so it doesn't see that the client has closed its side.
+fn has_failed(stream: &TcpStream) -> bool {
+    !matches!(stream.take_error(), Ok(None))
+}
+
 /// Reads what has come, up to AHEAD bytes in all, from a stream that doesn't wait. It says whether the stream has
 /// ended.
 fn read_ahead(mut stream: &TcpStream, ahead: &mut Vec<u8>) -> bool {
     let mut piece = [0u8; PIECE];
     for _ in 0..AHEAD / PIECE {
         if ahead.len() >= AHEAD || ahead.reserve(PIECE).is_err() {
-            return false;
+            return has_failed(stream);
         }
         match stream.read(&mut piece) {
             Ok(0) => return true,
@@ -242,8 +253,7 @@ impl HalvesMemory {
         let other = Arc::try_clone(&self.shared).ok()?;
         {
             let mut shared = self.shared.try_lock()?;
-            shared.ahead.clear();
-            shared.ahead_at = 0;
+            forget_ahead(&mut shared);
             shared.has_ended = false;
             shared.stream = Some(stream);
         }

@@ -21,7 +21,7 @@ pub struct RunGate<S: Wait + Drop> {
     memory: HalvesMemory,
     hall: Arc<Hall>,
     announcement: Announcement,
-    // How long a connection may send nothing.
+    // How long a connection may send nothing, or take nothing of a reply.
     idle: Option<Duration>,
     register: Register<FromRead<Incoming>, ToWrite<Outgoing<S>>>,
 }
@@ -68,6 +68,7 @@ impl<S: Wait + Copy + Drop> RunGate<S> {
         let _ = stream.set_nodelay(true);
         if self.idle.is_some() {
             let _ = stream.set_read_timeout(self.idle);
+            let _ = stream.set_write_timeout(self.idle);
         }
         self.memory.halves_of(self.system, stream)
     }

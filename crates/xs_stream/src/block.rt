@@ -312,12 +312,13 @@ impl Block {
         self.bytes.clear();
     }
 
-    /// Takes the first entries out.
+    /// Takes the first entries out. If none is left it gives its memory back.
     pub(crate) fn drop_first(&mut self, count: usize)
         ensures { self.new.entries ≡ drop count self.old.entries }
     {
         if count >= self.count {
             self.clear();
+            self.seal();
         } else {
             self.drop_some(count);
         }

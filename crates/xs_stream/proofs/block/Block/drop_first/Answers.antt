@@ -11,4 +11,4 @@ drop_some-requires c =
 pub returns-then-count-self : goal.returns-then-count-self
 returns-then-count-self c =
     let inside = c.self.inside in
-    c.clear.ensures ∙ rw (← c.self.view_is) (sym (drop_all c.args.count _ (omega (arith, length-block_entries inside.base inside.count inside.start inside.bytes.items, c.if-count-self.true))))
+    c.seal.ensures ∙ (c.clear.ensures ∙ rw (← c.self.view_is) (sym (drop_all c.args.count _ (omega (arith, length-block_entries inside.base inside.count inside.start inside.bytes.items, c.if-count-self.true)))))
