@@ -95,6 +95,7 @@ fn gathers_replies_in_one_piece(rt: HostRuntime) -> Result<(), Fail> {
     encoder.begin(Reply::Simple(Simple::Okay));
     assert!(rt; encoder.is_gathered());
     encoder.begin(Reply::Simple(Simple::Pong));
+    assert!(rt; encoder.is_gathered());
     let long = string(alloc, 32_769)?;
     encoder.begin(Reply::Bulk(Bytes::from_slice(alloc, long.as_slice())?));
     assert!(rt; !encoder.is_gathered());
