@@ -85,8 +85,8 @@ impl Scripted {
     /// The reader and the writer of the next connection. None after the last.
     fn take_next(&mut self) -> Result<Option<(Incoming, Outgoing)>, GateFault>
         ensures same { self.new.register ≡ self.old.register }
-        ensures fresh { IfOk result (λ next. IfSome next (λ one. AreFresh (⟦Incoming as Source⟧.rest one.0)
-            (⟦Outgoing as Sink⟧.held one.1))) }
+        ensures fresh { IfOk result (λ next. IfSome next (λ one. AreFresh (⟦<Incoming as Source>⟧.rest one.0)
+            (⟦<Outgoing as Sink>⟧.held one.1))) }
     {
         let [script, left @ ..] = self.connections else {
             return if self.refuses {
