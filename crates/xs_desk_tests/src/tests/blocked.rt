@@ -134,20 +134,6 @@ fn nobody_overtakes_one_who_waits(rt: HostRuntime) -> Result<(), Fail> {
     is_told(&rt, alloc, &mut desk, 1, NULL)
 }
 
-// A lane reads, and one behind it adds in the same turn: what comes while a wait begins ends it.
-#[test]
-fn a_wait_ends_though_it_began_in_the_same_turn(rt: HostRuntime) -> Result<(), Fail> {
-    let alloc = rt.alloc();
-    let mut desk = small_desk(&rt, alloc)?;
-    asks(alloc, &mut desk, 0, READ)?;
-    asks(alloc, &mut desk, 1, "XADD s 1-1 f v")?;
-    assert_eq!(rt; turn(&mut desk), Some(1));
-    is_told(&rt, alloc, &mut desk, 1, b"$3\r\n1-1\r\n")?;
-    assert_eq!(rt; desk.keeper.next_due(), Some(0));
-    assert_eq!(rt; turn(&mut desk), Some(1));
-    is_told(&rt, alloc, &mut desk, 0, gives("1-1", alloc)?.as_slice())
-}
-
 // Lane 0 adds again and again, and others wait for it each time; lane 1, behind it, is served all the same.
 #[test]
 fn a_turn_that_is_cut_short_is_resumed(rt: HostRuntime) -> Result<(), Fail> {
