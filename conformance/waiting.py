@@ -447,7 +447,8 @@ READS = asking(reading("a", "left")) * 10
 ENDS = {"FIN": socket.socket.close, "RST": reset}
 BEHIND = {"nothing": (b"", b""), "half a request": (b"", PING[:9]), "half a request, in one piece": (PING[:9], b""),
           "whole requests": (b"", PING * 3), "whole requests, in one piece": (PING * 3, b""),
-          "many requests": (b"", PING * 3000), "further reads": (b"", READS), "further reads, in one piece": (READS, b"")}
+          "many requests": (b"", PING * 3000), "more than is held": (b"", PING * 6000),
+          "further reads": (b"", READS), "further reads, in one piece": (READS, b"")}
 WAYS = [(end, behind) for end in ENDS for behind in BEHIND]
 
 

@@ -14,6 +14,10 @@ use xs_resp::Reply;
 pub trait Pause {
     /// Waits after a look that has found no answer, and before the next one. It may come back at once.
     fn pause<R: Wait>(&self, rt: &R, client: &Client);
+
+    /// Waits in the same way while other answers are gathered. It says whether they are to be sent before it waits any
+    /// longer.
+    fn pause_briefly<R: Wait>(&self, rt: &R, client: &Client) -> bool;
 }
 
 /// It waits as `Client::idle` does.
@@ -23,6 +27,11 @@ pub struct Idle;
 impl Pause for Idle {
     fn pause<R: Wait>(&self, rt: &R, client: &Client) {
         client.idle(rt);
+    }
+
+    fn pause_briefly<R: Wait>(&self, rt: &R, client: &Client) -> bool {
+        client.idle(rt);
+        false
     }
 }
 

@@ -1,7 +1,7 @@
 -- What readers and writers tell of themselves.
-use Rattle.std.specs.Prelude.{◌≡◌, ℕ, ◌≤◌, Bool, true, false, ◌&&◌, ◌==◌, nat_lt, min, List, length, Option, Result, Ok}
+use Rattle.std.specs.Prelude.{◌≡◌, ℕ, ◌≤◌, Bool, true, false, ◌&&◌, ◌==◌, nat_lt, min, List, length, Result, Ok}
 use Rattle.std.specs.Prelude.{Err}
-use Rattle.std.specs.Io.KnownBytes.{Consumes, IsAtEnd}
+use Rattle.xs_devices.specs.Passing.{Passing, Consumes, IsAtEnd}
 
 -- counts stop at the greatest 64-bit number
 abbrev pub counter_at : ℕ → ℕ
@@ -18,7 +18,7 @@ is_failure (Ok n) from = n == 0 && nat_lt 0 (length from)
 is_failure (Err e) from = true
 
 -- a read gave so many bytes, at most a piece, of which this holds, and none only at the end
-abbrev pub Gave : Option (List ℕ) → Option (List ℕ) → Bool → ℕ → (List ℕ → Type 0) → Type 0
+abbrev pub Gave : Passing → Passing → Bool → ℕ → (List ℕ → Type 0) → Type 0
 Gave old new ended n Holds =
     (got : List ℕ) × (n ≡ length got) × (n ≤ 65536) × Consumes old new got
     × (n ≡ 0 → IsAtEnd new × (ended ≡ true)) × Holds got

@@ -1,10 +1,11 @@
-//! Readers and writers, and what contracts see of them: their bytes, where they tell them, how many calls
+//! Readers and writers, and what contracts see of them: the bytes that have passed, those that are known, how many calls
 //! they have answered, whether they have failed, and whether the end was met.
 ghost use Rattle.std.specs.Prelude.{◌≡◌, ℕ, ◌+◌, ◌≤◌, Bool, false, ◌||◌, List, Option, IfOk, length, is_err};
-ghost use Rattle.std.specs.Io.KnownBytes.{ReadConsumes, WriteAppends};
+ghost use Rattle.xs_devices.specs.Passing.{Passing, at_first, ReadConsumes, WriteAppends};
 ghost use Rattle.xs_devices.specs.Device.{counter_at, is_end, is_failure};
 
 use std::io::{Read, Write};
+use xs_trace::Trace;
 
 /// A read or a write didn't work. It says no more.
 #[derive(Clone, Copy, Debug, PartialEq, Eq)]
@@ -12,8 +13,8 @@ pub struct Failed;
 
 /// A reader of bytes.
 pub trait Source {
-    /// The bytes that are left, where the reader tells them.
-    ghost rest: { Self → Option (List ℕ) };
+    /// The bytes that it has given, and those that are left, where it tells them.
+    ghost rest: { Self → Passing };
 
     /// How many calls it has answered. The count stops at the greatest 64-bit number.
     ghost calls: { Self → ℕ };
@@ -35,8 +36,8 @@ pub trait Source {
 
 /// A writer of bytes.
 pub trait Sink {
-    /// The bytes that it holds, where the writer tells them.
-    ghost held: { Self → Option (List ℕ) };
+    /// The bytes that it has taken, and those that it holds, where it tells them.
+    ghost held: { Self → Passing };
 
     /// How many calls it has answered. The count stops at the greatest 64-bit number.
     ghost calls: { Self → ℕ };
@@ -56,6 +57,7 @@ pub trait Sink {
 #[derive(Drop)]
 pub struct FromRead<R: Read + Drop> {
     inner: R,
+    passed: Trace<u8>,
     calls: u64,
     broken: bool,
     ended: bool,
@@ -64,13 +66,14 @@ pub struct FromRead<R: Read + Drop> {
 impl<R: Read + Drop> FromRead<R> {
     /// The reader, before its first call. It takes no memory.
     pub fn new(inner: R) -> Self
-        ensures rest { ⟦<FromRead<R> as Source>⟧.rest result ≡ R.remaining inner }
+        ensures rest { ⟦<FromRead<R> as Source>⟧.rest result ≡ at_first (R.remaining inner) }
         ensures calls { ⟦<FromRead<R> as Source>⟧.calls result ≡ 0 }
         ensures broken { ⟦<FromRead<R> as Source>⟧.broken result ≡ false }
         ensures ended { ⟦<FromRead<R> as Source>⟧.ended result ≡ false }
     {
         Self {
             inner,
+            passed: Trace::new(),
             calls: 0,
             broken: false,
             ended: false,
@@ -79,7 +82,7 @@ impl<R: Read + Drop> FromRead<R> {
 }
 
 impl<R: Read + Drop> Source for FromRead<R> {
-    ghost rest = { λ s. R.remaining s.inner };
+    ghost rest = { λ s. record { known = R.remaining s.inner; passed = s.passed } };
 
     ghost calls = { λ s. s.calls };
 
@@ -95,6 +98,7 @@ impl<R: Read + Drop> Source for FromRead<R> {
                 if count == 0 && room {
                     self.ended = true;
                 }
+                self.passed.add_all(&into[..count]);
                 Ok(count)
             }
             Err(_) => {
@@ -109,6 +113,7 @@ impl<R: Read + Drop> Source for FromRead<R> {
 #[derive(Drop)]
 pub struct ToWrite<W: Write + Drop> {
     inner: W,
+    passed: Trace<u8>,
     calls: u64,
     broken: bool,
 }
@@ -116,12 +121,13 @@ pub struct ToWrite<W: Write + Drop> {
 impl<W: Write + Drop> ToWrite<W> {
     /// The writer, before its first call. It takes no memory.
     pub fn new(inner: W) -> Self
-        ensures held { ⟦<ToWrite<W> as Sink>⟧.held result ≡ W.contents inner }
+        ensures held { ⟦<ToWrite<W> as Sink>⟧.held result ≡ at_first (W.contents inner) }
         ensures calls { ⟦<ToWrite<W> as Sink>⟧.calls result ≡ 0 }
         ensures broken { ⟦<ToWrite<W> as Sink>⟧.broken result ≡ false }
     {
         Self {
             inner,
+            passed: Trace::new(),
             calls: 0,
             broken: false,
         }
@@ -129,7 +135,7 @@ impl<W: Write + Drop> ToWrite<W> {
 
     /// Gives the writer back.
     pub fn into_inner(self) -> W
-        ensures { W.contents result ≡ ⟦<ToWrite<W> as Sink>⟧.held self }
+        ensures { W.contents result ≡ (⟦<ToWrite<W> as Sink>⟧.held self).known }
     {
         let Self { inner, .. } = self;
         inner
@@ -137,7 +143,7 @@ impl<W: Write + Drop> ToWrite<W> {
 }
 
 impl<W: Write + Drop> Sink for ToWrite<W> {
-    ghost held = { λ s. W.contents s.inner };
+    ghost held = { λ s. record { known = W.contents s.inner; passed = s.passed } };
 
     ghost calls = { λ s. s.calls };
 
@@ -150,6 +156,7 @@ impl<W: Write + Drop> Sink for ToWrite<W> {
                 if count == 0 && !from.is_empty() {
                     self.broken = true;
                 }
+                self.passed.add_all(&from[..count]);
                 Ok(count)
             }
             Err(_) => {

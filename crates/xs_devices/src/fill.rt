@@ -13,7 +13,7 @@ pub enum FillFault {
 /// What bytes are read into, behind those that it has.
 pub trait Fill {
     ghost use Rattle.std.specs.Prelude.{◌≡◌, ◌≢◌, ◌+◌, ℕ, List, true, IfOk, OnErr, Ok, Err};
-    ghost use Rattle.std.specs.Io.KnownBytes.{Keeps};
+    ghost use Rattle.xs_devices.specs.Passing.{Keeps};
     ghost use Rattle.xs_devices.specs.declared.fill.FillFault.{FillFault};
     ghost use Rattle.xs_devices.specs.Device.{counter_at, Gave};
 

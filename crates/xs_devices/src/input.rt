@@ -1,6 +1,6 @@
 //! The bytes that were read and aren't used yet.
 ghost use Rattle.std.specs.Prelude.{◌≡◌, ◌+◌, ◌≤◌, ◌++◌, [], true, length, take, drop, IfOk, OnOk, OnErr};
-ghost use Rattle.std.specs.Io.KnownBytes.{Consumes, Keeps, IsAtEnd};
+ghost use Rattle.xs_devices.specs.Passing.{Consumes, Keeps, IsAtEnd};
 ghost use Rattle.xs_devices.specs.Device.{counter_at};
 
 use crate::device::{Failed, Source};

@@ -7,6 +7,7 @@ use std::io::Read;
 use std::rt::Files;
 use std::sync::Arc;
 use xs_devices::{Failed, Source};
+use xs_trace::Trace;
 
 /// A log's file.
 #[derive(Drop)]
@@ -18,6 +19,7 @@ pub struct LogFile<R: Files<File = File> + Copy + Drop> {
     calls: u64,
     broken: bool,
     ended: bool,
+    passed: Trace<u8>,
 }
 
 /// Reads from a file.
@@ -41,6 +43,7 @@ impl<R: Files<File = File> + Copy + Drop> LogFile<R> {
             calls: 0,
             broken: false,
             ended: false,
+            passed: Trace::new(),
         }
     }
 
@@ -49,6 +52,7 @@ impl<R: Files<File = File> + Copy + Drop> LogFile<R> {
         ensures calls { self.new.calls ≡ self.old.calls }
         ensures broken { self.new.broken ≡ self.old.broken }
         ensures ended { self.new.ended ≡ self.old.ended }
+        ensures passed { self.new.passed ≡ self.old.passed }
     {
         if self.file.is_some() {
             return Ok(());
@@ -68,6 +72,7 @@ impl<R: Files<File = File> + Copy + Drop> LogFile<R> {
         ensures calls { self.new.calls ≡ self.old.calls }
         ensures broken { self.new.broken ≡ self.old.broken }
         ensures ended { self.new.ended ≡ self.old.ended }
+        ensures passed { self.new.passed ≡ self.old.passed }
     {
         self.open()?;
         match &mut self.file {
@@ -78,7 +83,7 @@ impl<R: Files<File = File> + Copy + Drop> LogFile<R> {
 }
 
 impl<R: Files<File = File> + Copy + Drop> Source for LogFile<R> {
-    ghost rest = { λ s. None };
+    ghost rest = { λ s. record { known = None; passed = s.passed } };
 
     ghost calls = { λ s. s.calls };
 
@@ -95,6 +100,7 @@ impl<R: Files<File = File> + Copy + Drop> Source for LogFile<R> {
                 if count == 0 && room {
                     self.ended = true;
                 }
+                self.passed.add_all(&into[..count]);
                 Ok(count)
             }
             Err(_) => {

@@ -2,7 +2,8 @@
 use Rattle.std.proofs.Common.{◌≡◌, ℕ, ◌+◌, ◌≤◌, List, ◌++◌, length, take, Some, None, Option, sym, ap, ◌∙◌, subst}
 use Rattle.std.specs.Prelude.{Result, Ok, Err, IfOk, OnOk}
 use Rattle.std.specs.List.{AllByRecursion}
-use Rattle.std.specs.Io.KnownBytes.{Consumes, IsAtEnd}
+use Rattle.std.specs.Io.KnownBytes as std
+use Rattle.xs_devices.specs.Passing.{Passing, Consumes, IsAtEnd}
 use Rattle.std.proofs.lemmas.List.{append-nil}
 use Rattle.xs_keys.specs.Event.{Event}
 use Rattle.xs_keys.specs.Content.{Content}
@@ -15,13 +16,16 @@ use Rattle.xs_replay.proofs.Logs.{first-found}
 use Rattle.xs_log.specs.declared.reading.Extent.{Extent}
 use Rattle.xs_log.specs.Reading.{IsPartOfLog}
 
--- all of known bytes were read
-pub read-whole : (old : Option (List ℕ)) (bytes : List ℕ) (new : Option (List ℕ)) (read : List ℕ) → old ≡ Some bytes → Consumes old new read → IsAtEnd new → read ≡ bytes
-read-whole None bytes new read e consumes end = absurd (cc (e))
-read-whole (Some xs) bytes None read e consumes end = absurd consumes
-read-whole (Some xs) bytes (Some rest) read e consumes end =
+known-whole : (old : Option (List ℕ)) (bytes : List ℕ) (new : Option (List ℕ)) (read : List ℕ) → old ≡ Some bytes → std.Consumes old new read → std.IsAtEnd new → read ≡ bytes
+known-whole None bytes new read e consumes end = absurd (cc (e))
+known-whole (Some xs) bytes None read e consumes end = absurd consumes
+known-whole (Some xs) bytes (Some rest) read e consumes end =
     let same : xs ≡ bytes = cc (e) in
     sym (append-nil read) ∙ sym (ap (λ r. read ++ r) end) ∙ sym consumes ∙ same
+
+-- all of known bytes were read
+pub read-whole : (old : Passing) (bytes : List ℕ) (new : Passing) (read : List ℕ) → old.known ≡ Some bytes → Consumes old new read → IsAtEnd new → read ≡ bytes
+read-whole old bytes new read e consumes end = known-whole old.known bytes new.known read e consumes.0 end
 
 -- what stands before the first zero is a beginning of the log
 pub part-left : (number : ℕ) (requests : List (List (List ℕ))) (events : List Event) (kept : ℕ) (left : List ℕ) → AllByRecursion CanBeSpelled requests → IsLog number requests events
@@ -36,8 +40,8 @@ Recovers number left kept events old before new moment extent =
     (count : ℕ) × (count ≤ length events) × (kept ≤ count + 1) × HasEvents number (before_zero left) (take count events) extent.whole extent.part × (new ≡ contents_after old (take count events))
     × (moment ≡ moment_after before (take count events))
 
-pub recovered : {E : Type 0} (result : Result Extent E) (number : ℕ) (first last : Option (List ℕ)) (old new : Content) (before moment : Option ℕ) (requests : List (List (List ℕ))) (events : List Event) (kept : ℕ) (left : List ℕ)
-    → AllByRecursion CanBeSpelled requests → IsLog number requests events → kept ≤ length requests → CrashLeaves (length (spellings (take kept requests))) (spellings requests) left → first ≡ Some (before_zero left)
+pub recovered : {E : Type 0} (result : Result Extent E) (number : ℕ) (first last : Passing) (old new : Content) (before moment : Option ℕ) (requests : List (List (List ℕ))) (events : List Event) (kept : ℕ) (left : List ℕ)
+    → AllByRecursion CanBeSpelled requests → IsLog number requests events → kept ≤ length requests → CrashLeaves (length (spellings (take kept requests))) (spellings requests) left → first.known ≡ Some (before_zero left)
     → IfOk result (λ extent. (bytes : List ℕ) × (found : List Event) × Consumes first last bytes × IsAtEnd last × HasEvents number bytes found extent.whole extent.part × (new ≡ contents_after old found) × (moment ≡ moment_after before found))
     → IfOk result (λ extent. Recovers number left kept events old before new moment extent)
 recovered (Err e) number first last old new before moment requests events kept left can is le leaves known all = tt
@@ -54,7 +58,7 @@ recovered (Ok extent) number first last old new before moment requests events ke
     )
 
 -- whatever was read, the content is that of some events
-pub of-events : {E : Type 0} (result : Result Extent E) (number : ℕ) (first last : Option (List ℕ)) (old new : Content) (before moment : Option ℕ)
+pub of-events : {E : Type 0} (result : Result Extent E) (number : ℕ) (first last : Passing) (old new : Content) (before moment : Option ℕ)
     → IfOk result (λ extent. (bytes : List ℕ) × (found : List Event) × Consumes first last bytes × IsAtEnd last × HasEvents number bytes found extent.whole extent.part × (new ≡ contents_after old found) × (moment ≡ moment_after before found))
     → OnOk result ((events : List Event) × (new ≡ contents_after old events) × (moment ≡ moment_after before events))
 of-events (Err e) number first last old new before moment all = tt

@@ -4,7 +4,8 @@ use Rattle.std.proofs.lemmas.List.{append-nil, take-append-drop, drop_at, take_a
 use Rattle.std.proofs.lemmas.List.Concat.{flat_map-append}
 use Rattle.std.specs.Prelude.{Bool, Result, Ok, Err}
 use Rattle.std.specs.List.{AllByRecursion}
-use Rattle.std.specs.Io.KnownBytes.{Consumes}
+use Rattle.std.specs.Io.KnownBytes as std
+use Rattle.xs_devices.specs.Passing.{Passing, Consumes}
 use Rattle.xs_resp.specs.declared.read_fault.ProtocolFault.{ProtocolFault}
 use Rattle.xs_resp.specs.declared.read_fault.ReadFault.{ReadFault}
 use Rattle.xs_resp.specs.Outcome.{Outcome, Keeps}
@@ -55,16 +56,6 @@ ready_fault old bytes result new fault h r e =
 
 pub front_words : (held : Held) (bytes : List ℕ) (found : Found) → held ≡ Ok bytes → request bytes ≡ Ok (Some found) → front_of held ≡ found.words
 front_words held bytes found e f = ap front_of e ∙ ap words_in f
-
-pub consumes_more : (a b c : Option (List ℕ)) (x y : List ℕ) → Consumes a b x → Consumes b c y → Consumes a c (x ++ y)
-consumes_more None b c x y h k = tt
-consumes_more (Some a) None c x y h k = absurd h
-consumes_more (Some a) (Some b) None x y h k = absurd k
-consumes_more (Some a) (Some b) (Some c) x y h k = h ∙ ap (λ l. x ++ l) k ∙ sym (append_assoc x y c)
-
-pub consumes_none : (a : Option (List ℕ)) → Consumes a a []
-consumes_none None = tt
-consumes_none (Some a) = refl
 
 -- ---- requests that were taken
 
@@ -317,12 +308,15 @@ pub part_of_log : (number : ℕ) (bytes seen rest : List ℕ) → IsPartOfLog nu
 part_of_log number bytes seen rest part e =
     record { requests = part.requests; events = part.events; more = rest ++ part.more; spelled = part.spelled; is_log = part.is_log; written = sym (append_assoc seen rest part.more) ∙ ap (λ b. b ++ part.more) (sym e) ∙ part.written }
 
-pub seen_part : (number : ℕ) (old new : Option (List ℕ)) (bytes seen : List ℕ) → old ≡ Some bytes → Consumes old new seen → IsPartOfLog number bytes → IsPartOfLog number seen
-seen_part number None new bytes seen e consumes part = absurd (cc (e))
-seen_part number (Some xs) None bytes seen e consumes part = absurd consumes
-seen_part number (Some xs) (Some ys) bytes seen e consumes part =
+known_part : (number : ℕ) (old new : Option (List ℕ)) (bytes seen : List ℕ) → old ≡ Some bytes → std.Consumes old new seen → IsPartOfLog number bytes → IsPartOfLog number seen
+known_part number None new bytes seen e consumes part = absurd (cc (e))
+known_part number (Some xs) None bytes seen e consumes part = absurd consumes
+known_part number (Some xs) (Some ys) bytes seen e consumes part =
     let same : bytes ≡ xs = cc (e) in
     part_of_log number bytes seen ys part (same ∙ consumes)
+
+pub seen_part : (number : ℕ) (old new : Passing) (bytes seen : List ℕ) → old.known ≡ Some bytes → Consumes old new seen → IsPartOfLog number bytes → IsPartOfLog number seen
+seen_part number old new bytes seen e consumes part = known_part number old.known new.known bytes seen e consumes.0 part
 
 -- a fault is a want, if the words may stand
 pub only_want : (fault : LogFault) (Stands : Type 0) → IsWant fault ⊎ (Stands → ⊥) → Stands → IsWant fault

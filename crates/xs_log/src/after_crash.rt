@@ -1,5 +1,6 @@
 //! What a crash has left of the logs on a tape.
 ghost use Rattle.std.specs.Prelude.{◌≡◌, ℕ, List, Bool, None, Some, drop, map, IfOk, MatchResult};
+ghost use Rattle.xs_devices.specs.Passing.{known_by};
 ghost use Rattle.xs_bytes.specs.SortedMap.{empty};
 ghost use Rattle.xs_replay.specs.After.{contents_after, moment_after};
 ghost use Rattle.xs_keys.specs.Event.{Event};
@@ -29,14 +30,14 @@ pub fn restart<R: Source + Drop>(
     ensures content { IfOk result (λ found. (events : List Event)
         × (found.0.keyspace ≡ contents_after empty events) × (found.0.last ≡ moment_after None events)) }
     // What stands behind the whole records of the last file may be what a crash left of a record.
-    ensures cut { (file : List ℕ) → R.rest last ≡ Some file →
+    ensures cut { (file : List ℕ) → known_by R.rest last ≡ Some file →
         IfOk result (λ found. MayBeCut (drop found.1.whole (before_zero file))) }
     // Whatever a crash has left of the logs that a tape had is read, unless memory, a reader or a number of 64 bits
     // runs out. It gives the first of their events, all that were kept among them.
     ensures read { (broken : Bool) (number : ℕ) (pending : List ℕ) (tape : TapeBytes) (events : List Event) (kept : ℕ)
         (file : List ℕ) → IsLogOnTape broken number pending tape events kept →
         CrashLeaves tape.kept tape.written file →
-        map R.rest closed.items ≡ map (λ bytes. Some bytes) tape.closed → R.rest last ≡ Some file →
+        map (known_by R.rest) closed.items ≡ map (λ bytes. Some bytes) tape.closed → known_by R.rest last ≡ Some file →
         MatchResult result
         (λ found. Restarts tape events kept file found.0.keyspace found.0.last found.1.whole)
         (λ refusal. IsWant refusal.fault) }

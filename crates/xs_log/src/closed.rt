@@ -1,6 +1,6 @@
 //! A log that is closed: all of it was kept before the next one began.
 ghost use Rattle.std.specs.Prelude.{◌≡◌, ◌≢◌, ℕ, List, true, false, Some, IfErr, OnOk};
-ghost use Rattle.std.specs.Io.KnownBytes.{Consumes, IsAtEnd};
+ghost use Rattle.xs_devices.specs.Passing.{known_by, Consumes, IsAtEnd};
 ghost use Rattle.xs_keys.specs.Event.{Event};
 ghost use Rattle.xs_replay.specs.After.{contents_after, moment_after};
 ghost use Rattle.xs_log.specs.Fault.{IsWant};
@@ -38,7 +38,7 @@ pub fn read_closed_log<R: Source>(
         × (recovered.new.keyspace ≡ contents_after recovered.old.keyspace events)
         × (recovered.new.last ≡ moment_after recovered.old.last events)) }
     // A log that was written whole is never refused.
-    ensures err { (bytes : List ℕ) (events : List Event) → R.rest log.old ≡ Some bytes →
+    ensures err { (bytes : List ℕ) (events : List Event) → known_by R.rest log.old ≡ Some bytes →
         IsClosedLog number bytes events → IfErr result IsWant }
 {
     let extent = match read_log(alloc, number, recovered, log) {

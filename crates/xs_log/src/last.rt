@@ -1,5 +1,6 @@
 //! The last log, which a crash may have torn.
 ghost use Rattle.std.specs.Prelude.{◌≡◌, ◌+◌, ◌≤◌, ℕ, List, Some, length, take, drop, IfOk, IfErr, OnOk};
+ghost use Rattle.xs_devices.specs.Passing.{known_by};
 ghost use Rattle.xs_keys.specs.Event.{Event};
 ghost use Rattle.xs_tape.specs.Crash.{before_zero};
 ghost use Rattle.xs_tape.specs.Heads.{MayBeCut};
@@ -30,14 +31,14 @@ pub fn read_last_log<R: Source + Drop>(
         × (recovered.new.keyspace ≡ contents_after recovered.old.keyspace events)
         × (recovered.new.last ≡ moment_after recovered.old.last events)) }
     // What stands behind the whole records may be what a crash left of a record: its lengths haven't changed.
-    ensures cut { (left : List ℕ) → R.rest file ≡ Some left →
+    ensures cut { (left : List ℕ) → known_by R.rest file ≡ Some left →
         IfOk result (λ extent. MayBeCut (drop extent.whole (before_zero left))) }
     // Whatever a crash has left of a log is read, unless memory, the reader or a number of 64 bits runs out.
     ensures err { (events : List Event) (kept : ℕ) (left : List ℕ) → CrashLeavesLog number events kept left →
-        R.rest file ≡ Some left → IfErr result IsWant }
+        known_by R.rest file ≡ Some left → IfErr result IsWant }
     // It gives the first of its events, among them all whose records, behind the header, were kept.
     ensures ok { (events : List Event) (kept : ℕ) (left : List ℕ) → CrashLeavesLog number events kept left →
-        R.rest file ≡ Some left → IfOk result (λ extent. (count : ℕ) × (count ≤ length events) × (kept ≤ count + 1)
+        known_by R.rest file ≡ Some left → IfOk result (λ extent. (count : ℕ) × (count ≤ length events) × (kept ≤ count + 1)
         × HasEvents number (before_zero left) (take count events) extent.whole extent.part
         × (recovered.new.keyspace ≡ contents_after recovered.old.keyspace (take count events))
         × (recovered.new.last ≡ moment_after recovered.old.last (take count events))) }

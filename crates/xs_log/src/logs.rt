@@ -1,5 +1,6 @@
 //! All logs of a server, in their order.
 ghost use Rattle.std.specs.Prelude.{◌≡◌, ◌+◌, ◌≤◌, ◌++◌, ℕ, List, None, Some, length, take, drop, IfErr, IfOk};
+ghost use Rattle.xs_devices.specs.Passing.{known_by};
 ghost use Rattle.xs_bytes.specs.SortedMap.{empty};
 ghost use Rattle.xs_keys.specs.Event.{Event};
 ghost use Rattle.xs_tape.specs.Crash.{before_zero};
@@ -33,11 +34,11 @@ fn read_closed_logs<R: Source + Drop>(
     recovered: &mut Recovered,
     logs: Vec<R>,
 ) -> Result<u64, LogsFault>
-    ensures ok { IfOk result (λ next. ((events : List Event) × MayGiveClosedLogs R.rest first logs.items events
+    ensures ok { IfOk result (λ next. ((events : List Event) × MayGiveClosedLogs (known_by R.rest) first logs.items events
         × (recovered.new.keyspace ≡ contents_after recovered.old.keyspace events)
         × (recovered.new.last ≡ moment_after recovered.old.last events)) × (next ≡ first + length logs.items)) }
     // Logs that were written whole are never refused.
-    ensures err { (events : List Event) → GiveClosedLogs R.rest first logs.items events →
+    ensures err { (events : List Event) → GiveClosedLogs (known_by R.rest) first logs.items events →
         IfErr result (λ refusal. IsWant refusal.fault) }
 {
     let mut number = first;
@@ -73,17 +74,17 @@ pub fn recover<R: Source + Drop>(
     ensures content { IfOk result (λ found. (events : List Event)
         × (found.0.keyspace ≡ contents_after empty events) × (found.0.last ≡ moment_after None events)) }
     // What stands behind the whole records of the last log may be what a crash left of a record.
-    ensures cut { (left : List ℕ) → R.rest last ≡ Some left →
+    ensures cut { (left : List ℕ) → known_by R.rest last ≡ Some left →
         IfOk result (λ found. MayBeCut (drop found.1.whole (before_zero left))) }
     // Closed logs that were written whole, and whatever a crash has left of the last one, are never refused.
     ensures err { (before events : List Event) (kept : ℕ) (left : List ℕ) →
-        GiveClosedLogs R.rest first closed.items before →
-        CrashLeavesLog (first + length closed.items) events kept left → R.rest last ≡ Some left →
+        GiveClosedLogs (known_by R.rest) first closed.items before →
+        CrashLeavesLog (first + length closed.items) events kept left → known_by R.rest last ≡ Some left →
         IfErr result (λ refusal. IsWant refusal.fault) }
     // All events of the closed logs were applied, and then the first of the last one, all that were kept among them.
-    ensures ok { IfOk result (λ found. (before : List Event) × MayGiveClosedLogs R.rest first closed.items before
+    ensures ok { IfOk result (λ found. (before : List Event) × MayGiveClosedLogs (known_by R.rest) first closed.items before
         × ((events : List Event) (kept : ℕ) (left : List ℕ) →
-        CrashLeavesLog (first + length closed.items) events kept left → R.rest last ≡ Some left →
+        CrashLeavesLog (first + length closed.items) events kept left → known_by R.rest last ≡ Some left →
         (count : ℕ) × (count ≤ length events) × (kept ≤ count + 1)
         × HasEvents (first + length closed.items) (before_zero left) (take count events) found.1.whole found.1.part
         × (found.0.keyspace ≡ contents_after empty (before ++ take count events))

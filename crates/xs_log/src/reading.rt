@@ -1,7 +1,7 @@
 //! A log that is read, and its events applied.
 ghost use Rattle.std.specs.Prelude.{◌≡◌, ◌≢◌, ◌⊎◌, [], ℕ, List, Option, None, Some, Ok, Err, false, length, drop};
 ghost use Rattle.std.specs.Prelude.{IfOk, IfErr, OnOk};
-ghost use Rattle.std.specs.Io.KnownBytes.{Consumes, IsAtEnd};
+ghost use Rattle.xs_devices.specs.Passing.{known_by, Consumes, IsAtEnd};
 ghost use Rattle.xs_bytes.specs.SortedMap.{empty};
 ghost use Rattle.xs_resp.specs.Reading.{request};
 ghost use Rattle.xs_resp.specs.Grammar.{spelling};
@@ -178,10 +178,10 @@ pub fn read_log<R: Source>(
         × (recovered.new.keyspace ≡ contents_after recovered.old.keyspace events)
         × (recovered.new.last ≡ moment_after recovered.old.last events)) }
     // What stands behind the whole records may be what a crash left of a record: its lengths haven't changed.
-    ensures cut { (bytes : List ℕ) → R.rest log.old ≡ Some bytes →
+    ensures cut { (bytes : List ℕ) → known_by R.rest log.old ≡ Some bytes →
         IfOk result (λ extent. MayBeCut (drop extent.whole bytes)) }
     // A beginning of a log that was written is never refused.
-    ensures err { (bytes : List ℕ) → R.rest log.old ≡ Some bytes → IsPartOfLog number bytes → IfErr result IsWant }
+    ensures err { (bytes : List ℕ) → known_by R.rest log.old ≡ Some bytes → IsPartOfLog number bytes → IfErr result IsWant }
 {
     let mut requests = Requests::new(alloc);
     let mut at: u64 = 0;

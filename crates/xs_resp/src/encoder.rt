@@ -1,5 +1,5 @@
 //! Replies as bytes, piece by piece: what is written takes no memory.
-ghost use Rattle.std.specs.Prelude.{◌≡◌, ◌+◌, ◌<◌, ◌≤◌, [], ◌++◌, true, length, take, drop, vec_capacity, IfOk};
+ghost use Rattle.std.specs.Prelude.{◌≡◌, ◌≢◌, ◌+◌, ◌<◌, ◌≤◌, [], ◌++◌, true, false, length, take, drop, vec_capacity, IfOk};
 ghost use Rattle.std.specs.List.{flat_map};
 ghost use Rattle.xs_resp.specs.ReplyText.{text, token_text};
 ghost use Rattle.xs_resp.specs.Marks.{token_in};
@@ -15,10 +15,10 @@ use std::alloc::{AllocError, Global};
 use std::marker::Model;
 
 /// How many bytes of a piece are gathered.
-const GATHERED: usize = 16_384;
+const GATHERED: usize = 65_536;
 
 /// A string of more bytes is lent, and not copied.
-const COPIED: usize = 4_096;
+const COPIED: usize = 32_768;
 
 /// How far a reply is written.
 #[derive(Clone, Copy)]
@@ -46,8 +46,8 @@ const END: Position = Position {
     is_lent: false,
 };
 
-/// A reply that is being written. Its bytes are given piece by piece: short tokens are gathered in a buffer, and a long
-/// string is lent from where it lies. The buffer is kept from reply to reply.
+/// Replies that are being written. Their bytes are given piece by piece: short tokens are gathered in a buffer, of several
+/// replies if there is room, and a long string is lent from where it lies.
 #[derive(Drop)]
 pub struct Encoder {
     gathered: Vec<u8>,
@@ -65,7 +65,7 @@ impl Model for Encoder {
 
     ghost view = { λ e. pieces e.gathered.items e.position.is_lent (drop e.position.taken (tokens_of e.reply)) };
 
-    ghost invariant = { λ e. (16384 ≤ vec_capacity e.gathered)
+    ghost invariant = { λ e. (65536 ≤ vec_capacity e.gathered)
         × IsEncoding e.gathered.items (tokens_of e.reply) e.position };
 }
 
@@ -81,13 +81,20 @@ impl Encoder {
         })
     }
 
-    /// The text of this reply is left.
+    /// Whether all that is left is in the piece.
+    pub fn is_gathered(&self) -> bool
+        ensures gathered { result ≡ true → self.now.behind ≡ [] }
+        ensures more { result ≡ false → self.now.behind ≢ [] }
+    {
+        !self.position.is_lent && self.position.taken >= Sequence::new(&self.reply).len()
+    }
+
+    /// The text of this reply is left behind what is gathered.
     pub fn begin(&mut self, reply: Reply)
-        requires { bytes_left self.old ≡ [] }
-        ensures { bytes_left self.new ≡ text reply }
+        requires { self.old.behind ≡ [] }
+        ensures { bytes_left self.new ≡ bytes_left self.old ++ text reply }
     {
         self.reply = reply;
-        self.gathered.clear();
         self.position = gather(&Sequence::new(&self.reply), 0, 0, &mut self.gathered);
     }
 
@@ -146,10 +153,10 @@ enum Fit {
 
 /// Appends tokens from this one on, as many as there is room for.
 fn gather(tokens: &Sequence<'_>, start: usize, begin: usize, out: &mut Vec<u8>) -> Position
-    requires room { 16384 ≤ vec_capacity out.old }
+    requires room { 65536 ≤ vec_capacity out.old }
     requires within { start ≤ length tokens.now }
     requires strings { begin ≡ length (strings_of (take start tokens.now)) }
-    ensures room { 16384 ≤ vec_capacity out.new }
+    ensures room { 65536 ≤ vec_capacity out.new }
     ensures position { IsEncoding out.new.items tokens.now result }
     ensures header { result.is_lent ≡ true → 0 < length out.new.items }
     ensures text { out.new.items ++ left_of result.is_lent (drop result.taken tokens.now)
@@ -173,9 +180,9 @@ fn gather(tokens: &Sequence<'_>, start: usize, begin: usize, out: &mut Vec<u8>) 
 
 /// Appends a token, or the header of a long string, if there is room.
 fn append(mark: Mark, string: &[u8], out: &mut Vec<u8>) -> Fit
-    requires room { 16384 ≤ vec_capacity out.old }
+    requires room { 65536 ≤ vec_capacity out.old }
     requires string { string_of (token_in mark string.now) ≡ string.now }
-    ensures room { 16384 ≤ vec_capacity out.new }
+    ensures room { 65536 ≤ vec_capacity out.new }
     ensures appended { Appends result out.old.items out.new.items (token_in mark string.now) }
 {
     let room = GATHERED.saturating_sub(out.len());

@@ -2,6 +2,7 @@
 use super::*;
 use std::alloc::{AllocError, Global};
 use std::test::Fail;
+use xs_bytes::Bytes;
 
 /// A string of so many bytes, no two neighbours of which are alike.
 fn string(alloc: Global, length: usize) -> Result<Vec<u8>, AllocError> {
@@ -53,7 +54,7 @@ fn writes_strings_at_each_border(rt: HostRuntime) -> Result<(), Fail> {
     let alloc = rt.alloc();
     let mut encoder = Encoder::new(alloc)?;
     // Five strings just fit into the buffer, or a string is just short enough to be copied.
-    for (from, to) in [(0, 4), (3_235, 3_250), (4_090, 4_100)] {
+    for (from, to) in [(0, 4), (13_050, 13_100), (32_760, 32_775)] {
         for length in from..to {
             let bytes = string(alloc, length)?;
             encoder.clear();
@@ -71,12 +72,39 @@ fn gathers_short_tokens_and_lends_long_strings(rt: HostRuntime) -> Result<(), Fa
     let alloc = rt.alloc();
     let mut encoder = Encoder::new(alloc)?;
     // A lent string makes two pieces: the one in front of it, and itself.
-    for (length, wanted) in [(0, 1), (3_000, 1), (4_000, 2), (4_097, 11), (100_000, 11)] {
+    for (length, wanted) in [
+        (0, 1),
+        (13_000, 1),
+        (14_000, 2),
+        (32_769, 11),
+        (100_000, 11),
+    ] {
         let bytes = string(alloc, length)?;
         encoder.clear();
         encoder.begin(five(alloc, bytes.as_slice())?);
         let (_, count) = pieces(alloc, &mut encoder)?;
         assert_eq!(rt; count, wanted, "strings of {length} bytes");
     }
+    Ok(())
+}
+
+#[test]
+fn gathers_replies_in_one_piece(rt: HostRuntime) -> Result<(), Fail> {
+    let alloc = rt.alloc();
+    let mut encoder = Encoder::new(alloc)?;
+    encoder.begin(Reply::Simple(Simple::Okay));
+    assert!(rt; encoder.is_gathered());
+    encoder.begin(Reply::Simple(Simple::Pong));
+    assert!(rt; encoder.is_gathered());
+    let long = string(alloc, 32_769)?;
+    encoder.begin(Reply::Bulk(Bytes::from_slice(alloc, long.as_slice())?));
+    assert!(rt; !encoder.is_gathered());
+    assert_eq!(rt; encoder.piece(), b"+OK\r\n+PONG\r\n$32769\r\n".as_slice());
+    encoder.advance();
+    assert_eq!(rt; encoder.piece(), long.as_slice());
+    assert!(rt; !encoder.is_gathered());
+    encoder.advance();
+    assert!(rt; encoder.is_gathered());
+    assert_eq!(rt; encoder.piece(), b"\r\n".as_slice());
     Ok(())
 }

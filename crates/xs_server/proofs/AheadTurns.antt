@@ -3,6 +3,7 @@ use Rattle.std.proofs.Common.{◌≡◌, ◌⊎◌, inl, inr, ℕ, ◌<◌, ◌�
 use Rattle.std.specs.Prelude.{IfErr, MatchResult}
 use Rattle.std.proofs.Common.{append_assoc, arith, take, drop, length-drop, length-append}
 use Rattle.std.proofs.lemmas.List.{append-nil, take-append-drop}
+use Rattle.xs_devices.specs.Passing.{Passing}
 use Rattle.xs_resp.specs.declared.reply.Reply.{Reply}
 use Rattle.xs_resp.specs.Grammar.{IsOpen}
 use Rattle.xs_resp.specs.HeldBytes.{Held, holds_bytes}
@@ -71,7 +72,7 @@ module _ (first now : Caller) (read sent : List ℕ) where
   end-is ending.Closed ended held places owed asked got s is done = absurd (subst (λ e. Goes e s.taken s.rest held) is s.goes)
   end-is ending.Cut ended held places owed asked got s is done = absurd (subst (λ e. Goes e s.taken s.rest held) is s.goes)
 
-  pub end-cause : (end : Ending) (ended : Option Ending) (held : Held) (places : List (Option Reply)) (owed : List ℕ) (asked : List Command) (got : List Reply) (left : Option (List ℕ)) (over broken unwritten : Bool) → IsAfter read asked got sent ended held places owed
+  pub end-cause : (end : Ending) (ended : Option Ending) (held : Held) (places : List (Option Reply)) (owed : List ℕ) (asked : List Command) (got : List Reply) (left : Passing) (over broken unwritten : Bool) → IsAfter read asked got sent ended held places owed
       → ended ≡ Some end → HasCauseOf (Ok end) left over broken unwritten
   end-cause ending.Quit ended held places owed asked got left over broken unwritten s is = tt
   end-cause ending.Protocol ended held places owed asked got left over broken unwritten s is = tt
@@ -189,7 +190,7 @@ module _ (first now : Caller) (read sent : List ℕ) where
   }
 
   -- what a read comes to
-  pub read-so : {A : Type 0} (result : Result A (Result Ending AheadFault)) (left : Option (List ℕ)) (over broken unwritten : Bool) (asked : List Command) (session : Session) → IsAheadAfter first now read asked asked sent session → IsDone session.places (bytes_left session.owed)
+  pub read-so : {A : Type 0} (result : Result A (Result Ending AheadFault)) (left : Passing) (over broken unwritten : Bool) (asked : List Command) (session : Session) → IsAheadAfter first now read asked asked sent session → IsDone session.places (bytes_left session.owed)
       → IfErr result (λ end. AheadEnds end session.ended session.requests session.places (bytes_left session.owed)) → IfErr result (λ end. HasCauseOf end left over broken unwritten)
       → MatchResult result (λ _. (all : List Command) × IsAheadAfter first now read all all sent session) (λ end. ServesAhead end first now read sent × HasCauseOf end left over broken unwritten)
   read-so (Ok x) left over broken unwritten asked session a done ends cause = (asked, a)
@@ -227,7 +228,7 @@ pub lost-is : {X Y : Type 0} (wrong : AheadFault) (unwritten : Bool) → ((wrong
 lost-is wrong unwritten (inl (write, x, y)) failed = subst (λ (w : AheadFault). IsLost w unwritten) (sym write) failed
 lost-is wrong unwritten (inr port) failed = subst (λ (w : AheadFault). IsLost w unwritten) (sym port) tt
 
-pub lost-cause : (wrong : AheadFault) (left : Option (List ℕ)) (over broken unwritten : Bool) → IsLost wrong unwritten → HasCauseOf (Err wrong) left over broken unwritten
+pub lost-cause : (wrong : AheadFault) (left : Passing) (over broken unwritten : Bool) → IsLost wrong unwritten → HasCauseOf (Err wrong) left over broken unwritten
 lost-cause fault.Write left over broken unwritten lost = lost
 lost-cause fault.Port left over broken unwritten lost = tt
 lost-cause fault.Read left over broken unwritten lost = absurd lost

@@ -2,8 +2,8 @@
 use Rattle.std.proofs.Common.{◌≡◌, ◌≢◌, inl, inr, Bool, true, false, List, [], ◌∷◌, ◌++◌, Result, Ok, Err, sym, ap, ◌∙◌, subst, refl}
 use Rattle.std.proofs.Common.{append_assoc, arith, length, length-append, ℕ, Option, None}
 use Rattle.std.proofs.lemmas.List.{append-nil}
-use Rattle.std.specs.Io.KnownBytes.{Appends, Consumes}
-use Rattle.std.proofs.KnownBytes.{Appends-trans}
+use Rattle.xs_devices.specs.Passing.{Passing, Appends, Consumes}
+use Rattle.xs_devices.proofs.Passing.{Appends-trans}
 use Rattle.xs_resp.specs.declared.header.Part.TheVariants.{Count}
 use Rattle.xs_resp.specs.declared.read_fault.ProtocolFault.{ProtocolFault}
 use Rattle.xs_resp.specs.declared.read_fault.ProtocolFault.TheVariants as protocol
@@ -15,29 +15,29 @@ use Rattle.xs_session.specs.declared.ending.Ending.{Ending}
 use Rattle.xs_session.proofs.SessionTurns.{after-new}
 use Rattle.xs_server.specs.declared.connections.ahead.AheadFault.{AheadFault}
 use Rattle.xs_server.specs.declared.connections.ahead.AheadFault.TheVariants as fault
-use Rattle.xs_server.specs.Ahead.{ServesAhead}
+use Rattle.xs_server.specs.Ahead.{ServesAhead, HasCauseOf}
 use Rattle.xs_server.specs.Report.{Says}
-use Rattle.xs_server.specs.Gates.{Seen, GateTrace, with_given, with_returned, at_end}
-use Rattle.xs_server.specs.Workers.{no_memory, ServesOne, ServesEach, ServesGate, Works}
+use Rattle.xs_server.specs.Gates.{Seen, GateTrace, AreFresh, with_given, with_returned, at_end}
+use Rattle.xs_server.specs.Workers.{no_memory, IsTold, ServesOne, ServesEach, ServesGate, Works}
 use Rattle.xs_server.proofs.AheadCalls.{calls-none}
 
 -- one more
 serves-more : (lost : Bool) (first mid last : Caller) (given returned : List Seen) (one back : Seen) (result : Result Ending AheadFault) → ServesEach lost first given returned mid
-    → (lost ≡ false → result ≢ Err fault.Port) → ServesOne result mid last one back → ServesEach lost first (given ++ one ∷ []) (returned ++ back ∷ []) last
-serves-more lost first mid last [] [] one back result none answered served =
-    (result, last, answered, subst (λ (c : Caller). ServesOne result c last one back) none served, refl)
-serves-more lost first mid last [] (other ∷ returned) one back result none answered served = absurd none
-serves-more lost first mid last (other ∷ given) [] one back result none answered served = absurd none
-serves-more lost first mid last (other ∷ given) (came ∷ returned) one back result (ended, next, fine, begun, rest) answered served =
-    (ended, next, fine, begun, serves-more lost next mid last given returned one back result rest answered served)
+    → (lost ≡ false → result ≢ Err fault.Port) → AreFresh one.rest one.held → ServesOne result mid last one back → ServesEach lost first (given ++ one ∷ []) (returned ++ back ∷ []) last
+serves-more lost first mid last [] [] one back result none answered fresh served =
+    (result, last, answered, fresh, subst (λ (c : Caller). ServesOne result c last one back) none served, refl)
+serves-more lost first mid last [] (other ∷ returned) one back result none answered fresh served = absurd none
+serves-more lost first mid last (other ∷ given) [] one back result none answered fresh served = absurd none
+serves-more lost first mid last (other ∷ given) (came ∷ returned) one back result (ended, next, fine, new, begun, rest) answered fresh served =
+    (ended, next, fine, new, begun, serves-more lost next mid last given returned one back result rest answered fresh served)
 
 -- where all were answered, the lane may be lost later
 serves-lost : (first last : Caller) (given returned : List Seen) → ServesEach false first given returned last → ServesEach true first given returned last
 serves-lost first last [] [] is = is
 serves-lost first last [] (back ∷ returned) is = absurd is
 serves-lost first last (one ∷ given) [] is = absurd is
-serves-lost first last (one ∷ given) (back ∷ returned) (ended, mid, fine, served, rest) =
-    (ended, mid, (λ n. absurd cc), served, serves-lost mid last given returned rest)
+serves-lost first last (one ∷ given) (back ∷ returned) (ended, mid, fine, fresh, served, rest) =
+    (ended, mid, (λ n. absurd cc), fresh, served, serves-lost mid last given returned rest)
 
 pub gate-none : (client : Caller) (gate : GateTrace) → ServesGate false client client gate gate
 gate-none client gate = record {
@@ -69,8 +69,8 @@ gate-over lost first last before now later s is = record {
 
 -- one more connection was given, served, and came back
 pub gate-more : (lost : Bool) (first mid last : Caller) (before now opened closed : GateTrace) (one back : Seen) (result : Result Ending AheadFault) → ServesGate lost first mid before now
-    → opened ≡ with_given now one → closed ≡ with_returned opened back → (lost ≡ false → result ≢ Err fault.Port) → ServesOne result mid last one back → ServesGate lost first last before closed
-gate-more lost first mid last before now opened closed one back result s opens closes answered served = record {
+    → (opened ≡ with_given now one) × AreFresh one.rest one.held → closed ≡ with_returned opened back → (lost ≡ false → result ≢ Err fault.Port) → ServesOne result mid last one back → ServesGate lost first last before closed
+gate-more lost first mid last before now opened closed one back result s (opens, fresh) closes answered served = record {
   given = s.given ++ one ∷ [];
   returned = s.returned ++ back ∷ [];
   given_is =
@@ -79,7 +79,7 @@ gate-more lost first mid last before now opened closed one back result s opens c
   returned_is =
       ap (λ (g : GateTrace). g.returned) closes ∙ ap (λ (g : GateTrace). g.returned ++ back ∷ []) opens
       ∙ ap (λ gs. gs ++ back ∷ []) s.returned_is ∙ append_assoc before.returned s.returned (back ∷ []);
-  served = serves-more lost first mid last s.given s.returned one back result s.served answered served;
+  served = serves-more lost first mid last s.given s.returned one back result s.served answered fresh served;
 }
 
 -- the rings and the number of the lane stay
@@ -91,7 +91,7 @@ each-side : (lost : Bool) (first last : Caller) (given returned : List Seen) →
 each-side lost first last [] [] is = subst (λ (c : Caller). KeepsSide first c) (sym is) (refl, refl, refl)
 each-side lost first last [] (back ∷ returned) is = absurd is
 each-side lost first last (one ∷ given) [] is = absurd is
-each-side lost first last (one ∷ given) (back ∷ returned) (ended, mid, fine, served, rest) =
+each-side lost first last (one ∷ given) (back ∷ returned) (ended, mid, fine, fresh, served, rest) =
     side_again first mid last (serves-side first mid served.read served.sent ended served.served) (each-side lost mid last given returned rest)
 
 pub works-side : (faulty : Bool) (first last : Caller) (before now : GateTrace) → Works faulty first last before now → KeepsSide first last
@@ -137,7 +137,7 @@ serves-none client = record {
 }
 
 -- a connection that ended out of memory, whose client was told
-pub serves-told : (first last : Caller) (read sent : List ℕ) (given back : Seen) (held : Option (List ℕ)) → Consumes given.rest back.rest read → Appends given.held held sent → ServesAhead (Err fault.Memory) first last read sent
+pub serves-told : (first last : Caller) (read sent : List ℕ) (given back : Seen) (held : Passing) → Consumes given.rest back.rest read → Appends given.held held sent → ServesAhead (Err fault.Memory) first last read sent
     → Says no_memory held back.held back.unwritten → ServesOne (Err fault.Memory) first last given back
 serves-told first last read sent given back held consumes appends served says = record {
   read = read;
@@ -149,3 +149,23 @@ serves-told first last read sent given back held consumes appends served says = 
   cause = tt;
   is_told = (says.1, says.2, says.4);
 }
+
+-- a connection that ended so that nothing was told
+pub serves-untold : (result : Result Ending AheadFault) (first last : Caller) (read sent : List ℕ) (given back : Seen) → result ≢ Err fault.Memory → Consumes given.rest back.rest read → Appends given.held back.held sent
+    → ServesAhead result first last read sent → HasCauseOf result back.rest back.ended back.unread back.unwritten → ServesOne result first last given back
+serves-untold result first last read sent given back other consumes appends served cause = record {
+  read = read;
+  sent = sent;
+  told = [];
+  consumes = consumes;
+  appends = rw (append-nil sent) appends;
+  served = served;
+  cause = cause;
+  is_told = untold result back.unwritten other;
+} where
+  untold : (result : Result Ending AheadFault) (unwritten : Bool) → result ≢ Err fault.Memory → IsTold result [] unwritten
+  untold (Ok end) unwritten other = refl
+  untold (Err fault.Read) unwritten other = refl
+  untold (Err fault.Write) unwritten other = refl
+  untold (Err fault.Memory) unwritten other = absurd (other refl)
+  untold (Err fault.Port) unwritten other = refl

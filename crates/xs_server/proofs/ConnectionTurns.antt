@@ -1,7 +1,7 @@
 -- How a connection goes on, and how it ends.
 use Rattle.std.proofs.Common.{◌≡◌, ◌≢◌, ◌⊎◌, ℕ, ◌+◌, ◌<◌, ◌||◌, Bool, true, false, List, [], ◌∷◌, ◌++◌, length, map, Option, Some, None}
 use Rattle.std.specs.Prelude.{IfErr, MatchResult}
-use Rattle.std.specs.Io.KnownBytes.{IsAtEnd}
+use Rattle.xs_devices.specs.Passing.{Passing, IsAtEnd}
 use Rattle.std.proofs.Common.{if◌then◌else◌, Result, Ok, Err, inl, inr, sym, ap, ◌∙◌, subst, refl, append_assoc, arith, length-append}
 use Rattle.std.proofs.lemmas.List.{append-nil, length-map}
 use Rattle.std.proofs.lemmas.Grind.{flat_map-append}
@@ -53,7 +53,7 @@ none-begun (reply ∷ begun) none = absurd (omega (arith, some-text reply, ap le
 -- ---- what a turn takes
 
 pub at-rest : (session : Session) (rest : List ℕ) → IsAtRest session rest → SessionIsAfter rest [] [] [] session
-at-rest session rest r = session-new rest session r.ended r.holds (r.places, r.owed)
+at-rest session rest r = session-new rest session r.ended r.holds r.places r.owed
 
 module _ (bytes : List ℕ) (asked : List Command) (got : List Reply) (ended : Option Ending) (held : Held) (places : List (Option Reply)) where
   -- nothing is sent or begun yet
@@ -310,21 +310,21 @@ ends-input was is rest more replies end r waits none same e =
       by ending.Quit (is, done) = let ended = r.ended in cc
       by ending.Protocol (is, done) = let ended = r.ended in cc
 
-pub ends-cause : (end : Ending) (left : Option (List ℕ)) (over broken : Bool) (before calls : ℕ) (unwritten : Bool) → IsAtEnd left × (over ≡ true) → HasCause (cause_of_connection (Ok end)) left over broken before calls unwritten
+pub ends-cause : (end : Ending) (left : Passing) (over broken : Bool) (before calls : ℕ) (unwritten : Bool) → IsAtEnd left × (over ≡ true) → HasCause (cause_of_connection (Ok end)) left over broken before calls unwritten
 ends-cause ending.Closed left over broken before calls unwritten met = met
 ends-cause ending.Cut left over broken before calls unwritten met = met
 ends-cause ending.Quit left over broken before calls unwritten met = tt
 ends-cause ending.Protocol left over broken before calls unwritten met = tt
 
 -- a session that has ended by itself
-pub itself-cause : (end : Ending) (ended : Option Ending) (exchanges : List Exchange) (rest : List ℕ) (held : Held) (left : Option (List ℕ)) (over broken : Bool) (before calls : ℕ) (unwritten : Bool) → GoesBehind ended exchanges rest held
+pub itself-cause : (end : Ending) (ended : Option Ending) (exchanges : List Exchange) (rest : List ℕ) (held : Held) (left : Passing) (over broken : Bool) (before calls : ℕ) (unwritten : Bool) → GoesBehind ended exchanges rest held
     → ended ≡ Some end → HasCause (cause_of_connection (Ok end)) left over broken before calls unwritten
 itself-cause ending.Closed ended exchanges rest held left over broken before calls unwritten goes is = absurd (subst (λ (e : Option Ending). GoesBehind e exchanges rest held) is goes)
 itself-cause ending.Cut ended exchanges rest held left over broken before calls unwritten goes is = absurd (subst (λ (e : Option Ending). GoesBehind e exchanges rest held) is goes)
 itself-cause ending.Quit ended exchanges rest held left over broken before calls unwritten goes is = tt
 itself-cause ending.Protocol ended exchanges rest held left over broken before calls unwritten goes is = tt
 
-pub broken-cause : (wrong : ServeFault) (replies : ℕ) (left : Option (List ℕ)) (over broken : Bool) (before calls : ℕ) (unwritten : Bool) → wrong ≡ fault.Write replies → unwritten ≡ true
+pub broken-cause : (wrong : ServeFault) (replies : ℕ) (left : Passing) (over broken : Bool) (before calls : ℕ) (unwritten : Bool) → wrong ≡ fault.Write replies → unwritten ≡ true
     → HasCause (cause_of_connection (Err wrong)) left over broken before calls unwritten
 broken-cause wrong replies left over broken before calls unwritten is failed = subst (λ (w : ServeFault). HasCause (cause_of_connection (Err w)) left over broken before calls unwritten) (sym is) failed
 

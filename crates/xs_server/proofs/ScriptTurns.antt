@@ -6,7 +6,7 @@ use Rattle.std.proofs.lemmas.List.{append-nil, take-append-drop, length-take-le}
 use Rattle.std.proofs.lemmas.Bool.{false≢true}
 use Rattle.std.proofs.lemmas.Bool.Decides.{nat_tests}
 use Rattle.std.specs.List.{flat_map, list_any}
-use Rattle.std.specs.Io.KnownBytes.{IsAtEnd}
+use Rattle.xs_devices.specs.Passing.{Passing, IsAtEnd}
 use Rattle.xs_resp.specs.declared.reply.Reply.{Reply}
 use Rattle.xs_resp.specs.ReplyText.{text}
 use Rattle.xs_keys.specs.Content.{Content}
@@ -152,7 +152,7 @@ module _ (read sent owed : List ℕ) (lines : List (List ℕ)) (written : ℕ) (
 
   -- the line in hand is no script line
   pub ends-wrong : (cause : Cause) (number : ℕ) (line behind : List ℕ) → IsInHand read lines line behind
-      → ((rest : Option (List ℕ)) (ended : Bool) → (cause ≡ input → IsAtEnd rest × (ended ≡ true)) → IsReadOut line behind rest ended) → line_of line ≡ None → number ≡ counter_at (length lines)
+      → ((rest : Passing) (ended : Bool) → (cause ≡ input → IsAtEnd rest × (ended ≡ true)) → IsReadOut line behind rest ended) → line_of line ≡ None → number ≡ counter_at (length lines)
       → Ends cause (Err (fault.Line (counter_at (number + 1)) (counter_at (written + length owed))))
   ends-wrong cause number line behind hand out wrong numbered = (
     (λ rest ended met. (lines, line, behind, hand, out rest ended met, wrong, omega (arith, numbered), (said, total sent owed written counted)), inl refl),

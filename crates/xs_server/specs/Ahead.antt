@@ -3,7 +3,7 @@ use Rattle.std.specs.Prelude.{◌≡◌, ◌≢◌, ℕ, ◌<◌, ◌≤◌, Boo
 use Rattle.std.specs.Prelude.{Option, Some, None, Result, Ok, Err}
 use Rattle.xs_resp.specs.declared.reply.Reply.{Reply}
 use Rattle.xs_resp.specs.Grammar.{IsOpen}
-use Rattle.std.specs.Io.KnownBytes.{IsAtEnd}
+use Rattle.xs_devices.specs.Passing.{Passing, IsAtEnd}
 use Rattle.xs_resp.specs.HeldBytes.{Held}
 use Rattle.xs_resp.specs.LeftToWrite.{bytes_left}
 use Rattle.xs_command.specs.declared.command.Command.{Command}
@@ -59,7 +59,7 @@ AheadEnds (Err fault.Write) ended held places owed =
 AheadEnds (Err fault.Port) ended held places owed = Unit {0}
 
 -- what a reader that has these bytes left, and a writer, tell of how a connection ended
-abbrev pub HasCauseOf : Result Ending AheadFault → Option (List ℕ) → Bool → Bool → Bool → Type 0
+abbrev pub HasCauseOf : Result Ending AheadFault → Passing → Bool → Bool → Bool → Type 0
 HasCauseOf (Ok ending.Closed) rest ended broken unwritten = IsAtEnd rest × (ended ≡ true)
 HasCauseOf (Ok ending.Cut) rest ended broken unwritten = IsAtEnd rest × (ended ≡ true)
 HasCauseOf (Err fault.Read) rest ended broken unwritten = broken ≡ true

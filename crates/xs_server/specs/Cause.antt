@@ -1,6 +1,6 @@
 -- Why a script or a connection is at its end.
 use Rattle.std.specs.Prelude.{◌≡◌, ℕ, ◌+◌, ◌⊎◌, Bool, true, List, Option}
-use Rattle.std.specs.Io.KnownBytes.{IsAtEnd}
+use Rattle.xs_devices.specs.Passing.{Passing, IsAtEnd}
 use Rattle.xs_devices.specs.Device.{counter_at}
 
 pub data Cause : Type 0 where
@@ -14,7 +14,7 @@ abbrev pub reads_limit : ℕ
 reads_limit = 1000000000000
 
 -- what a reader that has these bytes left, and a writer, tell of a cause
-abbrev pub HasCause : Cause → Option (List ℕ) → Bool → Bool → ℕ → ℕ → Bool → Type 0
+abbrev pub HasCause : Cause → Passing → Bool → Bool → ℕ → ℕ → Bool → Type 0
 HasCause itself rest ended broken before calls unwritten = Unit {0}
 HasCause input rest ended broken before calls unwritten = IsAtEnd rest × (ended ≡ true)
 HasCause reader rest ended broken before calls unwritten =

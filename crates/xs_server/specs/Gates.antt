@@ -1,22 +1,27 @@
 -- The connections of a gate: those that it gave, and those that came back.
-use Rattle.std.specs.Prelude.{ℕ, Bool, true, false, List, [], ◌∷◌, ◌++◌, map, Option}
+use Rattle.std.specs.Prelude.{◌≡◌, ℕ, Bool, true, false, List, [], ◌∷◌, ◌++◌, map, Option}
+use Rattle.xs_devices.specs.Passing.{Passing}
 
--- a connection: the bytes that its reader has left and those that its writer holds, where they are told; whether the
--- end of the input was met; and whether the reader and the writer have failed
+-- a connection: the bytes that have passed through its reader and its writer, and those that are left or held, where
+-- they are told; whether the end of the input was met; and whether the reader and the writer have failed
 pub record Seen : Type 0 where
-  pub rest : Option (List ℕ)
+  pub rest : Passing
   pub ended : Bool
   pub unread : Bool
-  pub held : Option (List ℕ)
+  pub held : Passing
   pub unwritten : Bool
 
-abbrev pub seen : Option (List ℕ) → Bool → Bool → Option (List ℕ) → Bool → Seen
+abbrev pub seen : Passing → Bool → Bool → Passing → Bool → Seen
 seen rest ended unread held unwritten =
     record { rest = rest; ended = ended; unread = unread; held = held; unwritten = unwritten }
 
+-- no byte has passed through a reader or a writer yet
+abbrev pub AreFresh : Passing → Passing → Type 0
+AreFresh rest held = (rest.passed ≡ []) × (held.passed ≡ [])
+
 -- each of these readers and writers, as contracts see it
 abbrev pub all_seen :
-    {R W : Type 0} → (R → Option (List ℕ)) → (R → Bool) → (R → Bool) → (W → Option (List ℕ)) → (W → Bool) → List (R × W)
+    {R W : Type 0} → (R → Passing) → (R → Bool) → (R → Bool) → (W → Passing) → (W → Bool) → List (R × W)
     → List Seen
 all_seen rest ended unread held unwritten ones =
     map (λ one. seen (rest one.0) (ended one.0) (unread one.0) (held one.1) (unwritten one.1)) ones

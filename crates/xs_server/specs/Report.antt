@@ -1,6 +1,6 @@
 -- What the program says at its end.
 use Rattle.std.specs.Prelude.{◌≡◌, ℕ, ◌⊎◌, Bool, true, List, [], ◌++◌, codes, decimal, Option, Result, Ok, Err}
-use Rattle.std.specs.Io.KnownBytes.{Appends}
+use Rattle.xs_devices.specs.Passing.{Passing, Appends}
 use Rattle.xs_server.specs.declared.script.fault.ScriptFault.{ScriptFault}
 use Rattle.xs_server.specs.declared.script.fault.ScriptFault.TheVariants.{Line, Read, Write, Memory}
 use Rattle.xs_server.specs.declared.work.fault.WorkFault.{WorkFault}
@@ -62,13 +62,13 @@ text_of_run (Ok written) = []
 text_of_run (Err fault) = script_fault_text fault
 
 -- a writer takes this text, or a part of it if it fails
-abbrev pub Says : List ℕ → Option (List ℕ) → Option (List ℕ) → Bool → Type 0
+abbrev pub Says : List ℕ → Passing → Passing → Bool → Type 0
 Says text old new broken =
     (part rest : List ℕ) × (text ≡ part ++ rest) × Appends old new part × ((rest ≡ []) ⊎ (broken ≡ true))
 
 -- the status of the program after work, and what it says: nothing after an outcome, else the line of the fault
 abbrev pub ReportsWork :
-    {W A B : Type 0} → (B → WorkFault) → Result A B → ℕ → W → W → Option (List ℕ) → Option (List ℕ) → Bool → Type 0
+    {W A B : Type 0} → (B → WorkFault) → Result A B → ℕ → W → W → Passing → Passing → Bool → Type 0
 ReportsWork fault_of (Ok outcome) status old new held holds broken = (status ≡ 0) × (new ≡ old)
 ReportsWork fault_of (Err failed) status old new held holds broken =
     (status ≡ 1) × Says (work_text (fault_of failed)) held holds broken

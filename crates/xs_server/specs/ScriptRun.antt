@@ -1,7 +1,7 @@
 -- A script with no IO of its own, and how it ends.
 use Rattle.std.specs.Prelude.{◌≡◌, ℕ, ◌+◌, ◌<◌, ◌≤◌, true, false, ◌⊎◌, Bool, List, [], ◌∷◌, ◌++◌, length, take}
 use Rattle.std.specs.Prelude.{Option, None, Result, Ok, Err}
-use Rattle.std.specs.Io.KnownBytes.{IsAtEnd}
+use Rattle.xs_devices.specs.Passing.{Passing, IsAtEnd}
 use Rattle.std.specs.List.{flat_map, list_any}
 use Rattle.xs_keys.specs.Event.{History}
 use Rattle.xs_keys.specs.Content.{Content, IsContent}
@@ -30,7 +30,7 @@ IsInHand read lines line behind =
     (read ≡ flat_map with_end lines ++ (line ++ behind)) × AreLines lines × (list_any is_line_end line ≡ false)
 
 -- the line in hand was read up to its LF, or to the end of the input, or past the limit
-abbrev pub IsReadOut : List ℕ → List ℕ → Option (List ℕ) → Bool → Type 0
+abbrev pub IsReadOut : List ℕ → List ℕ → Passing → Bool → Type 0
 IsReadOut line behind rest ended =
     ((unused : List ℕ) × (behind ≡ 10 ∷ unused))
     ⊎ ((behind ≡ []) × (0 < length line) × IsAtEnd rest × (ended ≡ true)) ⊎ (line_limit < length line)
@@ -40,7 +40,7 @@ abbrev pub piece : ℕ
 piece = 65536
 
 -- how a script ends that has read and sent these bytes, and whose reader has these left
-abbrev pub ScriptEndsBy : ScriptFault → List ℕ → List ℕ → Option (List ℕ) → Bool → Type 0
+abbrev pub ScriptEndsBy : ScriptFault → List ℕ → List ℕ → Passing → Bool → Type 0
 ScriptEndsBy (Line number written) read sent rest ended =
     (lines : List (List ℕ)) × (line behind : List ℕ) × IsInHand read lines line behind
     × IsReadOut line behind rest ended
@@ -54,7 +54,7 @@ ScriptEndsBy (Memory written) read sent rest ended =
     × Sent lines sent written
 
 -- the whole script is answered, or it ended by a fault
-abbrev pub Runs : Result ℕ ScriptFault → List ℕ → List ℕ → Option (List ℕ) → Bool → Type 0
+abbrev pub Runs : Result ℕ ScriptFault → List ℕ → List ℕ → Passing → Bool → Type 0
 Runs (Ok n) read sent rest ended = Sent (script_lines read) sent n
 Runs (Err fault) read sent rest ended = ScriptEndsBy fault read sent rest ended
 
@@ -94,7 +94,7 @@ cause_of_script _ = itself
 -- the script ran so, by this cause, whatever is left of the input: the end of the input was met, if that is the cause
 abbrev pub RunsBy : Cause → Result ℕ ScriptFault → List ℕ → List ℕ → Type 0
 RunsBy cause result read sent =
-    ((rest : Option (List ℕ)) (ended : Bool) → (cause ≡ input → IsAtEnd rest × (ended ≡ true))
+    ((rest : Passing) (ended : Bool) → (cause ≡ input → IsAtEnd rest × (ended ≡ true))
     → Runs result read sent rest ended) × ((cause_of_script result ≡ itself) ⊎ (cause ≡ cause_of_script result))
 
 -- no line is whole, nor is it past the limit

@@ -1,14 +1,14 @@
 -- A worker: it serves the connections of a gate, one after the other, through a lane.
 use Rattle.std.specs.Prelude.{◌≡◌, ◌≢◌, ℕ, ◌⊎◌, Bool, true, false, List, [], ◌∷◌, ◌++◌, codes, slice_get}
 use Rattle.std.specs.Prelude.{Some, Result, Err}
-use Rattle.std.specs.Io.KnownBytes.{Appends, Consumes}
+use Rattle.xs_devices.specs.Passing.{Appends, Consumes}
 use Rattle.xs_resp.specs.Line.{crlf}
 use Rattle.xs_desk.specs.Callers.{Caller}
 use Rattle.xs_session.specs.declared.ending.Ending.{Ending}
 use Rattle.xs_server.specs.declared.connections.ahead.AheadFault.{AheadFault}
 use Rattle.xs_server.specs.declared.connections.ahead.AheadFault.TheVariants as fault
 use Rattle.xs_server.specs.Ahead.{ServesAhead, HasCauseOf}
-use Rattle.xs_server.specs.Gates.{Seen, GateTrace}
+use Rattle.xs_server.specs.Gates.{Seen, GateTrace, AreFresh}
 
 -- what a client is told for whom there is no memory
 abbrev pub no_memory : List ℕ
@@ -32,13 +32,14 @@ pub record ServesOne (result : Result Ending AheadFault) (first last : Caller) (
   pub cause : HasCauseOf result back.rest back.ended back.unread back.unwritten
   pub is_told : IsTold result told back.unwritten
 
--- the connections that were given are those that came back, one by one and in order; each was served through the lane,
--- and nothing else was submitted or taken; and unless the lane was lost, all were answered
+-- the connections that were given are those that came back, one by one and in order; nothing had passed through any
+-- before; each was served through the lane, and nothing else was submitted or taken; and unless the lane was lost, all
+-- were answered
 abbrev pub ServesEach : Bool → Caller → List Seen → List Seen → Caller → Type 0
 ServesEach lost first [] [] last = last ≡ first
 ServesEach lost first (one ∷ given) (back ∷ returned) last =
     (result : Result Ending AheadFault) × (mid : Caller) × (lost ≡ false → result ≢ Err fault.Port)
-    × ServesOne result first mid one back × ServesEach lost mid given returned last
+    × AreFresh one.rest one.held × ServesOne result first mid one back × ServesEach lost mid given returned last
 ServesEach lost first _ _ last = ⊥
 
 -- so were the connections that the gate gave meanwhile

@@ -202,7 +202,7 @@ fn run_command<'a>(alloc: Global) -> Result<Command<'a>, AllocError> {
             "idle",
             idle,
             "0",
-            "After how many seconds a connection that sends nothing is closed; 0 is never",
+            "After how many seconds a connection that sends or takes nothing is closed; 0 is never",
         ))?
         .arg(open)?
         .arg(max_memory)?

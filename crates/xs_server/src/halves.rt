@@ -1,23 +1,20 @@
-//! The two halves of a connection over TCP. Replies are gathered in one buffer, which is sent when it is full, before
-//! the reader waits, and when the writer is dropped. A gate makes it once, for all its connections.
+//! The two halves of a connection over TCP. A gate makes their memory once, for all its connections.
 //!
 //! While a call waits nobody reads, so somebody has to look whether the client is still there. Whether it has closed
 //! its side shows only behind the bytes that it sent before. So a look reads them, without waiting, into a buffer that
-//! the reader takes them from later.
-ghost use Rattle.std.specs.Prelude.{◌≤◌, length, IfOk};
+//! the reader takes them from later. Once that is full a reset connection alone shows.
+ghost use Rattle.std.specs.Prelude.{◌≤◌, length, IfOk, IfSome};
+ghost use Rattle.xs_server.specs.Gates.{AreFresh};
 
 use std::alloc::{AllocError, Global};
 use std::io;
 use std::io::{ErrorKind, Read, Write};
 use std::net::TcpStream;
-use std::sync::{Arc, Mutex};
-use xs_devices::{FromRead, ToWrite};
-
-/// How many bytes of replies are gathered.
-const ROOM: usize = 65_536;
+use std::sync::{Arc, Mutex, Wait};
+use xs_devices::{FromRead, Sink, Source, ToWrite};
 
 /// How many bytes are read while a call waits, and how many at once.
-const AHEAD: usize = 65_536;
+const AHEAD: usize = 1_048_576;
 
 const PIECE: usize = 4096;
 
@@ -26,8 +23,6 @@ const PIECE: usize = 4096;
 struct Shared {
     // None between two connections.
     stream: Option<TcpStream>,
-    // What isn't sent yet. Its memory is made once, and it never has more than ROOM bytes.
-    held: Vec<u8>,
     // What was read while a call waited, from `ahead_at` on.
     ahead: Vec<u8>,
     ahead_at: usize,
@@ -40,37 +35,27 @@ fn busy() -> io::Error {
     io::Error::from(ErrorKind::ResourceBusy)
 }
 
-/// Sends what is held. Where that fails it is lost.
-fn send(shared: &mut Shared) -> io::Result<()> {
-    if shared.held.is_empty() {
-        return Ok(());
-    }
+/// Sends bytes from the front of a slice, and says how many. An interrupted write is made again.
+fn send(shared: &Shared, from: &[u8]) -> io::Result<usize>
+    ensures { IfOk result (λ n. n ≤ length from.now) }
+{
     let Some(mut stream) = shared.stream.as_ref() else {
         return Err(busy());
     };
-    let sent = stream.write_all(shared.held.as_slice());
-    shared.held.clear();
-    sent
+    for _ in 0..u64::MAX {
+        match stream.write(from) {
+            Err(error) if error.kind() == ErrorKind::Interrupted => {}
+            written => return written,
+        }
+    }
+    Err(io::Error::from(ErrorKind::Interrupted))
 }
 
-/// Takes as many bytes from the front of a slice as there is room for, and says how many. A full buffer is sent. A
-/// slice that would fill the empty buffer is sent itself.
-fn hold(shared: &mut Shared, from: &[u8]) -> io::Result<usize>
-    ensures { IfOk result (λ n. n ≤ length from.now) }
-{
-    if shared.held.is_empty() && from.len() >= ROOM {
-        let Some(mut stream) = shared.stream.as_ref() else {
-            return Err(busy());
-        };
-        stream.write_all(from)?;
-        return Ok(from.len());
-    }
-    let count = from.len().min(ROOM.saturating_sub(shared.held.len()));
-    shared.held.extend_from_slice(&from[..count])?;
-    if shared.held.len() >= ROOM {
-        send(shared)?;
-    }
-    Ok(count)
+/// Drops what was read ahead, and its memory.
+fn forget_ahead(shared: &mut Shared) {
+    shared.ahead.clear();
+    shared.ahead.shrink_to_fit();
+    shared.ahead_at = 0;
 }
 
 /// Takes bytes that were read ahead.
@@ -84,17 +69,15 @@ fn take_ahead(shared: &mut Shared, into: &mut [u8]) -> usize
     into[..count].copy_from_slice(&ahead[..count]);
     shared.ahead_at = shared.ahead_at.saturating_add(count);
     if shared.ahead_at >= shared.ahead.len() {
-        shared.ahead.clear();
-        shared.ahead_at = 0;
+        forget_ahead(shared);
     }
     count
 }
 
-/// Sends what is held, and waits for bytes. An interrupted read is made again; one whose time is over is the end.
+/// Waits for bytes. An interrupted read is made again; one whose time is over is the end.
 fn receive(shared: &mut Shared, into: &mut [u8]) -> io::Result<usize>
     ensures { IfOk result (λ n. n ≤ length into.new) }
 {
-    send(shared)?;
     if !shared.ahead.is_empty() {
         return Ok(take_ahead(shared, into));
     }
@@ -119,13 +102,18 @@ fn is_without_bytes(error: &io::Error) -> bool {
     matches!(error.kind(), ErrorKind::WouldBlock | ErrorKind::TimedOut)
 }
 
+/// Whether a connection has failed. It reads nothing, so it doesn't see that the client has closed its side.
+fn has_failed(stream: &TcpStream) -> bool {
+    !matches!(stream.take_error(), Ok(None))
+}
+
 /// Reads what has come, up to AHEAD bytes in all, from a stream that doesn't wait. It says whether the stream has
 /// ended.
 fn read_ahead(mut stream: &TcpStream, ahead: &mut Vec<u8>) -> bool {
     let mut piece = [0u8; PIECE];
     for _ in 0..AHEAD / PIECE {
         if ahead.len() >= AHEAD || ahead.reserve(PIECE).is_err() {
-            return false;
+            return has_failed(stream);
         }
         match stream.read(&mut piece) {
             Ok(0) => return true,
@@ -162,7 +150,7 @@ fn has_left(shared: &mut Shared) -> bool {
 /// Where the requests come from.
 #[derive(Drop)]
 pub struct Incoming {
-    // Both halves stay in one thread, so nobody waits for the lock.
+    // Nobody looks while it reads: no call waits then.
     shared: Arc<Mutex<Shared>>,
 }
 
@@ -175,35 +163,29 @@ impl Read for Incoming {
     }
 }
 
-/// Where the replies go.
-pub struct Outgoing {
+/// Where the replies go. While a call waits its client may be looked after: a write waits until that look is over.
+pub struct Outgoing<S: Drop> {
+    system: S,
     shared: Arc<Mutex<Shared>>,
 }
 
-impl Drop for Outgoing {
-    /// Sends what is held, and ends the connection. A fault is passed over: the peer has gone.
+impl<S: Drop> Drop for Outgoing<S> {
+    /// Ends the connection.
     fn drop(self) {
-        let Outgoing { shared } = self;
+        let Outgoing { system: _, shared } = self;
         if let Some(mut shared) = shared.try_lock() {
-            let _ = send(&mut shared);
             shared.stream = None;
         }
     }
 }
 
-impl Write for Outgoing {
+impl<S: Wait + Drop> Write for Outgoing<S> {
     fn write(&mut self, from: &[u8]) -> io::Result<usize> {
-        match self.shared.try_lock() {
-            Some(mut shared) => hold(&mut shared, from),
-            None => Err(busy()),
-        }
+        send(&self.shared.lock(&self.system), from)
     }
 
     fn flush(&mut self) -> io::Result<()> {
-        match self.shared.try_lock() {
-            Some(mut shared) => send(&mut shared),
-            None => Err(busy()),
-        }
+        Ok(())
     }
 }
 
@@ -230,24 +212,10 @@ impl Peer {
             None => false,
         }
     }
-
-    /// Whether there are replies that aren't sent yet.
-    pub fn is_owed_bytes(&self) -> bool {
-        match self.shared.try_lock() {
-            Some(shared) => !shared.held.is_empty(),
-            None => false,
-        }
-    }
-
-    /// Sends what isn't sent yet. A fault is found by the next read or write.
-    pub fn send(&self) {
-        if let Some(mut shared) = self.shared.try_lock() {
-            if send(&mut shared).is_err() {
-                shared.has_ended = true;
-            }
-        }
-    }
 }
+
+/// Both halves of a connection.
+pub type Halves<S> = (FromRead<Incoming>, ToWrite<Outgoing<S>>);
 
 /// The memory of the halves of connections, one after the other.
 #[derive(Drop)]
@@ -256,18 +224,10 @@ pub struct HalvesMemory {
 }
 
 impl HalvesMemory {
-    /// All that the halves need.
+    /// What the halves need.
     pub fn new(alloc: Global) -> Result<Self, AllocError> {
-        let memory = Self::lazy(alloc)?;
-        memory.make_room()?;
-        Ok(memory)
-    }
-
-    /// What the halves need, but for the buffer of replies, which the first connection makes.
-    pub fn lazy(alloc: Global) -> Result<Self, AllocError> {
         let shared = Shared {
             stream: None,
-            held: Vec::new(alloc),
             ahead: Vec::new(alloc),
             ahead_at: 0,
             has_ended: false,
@@ -284,28 +244,24 @@ impl HalvesMemory {
         })
     }
 
-    /// Makes the buffer of replies, if it isn't there.
-    pub fn make_room(&self) -> Result<(), AllocError> {
-        match self.shared.try_lock() {
-            Some(mut shared) => shared.held.reserve(ROOM),
-            None => Ok(()),
-        }
-    }
-
     /// Both halves of a stream. They take no memory. None while the halves of another connection are in use.
-    pub fn halves_of(&self, stream: TcpStream) -> Option<(FromRead<Incoming>, ToWrite<Outgoing>)> {
+    pub fn halves_of<S: Wait + Drop>(&self, system: S, stream: TcpStream) -> Option<Halves<S>>
+        ensures { IfSome result (λ one. AreFresh (⟦<FromRead<Incoming> as Source>⟧.rest one.0)
+            (⟦<ToWrite<Outgoing<S>> as Sink>⟧.held one.1)) }
+    {
         let shared = Arc::try_clone(&self.shared).ok()?;
         let other = Arc::try_clone(&self.shared).ok()?;
         {
             let mut shared = self.shared.try_lock()?;
-            shared.held.clear();
-            shared.ahead.clear();
-            shared.ahead_at = 0;
+            forget_ahead(&mut shared);
             shared.has_ended = false;
             shared.stream = Some(stream);
         }
         let incoming = FromRead::new(Incoming { shared });
-        let outgoing = ToWrite::new(Outgoing { shared: other });
+        let outgoing = ToWrite::new(Outgoing {
+            system,
+            shared: other,
+        });
         Some((incoming, outgoing))
     }
 }

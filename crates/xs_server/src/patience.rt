@@ -19,7 +19,7 @@ const BEAT_MILLIS: u64 = 1000;
 const PROMPT_MILLIS: u64 = 1;
 
 /// Up to so many workers have the memory of their connections from the start on. Of more, most may never serve anybody.
-pub const MADE_AT_START: usize = 64;
+const MADE_AT_START: usize = 64;
 
 /// How a worker waits whose client may leave.
 #[derive(Drop)]
@@ -37,19 +37,19 @@ impl<S: Wait + Clock + Drop> Pause for Watch<S> {
         if self.peer.was_seen_to_leave() {
             client.hurry();
         }
-        if client.is_blocked() {
-            self.peer.send();
-        }
-        let owes = self.peer.is_owed_bytes();
-        let millis = if owes { PROMPT_MILLIS } else { BEAT_MILLIS };
-        if !client.idle_for(&self.system, Duration::from_millis(millis)) {
-            return;
-        }
-        if owes {
-            self.peer.send();
-        } else if self.peer.has_left() {
+        if client.idle_for(&self.system, Duration::from_millis(BEAT_MILLIS))
+            && self.peer.has_left()
+        {
             client.hurry();
         }
+    }
+
+    fn pause_briefly<R: Wait>(&self, rt: &R, client: &Client) -> bool {
+        if !client.will_sleep() {
+            client.idle(rt);
+            return false;
+        }
+        client.is_blocked() || client.idle_for(&self.system, Duration::from_millis(PROMPT_MILLIS))
     }
 }
 

@@ -1,6 +1,6 @@
 //! What the program says on standard error, and its status.
 ghost use Rattle.std.specs.Prelude.{◌≡◌, ◌++◌, true, false, decimal};
-ghost use Rattle.std.specs.Io.KnownBytes.{Appends};
+ghost use Rattle.xs_devices.specs.Passing.{Appends};
 ghost use Rattle.xs_server.specs.Report.{status_of, script_fault_text, memory_text, line_text, listening_text};
 ghost use Rattle.xs_server.specs.Report.{work_text};
 ghost use Rattle.xs_server.specs.Report.{Says, ready_text, ReportsWork};

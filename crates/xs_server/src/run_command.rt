@@ -8,7 +8,7 @@ use crate::command_line::RunOptions;
 use crate::door::open_door;
 use crate::hall::Hall;
 use crate::limits::open_files;
-use crate::patience::{MADE_AT_START, Patience};
+use crate::patience::Patience;
 use crate::report::{report_memory, report_text, report_worked};
 use crate::run_gate::RunGate;
 use crate::serve_command::DEPTH;
@@ -56,7 +56,7 @@ fn name_of(error: &io::Error) -> &'static str {
 }
 
 /// A gate for each worker. They share the hall and the announcement.
-fn gates_of<S: Copy + Drop>(
+fn gates_of<S: Wait + Copy + Send + Drop>(
     system: S,
     alloc: Global,
     hall: &Arc<Hall>,
@@ -71,14 +71,10 @@ fn gates_of<S: Copy + Drop>(
     } else {
         Some(Duration::from_secs(options.idle))
     };
-    let at_start = options.workers <= MADE_AT_START as u64;
     let mut gates = Vec::new(alloc);
     for _worker in 0..options.workers {
         let (hall, announcement) = (Arc::try_clone(hall)?, announcement.again()?);
         let gate = RunGate::new(system, alloc, hall, announcement, idle)?;
-        if at_start {
-            gate.make_room()?;
-        }
         gates.push(gate)?;
     }
     Ok(gates)
@@ -104,7 +100,7 @@ fn ready_line(
 
 /// What is made before the first connection is served.
 #[derive(Drop)]
-pub struct Ready<S: Drop> {
+pub struct Ready<S: Wait + Drop> {
     /// A gate for each worker.
     pub gates: Vec<RunGate<S>>,
     /// How they are served.

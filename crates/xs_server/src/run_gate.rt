@@ -1,36 +1,32 @@
 //! A gate of a server that stays: it takes connections from the hall, without end.
-ghost use Rattle.std.specs.Prelude.{◌≡◌, IfOk};
-ghost use Rattle.xs_server.specs.Gates.{new_gate};
+ghost use Rattle.std.specs.Prelude.{◌≡◌, IfOk, IfSome};
+ghost use Rattle.xs_server.specs.Gates.{AreFresh, new_gate};
 
 use crate::announcement::Announcement;
 use crate::hall::Hall;
-use crate::halves::{HalvesMemory, Incoming, Outgoing, Peer};
+use crate::halves::{Halves, HalvesMemory, Incoming, Outgoing, Peer};
 use crate::work::gate::{Gate, GateFault};
 use crate::work::register::Register;
 use std::alloc::{AllocError, Global};
-use std::io::Write;
 use std::net::TcpStream;
 use std::sync::{Arc, Wait};
 use std::time::Duration;
-use xs_devices::{FromRead, ToWrite};
-
-/// What a connection is told for which there is no memory.
-const NO_MEMORY: &[u8] = b"-OOM out of memory\r\n";
+use xs_devices::{FromRead, Sink, Source, ToWrite};
 
 /// A gate that takes connections from a hall, which other gates share.
 #[derive(Drop)]
-pub struct RunGate<S: Drop> {
+pub struct RunGate<S: Wait + Drop> {
     // The clock that its worker waits by.
     system: S,
     memory: HalvesMemory,
     hall: Arc<Hall>,
     announcement: Announcement,
-    // How long a connection may send nothing.
+    // How long a connection may send nothing, or take nothing of a reply.
     idle: Option<Duration>,
-    register: Register<FromRead<Incoming>, ToWrite<Outgoing>>,
+    register: Register<FromRead<Incoming>, ToWrite<Outgoing<S>>>,
 }
 
-impl<S: Copy + Drop> RunGate<S> {
+impl<S: Wait + Copy + Send + Drop> RunGate<S> {
     /// A gate of this hall. At its first call it makes the announcement.
     pub fn new(
         system: S,
@@ -43,14 +39,16 @@ impl<S: Copy + Drop> RunGate<S> {
     {
         Ok(Self {
             system,
-            memory: HalvesMemory::lazy(alloc)?,
+            memory: HalvesMemory::new(alloc)?,
             hall,
             announcement,
             idle,
             register: Register::new(),
         })
     }
+}
 
+impl<S: Wait + Copy + Drop> RunGate<S> {
     /// The clock that its worker waits by.
     pub fn system(&self) -> S {
         self.system
@@ -61,28 +59,25 @@ impl<S: Copy + Drop> RunGate<S> {
         self.memory.peer()
     }
 
-    /// Makes the buffer of replies, which else the first connection makes.
-    pub fn make_room(&self) -> Result<(), AllocError> {
-        self.memory.make_room()
-    }
-
-    /// Both halves of a stream. None if there is no memory, and the client is told.
-    fn halves_of(&self, stream: TcpStream) -> Option<(FromRead<Incoming>, ToWrite<Outgoing>)> {
+    /// Both halves of a stream.
+    fn halves_of(&self, stream: TcpStream) -> Option<Halves<S>>
+        ensures { IfSome result (λ one. AreFresh (⟦<FromRead<Incoming> as Source>⟧.rest one.0)
+            (⟦<ToWrite<Outgoing<S>> as Sink>⟧.held one.1)) }
+    {
         // Without these replies may be late, and an idle connection stays: no reason to refuse it.
         let _ = stream.set_nodelay(true);
         if self.idle.is_some() {
             let _ = stream.set_read_timeout(self.idle);
+            let _ = stream.set_write_timeout(self.idle);
         }
-        if self.memory.make_room().is_err() {
-            let mut stream = stream;
-            let _ = stream.write(NO_MEMORY);
-            return None;
-        }
-        self.memory.halves_of(stream)
+        self.memory.halves_of(self.system, stream)
     }
 
     /// Waits for the next connection of the hall, and gives its halves. None once the hall is closed.
-    fn take_next<R: Wait>(&self, rt: &R) -> Option<(FromRead<Incoming>, ToWrite<Outgoing>)> {
+    fn take_next<R: Wait>(&self, rt: &R) -> Option<Halves<S>>
+        ensures { IfSome result (λ one. AreFresh (⟦<FromRead<Incoming> as Source>⟧.rest one.0)
+            (⟦<ToWrite<Outgoing<S>> as Sink>⟧.held one.1)) }
+    {
         for _ in rt.forever() {
             let stream = self.hall.next(rt)?;
             if let Some(halves) = self.halves_of(stream) {
@@ -93,17 +88,14 @@ impl<S: Copy + Drop> RunGate<S> {
     }
 }
 
-impl<S: Copy + Drop> Gate for RunGate<S> {
+impl<S: Wait + Copy + Send + Drop> Gate for RunGate<S> {
     type Reader = FromRead<Incoming>;
 
-    type Writer = ToWrite<Outgoing>;
+    type Writer = ToWrite<Outgoing<S>>;
 
     ghost trace = { λ g. g.register };
 
-    fn open_next<R: Wait>(
-        &mut self,
-        rt: &R,
-    ) -> Result<Option<(FromRead<Incoming>, ToWrite<Outgoing>)>, GateFault> {
+    fn open_next<R: Wait>(&mut self, rt: &R) -> Result<Option<Halves<S>>, GateFault> {
         self.announcement.make();
         match self.take_next(rt) {
             Some(connection) => {
@@ -117,7 +109,7 @@ impl<S: Copy + Drop> Gate for RunGate<S> {
         }
     }
 
-    fn close(&mut self, reader: FromRead<Incoming>, writer: ToWrite<Outgoing>) {
+    fn close(&mut self, reader: FromRead<Incoming>, writer: ToWrite<Outgoing<S>>) {
         self.register.take_back(&(reader, writer));
     }
 }

@@ -23,7 +23,7 @@ use xs_devices::{Sink, ToWrite};
 pub const DEPTH: usize = 32;
 
 /// A gate for each worker, with its memory. They share the listener and the announcement of its port.
-fn gates_of<S: Clock + Copy + Drop>(
+fn gates_of<S: Clock + Wait + Copy + Send + Drop>(
     system: S,
     alloc: Global,
     listener: TcpListener,

@@ -1,9 +1,9 @@
 //! Connections over TCP.
-ghost use Rattle.std.specs.Prelude.{◌≡◌, IfOk};
-ghost use Rattle.xs_server.specs.Gates.{new_gate};
+ghost use Rattle.std.specs.Prelude.{◌≡◌, IfOk, IfSome};
+ghost use Rattle.xs_server.specs.Gates.{AreFresh, new_gate};
 
 use crate::announcement::Announcement;
-use crate::halves::{HalvesMemory, Incoming, Outgoing};
+use crate::halves::{Halves, HalvesMemory, Incoming, Outgoing};
 use crate::work::gate::{Gate, GateFault};
 use crate::work::register::Register;
 use std::alloc::{AllocError, Global};
@@ -12,7 +12,7 @@ use std::net::{TcpListener, TcpStream};
 use std::sync::{Arc, Wait};
 use std::thread;
 use std::time::{Clock, Duration};
-use xs_devices::{FromRead, ToWrite};
+use xs_devices::{FromRead, Sink, Source, ToWrite};
 
 /// Linux's numbers of the errors of `accept` that a listener gives for good: its descriptor is closed, it doesn't
 /// listen any more, and its descriptor is another file's.
@@ -27,16 +27,16 @@ const PAUSE_MILLIS: u64 = 100;
 
 /// So many connections of a listener, which other gates may share.
 #[derive(Drop)]
-pub struct TcpGate<S: Clock + Drop> {
+pub struct TcpGate<S: Clock + Wait + Drop> {
     memory: HalvesMemory,
     system: S,
     listener: Arc<TcpListener>,
     announcement: Announcement,
     left: u64,
-    register: Register<FromRead<Incoming>, ToWrite<Outgoing>>,
+    register: Register<FromRead<Incoming>, ToWrite<Outgoing<S>>>,
 }
 
-impl<S: Clock + Drop> TcpGate<S> {
+impl<S: Clock + Wait + Copy + Send + Drop> TcpGate<S> {
     /// A gate that takes so many connections from the listener, with all the memory that it needs for them. At its
     /// first call it makes the announcement, which other gates may share.
     pub fn new(
@@ -97,35 +97,35 @@ fn accept<S: Clock>(system: &S, listener: &TcpListener) -> Result<TcpStream, Gat
 }
 
 /// Waits for the next of so many connections that are left, and gives its halves. None after the last.
-fn take_next<S: Clock>(
+fn take_next<S: Clock + Wait + Copy + Drop>(
     system: &S,
     listener: &TcpListener,
     memory: &HalvesMemory,
     left: &mut u64,
-) -> Result<Option<(FromRead<Incoming>, ToWrite<Outgoing>)>, GateFault> {
+) -> Result<Option<Halves<S>>, GateFault>
+    ensures { IfOk result (λ next. IfSome next (λ one. AreFresh (⟦<FromRead<Incoming> as Source>⟧.rest one.0)
+        (⟦<ToWrite<Outgoing<S>> as Sink>⟧.held one.1))) }
+{
     for _ in 0..*left {
         *left = left.saturating_sub(1);
         let stream = accept(system, listener)?;
         // Without it replies may be late. So a fault here is no reason to refuse the connection.
         let _ = stream.set_nodelay(true);
-        if let Some(halves) = memory.halves_of(stream) {
+        if let Some(halves) = memory.halves_of(*system, stream) {
             return Ok(Some(halves));
         }
     }
     Ok(None)
 }
 
-impl<S: Clock + Drop> Gate for TcpGate<S> {
+impl<S: Clock + Wait + Copy + Send + Drop> Gate for TcpGate<S> {
     type Reader = FromRead<Incoming>;
 
-    type Writer = ToWrite<Outgoing>;
+    type Writer = ToWrite<Outgoing<S>>;
 
     ghost trace = { λ g. g.register };
 
-    fn open_next<R: Wait>(
-        &mut self,
-        _rt: &R,
-    ) -> Result<Option<(FromRead<Incoming>, ToWrite<Outgoing>)>, GateFault> {
+    fn open_next<R: Wait>(&mut self, _rt: &R) -> Result<Option<Halves<S>>, GateFault> {
         self.announcement.make();
         match take_next(&self.system, &self.listener, &self.memory, &mut self.left) {
             Ok(Some(connection)) => {
@@ -143,7 +143,7 @@ impl<S: Clock + Drop> Gate for TcpGate<S> {
         }
     }
 
-    fn close(&mut self, reader: FromRead<Incoming>, writer: ToWrite<Outgoing>) {
+    fn close(&mut self, reader: FromRead<Incoming>, writer: ToWrite<Outgoing<S>>) {
         self.register.take_back(&(reader, writer));
     }
 }

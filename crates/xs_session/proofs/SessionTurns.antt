@@ -26,7 +26,7 @@ use Rattle.xs_session.specs.declared.session.Session.{Session}
 use Rattle.xs_session.specs.declared.session.Turn.{Turn}
 use Rattle.xs_desk.specs.declared.answer.Call.{Call}
 use Rattle.xs_resp.specs.LeftToWrite.{bytes_left}
-use Rattle.xs_session.specs.Session.{texts, refusal, Goes, IsAfter, SessionIsAfter, IsWritten, AsksOrWaits, asked_in, ending_of}
+use Rattle.xs_session.specs.Session.{texts, refusal, Goes, IsAfter, SessionIsAfter, IsGathered, AsksOrWaits, asked_in, ending_of}
 use Rattle.xs_session.proofs.OpenCommands.{open-free, open-more}
 use Rattle.xs_session.proofs.Answering.{taken-more, taken-same, asked-more, asked-same, answers-ask, answers-say, answers-got, open-fits, closed-fits}
 use Rattle.xs_session.proofs.Placing.{begun-open, begun-fill, begun-more}
@@ -341,14 +341,14 @@ none-open : (alone : Bool) → MayBeOpen alone []
 none-open true = inl tt
 none-open false = tt
 
-pub session-new : (bytes : List ℕ) (session : Session) → session.ended ≡ None → session.requests ≡ Ok bytes → IsWritten session → SessionIsAfter bytes [] [] [] session
-session-new bytes session going is written = (after-new bytes session.ended session.requests session.places (bytes_left session.owed) going is written.0 written.1, none-open session.alone)
+pub session-new : (bytes : List ℕ) (session : Session) → session.ended ≡ None → session.requests ≡ Ok bytes → session.places ≡ [] → bytes_left session.owed ≡ [] → SessionIsAfter bytes [] [] [] session
+session-new bytes session going is places owed = (after-new bytes session.ended session.requests session.places (bytes_left session.owed) going is places owed, none-open session.alone)
 
 -- ---- turns of a whole session
 
 module _ (read : List ℕ) (asked : List Command) (got : List Reply) (sent : List ℕ) where
   -- where no answer is left to come, what is waiting is alone or not
-  pub session-goes : (old new : Session) → SessionIsAfter read asked got sent old → new ≡ (let x : Session = record old { alone = false } in x) → (old.alone ≡ true → IsWritten old)
+  pub session-goes : (old new : Session) → SessionIsAfter read asked got sent old → new ≡ (let x : Session = record old { alone = false } in x) → (old.alone ≡ true → IsGathered old)
       → SessionIsAfter read asked got sent new
   session-goes old new s is settled =
       let even : (old.places ≡ []) → length asked ≤ length got = λ none. let e = after-even read asked got sent old.ended old.requests old.places (bytes_left old.owed) s.0 (ap has_open none) in omega (arith, e) in
@@ -366,7 +366,7 @@ module _ (read : List ℕ) (asked : List Command) (got : List Reply) (sent : Lis
   session-asked old new call turn words going several are some is owed (inl asks) s =
       let after = turn-asks read asked got sent old.ended new.ended old.requests new.requests old.places new.places (bytes_left old.owed) words call.command going s.0 are asks.skips some is asks.places asks.ended in
       let waiting = open-more new.alone (length got) asked call.command s.0.fits (subst (λ (b : Bool). MayBeOpen b (drop (length got) asked)) several s.1) asks.alone
-      (λ alone. session-closed old s (ap has_open (asks.written alone).0)) in
+      (λ alone. session-closed old s (ap has_open (asks.gathered alone).0)) in
       subst (λ (t : Turn). SessionIsAfter read (asked ++ asked_in t) got sent new) (sym asks.asks)
       (subst (λ (o : List ℕ). IsAfter read (asked ++ call.command ∷ []) got sent new.ended new.requests new.places o) (sym (ap bytes_left owed)) after, waiting)
   session-asked old new call turn words going several are some is owed (inr (full, same)) s =

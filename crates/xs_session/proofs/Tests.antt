@@ -1,7 +1,8 @@
 -- What tests of emptiness tell.
-use Rattle.std.proofs.Common.{◌≡◌, ℕ, ◌<◌, ◌==◌, Bool, true, false, List, [], ◌∷◌, ◌++◌, length, Option, Result, Ok, Err}
+use Rattle.std.proofs.Common.{◌≡◌, ℕ, ◌<◌, ◌==◌, Bool, true, false, List, [], ◌∷◌, ◌++◌, length, Result, Ok, Err}
 use Rattle.std.proofs.Common.{sym, ap, ◌∙◌, refl, arith}
 use Rattle.std.specs.Prelude.{IfOk}
+use Rattle.xs_devices.specs.Passing.{Passing}
 use Rattle.xs_devices.specs.Device.{Gave}
 
 pub empty-none : {A : Type 0} (items : List A) (empty : Bool) → empty ≡ (length items == 0) → empty ≡ true → items ≡ []
@@ -12,16 +13,13 @@ pub empty-some : {A : Type 0} (items : List A) (empty : Bool) → empty ≡ (len
 empty-some [] empty is h = let e : true ≡ false = sym is ∙ h in cc
 empty-some (item ∷ items) empty is h = omega arith
 
--- the front of some bytes is empty only if all are
-pub none-owed : (piece behind : List ℕ) → piece ≡ [] → (piece ≡ [] → behind ≡ []) → piece ++ behind ≡ []
-none-owed piece behind none all = ap (λ p. p ++ behind) none ∙ all none
-
-pub some-owed : (piece behind : List ℕ) → 0 < length piece → piece ++ behind ≡ [] → ⊥
-some-owed [] behind some none = omega (arith, some)
-some-owed (b ∷ piece) behind some none = omega (arith, ap length none)
+-- nothing is left, so nothing is behind the front
+pub none-behind : (piece behind : List ℕ) → piece ++ behind ≡ [] → behind ≡ []
+none-behind [] behind none = none
+none-behind (b ∷ piece) behind none = cc
 
 -- what was read
-pub gave-more : {E : Type 0} (result : Result ℕ E) (old new : Option (List ℕ)) (ended : Bool) (P Q : List ℕ → Type 0) → ((more : List ℕ) → P more → Q more)
+pub gave-more : {E : Type 0} (result : Result ℕ E) (old new : Passing) (ended : Bool) (P Q : List ℕ → Type 0) → ((more : List ℕ) → P more → Q more)
     → IfOk result (λ n. Gave old new ended n P) → IfOk result (λ n. Gave old new ended n Q)
 gave-more (Ok n) old new ended P Q f (got, size, small, came, end, is) = (got, size, small, came, end, f got is)
 gave-more (Err e) old new ended P Q f gave = gave

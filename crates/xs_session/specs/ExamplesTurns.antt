@@ -8,7 +8,7 @@ use Rattle.xs_session.specs.declared.ending.Ending.TheVariants as ending
 use Rattle.xs_session.specs.declared.session.Session.{Session}
 use Rattle.xs_session.specs.declared.session.Turn.{Turn}
 use Rattle.xs_session.specs.declared.session.Turn.TheVariants as turn
-use Rattle.xs_session.specs.Session.{SessionIsAfter, IsWritten, IsNew, AsksFront, ending_of, asked_in, Takes, Waits}
+use Rattle.xs_session.specs.Session.{SessionIsAfter, IsGathered, IsNew, AsksFront, ending_of, asked_in, Takes, Waits}
 use Rattle.xs_session.specs.Examples.{ping, scan}
 
 -- a call without its words
@@ -33,6 +33,6 @@ pub record Turns : Type 0 where
 -- whatever sessions these are
 pub record TurnsOfSessions : Type 0 where
   pub begins_with_nothing : (session : Session) → IsNew session → SessionIsAfter [] [] [] [] session
-  pub an_open_reply_is_not_written : (session : Session) → session.places ≡ None ∷ [] → IsWritten session → ⊥
+  pub an_open_reply_is_not_gathered : (session : Session) → session.places ≡ None ∷ [] → IsGathered session → ⊥
   pub a_read_beside_others :
       (old new : Session) (result : Turn) → old.places ≡ None ∷ [] → AsksFront old (call_of scan) result new → ⊥

@@ -67,9 +67,9 @@ SessionIsAfter read asked got sent session =
     IsAfter read asked got sent session.ended session.requests session.places (bytes_left session.owed)
     × MayBeOpen session.alone (drop (length got) asked)
 
--- every answer is written
-abbrev pub IsWritten : Session → Type 0
-IsWritten session = (session.places ≡ []) × (bytes_left session.owed ≡ [])
+-- every answer is begun, and all that is owed is gathered
+abbrev pub IsGathered : Session → Type 0
+IsGathered session = (session.places ≡ []) × (session.owed.behind ≡ [])
 
 -- a QUIT ends it
 abbrev pub ending_of : Command → Option Ending
@@ -89,14 +89,14 @@ abbrev pub asked_in : Turn → List Command
 asked_in (turn.Asks call) = call.command ∷ []
 asked_in _ = []
 
--- the call of the request at the front was asked; alone only once every answer is written
+-- the call of the request at the front was asked; alone only once every answer is gathered
 pub record AsksFront (old : Session) (call : Call) (result : Turn) (new : Session) : Type 0 where
   pub asks : result ≡ turn.Asks call
   pub skips : Skips old.requests new.requests
   pub places : new.places ≡ old.places ++ None ∷ []
   pub ended : new.ended ≡ ending_of call.command
   pub alone : new.alone ≡ is_alone call.command
-  pub written : is_alone call.command ≡ true → IsWritten old
+  pub gathered : is_alone call.command ≡ true → IsGathered old
 
 -- it was, or it is to be asked alone and has to wait
 abbrev pub AsksOrWaits : Session → Call → Turn → Session → Type 0

@@ -1,7 +1,7 @@
 //! The session of a connection.
 ghost use Rattle.std.specs.Prelude.{◌≡◌, ◌≢◌, ◌+◌, ◌<◌, ◌≤◌, ◌++◌, ◌∷◌, ◌⊎◌, List, ℕ, [], Ok, Err, Some, None, true, false};
 ghost use Rattle.std.specs.Prelude.{length, is_some, if◌then◌else◌, IfOk, OnErr};
-ghost use Rattle.std.specs.Io.KnownBytes.{Keeps};
+ghost use Rattle.xs_devices.specs.Passing.{Keeps};
 ghost use Rattle.xs_devices.specs.Device.{counter_at, Gave};
 ghost use Rattle.xs_devices.specs.declared.fill.FillFault.{FillFault};
 ghost use Rattle.xs_resp.specs.declared.reply.Reply.{Reply};
@@ -14,7 +14,7 @@ ghost use Rattle.xs_desk.specs.Calls.{IsFormed};
 ghost use Rattle.xs_session.specs.declared.ending.Ending.{Ending};
 ghost use Rattle.xs_session.specs.Places.{has_open, fill_first, NoneReady};
 ghost use Rattle.xs_session.specs.Answers.{is_alone};
-ghost use Rattle.xs_session.specs.Session.{SessionIsAfter, IsNew, IsWritten, Waits, Takes, TakesPlace, AsksOrWaits};
+ghost use Rattle.xs_session.specs.Session.{SessionIsAfter, IsNew, IsGathered, Waits, Takes, TakesPlace, AsksOrWaits};
 ghost use Rattle.xs_session.specs.Session.{asked_in, ending_of};
 
 use crate::ending::Ending;
@@ -36,7 +36,7 @@ pub enum Turn {
     Asks(Call),
     /// It waits for bytes.
     Waits,
-    /// It takes no further request until the replies that are waited for are there and all answers are written.
+    /// It takes no further request until answers that it waits for are there, and are gathered.
     Full,
     /// It takes no further request.
     Ends(Ending),
@@ -57,7 +57,7 @@ pub struct Session {
     pub owed: Encoder,
     /// Why no further request is taken.
     pub ended: Option<Ending>,
-    /// Nothing is taken before every answer is written: the last command was asked alone, or the next one will be.
+    /// Nothing is taken before every answer is gathered: the last command was asked alone, or the next one will be.
     pub alone: bool,
     // How many answers may have places: fewer while memory is refused.
     most: usize,
@@ -128,23 +128,23 @@ impl Session {
         self.most = AHEAD;
     }
 
-    /// Whether every answer is written.
-    fn is_written(&self) -> bool
-        ensures { result ≡ true → IsWritten self.now }
+    /// Whether every answer is begun, and all that is owed is gathered.
+    fn is_gathered(&self) -> bool
+        ensures { result ≡ true → IsGathered self.now }
     {
-        self.places.is_empty() && self.owed.piece().is_empty()
+        self.places.is_empty() && self.owed.is_gathered()
     }
 
-    /// Whether the next request has to wait until every answer is written.
+    /// Whether the next request has to wait until every answer is gathered.
     fn waits_alone(&mut self) -> bool
         ensures waits { result ≡ true → self.new ≡ self.old }
         ensures goes { result ≡ false → self.new ≡ record self.old { alone = false } }
-        ensures settled { result ≡ false → self.old.alone ≡ true → IsWritten self.old }
+        ensures settled { result ≡ false → self.old.alone ≡ true → IsGathered self.old }
     {
         if !self.alone {
             return false;
         }
-        if !self.is_written() {
+        if !self.is_gathered() {
             return true;
         }
         self.alone = false;
@@ -154,7 +154,7 @@ impl Session {
     /// Takes the next request, if there is one and room for its answer. A call has its words if they are wanted.
     ///
     /// A command whose reply may be of any size, or long in coming, is asked only once every answer before it is
-    /// written, and the next one once its own is. So nothing is written while it waits.
+    /// gathered, and the next one once its own is. So at most one reply of any size is held.
     pub fn advance(&mut self, wants_words: bool) -> Turn
         ensures turns { (read : List ℕ) (asked : List Command) (got : List Reply) (sent : List ℕ) →
             SessionIsAfter read asked got sent self.old →
@@ -162,7 +162,7 @@ impl Session {
         ensures formed { (call : Call) → result ≡ Turn.Asks call → IsFormed call }
         ensures words { wants_words ≡ true → (call : Call) → result ≡ Turn.Asks call → is_some call.words ≡ true }
         ensures alone { (call : Call) → result ≡ Turn.Asks call →
-            (self.old.alone ≡ true) ⊎ (is_alone call.command ≡ true) → IsWritten self.old }
+            (self.old.alone ≡ true) ⊎ (is_alone call.command ≡ true) → IsGathered self.old }
         ensures ended { (ending : Ending) → result ≡ Turn.Ends ending → self.new.ended ≡ Some ending }
         ensures waits { result ≡ Turn.Waits → Waits self.new.ended self.new.requests }
         ensures places { TakesPlace result self.old.places self.new.places }
@@ -188,7 +188,7 @@ impl Session {
             SessionIsAfter read (asked ++ asked_in result) got sent self.new }
         ensures formed { (call : Call) → result ≡ Turn.Asks call → IsFormed call }
         ensures words { wants_words ≡ true → (call : Call) → result ≡ Turn.Asks call → is_some call.words ≡ true }
-        ensures alone { (call : Call) → result ≡ Turn.Asks call → is_alone call.command ≡ true → IsWritten self.old }
+        ensures alone { (call : Call) → result ≡ Turn.Asks call → is_alone call.command ≡ true → IsGathered self.old }
         ensures ended { (ending : Ending) → result ≡ Turn.Ends ending → self.new.ended ≡ Some ending }
         ensures waits { result ≡ Turn.Waits → Waits self.new.ended self.new.requests }
         ensures places { TakesPlace result self.old.places self.new.places }
@@ -218,7 +218,7 @@ impl Session {
             SessionIsAfter read asked got sent self.old →
             SessionIsAfter read (asked ++ asked_in result) got sent self.new }
         ensures goes { Takes wants_words result }
-        ensures alone { (call : Call) → result ≡ Turn.Asks call → is_alone call.command ≡ true → IsWritten self.old }
+        ensures alone { (call : Call) → result ≡ Turn.Asks call → is_alone call.command ≡ true → IsGathered self.old }
         ensures places { TakesPlace result self.old.places self.new.places }
         ensures owed { self.new.owed ≡ self.old.owed }
     {
@@ -237,7 +237,7 @@ impl Session {
         }
     }
 
-    /// Asks the call of the request at the front, unless it is to be asked alone and some answer isn't written.
+    /// Asks the call of the request at the front, unless it is to be asked alone and some answer isn't gathered.
     fn ask(&mut self, call: Call) -> Turn
         requires whole { HasNext self.old.requests }
         requires room { length self.old.places < 32 }
@@ -247,7 +247,7 @@ impl Session {
     {
         if is_alone(&call.command) {
             self.alone = true;
-            if !self.is_written() {
+            if !self.is_gathered() {
                 return Turn::Full;
             }
         }
@@ -281,20 +281,20 @@ impl Session {
         self.places.answer(reply);
     }
 
-    /// Begins the next answer if it is there and nothing is owed, and says whether it did.
+    /// Begins the next answer if it is there and all that is owed is gathered, and says whether it did.
     pub fn begin_answer(&mut self) -> bool
         ensures after { (read : List ℕ) (asked : List Command) (got : List Reply) (sent : List ℕ) →
             SessionIsAfter read asked got sent self.old → SessionIsAfter read asked got sent self.new }
-        ensures none { result ≡ false → bytes_left self.old.owed ≡ [] →
-            NoneReady self.old.places × (self.new ≡ self.old) }
+        ensures none { result ≡ false → self.new ≡ self.old }
+        ensures last { result ≡ false → self.old.owed.behind ≡ [] → NoneReady self.old.places }
         ensures fewer { result ≡ true → length self.new.places < length self.old.places }
         ensures begins { result ≡ true → (reply : Reply) × (self.old.places ≡ Some reply ∷ self.new.places)
-            × (bytes_left self.new.owed ≡ text reply) }
+            × (bytes_left self.new.owed ≡ bytes_left self.old.owed ++ text reply) }
         ensures open { has_open self.new.places ≡ has_open self.old.places }
         ensures ended { self.new.ended ≡ self.old.ended }
         ensures held { self.new.requests ≡ self.old.requests }
     {
-        if !self.owed.piece().is_empty() {
+        if !self.owed.is_gathered() {
             return false;
         }
         let Some(reply) = self.places.next() else {

@@ -2,10 +2,12 @@
 ghost use Rattle.std.specs.Prelude.{◌≡◌, ◌++◌, ◌∷◌, ◌<◌, ◌≤◌, false, length, take, drop, MatchOption};
 ghost use Rattle.std.specs.Option.{option_map};
 ghost use Rattle.xs_tape.specs.Crash.{HasNoZero, before_zero};
+ghost use Rattle.xs_devices.specs.Passing.{at_first};
 ghost use Rattle.xs_tape.specs.BeforeZero.{rest_before};
 
 use memchr::memchr;
 use xs_devices::{Failed, Source};
+use xs_trace::Trace;
 
 /// Gives the bytes of a reader up to the first zero.
 #[derive(Drop)]
@@ -15,6 +17,7 @@ pub struct BeforeZero<R: Source + Drop> {
     calls: u64,
     broken: bool,
     ended: bool,
+    passed: Trace<u8>,
 }
 
 /// Where the first zero stands.
@@ -28,7 +31,8 @@ fn zero_at(bytes: &[u8]) -> Option<usize>
 impl<R: Source + Drop> BeforeZero<R> {
     /// The reader, before its first call. It takes no memory.
     pub fn new(inner: R) -> Self
-        ensures rest { ⟦<BeforeZero<R> as Source>⟧.rest result ≡ option_map before_zero (R.rest inner) }
+        ensures rest { ⟦<BeforeZero<R> as Source>⟧.rest result
+            ≡ at_first (option_map before_zero (R.rest inner).known) }
     {
         Self {
             inner,
@@ -36,12 +40,13 @@ impl<R: Source + Drop> BeforeZero<R> {
             calls: 0,
             broken: false,
             ended: false,
+            passed: Trace::new(),
         }
     }
 }
 
 impl<R: Source + Drop> Source for BeforeZero<R> {
-    ghost rest = { λ s. rest_before s.met (R.rest s.inner) };
+    ghost rest = { λ s. record { known = rest_before s.met (R.rest s.inner).known; passed = s.passed } };
 
     ghost calls = { λ s. s.calls };
 
@@ -69,6 +74,7 @@ impl<R: Source + Drop> Source for BeforeZero<R> {
                     }
                     None => count,
                 };
+                self.passed.add_all(&into[..given]);
                 if given == 0 && room {
                     self.ended = true;
                 }

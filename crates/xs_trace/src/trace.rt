@@ -44,4 +44,13 @@ impl<T> Trace<T> {
         let before = Snapshot::of(self);
         self.last = Link::Next(before, Snapshot::of(item));
     }
+
+    /// Puts items behind the others, in their order.
+    pub fn add_all(&mut self, items: &[T])
+        ensures { self.new ≡ self.old ++ items.now }
+    {
+        for item in items {
+            self.add(item);
+        }
+    }
 }

@@ -1,7 +1,7 @@
 //! A connection over a reader, a writer and a lane: its requests are asked ahead of the answers.
 ghost use Rattle.std.specs.Prelude.{◌≡◌, ◌⊎◌, ◌++◌, ◌∷◌, [], Bool, ℕ, List, true, false, Ok};
-ghost use Rattle.std.specs.Prelude.{◌≤◌, length, OnOk, OnErr, IfErr, MatchResult};
-ghost use Rattle.std.specs.Io.KnownBytes.{Appends, Consumes};
+ghost use Rattle.std.specs.Prelude.{◌<◌, ◌≤◌, length, OnOk, OnErr, IfErr, MatchResult};
+ghost use Rattle.xs_devices.specs.Passing.{Appends, Consumes};
 ghost use Rattle.xs_resp.specs.declared.reply.Reply.{Reply};
 ghost use Rattle.xs_resp.specs.LeftToWrite.{bytes_left};
 ghost use Rattle.xs_command.specs.declared.command.Command.{Command};
@@ -136,6 +136,25 @@ pub fn send_owed<W: Sink>(writer: &mut W, session: &mut Session) -> Result<(), A
     Ok(())
 }
 
+/// Gathers the answers that are there, in their order, up to the first that is waited for, as far as there is room. It
+/// says whether one was there.
+fn gather_answers(session: &mut Session) -> bool
+    ensures after { (read : List ℕ) (asked : List Command) (got : List Reply) (sent : List ℕ) →
+        SessionIsAfter read asked got sent session.old → SessionIsAfter read asked got sent session.new }
+    ensures none { result ≡ false → session.new ≡ session.old }
+    ensures last { result ≡ false → session.old.owed.behind ≡ [] → NoneReady session.old.places }
+    ensures fewer { result ≡ true → length session.new.places < length session.old.places }
+    ensures open { has_open session.new.places ≡ has_open session.old.places }
+    ensures ended { session.new.ended ≡ session.old.ended }
+    ensures held { session.new.requests ≡ session.old.requests }
+{
+    if !session.begin_answer() {
+        return false;
+    }
+    'answers: while session.begin_answer() {}
+    true
+}
+
 /// Sends all answers that are there, in their order, up to the first that is waited for.
 fn send_ready<W: Sink>(writer: &mut W, session: &mut Session) -> Result<(), AheadFault>
     ensures sends { (read : List ℕ) (asked : List Command) (got : List Reply) (sent : List ℕ) →
@@ -149,11 +168,12 @@ fn send_ready<W: Sink>(writer: &mut W, session: &mut Session) -> Result<(), Ahea
     ensures held { session.new.requests ≡ session.old.requests }
     ensures broken { OnErr result (W.broken writer.new ≡ true) }
 {
+    gather_answers(session);
     match send_owed(writer, session) {
         Ok(()) => {}
         Err(fault) => return Err(fault),
     }
-    'answers: while session.begin_answer() {
+    'answers: while gather_answers(session) {
         match send_owed(writer, session) {
             Ok(()) => {}
             Err(fault) => return Err(fault),
@@ -214,8 +234,40 @@ fn send_before<W: Sink, P: Pause, T: Wait>(
     }
 }
 
-/// Takes an answer if one is waited for, and says so; else all that is owed is sent. It waits only once what is there
-/// is sent.
+/// Gathers the answers that are there, and waits for the next one until they are to be sent. It says whether it has come.
+fn receive_briefly<P: Pause, T: Wait>(
+    rt: &T,
+    session: &mut Session,
+    client: &mut Client,
+    pause: &P,
+) -> Result<bool, PortFault>
+    ensures after { (first : Caller) (read : List ℕ) (asked put : List Command) (sent : List ℕ) →
+        IsAheadAfter first client.old read asked put sent session.old →
+        IsAheadAfter first client.new read asked put sent session.new }
+    ensures ended { session.new.ended ≡ session.old.ended }
+    ensures held { session.new.requests ≡ session.old.requests }
+{
+    gather_answers(session);
+    if session.output().is_empty() {
+        return Ok(false);
+    }
+    for _ in rt.forever() {
+        let gone = client.is_gone();
+        if take_answer(session, client) {
+            return Ok(true);
+        }
+        if gone {
+            return Err(PortFault::Gone);
+        }
+        if pause.pause_briefly(rt, client) {
+            return Ok(false);
+        }
+    }
+    unreachable!()
+}
+
+/// Takes an answer if one is waited for, and says so; else all that is owed is sent. It waits long only once what is
+/// there is sent.
 fn settle<W: Sink, P: Pause, T: Wait>(
     rt: &T,
     session: &mut Session,
@@ -236,16 +288,48 @@ fn settle<W: Sink, P: Pause, T: Wait>(
     if take_answer(session, client) {
         return Ok(true);
     }
+    if !session.is_open() {
+        return match send_before(rt, session, writer, client, pause) {
+            Ok(()) => Ok(false),
+            Err(fault) => Err(fault),
+        };
+    }
+    match receive_briefly(rt, session, client, pause) {
+        Ok(true) => return Ok(true),
+        Ok(false) => {}
+        Err(_) => return Err(AheadFault::Port),
+    }
     match send_before(rt, session, writer, client, pause) {
         Ok(()) => {}
         Err(fault) => return Err(fault),
     }
-    if !session.is_open() {
-        return Ok(false);
-    }
     match receive(rt, session, client, pause) {
         Ok(()) => Ok(true),
         Err(_) => Err(AheadFault::Port),
+    }
+}
+
+/// Makes room for further answers: those that are there are gathered; if none is, it settles.
+fn make_room<W: Sink, P: Pause, T: Wait>(
+    rt: &T,
+    session: &mut Session,
+    writer: &mut W,
+    client: &mut Client,
+    pause: &P,
+) -> Result<(), AheadFault>
+    ensures after { (first : Caller) (read : List ℕ) (asked put : List Command) (sent : List ℕ) →
+        IsAheadAfter first client.old read asked put sent session.old →
+        (more : List ℕ) × Appends (W.held writer.old) (W.held writer.new) more × MatchResult result
+        (λ _. IsAheadAfter first client.new read asked put (sent ++ more) session.new)
+        (λ fault. AheadFails fault first client.new read asked put (sent ++ more)) }
+    ensures cause { IfErr result (λ fault. IsLost fault (W.broken writer.new)) }
+{
+    if gather_answers(session) {
+        return Ok(());
+    }
+    match settle(rt, session, writer, client, pause) {
+        Ok(_) => Ok(()),
+        Err(fault) => Err(fault),
     }
 }
 
@@ -298,8 +382,8 @@ fn step<R: Source, W: Sink, P: Pause, T: Wait>(
             Ok(()) => Ok(()),
             Err(_) => Err(Err(AheadFault::Port)),
         },
-        Turn::Full => match settle(rt, session, writer, client, pause) {
-            Ok(_) => Ok(()),
+        Turn::Full => match make_room(rt, session, writer, client, pause) {
+            Ok(()) => Ok(()),
             Err(fault) => Err(Err(fault)),
         },
         Turn::Ends(ending) => match settle(rt, session, writer, client, pause) {

@@ -1,7 +1,7 @@
 //! A connection over a reader, a writer and a port: its requests are asked one by one.
 ghost use Rattle.std.specs.Prelude.{◌≡◌, ◌≢◌, ◌+◌, ◌<◌, ◌≤◌, ◌++◌, [], Bool, ℕ, List, true, Ok, Err, Some, length, map};
 ghost use Rattle.std.specs.Prelude.{OnErr, IfErr, MatchResult};
-ghost use Rattle.std.specs.Io.KnownBytes.{Appends, Consumes};
+ghost use Rattle.xs_devices.specs.Passing.{Appends, Consumes};
 ghost use Rattle.xs_devices.specs.Device.{counter_at};
 ghost use Rattle.xs_resp.specs.declared.reply.Reply.{Reply};
 ghost use Rattle.xs_resp.specs.LeftToWrite.{bytes_left};

@@ -1,6 +1,6 @@
 //! A whole connection over a keyspace alone.
 ghost use Rattle.std.specs.Prelude.{◌≢◌, List, ℕ, Err};
-ghost use Rattle.std.specs.Io.KnownBytes.{Appends, Consumes};
+ghost use Rattle.xs_devices.specs.Passing.{Appends, Consumes};
 ghost use Rattle.xs_server.specs.Serve.{ServesConnection, cause_of_connection};
 ghost use Rattle.xs_server.specs.Cause.{HasCause};
 ghost use Rattle.xs_server.specs.Alone.{RunsAlone};

@@ -1,6 +1,6 @@
 //! The program's command `script`.
 ghost use Rattle.std.specs.Prelude.{◌≡◌, ℕ, List, Result};
-ghost use Rattle.std.specs.Io.KnownBytes.{Appends, Consumes};
+ghost use Rattle.xs_devices.specs.Passing.{Appends, Consumes};
 ghost use Rattle.xs_server.specs.declared.script.fault.ScriptFault.{ScriptFault as Fault};
 ghost use Rattle.xs_server.specs.Report.{status_of_run, text_of_run, Says};
 ghost use Rattle.xs_server.specs.ScriptRun.{Runs};

@@ -1,7 +1,7 @@
 //! A script over a reader and a writer.
 ghost use Rattle.std.specs.Prelude.{◌≡◌, ◌+◌, ◌*◌, ◌<◌, ◌≤◌, ◌⊎◌, ◌++◌, [], Bool, ℕ, List, true, Err, length, take};
 ghost use Rattle.std.specs.Prelude.{OnOk, OnErr, IfErr, MatchResult};
-ghost use Rattle.std.specs.Io.KnownBytes.{Appends, Consumes};
+ghost use Rattle.xs_devices.specs.Passing.{Appends, Consumes};
 ghost use Rattle.xs_devices.specs.Device.{counter_at};
 ghost use Rattle.xs_keys.specs.Content.{Content};
 ghost use Rattle.xs_server.specs.Cause.{Cause, HasCause, reads_limit, writer as writer_failed};

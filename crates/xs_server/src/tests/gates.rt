@@ -1,5 +1,6 @@
 //! Work over gates that are no sockets.
-ghost use Rattle.std.specs.Prelude.{◌≡◌};
+ghost use Rattle.std.specs.Prelude.{◌≡◌, IfOk, IfSome};
+ghost use Rattle.xs_server.specs.Gates.{AreFresh};
 
 use super::*;
 use crate::report::report_work;
@@ -83,7 +84,9 @@ struct Scripted {
 impl Scripted {
     /// The reader and the writer of the next connection. None after the last.
     fn take_next(&mut self) -> Result<Option<(Incoming, Outgoing)>, GateFault>
-        ensures { self.new.register ≡ self.old.register }
+        ensures same { self.new.register ≡ self.old.register }
+        ensures fresh { IfOk result (λ next. IfSome next (λ one. AreFresh (⟦<Incoming as Source>⟧.rest one.0)
+            (⟦<Outgoing as Sink>⟧.held one.1))) }
     {
         let [script, left @ ..] = self.connections else {
             return if self.refuses {

@@ -55,7 +55,7 @@ fn serves_whole_connections_over_tcp(rt: HostRuntime) -> Result<(), Fail> {
             let parts = [first, others];
             let client = TcpStream::connect(&rt, address)?;
             let (stream, _) = listener.accept()?;
-            let (incoming, mut writer) = memory.halves_of(stream).ok_or("halves in use")?;
+            let (incoming, mut writer) = memory.halves_of(rt, stream).ok_or("halves in use")?;
             let mut reader = FromRead::new(Prompted {
                 client: &client,
                 parts: &parts,
@@ -123,7 +123,7 @@ fn a_client_that_leaves_is_seen(rt: HostRuntime) -> Result<(), Fail> {
     ] {
         let client = TcpStream::connect(&rt, address)?;
         let (stream, _) = listener.accept()?;
-        let (mut reader, writer) = memory.halves_of(stream).ok_or("halves in use")?;
+        let (mut reader, writer) = memory.halves_of(rt, stream).ok_or("halves in use")?;
         assert!(rt; !peer.has_left());
         (&client).write_all(sent)?;
         assert!(rt; !peer.has_left());

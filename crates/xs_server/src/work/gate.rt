@@ -14,7 +14,7 @@ pub enum GateFault {
 /// The connections of a worker, one after the other.
 pub trait Gate {
     ghost use Rattle.std.specs.Prelude.{◌≡◌, MatchResult, MatchOption};
-    ghost use Rattle.xs_server.specs.Gates.{GateTrace, seen, with_given, with_returned, at_end};
+    ghost use Rattle.xs_server.specs.Gates.{GateTrace, AreFresh, seen, with_given, with_returned, at_end};
 
     /// Where a connection's requests come from.
     type Reader: Source + Send + Drop;
@@ -25,7 +25,7 @@ pub trait Gate {
     /// The connections that it gave and those that came back, and whether it gives no further one.
     ghost trace: { Self → GateTrace };
 
-    /// The next connection, or None after the last. It may wait.
+    /// The next connection, or None after the last. It may wait. Nothing of another connection is left in it.
     ///
     /// # Errors
     /// `Refused`. The worker asks for no further one.
@@ -35,9 +35,10 @@ pub trait Gate {
     ) -> Result<Option<(Self::Reader, Self::Writer)>, GateFault>
         ensures { MatchResult result
             (λ next. MatchOption next (trace self.new ≡ at_end (trace self.old))
-            (λ one. trace self.new ≡ with_given (trace self.old)
+            (λ one. (trace self.new ≡ with_given (trace self.old)
             (seen (Self.Reader.rest one.0) (Self.Reader.ended one.0) (Self.Reader.broken one.0)
-            (Self.Writer.held one.1) (Self.Writer.broken one.1))))
+            (Self.Writer.held one.1) (Self.Writer.broken one.1)))
+            × AreFresh (Self.Reader.rest one.0) (Self.Writer.held one.1)))
             (λ _. trace self.new ≡ at_end (trace self.old)) };
 
     /// Takes a connection back.

@@ -72,13 +72,12 @@ fn serve_one<S: Source, W: Sink, P: Pause, R: Wait>(
         say(writer, NO_MEMORY);
         return Err(AheadFault::Memory);
     };
-    match serve_ahead(rt, session, reader, writer, client, pause) {
-        Err(AheadFault::Memory) => {
-            say(writer, NO_MEMORY);
-            Err(AheadFault::Memory)
-        }
-        end => end,
+    let served = serve_ahead(rt, session, reader, writer, client, pause);
+    if served == Err(AheadFault::Memory) {
+        say(writer, NO_MEMORY);
+        return served;
     }
+    served
 }
 
 /// Serves the connections of a gate, one after the other, up to the last, and gives each back to the gate. The fault of

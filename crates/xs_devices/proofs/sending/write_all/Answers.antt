@@ -2,7 +2,7 @@ use Rattle.std.proofs.Common.{◌≡◌, ◌+◌, ◌-◌, ◌≤◌, ◌++◌, 
 use Rattle.std.proofs.lemmas.List.{take_all, length-drop}
 use Rattle.std.proofs.Math.Seq.{take-append-add}
 use Rattle.std.proofs.lemmas.List.{take-append-drop, length-take-le}
-use Rattle.std.proofs.KnownBytes.{Appends-trans}
+use Rattle.xs_devices.proofs.Passing.{Appends-trans}
 use Rattle.xs_devices.proofs.sending.write_all.Goals as goal
 
 take-more : (n k : ℕ) (bytes : List ℕ) → n ≤ length bytes → take n bytes ++ take k (drop n bytes) ≡ take (n + k) bytes

@@ -1,5 +1,5 @@
 use Rattle.std.proofs.Common.{◌≤◌, ◌-◌, length, take}
-use Rattle.std.specs.Io.KnownBytes.{Appends}
+use Rattle.xs_devices.specs.Passing.{Appends}
 use Rattle.xs_devices.proofs.sending.write_all.Given as goal
 
 -- the first bytes are written

@@ -1,4 +1,5 @@
 use Rattle.std.proofs.Common.{length, sym, ap, ◌∙◌, subst}
+use Rattle.xs_devices.specs.Passing.{known_by}
 use Rattle.xs_tape.specs.Crash.{before_zero}
 use Rattle.std.proofs.Common.{take, suc, None, ◌++◌}
 use Rattle.xs_bytes.specs.SortedMap.{empty}
@@ -15,7 +16,7 @@ returns-clause-content g c = c.recover.ensures.content
 
 pub returns-clause-read : goal.returns-clause-read
 returns-clause-read g c = λ broken number pending tape events kept file log leaves readers last.
-    let rest = g.R.Source.rest in
+    let rest = known_by g.R.Source.rest in
     let crash = crash_of broken number pending tape events kept file log leaves in
     let closed = log.on_tape.closed_is in
     let are = subst (λ cs. AreClosedLogs 1 cs log.before) (sym closed) log.closed_are in

@@ -1,15 +1,16 @@
 use Rattle.std.proofs.Common.{◌≡◌, ◌++◌, [], drop, Ok, sym, ap, ◌∙◌, subst, arith}
 use Rattle.std.proofs.lemmas.Bool.Decides.{nat_tests}
+use Rattle.xs_devices.proofs.Passing.{Consumes-nil, Consumes-trans}
 use Rattle.xs_tape.specs.Heads.{MayBeCut}
 use Rattle.xs_replay.specs.Log.{HasEvents}
-use Rattle.xs_log.proofs.Steps.{consumes_none, consumes_more, read_first, read_fed, read_all, rest_is, is_cut, seen_part}
+use Rattle.xs_log.proofs.Steps.{read_first, read_fed, read_all, rest_is, is_cut, seen_part}
 use Rattle.xs_log.proofs.Results.{if_ok_as, both_ok}
 use Rattle.xs_log.proofs.Crashed.{read-whole}
 use Rattle.xs_log.proofs.reading.read_log.Goals as goal
 
 pub loop-init : goal.loop-init
 loop-init g c =
-    ([], consumes_none (g.R.Source.rest c.args.log.now), read_first c.args.number c.args.recovered.now.keyspace c.args.recovered.now.last c.new-requests.result c.new-requests.ensures)
+    ([], Consumes-nil (g.R.Source.rest c.args.log.now), read_first c.args.number c.args.recovered.now.keyspace c.args.recovered.now.last c.new-requests.result c.new-requests.ensures)
 
 pub returns-in-Err-clause-err : goal.returns-in-Err-clause-err
 returns-in-Err-clause-err g c = λ bytes known part.
@@ -35,7 +36,7 @@ returns-in-Ok-eq0 g c =
     let fed = read_fed number start before so_far.0 gave.0 c.take_next.new.requests held at content moment up gave.5 in
     let zero : c.in-Ok-eq0.field-0 ≡ 0 = grind (arith, nat_tests, c.in-Ok-eq0.field-0-test) in
     let holds = c.fill.ensures.none (c.in-Ok-eq0.is ∙ ap (λ n. Ok n) zero) ∙ none.1 in
-    let consumes = consumes_more (rest c.args.log.now) (rest c.loop.log) (rest c.fill.new.reader) so_far.0 gave.0 so_far.1 gave.3 in
+    let consumes = Consumes-trans (rest c.args.log.now) (rest c.loop.log) (rest c.fill.new.reader) so_far.0 gave.0 so_far.1 gave.3 in
     let end = (gave.4 zero).0 in
     let ends = both_ok c.extent_at_end.result _ _ c.extent_at_end.ensures.whole (c.extent_at_end.ensures.part none.0 holds) in
     record {
@@ -65,7 +66,7 @@ loop-preserved g c =
     let got = gave.0 in
     let up = c.in-Ok-false.ensures.ok c.args.recovered.now.keyspace c.args.recovered.now.last so_far.0 so_far.2 in (
       so_far.0 ++ got,
-      consumes_more (rest c.args.log.now) (rest c.loop.log) (rest c.fill.new.reader) so_far.0 got so_far.1 gave.3,
+      Consumes-trans (rest c.args.log.now) (rest c.loop.log) (rest c.fill.new.reader) so_far.0 got so_far.1 gave.3,
       read_fed c.args.number c.args.recovered.now.keyspace c.args.recovered.now.last so_far.0 got c.take_next.new.requests c.fill.new.self c.take_next.new.at
           c.take_next.new.recovered.keyspace c.take_next.new.recovered.last up gave.5,
     )

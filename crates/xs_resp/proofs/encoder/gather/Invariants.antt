@@ -7,7 +7,7 @@ use Rattle.xs_resp.proofs.encoder.gather.Given as goal
 -- what was appended, and the tokens that are left, are what there was
 abbrev pub invariant-loop-taken : goal.invariant-loop-taken
 invariant-loop-taken l = record {
-  room : 16384 ≤ vec_capacity l.out;
+  room : 65536 ≤ vec_capacity l.out;
   within : l.taken ≤ length l.tokens;
   strings : l.at ≡ length (strings_of (take l.taken l.tokens));
   text : l.out.items ++ flat_map token_text (drop l.taken l.tokens)

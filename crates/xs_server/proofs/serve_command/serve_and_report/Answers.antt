@@ -21,3 +21,6 @@ returns-clause-served g c =
 
 pub returns-clause-told : goal.returns-clause-told
 returns-clause-told g c = told-of-work (λ failed. failed.fault) c.work-worked.result _ _ _ _ _ _ c.report_worked.ensures
+
+pub returns-in_default-clause-told : goal.returns-in_default-clause-told
+returns-in_default-clause-told g c = inr (c.report_memory-in_default.ensures.status, memory_text, inl refl, c.report_memory-in_default.ensures.said)

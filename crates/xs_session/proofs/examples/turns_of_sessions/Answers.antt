@@ -15,6 +15,6 @@ begins ended held places owed goes holds none nothing =
 pub returns : goal.returns
 returns c = record {
   begins_with_nothing = λ session new. (begins session.ended session.requests session.places _ new.ended new.requests new.places new.owed, subst (λ a. MayBeOpen a []) (sym new.alone) tt);
-  an_open_reply_is_not_written = λ session places written. let never = sym places ∙ written.0 in cc;
-  a_read_beside_others = λ old new result places asks. let never = sym places ∙ (asks.written refl).0 in cc;
+  an_open_reply_is_not_gathered = λ session places gathered. let never = sym places ∙ gathered.0 in cc;
+  a_read_beside_others = λ old new result places asks. let never = sym places ∙ (asks.gathered refl).0 in cc;
 }

@@ -1,5 +1,5 @@
 use Rattle.std.proofs.Common.{[], ◌++◌}
-use Rattle.std.proofs.KnownBytes.{Consumes-nil, Appends-nil, Consumes-trans, Appends-trans}
+use Rattle.xs_devices.proofs.Passing.{Consumes-nil, Appends-nil, Consumes-trans, Appends-trans}
 use Rattle.xs_session.proofs.SessionTurns.{session-new}
 use Rattle.xs_server.proofs.AheadCalls.{calls-none}
 use Rattle.xs_server.proofs.connections.ahead.serve_ahead.Goals as goal
@@ -16,7 +16,7 @@ loop-init g c =
       after =
           record {
             got = [];
-            after = session-new [] c.clear.new.self new.ended new.requests (new.places, new.owed);
+            after = session-new [] c.clear.new.self new.ended new.requests new.places new.owed;
             calls = calls-none c.args.client.now;
           };
     }

@@ -1,5 +1,5 @@
 use Rattle.std.proofs.Common.{ℕ, List}
-use Rattle.std.specs.Io.KnownBytes.{Appends, Consumes}
+use Rattle.xs_devices.specs.Passing.{Appends, Consumes}
 use Rattle.xs_command.specs.declared.command.Command.{Command}
 use Rattle.xs_server.specs.Ahead.{IsAheadAfter}
 use Rattle.xs_server.proofs.connections.ahead.serve_ahead.Given as goal

@@ -1,5 +1,5 @@
 use Rattle.std.proofs.Common.{[], ◌∷◌, ◌++◌, Ok, Option, sym, ap, ◌∙◌, subst, refl}
-use Rattle.std.proofs.KnownBytes.{Consumes-nil, Appends-nil}
+use Rattle.xs_devices.proofs.Passing.{Consumes-nil, Appends-nil}
 use Rattle.xs_resp.specs.HeldBytes.{Held}
 use Rattle.xs_resp.specs.LeftToWrite.{bytes_left}
 use Rattle.xs_session.specs.declared.ending.Ending.{Ending}
@@ -34,21 +34,21 @@ returns-in-Err g c = record {
       ([], [], Consumes-nil _, Appends-nil _, (serves-gone first now (read ++ []) (sent ++ []) asked c.in-Asks.call.command session (still first now read sent all asked session b), tt));
 }
 
-pub returns-in-Ok-settle : goal.returns-in-Ok-settle
-returns-in-Ok-settle g c = record {
+pub returns-in-Ok-make_room : goal.returns-in-Ok-make_room
+returns-in-Ok-make_room g c = record {
   steps = λ first read asked sent a.
       let b = asked-none first c.args.client.now read sent asked asked c.advance.new.self a.got (c.in-Full.ensures.turns read asked a.got sent a.after) a.calls in
-      let (more, went, later) = c.in-Ok-settle.ensures.after first read asked asked sent b in
-      ([], more, Consumes-nil _, went, (asked, read-none first c.settle.new.client read (sent ++ more) asked asked c.settle.new.session later));
+      let (more, went, later) = c.in-Ok-make_room.ensures.after first read asked asked sent b in
+      ([], more, Consumes-nil _, went, (asked, read-none first c.make_room.new.client read (sent ++ more) asked asked c.make_room.new.session later));
 }
 
-pub returns-in-Err-settle : goal.returns-in-Err-settle
-returns-in-Err-settle g c = record {
+pub returns-in-Err-make_room : goal.returns-in-Err-make_room
+returns-in-Err-make_room g c = record {
   steps = λ first read asked sent a.
       let b = asked-none first c.args.client.now read sent asked asked c.advance.new.self a.got (c.in-Full.ensures.turns read asked a.got sent a.after) a.calls in
-      let (more, went, fails) = c.in-Err-settle.ensures.after first read asked asked sent b in
-      let now = c.settle.new.client in
-      ([], more, Consumes-nil _, went, (serves-fails first now (read ++ []) (sent ++ more) c.in-Err-settle.fault asked (fails-none first now read (sent ++ more) c.in-Err-settle.fault asked asked fails), lost-cause c.in-Err-settle.fault _ _ _ _ c.in-Err-settle.ensures.cause));
+      let (more, went, fails) = c.in-Err-make_room.ensures.after first read asked asked sent b in
+      let now = c.make_room.new.client in
+      ([], more, Consumes-nil _, went, (serves-fails first now (read ++ []) (sent ++ more) c.in-Err-make_room.fault asked (fails-none first now read (sent ++ more) c.in-Err-make_room.fault asked asked fails), lost-cause c.in-Err-make_room.fault _ _ _ _ c.in-Err-make_room.ensures.cause));
 }
 
 pub returns-in-Ok-true : goal.returns-in-Ok-true
@@ -56,7 +56,7 @@ returns-in-Ok-true g c = record {
   steps = λ first read asked sent a.
       let b = asked-none first c.args.client.now read sent asked asked c.advance.new.self a.got (c.in-Ends.ensures.turns read asked a.got sent a.after) a.calls in
       let (more, went, later) = c.in-Ok-true.ensures.after first read asked asked sent b in
-      ([], more, Consumes-nil _, went, (asked, read-none first c.settle-in-Ends.new.client read (sent ++ more) asked asked c.settle-in-Ends.new.session later));
+      ([], more, Consumes-nil _, went, (asked, read-none first c.settle.new.client read (sent ++ more) asked asked c.settle.new.session later));
 }
 
 pub returns-in-Ok-false : goal.returns-in-Ok-false
@@ -64,8 +64,8 @@ returns-in-Ok-false g c = record {
   steps = λ first read asked sent a.
       let b = asked-none first c.args.client.now read sent asked asked c.advance.new.self a.got (c.in-Ends.ensures.turns read asked a.got sent a.after) a.calls in
       let (more, went, later) = c.in-Ok-false.ensures.after first read asked asked sent b in
-      let now = c.settle-in-Ends.new.client in
-      let session = c.settle-in-Ends.new.session in
+      let now = c.settle.new.client in
+      let session = c.settle.new.session in
       let ended = c.in-Ok-false.ensures.ended ∙ c.in-Ends.ensures.ended c.in-Ends.ending refl in
       let done = c.in-Ok-false.ensures.done (ap Ok c.in-Ok-false.field-0-test) in (
         [],
@@ -79,13 +79,13 @@ returns-in-Ok-false g c = record {
       );
 }
 
-pub returns-in-Err-settle-2 : goal.returns-in-Err-settle-2
-returns-in-Err-settle-2 g c = record {
+pub returns-in-Err-settle : goal.returns-in-Err-settle
+returns-in-Err-settle g c = record {
   steps = λ first read asked sent a.
       let b = asked-none first c.args.client.now read sent asked asked c.advance.new.self a.got (c.in-Ends.ensures.turns read asked a.got sent a.after) a.calls in
-      let (more, went, fails) = c.in-Err-settle-2.ensures.after first read asked asked sent b in
-      let now = c.settle-in-Ends.new.client in
-      ([], more, Consumes-nil _, went, (serves-fails first now (read ++ []) (sent ++ more) c.in-Err-settle-2.fault asked (fails-none first now read (sent ++ more) c.in-Err-settle-2.fault asked asked fails), lost-cause c.in-Err-settle-2.fault _ _ _ _ c.in-Err-settle-2.ensures.cause));
+      let (more, went, fails) = c.in-Err-settle.ensures.after first read asked asked sent b in
+      let now = c.settle.new.client in
+      ([], more, Consumes-nil _, went, (serves-fails first now (read ++ []) (sent ++ more) c.in-Err-settle.fault asked (fails-none first now read (sent ++ more) c.in-Err-settle.fault asked asked fails), lost-cause c.in-Err-settle.fault _ _ _ _ c.in-Err-settle.ensures.cause));
 }
 
 pub returns-in-Ok-true-settle : goal.returns-in-Ok-true-settle
@@ -110,13 +110,13 @@ returns-in-Ok-false-settle g c = record {
       );
 }
 
-pub returns-in-Err-settle-3 : goal.returns-in-Err-settle-3
-returns-in-Err-settle-3 g c = record {
+pub returns-in-Err-settle-2 : goal.returns-in-Err-settle-2
+returns-in-Err-settle-2 g c = record {
   steps = λ first read asked sent a.
       let b = asked-none first c.args.client.now read sent asked asked c.advance.new.self a.got (c.in-Waits.ensures.turns read asked a.got sent a.after) a.calls in
-      let (more, went, fails) = c.in-Err-settle-3.ensures.after first read asked asked sent b in
+      let (more, went, fails) = c.in-Err-settle-2.ensures.after first read asked asked sent b in
       let now = c.settle-in-Waits.new.client in
-      ([], more, Consumes-nil _, went, (serves-fails first now (read ++ []) (sent ++ more) c.in-Err-settle-3.fault asked (fails-none first now read (sent ++ more) c.in-Err-settle-3.fault asked asked fails), lost-cause c.in-Err-settle-3.fault _ _ _ _ c.in-Err-settle-3.ensures.cause));
+      ([], more, Consumes-nil _, went, (serves-fails first now (read ++ []) (sent ++ more) c.in-Err-settle-2.fault asked (fails-none first now read (sent ++ more) c.in-Err-settle-2.fault asked asked fails), lost-cause c.in-Err-settle-2.fault _ _ _ _ c.in-Err-settle-2.ensures.cause));
 }
 
 pub read_on-requires-clause-waits : goal.read_on-requires-clause-waits

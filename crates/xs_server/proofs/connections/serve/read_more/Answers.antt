@@ -1,5 +1,5 @@
 use Rattle.std.proofs.Common.{[], Ok, Err, inl, inr, sym, ap, ◌∙◌, refl, arith}
-use Rattle.std.proofs.KnownBytes.{Consumes-nil, Consumes-kept}
+use Rattle.xs_devices.proofs.Passing.{Consumes-nil, Consumes-kept}
 use Rattle.xs_server.proofs.ConnectionTurns.{rests-more, ends-input, ends-cause, ends-read}
 use Rattle.xs_server.proofs.connections.serve.read_more.Goals as goal
 

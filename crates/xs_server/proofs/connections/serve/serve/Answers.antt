@@ -1,5 +1,5 @@
 use Rattle.std.proofs.Common.{[], ◌++◌, ◌∙◌, refl}
-use Rattle.std.proofs.KnownBytes.{Consumes-nil, Appends-nil, Consumes-trans, Appends-trans}
+use Rattle.xs_devices.proofs.Passing.{Consumes-nil, Appends-nil, Consumes-trans, Appends-trans}
 use Rattle.xs_server.proofs.AnsweredRequests.{answered-none}
 use Rattle.xs_server.proofs.connections.serve.serve.Goals as goal
 

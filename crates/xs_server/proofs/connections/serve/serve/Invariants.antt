@@ -1,5 +1,5 @@
 use Rattle.std.proofs.Common.{◌≡◌, ℕ, ◌+◌, List}
-use Rattle.std.specs.Io.KnownBytes.{Appends, Consumes}
+use Rattle.xs_devices.specs.Passing.{Appends, Consumes}
 use Rattle.xs_devices.specs.Device.{counter_at}
 use Rattle.xs_server.specs.Connection.{IsServedAfter}
 use Rattle.xs_server.specs.Cause.{reads_limit}

@@ -1,6 +1,6 @@
 use Rattle.std.proofs.Common.{[], ◌++◌, Ok, Option, sym, ap, ◌∙◌, subst}
 use Rattle.std.proofs.lemmas.List.{append-nil}
-use Rattle.std.proofs.KnownBytes.{Consumes-nil, Appends-nil}
+use Rattle.xs_devices.proofs.Passing.{Consumes-nil, Appends-nil}
 use Rattle.xs_resp.specs.HeldBytes.{Held}
 use Rattle.xs_resp.specs.LeftToWrite.{bytes_left}
 use Rattle.xs_session.specs.declared.ending.Ending.{Ending}

@@ -1,6 +1,6 @@
 use Rattle.std.proofs.Common.{◌++◌, [], Err, inl, inr, ap, refl, arith}
 use Rattle.std.proofs.lemmas.List.{append-nil}
-use Rattle.std.proofs.KnownBytes.{Consumes-nil, Consumes-kept}
+use Rattle.xs_devices.proofs.Passing.{Consumes-nil, Consumes-kept}
 use Rattle.xs_server.specs.Cause.{itself, input, reader}
 use Rattle.xs_server.proofs.ScriptLines.{in-hand-last}
 use Rattle.xs_server.proofs.ScriptTurns.{all-said, ends-memory, ends-read, stands-with-more}

@@ -1,5 +1,5 @@
 use Rattle.std.proofs.Common.{[], ◌++◌, inl, inr, refl, ◌∙◌}
-use Rattle.std.proofs.KnownBytes.{Consumes-nil, Appends-nil, Consumes-trans, Appends-trans}
+use Rattle.xs_devices.proofs.Passing.{Consumes-nil, Appends-nil, Consumes-trans, Appends-trans}
 use Rattle.xs_server.specs.Cause.{writer}
 use Rattle.xs_server.proofs.script.run.drive.Goals as goal
 

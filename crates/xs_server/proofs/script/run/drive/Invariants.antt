@@ -1,5 +1,5 @@
 use Rattle.std.proofs.Common.{◌≡◌, ℕ, ◌+◌, ◌*◌, List, length}
-use Rattle.std.specs.Io.KnownBytes.{Consumes, Appends}
+use Rattle.xs_devices.specs.Passing.{Consumes, Appends}
 use Rattle.xs_devices.specs.Device.{counter_at}
 use Rattle.xs_server.specs.Cause.{reads_limit}
 use Rattle.xs_server.specs.ScriptRun.{ScriptStands}

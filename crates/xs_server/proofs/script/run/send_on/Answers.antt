@@ -1,6 +1,6 @@
 use Rattle.std.proofs.Common.{[], take, length, inr, ap, arith}
 use Rattle.std.proofs.lemmas.List.{append-nil}
-use Rattle.std.proofs.KnownBytes.{Appends-nil}
+use Rattle.xs_devices.proofs.Passing.{Appends-nil}
 use Rattle.xs_server.proofs.ScriptTurns.{stands-paid, stands-broken}
 use Rattle.xs_server.proofs.script.run.send_on.Goals as goal
 

@@ -1,13 +1,15 @@
-use Rattle.std.proofs.Common.{[]}
-use Rattle.std.proofs.KnownBytes.{Consumes-nil, Appends-nil}
-use Rattle.xs_server.proofs.AheadWork.{serves-none, serves-told}
+use Rattle.std.proofs.Common.{rules, ◌≢◌, [], Err}
+use Rattle.xs_devices.proofs.Passing.{Consumes-nil, Appends-nil}
+use Rattle.xs_server.specs.declared.connections.ahead.AheadFault.TheVariants as fault
+use Rattle.xs_server.proofs.AheadWork.{serves-none, serves-told, serves-untold}
 use Rattle.xs_server.proofs.work.worker.serve_one.Goals as goal
 
 pub returns-in_default : goal.returns-in_default
 returns-in_default g c =
     serves-told c.args.client.now c.args.client.now [] [] _ _ (g.W.Sink.held c.args.writer.now) (Consumes-nil _) (Appends-nil _) (serves-none c.args.client.now) c.say.ensures.said
 
-pub returns-in-Err-Memory : goal.returns-in-Err-Memory
-returns-in-Err-Memory g c =
-    let s = c.in-Err-Memory.ensures.serves in
-    serves-told c.args.client.now c.serve_ahead.new.client s.0 s.1 _ _ (g.W.Sink.held c.serve_ahead.new.writer) s.2 s.3 (rw c.in-Err-Memory.field-0-is at s.4) c.say-in-Err-Memory.ensures.said
+pub returns : goal.returns
+returns g c =
+    let s = c.serve_ahead-served.ensures.serves in
+    let other : c.serve_ahead-served.result ≢ Err fault.Memory = search rules in
+    serves-untold c.serve_ahead-served.result c.args.client.now c.serve_ahead-served.new.client s.0 s.1 _ _ other s.2 s.3 s.4 c.serve_ahead-served.ensures.cause

@@ -6,4 +6,5 @@ use Rattle.xs_session.proofs.session.Session.read_from.Goals as goal
 pub returns-clause-ok : goal.returns-clause-ok
 returns-clause-ok g c =
     let session = c.args.self.now in
-    gave-more c.fill.result _ _ _ _ _ (λ more is. (is, λ read asked got sent s. (after-read read asked got sent session.ended session.requests c.fill.new.self session.places (bytes_left session.owed) more c.requires is s.0, s.1))) c.fill.ensures.ok
+    let rest = g.R.Source.rest in
+    gave-more c.fill.result (rest c.args.reader.now) (rest c.fill.new.reader) (g.R.Source.ended c.fill.new.reader) _ _ (λ more is. (is, λ read asked got sent s. (after-read read asked got sent session.ended session.requests c.fill.new.self session.places (bytes_left session.owed) more c.requires is s.0, s.1))) c.fill.ensures.ok
