@@ -6,11 +6,8 @@ use crate::connections::serve_alone::serve_alone;
 use crate::tests::fakes::{InTwo, Still};
 use std::sync::atomic::AtomicU64;
 use std::sync::{Arc, Wait};
-use xs_bytes::Bytes;
 use xs_desk::{Alone, Lane, desk};
 use xs_keys::Keyspace;
-use xs_resp::Reply;
-use xs_session::Session;
 use xs_stream::Moment;
 
 /// An empty keyspace at moment 1000.
@@ -197,22 +194,6 @@ fn a_refused_connection_is_served_again(rt: HostRuntime) -> Result<(), Fail> {
         answered = answered || bytes == PONGS.as_bytes();
     }
     assert!(rt; answered);
-    Ok(())
-}
-
-// A great string is lent to the writer, as a piece of its own.
-#[test]
-fn gives_a_great_reply_in_pieces(rt: HostRuntime) -> Result<(), Fail> {
-    let alloc = rt.alloc();
-    let mut session = Session::new(alloc)?;
-    session
-        .owed
-        .begin(Reply::Bulk(Bytes::new(vec![in alloc; b'x'; 1_000_000]?)));
-    for length in [10, 1_000_000, 2] {
-        assert_eq!(rt; session.output().len(), length);
-        session.mark_sent();
-    }
-    assert!(rt; session.output().is_empty());
     Ok(())
 }
 
