@@ -1,5 +1,6 @@
 -- The replies to commands are whole: no array says that it has more or fewer items than it has.
-use Rattle.std.proofs.Common.{ℕ, decimal, Bool, true, false, List, [], ◌∷◌, map, Option, Some, None}
+use Rattle.std.proofs.Common.{ℕ, decimal, Bool, true, false, List, [], ◌∷◌, map, length, codes, Option, Some, None}
+use Rattle.xs_stream.specs.StreamContent.{count_above}
 use Rattle.xs_resp.specs.WholeReplies.{IsWholeReply, AreWhole}
 use Rattle.xs_resp.proofs.Wholeness.{items-whole, all-whole, whole-append}
 use Rattle.xs_keys.specs.Terms.{GroupState, option_map_or, get, OwnerCount, GroupSummary, PendingRow, ReadGroupCommand}
@@ -10,6 +11,7 @@ use Rattle.xs_keys.specs.Content.{Content}
 use Rattle.xs_keys.specs.ContentAfter.{after_ask, group_in, entries_in}
 use Rattle.xs_keys.specs.ReplyParts.{array, array_or_null, id_reply, field_replies, entry_reply, present_reply}
 use Rattle.xs_keys.specs.ReplyParts.{entries_reply, stream_part, new_part, owner_reply, row_reply, taken_reply}
+use Rattle.xs_keys.specs.Inspecting.{group_reply}
 use Rattle.xs_keys.specs.Reply.{parts_of_read, parts}
 
 fields-whole : (fields : List Field) → AreWhole (flat_map field_replies fields)
@@ -78,3 +80,10 @@ module _ (summary : GroupSummary) where
   pub summary-whole : (owners : List OwnerCount)
       → AreWhole (Int summary.total ∷ option_map_or id_reply summary.least NullBulk ∷ option_map_or id_reply summary.greatest NullBulk ∷ array_or_null (map owner_reply owners) ∷ [])
   summary-whole owners = (tt, (id-or-null summary.least, (id-or-null summary.greatest, (owners-whole owners, tt))))
+
+-- XINFO GROUPS
+pub group-whole : (present : List Id) (group : List ℕ × GroupState) → IsWholeReply (group_reply present group)
+group-whole present group =
+    items-whole (Bulk (codes "name") ∷ Bulk group.0 ∷ Bulk (codes "consumers") ∷ Int (length group.1.consumers.entries) ∷ Bulk (codes "pending") ∷ Int (length group.1.rows.entries)
+    ∷ Bulk (codes "last-delivered-id") ∷ id_reply group.1.cursor ∷ Bulk (codes "entries-read") ∷ NullBulk ∷ Bulk (codes "lag") ∷ Int (count_above group.1.cursor present) ∷ [])
+    (tt, (tt, (tt, (tt, (tt, (tt, (tt, (tt, (tt, (tt, (tt, (tt, tt))))))))))))

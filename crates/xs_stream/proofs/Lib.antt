@@ -11,6 +11,7 @@ pub mod PackedBlocks
 pub mod PackedCodes
 pub mod PassedEntries
 pub mod Past
+pub mod CountedPast
 pub mod PlacesInLists
 pub mod Rooms
 pub mod WithinBlocks

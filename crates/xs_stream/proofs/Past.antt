@@ -38,10 +38,10 @@ none_after m s n t e f h k = grind (arith, nat_tests)
 up_to_greatest : (x : Id) → IsId x → is_below greatest_id x ≡ false
 up_to_greatest x fits = below-is greatest_number greatest_number x.ms x.seq ∙ none_after greatest_number greatest_number x.ms x.seq refl refl fits.0 fits.1
 
--- what is above a cursor is within the range from its successor on
-above-within : (cursor low x : Id) → next_id cursor ≡ Some low → IsId x → is_within (record { low = low; high = greatest_id }) x ≡ is_below cursor x
-above-within cursor low x h fits =
-    ap (λ b. not (is_below x low) && not b) (up_to_greatest x fits) ∙ and_yes (not (is_below x low)) ∙ by (ltb cursor.seq greatest_number) (ltb cursor.ms greatest_number) refl h where
+-- what is above a cursor isn't below its successor
+pub from-past : (cursor low x : Id) → next_id cursor ≡ Some low → IsId x → not (is_below x low) ≡ is_below cursor x
+from-past cursor low x h fits =
+    by (ltb cursor.seq greatest_number) (ltb cursor.ms greatest_number) refl h where
       by : (s m : Bool) → ltb cursor.seq greatest_number ≡ s
           → cond s (Some (record { ms = cursor.ms; seq = cursor.seq + 1 })) (cond m (Some (record { ms = cursor.ms + 1; seq = 0 })) None) ≡ Some low → not (is_below x low) ≡ is_below cursor x
       by true m e f =
@@ -53,6 +53,11 @@ above-within cursor low x h fits =
           ap (λ l. not (is_below x l)) (sym next) ∙ ap not (below-is x.ms x.seq (cursor.ms + 1) 0) ∙ after_last cursor.ms cursor.seq x.ms x.seq e fits.1
           ∙ sym (below-is cursor.ms cursor.seq x.ms x.seq)
       by false false e f = let no = f in cc
+
+-- it is within the range from there on
+above-within : (cursor low x : Id) → next_id cursor ≡ Some low → IsId x → is_within (record { low = low; high = greatest_id }) x ≡ is_below cursor x
+above-within cursor low x h fits =
+    ap (λ b. not (is_below x low) && not b) (up_to_greatest x fits) ∙ and_yes (not (is_below x low)) ∙ from-past cursor low x h fits
 
 -- where a cursor has no successor nothing is above it
 none-above : (cursor x : Id) → next_id cursor ≡ None → IsId x → is_below cursor x ≡ false

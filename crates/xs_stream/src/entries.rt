@@ -7,7 +7,7 @@ ghost use Rattle.xs_stream.specs.declared.id.Id.{Id};
 ghost use Rattle.xs_stream.specs.declared.trim.Trim.TheVariants.{MinId};
 ghost use Rattle.xs_stream.specs.Id.{is_below, is_same_id};
 ghost use Rattle.xs_stream.specs.StreamContent.{is_within, ids_of, fields_at, without, entries_after_trim, Ascends};
-ghost use Rattle.xs_stream.specs.StreamContent.{AllUpTo};
+ghost use Rattle.xs_stream.specs.StreamContent.{AllUpTo, count_above};
 ghost use Rattle.xs_stream.specs.ConsistentStream.{AllIds};
 ghost use Rattle.xs_stream.specs.Blocks.{contents, all_of, AreFiled, BeginsFrom, IsLaidDown, IsMeasured, block_ids};
 ghost use Rattle.xs_stream.specs.Blocks.{end_at, HasJoined, place_room, room_of};
@@ -544,6 +544,34 @@ impl Entries {
             high: Id::GREATEST,
         };
         self.ids_up(alloc, above, most)
+    }
+
+    /// How many entries have this id or one above it. Only the first of the blocks that may have such is looked through.
+    fn count_from(&self, low: Id) -> usize
+        requires { IsLaidDown self.now }
+        ensures { result ≡ length (filter (λ e. not (is_below e.0 low)) (all_of self.now)) }
+    {
+        let mut blocks = self.older.range(low..);
+        let Some((_, first)) = blocks.next() else {
+            return self.newest.len() - self.newest.count_below(low);
+        };
+        let mut count = first.len() - first.count_below(low);
+        for (_under, block) in blocks {
+            count += block.len();
+        }
+        count + self.newest.len()
+    }
+
+    /// How many entries have ids above a cursor.
+    pub(crate) fn count_past(&self, cursor: Id) -> usize
+        requires laid_down { IsLaidDown self.now }
+        requires ids { AllIds (ids_of (all_of self.now)) }
+        ensures { result ≡ count_above cursor (ids_of (all_of self.now)) }
+    {
+        match cursor.next() {
+            Some(low) => self.count_from(low),
+            None => 0,
+        }
     }
 
     /// The ids of a range that isn't empty, from its high end down, at most this many.

@@ -3,7 +3,7 @@ ghost use Rattle.std.specs.Prelude.{◌≡◌, ◌↔◌, ◌+◌, ◌-◌, ◌^
 ghost use Rattle.std.specs.Prelude.{Err, IfOk, OnOk, OnErr, IsErrOf, length};
 ghost use Rattle.std.specs.Prelude.{filter};
 ghost use Rattle.xs_stream.specs.Id.{zero_id, is_below, id_of_addition};
-ghost use Rattle.xs_stream.specs.StreamContent.{ids_of, fields_at, without, entries_after_trim};
+ghost use Rattle.xs_stream.specs.StreamContent.{ids_of, fields_at, without, entries_after_trim, count_above};
 ghost use Rattle.xs_stream.specs.StreamContent.{ids_within, entries_within, up_to_limit, AreEntriesOf};
 ghost use Rattle.xs_stream.specs.StreamContent.{Ascends, AllUpTo, state_of};
 
@@ -63,6 +63,14 @@ impl Stream {
         ensures small { result < 2 ^ 63 }
     {
         self.entries.len()
+    }
+
+    /// How many entries have ids above a cursor.
+    pub fn count_past(&self, cursor: Id) -> u64
+        ensures value { result ≡ count_above cursor (ids_of self.now.entries) }
+        ensures small { result < 2 ^ 63 }
+    {
+        self.entries.count_past(cursor) as u64
     }
 
     /// How many bytes its entries take, with the memory that is kept for further ones.
