@@ -4,6 +4,7 @@ pub mod Dropping
 pub mod FiledBlocks
 pub mod Gaps
 pub mod InOrder
+pub mod Greatest
 pub mod Joining
 pub mod Lending
 pub mod Order

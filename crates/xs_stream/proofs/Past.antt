@@ -1,5 +1,5 @@
 -- The ids above a cursor are those of a range.
-use Rattle.std.proofs.Common.{◌≡◌, ℕ, zero, suc, ◌+◌, ◌<◌, Bool, true, false, not, ◌&&◌, ◌||◌, cond, ltb, eqb, List, [], ◌∷◌}
+use Rattle.std.proofs.Common.{◌≡◌, ℕ, zero, suc, ◌+◌, ◌*◌, ◌^◌, ◌<◌, ◌≤◌, Bool, true, false, not, ◌&&◌, ◌||◌, cond, ltb, eqb, List, [], ◌∷◌}
 use Rattle.std.proofs.Common.{filter, take, Option, Some, None, sym, ap, ◌∙◌, refl, subst, arith}
 use Rattle.std.proofs.lemmas.Bool.Decides.{nat_tests}
 use Rattle.std.specs.Ordering.{nat_cmp, is_lt}
@@ -8,7 +8,7 @@ use Rattle.xs_stream.specs.declared.field.Field.{Field}
 use Rattle.xs_stream.specs.Id.{is_below, greatest_number, greatest_id}
 use Rattle.xs_stream.specs.IdText.{next_id}
 use Rattle.xs_stream.specs.StreamContent.{ids_of, AllAbove, Ascends, is_within}
-use Rattle.xs_stream.specs.ConsistentStream.{IsId, AllIds}
+use Rattle.xs_stream.specs.ConsistentStream.{IsId, AllIds, rank_of}
 use Rattle.xs_stream.proofs.InOrder.{and_yes, ascends-filter, ids_of-filter}
 
 lt-ltb : (s t : ℕ) → is_lt (nat_cmp s t) ≡ ltb s t
@@ -25,6 +25,13 @@ below-is m s n t = by (ltb m n) (eqb m n) refl refl where
   by true b e f = rw e refl
   by false true e f = rw (e, f) (lt-ltb s t)
   by false false e f = rw (e, f) refl
+
+rank-lower : (m s n t : ℕ) → s < 18446744073709551616 → (ltb m n || (eqb m n && ltb s t)) ≡ true → m * 18446744073709551616 + s + 1 ≤ n * 18446744073709551616 + t
+rank-lower m s n t fits e = grind (arith, nat_tests)
+
+-- what is below has a lower rank
+pub rank-below : (a b : Id) → a.seq < 2 ^ 64 → is_below a b ≡ true → rank_of a + 1 ≤ rank_of b
+rank-below a b fits e = rank-lower a.ms a.seq b.ms b.seq fits (sym (below-is a.ms a.seq b.ms b.seq) ∙ e)
 
 after_next : (m s n t : ℕ) → not (ltb n m || (eqb n m && ltb t (s + 1))) ≡ (ltb m n || (eqb m n && ltb s t))
 after_next m s n t = grind (arith, nat_tests)
