@@ -11,7 +11,7 @@ pub use Rattle.xs_stream.specs.declared.add.AddError.{AddError}
 pub use Rattle.xs_stream.specs.Id.{is_below, has_id, zero_id, id_text, id_of_addition}
 pub use Rattle.xs_stream.specs.StreamContent.{StreamState}
 pub use Rattle.xs_stream.specs.StreamContent.{ids_of, is_trimmed, entries_after_trim, without, fields_at, ids_within}
-pub use Rattle.xs_stream.specs.StreamContent.{up_to_limit}
+pub use Rattle.xs_stream.specs.StreamContent.{up_to_limit, greatest, new_stream, with_entry, with_deleted}
 pub use Rattle.xs_stream.specs.StreamContent.{Ascends, AllUpTo, AllAbove}
 pub use Rattle.xs_group.specs.GroupState.{is_same_name, RowState, GroupState, has_name, new_group, with_consumer}
 pub use Rattle.xs_group.specs.GroupState.{unless_acked, group_after_ack}
