@@ -93,7 +93,10 @@ pub record GroupExamples : Type 0 where
   pub info_groups : Spells (codes "xinfo groups k") (command.Inspect (inspection.Groups (codes "k")))
   pub info_groups_too_short : HasFault (codes "XINFO GROUPS") Arity
   pub info_groups_too_long : HasFault (codes "XINFO GROUPS k g") Arity
-  pub info_stream : HasFault (codes "XINFO STREAM k") Unsupported
+  pub info_stream : Spells (codes "XINFO Stream k") (command.Inspect (inspection.Stream (codes "k")))
+  pub info_stream_in_full : HasFault (codes "XINFO STREAM k full") Unsupported
+  pub info_stream_too_long : HasFault (codes "XINFO STREAM k x") Syntax
+  pub info_consumers : HasFault (codes "XINFO CONSUMERS k g") Unsupported
   pub alone : HasFault (codes "XGROUP") Arity
   pub set_id : HasFault (codes "XGROUP SETID k g x") Unsupported
   pub another : HasFault (codes "XGROUP HELP") UnknownCommand

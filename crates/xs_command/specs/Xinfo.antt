@@ -1,5 +1,6 @@
 -- XINFO.
-use Rattle.std.specs.Prelude.{ℕ, ◌+◌, List, [], ◌∷◌, length, codes, find, Option, Some, None, Err, if◌then◌else◌}
+use Rattle.std.specs.Prelude.{ℕ, ◌+◌, List, [], ◌∷◌, length, codes, find, Option, Some, None, Ok, Err}
+use Rattle.std.specs.Prelude.{if◌then◌else◌}
 use Rattle.std.specs.Option.{option_map}
 use Rattle.xs_resp.specs.declared.fault.Fault.TheVariants.{UnknownCommand, Arity, Syntax, Unsupported}
 use Rattle.xs_command.specs.declared.command.Command.{Command}
@@ -17,6 +18,17 @@ groups = do
   key ← word
   only (command.Inspect (inspection.Groups key)) Syntax
 
+-- behind the key: nothing, or FULL, which isn't supported
+unfoldable pub stream_form : List ℕ → Reading Command
+stream_form key [] = Ok (command.Inspect (inspection.Stream key))
+stream_form key (w ∷ words) = if is_word (codes "full") w then Err Unsupported else Err Syntax
+
+-- XINFO STREAM key
+unfoldable pub stream : Reading Command
+stream = do
+  key ← word
+  stream_form key
+
 -- the subcommands
 abbrev pub subcommands : List (List ℕ × Subcommand)
 subcommands = (codes "groups", Groups) ∷ (codes "stream", Stream) ∷ (codes "consumers", Consumers) ∷ []
@@ -31,10 +43,10 @@ subcommand_word_counts Groups = (3, Some 3)
 subcommand_word_counts Stream = (3, None)
 subcommand_word_counts Consumers = (4, Some 4)
 
--- the syntax behind each subcommand; STREAM and CONSUMERS aren't supported
+-- the syntax behind each subcommand; CONSUMERS isn't supported
 abbrev pub info_syntax : Subcommand → Reading Command
 info_syntax Groups = groups
-info_syntax Stream = λ words. Err Unsupported
+info_syntax Stream = stream
 info_syntax Consumers = λ words. Err Unsupported
 
 -- the words behind a subcommand; their number comes first

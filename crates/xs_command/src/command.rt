@@ -79,6 +79,8 @@ pub enum Command {
 /// What is asked of the content, which stays as it is.
 #[derive(Debug, Drop)]
 pub enum Inspection {
+    /// XINFO STREAM.
+    Stream { key: Bytes },
     /// XINFO GROUPS.
     Groups { key: Bytes },
     /// EXISTS.

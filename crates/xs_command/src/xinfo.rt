@@ -1,7 +1,7 @@
 //! XINFO.
 ghost use Rattle.std.specs.Prelude.{◌≡◌};
 ghost use Rattle.xs_command.specs.Words.{Gives};
-ghost use Rattle.xs_command.specs.Xinfo.{groups, subcommand_of, info_syntax, xinfo};
+ghost use Rattle.xs_command.specs.Xinfo.{groups, stream, stream_form, subcommand_of, info_syntax, xinfo};
 
 use crate::command::{Command, Inspection};
 use crate::command_name::allows;
@@ -9,6 +9,7 @@ use crate::refusal::Refusal;
 use crate::word::Word;
 use crate::words::Words;
 use std::alloc::Global;
+use xs_bytes::Bytes;
 use xs_resp::Fault;
 
 /// What XINFO tells of.
@@ -70,7 +71,8 @@ fn read_named(alloc: Global, sub: Subcommand, words: &Words<'_>) -> Result<Comma
 {
     match sub {
         Subcommand::Groups => read_groups(alloc, words),
-        Subcommand::Stream | Subcommand::Consumers => Err(Refusal::Said(Fault::Unsupported)),
+        Subcommand::Stream => read_stream(alloc, words),
+        Subcommand::Consumers => Err(Refusal::Said(Fault::Unsupported)),
     }
 }
 
@@ -81,4 +83,27 @@ fn read_groups(alloc: Global, words: &Words<'_>) -> Result<Command, Refusal>
 {
     let (key, words) = words.name(alloc)?;
     words.only(Command::Inspect(Inspection::Groups { key }), Fault::Syntax)
+}
+
+/// `XINFO STREAM key`
+#[tactic(auto, unfolding(crate::specs::Xinfo::stream))]
+fn read_stream(alloc: Global, words: &Words<'_>) -> Result<Command, Refusal>
+    ensures { Gives result (stream words.now) }
+{
+    let (key, words) = words.name(alloc)?;
+    read_form(key, &words)
+}
+
+/// Nothing, or FULL, which isn't supported.
+#[tactic(auto, unfolding(crate::specs::Xinfo::stream_form, crate::specs::Words::word))]
+fn read_form(key: Bytes, words: &Words<'_>) -> Result<Command, Refusal>
+    ensures { Gives result (stream_form key words.now) }
+{
+    let Ok((word, _)) = words.word() else {
+        return Ok(Command::Inspect(Inspection::Stream { key }));
+    };
+    if word.is(b"full") {
+        return Err(Refusal::Said(Fault::Unsupported));
+    }
+    Err(Refusal::Said(Fault::Syntax))
 }

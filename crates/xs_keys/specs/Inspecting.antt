@@ -1,14 +1,18 @@
 -- What XINFO GROUPS, EXISTS, TYPE and DBSIZE tell of the content. (Redis, their pages, "RESP2 Reply".)
-use Rattle.std.specs.Prelude.{ℕ, ◌+◌, List, [], ◌∷◌, map, length, codes, Option, Some, None, if◌then◌else◌}
-use Rattle.xs_stream.specs.StreamContent.{count_above}
+use Rattle.std.specs.Prelude.{ℕ, ◌+◌, Bool, true, false, List, [], ◌∷◌, map, length, codes, nat_le, nat_lt, Some}
+use Rattle.std.specs.Prelude.{if◌then◌else◌}
+use Rattle.xs_stream.specs.declared.range.Range.{Range}
+use Rattle.xs_stream.specs.Id.{greatest_id}
+use Rattle.xs_stream.specs.StreamContent.{count_above, entries_within}
+use Rattle.xs_group.specs.GroupState.{greatest_count}
 use Rattle.xs_command.specs.declared.command.Inspection.{Inspection}
-use Rattle.xs_command.specs.declared.command.Inspection.TheVariants.{Groups, Existence, KeyType, KeyCount}
+use Rattle.xs_command.specs.declared.command.Inspection.TheVariants.{Stream as OfStream, Groups, Existence, KeyType, KeyCount}
 use Rattle.xs_resp.specs.declared.reply.Simple.TheVariants.{Stream, Nothing}
 use Rattle.xs_keys.specs.Terms.{option_map_or, get, has_key, Id, ids_of, GroupState, Reply, Simple, Error, Int, Bulk}
-use Rattle.xs_keys.specs.Terms.{NullBulk, MissingKey}
+use Rattle.xs_keys.specs.Terms.{NullBulk, MissingKey, zero_id}
 use Rattle.xs_keys.specs.Content.{Content, KeyState}
-use Rattle.xs_keys.specs.Event.{Bytes}
-use Rattle.xs_keys.specs.ReplyParts.{array, id_reply}
+use Rattle.xs_keys.specs.Event.{Bytes, Entries}
+use Rattle.xs_keys.specs.ReplyParts.{array, id_reply, present_reply}
 
 -- XINFO GROUPS: a group of a stream that has these ids. Its lag is how many of them are past its cursor. How many
 -- entries it has read isn't kept.
@@ -25,6 +29,43 @@ group_reply present group =
 abbrev pub groups_reply : KeyState → Reply
 groups_reply key = array (map (group_reply (ids_of key.stream.entries)) key.groups.entries)
 
+-- all ids
+abbrev pub whole_range : Range
+whole_range = record { low = zero_id; high = greatest_id }
+
+-- the first entry, or the last one, if there is one
+abbrev pub end_of : Bool → Entries → Entries
+end_of reversed entries = entries_within whole_range reversed (Some 1) entries
+
+abbrev pub end_reply : Entries → Reply
+end_reply [] = NullBulk
+end_reply (e ∷ es) = present_reply e
+
+abbrev pub end_id : Entries → Id
+end_id [] = zero_id
+end_id (e ∷ es) = e.0
+
+-- a number that a signed one of 64 bits can't tell is told as the greatest that it can
+abbrev pub number_reply : ℕ → Reply
+number_reply n = Int (if nat_le n greatest_count then n else greatest_count)
+
+-- XINFO STREAM. Of the radix tree it says what Redis says of a small stream, since there is none here.
+abbrev pub stream_reply : KeyState → Reply
+stream_reply key =
+    let entries = key.stream.entries in
+    let first = end_of false entries in
+    let nodes : ℕ = if nat_lt 0 (length entries) then 1 else 0 in
+    array (Bulk (codes "length") ∷ Int (length entries)
+    ∷ Bulk (codes "radix-tree-keys") ∷ Int nodes
+    ∷ Bulk (codes "radix-tree-nodes") ∷ Int (nodes + 1)
+    ∷ Bulk (codes "last-generated-id") ∷ id_reply key.stream.top
+    ∷ Bulk (codes "max-deleted-entry-id") ∷ id_reply key.stream.deleted
+    ∷ Bulk (codes "entries-added") ∷ number_reply key.stream.added
+    ∷ Bulk (codes "recorded-first-entry-id") ∷ id_reply (end_id first)
+    ∷ Bulk (codes "groups") ∷ Int (length key.groups.entries)
+    ∷ Bulk (codes "first-entry") ∷ end_reply first
+    ∷ Bulk (codes "last-entry") ∷ end_reply (end_of true entries) ∷ [])
+
 -- EXISTS: how many of these keys are there; one that is named twice counts twice
 abbrev pub existing : List Bytes → Content → ℕ
 existing [] content = 0
@@ -32,6 +73,7 @@ existing (name ∷ names) content = (if has_key content name then 1 else 0) + ex
 
 -- the reply to each
 abbrev pub inspection_reply : Content → Inspection → Reply
+inspection_reply content (OfStream name) = option_map_or stream_reply (get content name) (Error MissingKey)
 inspection_reply content (Groups name) = option_map_or groups_reply (get content name) (Error MissingKey)
 inspection_reply content (Existence names) = Int (existing names content)
 inspection_reply content (KeyType name) = Simple (if has_key content name then Stream else Nothing)

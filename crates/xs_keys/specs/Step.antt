@@ -2,7 +2,7 @@
 use Rattle.std.specs.Prelude.{◌≡◌, ℕ, Bool, true, false, ◌⊎◌, Some}
 use Rattle.xs_keys.specs.Terms.{Memory, Reply, Error, Command, Ping, Add, Scan}
 use Rattle.xs_keys.specs.Terms.{GroupCreate, ConsumerCreate, ReadGroup, Pending, PendingRows, Claim, AutoClaim, Inspect}
-use Rattle.xs_command.specs.declared.command.Inspection.TheVariants.{Groups}
+use Rattle.xs_command.specs.declared.command.Inspection.TheVariants.{Stream, Groups}
 use Rattle.xs_keys.specs.Content.{Content}
 use Rattle.xs_keys.specs.ContentAfter.{content_after}
 use Rattle.xs_keys.specs.Reply.{reply}
@@ -19,6 +19,7 @@ takes_memory (Pending key group) = true
 takes_memory (PendingRows pending) = true
 takes_memory (Claim claim) = true
 takes_memory (AutoClaim claim) = true
+takes_memory (Inspect (Stream key)) = true
 takes_memory (Inspect (Groups key)) = true
 takes_memory _ = false
 

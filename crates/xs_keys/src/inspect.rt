@@ -28,6 +28,7 @@ pub fn inspect(keys: &Keys, alloc: Global, inspection: &Inspection) -> Reply
     ensures { StepAtAnyTime keys.now (Command.Inspect inspection.now) result keys.now }
 {
     match inspection {
+        Inspection::Stream { key } => xinfo::stream(keys, alloc, key),
         Inspection::Groups { key } => xinfo::groups(keys, alloc, key),
         Inspection::Existence { keys: names } => {
             Reply::Int(U63::new(count_existing(keys, names.as_slice()) as u64))

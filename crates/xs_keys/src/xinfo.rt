@@ -1,21 +1,30 @@
 //! XINFO.
 ghost use Rattle.std.specs.Prelude.{◌≡◌, ◌++◌, ◌∷◌, [], ◌<◌, ◌^◌, map, IfOk, OnOk};
 ghost use Rattle.std.specs.List.{flat_map};
-ghost use Rattle.xs_command.specs.declared.command.Inspection.TheVariants.{Groups as OfGroups};
+ghost use Rattle.xs_command.specs.declared.command.Inspection.TheVariants.{Stream as OfStream, Groups as OfGroups};
 ghost use Rattle.xs_stream.specs.StreamContent.{ids_of};
 ghost use Rattle.xs_resp.specs.ReplyItems.{tokens_of};
 ghost use Rattle.xs_keys.specs.KeysRoom.{key_state_of};
-ghost use Rattle.xs_keys.specs.Inspecting.{group_reply, groups_reply};
+ghost use Rattle.xs_keys.specs.Inspecting.{end_of, end_reply, end_id, stream_reply, group_reply, groups_reply};
 ghost use Rattle.xs_keys.specs.Step.{StepAtAnyTime};
 
 use crate::keys::{Keys, Slot};
-use crate::showing::push_id;
+use crate::showing::{push_id, push_present};
 use std::alloc::{AllocError, Global};
-use xs_bytes::{Bytes, U63};
+use xs_bytes::{Bytes, List, U63};
 use xs_command::Command;
 use xs_group::Group;
 use xs_resp::{Fault, Replies, Reply, Tokens};
-use xs_stream::Stream;
+use xs_stream::{Entry, Id, Range, Stream};
+
+/// How many tokens a stream has, beside the fields of its ends.
+const STREAM_TOKENS: usize = 28;
+
+/// All ids.
+const WHOLE: Range = Range {
+    low: Id::ZERO,
+    high: Id::GREATEST,
+};
 
 /// How many tokens a group has.
 const GROUP_TOKENS: usize = 13;
@@ -81,6 +90,71 @@ pub fn groups(keys: &Keys, alloc: Global, key: &Bytes) -> Reply
         return Reply::Error(Fault::MissingKey);
     };
     match groups_shown(alloc, slot) {
+        Ok(reply) => reply,
+        Err(AllocError) => Reply::Error(Fault::Memory),
+    }
+}
+
+/// Appends the first entry or the last one, or the null string if there is none.
+fn push_end(tokens: &mut Tokens, alloc: Global, end: &List<Entry<'_>>) -> Result<(), AllocError>
+    ensures { OnOk result (tokens.new ≡ tokens.old ++ tokens_of (end_reply end.now)) }
+{
+    match end.as_slice().first() {
+        Some(entry) => push_present(tokens, alloc, entry),
+        None => tokens.push_null_bulk(),
+    }
+}
+
+/// Appends what a stream counts, and its ids.
+fn push_counts(
+    tokens: &mut Tokens,
+    alloc: Global,
+    slot: &Slot,
+    first: Id,
+) -> Result<(), AllocError> {
+    let stream = &slot.stream;
+    let nodes = if stream.len() > 0 { 1 } else { 0 };
+    let added = stream.added().min(U63::MAX as u128) as u64;
+    push_number(tokens, b"length", stream.len() as u64)?;
+    push_number(tokens, b"radix-tree-keys", nodes)?;
+    push_number(tokens, b"radix-tree-nodes", nodes + 1)?;
+    tokens.push_bulk(b"last-generated-id")?;
+    push_id(tokens, alloc, stream.top())?;
+    tokens.push_bulk(b"max-deleted-entry-id")?;
+    push_id(tokens, alloc, stream.deleted())?;
+    push_number(tokens, b"entries-added", added)?;
+    tokens.push_bulk(b"recorded-first-entry-id")?;
+    push_id(tokens, alloc, first)?;
+    push_number(tokens, b"groups", slot.groups.len() as u64)
+}
+
+/// What a stream is.
+fn stream_shown(alloc: Global, slot: &Slot) -> Result<Reply, AllocError>
+    ensures { IfOk result (λ reply. reply ≡ stream_reply (key_state_of slot.now)) }
+{
+    let first = slot.stream.entries(alloc, WHOLE, Some(1), false)?;
+    let last = slot.stream.entries(alloc, WHOLE, Some(1), true)?;
+    let first_id = match first.as_slice().first() {
+        Some(entry) => entry.id(),
+        None => Id::ZERO,
+    };
+    let mut tokens = Tokens::with_capacity(alloc, STREAM_TOKENS)?;
+    push_counts(&mut tokens, alloc, slot, first_id)?;
+    tokens.push_bulk(b"first-entry")?;
+    push_end(&mut tokens, alloc, &first)?;
+    tokens.push_bulk(b"last-entry")?;
+    push_end(&mut tokens, alloc, &last)?;
+    Ok(Reply::Array(Replies::new(20, tokens)))
+}
+
+/// XINFO STREAM.
+pub fn stream(keys: &Keys, alloc: Global, key: &Bytes) -> Reply
+    ensures { StepAtAnyTime keys.now (Command.Inspect (OfStream key.now)) result keys.now }
+{
+    let Some(slot) = keys.get(key) else {
+        return Reply::Error(Fault::MissingKey);
+    };
+    match stream_shown(alloc, slot) {
         Ok(reply) => reply,
         Err(AllocError) => Reply::Error(Fault::Memory),
     }
