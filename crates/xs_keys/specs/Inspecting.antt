@@ -1,5 +1,5 @@
 -- What XINFO GROUPS, EXISTS, TYPE and DBSIZE tell of the content. (Redis, their pages, "RESP2 Reply".)
-use Rattle.std.specs.Prelude.{ℕ, ◌+◌, Bool, true, false, List, [], ◌∷◌, map, length, codes, nat_le, nat_lt, Some}
+use Rattle.std.specs.Prelude.{ℕ, ◌+◌, Bool, true, false, List, [], ◌∷◌, ◌++◌, map, length, codes, nat_le, nat_lt, Some}
 use Rattle.std.specs.Prelude.{if◌then◌else◌}
 use Rattle.xs_stream.specs.declared.range.Range.{Range}
 use Rattle.xs_stream.specs.Id.{greatest_id}
@@ -8,22 +8,29 @@ use Rattle.xs_group.specs.GroupState.{greatest_count}
 use Rattle.xs_command.specs.declared.command.Inspection.{Inspection}
 use Rattle.xs_command.specs.declared.command.Inspection.TheVariants.{Stream as OfStream, Groups, Existence, KeyType, KeyCount}
 use Rattle.xs_resp.specs.declared.reply.Simple.TheVariants.{Stream, Nothing}
-use Rattle.xs_keys.specs.Terms.{option_map_or, get, has_key, Id, ids_of, GroupState, Reply, Simple, Error, Int, Bulk}
+use Rattle.xs_keys.specs.Terms.{option_map_or, get, has_key, Id, ids_of, StreamState, GroupState, Reply, Simple, Error, Int, Bulk}
 use Rattle.xs_keys.specs.Terms.{NullBulk, MissingKey, zero_id}
 use Rattle.xs_keys.specs.Content.{Content, KeyState}
 use Rattle.xs_keys.specs.Event.{Bytes, Entries}
 use Rattle.xs_keys.specs.ReplyParts.{array, id_reply, present_reply}
 
--- XINFO GROUPS: a group of a stream that has these ids. Its lag is how many of them are past its cursor. How many
--- entries it has read isn't kept.
-abbrev pub group_reply : List Id → Bytes × GroupState → Reply
-group_reply present group =
-    array (Bulk (codes "name") ∷ Bulk group.0
+-- XINFO GROUPS: a group, and how many consumers and pending entries it has
+abbrev pub members_part : Bytes × GroupState → List Reply
+members_part group =
+    Bulk (codes "name") ∷ Bulk group.0
     ∷ Bulk (codes "consumers") ∷ Int (length group.1.consumers.entries)
-    ∷ Bulk (codes "pending") ∷ Int (length group.1.rows.entries)
-    ∷ Bulk (codes "last-delivered-id") ∷ id_reply group.1.cursor
+    ∷ Bulk (codes "pending") ∷ Int (length group.1.rows.entries) ∷ []
+
+-- how far a group has come in a stream that has these ids: its lag is how many of them are past its cursor. How many
+-- entries it has read isn't kept.
+abbrev pub progress_part : List Id → Id → List Reply
+progress_part present cursor =
+    Bulk (codes "last-delivered-id") ∷ id_reply cursor
     ∷ Bulk (codes "entries-read") ∷ NullBulk
-    ∷ Bulk (codes "lag") ∷ Int (count_above group.1.cursor present) ∷ [])
+    ∷ Bulk (codes "lag") ∷ Int (count_above cursor present) ∷ []
+
+abbrev pub group_reply : List Id → Bytes × GroupState → Reply
+group_reply present group = array (members_part group ++ progress_part present group.1.cursor)
 
 -- XINFO GROUPS: the groups of a key, in the order of their names
 abbrev pub groups_reply : KeyState → Reply
@@ -49,22 +56,36 @@ end_id (e ∷ es) = e.0
 abbrev pub number_reply : ℕ → Reply
 number_reply n = Int (if nat_le n greatest_count then n else greatest_count)
 
--- XINFO STREAM. Of the radix tree it says what Redis says of a small stream, since there is none here.
+-- XINFO STREAM: what it has. Of the radix tree it says what Redis says of a small stream, since there is none here.
+abbrev pub size_part : Entries → List Reply
+size_part entries =
+    let nodes : ℕ = if nat_lt 0 (length entries) then 1 else 0 in
+    Bulk (codes "length") ∷ Int (length entries)
+    ∷ Bulk (codes "radix-tree-keys") ∷ Int nodes
+    ∷ Bulk (codes "radix-tree-nodes") ∷ Int (nodes + 1) ∷ []
+
+-- what it ever had
+abbrev pub past_part : StreamState → Id → List Reply
+past_part stream first =
+    Bulk (codes "last-generated-id") ∷ id_reply stream.top
+    ∷ Bulk (codes "max-deleted-entry-id") ∷ id_reply stream.deleted
+    ∷ Bulk (codes "entries-added") ∷ number_reply stream.added
+    ∷ Bulk (codes "recorded-first-entry-id") ∷ id_reply first ∷ []
+
+-- its groups and its ends
+abbrev pub ends_part : ℕ → Entries → Entries → List Reply
+ends_part groups first last =
+    Bulk (codes "groups") ∷ Int groups
+    ∷ Bulk (codes "first-entry") ∷ end_reply first
+    ∷ Bulk (codes "last-entry") ∷ end_reply last ∷ []
+
 abbrev pub stream_reply : KeyState → Reply
 stream_reply key =
     let entries = key.stream.entries in
     let first = end_of false entries in
-    let nodes : ℕ = if nat_lt 0 (length entries) then 1 else 0 in
-    array (Bulk (codes "length") ∷ Int (length entries)
-    ∷ Bulk (codes "radix-tree-keys") ∷ Int nodes
-    ∷ Bulk (codes "radix-tree-nodes") ∷ Int (nodes + 1)
-    ∷ Bulk (codes "last-generated-id") ∷ id_reply key.stream.top
-    ∷ Bulk (codes "max-deleted-entry-id") ∷ id_reply key.stream.deleted
-    ∷ Bulk (codes "entries-added") ∷ number_reply key.stream.added
-    ∷ Bulk (codes "recorded-first-entry-id") ∷ id_reply (end_id first)
-    ∷ Bulk (codes "groups") ∷ Int (length key.groups.entries)
-    ∷ Bulk (codes "first-entry") ∷ end_reply first
-    ∷ Bulk (codes "last-entry") ∷ end_reply (end_of true entries) ∷ [])
+    let last = end_of true entries in
+    let groups = length key.groups.entries in
+    array (size_part entries ++ (past_part key.stream (end_id first) ++ ends_part groups first last))
 
 -- EXISTS: how many of these keys are there; one that is named twice counts twice
 abbrev pub existing : List Bytes → Content → ℕ
@@ -75,6 +96,6 @@ existing (name ∷ names) content = (if has_key content name then 1 else 0) + ex
 abbrev pub inspection_reply : Content → Inspection → Reply
 inspection_reply content (OfStream name) = option_map_or stream_reply (get content name) (Error MissingKey)
 inspection_reply content (Groups name) = option_map_or groups_reply (get content name) (Error MissingKey)
-inspection_reply content (Existence names) = Int (existing names content)
+inspection_reply content (Existence names) = number_reply (existing names content)
 inspection_reply content (KeyType name) = Simple (if has_key content name then Stream else Nothing)
 inspection_reply content KeyCount = Int (length content.entries)

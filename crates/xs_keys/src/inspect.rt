@@ -31,7 +31,8 @@ pub fn inspect(keys: &Keys, alloc: Global, inspection: &Inspection) -> Reply
         Inspection::Stream { key } => xinfo::stream(keys, alloc, key),
         Inspection::Groups { key } => xinfo::groups(keys, alloc, key),
         Inspection::Existence { keys: names } => {
-            Reply::Int(U63::new(count_existing(keys, names.as_slice()) as u64))
+            let count = count_existing(keys, names.as_slice()) as u64;
+            Reply::Int(U63::new(count.min(U63::MAX)))
         }
         Inspection::KeyType { key } => match keys.get(key) {
             Some(_) => Reply::Simple(Simple::Stream),

@@ -12,17 +12,21 @@ abbrev shown : List Id → List (List ℕ × GroupState) → List Token
 shown present groups = flat_map tokens_of (map (group_reply present) groups)
 
 pub loop-name-init : goal.loop-name-init
-loop-name-init c = ap (λ groups. c.args.tokens.old ++ shown (ids_of c.args.slot.now.stream.entries) groups) (c.into_iter-name-iterator.ensures.into_iter_gives ∙ c.iter-name-items.ensures)
+loop-name-init c =
+    rw (← c.slot.view_is) (ap (λ groups. c.args.tokens.now ++ shown (ids_of c.slot.inside.stream.entries) groups) (c.into_iter-name-iterator.ensures.into_iter_gives ∙ c.iter-name-items.ensures))
 
 pub loop-name-preserved : goal.loop-name-preserved
 loop-name-preserved c =
-    let present = ids_of c.args.slot.now.stream.entries in
+    let present = ids_of c.slot.inside.stream.entries in
     let steps : c.loop-name.name-iterator ≡ (c.in-Some.name.now, c.in-Some.group.now) ∷ c.next.new.self = c.in-Some.ensures.steps in
-    ap (λ tokens. tokens ++ shown present c.next.new.self) c.in_ok-push_group.ensures
+    let before = rw (← c.slot.view_is) at c.loop-name.invariant in
+    rw (← c.slot.view_is)
+    (ap (λ tokens. tokens ++ shown present c.next.new.self) c.in_ok-push_group.ensures
     ∙ append_assoc c.loop-name.tokens (tokens_of (group_reply present (c.in-Some.name.now, c.in-Some.group.now))) (shown present c.next.new.self)
-    ∙ ap (λ groups. c.loop-name.tokens ++ shown present groups) (sym steps) ∙ c.loop-name.invariant
+    ∙ ap (λ groups. c.loop-name.tokens ++ shown present groups) (sym steps) ∙ before)
 
 pub returns : goal.returns
 returns c =
-    let present = ids_of c.args.slot.now.stream.entries in
-    sym (append-nil c.loop-name.tokens) ∙ ap (λ groups. c.loop-name.tokens ++ shown present groups) (sym c.in-None.ensures.steps.0) ∙ c.loop-name.invariant
+    let present = ids_of c.slot.inside.stream.entries in
+    let before = rw (← c.slot.view_is) at c.loop-name.invariant in
+    rw (← c.slot.view_is) (sym (append-nil c.loop-name.tokens) ∙ ap (λ groups. c.loop-name.tokens ++ shown present groups) (sym c.in-None.ensures.steps.0) ∙ before)
