@@ -1,5 +1,5 @@
 -- What XINFO GROUPS, EXISTS, TYPE and DBSIZE tell of the content. (Redis, their pages, "RESP2 Reply".)
-use Rattle.std.specs.Prelude.{ℕ, ◌+◌, Bool, true, false, List, [], ◌∷◌, ◌++◌, map, length, codes, nat_le, nat_lt, Some}
+use Rattle.std.specs.Prelude.{ℕ, ◌+◌, Bool, true, false, List, [], ◌∷◌, ◌++◌, map, length, codes, min, Some}
 use Rattle.std.specs.Prelude.{if◌then◌else◌}
 use Rattle.xs_stream.specs.declared.range.Range.{Range}
 use Rattle.xs_stream.specs.Id.{greatest_id}
@@ -54,12 +54,12 @@ end_id (e ∷ es) = e.0
 
 -- a number that a signed one of 64 bits can't tell is told as the greatest that it can
 abbrev pub number_reply : ℕ → Reply
-number_reply n = Int (if nat_le n greatest_count then n else greatest_count)
+number_reply n = Int (min n greatest_count)
 
 -- XINFO STREAM: what it has. Of the radix tree it says what Redis says of a small stream, since there is none here.
 abbrev pub size_part : Entries → List Reply
 size_part entries =
-    let nodes : ℕ = if nat_lt 0 (length entries) then 1 else 0 in
+    let nodes = min (length entries) 1 in
     Bulk (codes "length") ∷ Int (length entries)
     ∷ Bulk (codes "radix-tree-keys") ∷ Int nodes
     ∷ Bulk (codes "radix-tree-nodes") ∷ Int (nodes + 1) ∷ []
