@@ -7,12 +7,14 @@ use Rattle.xs_command.specs.declared.refusal.Refusal.{Refusal}
 use Rattle.xs_command.specs.declared.command_name.CommandName.{CommandName}
 use Rattle.xs_command.specs.declared.command_name.CommandName.TheVariants.{Ping, Quit, Xadd, Xdel, Xtrim, Xlen, Xrange}
 use Rattle.xs_command.specs.declared.command_name.CommandName.TheVariants.{Xrevrange, Xgroup, Xreadgroup, Xack}
-use Rattle.xs_command.specs.declared.command_name.CommandName.TheVariants.{Xpending, Xclaim, Xautoclaim, Del}
+use Rattle.xs_command.specs.declared.command_name.CommandName.TheVariants.{Xpending, Xclaim, Xautoclaim, Del, Xinfo, Exists}
+use Rattle.xs_command.specs.declared.command_name.CommandName.TheVariants.{KeyType, Dbsize}
 use Rattle.xs_command.specs.Words.{Gives, word}
 use Rattle.xs_command.specs.WellFormed.{IsWellFormed}
 use Rattle.xs_command.specs.CommandName.{name_of, word_counts, is_within_bounds}
 use Rattle.xs_command.specs.Read.{syntax, command_by_name, command_of_words}
 use Rattle.xs_command.proofs.Formed.{Always, after_any, ping_formed, quit_formed, xadd_formed, xdel_formed}
+use Rattle.xs_command.proofs.FormedInspections.{xinfo_formed, exists_formed, key_type_formed, dbsize_formed}
 use Rattle.xs_command.proofs.Formed.{xtrim_formed, xlen_formed, xrange_formed, xrevrange_formed, del_formed}
 use Rattle.xs_command.proofs.FormedGroups.{xgroup_formed, xack_formed, xpending_formed, xclaim_formed}
 use Rattle.xs_command.proofs.FormedGroups.{xautoclaim_formed}
@@ -34,6 +36,10 @@ syntax_formed Xpending words y e = xpending_formed words y e
 syntax_formed Xclaim words y e = xclaim_formed words y e
 syntax_formed Xautoclaim words y e = xautoclaim_formed words y e
 syntax_formed Del words y e = del_formed words y e
+syntax_formed Xinfo words y e = xinfo_formed words y e
+syntax_formed Exists words y e = exists_formed words y e
+syntax_formed KeyType words y e = key_type_formed words y e
+syntax_formed Dbsize words y e = dbsize_formed words y e
 
 counted : (name : CommandName) (b : Bool) (words : List (List ℕ)) (y : Command) → cond b (syntax name words) (Err Arity) ≡ Ok y → IsWellFormed y
 counted name true words y e = syntax_formed name words y e

@@ -5,6 +5,7 @@ pub mod FieldSteps
 pub mod Formed
 pub mod FormedGroups
 pub mod FormedReadGroup
+pub mod FormedInspections
 pub mod FormedReads
 pub mod DistinctKeys
 pub mod NameSteps

@@ -5,7 +5,8 @@ use Rattle.std.specs.Option.{option_map}
 use Rattle.xs_command.specs.declared.command_name.CommandName.{CommandName}
 use Rattle.xs_command.specs.declared.command_name.CommandName.TheVariants.{Ping, Quit, Xadd, Xdel, Xtrim, Xlen, Xrange}
 use Rattle.xs_command.specs.declared.command_name.CommandName.TheVariants.{Xrevrange, Xgroup, Xreadgroup, Xack}
-use Rattle.xs_command.specs.declared.command_name.CommandName.TheVariants.{Xpending, Xclaim, Xautoclaim, Del}
+use Rattle.xs_command.specs.declared.command_name.CommandName.TheVariants.{Xpending, Xclaim, Xautoclaim, Del, Xinfo, Exists}
+use Rattle.xs_command.specs.declared.command_name.CommandName.TheVariants.{KeyType, Dbsize}
 use Rattle.xs_command.specs.Words.{is_word}
 
 -- the names
@@ -14,7 +15,8 @@ names =
     (codes "ping", Ping) ∷ (codes "quit", Quit) ∷ (codes "xadd", Xadd) ∷ (codes "xdel", Xdel) ∷ (codes "xtrim", Xtrim)
     ∷ (codes "xlen", Xlen) ∷ (codes "xrange", Xrange) ∷ (codes "xrevrange", Xrevrange) ∷ (codes "xgroup", Xgroup)
     ∷ (codes "xreadgroup", Xreadgroup) ∷ (codes "xack", Xack) ∷ (codes "xpending", Xpending) ∷ (codes "xclaim", Xclaim)
-    ∷ (codes "xautoclaim", Xautoclaim) ∷ (codes "del", Del) ∷ []
+    ∷ (codes "xautoclaim", Xautoclaim) ∷ (codes "del", Del) ∷ (codes "xinfo", Xinfo)
+    ∷ (codes "exists", Exists) ∷ (codes "type", KeyType) ∷ (codes "dbsize", Dbsize) ∷ []
 
 -- the one of these names that a word is, in upper or lower case
 abbrev pub name_among : List (List ℕ × CommandName) → List ℕ → Option CommandName
@@ -45,6 +47,10 @@ word_counts Xpending = (3, None)
 word_counts Xclaim = (6, None)
 word_counts Xautoclaim = (6, None)
 word_counts Del = (2, None)
+word_counts Xinfo = (2, None)
+word_counts Exists = (2, None)
+word_counts KeyType = (2, Some 2)
+word_counts Dbsize = (1, Some 1)
 
 -- at most so many
 abbrev pub is_at_most : Option ℕ → ℕ → Bool

@@ -9,6 +9,7 @@ use Rattle.xs_resp.specs.declared.fault.Fault.TheVariants.{Unsupported}
 use Rattle.xs_command.specs.declared.command.Command.{Command}
 use Rattle.xs_command.specs.declared.command.Command.TheVariants as command
 use Rattle.xs_command.specs.declared.command.GroupStart.TheVariants.{Top}
+use Rattle.xs_command.specs.declared.command.Inspection.TheVariants as inspection
 use Rattle.xs_command.specs.declared.command.ReadFrom.TheVariants.{New, After}
 use Rattle.xs_command.specs.Read.{command_of_words}
 
@@ -78,8 +79,24 @@ pub record StreamExamples : Type 0 where
   pub reversed_count : HasFault (codes "XREVRANGE k 5 - COUNT 07") NotInteger
   pub drop_keys : Spells (codes "DEL a b") (command.DropKeys (codes "a" ∷ codes "b" ∷ []))
   pub drop_none : HasFault (codes "DEL") Arity
+  pub existence :
+      Spells (codes "EXISTS a a b") (command.Inspect (inspection.Existence (codes "a" ∷ codes "a" ∷ codes "b" ∷ [])))
+  pub existence_of_nothing : HasFault (codes "EXISTS") Arity
+  pub key_type : Spells (codes "type k") (command.Inspect (inspection.KeyType (codes "k")))
+  pub key_type_of_two : HasFault (codes "TYPE a b") Arity
+  pub key_count : Spells (codes "DbSize") (command.Inspect inspection.KeyCount)
+  pub key_count_too_long : HasFault (codes "DBSIZE x") Arity
 
 pub record GroupExamples : Type 0 where
+  pub info_alone : HasFault (codes "XINFO") Arity
+  pub info_another : HasFault (codes "XINFO FOO k") UnknownCommand
+  pub info_groups : Spells (codes "xinfo groups k") (command.Inspect (inspection.Groups (codes "k")))
+  pub info_groups_too_short : HasFault (codes "XINFO GROUPS") Arity
+  pub info_groups_too_long : HasFault (codes "XINFO GROUPS k g") Arity
+  pub info_stream : Spells (codes "XINFO Stream k") (command.Inspect (inspection.Stream (codes "k")))
+  pub info_stream_in_full : HasFault (codes "XINFO STREAM k full") Unsupported
+  pub info_stream_too_long : HasFault (codes "XINFO STREAM k x") Syntax
+  pub info_consumers : HasFault (codes "XINFO CONSUMERS k g") Unsupported
   pub alone : HasFault (codes "XGROUP") Arity
   pub set_id : HasFault (codes "XGROUP SETID k g x") Unsupported
   pub another : HasFault (codes "XGROUP HELP") UnknownCommand

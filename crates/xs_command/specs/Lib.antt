@@ -21,6 +21,10 @@ pub mod Xpending
 pub mod Xclaim
 pub mod Xautoclaim
 pub mod Del
+pub mod Xinfo
+pub mod Exists
+pub mod KeyType
+pub mod Dbsize
 pub mod Read
 pub mod Examples
 pub mod ExamplesWords

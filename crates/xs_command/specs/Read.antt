@@ -5,7 +5,8 @@ use Rattle.xs_command.specs.declared.command.Command.{Command}
 use Rattle.xs_command.specs.declared.command_name.CommandName.{CommandName}
 use Rattle.xs_command.specs.declared.command_name.CommandName.TheVariants.{Ping, Quit, Xadd, Xdel, Xtrim, Xlen, Xrange}
 use Rattle.xs_command.specs.declared.command_name.CommandName.TheVariants.{Xrevrange, Xgroup, Xreadgroup, Xack}
-use Rattle.xs_command.specs.declared.command_name.CommandName.TheVariants.{Xpending, Xclaim, Xautoclaim, Del}
+use Rattle.xs_command.specs.declared.command_name.CommandName.TheVariants.{Xpending, Xclaim, Xautoclaim, Del, Xinfo, Exists}
+use Rattle.xs_command.specs.declared.command_name.CommandName.TheVariants.{KeyType, Dbsize}
 use Rattle.xs_command.specs.Words.{Reading, ◌>>=◌, word}
 use Rattle.xs_command.specs.CommandName.{name_of, word_counts, is_within_bounds}
 use Rattle.xs_command.specs.Ping.{ping, quit}
@@ -21,6 +22,10 @@ use Rattle.xs_command.specs.Xpending.{xpending}
 use Rattle.xs_command.specs.Xclaim.{xclaim}
 use Rattle.xs_command.specs.Xautoclaim.{xautoclaim}
 use Rattle.xs_command.specs.Del.{del}
+use Rattle.xs_command.specs.Xinfo.{xinfo}
+use Rattle.xs_command.specs.Exists.{exists}
+use Rattle.xs_command.specs.KeyType.{key_type}
+use Rattle.xs_command.specs.Dbsize.{dbsize}
 
 -- the syntax behind each name
 abbrev pub syntax : CommandName → Reading Command
@@ -39,6 +44,10 @@ syntax Xpending = xpending
 syntax Xclaim = xclaim
 syntax Xautoclaim = xautoclaim
 syntax Del = del
+syntax Xinfo = xinfo
+syntax Exists = exists
+syntax KeyType = key_type
+syntax Dbsize = dbsize
 
 -- the words behind a name; their number comes first
 abbrev pub command_by_name : Option CommandName → Reading Command

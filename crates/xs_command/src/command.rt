@@ -72,6 +72,23 @@ pub enum Command {
     DropKeys {
         keys: List<Bytes>,
     },
+    /// XINFO, EXISTS, TYPE and DBSIZE.
+    Inspect(Inspection),
+}
+
+/// What is asked of the content, which stays as it is.
+#[derive(Debug, Drop)]
+pub enum Inspection {
+    /// XINFO STREAM.
+    Stream { key: Bytes },
+    /// XINFO GROUPS.
+    Groups { key: Bytes },
+    /// EXISTS.
+    Existence { keys: List<Bytes> },
+    /// TYPE.
+    KeyType { key: Bytes },
+    /// DBSIZE.
+    KeyCount,
 }
 
 /// What XADD asks for.

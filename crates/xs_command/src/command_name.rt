@@ -22,6 +22,10 @@ pub(crate) enum CommandName {
     Xclaim,
     Xautoclaim,
     Del,
+    Xinfo,
+    Exists,
+    KeyType,
+    Dbsize,
 }
 
 impl CommandName {
@@ -58,8 +62,10 @@ impl CommandName {
             Some(Self::Xdel)
         } else if word.is(b"xlen") {
             Some(Self::Xlen)
+        } else if word.is(b"xack") {
+            Some(Self::Xack)
         } else {
-            word.is(b"xack").then_some(Self::Xack)
+            word.is(b"type").then_some(Self::KeyType)
         }
     }
 
@@ -71,8 +77,12 @@ impl CommandName {
             Some(Self::Xrange)
         } else if word.is(b"xgroup") {
             Some(Self::Xgroup)
+        } else if word.is(b"xclaim") {
+            Some(Self::Xclaim)
+        } else if word.is(b"exists") {
+            Some(Self::Exists)
         } else {
-            word.is(b"xclaim").then_some(Self::Xclaim)
+            word.is(b"dbsize").then_some(Self::Dbsize)
         }
     }
 
@@ -97,8 +107,10 @@ impl CommandName {
             Some(Self::Xrevrange)
         } else if word.is(b"xpending") {
             Some(Self::Xpending)
+        } else if word.is(b"del") {
+            Some(Self::Del)
         } else {
-            word.is(b"del").then_some(Self::Del)
+            word.is(b"xinfo").then_some(Self::Xinfo)
         }
     }
 
@@ -123,6 +135,10 @@ impl CommandName {
             Self::Xclaim => (6, None),
             Self::Xautoclaim => (6, None),
             Self::Del => (2, None),
+            Self::Xinfo => (2, None),
+            Self::Exists => (2, None),
+            Self::KeyType => (2, Some(2)),
+            Self::Dbsize => (1, Some(1)),
         }
     }
 }

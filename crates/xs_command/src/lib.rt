@@ -4,9 +4,12 @@
 
 pub mod command;
 mod command_name;
+mod dbsize;
 mod del;
 pub mod examples;
+mod exists;
 mod integer;
+mod key_type;
 pub mod operands;
 mod options;
 mod ping;
@@ -21,6 +24,7 @@ mod xautoclaim;
 mod xclaim;
 mod xdel;
 mod xgroup;
+mod xinfo;
 mod xlen;
 mod xpending;
 mod xrange;
@@ -29,7 +33,7 @@ mod xtrim;
 
 pub use command::{
     AddCommand, AutoClaimCommand, ClaimCommand, Command, GroupCreateCommand, GroupStart,
-    PendingRowsCommand, ReadFrom, ReadGroupCommand, ReadOne, ScanCommand,
+    Inspection, PendingRowsCommand, ReadFrom, ReadGroupCommand, ReadOne, ScanCommand,
 };
 pub use operands::Operands;
 pub use read::{read_command, read_request};

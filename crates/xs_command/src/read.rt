@@ -9,8 +9,8 @@ use crate::command_name::{CommandName, allows};
 use crate::refusal::Refusal;
 use crate::words::Words;
 use crate::{
-    del, ping, xack, xadd, xautoclaim, xclaim, xdel, xgroup, xlen, xpending, xrange, xreadgroup,
-    xtrim,
+    dbsize, del, exists, key_type, ping, xack, xadd, xautoclaim, xclaim, xdel, xgroup, xinfo, xlen,
+    xpending, xrange, xreadgroup, xtrim,
 };
 use std::alloc::Global;
 use xs_bytes::Bytes;
@@ -71,5 +71,9 @@ fn read_named(alloc: Global, name: CommandName, words: &Words<'_>) -> Result<Com
         CommandName::Xclaim => xclaim::read(alloc, words),
         CommandName::Xautoclaim => xautoclaim::read(alloc, words),
         CommandName::Del => del::read(alloc, words),
+        CommandName::Xinfo => xinfo::read(alloc, words),
+        CommandName::Exists => exists::read(alloc, words),
+        CommandName::KeyType => key_type::read(alloc, words),
+        CommandName::Dbsize => dbsize::read(words),
     }
 }

@@ -49,6 +49,7 @@ fn reads(command: &Command) -> bool
             | Command::Scan(_)
             | Command::Pending { .. }
             | Command::PendingRows(_)
+            | Command::Inspect(_)
     )
 }
 

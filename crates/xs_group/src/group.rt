@@ -117,6 +117,22 @@ impl Group {
         self.pending.has_consumer(consumer)
     }
 
+    /// How many consumers it has.
+    pub fn count_consumers(&self) -> u64
+        ensures value { result ≡ length self.now.consumers.entries }
+        ensures small { result < 2 ^ 63 }
+    {
+        self.pending.count_consumers() as u64
+    }
+
+    /// How many entries are pending.
+    pub fn count_pending(&self) -> u64
+        ensures value { result ≡ length self.now.rows.entries }
+        ensures small { result < 2 ^ 63 }
+    {
+        self.pending.len() as u64
+    }
+
     /// Takes these ids out of what is pending, and says how many were (XACK). It takes no memory.
     pub fn ack(&mut self, ids: &[Id]) -> u64
         ensures rows { self.new ≡ group_after_ack ids.now self.old }

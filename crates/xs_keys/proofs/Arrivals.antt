@@ -6,7 +6,7 @@ use Rattle.std.proofs.lemmas.List.{append-nil}
 use Rattle.xs_keys.specs.Event.{Event, History}
 use Rattle.xs_keys.specs.Terms.{list_all, option_map, option_map_or, Id, Field, zero_id, is_same_name, Command, Ping}
 use Rattle.xs_keys.specs.Terms.{Quit, Add, Delete, TrimTo, Len, Scan, GroupCreate, GroupDestroy, ConsumerCreate}
-use Rattle.xs_keys.specs.Terms.{ConsumerDelete, ReadGroup, Ack, Pending, PendingRows, Claim, AutoClaim, DropKeys}
+use Rattle.xs_keys.specs.Terms.{ConsumerDelete, ReadGroup, Ack, Pending, PendingRows, Claim, AutoClaim, DropKeys, Inspect}
 use Rattle.xs_keys.specs.Terms.{GroupCreateCommand, GroupStart, Top, At}
 use Rattle.xs_keys.specs.Life.{StreamEvent, add_entry, delete_entries, trim_entries, is_listed, life_or_new}
 use Rattle.xs_keys.specs.Life.{key_life_after, key_life, added_in, top, top_of}
@@ -38,6 +38,7 @@ added-stays now (TrimTo name trim) key life = inl (by (is_same_name key name) li
   by true (Some changes) = append-nil (added_in changes)
   by false life = refl
 added-stays now (Len name) key life = inl refl
+added-stays now (Inspect inspection) key life = inl refl
 added-stays now (Scan scan) key life = inl refl
 added-stays now (GroupCreate create) key life = inl (by (is_same_name key create.key) create.make life) where
   by : (t make : Bool) (life : Option (List StreamEvent)) → option_map_or added_in (cond t (life_or_new make life) life) [] ≡ option_map_or added_in life []
@@ -98,6 +99,7 @@ makes-group now (Add add) key group served stream life e = false≢true (ap is_s
 makes-group now (Delete name ids) key group served stream life e = false≢true (ap is_some e)
 makes-group now (TrimTo name trim) key group served stream life e = false≢true (ap is_some e)
 makes-group now (Len name) key group served stream life e = false≢true (ap is_some e)
+makes-group now (Inspect inspection) key group served stream life e = false≢true (ap is_some e)
 makes-group now (Scan scan) key group served stream life e = false≢true (ap is_some e)
 makes-group now (GroupCreate create) key group served stream life e = by (is_same_name key create.key && is_same_name group create.group) e where
   by : (t : Bool) → cond t (new_life create stream) None ≡ Some life → (t ≡ true) × StartsAt create.start (option_map_or added_in stream []) life.start

@@ -18,7 +18,7 @@ use Rattle.xs_group.specs.Verdict.{AreDistinct, ids_scanned_after}
 use Rattle.xs_group.proofs.CarriedOutClaims.{apart-filter, apart-without_repeats}
 use Rattle.xs_group.proofs.Scanning.{scanned-after}
 use Rattle.xs_keys.specs.Terms.{option_map_or, Id, Ascends, AllAbove}
-use Rattle.xs_keys.specs.Life.{greatest}
+use Rattle.xs_keys.specs.Terms.{greatest}
 use Rattle.xs_keys.specs.GroupAsk.{GroupAsk, read_new, read_own, acknowledge, create_consumer, delete_consumer, claim}
 use Rattle.xs_keys.specs.GroupAsk.{auto_claim, claim_of_ask, scan_end_of_ask, rule_of, new_ids_of_ask}
 use Rattle.xs_keys.specs.GroupEvent.{GroupEvent, delivered_ids, pending_row_at, rows, new_ids_of_event, cursor}

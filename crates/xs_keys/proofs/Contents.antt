@@ -9,7 +9,7 @@ use Rattle.xs_keys.specs.Event.{History}
 use Rattle.xs_keys.specs.Terms.{option_map, option_map_or, option_or, list_all, NameMap, empty, get, has_key, insert}
 use Rattle.xs_keys.specs.Terms.{remove, Id, Ascends, ids_of, GroupState, is_same_name, new_group, Command, Ping, Quit}
 use Rattle.xs_keys.specs.Terms.{Add, Delete, TrimTo, Len, Scan, GroupCreate, GroupDestroy, ConsumerCreate}
-use Rattle.xs_keys.specs.Terms.{ConsumerDelete, ReadGroup, Ack, Pending, PendingRows, Claim, AutoClaim, DropKeys}
+use Rattle.xs_keys.specs.Terms.{ConsumerDelete, ReadGroup, Ack, Pending, PendingRows, Claim, AutoClaim, DropKeys, Inspect}
 use Rattle.xs_keys.specs.Terms.{GroupCreateCommand, ReadGroupCommand, ReadOne}
 use Rattle.xs_keys.specs.Life.{StreamEvent, add_entry, delete_entries, trim_entries, is_listed, life_or_new, key_life}
 use Rattle.xs_keys.specs.GroupAsk.{GroupAsk, create_consumer, delete_consumer, acknowledge, claim, auto_claim}
@@ -378,6 +378,7 @@ content-step past c now (DropKeys names) h = λ q. step-dropped c past h q names
 content-step past c now (Ping message) h = h
 content-step past c now Quit h = h
 content-step past c now (Len name) h = h
+content-step past c now (Inspect inspection) h = h
 content-step past c now (Scan scan) h = h
 content-step past c now (GroupCreate create) h = λ q. step-created c past h q create
 content-step past c now (GroupDestroy name group) h = λ q. step-destroyed c past h q name group

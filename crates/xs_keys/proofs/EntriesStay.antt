@@ -8,7 +8,7 @@ use Rattle.xs_keys.specs.Terms.{list_all, option_map, option_map_or, option_or, 
 use Rattle.xs_keys.specs.Terms.{ids_of}
 use Rattle.xs_keys.specs.Terms.{is_trimmed, is_same_name, Command, Ping, Quit, Add, Delete, TrimTo, Len, Scan}
 use Rattle.xs_keys.specs.Terms.{GroupCreate, GroupDestroy, ConsumerCreate, ConsumerDelete, ReadGroup, Ack, Pending}
-use Rattle.xs_keys.specs.Terms.{PendingRows, Claim, AutoClaim, DropKeys, ReadGroupCommand, ReadOne}
+use Rattle.xs_keys.specs.Terms.{PendingRows, Claim, AutoClaim, DropKeys, Inspect, ReadGroupCommand, ReadOne}
 use Rattle.xs_keys.specs.Life.{StreamEvent, add_entry, delete_entries, trim_entries, is_listed, life_or_new}
 use Rattle.xs_keys.specs.Life.{key_life_after, key_life, entries_added_by, added_in, top, removes_id, is_present}
 use Rattle.xs_keys.specs.Life.{present_entries}
@@ -101,6 +101,7 @@ stays now (TrimTo k trim) key stream x =
     })
     (λ away ids. ap (λ b. (b && is_trimmed trim ids x) || false) away)
 stays now (Len name) key stream x = same (Len name) key (present_in stream) (ids_of (option_map_or added_in stream [])) x refl
+stays now (Inspect inspection) key stream x = same (Inspect inspection) key (present_in stream) (ids_of (option_map_or added_in stream [])) x refl
 stays now (Scan scan) key stream x = same (Scan scan) key (present_in stream) (ids_of (option_map_or added_in stream [])) x refl
 stays now (GroupCreate create) key stream x = by (is_same_name key create.key) create.make stream where
   by : (t make : Bool) (stream : Option (List StreamEvent))
@@ -147,6 +148,7 @@ stays-open now (Add add) key group served stream life = refl
 stays-open now (Delete name ids) key group served stream life = refl
 stays-open now (TrimTo name trim) key group served stream life = refl
 stays-open now (Len name) key group served stream life = refl
+stays-open now (Inspect inspection) key group served stream life = refl
 stays-open now (Scan scan) key group served stream life = refl
 stays-open now (GroupCreate create) key group served stream life = by (is_same_name key create.key && is_same_name group create.group) where
   by : (t : Bool) → is_some (cond t (option_or (Some life) (new_life create stream)) (Some life)) ≡ true
@@ -181,6 +183,7 @@ created now (Add add) key group served stream life e = absurd (false≢true e)
 created now (Delete name ids) key group served stream life e = absurd (false≢true e)
 created now (TrimTo name trim) key group served stream life e = absurd (false≢true e)
 created now (Len name) key group served stream life e = absurd (false≢true e)
+created now (Inspect inspection) key group served stream life e = absurd (false≢true e)
 created now (Scan scan) key group served stream life e = absurd (false≢true e)
 created now (GroupCreate create) key group served stream life e =
     new (is_same_name key create.key && is_same_name group create.group) (first_of (is_same_name key create.key && is_same_name group create.group) (create.make || is_some stream) e) life

@@ -11,7 +11,7 @@ use Rattle.xs_group.specs.GroupState.{first_row, with_rows, group_after_delivery
 use Rattle.xs_group.specs.GroupState.{group_after_reread, new_group, group_after_ack, unless_acked, unless_owned}
 use Rattle.xs_group.specs.GroupState.{without_consumer}
 use Rattle.xs_keys.specs.Terms.{Id, has_id, Ascends, AllAbove, AllUpTo, ClaimRule, row_after_claim, claim_by_ids, scan_of}
-use Rattle.xs_keys.specs.Life.{greatest}
+use Rattle.xs_keys.specs.Terms.{greatest}
 use Rattle.xs_keys.specs.GroupAsk.{GroupAsk, read_new, read_own, acknowledge, create_consumer, delete_consumer, claim}
 use Rattle.xs_keys.specs.GroupAsk.{auto_claim}
 use Rattle.xs_keys.specs.GroupEvent.{GroupEvent, new_ids_of_event, delivered_ids, cursor, is_consumer, rows_among}

@@ -4,7 +4,7 @@ use Rattle.std.proofs.Common.{refl}
 use Rattle.xs_keys.specs.Event.{History}
 use Rattle.xs_keys.specs.Terms.{list_all, Id, Ascends, is_same_name, Command, Ping, Quit, Add, Delete, TrimTo, Len}
 use Rattle.xs_keys.specs.Terms.{Scan, GroupCreate, GroupDestroy, ConsumerCreate, ConsumerDelete, ReadGroup, Ack}
-use Rattle.xs_keys.specs.Terms.{Pending, PendingRows, Claim, AutoClaim, DropKeys, GroupCreateCommand, ReadGroupCommand}
+use Rattle.xs_keys.specs.Terms.{Pending, PendingRows, Claim, AutoClaim, DropKeys, Inspect, GroupCreateCommand, ReadGroupCommand}
 use Rattle.xs_keys.specs.Terms.{ReadOne, option_or}
 use Rattle.xs_keys.specs.Life.{StreamEvent, is_listed, key_life}
 use Rattle.xs_keys.specs.GroupAsk.{GroupAsk, create_consumer, delete_consumer, acknowledge, claim, auto_claim}
@@ -74,6 +74,7 @@ meets-lived now (Add add) key group served stream life h = h
 meets-lived now (Delete name ids) key group served stream life h = h
 meets-lived now (TrimTo name trim) key group served stream life h = h
 meets-lived now (Len name) key group served stream life h = h
+meets-lived now (Inspect inspection) key group served stream life h = h
 meets-lived now (Scan scan) key group served stream life h = h
 meets-lived now (Pending k g) key group served stream life h = h
 meets-lived now (PendingRows p) key group served stream life h = h

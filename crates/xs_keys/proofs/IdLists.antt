@@ -6,7 +6,7 @@ use Rattle.xs_stream.specs.Id.{is_below, is_same_id, has_id}
 use Rattle.xs_stream.proofs.Order.{is_same_id-eq, is_same_id-symm, below-not_same, up_to-below, not_above-trans}
 use Rattle.xs_group.specs.GroupState.{new_ids, last_of}
 use Rattle.xs_keys.specs.Terms.{Id, Ascends, AllAbove, AllUpTo, up_to_limit}
-use Rattle.xs_keys.specs.Life.{greatest}
+use Rattle.xs_keys.specs.Terms.{greatest}
 
 above-filter : (p : Id → Bool) (a : Id) (xs : List Id) → AllAbove a xs → AllAbove a (filter p xs)
 above-filter p a [] h = tt

@@ -11,8 +11,9 @@ use Rattle.xs_keys.specs.Terms.{list_all, option_map, option_or, Id, ids_of, All
 use Rattle.xs_keys.specs.Terms.{is_same_name}
 use Rattle.xs_keys.specs.Terms.{Command, Ping, Quit, Add, Delete, TrimTo, Len, Scan, GroupCreate, GroupDestroy}
 use Rattle.xs_keys.specs.Terms.{ConsumerCreate, ConsumerDelete, ReadGroup, Ack, Pending, PendingRows, Claim, AutoClaim}
-use Rattle.xs_keys.specs.Terms.{DropKeys, GroupCreateCommand, ReadGroupCommand, ReadOne}
+use Rattle.xs_keys.specs.Terms.{DropKeys, Inspect, GroupCreateCommand, ReadGroupCommand, ReadOne}
 use Rattle.xs_keys.specs.Life.{StreamEvent, add_entry, delete_entries, trim_entries, is_listed, life_or_new}
+use Rattle.xs_keys.specs.Terms.{greatest}
 use Rattle.xs_keys.specs.Life.{key_life_after, key_life, greatest, entries_added_by, added_in, top, is_present}
 use Rattle.xs_keys.specs.Life.{present_entries}
 use Rattle.xs_keys.specs.GroupAsk.{GroupAsk, read_new, read_own, create_consumer, delete_consumer, acknowledge, claim}
@@ -198,6 +199,7 @@ sees-lived now (Delete name ids) key group served stream life h =
 sees-lived now (TrimTo name trim) key group served stream life h =
     sees-key (is_same_name key name) (option_map (λ changes. trim_entries trim ∷ changes) stream) stream life (sees-changed (trim_entries trim) stream life h) h
 sees-lived now (Len name) key group served stream life h = h
+sees-lived now (Inspect inspection) key group served stream life h = h
 sees-lived now (Scan scan) key group served stream life h = h
 sees-lived now (GroupCreate create) key group served stream life h =
     sees-either (is_same_name key create.key) (is_same_name group create.group) (life_or_new create.make stream) stream (option_or life (new_life create stream)) life

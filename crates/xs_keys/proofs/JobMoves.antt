@@ -23,7 +23,7 @@ use Rattle.xs_command.specs.declared.command.AutoClaimCommand.{AutoClaimCommand}
 use Rattle.xs_keys.specs.Terms.{AddError, AddId, Field, GroupStart, Top, At, option_map, option_map_or, Id, Trim}
 use Rattle.xs_keys.specs.Terms.{RowState, is_same_name, Command, Ping, Quit, Add, Delete, TrimTo, Len, Scan}
 use Rattle.xs_keys.specs.Terms.{GroupCreate, GroupDestroy, ConsumerCreate, ConsumerDelete, ReadGroup, Ack, Pending}
-use Rattle.xs_keys.specs.Terms.{PendingRows, Claim, AutoClaim, DropKeys, GroupCreateCommand, ReadGroupCommand, ReadOne}
+use Rattle.xs_keys.specs.Terms.{PendingRows, Claim, AutoClaim, DropKeys, Inspect, GroupCreateCommand, ReadGroupCommand, ReadOne}
 use Rattle.xs_keys.specs.Terms.{ReadFrom, New, After}
 use Rattle.xs_keys.specs.Life.{StreamEvent, add_entry, delete_entries, trim_entries, is_listed, life_or_new}
 use Rattle.xs_keys.specs.Life.{key_life_after, key_life, entry_of, entries_added_by, added_in, top, removes_id}
@@ -535,6 +535,7 @@ goes-lived now (TrimTo k trim) key group served stream life x formed sees =
     (λ here past. record { may = λ e. and_from (is_same_name key k) _ here (ap (λ es. is_trimmed trim (ids_of es) x) (sym (append-nil (present_entries past))) ∙ e); must = λ e. absurd (false≢true e); settles_none = λ ids name. refl; comes = λ e. absurd (false≢true e) })
     (λ away. record { no_deletion = refl; no_settling = λ ids name. refl })
 goes-lived now (Len k) key group served stream life x formed sees = same (Len k) key group x (record { no_deletion = refl; no_settling = λ ids name. refl }) (present_in stream) (place_in stream life x)
+goes-lived now (Inspect inspection) key group served stream life x formed sees = same (Inspect inspection) key group x (record { no_deletion = refl; no_settling = λ ids name. refl }) (present_in stream) (place_in stream life x)
 goes-lived now (Scan scan) key group served stream life x formed sees = same (Scan scan) key group x (record { no_deletion = refl; no_settling = λ ids name. refl }) (present_in stream) (place_in stream life x)
 goes-lived now (GroupCreate create) key group served stream None x formed sees = by (is_same_name key create.key && is_same_name group create.group) refl where
   by : (t : Bool) → (is_same_name key create.key && is_same_name group create.group) ≡ t

@@ -42,4 +42,5 @@ pub mod Tellings
 pub mod TimesOfRows
 pub mod Truths
 pub mod WholeReplies
+pub mod Appending
 pub mod InVain

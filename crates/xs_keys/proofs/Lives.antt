@@ -9,7 +9,7 @@ use Rattle.xs_keys.specs.Event.{History}
 use Rattle.xs_command.specs.WellFormed.{IsWellFormed, keys_of}
 use Rattle.xs_keys.specs.Terms.{option_map_or, option_or, Id, is_same_name, new_ids, Command, Ping, Quit, Add, Delete}
 use Rattle.xs_keys.specs.Terms.{TrimTo, Len, Scan, GroupCreate, GroupDestroy, ConsumerCreate, ConsumerDelete, ReadGroup}
-use Rattle.xs_keys.specs.Terms.{Ack, Pending, PendingRows, Claim, AutoClaim, DropKeys, GroupCreateCommand}
+use Rattle.xs_keys.specs.Terms.{Ack, Pending, PendingRows, Claim, AutoClaim, DropKeys, Inspect, GroupCreateCommand}
 use Rattle.xs_keys.specs.Terms.{ReadGroupCommand, ReadOne, ReadFrom, New, After}
 use Rattle.xs_keys.specs.Life.{StreamEvent, is_listed, key_life}
 use Rattle.xs_keys.specs.GroupAsk.{GroupAsk, create_consumer, delete_consumer, acknowledge, claim, auto_claim}
@@ -163,6 +163,7 @@ goes-on past now (Add add) key group formed = stays (group_life past key group)
 goes-on past now (Delete name ids) key group formed = stays (group_life past key group)
 goes-on past now (TrimTo name trim) key group formed = stays (group_life past key group)
 goes-on past now (Len name) key group formed = stays (group_life past key group)
+goes-on past now (Inspect inspection) key group formed = stays (group_life past key group)
 goes-on past now (Scan scan) key group formed = stays (group_life past key group)
 goes-on past now (Pending k g) key group formed = stays (group_life past key group)
 goes-on past now (PendingRows p) key group formed = stays (group_life past key group)

@@ -14,7 +14,7 @@ use Rattle.xs_keys.specs.Terms.{option_map_or, get, has_key, insert, remove, Id,
 use Rattle.xs_keys.specs.Terms.{StreamState, ids_of, GroupState, has_name, new_group, claim_by_ids, scan_of}
 use Rattle.xs_keys.specs.Terms.{owned_count, Reply, Simple, Error, Int, NullBulk, Okay, Busy, NoGroup, Command, Ping}
 use Rattle.xs_keys.specs.Terms.{Quit, Add, Delete, TrimTo, Len, Scan, GroupCreate, GroupDestroy, ConsumerCreate}
-use Rattle.xs_keys.specs.Terms.{ConsumerDelete, ReadGroup, Ack, Pending, PendingRows, Claim, AutoClaim, DropKeys}
+use Rattle.xs_keys.specs.Terms.{ConsumerDelete, ReadGroup, Ack, Pending, PendingRows, Claim, AutoClaim, DropKeys, Inspect}
 use Rattle.xs_keys.specs.Terms.{GroupCreateCommand, ReadGroupCommand}
 use Rattle.xs_keys.specs.Life.{add_entry}
 use Rattle.xs_keys.specs.GroupAsk.{GroupAsk, create_consumer, delete_consumer, claim, auto_claim}
@@ -132,6 +132,7 @@ refused-unchanged content now (Add add) formed = refused-add content now add for
 refused-unchanged content now (Delete name ids) formed = λ e. absurd (false≢true e)
 refused-unchanged content now (TrimTo name trim) formed = λ e. absurd (false≢true e)
 refused-unchanged content now (Len name) formed = λ e. refl
+refused-unchanged content now (Inspect inspection) formed = λ e. refl
 refused-unchanged content now (Scan scan) formed = λ e. refl
 refused-unchanged content now (GroupCreate create) formed = refused-create content now create
 refused-unchanged content now (GroupDestroy name group) formed = refused-destroy content now name group

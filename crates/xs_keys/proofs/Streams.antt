@@ -1,5 +1,5 @@
 -- A stream by looking back, and a stream step by step: they are the same.
-use Rattle.std.proofs.Common.{◌≡◌, Bool, true, false, not, cond, ◌&&◌, List, [], ◌∷◌, ◌++◌, filter, Option, Some, None}
+use Rattle.std.proofs.Common.{◌≡◌, Bool, true, false, not, cond, ◌&&◌, List, [], ◌∷◌, ◌++◌, filter, length, length-append, Option, Some, None}
 use Rattle.std.proofs.Common.{Result, Ok, Err, is_ok, sym, ap, ◌∙◌, refl}
 use Rattle.std.proofs.lemmas.List.{append-nil}
 use Rattle.xs_stream.proofs.Order.{is_same_id-refl, below-irrefl, below-not_same, below-not_back, up_to-below}
@@ -7,9 +7,9 @@ use Rattle.xs_stream.proofs.Order.{not_above-trans}
 use Rattle.xs_stream.proofs.Assigning.{assigned-above}
 use Rattle.xs_stream.proofs.InOrder.{ids_of-append, ascends-push, ascends-filter, up_to-filter, filter-filter}
 use Rattle.xs_keys.specs.Terms.{option_map_or, Id, Field, Trim, AddError, is_below, has_id, zero_id, id_of_addition}
-use Rattle.xs_keys.specs.Terms.{is_trimmed, StreamState, ids_of, Ascends, AllUpTo}
-use Rattle.xs_keys.specs.Life.{StreamEvent, add_entry, delete_entries, trim_entries, greatest, top_of, entry_of}
-use Rattle.xs_keys.specs.Life.{entries_added_by, added_in, top, removes_id, is_present, present_entries, stream_of}
+use Rattle.xs_keys.specs.Terms.{is_trimmed, StreamState, ids_of, Ascends, AllUpTo, greatest}
+use Rattle.xs_keys.specs.Life.{StreamEvent, add_entry, delete_entries, trim_entries, top_of, entry_of}
+use Rattle.xs_keys.specs.Life.{entries_added_by, added_in, top, removes_id, is_present, present_entries, deleted_in, stream_of}
 use Rattle.xs_keys.specs.ContentAfter.{stream_with, stream_after}
 
 pub greatest-append : (a : Id) (xs ys : List Id) → greatest a (xs ++ ys) ≡ greatest (greatest a xs) ys
@@ -60,12 +60,11 @@ up_to-present changes = up_to-filter (λ e. is_present changes e.0) (top changes
 
 -- ---- the step of the top
 
-top-entry : (given : List (Id × List Field)) (r : Result Id AddError) (fields : List Field) (trim : Option Trim) (entries : List (Id × List Field))
-    → ((id : Id) → r ≡ Ok id → is_below (top_of given) id ≡ true)
-    → top_of (given ++ entry_of r fields) ≡ (stream_with r fields trim (record { top = top_of given; entries = entries })).top
-top-entry given (Ok id) fields trim entries above =
-    ap (greatest zero_id) (ids_of-append given ((id, fields) ∷ [])) ∙ greatest-append zero_id (ids_of given) (id ∷ []) ∙ ap (λ b. cond b id (top_of given)) (above id refl)
-top-entry given (Err e) fields trim entries above = ap top_of (append-nil given)
+top-entry : (past : List StreamEvent) (r : Result Id AddError) (fields : List Field) (trim : Option Trim) → ((id : Id) → r ≡ Ok id → is_below (top past) id ≡ true)
+    → top_of (added_in past ++ entry_of r fields) ≡ (stream_with r fields trim (stream_of past)).top
+top-entry past (Ok id) fields trim above =
+    ap (greatest zero_id) (ids_of-append (added_in past) ((id, fields) ∷ [])) ∙ greatest-append zero_id (ids_of (added_in past)) (id ∷ []) ∙ ap (λ b. cond b id (top past)) (above id refl)
+top-entry past (Err e) fields trim above = ap top_of (append-nil (added_in past))
 
 -- ---- the step of what is live
 
@@ -155,13 +154,35 @@ present-after (delete_entries ids) past = rw (append-nil (present_entries past))
 present-after (trim_entries trim) past = rw (append-nil (present_entries past)) refl
 
 top-after : (change : StreamEvent) (past : List StreamEvent) → top (change ∷ past) ≡ (stream_after change (stream_of past)).top
-top-after (add_entry now id fields trim) past = top-entry (added_in past) (id_of_addition now (top past) id) fields trim (present_entries past) (λ x e. assigned-above now (top past) id x e)
+top-after (add_entry now id fields trim) past = top-entry past (id_of_addition now (top past) id) fields trim (λ x e. assigned-above now (top past) id x e)
 top-after (delete_entries ids) past = ap top_of (append-nil (added_in past))
 top-after (trim_entries trim) past = ap top_of (append-nil (added_in past))
+
+-- ---- the steps of the counts
+
+added-entry : (past : List StreamEvent) (r : Result Id AddError) (fields : List Field) (trim : Option Trim) → length (added_in past ++ entry_of r fields) ≡ (stream_with r fields trim (stream_of past)).added
+added-entry past (Ok id) fields trim = length-append (added_in past) ((id, fields) ∷ [])
+added-entry past (Err e) fields trim = ap length (append-nil (added_in past))
+
+added-after : (change : StreamEvent) (past : List StreamEvent) → length (added_in (change ∷ past)) ≡ (stream_after change (stream_of past)).added
+added-after (add_entry now id fields trim) past = added-entry past (id_of_addition now (top past) id) fields trim
+added-after (delete_entries ids) past = ap length (append-nil (added_in past))
+added-after (trim_entries trim) past = ap length (append-nil (added_in past))
+
+deleted-entry : (past : List StreamEvent) (r : Result Id AddError) (fields : List Field) (trim : Option Trim) → greatest zero_id (deleted_in past) ≡ (stream_with r fields trim (stream_of past)).deleted
+deleted-entry past (Ok id) fields trim = refl
+deleted-entry past (Err e) fields trim = refl
+
+deleted-after : (change : StreamEvent) (past : List StreamEvent) → greatest zero_id (deleted_in (change ∷ past)) ≡ (stream_after change (stream_of past)).deleted
+deleted-after (add_entry now id fields trim) past = deleted-entry past (id_of_addition now (top past) id) fields trim
+deleted-after (delete_entries ids) past = greatest-append zero_id (deleted_in past) (filter (has_id ids) (ids_of (present_entries past)))
+deleted-after (trim_entries trim) past = refl
 
 -- the stream after one more change is what the change makes of the stream
 pub stream-step : (change : StreamEvent) (past : List StreamEvent) → stream_of (change ∷ past) ≡ stream_after change (stream_of past)
 stream-step change past =
     let t = top-after change past in
     let l = present-step change past ∙ present-after change past in
-    λ i. record { top = t i; entries = l i }
+    let n = added-after change past in
+    let d = deleted-after change past in
+    λ i. record { top = t i; entries = l i; added = n i; deleted = d i }

@@ -25,7 +25,7 @@ use Rattle.xs_keys.specs.Terms.{option_map, option_map_or, get, Id, Field, AddEr
 use Rattle.xs_keys.specs.Terms.{fields_at, is_trimmed, up_to_limit, Reply, NullBulk, NullArray, Error, Int, NoGroup}
 use Rattle.xs_keys.specs.Terms.{Command, Ping, Quit, Add, Delete, TrimTo, Len, Scan, GroupCreate, GroupDestroy}
 use Rattle.xs_keys.specs.Terms.{ConsumerCreate, ConsumerDelete, ReadGroup, Ack, Pending, PendingRows, Claim, AutoClaim}
-use Rattle.xs_keys.specs.Terms.{DropKeys, ReadGroupCommand, ReadOne, ReadFrom, New, After}
+use Rattle.xs_keys.specs.Terms.{DropKeys, Inspect, ReadGroupCommand, ReadOne, ReadFrom, New, After}
 use Rattle.xs_keys.specs.Life.{StreamEvent, add_entry, delete_entries, trim_entries, life_or_new, key_life, entry_of}
 use Rattle.xs_keys.specs.Life.{added_in, top_of, present_entries, is_present, stream_of}
 use Rattle.xs_keys.specs.GroupEvent.{delivered_ids, cursor, pending_row_at, rows}
@@ -492,3 +492,4 @@ is-told past c now (PendingRows after_ask) is formed = (
   λ gone. rw (missing c past after_ask.key after_ask.group is gone) refl,
 )
 is-told past c now (DropKeys keys) is formed = tt
+is-told past c now (Inspect inspection) is formed = (c, is, refl)

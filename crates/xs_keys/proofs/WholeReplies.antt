@@ -1,5 +1,6 @@
 -- The replies to commands are whole: no array says that it has more or fewer items than it has.
-use Rattle.std.proofs.Common.{ℕ, decimal, Bool, true, false, List, [], ◌∷◌, map, Option, Some, None}
+use Rattle.std.proofs.Common.{ℕ, decimal, Bool, true, false, List, [], ◌∷◌, ◌++◌, map, Option, Some, None}
+use Rattle.xs_stream.specs.StreamContent.{StreamState}
 use Rattle.xs_resp.specs.WholeReplies.{IsWholeReply, AreWhole}
 use Rattle.xs_resp.proofs.Wholeness.{items-whole, all-whole, whole-append}
 use Rattle.xs_keys.specs.Terms.{GroupState, option_map_or, get, OwnerCount, GroupSummary, PendingRow, ReadGroupCommand}
@@ -10,6 +11,7 @@ use Rattle.xs_keys.specs.Content.{Content}
 use Rattle.xs_keys.specs.ContentAfter.{after_ask, group_in, entries_in}
 use Rattle.xs_keys.specs.ReplyParts.{array, array_or_null, id_reply, field_replies, entry_reply, present_reply}
 use Rattle.xs_keys.specs.ReplyParts.{entries_reply, stream_part, new_part, owner_reply, row_reply, taken_reply}
+use Rattle.xs_keys.specs.Inspecting.{members_part, progress_part, group_reply, end_reply, size_part, past_part, ends_part}
 use Rattle.xs_keys.specs.Reply.{parts_of_read, parts}
 
 fields-whole : (fields : List Field) → AreWhole (flat_map field_replies fields)
@@ -78,3 +80,18 @@ module _ (summary : GroupSummary) where
   pub summary-whole : (owners : List OwnerCount)
       → AreWhole (Int summary.total ∷ option_map_or id_reply summary.least NullBulk ∷ option_map_or id_reply summary.greatest NullBulk ∷ array_or_null (map owner_reply owners) ∷ [])
   summary-whole owners = (tt, (id-or-null summary.least, (id-or-null summary.greatest, (owners-whole owners, tt))))
+
+-- XINFO GROUPS
+pub group-whole : (present : List Id) (group : List ℕ × GroupState) → IsWholeReply (group_reply present group)
+group-whole present group =
+    items-whole (members_part group ++ progress_part present group.1.cursor) (tt, (tt, (tt, (tt, (tt, (tt, (tt, (tt, (tt, (tt, (tt, (tt, tt))))))))))))
+
+end-whole : (entries : List (Id × List Field)) → IsWholeReply (end_reply entries)
+end-whole [] = tt
+end-whole (e ∷ es) = present-whole e
+
+-- XINFO STREAM
+pub stream-whole : (entries : List (Id × List Field)) (stream : StreamState) (id : Id) (groups : ℕ) (first last : List (Id × List Field))
+    → AreWhole (size_part entries ++ (past_part stream id ++ ends_part groups first last))
+stream-whole entries stream id groups first last =
+    (tt, (tt, (tt, (tt, (tt, (tt, (tt, (tt, (tt, (tt, (tt, (tt, (tt, (tt, (tt, (tt, (tt, (end-whole first, (tt, (end-whole last, tt))))))))))))))))))))

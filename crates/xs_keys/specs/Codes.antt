@@ -18,8 +18,10 @@ coded_field =
 
 abbrev pub coded_kept : Coded StreamState
 coded_kept =
-    code_by (Id × List (Id × List Field)) (coded× coded_id (coded_list (coded× coded_id (coded_list coded_field))))
-    (λ k. (k.top, k.entries)) (λ p. record { top = p.0; entries = p.1 }) (λ _. refl)
+    code_by ((Id × List (Id × List Field)) × (ℕ × Id))
+    (coded× (coded× coded_id (coded_list (coded× coded_id (coded_list coded_field)))) (coded× coded_ℕ coded_id))
+    (λ k. ((k.top, k.entries), (k.added, k.deleted)))
+    (λ p. record { top = p.0.0; entries = p.0.1; added = p.1.0; deleted = p.1.1 }) (λ _. refl)
 
 abbrev pub coded_key : Coded KeyState
 coded_key =
@@ -32,7 +34,8 @@ coded_content = coded_map (coded_list coded_ℕ) coded_key
 abbrev pub coded_stream : Coded StreamInMemory
 coded_stream =
     code_by (StreamState × ℕ) (coded× coded_kept coded_ℕ) (λ s. (state_of s, s.room))
-    (λ p. record { top = p.0.top; entries = p.0.entries; room = p.1 }) (λ _. refl)
+    (λ p. record { top = p.0.top; entries = p.0.entries; added = p.0.added; deleted = p.0.deleted; room = p.1 })
+    (λ _. refl)
 
 abbrev pub coded_key_in_memory : Coded KeyInMemory
 coded_key_in_memory =

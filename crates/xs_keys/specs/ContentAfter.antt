@@ -4,7 +4,7 @@ use Rattle.std.specs.Prelude.{is_some, if◌then◌else◌}
 use Rattle.xs_keys.specs.Terms.{list_all, option_or, option_map_or, get, Id, StreamState, ids_of, GroupState, Command}
 use Rattle.xs_keys.specs.Terms.{empty}
 use Rattle.xs_keys.specs.Terms.{has_key, insert, remove, Field, Trim, AddError, zero_id, id_of_addition}
-use Rattle.xs_keys.specs.Terms.{entries_after_trim, without}
+use Rattle.xs_keys.specs.Terms.{entries_after_trim, new_stream, with_entry, with_deleted}
 use Rattle.xs_keys.specs.Terms.{with_consumer, group_after_delivery, group_after_reread, claim_by_ids, scan_of}
 use Rattle.xs_keys.specs.Terms.{group_after_claim, new_group, group_after_ack}
 use Rattle.xs_keys.specs.Terms.{without_consumer, Add, Delete, TrimTo, GroupCreate, GroupDestroy, ConsumerCreate}
@@ -19,7 +19,7 @@ use Rattle.xs_keys.specs.Content.{KeyState, Content}
 
 -- a new key has an empty stream, and no groups
 abbrev pub new_key : KeyState
-new_key = record { stream = record { top = zero_id; entries = [] }; groups = empty }
+new_key = record { stream = new_stream; groups = empty }
 
 -- the key, or a new one if it is missing and may be made
 abbrev pub key_or_new : Bool → Option KeyState → Option KeyState
@@ -28,14 +28,14 @@ key_or_new make key = option_or key (if make then Some new_key else None)
 -- an entry is added first, and then the stream is trimmed; a refused addition changes nothing
 abbrev pub stream_with : Result Id AddError → List Field → Option Trim → StreamState → StreamState
 stream_with (Ok id) fields trim stream =
-    let entries = stream.entries ++ (id, fields) ∷ [] in
-    record { top = id; entries = option_map_or (λ t. entries_after_trim t entries) trim entries }
+    let longer = with_entry id fields stream in
+    record longer { entries = option_map_or (λ t. entries_after_trim t longer.entries) trim longer.entries }
 stream_with (Err refusal) fields trim stream = stream
 
 -- a stream after an event
 abbrev pub stream_after : StreamEvent → StreamState → StreamState
 stream_after (add_entry now id fields trim) stream = stream_with (id_of_addition now stream.top id) fields trim stream
-stream_after (delete_entries ids) stream = record stream { entries = without ids stream.entries }
+stream_after (delete_entries ids) stream = with_deleted ids stream
 stream_after (trim_entries trim) stream = record stream { entries = entries_after_trim trim stream.entries }
 
 abbrev pub key_after : StreamEvent → KeyState → KeyState

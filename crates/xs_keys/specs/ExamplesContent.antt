@@ -22,13 +22,18 @@ changes = add_entry 5 (add.Exact (at 2 0)) (field (codes "f") (codes "v") ∷ []
 abbrev pub key : Id → KeyState
 key top =
     record {
-      stream = record { top = top; entries = (at 2 0, field (codes "f") (codes "v") ∷ []) ∷ [] };
+      stream = record {
+        top = top;
+        entries = (at 2 0, field (codes "f") (codes "v") ∷ []) ∷ [];
+        added = 1;
+        deleted = at 0 0;
+      };
       groups = empty;
     }
 
 -- a key without an entry
 abbrev pub empty_key : KeyState
-empty_key = record { stream = record { top = at 2 0; entries = [] }; groups = empty }
+empty_key = record { stream = record { top = at 2 0; entries = []; added = 1; deleted = at 0 0 }; groups = empty }
 
 abbrev pub no_group : List ℕ → Option GroupLife
 no_group name = None

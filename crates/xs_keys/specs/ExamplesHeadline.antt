@@ -78,7 +78,7 @@ addition =
     }
 
 abbrev pub stream : StreamState
-stream = record { top = at 1 0; entries = [] }
+stream = record { top = at 1 0; entries = []; added = 1; deleted = at 1 0 }
 
 abbrev pub creation : GroupCreateCommand
 creation = record { key = codes "s"; group = codes "g"; start = At (at 1 0); make = false }
@@ -86,7 +86,12 @@ creation = record { key = codes "s"; group = codes "g"; start = At (at 1 0); mak
 pub record Endings : Type 0 where
   pub added :
       Adds stream 5 addition (id 2 0)
-      (record { top = at 2 0; entries = (at 2 0, field (codes "f") (codes "v") ∷ []) ∷ [] })
+      (record {
+        top = at 2 0;
+        entries = (at 2 0, field (codes "f") (codes "v") ∷ []) ∷ [];
+        added = 2;
+        deleted = at 1 0;
+      })
   pub out_of_memory : Adds stream 5 addition (Error Memory) stream
   pub created :
       Creates creation (at 3 0) empty (Simple Okay) (insert empty (codes "g") (new_group (at 1 0)))

@@ -2,7 +2,7 @@
 use Rattle.std.specs.Prelude.{ℕ, Bool, false, not, List, [], Option, None, true, ◌&&◌, ◌∷◌, ◌++◌, if◌then◌else◌}
 use Rattle.xs_group.specs.declared.claims.Claim.{Claim}
 use Rattle.xs_keys.specs.Terms.{Id, RowState, with_some, is_below}
-use Rattle.xs_keys.specs.Life.{greatest}
+use Rattle.xs_keys.specs.Terms.{greatest}
 use Rattle.xs_keys.specs.Event.{Bytes, PendingEntries}
 use Rattle.xs_keys.specs.GroupAsk.{GroupAsk, new_ids_of_ask, claim_of_ask, scan_end_of_ask, adds_consumer}
 use Rattle.xs_keys.specs.GroupAsk.{deletes_consumer}

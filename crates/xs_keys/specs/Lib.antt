@@ -13,6 +13,7 @@ pub mod ConsistentContent
 pub mod ContentAfter
 pub mod KeysRoom
 pub mod ReplyParts
+pub mod Inspecting
 pub mod Reply
 pub mod Step
 pub mod Waiting

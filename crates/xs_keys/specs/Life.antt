@@ -1,9 +1,9 @@
 -- The lives of keys, and the stream of a life by looking back. A list of past events has the newest first.
 use Rattle.std.specs.Prelude.{ℕ, Bool, List, [], ◌∷◌, Option, Some, None, if◌then◌else◌, true, false, ◌&&◌, ◌++◌}
-use Rattle.std.specs.Prelude.{filter, Result, Ok, Err, is_ok}
+use Rattle.std.specs.Prelude.{filter, length, Result, Ok, Err, is_ok}
 use Rattle.xs_keys.specs.Terms.{option_map, option_map_or, option_or, list_any, Id, AddId, Trim, Field, is_same_name}
 use Rattle.xs_keys.specs.Terms.{Command, Add, Delete, TrimTo, GroupCreate, DropKeys, AddError, is_below, has_id}
-use Rattle.xs_keys.specs.Terms.{zero_id, is_trimmed, id_of_addition, StreamState, ids_of}
+use Rattle.xs_keys.specs.Terms.{zero_id, is_trimmed, id_of_addition, StreamState, ids_of, greatest}
 use Rattle.xs_keys.specs.Event.{Bytes, History, Entries, event_moment, event_command}
 
 -- the name is one of these; names of keys, groups and consumers are lists of bytes
@@ -42,11 +42,6 @@ key_life_after now _ key life = life
 abbrev pub key_life : History → Bytes → Option KeyLife
 key_life [] key = None
 key_life (e ∷ past) key = key_life_after (event_moment e) (event_command e) key (key_life past key)
-
--- the greatest of an id and of these
-abbrev pub greatest : Id → List Id → Id
-greatest a [] = a
-greatest a (x ∷ xs) = greatest (if is_below a x then x else a) xs
 
 -- the greatest id of these entries, or 0-0
 abbrev pub top_of : Entries → Id
@@ -91,9 +86,20 @@ is_present (event ∷ past) x =
 abbrev pub present_entries : KeyLife → Entries
 present_entries past = filter (λ e. is_present past e.0) (added_in past)
 
--- the stream: its top and the entries in it
+-- the ids of all entries that deletions have removed, in the order of the events
+abbrev pub deleted_in : KeyLife → List Id
+deleted_in [] = []
+deleted_in (delete_entries ids ∷ past) = deleted_in past ++ filter (has_id ids) (ids_of (present_entries past))
+deleted_in (event ∷ past) = deleted_in past
+
+-- the stream: its top, the entries in it, how many were ever added, and the greatest id ever deleted, or 0-0
 abbrev pub stream_of : KeyLife → StreamState
-stream_of past = record { top = top past; entries = present_entries past }
+stream_of past = record {
+  top = top past;
+  entries = present_entries past;
+  added = length (added_in past);
+  deleted = greatest zero_id (deleted_in past);
+}
 
 -- all entries that were ever added in the open life of a key, with the fields that they were added with
 abbrev pub added_at : History → Bytes → Entries

@@ -8,8 +8,9 @@ use Rattle.xs_stream.specs.StreamContent.{is_within}
 use Rattle.xs_group.specs.declared.claims.Scan.{Scan}
 use Rattle.xs_group.specs.declared.claims.Claim as claims
 use Rattle.xs_command.specs.declared.command.PendingRowsCommand.{PendingRowsCommand}
+use Rattle.xs_command.specs.declared.command.Inspection.{Inspection}
 use Rattle.xs_keys.specs.Terms.{option_map_or, Id, Field, Command, Add, Delete, TrimTo, Len, ReadGroup, Ack, Pending}
-use Rattle.xs_keys.specs.Terms.{PendingRows, Claim, AutoClaim, Reply, Error, NoGroup, Int, Bulk, NullBulk, zero_id}
+use Rattle.xs_keys.specs.Terms.{PendingRows, Claim, AutoClaim, Inspect, Reply, Error, NoGroup, Int, Bulk, NullBulk, zero_id}
 use Rattle.xs_keys.specs.Terms.{has_id}
 use Rattle.xs_keys.specs.Life.{key_life, added_at}
 use Rattle.xs_keys.specs.GroupAsk.{GroupAsk, claim, auto_claim, no_claim}
@@ -17,6 +18,8 @@ use Rattle.xs_keys.specs.GroupEvent.{GroupEvent, claim_of_event, scan_end_of_eve
 use Rattle.xs_keys.specs.Owner.{owner}
 use Rattle.xs_keys.specs.TimesAndCounts.{time_of, count_of}
 use Rattle.xs_keys.specs.GroupLife.{GroupLife, group_life, present_in, has_all_groups}
+use Rattle.xs_keys.specs.Content.{Content, IsContent}
+use Rattle.xs_keys.specs.Inspecting.{inspection_reply}
 use Rattle.xs_keys.specs.ReplyParts.{array, array_or_null, id_reply}
 use Rattle.xs_keys.specs.Telling.{TellsEntry, TellsEach, AreFirst}
 use Rattle.xs_keys.specs.Step.{is_error}
@@ -90,6 +93,10 @@ TellsRows asked now life answer =
 abbrev pub IfThere : Bool → Reply → Type 0 → Type 0
 IfThere there answer Told = (there ≡ true → Told) × (there ≡ false → answer ≡ Error NoGroup)
 
+-- what is told of the content that the past leaves
+abbrev pub TellsContent : History → Inspection → Reply → Type 0
+TellsContent past inspection answer = (content : Content) × IsContent content past × (answer ≡ inspection_reply content inspection)
+
 -- the answer to a command, after this past, tells what it did; of ranges, groups, DEL, PING and QUIT nothing is told
 -- beyond the model's reply
 abbrev pub IsTold : History → ℕ → Command → Reply → Type 0
@@ -123,4 +130,5 @@ IsTold past now (AutoClaim c) answer =
     × TellsTaken c.rule.just_id (added_at past c.key) found.claim.take told
     × IsAssigned c.consumer found.claim (group_life past c.key c.group)
     (group_life ((now, AutoClaim c) ∷ past) c.key c.group))
+IsTold past now (Inspect inspection) answer = TellsContent past inspection answer
 IsTold past now _ answer = Unit {0}

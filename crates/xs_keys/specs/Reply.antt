@@ -4,7 +4,7 @@ use Rattle.xs_keys.specs.Terms.{option_map_or, get, has_key, remove, id_of_addit
 use Rattle.xs_keys.specs.Terms.{NoGroup}
 use Rattle.xs_keys.specs.Terms.{Busy, Reply, Simple, Error, Int, Bulk, NullBulk, Okay, Pong, Command, Ping, Quit, Add}
 use Rattle.xs_keys.specs.Terms.{Delete, TrimTo, Len, Scan, GroupCreate, GroupDestroy, ConsumerCreate, ConsumerDelete}
-use Rattle.xs_keys.specs.Terms.{ReadGroup, Ack, Pending, PendingRows, Claim, AutoClaim, DropKeys, ReadGroupCommand}
+use Rattle.xs_keys.specs.Terms.{ReadGroup, Ack, Pending, PendingRows, Claim, AutoClaim, DropKeys, Inspect, ReadGroupCommand}
 use Rattle.xs_keys.specs.Terms.{ReadOne, ReadFrom, New, After, GroupState, has_name, new_ids, reread_ids, claim_by_ids}
 use Rattle.xs_keys.specs.Terms.{scan_of}
 use Rattle.xs_keys.specs.Terms.{group_after_ack, owned_count, summary_of, pending_of}
@@ -15,6 +15,7 @@ use Rattle.xs_keys.specs.ContentAfter.{stream_after, key_or_new, after_ask, has_
 use Rattle.xs_keys.specs.ContentAfter.{entries_in}
 use Rattle.xs_keys.specs.Event.{Bytes, Entries}
 use Rattle.xs_keys.specs.ReplyParts.{array, array_or_null, entries_reply, assigned_reply, reply_of_group, reply_of_key}
+use Rattle.xs_keys.specs.Inspecting.{inspection_reply}
 use Rattle.xs_keys.specs.ReplyParts.{stream_part}
 use Rattle.xs_keys.specs.ReplyParts.{new_part, summary_reply, row_reply, taken_reply, scan_reply}
 
@@ -57,6 +58,7 @@ reply content now (Scan scan) =
     let entries = entries_in (get content scan.key) in
     entries_reply entries (up_to_limit scan.limit (ids_within scan.range scan.reversed entries))
 reply content now (DropKeys names) = Int (existing_count names content)
+reply content now (Inspect inspection) = inspection_reply content inspection
 reply content now (GroupCreate create) =
     reply_of_key (key_or_new create.make (get content create.key))
     (λ k. if has_key k.groups create.group then Error Busy else Simple Okay)

@@ -11,7 +11,7 @@ pub use Rattle.xs_stream.specs.declared.add.AddError.{AddError}
 pub use Rattle.xs_stream.specs.Id.{is_below, has_id, zero_id, id_text, id_of_addition}
 pub use Rattle.xs_stream.specs.StreamContent.{StreamState}
 pub use Rattle.xs_stream.specs.StreamContent.{ids_of, is_trimmed, entries_after_trim, without, fields_at, ids_within}
-pub use Rattle.xs_stream.specs.StreamContent.{up_to_limit}
+pub use Rattle.xs_stream.specs.StreamContent.{up_to_limit, greatest, new_stream, with_entry, with_deleted}
 pub use Rattle.xs_stream.specs.StreamContent.{Ascends, AllUpTo, AllAbove}
 pub use Rattle.xs_group.specs.GroupState.{is_same_name, RowState, GroupState, has_name, new_group, with_consumer}
 pub use Rattle.xs_group.specs.GroupState.{unless_acked, group_after_ack}
@@ -29,7 +29,7 @@ pub use Rattle.xs_command.specs.declared.command.Command.{Command}
 pub use Rattle.xs_command.specs.declared.command.Command.TheVariants.{Ping, Quit, Add, Delete, TrimTo, Len, Scan}
 pub use Rattle.xs_command.specs.declared.command.Command.TheVariants.{GroupCreate, GroupDestroy, ConsumerCreate}
 pub use Rattle.xs_command.specs.declared.command.Command.TheVariants.{ConsumerDelete, ReadGroup, Ack, Pending}
-pub use Rattle.xs_command.specs.declared.command.Command.TheVariants.{PendingRows, Claim, AutoClaim, DropKeys}
+pub use Rattle.xs_command.specs.declared.command.Command.TheVariants.{PendingRows, Claim, AutoClaim, DropKeys, Inspect}
 pub use Rattle.xs_command.specs.declared.command.GroupStart.{GroupStart}
 pub use Rattle.xs_command.specs.declared.command.GroupStart.TheVariants.{Top, At}
 pub use Rattle.xs_command.specs.declared.command.GroupCreateCommand.{GroupCreateCommand}
@@ -41,5 +41,5 @@ pub use Rattle.xs_resp.specs.declared.reply.Reply.{Reply}
 pub use Rattle.xs_resp.specs.declared.reply.Reply.TheVariants.{Simple, Error, Int, Bulk, NullBulk, Array, NullArray}
 pub use Rattle.xs_resp.specs.declared.reply.Simple.TheVariants.{Okay, Pong}
 pub use Rattle.xs_resp.specs.declared.fault.Fault.{Fault}
-pub use Rattle.xs_resp.specs.declared.fault.Fault.TheVariants.{SmallId, Exhausted, Memory, NoKey, Busy, NoGroup}
+pub use Rattle.xs_resp.specs.declared.fault.Fault.TheVariants.{SmallId, Exhausted, Memory, NoKey, MissingKey, Busy, NoGroup}
 pub use Rattle.xs_resp.specs.ReplyItems.{items_of}

@@ -8,8 +8,8 @@ ghost use Rattle.xs_keys.specs.Step.{Step};
 use crate::keys::Keys;
 use crate::reserve::Reserve;
 use crate::{
-    del, in_vain, ping, xack, xadd, xautoclaim, xclaim, xdel, xgroup, xlen, xpending, xrange,
-    xreadgroup, xtrim,
+    del, in_vain, inspect, ping, xack, xadd, xautoclaim, xclaim, xdel, xgroup, xlen, xpending,
+    xrange, xreadgroup, xtrim,
 };
 use std::alloc::{AllocError, Global};
 use std::marker::Model;
@@ -176,5 +176,6 @@ fn apply_to(
         Command::Claim(command) => xclaim::claim(keys, alloc, now, command),
         Command::AutoClaim(command) => xautoclaim::claim(keys, alloc, now, command),
         Command::DropKeys { keys: names } => del::delete(keys, names),
+        Command::Inspect(inspection) => inspect::inspect(keys, alloc, inspection),
     }
 }

@@ -186,6 +186,7 @@ reads-nothing content now (command.Len k) e = refl
 reads-nothing content now (command.Scan s) e = refl
 reads-nothing content now (command.Pending k g) e = refl
 reads-nothing content now (command.PendingRows p) e = refl
+reads-nothing content now (command.Inspect i) e = refl
 reads-nothing content now (command.Add a) e = absurd (cc (e))
 reads-nothing content now (command.Delete k i) e = absurd (cc (e))
 reads-nothing content now (command.TrimTo k t) e = absurd (cc (e))

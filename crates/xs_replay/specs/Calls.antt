@@ -6,6 +6,7 @@ use Rattle.std.specs.List.{flat_map}
 use Rattle.xs_resp.specs.declared.reply.Reply.{Reply}
 use Rattle.xs_command.specs.declared.command.Command.{Command}
 use Rattle.xs_command.specs.declared.command.Command.TheVariants.{Ping, Quit, Len, Scan, Pending, PendingRows}
+use Rattle.xs_command.specs.declared.command.Command.TheVariants.{Inspect}
 use Rattle.xs_command.specs.WellFormed.{IsWellFormed}
 use Rattle.xs_keys.specs.Event.{Event, event_moment, event_command}
 use Rattle.xs_keys.specs.Content.{Content}
@@ -75,6 +76,7 @@ only_reads (Len key) = true
 only_reads (Scan scan) = true
 only_reads (Pending key group) = true
 only_reads (PendingRows pending) = true
+only_reads (Inspect inspection) = true
 only_reads _ = false
 
 -- what a log leaves out: a command that only reads, and one that was refused

@@ -3,9 +3,9 @@
 use Rattle.std.specs.Prelude.{◌≡◌, ℕ, ◌==◌, List, [], ◌∷◌, codes, if◌then◌else◌}
 use Rattle.std.specs.List.{flat_map}
 use Rattle.xs_resp.specs.declared.fault.Fault.TheVariants.{UnknownCommand, Arity, Syntax, BadId, NotInteger, ZeroId}
-use Rattle.xs_resp.specs.declared.fault.Fault.TheVariants.{SmallId, Exhausted, NoKey, Busy, NoGroup, Unsupported}
-use Rattle.xs_resp.specs.declared.fault.Fault.TheVariants.{Memory, Protocol}
-use Rattle.xs_resp.specs.declared.reply.Simple.TheVariants.{Okay, Pong}
+use Rattle.xs_resp.specs.declared.fault.Fault.TheVariants.{SmallId, Exhausted, NoKey, MissingKey, Busy, NoGroup}
+use Rattle.xs_resp.specs.declared.fault.Fault.TheVariants.{Unsupported, Memory, Protocol}
+use Rattle.xs_resp.specs.declared.reply.Simple.TheVariants.{Okay, Pong, Stream, Nothing}
 use Rattle.xs_resp.specs.declared.reply.Reply.{Reply}
 use Rattle.xs_resp.specs.declared.reply.Reply.TheVariants.{Simple, Error, Int, Bulk, NullBulk, Array, NullArray}
 use Rattle.xs_resp.specs.ReplyItems.{items_of}
@@ -23,6 +23,8 @@ array replies = Array (items_of replies)
 pub record Replies : Type 0 where
   pub okay : text (Simple Okay) ≡ wire (codes "+OK^")
   pub pong : text (Simple Pong) ≡ wire (codes "+PONG^")
+  pub stream : text (Simple Stream) ≡ wire (codes "+stream^")
+  pub nothing : text (Simple Nothing) ≡ wire (codes "+none^")
   pub an_error : text (Error Syntax) ≡ wire (codes "-ERR syntax error^")
   pub zero : text (Int 0) ≡ wire (codes ":0^")
   pub a_number : text (Int 1000) ≡ wire (codes ":1000^")
@@ -53,6 +55,7 @@ pub record FaultTexts : Type 0 where
   pub exhausted : text (Error Exhausted)
       ≡ wire (codes "-ERR The stream has exhausted the last possible ID, unable to add more items^")
   pub no_key : text (Error NoKey) ≡ wire (codes "-ERR The XGROUP subcommand requires the key to exist^")
+  pub missing_key : text (Error MissingKey) ≡ wire (codes "-ERR no such key^")
   pub busy : text (Error Busy) ≡ wire (codes "-BUSYGROUP Consumer Group name already exists^")
   pub no_group : text (Error NoGroup) ≡ wire (codes "-NOGROUP No such key or consumer group^")
   pub unsupported : text (Error Unsupported) ≡ wire (codes "-ERR not supported by this server^")

@@ -3,7 +3,7 @@ use Rattle.std.specs.Prelude.{◌≡◌, ℕ, ⊤, List, ◌∷◌, ◌++◌, le
 use Rattle.std.specs.declared.alloc.AllocError.{AllocError}
 use Rattle.std.specs.List.{flat_map}
 use Rattle.xs_resp.specs.declared.reply.Simple as simple
-use Rattle.xs_resp.specs.declared.reply.Simple.TheVariants.{Okay, Pong}
+use Rattle.xs_resp.specs.declared.reply.Simple.TheVariants.{Okay, Pong, Stream, Nothing}
 use Rattle.xs_resp.specs.declared.reply.Reply.{Reply}
 use Rattle.xs_resp.specs.FaultText.{fault_text}
 use Rattle.xs_resp.specs.Line.{crlf, line}
@@ -14,6 +14,8 @@ use Rattle.xs_resp.specs.ReplyItems.{tokens_of}
 abbrev pub simple_text : simple.Simple → List ℕ
 simple_text Okay = codes "OK"
 simple_text Pong = codes "PONG"
+simple_text Stream = codes "stream"
+simple_text Nothing = codes "none"
 
 -- the text of one token: the markers are + - : $ *
 abbrev pub token_text : Token → List ℕ

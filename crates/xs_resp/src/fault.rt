@@ -25,6 +25,8 @@ pub enum Fault {
     Exhausted,
     /// XGROUP on a key that doesn't exist.
     NoKey,
+    /// XINFO of a key that doesn't exist.
+    MissingKey,
     /// XGROUP CREATE with a name that is taken.
     Busy,
     /// No such key, or no such group.
@@ -58,6 +60,7 @@ impl Fault {
             Self::Exhausted =>
                 "ERR The stream has exhausted the last possible ID, unable to add more items",
             Self::NoKey => "ERR The XGROUP subcommand requires the key to exist",
+            Self::MissingKey => "ERR no such key",
             Self::Busy => "BUSYGROUP Consumer Group name already exists",
             Self::NoGroup => "NOGROUP No such key or consumer group",
             Self::Unsupported => "ERR not supported by this server",

@@ -13,6 +13,10 @@ pub enum Simple {
     Okay,
     /// `PONG`
     Pong,
+    /// `stream`, the type of a key that is there.
+    Stream,
+    /// `none`, the type of one that isn't.
+    Nothing,
 }
 
 /// The reply to a request.

@@ -143,6 +143,8 @@ fn write_simple(simple: Simple, out: &mut Vec<u8>) -> Result<(), AllocError>
     match simple {
         Simple::Okay => out.extend_from_slice(b"+OK\r\n"),
         Simple::Pong => out.extend_from_slice(b"+PONG\r\n"),
+        Simple::Stream => out.extend_from_slice(b"+stream\r\n"),
+        Simple::Nothing => out.extend_from_slice(b"+none\r\n"),
     }
 }
 

@@ -6,6 +6,7 @@ use Rattle.xs_resp.specs.declared.reply.Reply.{Reply}
 use Rattle.xs_resp.specs.declared.reply.Reply.TheVariants.{Error}
 use Rattle.xs_command.specs.declared.command.Command.{Command}
 use Rattle.xs_command.specs.declared.command.Command.TheVariants.{Quit, Scan, ReadGroup, PendingRows, Claim, AutoClaim}
+use Rattle.xs_command.specs.declared.command.Command.TheVariants.{Inspect}
 use Rattle.xs_command.specs.Read.{command_of_words}
 use Rattle.xs_resp.specs.declared.fault.Fault.{Fault}
 
@@ -47,6 +48,7 @@ is_alone (ReadGroup _) = true
 is_alone (PendingRows _) = true
 is_alone (Claim _) = true
 is_alone (AutoClaim _) = true
+is_alone (Inspect _) = true
 is_alone _ = false
 
 -- none of these is asked alone

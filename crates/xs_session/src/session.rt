@@ -84,6 +84,7 @@ fn is_alone(command: &Command) -> bool
             | Command::PendingRows(_)
             | Command::Claim(_)
             | Command::AutoClaim(_)
+            | Command::Inspect(_)
     )
 }
 

@@ -19,7 +19,7 @@ use Rattle.xs_stream.specs.declared.id.Id.{Id}
 use Rattle.xs_stream.specs.declared.field.Field.{Field}
 use Rattle.xs_stream.specs.declared.trim.Trim.TheVariants.{MaxLen, MinId}
 use Rattle.xs_stream.specs.Id.{id_cmp, is_below, is_same_id, has_id}
-use Rattle.xs_stream.specs.ConsistentStream.{IsValidStream, AllIds, IsId}
+use Rattle.xs_stream.specs.ConsistentStream.{AreValid, AllIds, IsId}
 use Rattle.xs_stream.proofs.Order.{is_same_id-eq, is_same_id-refl, is_same_id-symm, below-not_same, below-not_back}
 use Rattle.xs_stream.proofs.Order.{below-irrefl}
 use Rattle.xs_stream.proofs.Order.{up_to-below, not_below-above, le-not_below, below-not_below}
@@ -124,6 +124,10 @@ pub without-none : (es : List (Id × List Field)) → without [] es ≡ es
 without-none [] = refl
 without-none (e ∷ es) = ap (λ rest. e ∷ rest) (without-none es)
 
+-- one id more is named
+pub named-more : (ids : List Id) (id x : Id) → has_id (ids ++ id ∷ []) x ≡ (has_id ids x || is_same_id x id)
+named-more ids id x = list_any-append (is_same_id x) ids (id ∷ []) ∙ ap (λ b. has_id ids x || b) (or-false (is_same_id x id))
+
 -- one deletion after others
 pub without-more : (ids : List Id) (id : Id) (es : List (Id × List Field)) → Ascends (ids_of es) → remove_entry (is_same_id id) (without ids es) ≡ without (ids ++ id ∷ []) es
 without-more ids id es a =
@@ -199,26 +203,26 @@ length-filter-le p (e ∷ es) = by (length-filter-le p es) (p e) where
 
 -- ---- a stream stays valid
 
-pub valid-filter : (kept : StreamState) (p : Id × List Field → Bool) → IsValidStream kept → IsValidStream (record { top = kept.top; entries = filter p kept.entries })
-valid-filter kept p law = record {
+pub valid-filter : (top : Id) (es : List (Id × List Field)) (p : Id × List Field → Bool) → AreValid top es → AreValid top (filter p es)
+valid-filter top es p law = record {
   consistent = record {
-    ascends = ascends-filter p kept.entries law.consistent.ascends;
-    up_to_top = up_to-filter p kept.top kept.entries law.consistent.up_to_top;
+    ascends = ascends-filter p es law.consistent.ascends;
+    up_to_top = up_to-filter p top es law.consistent.up_to_top;
   };
   top_is_id = law.top_is_id;
-  are_ids = ids-filter p kept.entries law.are_ids;
+  are_ids = ids-filter p es law.are_ids;
 }
 
-pub valid-push : (kept : StreamState) (id : Id) (fields : List Field) → IsValidStream kept → is_below kept.top id ≡ true → IsId id → IsValidStream (record { top = id; entries = kept.entries ++ (id, fields) ∷ [] })
-valid-push kept id fields law above fits =
-    let ids = ids_of-append kept.entries ((id, fields) ∷ []) in
+pub valid-push : (top : Id) (es : List (Id × List Field)) (id : Id) (fields : List Field) → AreValid top es → is_below top id ≡ true → IsId id → AreValid id (es ++ (id, fields) ∷ [])
+valid-push top es id fields law above fits =
+    let ids = ids_of-append es ((id, fields) ∷ []) in
     record {
       consistent = record {
-        ascends = rw ids (ascends-push (ids_of kept.entries) kept.top id law.consistent.ascends law.consistent.up_to_top above);
-        up_to_top = rw ids (up_to-push (ids_of kept.entries) kept.top id law.consistent.up_to_top above);
+        ascends = rw ids (ascends-push (ids_of es) top id law.consistent.ascends law.consistent.up_to_top above);
+        up_to_top = rw ids (up_to-push (ids_of es) top id law.consistent.up_to_top above);
       };
       top_is_id = fits;
-      are_ids = rw ids (ids-push (ids_of kept.entries) id law.are_ids fits);
+      are_ids = rw ids (ids-push (ids_of es) id law.are_ids fits);
     }
 
 -- ---- the first entry

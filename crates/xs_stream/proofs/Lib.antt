@@ -4,6 +4,7 @@ pub mod Dropping
 pub mod FiledBlocks
 pub mod Gaps
 pub mod InOrder
+pub mod Greatest
 pub mod Joining
 pub mod Lending
 pub mod Order
@@ -11,6 +12,7 @@ pub mod PackedBlocks
 pub mod PackedCodes
 pub mod PassedEntries
 pub mod Past
+pub mod CountedPast
 pub mod PlacesInLists
 pub mod Rooms
 pub mod WithinBlocks

@@ -1,5 +1,5 @@
 -- The ids above a cursor are those of a range.
-use Rattle.std.proofs.Common.{◌≡◌, ℕ, zero, suc, ◌+◌, ◌<◌, Bool, true, false, not, ◌&&◌, ◌||◌, cond, ltb, eqb, List, [], ◌∷◌}
+use Rattle.std.proofs.Common.{◌≡◌, ℕ, zero, suc, ◌+◌, ◌*◌, ◌^◌, ◌<◌, ◌≤◌, Bool, true, false, not, ◌&&◌, ◌||◌, cond, ltb, eqb, List, [], ◌∷◌}
 use Rattle.std.proofs.Common.{filter, take, Option, Some, None, sym, ap, ◌∙◌, refl, subst, arith}
 use Rattle.std.proofs.lemmas.Bool.Decides.{nat_tests}
 use Rattle.std.specs.Ordering.{nat_cmp, is_lt}
@@ -8,7 +8,7 @@ use Rattle.xs_stream.specs.declared.field.Field.{Field}
 use Rattle.xs_stream.specs.Id.{is_below, greatest_number, greatest_id}
 use Rattle.xs_stream.specs.IdText.{next_id}
 use Rattle.xs_stream.specs.StreamContent.{ids_of, AllAbove, Ascends, is_within}
-use Rattle.xs_stream.specs.ConsistentStream.{IsId, AllIds}
+use Rattle.xs_stream.specs.ConsistentStream.{IsId, AllIds, rank_of}
 use Rattle.xs_stream.proofs.InOrder.{and_yes, ascends-filter, ids_of-filter}
 
 lt-ltb : (s t : ℕ) → is_lt (nat_cmp s t) ≡ ltb s t
@@ -26,6 +26,13 @@ below-is m s n t = by (ltb m n) (eqb m n) refl refl where
   by false true e f = rw (e, f) (lt-ltb s t)
   by false false e f = rw (e, f) refl
 
+rank-lower : (m s n t : ℕ) → s < 18446744073709551616 → (ltb m n || (eqb m n && ltb s t)) ≡ true → m * 18446744073709551616 + s + 1 ≤ n * 18446744073709551616 + t
+rank-lower m s n t fits e = grind (arith, nat_tests)
+
+-- what is below has a lower rank
+pub rank-below : (a b : Id) → a.seq < 2 ^ 64 → is_below a b ≡ true → rank_of a + 1 ≤ rank_of b
+rank-below a b fits e = rank-lower a.ms a.seq b.ms b.seq fits (sym (below-is a.ms a.seq b.ms b.seq) ∙ e)
+
 after_next : (m s n t : ℕ) → not (ltb n m || (eqb n m && ltb t (s + 1))) ≡ (ltb m n || (eqb m n && ltb s t))
 after_next m s n t = grind (arith, nat_tests)
 
@@ -38,10 +45,10 @@ none_after m s n t e f h k = grind (arith, nat_tests)
 up_to_greatest : (x : Id) → IsId x → is_below greatest_id x ≡ false
 up_to_greatest x fits = below-is greatest_number greatest_number x.ms x.seq ∙ none_after greatest_number greatest_number x.ms x.seq refl refl fits.0 fits.1
 
--- what is above a cursor is within the range from its successor on
-above-within : (cursor low x : Id) → next_id cursor ≡ Some low → IsId x → is_within (record { low = low; high = greatest_id }) x ≡ is_below cursor x
-above-within cursor low x h fits =
-    ap (λ b. not (is_below x low) && not b) (up_to_greatest x fits) ∙ and_yes (not (is_below x low)) ∙ by (ltb cursor.seq greatest_number) (ltb cursor.ms greatest_number) refl h where
+-- what is above a cursor isn't below its successor
+pub from-past : (cursor low x : Id) → next_id cursor ≡ Some low → IsId x → not (is_below x low) ≡ is_below cursor x
+from-past cursor low x h fits =
+    by (ltb cursor.seq greatest_number) (ltb cursor.ms greatest_number) refl h where
       by : (s m : Bool) → ltb cursor.seq greatest_number ≡ s
           → cond s (Some (record { ms = cursor.ms; seq = cursor.seq + 1 })) (cond m (Some (record { ms = cursor.ms + 1; seq = 0 })) None) ≡ Some low → not (is_below x low) ≡ is_below cursor x
       by true m e f =
@@ -53,6 +60,11 @@ above-within cursor low x h fits =
           ap (λ l. not (is_below x l)) (sym next) ∙ ap not (below-is x.ms x.seq (cursor.ms + 1) 0) ∙ after_last cursor.ms cursor.seq x.ms x.seq e fits.1
           ∙ sym (below-is cursor.ms cursor.seq x.ms x.seq)
       by false false e f = let no = f in cc
+
+-- it is within the range from there on
+above-within : (cursor low x : Id) → next_id cursor ≡ Some low → IsId x → is_within (record { low = low; high = greatest_id }) x ≡ is_below cursor x
+above-within cursor low x h fits =
+    ap (λ b. not (is_below x low) && not b) (up_to_greatest x fits) ∙ and_yes (not (is_below x low)) ∙ from-past cursor low x h fits
 
 -- where a cursor has no successor nothing is above it
 none-above : (cursor x : Id) → next_id cursor ≡ None → IsId x → is_below cursor x ≡ false

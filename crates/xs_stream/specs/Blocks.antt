@@ -1,5 +1,5 @@
 -- How a stream lays down its entries: in blocks, each filed under an id, and behind them the newest ones.
-use Rattle.std.specs.Prelude.{◌≡◌, ℕ, ◌+◌, ◌<◌, ◌^◌, not, false, List, [], ◌∷◌, ◌++◌, length, Option, Some, None}
+use Rattle.std.specs.Prelude.{◌≡◌, ℕ, ◌+◌, ◌<◌, ◌≤◌, ◌^◌, not, false, List, [], ◌∷◌, ◌++◌, length, Option, Some, None}
 use Rattle.std.specs.List.{flat_map}
 use Rattle.std.specs.Map.{keys_of, lookup, lookup_key, set_value}
 use Rattle.std.specs.declared.ops.Bound.{Bound}
@@ -9,7 +9,7 @@ use Rattle.xs_stream.specs.declared.field.Field.{Field}
 use Rattle.xs_stream.specs.declared.entries.Entries.{Entries}
 use Rattle.xs_stream.specs.Id.{is_below, is_same_id}
 use Rattle.xs_stream.specs.StreamContent.{ids_of, AllAbove, AllUpTo}
-use Rattle.xs_stream.specs.ConsistentStream.{IsValidStream}
+use Rattle.xs_stream.specs.ConsistentStream.{AreValid, rank_of}
 use Rattle.xs_stream.specs.BlockState.{BlockState}
 
 -- the entries of blocks, one block after the other
@@ -86,9 +86,11 @@ BeginsFrom low (b ∷ bs) = is_below b.0 low ≡ false
 abbrev pub block_ids : Entries → List Id
 block_ids entries = keys_of (contents entries.older.entries)
 
--- what holds inside of a stream: it is valid, its entries are laid down, and none of those ids is above the top
-pub record IsSound (top : Id) (entries : Entries) : Type 0 where
-  pub valid : IsValidStream (record { top = top; entries = all_of entries })
+-- What holds inside of a stream: it is valid, its entries are laid down, and none of those ids is above the top. As each
+-- addition has a greater id, there were no more of them than there are ids up to the top.
+pub record IsSound (top : Id) (added : ℕ) (entries : Entries) : Type 0 where
+  pub valid : AreValid top (all_of entries)
+  pub few : added ≤ rank_of top
   pub laid_down : IsLaidDown entries
   pub filed_up_to_top : AllUpTo top (block_ids entries)
 

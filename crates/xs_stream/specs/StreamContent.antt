@@ -1,5 +1,5 @@
 -- What a stream keeps, and what ranges, deletions and trims show and leave of it. (Redis, XRANGE, XDEL and XTRIM.)
-use Rattle.std.specs.Prelude.{◌≡◌, ℕ, Bool, true, false, ◌&&◌, not, List, [], ◌∷◌, map, filter, length, reverse, take}
+use Rattle.std.specs.Prelude.{◌≡◌, ℕ, ◌+◌, ◌++◌, Bool, true, false, ◌&&◌, not, List, [], ◌∷◌, map, filter, length, reverse, take}
 use Rattle.std.specs.Prelude.{nat_le, Option, Some, None, if◌then◌else◌}
 use Rattle.std.specs.Map.{lookup}
 use Rattle.xs_stream.specs.declared.id.Id.{Id}
@@ -7,22 +7,31 @@ use Rattle.xs_stream.specs.declared.field.Field.{Field}
 use Rattle.xs_stream.specs.declared.range.Range.{Range}
 use Rattle.xs_stream.specs.declared.trim.Trim.{Trim}
 use Rattle.xs_stream.specs.declared.trim.Trim.TheVariants.{MaxLen, MinId}
-use Rattle.xs_stream.specs.Id.{is_below, is_same_id, has_id}
+use Rattle.xs_stream.specs.Id.{is_below, is_same_id, has_id, zero_id}
 
--- the greatest id ever added, and the entries in the order of their ids
+-- the greatest id ever added, the entries in the order of their ids, how many were ever added, and the greatest id ever
+-- deleted, or 0-0
 pub record StreamState : Type 0 where
   pub top : Id
   pub entries : List (Id × List Field)
+  pub added : ℕ
+  pub deleted : Id
 
 -- a stream, and for how many bytes there is room in the memory that it has
 pub record StreamInMemory : Type 0 where
   pub top : Id
   pub entries : List (Id × List Field)
+  pub added : ℕ
+  pub deleted : Id
   pub room : ℕ
 
 -- what it keeps, whatever memory it has for that
 abbrev pub state_of : StreamInMemory → StreamState
-state_of stream = record { top = stream.top; entries = stream.entries }
+state_of s = record { top = s.top; entries = s.entries; added = s.added; deleted = s.deleted }
+
+-- a stream that nothing was added to
+abbrev pub new_stream : StreamState
+new_stream = record { top = zero_id; entries = []; added = 0; deleted = zero_id }
 
 abbrev pub ids_of : List (Id × List Field) → List Id
 ids_of entries = map (λ e. e.0) entries
@@ -46,9 +55,24 @@ AllUpTo top (x ∷ xs) = (is_below top x ≡ false) × AllUpTo top xs
 abbrev pub fields_at : List (Id × List Field) → Id → Option (List Field)
 fields_at entries id = lookup (is_same_id id) entries
 
+-- with an entry behind the others
+abbrev pub with_entry : Id → List Field → StreamState → StreamState
+with_entry id fields s =
+    record s { top = id; entries = s.entries ++ (id, fields) ∷ []; added = s.added + 1 }
+
+-- the greatest of an id and of these
+abbrev pub greatest : Id → List Id → Id
+greatest a [] = a
+greatest a (x ∷ xs) = greatest (if is_below a x then x else a) xs
+
 -- the entries without those that are named
 abbrev pub without : List Id → List (Id × List Field) → List (Id × List Field)
 without ids entries = filter (λ e. not (has_id ids e.0)) entries
+
+-- without the entries that are named, of which the greatest may be the greatest ever deleted
+abbrev pub with_deleted : List Id → StreamState → StreamState
+with_deleted ids s =
+    record s { entries = without ids s.entries; deleted = greatest s.deleted (filter (has_id ids) (ids_of s.entries)) }
 
 -- how many of these ids are above x
 abbrev pub count_above : Id → List Id → ℕ

@@ -5,9 +5,9 @@ ghost use Rattle.std.specs.Prelude.{length, take, drop, filter, reverse};
 ghost use Rattle.std.specs.Map.{lookup_key, remove_entry};
 ghost use Rattle.xs_stream.specs.declared.id.Id.{Id};
 ghost use Rattle.xs_stream.specs.declared.trim.Trim.TheVariants.{MinId};
-ghost use Rattle.xs_stream.specs.Id.{is_below, is_same_id};
+ghost use Rattle.xs_stream.specs.Id.{is_below, is_same_id, has_id};
 ghost use Rattle.xs_stream.specs.StreamContent.{is_within, ids_of, fields_at, without, entries_after_trim, Ascends};
-ghost use Rattle.xs_stream.specs.StreamContent.{AllUpTo};
+ghost use Rattle.xs_stream.specs.StreamContent.{AllUpTo, count_above, greatest};
 ghost use Rattle.xs_stream.specs.ConsistentStream.{AllIds};
 ghost use Rattle.xs_stream.specs.Blocks.{contents, all_of, AreFiled, BeginsFrom, IsLaidDown, IsMeasured, block_ids};
 ghost use Rattle.xs_stream.specs.Blocks.{end_at, HasJoined, place_room, room_of};
@@ -335,29 +335,37 @@ impl Entries {
         }
     }
 
-    /// Removes the entry with this id.
-    fn remove(&mut self, id: Id)
+    /// Removes the entry with this id, and says whether it was there.
+    fn remove(&mut self, id: Id) -> bool
         requires { IsLaidDown self.old }
+        ensures there { result ≡ has_id (ids_of (all_of self.old)) id }
         ensures entries { all_of self.new ≡ remove_entry (is_same_id id) (all_of self.old) }
         ensures laid_down { IsLaidDown self.new }
         ensures filed_up_to_top { (top : Id) → AllUpTo top (block_ids self.old) → AllUpTo top (block_ids self.new) }
     {
-        if self.take(id) {
+        let there = self.take(id);
+        if there {
             self.len -= 1;
         }
+        there
     }
 
-    /// Removes the entries with these ids.
-    pub(crate) fn remove_all(&mut self, ids: &[Id])
+    /// Removes the entries with these ids, and gives the greatest of these and of another id.
+    pub(crate) fn remove_all(&mut self, ids: &[Id], other: Id) -> Id
         requires laid_down { IsLaidDown self.old }
         requires ascends { Ascends (ids_of (all_of self.old)) }
         ensures entries { all_of self.new ≡ without ids.now (all_of self.old) }
+        ensures greatest { result ≡ greatest other (filter (has_id ids.now) (ids_of (all_of self.old))) }
         ensures laid_down { IsLaidDown self.new }
         ensures filed_up_to_top { (top : Id) → AllUpTo top (block_ids self.old) → AllUpTo top (block_ids self.new) }
     {
+        let mut greatest = other;
         for id in ids {
-            self.remove(*id);
+            if self.remove(*id) && greatest < *id {
+                greatest = *id;
+            }
         }
+        greatest
     }
 
     /// Removes the first entries, up to this many, from the first block, and says how many are left to remove.
@@ -544,6 +552,34 @@ impl Entries {
             high: Id::GREATEST,
         };
         self.ids_up(alloc, above, most)
+    }
+
+    /// How many entries have this id or one above it. Only the first of the blocks that may have such is looked through.
+    fn count_from(&self, low: Id) -> usize
+        requires { IsLaidDown self.now }
+        ensures { result ≡ length (filter (λ e. not (is_below e.0 low)) (all_of self.now)) }
+    {
+        let mut blocks = self.older.range(low..);
+        let Some((_, first)) = blocks.next() else {
+            return self.newest.len() - self.newest.count_below(low);
+        };
+        let mut count = first.len() - first.count_below(low);
+        for (_under, block) in blocks {
+            count += block.len();
+        }
+        count + self.newest.len()
+    }
+
+    /// How many entries have ids above a cursor.
+    pub(crate) fn count_past(&self, cursor: Id) -> usize
+        requires laid_down { IsLaidDown self.now }
+        requires ids { AllIds (ids_of (all_of self.now)) }
+        ensures { result ≡ count_above cursor (ids_of (all_of self.now)) }
+    {
+        match cursor.next() {
+            Some(low) => self.count_from(low),
+            None => 0,
+        }
     }
 
     /// The ids of a range that isn't empty, from its high end down, at most this many.

@@ -3,7 +3,8 @@ ghost use Rattle.std.specs.Prelude.{◌≡◌, ◌↔◌, ◌+◌, ◌-◌, ◌^
 ghost use Rattle.std.specs.Prelude.{Err, IfOk, OnOk, OnErr, IsErrOf, length};
 ghost use Rattle.std.specs.Prelude.{filter};
 ghost use Rattle.xs_stream.specs.Id.{zero_id, is_below, id_of_addition};
-ghost use Rattle.xs_stream.specs.StreamContent.{ids_of, fields_at, without, entries_after_trim};
+ghost use Rattle.xs_stream.specs.StreamContent.{ids_of, fields_at, entries_after_trim, count_above, new_stream};
+ghost use Rattle.xs_stream.specs.StreamContent.{with_entry, with_deleted};
 ghost use Rattle.xs_stream.specs.StreamContent.{ids_within, entries_within, up_to_limit, AreEntriesOf};
 ghost use Rattle.xs_stream.specs.StreamContent.{Ascends, AllUpTo, state_of};
 
@@ -20,11 +21,14 @@ use std::alloc::{AllocError, Global};
 use std::marker::Model;
 use xs_bytes::List;
 
-/// A stream of entries. A contract sees its top id, the list of its entries, and how much memory there is for them.
+/// A stream of entries. A contract sees its top id, the list of its entries, how many were ever added, the greatest id
+/// that was ever deleted, and how much memory there is for the entries.
 #[derive(Drop)]
 pub struct Stream {
     top: Id,
     entries: Entries,
+    added: u128,
+    deleted: Id,
 }
 
 impl Model for Stream {
@@ -33,19 +37,22 @@ impl Model for Stream {
 
     ghost Value = { StreamInMemory };
 
-    ghost view = { λ s. record { top = s.top; entries = all_of s.entries; room = room_of s.entries } };
+    ghost view = { λ s. record { top = s.top; entries = all_of s.entries; added = s.added; deleted = s.deleted;
+        room = room_of s.entries } };
 
-    ghost invariant = { λ s. IsSound s.top s.entries };
+    ghost invariant = { λ s. IsSound s.top s.added s.entries };
 }
 
 impl Stream {
     /// An empty stream, whose top is `0-0`. It takes no memory.
     pub fn new(alloc: Global) -> Self
-        ensures { state_of result ≡ record { top = zero_id; entries = [] } }
+        ensures { state_of result ≡ new_stream }
     {
         Self {
             top: Id::ZERO,
             entries: Entries::new(alloc),
+            added: 0,
+            deleted: Id::ZERO,
         }
     }
 
@@ -57,12 +64,34 @@ impl Stream {
         self.top
     }
 
+    /// How many entries were ever added.
+    pub fn added(&self) -> u128
+        ensures { result ≡ self.now.added }
+    {
+        self.added
+    }
+
+    /// The greatest id that was ever deleted, or `0-0`. Trims leave it.
+    pub fn deleted(&self) -> Id
+        ensures { result ≡ self.now.deleted }
+    {
+        self.deleted
+    }
+
     /// How many entries there are.
     pub fn len(&self) -> usize
         ensures value { result ≡ length self.now.entries }
         ensures small { result < 2 ^ 63 }
     {
         self.entries.len()
+    }
+
+    /// How many entries have ids above a cursor.
+    pub fn count_past(&self, cursor: Id) -> u64
+        ensures value { result ≡ count_above cursor (ids_of self.now.entries) }
+        ensures small { result < 2 ^ 63 }
+    {
+        self.entries.count_past(cursor) as u64
     }
 
     /// How many bytes its entries take, with the memory that is kept for further ones.
@@ -91,13 +120,13 @@ impl Stream {
     /// Puts an entry with an id above the top behind the others. What the stream keeps is unchanged on refusal.
     pub fn push(&mut self, id: Id, fields: &[Field]) -> Result<(), AllocError>
         requires { is_below self.old.top id ≡ true }
-        ensures ok { OnOk result (state_of self.new
-            ≡ record { top = id; entries = self.old.entries ++ (id, fields.now) ∷ [] }) }
+        ensures ok { OnOk result (state_of self.new ≡ with_entry id fields.now (state_of self.old)) }
         ensures err { OnErr result (state_of self.new ≡ state_of self.old) }
     {
         match self.entries.push(self.top, id, fields) {
             Ok(()) => {
                 self.top = id;
+                self.added += 1;
                 Ok(())
             }
             Err(error) => Err(error),
@@ -107,7 +136,7 @@ impl Stream {
     /// Adds an entry above all that were ever added (XADD). What the stream keeps is unchanged on each error.
     pub fn add(&mut self, now: Moment, id: AddId, fields: &[Field]) -> Result<Id, AddError>
         ensures ok { IfOk result (λ given. (id_of_addition now self.old.top id ≡ Ok given)
-            × (state_of self.new ≡ record { top = given; entries = self.old.entries ++ (given, fields.now) ∷ [] })) }
+            × (state_of self.new ≡ with_entry given fields.now (state_of self.old))) }
         ensures small { IsErrOf result AddError.Small ↔ (id_of_addition now self.old.top id ≡ Err AddError.Small) }
         ensures exhausted { IsErrOf result AddError.Exhausted ↔ (id_of_addition now self.old.top id
             ≡ Err AddError.Exhausted) }
@@ -122,13 +151,12 @@ impl Stream {
 
     /// Removes the entries with these ids, and says how many there were (XDEL).
     pub fn delete(&mut self, ids: &[Id]) -> u64
-        ensures entries { state_of self.new
-            ≡ record (state_of self.old) { entries = without ids.now self.old.entries } }
+        ensures entries { state_of self.new ≡ with_deleted ids.now (state_of self.old) }
         ensures count { result + length self.new.entries ≡ length self.old.entries }
         ensures small { result < 2 ^ 63 }
     {
         let before = self.entries.len();
-        self.entries.remove_all(ids);
+        self.deleted = self.entries.remove_all(ids, self.deleted);
         (before - self.entries.len()) as u64
     }
 

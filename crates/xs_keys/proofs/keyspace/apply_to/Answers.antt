@@ -36,3 +36,6 @@ returns-in-Pending c = rw c.in-Pending.is (c.summary.ensures c.args.now)
 
 pub returns-in-DropKeys : goal.returns-in-DropKeys
 returns-in-DropKeys c = rw c.in-DropKeys.is (c.delete-in-DropKeys.ensures c.args.now)
+
+pub returns-in-Inspect : goal.returns-in-Inspect
+returns-in-Inspect c = rw c.in-Inspect.is (c.inspect.ensures c.args.now)

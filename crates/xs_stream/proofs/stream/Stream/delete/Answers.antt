@@ -6,21 +6,22 @@ use Rattle.xs_stream.proofs.stream.Stream.delete.Goals as goal
 
 pub overflow_sub-result : goal.overflow_sub-result
 overflow_sub-result c =
-    let kept = ap length c.remove_all.ensures.entries in
+    let kept = ap length c.remove_all-self-inside.ensures.entries in
     let fewer = length-filter-le (λ e. not (has_id c.args.ids.now e.0)) (all_of c.self.inside.entries) in
-    omega (arith, c.self.invariant.laid_down.counted, c.remove_all.ensures.laid_down.counted)
+    omega (arith, c.self.invariant.laid_down.counted, c.remove_all-self-inside.ensures.laid_down.counted)
 
 pub invariant_of-self : goal.invariant_of-self
 invariant_of-self c =
     let inside = c.self.inside in
     record {
-      valid = rw c.remove_all.ensures.entries (valid-filter (record { top = inside.top; entries = all_of inside.entries }) (λ e. not (has_id c.args.ids.now e.0)) c.self.invariant.valid);
-      laid_down = c.remove_all.ensures.laid_down;
-      filed_up_to_top = c.remove_all.ensures.filed_up_to_top inside.top c.self.invariant.filed_up_to_top;
+      valid = rw c.remove_all-self-inside.ensures.entries (valid-filter inside.top (all_of inside.entries) (λ e. not (has_id c.args.ids.now e.0)) c.self.invariant.valid);
+      few = c.self.invariant.few;
+      laid_down = c.remove_all-self-inside.ensures.laid_down;
+      filed_up_to_top = c.remove_all-self-inside.ensures.filed_up_to_top inside.top c.self.invariant.filed_up_to_top;
     }
 
 pub returns-clause-count : goal.returns-clause-count
 returns-clause-count c =
-    let kept = ap length c.remove_all.ensures.entries in
+    let kept = ap length c.remove_all-self-inside.ensures.entries in
     let fewer = length-filter-le (λ e. not (has_id c.args.ids.now e.0)) (all_of c.self.inside.entries) in
-    rw (← c.self.view_is) (omega (arith, c.self.invariant.laid_down.counted, c.remove_all.ensures.laid_down.counted))
+    rw (← c.self.view_is) (omega (arith, c.self.invariant.laid_down.counted, c.remove_all-self-inside.ensures.laid_down.counted))

@@ -16,7 +16,8 @@ invariant_of-self c =
     let inside = c.self.inside in
     let all = all_of inside.entries in
     record {
-      valid = rw c.trim.ensures.entries (valid-filter (record { top = inside.top; entries = all }) (λ e. not (is_trimmed c.args.trim (ids_of all) e.0)) c.self.invariant.valid);
+      valid = rw c.trim.ensures.entries (valid-filter inside.top all (λ e. not (is_trimmed c.args.trim (ids_of all) e.0)) c.self.invariant.valid);
+      few = c.self.invariant.few;
       laid_down = c.trim.ensures.laid_down;
       filed_up_to_top = c.trim.ensures.filed_up_to_top inside.top c.self.invariant.filed_up_to_top;
     }

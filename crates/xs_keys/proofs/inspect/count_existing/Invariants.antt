@@ -1,0 +1,7 @@
+use Rattle.std.proofs.Common.{◌≡◌, ◌+◌, ◌≤◌, drop}
+use Rattle.xs_keys.specs.Inspecting.{existing}
+use Rattle.xs_keys.proofs.inspect.count_existing.Given as goal
+
+-- what is counted and what the rest will bring is all, and no more is counted than was looked at
+abbrev pub invariant-loop-name : goal.invariant-loop-name
+invariant-loop-name l = (l.count + existing (drop l.name-index l.names) l.keys ≡ existing l.names l.keys) × (l.count ≤ l.name-index)

@@ -1,0 +1,101 @@
+-- What XINFO GROUPS, EXISTS, TYPE and DBSIZE tell of the content. (Redis, their pages, "RESP2 Reply".)
+use Rattle.std.specs.Prelude.{ℕ, ◌+◌, Bool, true, false, List, [], ◌∷◌, ◌++◌, map, length, codes, min, Some}
+use Rattle.std.specs.Prelude.{if◌then◌else◌}
+use Rattle.xs_stream.specs.declared.range.Range.{Range}
+use Rattle.xs_stream.specs.Id.{greatest_id}
+use Rattle.xs_stream.specs.StreamContent.{count_above, entries_within}
+use Rattle.xs_group.specs.GroupState.{greatest_count}
+use Rattle.xs_command.specs.declared.command.Inspection.{Inspection}
+use Rattle.xs_command.specs.declared.command.Inspection.TheVariants.{Stream as OfStream, Groups, Existence, KeyType, KeyCount}
+use Rattle.xs_resp.specs.declared.reply.Simple.TheVariants.{Stream, Nothing}
+use Rattle.xs_keys.specs.Terms.{option_map_or, get, has_key, Id, ids_of, StreamState, GroupState, Reply, Simple, Error, Int, Bulk}
+use Rattle.xs_keys.specs.Terms.{NullBulk, MissingKey, zero_id}
+use Rattle.xs_keys.specs.Content.{Content, KeyState}
+use Rattle.xs_keys.specs.Event.{Bytes, Entries}
+use Rattle.xs_keys.specs.ReplyParts.{array, id_reply, present_reply}
+
+-- XINFO GROUPS: a group, and how many consumers and pending entries it has
+abbrev pub members_part : Bytes × GroupState → List Reply
+members_part group =
+    Bulk (codes "name") ∷ Bulk group.0
+    ∷ Bulk (codes "consumers") ∷ Int (length group.1.consumers.entries)
+    ∷ Bulk (codes "pending") ∷ Int (length group.1.rows.entries) ∷ []
+
+-- how far a group has come in a stream that has these ids: its lag is how many of them are past its cursor. How many
+-- entries it has read isn't kept.
+abbrev pub progress_part : List Id → Id → List Reply
+progress_part present cursor =
+    Bulk (codes "last-delivered-id") ∷ id_reply cursor
+    ∷ Bulk (codes "entries-read") ∷ NullBulk
+    ∷ Bulk (codes "lag") ∷ Int (count_above cursor present) ∷ []
+
+abbrev pub group_reply : List Id → Bytes × GroupState → Reply
+group_reply present group = array (members_part group ++ progress_part present group.1.cursor)
+
+-- XINFO GROUPS: the groups of a key, in the order of their names
+abbrev pub groups_reply : KeyState → Reply
+groups_reply key = array (map (group_reply (ids_of key.stream.entries)) key.groups.entries)
+
+-- all ids
+abbrev pub whole_range : Range
+whole_range = record { low = zero_id; high = greatest_id }
+
+-- the first entry, or the last one, if there is one
+abbrev pub end_of : Bool → Entries → Entries
+end_of reversed entries = entries_within whole_range reversed (Some 1) entries
+
+abbrev pub end_reply : Entries → Reply
+end_reply [] = NullBulk
+end_reply (e ∷ es) = present_reply e
+
+abbrev pub end_id : Entries → Id
+end_id [] = zero_id
+end_id (e ∷ es) = e.0
+
+-- a number that a signed one of 64 bits can't tell is told as the greatest that it can
+abbrev pub number_reply : ℕ → Reply
+number_reply n = Int (min n greatest_count)
+
+-- XINFO STREAM: what it has. Of the radix tree it says what Redis says of a small stream, since there is none here.
+abbrev pub size_part : Entries → List Reply
+size_part entries =
+    let nodes = min (length entries) 1 in
+    Bulk (codes "length") ∷ Int (length entries)
+    ∷ Bulk (codes "radix-tree-keys") ∷ Int nodes
+    ∷ Bulk (codes "radix-tree-nodes") ∷ Int (nodes + 1) ∷ []
+
+-- what it ever had
+abbrev pub past_part : StreamState → Id → List Reply
+past_part stream first =
+    Bulk (codes "last-generated-id") ∷ id_reply stream.top
+    ∷ Bulk (codes "max-deleted-entry-id") ∷ id_reply stream.deleted
+    ∷ Bulk (codes "entries-added") ∷ number_reply stream.added
+    ∷ Bulk (codes "recorded-first-entry-id") ∷ id_reply first ∷ []
+
+-- its groups and its ends
+abbrev pub ends_part : ℕ → Entries → Entries → List Reply
+ends_part groups first last =
+    Bulk (codes "groups") ∷ Int groups
+    ∷ Bulk (codes "first-entry") ∷ end_reply first
+    ∷ Bulk (codes "last-entry") ∷ end_reply last ∷ []
+
+abbrev pub stream_reply : KeyState → Reply
+stream_reply key =
+    let entries = key.stream.entries in
+    let first = end_of false entries in
+    let last = end_of true entries in
+    let groups = length key.groups.entries in
+    array (size_part entries ++ (past_part key.stream (end_id first) ++ ends_part groups first last))
+
+-- EXISTS: how many of these keys are there; one that is named twice counts twice
+abbrev pub existing : List Bytes → Content → ℕ
+existing [] content = 0
+existing (name ∷ names) content = (if has_key content name then 1 else 0) + existing names content
+
+-- the reply to each
+abbrev pub inspection_reply : Content → Inspection → Reply
+inspection_reply content (OfStream name) = option_map_or stream_reply (get content name) (Error MissingKey)
+inspection_reply content (Groups name) = option_map_or groups_reply (get content name) (Error MissingKey)
+inspection_reply content (Existence names) = number_reply (existing names content)
+inspection_reply content (KeyType name) = Simple (if has_key content name then Stream else Nothing)
+inspection_reply content KeyCount = Int (length content.entries)

@@ -1,0 +1,43 @@
+//! EXISTS, TYPE and DBSIZE, and XINFO.
+ghost use Rattle.std.specs.Prelude.{◌≡◌, ◌<◌, ◌^◌};
+ghost use Rattle.xs_keys.specs.Inspecting.{existing};
+ghost use Rattle.xs_keys.specs.Step.{StepAtAnyTime};
+
+use crate::keys::Keys;
+use crate::xinfo;
+use std::alloc::Global;
+use xs_bytes::{Bytes, U63};
+use xs_command::{Command, Inspection};
+use xs_resp::{Reply, Simple};
+
+/// How many of these keys are there. One that is named twice counts twice.
+fn count_existing(keys: &Keys, names: &[Bytes]) -> usize
+    ensures { result ≡ existing names.now keys.now }
+{
+    let mut count = 0;
+    for name in names {
+        if keys.get(name).is_some() {
+            count += 1;
+        }
+    }
+    count
+}
+
+/// What is told of the content, which stays as it is.
+pub fn inspect(keys: &Keys, alloc: Global, inspection: &Inspection) -> Reply
+    ensures { StepAtAnyTime keys.now (Command.Inspect inspection.now) result keys.now }
+{
+    match inspection {
+        Inspection::Stream { key } => xinfo::stream(keys, alloc, key),
+        Inspection::Groups { key } => xinfo::groups(keys, alloc, key),
+        Inspection::Existence { keys: names } => {
+            let count = count_existing(keys, names.as_slice()) as u64;
+            Reply::Int(U63::new(count.min(U63::MAX)))
+        }
+        Inspection::KeyType { key } => match keys.get(key) {
+            Some(_) => Reply::Simple(Simple::Stream),
+            None => Reply::Simple(Simple::Nothing),
+        },
+        Inspection::KeyCount => Reply::Int(U63::new(keys.len() as u64)),
+    }
+}

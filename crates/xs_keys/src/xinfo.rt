@@ -1,0 +1,213 @@
+//! XINFO.
+ghost use Rattle.std.specs.Prelude.{◌≡◌, ◌++◌, ◌∷◌, [], ◌<◌, ◌^◌, map, IfOk, OnOk};
+ghost use Rattle.std.specs.List.{flat_map};
+ghost use Rattle.xs_command.specs.declared.command.Inspection.TheVariants.{Stream as OfStream, Groups as OfGroups};
+ghost use Rattle.xs_stream.specs.StreamContent.{ids_of, state_of};
+ghost use Rattle.xs_resp.specs.ReplyItems.{tokens_of};
+ghost use Rattle.xs_keys.specs.KeysRoom.{key_state_of};
+ghost use Rattle.xs_keys.specs.Inspecting.{size_part, past_part, ends_part, end_reply, end_id, stream_reply};
+ghost use Rattle.xs_keys.specs.Inspecting.{members_part, progress_part, group_reply, groups_reply};
+ghost use Rattle.xs_keys.specs.Step.{StepAtAnyTime};
+
+use crate::keys::{Keys, Slot};
+use crate::showing::{push_id, push_present};
+use std::alloc::{AllocError, Global};
+use xs_bytes::{Bytes, List, U63};
+use xs_command::Command;
+use xs_group::Group;
+use xs_resp::{Fault, Replies, Reply, Tokens};
+use xs_stream::{Entry, Id, Range, Stream};
+
+/// How many tokens a stream has, beside the fields of its ends.
+const STREAM_TOKENS: usize = 28;
+
+/// All ids.
+const WHOLE: Range = Range {
+    low: Id::ZERO,
+    high: Id::GREATEST,
+};
+
+/// How many tokens a group has.
+const GROUP_TOKENS: usize = 13;
+
+/// Appends the name of a number, and the number.
+fn push_number(tokens: &mut Tokens, name: &[u8], number: u64) -> Result<(), AllocError>
+    requires { number < 2 ^ 63 }
+    ensures { OnOk result (tokens.new ≡ tokens.old ++ (tokens_of (Reply.Bulk name.now) ++ tokens_of (Reply.Int number))) }
+{
+    tokens.push_bulk(name)?;
+    tokens.push_int(U63::new(number))
+}
+
+/// Appends a group's name, and how many consumers and pending entries it has.
+fn push_members(tokens: &mut Tokens, name: &Bytes, group: &Group) -> Result<(), AllocError>
+    ensures { OnOk result (tokens.new ≡ tokens.old ++ flat_map tokens_of (members_part (name.now, group.now))) }
+{
+    tokens.push_bulk(b"name")?;
+    tokens.push_bulk(name.as_slice())?;
+    push_number(tokens, b"consumers", group.count_consumers())?;
+    push_number(tokens, b"pending", group.count_pending())
+}
+
+/// Appends how far a group with this cursor has come in a stream.
+fn push_progress(
+    tokens: &mut Tokens,
+    alloc: Global,
+    stream: &Stream,
+    cursor: Id,
+) -> Result<(), AllocError>
+    ensures { OnOk result (tokens.new ≡ tokens.old
+        ++ flat_map tokens_of (progress_part (ids_of stream.now.entries) cursor)) }
+{
+    tokens.push_bulk(b"last-delivered-id")?;
+    push_id(tokens, alloc, cursor)?;
+    tokens.push_bulk(b"entries-read")?;
+    tokens.push_null_bulk()?;
+    push_number(tokens, b"lag", stream.count_past(cursor))
+}
+
+/// Appends a group of a stream.
+fn push_group(
+    tokens: &mut Tokens,
+    alloc: Global,
+    stream: &Stream,
+    name: &Bytes,
+    group: &Group,
+) -> Result<(), AllocError>
+    ensures { OnOk result (tokens.new ≡ tokens.old
+        ++ tokens_of (group_reply (ids_of stream.now.entries) (name.now, group.now))) }
+{
+    tokens.push_array(12)?;
+    push_members(tokens, name, group)?;
+    push_progress(tokens, alloc, stream, group.cursor())
+}
+
+/// Appends the groups of a key, in the order of their names.
+fn push_groups(tokens: &mut Tokens, alloc: Global, slot: &Slot) -> Result<(), AllocError>
+    ensures { OnOk result (tokens.new ≡ tokens.old
+        ++ flat_map tokens_of (map (group_reply (ids_of slot.now.stream.entries)) slot.now.groups.entries)) }
+{
+    for (name, group) in slot.groups.iter() {
+        push_group(tokens, alloc, &slot.stream, name, group)?;
+    }
+    Ok(())
+}
+
+/// The groups of a key.
+fn groups_shown(alloc: Global, slot: &Slot) -> Result<Reply, AllocError>
+    ensures { IfOk result (λ reply. reply ≡ groups_reply (key_state_of slot.now)) }
+{
+    let count = slot.groups.len();
+    let mut tokens = Tokens::with_capacity(alloc, count.saturating_mul(GROUP_TOKENS))?;
+    push_groups(&mut tokens, alloc, slot)?;
+    Ok(Reply::Array(Replies::new(count, tokens)))
+}
+
+/// XINFO GROUPS.
+pub fn groups(keys: &Keys, alloc: Global, key: &Bytes) -> Reply
+    ensures { StepAtAnyTime keys.now (Command.Inspect (OfGroups key.now)) result keys.now }
+{
+    let Some(slot) = keys.get(key) else {
+        return Reply::Error(Fault::MissingKey);
+    };
+    match groups_shown(alloc, slot) {
+        Ok(reply) => reply,
+        Err(AllocError) => Reply::Error(Fault::Memory),
+    }
+}
+
+/// Appends the first entry or the last one, or the null string if there is none.
+fn push_end(tokens: &mut Tokens, alloc: Global, end: &List<Entry<'_>>) -> Result<(), AllocError>
+    ensures { OnOk result (tokens.new ≡ tokens.old ++ tokens_of (end_reply end.now)) }
+{
+    match end.as_slice().first() {
+        Some(entry) => push_present(tokens, alloc, entry),
+        None => tokens.push_null_bulk(),
+    }
+}
+
+/// Appends how many entries a stream has.
+fn push_size(tokens: &mut Tokens, stream: &Stream) -> Result<(), AllocError>
+    ensures { OnOk result (tokens.new ≡ tokens.old ++ flat_map tokens_of (size_part stream.now.entries)) }
+{
+    let length = stream.len() as u64;
+    let nodes = length.min(1);
+    push_number(tokens, b"length", length)?;
+    push_number(tokens, b"radix-tree-keys", nodes)?;
+    push_number(tokens, b"radix-tree-nodes", nodes + 1)
+}
+
+/// Appends what a stream ever had, and the id of its first entry.
+fn push_past(
+    tokens: &mut Tokens,
+    alloc: Global,
+    stream: &Stream,
+    first: Id,
+) -> Result<(), AllocError>
+    ensures { OnOk result (tokens.new ≡ tokens.old
+        ++ flat_map tokens_of (past_part (state_of stream.now) first)) }
+{
+    let added = stream.added().min(U63::MAX as u128) as u64;
+    tokens.push_bulk(b"last-generated-id")?;
+    push_id(tokens, alloc, stream.top())?;
+    tokens.push_bulk(b"max-deleted-entry-id")?;
+    push_id(tokens, alloc, stream.deleted())?;
+    push_number(tokens, b"entries-added", added)?;
+    tokens.push_bulk(b"recorded-first-entry-id")?;
+    push_id(tokens, alloc, first)
+}
+
+/// Appends how many groups a stream has, and its ends.
+fn push_ends(
+    tokens: &mut Tokens,
+    alloc: Global,
+    groups: u64,
+    first: &List<Entry<'_>>,
+    last: &List<Entry<'_>>,
+) -> Result<(), AllocError>
+    requires { groups < 2 ^ 63 }
+    ensures { OnOk result (tokens.new ≡ tokens.old ++ flat_map tokens_of (ends_part groups first.now last.now)) }
+{
+    push_number(tokens, b"groups", groups)?;
+    tokens.push_bulk(b"first-entry")?;
+    push_end(tokens, alloc, first)?;
+    tokens.push_bulk(b"last-entry")?;
+    push_end(tokens, alloc, last)
+}
+
+/// The id of the first of these entries, or `0-0`.
+fn first_id(entries: &List<Entry<'_>>) -> Id
+    ensures { result ≡ end_id entries.now }
+{
+    match entries.as_slice().first() {
+        Some(entry) => entry.id(),
+        None => Id::ZERO,
+    }
+}
+
+/// What a stream is.
+fn stream_shown(alloc: Global, slot: &Slot) -> Result<Reply, AllocError>
+    ensures { IfOk result (λ reply. reply ≡ stream_reply (key_state_of slot.now)) }
+{
+    let stream = &slot.stream;
+    let first = stream.entries(alloc, WHOLE, Some(1), false)?;
+    let last = stream.entries(alloc, WHOLE, Some(1), true)?;
+    let mut tokens = Tokens::with_capacity(alloc, STREAM_TOKENS)?;
+    push_size(&mut tokens, stream)?;
+    push_past(&mut tokens, alloc, stream, first_id(&first))?;
+    push_ends(&mut tokens, alloc, slot.groups.len() as u64, &first, &last)?;
+    Ok(Reply::Array(Replies::new(20, tokens)))
+}
+
+/// XINFO STREAM.
+pub fn stream(keys: &Keys, alloc: Global, key: &Bytes) -> Reply
+    ensures { StepAtAnyTime keys.now (Command.Inspect (OfStream key.now)) result keys.now }
+{
+    let Some(slot) = keys.get(key) else {
+        return Reply::Error(Fault::MissingKey);
+    };
+    match stream_shown(alloc, slot) {
+        Ok(reply) => reply,
+        Err(AllocError) => Reply::Error(Fault::Memory),
+    }
+}
