@@ -439,6 +439,16 @@ impl Entries {
         true
     }
 
+    /// Whether no block is filed under an id below this one.
+    fn begins_from(&self, low: Id) -> bool
+        ensures { result ≡ true → BeginsFrom low (contents self.now.older.entries) }
+    {
+        match self.older.first_key_value() {
+            Some((under, _)) => low <= *under,
+            None => true,
+        }
+    }
+
     /// How many entries have ids below this one, where no block is filed below it.
     fn count_below(&self, low: Id) -> usize
         requires filed { AreFiled (contents self.now.older.entries) self.now.newest.entries }
@@ -576,10 +586,13 @@ impl Entries {
         requires ids { AllIds (ids_of (all_of self.now)) }
         ensures { result ≡ count_above cursor (ids_of (all_of self.now)) }
     {
-        match cursor.next() {
-            Some(low) => self.count_from(low),
-            None => 0,
+        let Some(low) = cursor.next() else {
+            return 0;
+        };
+        if self.begins_from(low) {
+            return self.len - self.count_below(low);
         }
+        self.count_from(low)
     }
 
     /// The ids of a range that isn't empty, from its high end down, at most this many.
