@@ -37,8 +37,13 @@ impl Model for Stream {
 
     ghost Value = { StreamInMemory };
 
-    ghost view = { λ s. record { top = s.top; entries = all_of s.entries; added = s.added; deleted = s.deleted;
-        room = room_of s.entries } };
+    ghost view = { λ s. record {
+      top = s.top;
+      entries = all_of s.entries;
+      added = s.added;
+      deleted = s.deleted;
+      room = room_of s.entries;
+    } };
 
     ghost invariant = { λ s. IsSound s.top s.added s.entries };
 }

@@ -29,24 +29,24 @@ loop-id-preserved c =
     let id : Id = get_or ids c.loop-id.id-index (record { ms = 0; seq = 0 }) in
     let before = c.loop-id.greatest in
     let there : c.remove.result ≡ has_id (filter (λ x. not (has_id done x)) (ids_of all)) id =
-        c.remove.ensures.there ∙ ap (λ es. has_id (ids_of es) id) c.loop-id.invariant.entries ∙ ap (λ xs. has_id xs id) (ids_of-filter (λ x. not (has_id done x)) all) in
+    c.remove.ensures.there ∙ ap (λ es. has_id (ids_of es) id) c.loop-id.invariant.entries ∙ ap (λ xs. has_id xs id) (ids_of-filter (λ x. not (has_id done x)) all) in
     let counted : cond c.remove.result (greater before id) before ≡ greatest c.args.other (filter (has_id (take (c.loop-id.id-index + 1) ids)) (ids_of all)) =
-        ap (λ t. cond t (greater before id) before) there
-        ∙ ap (λ g. cond (has_id (filter (λ x. not (has_id done x)) (ids_of all)) id) (greater g id) g) c.loop-id.invariant.greatest
-        ∙ sym (greatest-more done id (ids_of all) c.args.other) ∙ ap (λ named. greatest c.args.other (filter (has_id named) (ids_of all))) (sym next) in
+    ap (λ t. cond t (greater before id) before) there
+    ∙ ap (λ g. cond (has_id (filter (λ x. not (has_id done x)) (ids_of all)) id) (greater g id) g) c.loop-id.invariant.greatest
+    ∙ sym (greatest-more done id (ids_of all) c.args.other) ∙ ap (λ named. greatest c.args.other (filter (has_id named) (ids_of all))) (sym next) in
     let taken : c.if-remove.greatest ≡ cond c.remove.result (greater before id) before =
-        elim c.if-remove.branch [
-          | then-remove+then-lt w ↦
-              let below : is_below before id ≡ true = sym (partial-below _ _) ∙ sym (w.if-lt.ensures) in
-              w.greatest-is ∙ rw (w.if-remove.true, below) refl
-          | else-remove w ↦
-              w.greatest-is ∙ elim w.else-remove.branch [
-                | else-remove-via-then-remove+else-lt w' ↦
-                    let below : is_below before id ≡ false = sym (partial-below _ _) ∙ sym (w'.if-lt.ensures) in
-                    rw (w'.if-remove.true, below) refl
-                | else-remove-via-else-remove w' ↦ rw w'.if-remove.false refl
-              ]
-        ] in
+    elim c.if-remove.branch [
+      | then-remove+then-lt w ↦
+          let below : is_below before id ≡ true = sym (partial-below _ _) ∙ sym (w.if-lt.ensures) in
+          w.greatest-is ∙ rw (w.if-remove.true, below) refl
+      | else-remove w ↦
+          w.greatest-is ∙ elim w.else-remove.branch [
+            | else-remove-via-then-remove+else-lt w' ↦
+                let below : is_below before id ≡ false = sym (partial-below _ _) ∙ sym (w'.if-lt.ensures) in
+                rw (w'.if-remove.true, below) refl
+            | else-remove-via-else-remove w' ↦ rw w'.if-remove.false refl
+          ]
+    ] in
     record {
       entries = c.remove.ensures.entries ∙ ap (remove_entry (is_same_id _)) c.loop-id.invariant.entries ∙ without-more (take c.loop-id.id-index ids) _ all c.requires.ascends
           ∙ ap (λ done. without done all) (sym next);
