@@ -14,7 +14,7 @@ use Rattle.xs_keys.specs.Terms.{ConsumerCreate, ConsumerDelete, ReadGroup, Ack, 
 use Rattle.xs_keys.specs.Terms.{DropKeys, Inspect, GroupCreateCommand, ReadGroupCommand, ReadOne}
 use Rattle.xs_keys.specs.Life.{StreamEvent, add_entry, delete_entries, trim_entries, is_listed, life_or_new}
 use Rattle.xs_keys.specs.Terms.{greatest}
-use Rattle.xs_keys.specs.Life.{key_life_after, key_life, greatest, entries_added_by, added_in, top, is_present}
+use Rattle.xs_keys.specs.Life.{key_life_after, key_life, entries_added_by, added_in, top, is_present}
 use Rattle.xs_keys.specs.Life.{present_entries}
 use Rattle.xs_keys.specs.GroupAsk.{GroupAsk, read_new, read_own, create_consumer, delete_consumer, acknowledge, claim}
 use Rattle.xs_keys.specs.GroupAsk.{auto_claim, new_ids_of_ask}
