@@ -89,6 +89,6 @@ pub record Rows : Type 0 where
   pub first_of_a_consumer_that_is_idle :
       pending_of everything 40 150 1 (Some (codes "a")) taken_over ≡ told (at 4 0) (codes "a") 50 1 ∷ []
   pub idle_in_a_range : pending_of (between (at 2 0) (at 3 0)) 40 150 10 (Some (codes "a")) group ≡ []
-  pub moment_before_its_time_own : 
+  pub moment_before_its_time_own :
       pending_of everything 0 90 1 None group
       ≡ record { id = at 1 0; consumer = codes "a"; time = 100; idle = 0; count = 1 } ∷ []

@@ -111,11 +111,7 @@ impl Group {
     }
 
     /// The consumers, in the order of their names (XINFO CONSUMERS).
-    pub fn consumers(
-        &self,
-        alloc: Global,
-        now: Moment,
-    ) -> Result<Vec<ConsumerReport>, AllocError>
+    pub fn consumers(&self, alloc: Global, now: Moment) -> Result<Vec<ConsumerReport>, AllocError>
         ensures { IfOk result (λ found. found.items ≡ consumer_reports now self.now) }
     {
         self.pending.consumers(alloc, now)

@@ -28,12 +28,98 @@ module _ (now : ℕ) (limit : Option ℕ) where
       let consumers = consumer_reports now group.1 in
       items-whole
       ((Bulk (codes "name") ∷ Bulk group.0 ∷ progress_part present group.1.cursor)
-      ++ (rows_part (length group.1.rows.entries) rows ++ listed_part (codes "consumers") (map (whole_consumer_reply now limit group.1) consumers)))
-      (tt, (tt, (tt, (tt, (tt, (tt, (tt, (tt, (tt, (tt, (tt, (items-whole (map row_reply rows) (all-whole row_reply row-whole rows), (tt,
-      (items-whole (map (whole_consumer_reply now limit group.1) consumers) (all-whole (whole_consumer_reply now limit group.1) (consumer-whole group.1) consumers), tt))))))))))))))
+      ++ (rows_part (length group.1.rows.entries) rows ++ listed_part (codes "consumers") (map (whole_consumer_reply now limit group.1) consumers))) (
+        tt,
+        (
+          tt,
+          (
+            tt,
+            (
+              tt,
+              (
+                tt,
+                (
+                  tt,
+                  (
+                    tt,
+                    (
+                      tt,
+                      (
+                        tt,
+                        (
+                          tt,
+                          (
+                            tt,
+                            (
+                              items-whole (map row_reply rows) (all-whole row_reply row-whole rows),
+                              (
+                                tt,
+                                (items-whole (map (whole_consumer_reply now limit group.1) consumers) (all-whole (whole_consumer_reply now limit group.1) (consumer-whole group.1) consumers), tt),
+                              ),
+                            ),
+                          ),
+                        ),
+                      ),
+                    ),
+                  ),
+                ),
+              ),
+            ),
+          ),
+        ),
+      )
 
   pub stream-whole : (entries shown : List (Id × List Field)) (stream : StreamState) (id : Id) (present : List Id) (groups : List (List ℕ × GroupState))
       → AreWhole (size_part entries ++ (past_part stream id ++ (listed_part (codes "entries") (map present_reply shown) ++ listed_part (codes "groups") (map (whole_group_reply now limit present) groups))))
-  stream-whole entries shown stream id present groups =
-      (tt, (tt, (tt, (tt, (tt, (tt, (tt, (tt, (tt, (tt, (tt, (tt, (tt, (tt, (tt, (items-whole (map present_reply shown) (all-whole present_reply present-whole shown), (tt,
-      (items-whole (map (whole_group_reply now limit present) groups) (all-whole (whole_group_reply now limit present) (group-whole present) groups), tt))))))))))))))))))
+  stream-whole entries shown stream id present groups = (
+    tt,
+    (
+      tt,
+      (
+        tt,
+        (
+          tt,
+          (
+            tt,
+            (
+              tt,
+              (
+                tt,
+                (
+                  tt,
+                  (
+                    tt,
+                    (
+                      tt,
+                      (
+                        tt,
+                        (
+                          tt,
+                          (
+                            tt,
+                            (
+                              tt,
+                              (
+                                tt,
+                                (
+                                  items-whole (map present_reply shown) (all-whole present_reply present-whole shown),
+                                  (
+                                    tt,
+                                    (items-whole (map (whole_group_reply now limit present) groups) (all-whole (whole_group_reply now limit present) (group-whole present) groups), tt),
+                                  ),
+                                ),
+                              ),
+                            ),
+                          ),
+                        ),
+                      ),
+                    ),
+                  ),
+                ),
+              ),
+            ),
+          ),
+        ),
+      ),
+    ),
+  )

@@ -157,11 +157,7 @@ fn push_consumers(
 }
 
 /// Appends the consumers of a group.
-fn push_group_consumers(
-    tokens: &mut Tokens,
-    asked: &Asked,
-    group: &Group,
-) -> Result<(), AllocError>
+fn push_group_consumers(tokens: &mut Tokens, asked: &Asked, group: &Group) -> Result<(), AllocError>
     ensures { let consumers = consumer_reports asked.now.moment group.now in
         let shown = map (whole_consumer_reply asked.now.moment asked.now.limit group.now) consumers in
         OnOk result (tokens.new ≡ tokens.old ++ flat_map tokens_of (listed_part (codes "consumers") shown)) }
@@ -245,13 +241,7 @@ fn stream_shown(asked: &Asked, slot: &Slot) -> Result<Reply, AllocError>
 }
 
 /// XINFO STREAM with FULL.
-pub fn stream(
-    keys: &Keys,
-    alloc: Global,
-    now: Moment,
-    key: &Bytes,
-    limit: Option<u64>,
-) -> Reply
+pub fn stream(keys: &Keys, alloc: Global, now: Moment, key: &Bytes, limit: Option<u64>) -> Reply
     ensures { Step keys.now now (Command.Inspect (StreamInFull key.now limit)) result keys.now }
 {
     let Some(slot) = keys.get(key) else {

@@ -1,4 +1,4 @@
-use Rattle.std.proofs.Common.{◌≡◌, List, ◌++◌, [], ◌∷◌, codes, length, map, None, Some, OnOk, sym, ap, ◌∙◌, subst}
+use Rattle.std.proofs.Common.{◌≡◌, List, ◌++◌, [], ◌∷◌, codes, length, map, None, Some, OnOk, sym, ap, ◌∙◌, subst, arith}
 use Rattle.std.specs.List.{flat_map}
 use Rattle.xs_resp.specs.Token.{Token}
 use Rattle.xs_resp.specs.ReplyItems.{tokens_of}
@@ -14,4 +14,4 @@ returns c =
     let counted = appended before _ _ _ _ seen c.in_ok-push_bulk-3.ensures.ok in
     let count = appended before _ _ _ _ counted c.in_ok-push_int.ensures.ok in
     let named = appended before _ _ _ _ count c.in_ok-push_bulk-4.ensures.ok in
-    array-last c.push_own_rows.result own_row_reply c.args.rows.items c.len.result before _ _ _ _ c.len.ensures named c.in_ok-push_array.ensures.ok c.push_own_rows.ensures
+    array-last c.push_own_rows.result own_row_reply c.args.rows.items c.len.result before _ _ _ _ (omega (arith, c.len.ensures, c.args.rows.ok.0)) named c.in_ok-push_array.ensures.ok c.push_own_rows.ensures
