@@ -94,9 +94,23 @@ pub record GroupExamples : Type 0 where
   pub info_groups_too_short : HasFault (codes "XINFO GROUPS") Arity
   pub info_groups_too_long : HasFault (codes "XINFO GROUPS k g") Arity
   pub info_stream : Spells (codes "XINFO Stream k") (command.Inspect (inspection.Stream (codes "k")))
-  pub info_stream_in_full : HasFault (codes "XINFO STREAM k full") Unsupported
+  pub info_stream_in_full :
+      Spells (codes "XINFO STREAM k full") (command.Inspect (inspection.StreamInFull (codes "k") (Some 10)))
+  pub info_stream_counted :
+      Spells (codes "XINFO STREAM k FULL Count 3") (command.Inspect (inspection.StreamInFull (codes "k") (Some 3)))
+  pub info_stream_of_all :
+      Spells (codes "XINFO STREAM k FULL COUNT 0") (command.Inspect (inspection.StreamInFull (codes "k") None))
+  pub info_stream_counted_below_zero :
+      Spells (codes "XINFO STREAM k FULL COUNT -3") (command.Inspect (inspection.StreamInFull (codes "k") (Some 10)))
+  pub info_stream_counted_by_a_word : HasFault (codes "XINFO STREAM k FULL COUNT x") NotInteger
+  pub info_stream_counted_by_nothing : HasFault (codes "XINFO STREAM k FULL COUNT") Syntax
+  pub info_stream_counted_twice : HasFault (codes "XINFO STREAM k FULL COUNT 1 COUNT 1") Syntax
+  pub info_stream_with_another_word : HasFault (codes "XINFO STREAM k FULL x") Syntax
   pub info_stream_too_long : HasFault (codes "XINFO STREAM k x") Syntax
-  pub info_consumers : HasFault (codes "XINFO CONSUMERS k g") Unsupported
+  pub info_consumers :
+      Spells (codes "XINFO CONSUMERS k g") (command.Inspect (inspection.Consumers (codes "k") (codes "g")))
+  pub info_consumers_too_short : HasFault (codes "XINFO CONSUMERS k") Arity
+  pub info_consumers_too_long : HasFault (codes "XINFO CONSUMERS k g c") Arity
   pub alone : HasFault (codes "XGROUP") Arity
   pub set_id : HasFault (codes "XGROUP SETID k g x") Unsupported
   pub another : HasFault (codes "XGROUP HELP") UnknownCommand

@@ -81,8 +81,12 @@ pub enum Command {
 pub enum Inspection {
     /// XINFO STREAM.
     Stream { key: Bytes },
+    /// XINFO STREAM with FULL: of each list at most so many.
+    StreamInFull { key: Bytes, limit: Option<u64> },
     /// XINFO GROUPS.
     Groups { key: Bytes },
+    /// XINFO CONSUMERS.
+    Consumers { key: Bytes, group: Bytes },
     /// EXISTS.
     Existence { keys: List<Bytes> },
     /// TYPE.

@@ -1,10 +1,13 @@
 //! XINFO.
 ghost use Rattle.std.specs.Prelude.{◌≡◌};
 ghost use Rattle.xs_command.specs.Words.{Gives};
-ghost use Rattle.xs_command.specs.Xinfo.{groups, stream, stream_form, subcommand_of, info_syntax, xinfo};
+ghost use Rattle.xs_command.specs.declared.command.Inspection.TheVariants.{StreamInFull};
+ghost use Rattle.xs_command.specs.Xinfo.{groups, stream, stream_form, stream_in_full, stream_counted, full_limit};
+ghost use Rattle.xs_command.specs.Xinfo.{consumers, subcommand_of, info_syntax, xinfo};
 
 use crate::command::{Command, Inspection};
 use crate::command_name::allows;
+use crate::integer::Integer;
 use crate::refusal::Refusal;
 use crate::word::Word;
 use crate::words::Words;
@@ -72,7 +75,7 @@ fn read_named(alloc: Global, sub: Subcommand, words: &Words<'_>) -> Result<Comma
     match sub {
         Subcommand::Groups => read_groups(alloc, words),
         Subcommand::Stream => read_stream(alloc, words),
-        Subcommand::Consumers => Err(Refusal::Said(Fault::Unsupported)),
+        Subcommand::Consumers => read_consumers(alloc, words),
     }
 }
 
@@ -85,7 +88,18 @@ fn read_groups(alloc: Global, words: &Words<'_>) -> Result<Command, Refusal>
     words.only(Command::Inspect(Inspection::Groups { key }), Fault::Syntax)
 }
 
-/// `XINFO STREAM key`
+/// `XINFO CONSUMERS key group`
+#[tactic(auto, unfolding(crate::specs::Xinfo::consumers))]
+fn read_consumers(alloc: Global, words: &Words<'_>) -> Result<Command, Refusal>
+    ensures { Gives result (consumers words.now) }
+{
+    let (key, words) = words.name(alloc)?;
+    let (group, words) = words.name(alloc)?;
+    let consumers = Inspection::Consumers { key, group };
+    words.only(Command::Inspect(consumers), Fault::Syntax)
+}
+
+/// `XINFO STREAM key [FULL [COUNT n]]`
 #[tactic(auto, unfolding(crate::specs::Xinfo::stream))]
 fn read_stream(alloc: Global, words: &Words<'_>) -> Result<Command, Refusal>
     ensures { Gives result (stream words.now) }
@@ -94,16 +108,59 @@ fn read_stream(alloc: Global, words: &Words<'_>) -> Result<Command, Refusal>
     read_form(key, &words)
 }
 
-/// Nothing, or FULL, which isn't supported.
+/// Nothing, or FULL.
 #[tactic(auto, unfolding(crate::specs::Xinfo::stream_form, crate::specs::Words::word))]
 fn read_form(key: Bytes, words: &Words<'_>) -> Result<Command, Refusal>
     ensures { Gives result (stream_form key words.now) }
 {
-    let Ok((word, _)) = words.word() else {
+    let Ok((word, words)) = words.word() else {
         return Ok(Command::Inspect(Inspection::Stream { key }));
     };
     if word.is(b"full") {
-        return Err(Refusal::Said(Fault::Unsupported));
+        return read_full(key, &words);
     }
     Err(Refusal::Said(Fault::Syntax))
+}
+
+/// How many of each list there are at most if nothing is said, or a number below 0.
+const FULL_LIMIT: u64 = 10;
+
+/// Nothing, or COUNT and a number.
+#[tactic(auto, unfolding(crate::specs::Xinfo::stream_in_full, crate::specs::Words::word))]
+fn read_full(key: Bytes, words: &Words<'_>) -> Result<Command, Refusal>
+    ensures { Gives result (stream_in_full key words.now) }
+{
+    let Ok((word, words)) = words.word() else {
+        return Ok(in_full(key, Some(FULL_LIMIT)));
+    };
+    if word.is(b"count") {
+        return read_counted(key, &words);
+    }
+    Err(Refusal::Said(Fault::Syntax))
+}
+
+/// The number behind COUNT.
+#[tactic(auto, unfolding(crate::specs::Xinfo::stream_counted))]
+fn read_counted(key: Bytes, words: &Words<'_>) -> Result<Command, Refusal>
+    ensures { Gives result (stream_counted key words.now) }
+{
+    let (count, words) = words.integer()?;
+    words.only(in_full(key, limit_of(count)), Fault::Syntax)
+}
+
+/// The stream with its entries and groups.
+fn in_full(key: Bytes, limit: Option<u64>) -> Command
+    ensures { result ≡ Command.Inspect (StreamInFull key limit) }
+{
+    Command::Inspect(Inspection::StreamInFull { key, limit })
+}
+
+/// All if it is 0, and ten if it is below 0.
+fn limit_of(count: Integer) -> Option<u64>
+    ensures { result ≡ full_limit count }
+{
+    match count {
+        Integer::Negative => Some(FULL_LIMIT),
+        Integer::Natural(count) => (count.get() != 0).then_some(count.get()),
+    }
 }

@@ -2,12 +2,12 @@
 use Rattle.xs_group.proofs.Terms.{◌≡◌, ℕ, suc, zero, Bool, true, false, cond, not, List, [], ◌∷◌, take}
 use Rattle.xs_group.proofs.Terms.{Some, refl, false≢true, nat_list_cmp_total, get, remove, change}
 use Rattle.xs_group.proofs.Terms.{insert_by, get-insert_by, get-remove, Id, has_id}
-use Rattle.xs_group.proofs.Terms.{RowState, Rows, Names, ids_total, has_name, with_name, with_rows, unless_acked}
+use Rattle.xs_group.proofs.Terms.{RowState, Rows, Consumers, ids_total, has_name, with_name, with_seen, with_rows, unless_acked}
 use Rattle.xs_group.proofs.Terms.{unless_owned, rows_of, indexed_row, ConsumerIndex, AreFree, IsAgreed, IsNamed}
-use Rattle.xs_group.proofs.Terms.{PendingList, AreAgreedBut, arith}
+use Rattle.xs_group.proofs.Terms.{PendingList, AreAgreedBut, arith, eqb, length, is_any, ap, insert, nat_tests, ◌||◌, ◌&&◌}
 use Rattle.xs_group.proofs.ByConsumer.{is_same_name-eq, is_same_name-refl, is_same_name-symm}
-use Rattle.xs_group.proofs.Views.{same_rows, same_names, get-rows_of}
-use Rattle.xs_group.proofs.Agreeing.{has_name-with_name, none-from_free}
+use Rattle.xs_group.proofs.Views.{same_rows, same_consumers, get-rows_of}
+use Rattle.xs_group.proofs.Agreeing.{has_name-with_name, get-with_name, get-put, none-from_free}
 use Rattle.xs_group.proofs.RemovedRows.{get-changed, change-nothing}
 
 pub get-with_rows : (ids : List Id) (row : RowState) (rows : Rows) (q : Id) → get (with_rows ids row rows) q ≡ cond (has_id ids q) (Some row) (get rows q)
@@ -46,29 +46,60 @@ out-again ids row rows free = same_rows _ _ (λ q.
 
 -- ---- a consumer that is put and taken out again
 
-pub out-names : (names : Names) (name : List ℕ) → has_name names name ≡ false → remove (with_name names name) name ≡ names
-out-names names name none = same_names _ _ (λ q. grind (
+pub out-consumers : (consumers : Consumers) (name : List ℕ) (now : ℕ) (given : Bool) → has_name consumers name ≡ false → remove (with_name consumers name now given) name ≡ consumers
+out-consumers consumers name now given none = same_consumers _ _ (λ q. grind (
   arith,
-  get-remove nat_list_cmp_total (with_name names name) name q,
-  has_name-with_name names name q,
+  get-remove nat_list_cmp_total (with_name consumers name now given) name q,
+  get-with_name consumers name now given q,
   is_same_name-eq q name,
 ))
 
+-- a consumer that was there has its moment again
+pub seen-again : (consumers : Consumers) (name : List ℕ) (now seen : ℕ) (given : Bool) → get consumers name ≡ Some seen → with_seen (with_name consumers name now given) name seen ≡ consumers
+seen-again consumers name now seen given was = same_consumers _ _ (λ q. grind (
+  arith,
+  get-put (with_name consumers name now given) name seen (has_name (with_name consumers name now given) name) q,
+  has_name-with_name consumers name now given name,
+  is_same_name-refl name,
+  get-with_name consumers name now given q,
+  is_same_name-eq q name,
+))
+
+-- a consumer that is there is given something
+pub given-now : (consumers : Consumers) (name : List ℕ) (now : ℕ) → has_name consumers name ≡ true → with_seen consumers name now ≡ with_name consumers name now true
+given-now consumers name now there = rw there refl
+
+-- whether it is given something
+pub given-any : (ids : List Id) (is_empty : Bool) → is_empty ≡ eqb (length ids) 0 → not is_empty ≡ is_any ids
+given-any [] is_empty e = ap not e
+given-any (x ∷ xs) is_empty e = grind (arith, nat_tests)
+
+-- first put in, then given something or nothing
+pub given-then : (consumers : Consumers) (name : List ℕ) (now : ℕ) (given : Bool) → with_name (with_name consumers name now false) name now given ≡ with_name consumers name now given
+given-then consumers name now given = same_consumers _ _ (λ q. grind (
+  arith,
+  get-with_name (with_name consumers name now false) name now given q,
+  has_name-with_name consumers name now false name,
+  is_same_name-refl name,
+  get-with_name consumers name now false q,
+  get-with_name consumers name now given q,
+))
+
 -- a consumer that isn't there has no rows
-pub unowned-rows : (names : Names) (rows : Rows) (name : List ℕ) → IsNamed names rows → has_name names name ≡ false → change (unless_owned name) rows ≡ rows
+pub unowned-rows : (names : Consumers) (rows : Rows) (name : List ℕ) → IsNamed names rows → has_name names name ≡ false → change (unless_owned name) rows ≡ rows
 unowned-rows names rows name named none =
     change-nothing (unless_owned name) rows (λ q. grind (arith, named name q))
 
 -- without the consumer that was put in, a group is what it was
-pub held-back : (held : PendingList) (name : List ℕ) → change (unless_owned name) held.rows ≡ held.rows
+pub held-back : (held : PendingList) (name : List ℕ) (now : ℕ) (given : Bool) → change (unless_owned name) held.rows ≡ held.rows
     → true ≡ not (has_name held.consumers name)
-    → ◌≡◌ {A = PendingList} (record { consumers = remove (with_name held.consumers name) name; rows = change (unless_owned name) held.rows }) held
-held-back held name unowned new =
+    → ◌≡◌ {A = PendingList} (record { consumers = remove (with_name held.consumers name now given) name; rows = change (unless_owned name) held.rows }) held
+held-back held name now given unowned new =
     let none : has_name held.consumers name ≡ false = grind arith in
-    λ i. record { consumers = out-names held.consumers name none i; rows = unowned i }
+    λ i. record { consumers = out-consumers held.consumers name now given none i; rows = unowned i }
 
-pub name-there : (names : Names) (name : List ℕ) → has_name (with_name names name) name ≡ true
-name-there names name = grind (arith, has_name-with_name names name name, is_same_name-refl name)
+pub name-there : (consumers : Consumers) (name : List ℕ) (now : ℕ) (given : Bool) → has_name (with_name consumers name now given) name ≡ true
+name-there consumers name now given = grind (arith, has_name-with_name consumers name now given name, is_same_name-refl name)
 
 pub was_there : (b : Bool) → false ≡ not b → b ≡ true
 was_there b e = grind arith

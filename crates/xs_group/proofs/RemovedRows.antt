@@ -3,11 +3,11 @@ use Rattle.xs_group.proofs.Terms.{◌≡◌, ℕ, ◌≤◌, suc, Bool, true, co
 use Rattle.xs_group.proofs.Terms.{option_and_then, sym, ap, ◌∙◌, refl, arith, BTreeSet, list_any, nat_list_cmp_total}
 use Rattle.xs_group.proofs.Terms.{list_any-append, with_some, each, get, has_key, remove, empty, get-change, get-remove}
 use Rattle.xs_group.proofs.Terms.{get-empty, Id, id_cmp, is_same_id, same_id, RowState, Rows}
-use Rattle.xs_group.proofs.Terms.{ids_total, is_same_name, unless_acked, unless_owned, rows_of, ConsumerIndex, names_of}
-use Rattle.xs_group.proofs.Terms.{ids_at, has_among, has_pending_id, is_owner, indexed_row, IsAgreed, IsNamed, IsUpTo}
+use Rattle.xs_group.proofs.Terms.{ids_total, is_same_name, unless_acked, unless_owned, rows_of, ConsumerIndex, consumers_of}
+use Rattle.xs_group.proofs.Terms.{owner_at, ids_at, has_among, has_pending_id, is_owner, indexed_row, IsAgreed, IsNamed, IsUpTo}
 use Rattle.xs_bytes.specs.SortedMap.{change}
 use Rattle.xs_group.proofs.ByConsumer.{is_same_name-eq, is_same_name-symm}
-use Rattle.xs_group.proofs.Views.{same_rows, same_names, get-rows_of, has_name-names_of}
+use Rattle.xs_group.proofs.Views.{same_rows, same_consumers, get-rows_of, get-consumers_of, has_name-consumers_of}
 
 -- a row as it changes
 pub get-changed : (f : Id → RowState → Option RowState) (rows : Rows) (q : Id) → get (change f rows) q ≡ option_and_then (f q) (get rows q)
@@ -63,15 +63,19 @@ module _ (rows new : List (Id × RowState)) (a b : ConsumerIndex) (name : List �
     by t (Some row) e f =
         grind (arith, left x, agreed name x, agreed q x, is_same_name-eq row.consumer name, is_same_name-eq name q)
 
-pub names-without : (a b : ConsumerIndex) (name : List ℕ) → ((q : List ℕ) → ids_at b q ≡ cond (is_same_name name q) None (ids_at a q)) → names_of b ≡ remove (names_of a) name
-names-without a b name u = same_names _ _ (λ q. grind (
+pub consumers-without : (a b : ConsumerIndex) (name : List ℕ) → ((q : List ℕ) → owner_at b q ≡ cond (is_same_name name q) None (owner_at a q)) → consumers_of b ≡ remove (consumers_of a) name
+consumers-without a b name u = same_consumers _ _ (λ q. grind (
   arith,
-  has_name-names_of b q,
-  has_name-names_of a q,
+  get-consumers_of b q,
+  get-consumers_of a q,
   u q,
   is_same_name-symm name q,
-  get-remove nat_list_cmp_total (names_of a) name q,
+  get-remove nat_list_cmp_total (consumers_of a) name q,
 ))
+
+-- the ids that are left are those of the consumers that are left
+pub ids-without : (a b : ConsumerIndex) (name : List ℕ) → ((q : List ℕ) → owner_at b q ≡ cond (is_same_name name q) None (owner_at a q)) → (q : List ℕ) → ids_at b q ≡ cond (is_same_name name q) None (ids_at a q)
+ids-without a b name u q = grind (arith, u q)
 
 pub left-none : (rows : List (Id × RowState)) (a : ConsumerIndex) (name : List ℕ) → ids_at a name ≡ None → (x : Id) → indexed_row rows x ≡ cond (has_pending_id a name x) None (indexed_row rows x)
 left-none rows a name none x = ap (λ (o : Option (BTreeSet Id)). cond (has_among o x) None (indexed_row rows x)) (sym none)
@@ -91,5 +95,5 @@ key-change f rows x e = grind (arith, get-changed f rows x)
 pub up_to-change : (f : Id → RowState → Option RowState) (cursor : Id) (rows : Rows) → IsUpTo cursor rows → IsUpTo cursor (change f rows)
 up_to-change f cursor rows up x e = up x (key-change f rows x e)
 
-pub named-agreed : (rows : List (Id × RowState)) (a : ConsumerIndex) → IsAgreed rows a → IsNamed (names_of a) (rows_of rows)
-named-agreed rows a agreed name x e = grind (arith, has_name-names_of a name, agreed name x, get-rows_of rows x)
+pub named-agreed : (rows : List (Id × RowState)) (a : ConsumerIndex) → IsAgreed rows a → IsNamed (consumers_of a) (rows_of rows)
+named-agreed rows a agreed name x e = grind (arith, has_name-consumers_of a name, agreed name x, get-rows_of rows x)

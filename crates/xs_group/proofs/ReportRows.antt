@@ -2,12 +2,13 @@
 use Rattle.xs_group.proofs.Terms.{◌≡◌, ℕ, ◌-◌, suc, Bool, true, false, cond, ◌&&◌, leb, List, [], ◌∷◌, map, filter}
 use Rattle.xs_group.proofs.Terms.{take, length, Option, Some, None, sym, ap, ◌∙◌, refl, subst, arith, T, AllByRecursion}
 use Rattle.xs_group.proofs.Terms.{slice_get, IsStrictlySortedBy, keys_of, IsOrdered, range_contains, entries_between}
-use Rattle.xs_group.proofs.Terms.{BTreeSet, Included, below_all, is_sorted, same_entries, nat_cmp, slice_cmp}
+use Rattle.xs_group.proofs.Terms.{Owner, Included, below_all, is_sorted, same_entries, nat_cmp, slice_cmp}
 use Rattle.xs_group.proofs.Terms.{nat_list_cmp_total, exact_bytes, keys, get-of_entries, Id, Range, id_cmp, is_below}
 use Rattle.xs_group.proofs.Terms.{is_within, between-within, filter-filter, PendingRow, Selection, RowState}
-use Rattle.xs_group.proofs.Terms.{is_same_name, idle_time, ids_of_consumer, ConsumerIndex, names_of, ids_at}
+use Rattle.xs_group.proofs.Terms.{is_same_name, idle_time, ids_of_consumer, ConsumerIndex, consumers_of, owner_at}
 use Rattle.xs_group.proofs.Terms.{indexed_row, rows_of}
 use Rattle.xs_group.proofs.Terms.{last_id, pending_row, is_selected, below-not_below}
+use Rattle.xs_group.proofs.Terms.{ConsumerReport, consumer_reports}
 use Rattle.xs_bytes.specs.SortedMap.{get}
 use Rattle.xs_group.proofs.ByConsumer.{Index, is_same_name-symm, is_same_name-refl}
 use Rattle.xs_group.proofs.Ordered.{is_sorted-from, first, second}
@@ -27,9 +28,9 @@ last-told (f ∷ g ∷ es) x row e =
 
 -- each entry is the one that a look-up finds
 abbrev pub AreHeld : ConsumerIndex → ConsumerIndex → Type 0
-AreHeld owners es = AllByRecursion (λ e. Some e.1 ≡ ids_at owners e.0) es
+AreHeld owners es = AllByRecursion (λ e. Some e.1 ≡ owner_at owners e.0) es
 
-held-later : (e : List ℕ × BTreeSet Id) (owners es : ConsumerIndex) → T (below_all (slice_cmp nat_cmp) e.0 es) → AreHeld owners es → AreHeld (e ∷ owners) es
+held-later : (e : List ℕ × Owner) (owners es : ConsumerIndex) → T (below_all (slice_cmp nat_cmp) e.0 es) → AreHeld owners es → AreHeld (e ∷ owners) es
 held-later e owners [] b a = tt
 held-later e owners (f ∷ fs) b a = (
   grind (arith, a.0, is_same_name-symm f.0 e.0),
@@ -46,28 +47,31 @@ held-sorted (e ∷ es) s = (
 pub held-all : (m : Index) → IsOrdered (slice_cmp nat_cmp) m → AreHeld m.entries m.entries
 held-all m o = held-sorted m.entries (is_sorted-from (slice_cmp nat_cmp) m.entries o)
 
-abbrev named : List ℕ × BTreeSet Id → List ℕ × Unit {0}
-named e = (e.0, tt)
+-- a consumer with its moment
+abbrev pub with_moment : List ℕ × Owner → List ℕ × ℕ
+with_moment e = (e.0, e.1.seen)
 
-keys-units : (es : ConsumerIndex) → keys_of (map named es) ≡ keys_of es
-keys-units [] = refl
-keys-units (e ∷ es) = ap (λ rest. e.0 ∷ rest) (keys-units es)
+keys-moments : (es : ConsumerIndex) → keys_of (map with_moment es) ≡ keys_of es
+keys-moments [] = refl
+keys-moments (e ∷ es) = ap (λ rest. e.0 ∷ rest) (keys-moments es)
 
-pub keys-names_of : (m : Index) → IsOrdered (slice_cmp nat_cmp) m → keys (names_of m.entries) ≡ keys_of m.entries
+pub entries-consumers_of : (m : Index) → IsOrdered (slice_cmp nat_cmp) m → (consumers_of m.entries).entries ≡ map with_moment m.entries
 unfolding get
-keys-names_of m o =
-    ap (λ (es : List (List ℕ × Unit {0})). map (λ e. e.0) es) (same_entries (slice_cmp nat_cmp) nat_list_cmp_total exact_bytes (names_of m.entries).entries (map named m.entries) (names_of m.entries).sorted
-    (is_sorted-from (slice_cmp nat_cmp) (map named m.entries) (subst (IsStrictlySortedBy (slice_cmp nat_cmp)) (sym (keys-units m.entries)) o))
-    (λ q. get-of_entries nat_list_cmp_total (map named m.entries) q))
-    ∙ keys-units m.entries
+entries-consumers_of m o =
+    same_entries (slice_cmp nat_cmp) nat_list_cmp_total exact_bytes (consumers_of m.entries).entries (map with_moment m.entries) (consumers_of m.entries).sorted
+    (is_sorted-from (slice_cmp nat_cmp) (map with_moment m.entries) (subst (IsStrictlySortedBy (slice_cmp nat_cmp)) (sym (keys-moments m.entries)) o))
+    (λ q. get-of_entries nat_list_cmp_total (map with_moment m.entries) q)
+
+pub keys-consumers_of : (m : Index) → IsOrdered (slice_cmp nat_cmp) m → keys (consumers_of m.entries) ≡ keys_of m.entries
+keys-consumers_of m o = ap (λ (es : List (List ℕ × ℕ)). map (λ e. e.0) es) (entries-consumers_of m o) ∙ keys-moments m.entries
 
 length-keys : {X : Type 0} (es : List (List ℕ × X)) → length (keys_of es) ≡ length es
 length-keys [] = refl
 length-keys (e ∷ es) = ap suc (length-keys es)
 
 -- as many consumers as the index has
-pub length-names_of : (m : Index) → IsOrdered (slice_cmp nat_cmp) m → length (names_of m.entries).entries ≡ length m.entries
-length-names_of m o = sym (length-keys (names_of m.entries).entries) ∙ ap length (keys-names_of m o) ∙ length-keys m.entries
+pub length-consumers_of : (m : Index) → IsOrdered (slice_cmp nat_cmp) m → length (consumers_of m.entries).entries ≡ length m.entries
+length-consumers_of m o = sym (length-keys (consumers_of m.entries).entries) ∙ ap length (keys-consumers_of m o) ∙ length-keys m.entries
 
 -- ---- rows
 
@@ -139,3 +143,19 @@ asked-none range min now limit consumer rows h = grind (arith, none rows) where
 
 pub take-none : (n : ℕ) → ◌≡◌ {A = List PendingRow} (take n []) []
 take-none n = grind arith
+
+-- ---- reports of consumers
+
+module _ (now : ℕ) (rows : List (Id × RowState)) where
+  abbrev pub report : List ℕ × Owner → ConsumerReport
+  report e = record { consumer = e.0; pending = length (ids_of_consumer e.0 (rows_of rows).entries); seen = e.1.seen; idle = idle_time now e.1.seen }
+
+  pub reports-told : (m : Index) → IsOrdered (slice_cmp nat_cmp) m → (cursor : Id)
+      → map report m.entries ≡ consumer_reports now (record { cursor = cursor; consumers = consumers_of m.entries; rows = rows_of rows })
+  reports-told m o cursor = sym (map-map m.entries) ∙ sym (ap (map told) (entries-consumers_of m o)) where
+    told : List ℕ × ℕ → ConsumerReport
+    told e = record { consumer = e.0; pending = length (ids_of_consumer e.0 (rows_of rows).entries); seen = e.1; idle = idle_time now e.1 }
+
+    map-map : (es : ConsumerIndex) → map told (map with_moment es) ≡ map report es
+    map-map [] = refl
+    map-map (e ∷ es) = ap (λ rest. report e ∷ rest) (map-map es)

@@ -32,7 +32,7 @@ pub use Rattle.std.specs.declared.cmp.Ordering.TheVariants.{Less}
 pub use Rattle.std.specs.declared.ops.Bound.TheVariants.{Included, Unbounded}
 pub use Rattle.xs_bytes.proofs.SortedMaps.{get-insert_by, get-remove, get-of_entries, get-change, get-empty, same_map}
 pub use Rattle.xs_bytes.specs.Each.{with_some, each}
-pub use Rattle.xs_bytes.specs.SortedMap.{get, has_key, change, remove, insert_by, empty, keys}
+pub use Rattle.xs_bytes.specs.SortedMap.{get, has_key, change, remove, insert, insert_by, empty, keys}
 pub use Rattle.xs_stream.proofs.InOrder.{between-within, filter-filter, limited-none}
 pub use Rattle.xs_stream.proofs.Lending.{is-lent}
 pub use Rattle.xs_stream.proofs.Order.{is_same_id-eq, is_same_id-symm, equal-from, below-not_back, below-irrefl}
@@ -53,24 +53,27 @@ pub use Rattle.xs_group.specs.Deliveries.{touch_of, shown_row, shown_rows, touch
 pub use Rattle.xs_group.specs.Deliveries.{set_one}
 pub use Rattle.xs_group.specs.Deliveries.{set_rows, row_ids, delivery_of, history_of, new_rows, kind_of}
 pub use Rattle.xs_group.specs.Deliveries.{rows_taken_back}
-pub use Rattle.xs_group.specs.Deliveries.{without_new_consumer, list_without_delivery, IsDelivered, IsReread, IsMade}
-pub use Rattle.xs_group.specs.GroupState.{RowState, Rows, Names, is_same_name, with_name, has_name, GroupState}
+pub use Rattle.xs_group.specs.Deliveries.{with_seen, with_consumer_before, list_without_delivery, IsDelivered, IsReread, IsMade}
+pub use Rattle.xs_group.specs.GroupState.{RowState, Rows, Consumers, is_same_name, with_name, has_name, is_any, GroupState}
 pub use Rattle.xs_group.specs.GroupState.{unless_acked, last_of, with_rows, ids_total, unless_owned, ids_of_consumer}
 pub use Rattle.xs_group.specs.GroupState.{idle_time}
 pub use Rattle.xs_group.specs.GroupState.{row_after_reread, new_ids, first_row, reread_ids, group_after_delivery}
 pub use Rattle.xs_group.specs.GroupState.{group_after_reread}
-pub use Rattle.xs_group.specs.Indexes.{rows_of, PendingList, ConsumerIndex, names_of, ids_at, has_among, has_pending_id}
+pub use Rattle.xs_group.specs.Indexes.{rows_of, PendingList, ConsumerIndex, consumers_of, owner_at, seen_of, ids_of_owner, seen_at, ids_at, has_among}
+pub use Rattle.xs_group.specs.Indexes.{has_pending_id}
 pub use Rattle.xs_group.specs.Indexes.{is_owner, indexed_row, IsAgreed, AreFree, IsNamed}
-pub use Rattle.xs_group.specs.Report.{first_id, last_id, pending_row, is_selected, counts_of_owners}
+pub use Rattle.xs_group.specs.Report.{first_id, last_id, pending_row, is_selected, counts_of_owners, consumer_reports}
 pub use Rattle.xs_group.specs.Verdict.{row_after_move, ids_scanned_after, AreDistinct, IsClaimOn, is_taken_by}
 pub use Rattle.xs_group.specs.Verdict.{is_removed_by}
 pub use Rattle.xs_group.specs.Verdict.{verdict_of, with_taken, with_removed, hits_of, AreAgreedBut, AreSomeOf}
 pub use Rattle.xs_group.specs.declared.claims.Claim.{Claim}
 pub use Rattle.xs_group.specs.declared.claims.Scan.{Scan}
 pub use Rattle.xs_group.specs.declared.claims.Verdict.{Verdict}
+pub use Rattle.xs_group.specs.declared.consumer_index.Owner.{Owner}
 pub use Rattle.xs_group.specs.declared.delivery.Delivery.{Delivery}
 pub use Rattle.xs_group.specs.declared.delivery.DeliveryRow.{DeliveryRow}
 pub use Rattle.xs_group.specs.declared.delivery.Touch.{Touch}
+pub use Rattle.xs_group.specs.declared.reports.ConsumerReport.{ConsumerReport}
 pub use Rattle.xs_group.specs.declared.reports.OwnerCount.{OwnerCount}
 pub use Rattle.xs_group.specs.declared.reports.PendingRow.{PendingRow}
 pub use Rattle.xs_group.specs.declared.reports.Selection.{Selection}

@@ -3,7 +3,7 @@ use Rattle.xs_group.proofs.Terms.{◌≡◌, ℕ, cond, List, [], ◌∷◌, ◌
 use Rattle.xs_group.proofs.Terms.{get, change, Id, id_cmp, is_same_id, has_id, is_same_id-eq, is_same_id-symm, Touch}
 use Rattle.xs_group.proofs.Terms.{DeliveryRow, RowState, Rows, row_after_reread, rows_of, ConsumerIndex, indexed_row}
 use Rattle.xs_group.proofs.Terms.{IsAgreed, shown_row, shown_rows, touch_set, with_touch, row_after_touch, set_one}
-use Rattle.xs_group.proofs.Terms.{set_rows}
+use Rattle.xs_group.proofs.Terms.{set_rows, list_any, ◌||◌}
 use Rattle.xs_group.proofs.Terms.{row_ids, arith}
 use Rattle.xs_group.proofs.Views.{RowMap, get-rows_of, same_rows}
 use Rattle.xs_group.proofs.RemovedRows.{get-changed, change-nothing}
@@ -67,6 +67,11 @@ rows-reread now present ids rows =
       get-set_rows (Some now) (shown_row rows present) (λ x. refl) ids rows q,
       get-changed (row_after_reread now ids present) rows q,
     ))
+
+-- whether any of them is in the stream
+pub any-shown : (rows : Rows) (present ids : List Id) → list_any (λ r. r.present) (shown_rows rows present ids) ≡ list_any (has_id present) ids
+any-shown rows present [] = refl
+any-shown rows present (x ∷ xs) = ap (λ rest. has_id present x || rest) (any-shown rows present xs)
 
 -- and taken back
 pub rows-unread : (now : ℕ) (present ids : List Id) (rows : Rows) → set_rows None (shown_rows rows present ids) (change (row_after_reread now ids present) rows) ≡ rows

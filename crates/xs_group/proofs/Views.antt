@@ -2,8 +2,8 @@
 use Rattle.xs_group.proofs.Terms.{◌≡◌, ℕ, cond, List, [], ◌∷◌, map, Option, Some, None, is_some, sym, ap, ◌∙◌, refl}
 use Rattle.xs_group.proofs.Terms.{BTreeMap, Ordering, find, lookup, UpdatesBy, is_at, nat_cmp, eq_by_cmp, slice_cmp}
 use Rattle.xs_group.proofs.Terms.{nat_list_cmp_total, exact_bytes, get, remove, get-of_entries, get-remove, same_map}
-use Rattle.xs_group.proofs.Terms.{Id, id_cmp, same_id, is_same_id-symm, RowState, Rows, Names, has_name, ids_total}
-use Rattle.xs_group.proofs.Terms.{rows_of, ConsumerIndex, names_of, ids_at, indexed_row, arith}
+use Rattle.xs_group.proofs.Terms.{Id, id_cmp, same_id, is_same_id-symm, RowState, Rows, Consumers, has_name, ids_total}
+use Rattle.xs_group.proofs.Terms.{rows_of, ConsumerIndex, consumers_of, owner_at, seen_at, indexed_row, arith}
 
 pub find-lookup : {K X : Type 0} (R : K → K → Ordering) (q : K) (es : List (K × X)) → find R q es ≡ lookup (is_at (R q)) es
 find-lookup R q [] = refl
@@ -12,30 +12,22 @@ find-lookup R q (e ∷ es) = ap (cond (eq_by_cmp R q e.0) (Some e.1)) (find-look
 pub get-rows_of : (rows : List (Id × RowState)) (x : Id) → get (rows_of rows) x ≡ indexed_row rows x
 get-rows_of rows x = get-of_entries ids_total rows x ∙ find-lookup id_cmp x rows
 
-abbrev pub unit_of : {X : Type 0} → Option X → Option (Unit {0})
-unit_of None = None
-unit_of (Some x) = Some tt
+lookup-seen : (owners : ConsumerIndex) (n : List ℕ) → lookup (is_at (slice_cmp nat_cmp n)) (map (λ e. (e.0, e.1.seen)) owners) ≡ seen_at owners n
+lookup-seen [] n = refl
+lookup-seen (e ∷ es) n = grind (arith, lookup-seen es n)
 
-lookup-units : (owners : ConsumerIndex) (n : List ℕ) → lookup (is_at (slice_cmp nat_cmp n)) (map (λ e. (e.0, tt)) owners) ≡ unit_of (ids_at owners n)
-lookup-units [] n = refl
-lookup-units (e ∷ es) n = grind (arith, lookup-units es n)
+pub get-consumers_of : (owners : ConsumerIndex) (n : List ℕ) → get (consumers_of owners) n ≡ seen_at owners n
+get-consumers_of owners n = get-of_entries nat_list_cmp_total (map (λ e. (e.0, e.1.seen)) owners) n ∙ find-lookup (slice_cmp nat_cmp) n (map (λ e. (e.0, e.1.seen)) owners) ∙ lookup-seen owners n
 
-pub get-names_of : (owners : ConsumerIndex) (n : List ℕ) → get (names_of owners) n ≡ unit_of (ids_at owners n)
-get-names_of owners n = get-of_entries nat_list_cmp_total (map (λ e. (e.0, tt)) owners) n ∙ find-lookup (slice_cmp nat_cmp) n (map (λ e. (e.0, tt)) owners) ∙ lookup-units owners n
+pub has_name-consumers_of : (owners : ConsumerIndex) (n : List ℕ) → has_name (consumers_of owners) n ≡ is_some (owner_at owners n)
+has_name-consumers_of owners n = grind (arith, get-consumers_of owners n)
 
-pub has_name-names_of : (owners : ConsumerIndex) (n : List ℕ) → has_name (names_of owners) n ≡ is_some (ids_at owners n)
-has_name-names_of owners n = grind (arith, get-names_of owners n)
+pub same_consumers : (m n : Consumers) → ((q : List ℕ) → get m q ≡ get n q) → m ≡ n
+same_consumers m n is = same_map nat_list_cmp_total exact_bytes m n is
 
-pub unit_same : (a b : Option (Unit {0})) → is_some a ≡ is_some b → a ≡ b
-unit_same a b e = grind arith
-
-pub same_names : (m n : Names) → ((q : List ℕ) → has_name m q ≡ has_name n q) → m ≡ n
-same_names m n is = same_map nat_list_cmp_total exact_bytes m n (λ q. unit_same (get m q) (get n q) (is q))
-
--- indexes of the same consumers
-pub names-same : (a b : ConsumerIndex) → ((q : List ℕ) → is_some (ids_at a q) ≡ is_some (ids_at b q)) → names_of a ≡ names_of b
-names-same a b is = same_names (names_of a) (names_of b) (λ q.
-    grind (arith, has_name-names_of a q, is q, has_name-names_of b q))
+-- indexes of the same consumers, with the same moments
+pub consumers-same : (a b : ConsumerIndex) → ((q : List ℕ) → seen_at a q ≡ seen_at b q) → consumers_of a ≡ consumers_of b
+consumers-same a b is = same_consumers (consumers_of a) (consumers_of b) (λ q. get-consumers_of a q ∙ is q ∙ sym (get-consumers_of b q))
 
 pub same_rows : (m n : Rows) → ((q : Id) → get m q ≡ get n q) → m ≡ n
 same_rows m n is = same_map ids_total same_id m n is

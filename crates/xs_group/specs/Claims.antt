@@ -10,7 +10,7 @@ use Rattle.xs_group.specs.declared.claims.ClaimTime.{ClaimTime}
 use Rattle.xs_group.specs.declared.claims.ClaimTime.TheVariants.{Now, Idle, At}
 use Rattle.xs_group.specs.declared.claims.Claim.{Claim}
 use Rattle.xs_group.specs.declared.claims.Scan.{Scan}
-use Rattle.xs_group.specs.GroupState.{RowState, GroupState, with_name, idle_time, next_count}
+use Rattle.xs_group.specs.GroupState.{RowState, GroupState, with_name, is_any, idle_time, next_count}
 
 -- the row of an id
 abbrev pub row_at : List (Id × RowState) → Id → Option RowState
@@ -107,4 +107,4 @@ row_after_claim consumer now rule claim x row =
 abbrev pub group_after_claim : List ℕ → ℕ → ClaimRule → Claim → GroupState → GroupState
 group_after_claim consumer now rule claim group =
     let rows = change (row_after_claim consumer now rule claim) group.rows in
-    record group { consumers = with_name group.consumers consumer; rows = rows }
+    record group { consumers = with_name group.consumers consumer now (is_any claim.take); rows = rows }

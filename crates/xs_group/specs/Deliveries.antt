@@ -1,7 +1,7 @@
 -- What a read of a group answers, and what is left if it is undone.
 use Rattle.std.specs.Prelude.{◌≡◌, ℕ, Bool, true, not, ◌⊎◌, List, [], ◌∷◌, map, Option, Some, None, if◌then◌else◌}
 use Rattle.std.specs.Option.{option_map}
-use Rattle.xs_bytes.specs.SortedMap.{get, change, remove}
+use Rattle.xs_bytes.specs.SortedMap.{get, change, remove, insert}
 use Rattle.xs_stream.specs.declared.id.Id.{Id}
 use Rattle.xs_stream.specs.Id.{is_same_id, has_id}
 use Rattle.xs_group.specs.declared.delivery.Touch.{Touch}
@@ -9,7 +9,7 @@ use Rattle.xs_group.specs.declared.delivery.DeliveryRow.{DeliveryRow}
 use Rattle.xs_group.specs.declared.delivery.DeliveryKind.{DeliveryKind}
 use Rattle.xs_group.specs.declared.delivery.DeliveryKind.TheVariants.{New, NoAck, History}
 use Rattle.xs_group.specs.declared.delivery.Delivery.{Delivery}
-use Rattle.xs_group.specs.GroupState.{RowState, Rows, GroupState, has_name, with_name, next_count}
+use Rattle.xs_group.specs.GroupState.{RowState, Rows, Consumers, GroupState, has_name, with_name, is_any, next_count}
 use Rattle.xs_group.specs.GroupState.{new_ids, group_after_delivery, reread_ids, group_after_reread, last_of, with_rows}
 use Rattle.xs_group.specs.GroupState.{first_row}
 use Rattle.xs_group.specs.GroupState.{unless_acked, unless_owned}
@@ -28,7 +28,7 @@ abbrev pub group_after_read : List ℕ → ℕ → Bool → List Id → GroupSta
 group_after_read consumer now noack ids group =
     record {
       cursor = last_of group.cursor ids;
-      consumers = with_name group.consumers consumer;
+      consumers = with_name group.consumers consumer now (is_any ids);
       rows = if noack then group.rows else with_rows ids (first_row consumer now) group.rows;
     }
 
@@ -41,6 +41,7 @@ delivery_of consumer limit noack present group =
     record {
       consumer = consumer;
       created = not (has_name group.consumers consumer);
+      seen_before = get group.consumers consumer;
       cursor_before = group.cursor;
       kind = kind_of noack;
       rows = new_rows (new_ids limit group.cursor present);
@@ -62,6 +63,7 @@ history_of consumer limit from present group =
     record {
       consumer = consumer;
       created = not (has_name group.consumers consumer);
+      seen_before = get group.consumers consumer;
       cursor_before = group.cursor;
       kind = History;
       rows = shown_rows group.rows present (reread_ids consumer limit from group.rows.entries);
@@ -122,17 +124,20 @@ rows_taken_back New rows held = change (unless_acked (row_ids rows)) held
 rows_taken_back NoAck rows held = held
 rows_taken_back History rows held = set_rows None rows held
 
--- without the consumer, where the read made it
-abbrev pub without_new_consumer : Bool → List ℕ → PendingList → PendingList
-without_new_consumer created consumer held =
-    if created then record {
-      consumers = remove held.consumers consumer;
-      rows = change (unless_owned consumer) held.rows;
-    } else held
+-- a consumer that is there has another moment
+abbrev pub with_seen : Consumers → List ℕ → ℕ → Consumers
+with_seen consumers name seen = if has_name consumers name then insert consumers name seen else consumers
+
+-- with the moment that the consumer had before the read, or without it if the read made it
+abbrev pub with_consumer_before : Option ℕ → List ℕ → PendingList → PendingList
+with_consumer_before None consumer held =
+    record { consumers = remove held.consumers consumer; rows = change (unless_owned consumer) held.rows }
+with_consumer_before (Some seen) consumer held =
+    record { consumers = with_seen held.consumers consumer seen; rows = held.rows }
 
 abbrev pub list_without_delivery : Delivery → PendingList → PendingList
 list_without_delivery delivery held =
-    without_new_consumer delivery.created delivery.consumer (record {
+    with_consumer_before delivery.seen_before delivery.consumer (record {
       consumers = held.consumers;
       rows = rows_taken_back delivery.kind delivery.rows held.rows;
     })

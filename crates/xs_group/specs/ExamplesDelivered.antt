@@ -1,7 +1,6 @@
 -- What reads of a group answer and how they are taken back, what a claim makes of one id, and what holds of every
 -- group, by examples over the group of `ExamplesRead`. A real Redis 7.0 delivers so; how it is told is this server's.
 use Rattle.std.specs.Prelude.{◌≡◌, ℕ, true, false, [], ◌∷◌, codes, Some, None}
-use Rattle.xs_bytes.specs.SortedMap.{keys}
 use Rattle.xs_stream.specs.declared.id.Id.{Id}
 use Rattle.xs_stream.specs.Id.{is_same_id}
 use Rattle.xs_stream.specs.Examples.{at}
@@ -34,6 +33,7 @@ pub record Answers : Type 0 where
       ≡ record {
         consumer = codes "d";
         created = true;
+        seen_before = None;
         cursor_before = at 3 0;
         kind = kind.New;
         rows = new (at 4 0) ∷ new (at 5 0) ∷ [];
@@ -43,6 +43,7 @@ pub record Answers : Type 0 where
       ≡ record {
         consumer = codes "a";
         created = false;
+        seen_before = Some 90;
         cursor_before = at 3 0;
         kind = kind.NoAck;
         rows = new (at 4 0) ∷ [];
@@ -52,18 +53,27 @@ pub record Answers : Type 0 where
       ≡ record {
         consumer = codes "a";
         created = false;
+        seen_before = Some 90;
         cursor_before = at 3 0;
         kind = kind.History;
         rows = gone (at 1 0) 100 1 ∷ own (at 3 0) 120 1 ∷ [];
       }
   pub none_of_its_own :
       history_of (codes "d") (Some 9) (at 0 0) present group
-      ≡ record { consumer = codes "d"; created = true; cursor_before = at 3 0; kind = kind.History; rows = [] }
+      ≡ record {
+        consumer = codes "d";
+        created = true;
+        seen_before = None;
+        cursor_before = at 3 0;
+        kind = kind.History;
+        rows = [];
+      }
   pub above_an_id :
       history_of (codes "a") (Some 1) (at 1 0) present group
       ≡ record {
         consumer = codes "a";
         created = false;
+        seen_before = Some 90;
         cursor_before = at 3 0;
         kind = kind.History;
         rows = own (at 3 0) 120 1 ∷ [];
@@ -74,7 +84,8 @@ held group = record { consumers = group.consumers; rows = group.rows }
 
 -- the consumers and the rows are those of the group before the read
 abbrev pub IsAsBefore : PendingList → Type 0
-IsAsBefore held = (keys held.consumers ≡ codes "a" ∷ codes "b" ∷ codes "c" ∷ []) × (held.rows.entries ≡ three)
+IsAsBefore held =
+    (held.consumers.entries ≡ (codes "a", 90) ∷ (codes "b", 90) ∷ (codes "c", 90) ∷ []) × (held.rows.entries ≡ three)
 
 pub record TakenBack : Type 0 where
   pub new_entries_of_a_new_consumer :

@@ -1,11 +1,10 @@
 -- The words of the contracts within this crate, by examples over the group of `ExamplesRead`: the index by consumer,
 -- reports as they are made, and what a read leaves. They say the same as those of `ExamplesRead` and `ExamplesReport`.
 use Rattle.std.specs.Prelude.{◌≡◌, ℕ, true, false, [], ◌∷◌, codes, Some, None}
-use Rattle.xs_bytes.specs.SortedMap.{keys}
 use Rattle.xs_stream.specs.Examples.{at}
 use Rattle.xs_group.specs.declared.delivery.DeliveryKind.TheVariants as kind
 use Rattle.xs_group.specs.declared.reports.Selection.{Selection}
-use Rattle.xs_group.specs.Indexes.{ConsumerIndex, rows_of, names_of, has_among, has_pending_id, AreFree}
+use Rattle.xs_group.specs.Indexes.{ConsumerIndex, rows_of, consumers_of, has_among, has_pending_id, AreFree}
 use Rattle.xs_group.specs.Deliveries.{group_after_read, rows_taken_back}
 use Rattle.xs_group.specs.Listing.{owners_told, selected_rows}
 use Rattle.xs_group.specs.Verdict.{AreSomeOf, AreAgreedBut}
@@ -13,14 +12,15 @@ use Rattle.xs_group.specs.ExamplesRead.{pending, three, group, Is}
 use Rattle.xs_group.specs.ExamplesReport.{owner, told, everything}
 use Rattle.xs_group.specs.ExamplesDelivered.{own}
 
--- the ids of a, of b, and none of c
+-- the moments and the ids of a, of b, and none of c
 abbrev pub owners : ConsumerIndex
 owners =
-    (codes "a", record { keys = at 1 0 ∷ at 3 0 ∷ [] }) ∷ (codes "b", record { keys = at 2 0 ∷ [] })
-    ∷ (codes "c", record { keys = [] }) ∷ []
+    (codes "a", record { seen = 90; ids = record { keys = at 1 0 ∷ at 3 0 ∷ [] } })
+    ∷ (codes "b", record { seen = 95; ids = record { keys = at 2 0 ∷ [] } })
+    ∷ (codes "c", record { seen = 80; ids = record { keys = [] } }) ∷ []
 
 pub record Indexes : Type 0 where
-  pub names : keys (names_of owners) ≡ codes "a" ∷ codes "b" ∷ codes "c" ∷ []
+  pub moments : (consumers_of owners).entries ≡ (codes "a", 90) ∷ (codes "b", 95) ∷ (codes "c", 80) ∷ []
   pub has_the_first : has_pending_id owners (codes "a") (at 1 0) ≡ true
   pub has_the_last : has_pending_id owners (codes "a") (at 3 0) ≡ true
   pub hasnt_another_s : has_pending_id owners (codes "a") (at 2 0) ≡ false

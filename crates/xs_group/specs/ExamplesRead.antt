@@ -6,7 +6,7 @@ use Rattle.xs_bytes.specs.MapOf.{from_entries}
 use Rattle.xs_bytes.specs.SortedMap.{keys}
 use Rattle.xs_stream.specs.declared.id.Id.{Id}
 use Rattle.xs_stream.specs.Examples.{at}
-use Rattle.xs_group.specs.GroupState.{RowState, Names, GroupState, has_name, is_same_name, idle_time, greatest_count}
+use Rattle.xs_group.specs.GroupState.{RowState, Consumers, GroupState, has_name, is_same_name, idle_time, greatest_count}
 use Rattle.xs_group.specs.GroupState.{next_count}
 use Rattle.xs_group.specs.GroupState.{new_group}
 use Rattle.xs_group.specs.GroupState.{with_consumer, group_after_ack, without_consumer, new_ids}
@@ -16,8 +16,9 @@ use Rattle.xs_group.specs.Indexes.{rows_of}
 abbrev pub pending : Id → List ℕ → ℕ → ℕ → Id × RowState
 pending id consumer time count = (id, record { consumer = consumer; time = time; count = count })
 
-abbrev pub names_in : List (List ℕ) → Names
-names_in names = from_entries (map (λ name. (name, tt)) names)
+-- consumers that were made at 90
+abbrev pub names_in : List (List ℕ) → Consumers
+names_in names = from_entries (map (λ name. (name, 90)) names)
 
 -- a group that has delivered three entries: two to a, one to b, which was delivered again, and none to c
 abbrev pub three : List (Id × RowState)
@@ -50,7 +51,7 @@ pub record Counts : Type 0 where
   pub stops_at_the_greatest_count_own : next_count 9223372036854775807 ≡ 9223372036854775807
   pub a_signed_number_of_64_bits : greatest_count + 1 ≡ 2 ^ 63
 
-pub record Consumers : Type 0 where
+pub record Members : Type 0 where
   pub same_name : is_same_name (codes "ab") (codes "ab") ≡ true
   pub a_shorter_name : is_same_name (codes "ab") (codes "a") ≡ false
   pub a_longer_name : is_same_name (codes "a") (codes "ab") ≡ false
@@ -59,10 +60,10 @@ pub record Consumers : Type 0 where
   pub has : has_name group.consumers (codes "c") ≡ true
   pub hasnt : has_name group.consumers (codes "d") ≡ false
   pub a_new_group : Is (new_group (at 5 0)) (at 5 0) [] []
-  pub joins : Is (with_consumer (codes "d") group) (at 3 0) (codes "a" ∷ codes "b" ∷ codes "c" ∷ codes "d" ∷ []) three
+  pub joins : Is (with_consumer (codes "d") 200 group) (at 3 0) (codes "a" ∷ codes "b" ∷ codes "c" ∷ codes "d" ∷ []) three
   pub in_the_order_of_bytes :
-      Is (with_consumer (codes "aa") group) (at 3 0) (codes "a" ∷ codes "aa" ∷ codes "b" ∷ codes "c" ∷ []) three
-  pub joins_once : Is (with_consumer (codes "b") group) (at 3 0) (codes "a" ∷ codes "b" ∷ codes "c" ∷ []) three
+      Is (with_consumer (codes "aa") 200 group) (at 3 0) (codes "a" ∷ codes "aa" ∷ codes "b" ∷ codes "c" ∷ []) three
+  pub joins_once : Is (with_consumer (codes "b") 200 group) (at 3 0) (codes "a" ∷ codes "b" ∷ codes "c" ∷ []) three
   pub leaves_with_its_entries :
       Is (without_consumer (codes "a") group) (at 3 0) (codes "b" ∷ codes "c" ∷ [])
       (pending (at 2 0) (codes "b") 110 2 ∷ [])

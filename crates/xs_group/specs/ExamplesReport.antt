@@ -1,22 +1,25 @@
 -- What is pending, by examples, as the Redis page tells it (XPENDING) and a real Redis 7.0 answers. Where a rule is
 -- this server's, "own" says so.
-use Rattle.std.specs.Prelude.{◌≡◌, ℕ, List, [], ◌∷◌, codes, Some, None}
+use Rattle.std.specs.Prelude.{◌≡◌, ℕ, ◌-◌, List, [], ◌∷◌, codes, Some, None}
 use Rattle.xs_stream.specs.declared.id.Id.{Id}
 use Rattle.xs_stream.specs.declared.range.Range.{Range}
 use Rattle.xs_stream.specs.Id.{zero_id, greatest_id}
 use Rattle.xs_stream.specs.Examples.{at}
+use Rattle.xs_group.specs.declared.reports.ConsumerReport.{ConsumerReport}
 use Rattle.xs_group.specs.declared.reports.OwnerCount.{OwnerCount}
 use Rattle.xs_group.specs.declared.reports.PendingRow.{PendingRow}
 use Rattle.xs_group.specs.GroupState.{GroupState, new_group}
-use Rattle.xs_group.specs.Report.{owned_count, summary_of, pending_of}
+use Rattle.xs_group.specs.Report.{owned_count, summary_of, pending_of, consumer_reports}
 use Rattle.xs_group.specs.Indexes.{rows_of}
 use Rattle.xs_group.specs.ExamplesRead.{group, names_in, pending}
 
 abbrev pub owner : List ℕ → ℕ → OwnerCount
 owner consumer count = record { consumer = consumer; count = count }
 
+-- a row at 150
 abbrev pub told : Id → List ℕ → ℕ → ℕ → PendingRow
-told id consumer idle count = record { id = id; consumer = consumer; idle = idle; count = count }
+told id consumer idle count =
+    record { id = id; consumer = consumer; time = 150 - idle; idle = idle; count = count }
 
 abbrev pub everything : Range
 everything = record { low = zero_id; high = greatest_id }
@@ -50,6 +53,17 @@ pub record Summaries : Type 0 where
   pub owns_one : owned_count (codes "b") group ≡ 1
   pub owns_none : owned_count (codes "c") group ≡ 0
 
+abbrev pub consumer : List ℕ → ℕ → ℕ → ConsumerReport
+consumer name pending idle = record { consumer = name; pending = pending; seen = 90; idle = idle }
+
+pub record Reports : Type 0 where
+  pub three :
+      consumer_reports 150 group
+      ≡ consumer (codes "a") 2 60 ∷ consumer (codes "b") 1 60 ∷ consumer (codes "c") 0 60 ∷ []
+  pub at_a_moment_before_own :
+      consumer_reports 80 taken_over ≡ consumer (codes "a") 3 0 ∷ consumer (codes "b") 1 0 ∷ []
+  pub none : consumer_reports 150 (new_group (at 1 0)) ≡ []
+
 pub record Rows : Type 0 where
   pub all :
       pending_of everything 0 150 10 None group
@@ -75,4 +89,6 @@ pub record Rows : Type 0 where
   pub first_of_a_consumer_that_is_idle :
       pending_of everything 40 150 1 (Some (codes "a")) taken_over ≡ told (at 4 0) (codes "a") 50 1 ∷ []
   pub idle_in_a_range : pending_of (between (at 2 0) (at 3 0)) 40 150 10 (Some (codes "a")) group ≡ []
-  pub moment_before_its_time_own : pending_of everything 0 90 1 None group ≡ told (at 1 0) (codes "a") 0 1 ∷ []
+  pub moment_before_its_time_own :
+      pending_of everything 0 90 1 None group
+      ≡ record { id = at 1 0; consumer = codes "a"; time = 100; idle = 0; count = 1 } ∷ []

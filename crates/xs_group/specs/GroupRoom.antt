@@ -3,15 +3,15 @@ use Rattle.std.specs.Prelude.{◌≡◌, ℕ, ◌+◌, ◌*◌, ◌/◌, nat_le,
 use Rattle.xs_group.specs.Indexes.{PendingList}
 use Rattle.xs_group.specs.ConsistentGroup.{IsUpTo}
 use Rattle.xs_stream.specs.declared.id.Id.{Id}
-use Rattle.xs_group.specs.GroupState.{Names, GroupState}
+use Rattle.xs_group.specs.GroupState.{Consumers, GroupState}
 
 -- how many bytes names have
-abbrev pub bytes_of_keys : List (List ℕ × Unit {0}) → ℕ
+abbrev pub bytes_of_keys : List (List ℕ × ℕ) → ℕ
 bytes_of_keys [] = 0
 bytes_of_keys (e ∷ es) = length e.0 + bytes_of_keys es
 
-abbrev pub bytes_of_names : Names → ℕ
-bytes_of_names names = bytes_of_keys names.entries
+abbrev pub bytes_of_names : Consumers → ℕ
+bytes_of_names consumers = bytes_of_keys consumers.entries
 
 -- how many places a vector of few entries has
 abbrev pub places_of : ℕ → ℕ

@@ -1,7 +1,8 @@
 -- What a group is: a cursor, consumers and pending rows; and what reads, acknowledgements and consumers make of it.
 -- (Redis Streams, "Consumer groups"; XREADGROUP; XACK; XGROUP CREATECONSUMER and DELCONSUMER.)
-use Rattle.std.specs.Prelude.{ℕ, ◌+◌, ◌-◌, Bool, List, Option, Some, None, nat_lt, if◌then◌else◌, ◌&&◌, [], ◌∷◌, map}
-use Rattle.std.specs.Prelude.{filter}
+use Rattle.std.specs.Prelude.{ℕ, ◌+◌, ◌-◌, Bool, true, false, not, List, Option, Some, None, nat_lt, if◌then◌else◌, ◌&&◌}
+use Rattle.std.specs.Prelude.{◌||◌, [], ◌∷◌, map, filter}
+use Rattle.std.specs.List.{list_any}
 use Rattle.std.specs.Ordering.{nat_cmp, eq_by_cmp}
 use Rattle.std.specs.Cmp.{IsTotalOrder, nat_cmp_total, on_total, then_total}
 use Rattle.std.specs.Cmp.Lexicographic.{slice_cmp}
@@ -20,23 +21,30 @@ pub record RowState : Type 0 where
 abbrev pub Rows : Type 0
 Rows = SortedMap id_cmp RowState
 
--- the consumers
-abbrev pub Names : Type 0
-Names = NameMap (Unit {0})
+-- the consumers, each with the moment when it was made, or last was given or claimed something
+abbrev pub Consumers : Type 0
+Consumers = NameMap ℕ
 
 pub record GroupState : Type 0 where
   pub cursor : Id
-  pub consumers : Names
+  pub consumers : Consumers
   pub rows : Rows
 
 abbrev pub ids_total : IsTotalOrder id_cmp
 ids_total = then_total (on_total (λ s. s.ms) nat_cmp_total) (on_total (λ s. s.seq) nat_cmp_total)
 
-abbrev pub with_name : Names → List ℕ → Names
-with_name names name = insert names name tt
+abbrev pub has_name : Consumers → List ℕ → Bool
+has_name consumers name = has_key consumers name
 
-abbrev pub has_name : Names → List ℕ → Bool
-has_name names name = has_key names name
+-- the consumer is there from now on; its moment is now if it is new, or is given something
+abbrev pub with_name : Consumers → List ℕ → ℕ → Bool → Consumers
+with_name consumers name now given =
+    if given || not (has_name consumers name) then insert consumers name now else consumers
+
+-- whether there is any
+abbrev pub is_any : List Id → Bool
+is_any [] = false
+is_any (x ∷ xs) = true
 
 -- the same name
 abbrev pub is_same_name : List ℕ → List ℕ → Bool
@@ -59,8 +67,8 @@ abbrev pub new_group : Id → GroupState
 new_group start = record { cursor = start; consumers = empty; rows = empty }
 
 -- the consumer is one of the group's from now on
-abbrev pub with_consumer : List ℕ → GroupState → GroupState
-with_consumer consumer group = record group { consumers = with_name group.consumers consumer }
+abbrev pub with_consumer : List ℕ → ℕ → GroupState → GroupState
+with_consumer consumer now group = record group { consumers = with_name group.consumers consumer now false }
 
 -- an acknowledged row goes
 abbrev pub unless_acked : List Id → Id → RowState → Option RowState
@@ -101,7 +109,11 @@ abbrev pub group_after_delivery : List ℕ → ℕ → Option ℕ → Bool → L
 group_after_delivery consumer now limit noack present group =
     let ids = new_ids limit group.cursor present in
     let rows = if noack then group.rows else with_rows ids (first_row consumer now) group.rows in
-    record { cursor = last_of group.cursor ids; consumers = with_name group.consumers consumer; rows = rows }
+    record {
+      cursor = last_of group.cursor ids;
+      consumers = with_name group.consumers consumer now (is_any ids);
+      rows = rows;
+    }
 
 -- the ids of these rows that a consumer has
 abbrev pub ids_of_consumer : List ℕ → List (Id × RowState) → List Id
@@ -123,5 +135,8 @@ row_after_reread now ids present x row =
 -- a group after a read of a consumer's own entries
 abbrev pub group_after_reread : List ℕ → ℕ → Option ℕ → Id → List Id → GroupState → GroupState
 group_after_reread consumer now limit from present group =
-    let rows = change (row_after_reread now (reread_ids consumer limit from group.rows.entries) present) group.rows in
-    record group { consumers = with_name group.consumers consumer; rows = rows }
+    let ids = reread_ids consumer limit from group.rows.entries in
+    record group {
+      consumers = with_name group.consumers consumer now (list_any (has_id present) ids);
+      rows = change (row_after_reread now ids present) group.rows;
+    }

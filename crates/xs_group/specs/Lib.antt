@@ -8,6 +8,7 @@ pub mod Deliveries
 pub mod Verdict
 pub mod Listing
 pub mod ExamplesRead
+pub mod ExamplesMoments
 pub mod ExamplesClaims
 pub mod ExamplesReport
 pub mod ExamplesDelivered

@@ -4,12 +4,13 @@ use Rattle.xs_bytes.specs.SortedMap.{keys}
 use Rattle.xs_group.specs.declared.reports.OwnerCount.{OwnerCount}
 use Rattle.xs_group.specs.declared.reports.PendingRow.{PendingRow}
 use Rattle.xs_group.specs.declared.reports.Selection.{Selection}
-use Rattle.xs_group.specs.GroupState.{Rows, Names}
+use Rattle.xs_group.specs.GroupState.{Rows, Consumers}
 use Rattle.xs_group.specs.Report.{counts_of_owners, pending_row, is_selected}
 
 -- the consumers that have rows
-abbrev pub owners_told : Names → Rows → List OwnerCount
-owners_told names rows = filter (λ owner. nat_lt 0 owner.count) (counts_of_owners (keys names) rows.entries)
+abbrev pub owners_told : Consumers → Rows → List OwnerCount
+owners_told consumers rows =
+    filter (λ owner. nat_lt 0 owner.count) (counts_of_owners (keys consumers) rows.entries)
 
 -- the first of the rows that are asked for
 abbrev pub selected_rows : Selection → Option (List ℕ) → Rows → List PendingRow

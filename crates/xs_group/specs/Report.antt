@@ -1,4 +1,4 @@
--- What is pending. (Redis, XPENDING: "Summary form", "Extended form".)
+-- What is pending, and with whom. (Redis, XPENDING: "Summary form", "Extended form"; XINFO CONSUMERS.)
 use Rattle.std.specs.Prelude.{ℕ, Bool, true, ◌&&◌, List, [], ◌∷◌, map, filter, take, length, nat_le, nat_lt, Option}
 use Rattle.std.specs.Prelude.{Some, None}
 use Rattle.xs_bytes.specs.SortedMap.{keys}
@@ -8,6 +8,7 @@ use Rattle.xs_stream.specs.StreamContent.{is_within}
 use Rattle.xs_group.specs.declared.reports.OwnerCount.{OwnerCount}
 use Rattle.xs_group.specs.declared.reports.GroupSummary.{GroupSummary}
 use Rattle.xs_group.specs.declared.reports.PendingRow.{PendingRow}
+use Rattle.xs_group.specs.declared.reports.ConsumerReport.{ConsumerReport}
 use Rattle.xs_group.specs.GroupState.{RowState, GroupState, is_same_name, idle_time, ids_of_consumer}
 
 abbrev pub first_id : List (Id × RowState) → Option Id
@@ -27,6 +28,14 @@ counts_of_owners names rows = map (λ name. record { consumer = name; count = le
 abbrev pub owned_count : List ℕ → GroupState → ℕ
 owned_count consumer group = length (ids_of_consumer consumer group.rows.entries)
 
+-- XINFO CONSUMERS: each consumer with the number of its rows, its moment, and how long ago that is
+abbrev pub consumer_report : ℕ → GroupState → List ℕ × ℕ → ConsumerReport
+consumer_report now group c =
+    record { consumer = c.0; pending = owned_count c.0 group; seen = c.1; idle = idle_time now c.1 }
+
+abbrev pub consumer_reports : ℕ → GroupState → List ConsumerReport
+consumer_reports now group = map (consumer_report now group) group.consumers.entries
+
 -- the summary: how many rows, the least and the greatest id, and the consumers that have rows,
 -- in the order of their bytes
 abbrev pub summary_of : GroupState → GroupSummary
@@ -41,7 +50,14 @@ is_of None row = true
 is_of (Some consumer) row = is_same_name row.consumer consumer
 
 abbrev pub pending_row : ℕ → Id × RowState → PendingRow
-pending_row now e = record { id = e.0; consumer = e.1.consumer; idle = idle_time now e.1.time; count = e.1.count }
+pending_row now e =
+    record {
+      id = e.0;
+      consumer = e.1.consumer;
+      time = e.1.time;
+      idle = idle_time now e.1.time;
+      count = e.1.count;
+    }
 
 -- a row in a range that is idle for long enough, of the consumer where one is named
 abbrev pub is_selected : Range → ℕ → ℕ → Option (List ℕ) → Id × RowState → Bool

@@ -1,20 +1,29 @@
-//! The index by consumer: the ids of each consumer's pending entries.
-ghost use Rattle.std.specs.Prelude.{◌≡◌, ◌&&◌, ◌||◌, ℕ, List, not, is_some, OnOk, OnErr, IsSome, None, if◌then◌else◌};
+//! The index by consumer: of each the moment, and the ids of its pending entries.
+ghost use Rattle.std.specs.Prelude.{◌≡◌, ◌&&◌, ◌||◌, ℕ, List, not, OnOk, OnErr, IsSome, None, if◌then◌else◌};
 ghost use Rattle.std.specs.BTreeSet.{contains};
 ghost use Rattle.xs_stream.specs.declared.id.Id.{Id};
 ghost use Rattle.xs_stream.specs.Id.{id_cmp, is_same_id, has_id};
 ghost use Rattle.xs_group.specs.GroupState.{is_same_name};
-ghost use Rattle.xs_group.specs.Indexes.{has_pending_id, ids_at, indexed_row};
+ghost use Rattle.xs_group.specs.Indexes.{has_pending_id, seen_at, indexed_row};
 ghost use Rattle.xs_group.specs.Verdict.{AreSomeOf};
 
 use crate::id_index::IdIndex;
 use std::alloc::AllocError;
 use xs_bytes::Bytes;
 use xs_maps::{SmallMap, SmallSet};
-use xs_stream::Id;
+use xs_stream::{Id, Moment};
 
-/// The ids of each consumer's pending entries.
-pub(crate) type ConsumerIndex = SmallMap<Bytes, SmallSet<Id>>;
+/// What is known of a consumer.
+#[derive(Drop)]
+pub(crate) struct Owner {
+    /// When it was made, or last was given or claimed something.
+    pub(crate) seen: Moment,
+    /// The ids of its pending entries.
+    pub(crate) ids: SmallSet<Id>,
+}
+
+/// The consumers, by name.
+pub(crate) type ConsumerIndex = SmallMap<Bytes, Owner>;
 
 /// Puts these ids into a set, or, for want of memory, some of them.
 fn insert_ids(own: &mut SmallSet<Id>, ids: &[Id]) -> Result<(), AllocError>
@@ -36,28 +45,28 @@ pub(crate) fn put_ids(
     name: &Bytes,
     ids: &[Id],
 ) -> Result<(), AllocError>
-    requires { IsSome (ids_at owners.old.entries name.now) }
-    ensures names { (n : List ℕ) → is_some (ids_at owners.new.entries n) ≡ is_some (ids_at owners.old.entries n) }
+    requires { IsSome (seen_at owners.old.entries name.now) }
+    ensures seen { (n : List ℕ) → seen_at owners.new.entries n ≡ seen_at owners.old.entries n }
     ensures ok { OnOk result ((n : List ℕ) → (x : Id) → has_pending_id owners.new.entries n x
         ≡ (has_pending_id owners.old.entries n x || (is_same_name n name.now && has_id ids.now x))) }
     ensures err { OnErr result ((done : List Id) × AreSomeOf done ids.now
         × ((n : List ℕ) → (x : Id) → has_pending_id owners.new.entries n x
         ≡ (has_pending_id owners.old.entries n x || (is_same_name n name.now && has_id done x)))) }
 {
-    let Some(own) = owners.get_mut(name) else {
+    let Some(owner) = owners.get_mut(name) else {
         return Ok(());
     };
-    insert_ids(own, ids)
+    insert_ids(&mut owner.ids, ids)
 }
 
 /// Takes an id from a consumer.
 pub(crate) fn remove_id(owners: &mut ConsumerIndex, name: &Bytes, id: Id)
-    ensures names { (n : List ℕ) → is_some (ids_at owners.new.entries n) ≡ is_some (ids_at owners.old.entries n) }
+    ensures seen { (n : List ℕ) → seen_at owners.new.entries n ≡ seen_at owners.old.entries n }
     ensures ids { (n : List ℕ) → (x : Id) → has_pending_id owners.new.entries n x
         ≡ (has_pending_id owners.old.entries n x && not (is_same_name n name.now && is_same_id x id)) }
 {
-    if let Some(ids) = owners.get_mut(name) {
-        ids.remove(&id);
+    if let Some(owner) = owners.get_mut(name) {
+        owner.ids.remove(&id);
     }
 }
 

@@ -40,6 +40,8 @@ pub struct Delivery {
     pub consumer: Bytes,
     /// The consumer was new.
     pub created: bool,
+    /// The moment of the consumer before the read, if it was there.
+    pub seen_before: Option<Moment>,
     /// The group's cursor before the read.
     pub cursor_before: Id,
     /// What was read.

@@ -1,11 +1,12 @@
 //! Examples of what the definitions say, with values from outside.
 #![tactic(auto, unfolding(crate::proofs::Computing::example_functions))]
 
-ghost use Rattle.xs_group.specs.ExamplesRead.{Counts, Consumers, Acknowledged, New, Own};
+ghost use Rattle.xs_group.specs.ExamplesRead.{Counts, Members, Acknowledged, New, Own};
 ghost use Rattle.xs_group.specs.ExamplesClaims.{ByIds, ByScan, TimesAndCounts, Settled};
 ghost use Rattle.xs_group.specs.ExamplesDelivered.{Answers, TakenBack, Verdicts, Consistent};
 ghost use Rattle.xs_group.specs.ExamplesIndexes.{Indexes, Listed, Left};
-ghost use Rattle.xs_group.specs.ExamplesReport.{Summaries, Rows};
+ghost use Rattle.xs_group.specs.ExamplesReport.{Summaries, Reports, Rows};
+ghost use Rattle.xs_group.specs.ExamplesMoments.{Moments};
 
 /// Idle times and counts of deliveries.
 pub fn counts()
@@ -14,7 +15,7 @@ pub fn counts()
 
 /// Consumers that join and leave.
 pub fn consumers()
-    ensures { Consumers }
+    ensures { Members }
 {}
 
 /// Acknowledgements.
@@ -55,6 +56,16 @@ pub fn settled()
 /// The summary of what is pending.
 pub fn summaries()
     ensures { Summaries }
+{}
+
+/// The moments of consumers.
+pub fn moments()
+    ensures { Moments }
+{}
+
+/// The consumers, as they are told.
+pub fn reports()
+    ensures { Reports }
 {}
 
 /// The rows of what is pending.

@@ -4,7 +4,7 @@ ghost use Rattle.xs_group.specs.GroupState.{GroupState, has_name, with_consumer,
 ghost use Rattle.xs_group.specs.GroupState.{without_consumer, group_after_delivery};
 ghost use Rattle.xs_group.specs.GroupState.{group_after_reread};
 ghost use Rattle.xs_group.specs.GroupRoom.{room_of_group, room_of_map, bytes_of_names};
-ghost use Rattle.xs_group.specs.Report.{owned_count, summary_of, pending_of};
+ghost use Rattle.xs_group.specs.Report.{owned_count, summary_of, pending_of, consumer_reports};
 ghost use Rattle.xs_group.specs.ConsistentGroup.{IsConsistentGroup, IsUpTo};
 ghost use Rattle.xs_group.specs.Claims.{claim_by_ids, scan_of, group_after_claim};
 ghost use Rattle.xs_group.specs.Verdict.{IsClaimOn};
@@ -15,7 +15,7 @@ ghost use Rattle.xs_stream.specs.StreamContent.{ids_of, AllAbove, Ascends};
 use crate::claims::{Claim, ClaimRule, ClaimTerms, Scan};
 use crate::delivery::{Delivery, DeliveryKind};
 use crate::pending::Pending;
-use crate::reports::{GroupSummary, PendingRow, Selection};
+use crate::reports::{ConsumerReport, GroupSummary, PendingRow, Selection};
 use crate::{claims, reading};
 use std::alloc::{AllocError, Global};
 use std::marker::Model;
@@ -110,6 +110,13 @@ impl Group {
         self.cursor
     }
 
+    /// The consumers, in the order of their names (XINFO CONSUMERS).
+    pub fn consumers(&self, alloc: Global, now: Moment) -> Result<Vec<ConsumerReport>, AllocError>
+        ensures { IfOk result (λ found. found.items ≡ consumer_reports now self.now) }
+    {
+        self.pending.consumers(alloc, now)
+    }
+
     /// Whether the consumer is one of the group.
     pub fn has_consumer(&self, consumer: &Bytes) -> bool
         ensures { result ≡ has_name self.now.consumers consumer.now }
@@ -145,13 +152,18 @@ impl Group {
     }
 
     /// Makes a consumer, and says whether it is new (XGROUP CREATECONSUMER).
-    pub fn add_consumer(&mut self, alloc: Global, consumer: &Bytes) -> Result<bool, AllocError>
+    pub fn add_consumer(
+        &mut self,
+        alloc: Global,
+        consumer: &Bytes,
+        now: Moment,
+    ) -> Result<bool, AllocError>
         ensures made { IfOk result (λ made. made ≡ not (has_name self.old.consumers consumer.now)) }
-        ensures ok { OnOk result (self.new ≡ with_consumer consumer.now self.old) }
+        ensures ok { OnOk result (self.new ≡ with_consumer consumer.now now self.old) }
         ensures err { OnErr result (self.new ≡ self.old) }
     {
         let name_bytes = self.name_bytes_with(consumer)?;
-        let made = self.pending.add_consumer(alloc, consumer)?;
+        let made = self.pending.add_consumer(alloc, consumer, now)?;
         self.name_bytes = either(made, name_bytes, self.name_bytes);
         Ok(made)
     }
@@ -191,10 +203,12 @@ impl Group {
         let ids = stream.past(alloc, cursor_before, limit)?;
         let rows = reading::new_rows(alloc, ids.as_slice())?;
         let text = Bytes::from_slice(alloc, consumer.as_slice())?;
+        let seen_before = self.pending.seen_at(consumer);
         let created = self.receive(alloc, consumer, now, ids.as_slice(), noack)?;
         Ok(Delivery {
             consumer: text,
             created,
+            seen_before,
             cursor_before,
             kind: kind_of(noack),
             rows: List::new(rows),
@@ -224,12 +238,14 @@ impl Group {
         let rows = self.pending.shown_rows(alloc, stream, ids.as_slice())?;
         let text = Bytes::from_slice(alloc, consumer.as_slice())?;
         let name_bytes = self.name_bytes_with(consumer)?;
-        let created = self.pending.add_consumer(alloc, consumer)?;
+        let seen_before = self.pending.seen_at(consumer);
+        let created = self.pending.add_consumer(alloc, consumer, now)?;
         self.name_bytes = either(created, name_bytes, self.name_bytes);
-        self.pending.set_touches(&Some(now), rows.as_slice());
+        self.pending.redeliver(consumer, now, rows.as_slice());
         Ok(Delivery {
             consumer: text,
             created,
+            seen_before,
             cursor_before,
             kind: DeliveryKind::History,
             rows: List::new(rows),
@@ -246,7 +262,7 @@ impl Group {
         let name = either(there, delivery.consumer.len() as u64, 0);
         self.pending.undo(&delivery);
         self.cursor = delivery.cursor_before;
-        self.name_bytes -= either(delivery.created, name, 0);
+        self.name_bytes -= either(delivery.seen_before.is_none(), name, 0);
     }
 
     /// What a claim of these ids takes and removes (XCLAIM). It changes nothing.
@@ -373,7 +389,8 @@ impl Group {
         let last = reading::last_id(self.cursor, ids);
         let name_bytes = self.name_bytes_with(consumer)?;
         if noack {
-            let made = self.pending.add_consumer(alloc, consumer)?;
+            let made = self.pending.add_consumer(alloc, consumer, now)?;
+            self.pending.give(consumer, now, !ids.is_empty());
             self.cursor = last;
             self.name_bytes = either(made, name_bytes, self.name_bytes);
             return Ok(made);

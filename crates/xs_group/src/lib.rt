@@ -18,4 +18,4 @@ pub mod reports;
 pub use claims::{Claim, ClaimRule, ClaimTime, Scan};
 pub use delivery::{Delivery, DeliveryKind, DeliveryRow, Touch};
 pub use group::Group;
-pub use reports::{GroupSummary, OwnerCount, PendingRow};
+pub use reports::{ConsumerReport, GroupSummary, OwnerCount, PendingRow};

@@ -4,7 +4,7 @@ ghost use Rattle.std.specs.Prelude.{option_and_then, IfOk, IfSome, if◌then◌e
 ghost use Rattle.xs_stream.specs.declared.id.Id.{Id};
 ghost use Rattle.xs_stream.specs.Id.{is_same_id, has_id};
 ghost use Rattle.xs_group.specs.GroupState.{is_same_name};
-ghost use Rattle.xs_group.specs.Indexes.{has_pending_id, ids_at, is_owner, indexed_row, IsAgreed};
+ghost use Rattle.xs_group.specs.Indexes.{has_pending_id, seen_at, is_owner, indexed_row, IsAgreed};
 ghost use Rattle.xs_group.specs.Verdict.{row_after_move, AreDistinct, AreAgreedBut, AreSomeOf};
 
 use crate::claims::ClaimTerms;
@@ -33,8 +33,8 @@ pub(crate) fn row_of<'a>(
     ensures found { IsAgreed rows.now.entries owners.now.entries → (x : Id)
         → is_owner (indexed_row rows.now.entries x) name.now ≡ true → IsSome result }
 {
-    let ids = owners.get(name)?;
-    let id = ids.first()?;
+    let owner = owners.get(name)?;
+    let id = owner.ids.first()?;
     let entry = rows.get(id)?;
     if !are_equal_names(entry.consumer(), name) {
         return None;
@@ -65,7 +65,7 @@ fn is_row_of(rows: &IdIndex, name: &Bytes, id: Id) -> bool
 
 /// Takes an id from a consumer, unless its row is that consumer's.
 fn take_back_one(rows: &IdIndex, owners: &mut ConsumerIndex, name: &Bytes, id: Id)
-    ensures names { (n : List ℕ) → is_some (ids_at owners.new.entries n) ≡ is_some (ids_at owners.old.entries n) }
+    ensures seen { (n : List ℕ) → seen_at owners.new.entries n ≡ seen_at owners.old.entries n }
     ensures ids { (n : List ℕ) → (x : Id) → has_pending_id owners.new.entries n x
         ≡ (has_pending_id owners.old.entries n x
         && not (is_same_name n name.now
@@ -81,7 +81,7 @@ fn take_back_one(rows: &IdIndex, owners: &mut ConsumerIndex, name: &Bytes, id: I
 pub(crate) fn take_back(rows: &IdIndex, owners: &mut ConsumerIndex, name: &Bytes, ids: &[Id])
     requires { (done : List Id) × AreSomeOf done ids.now
         × AreAgreedBut rows.now.entries owners.old.entries name.now done }
-    ensures names { (n : List ℕ) → is_some (ids_at owners.new.entries n) ≡ is_some (ids_at owners.old.entries n) }
+    ensures seen { (n : List ℕ) → seen_at owners.new.entries n ≡ seen_at owners.old.entries n }
     ensures agreed { IsAgreed rows.now.entries owners.new.entries }
 {
     for id in ids {
@@ -96,9 +96,9 @@ pub(crate) fn add_ids(
     name: &Bytes,
     ids: &[Id],
 ) -> Result<(), AllocError>
-    requires there { IsSome (ids_at owners.old.entries name.now) }
+    requires there { IsSome (seen_at owners.old.entries name.now) }
     requires agreed { IsAgreed rows.now.entries owners.old.entries }
-    ensures names { (n : List ℕ) → is_some (ids_at owners.new.entries n) ≡ is_some (ids_at owners.old.entries n) }
+    ensures seen { (n : List ℕ) → seen_at owners.new.entries n ≡ seen_at owners.old.entries n }
     ensures ok { OnOk result (AreAgreedBut rows.now.entries owners.new.entries name.now ids.now) }
     ensures err { OnErr result (IsAgreed rows.now.entries owners.new.entries) }
 {
@@ -111,7 +111,7 @@ pub(crate) fn add_ids(
 
 /// Takes an id from the consumer whose it was, unless that is the one who gets it.
 fn leave_owner(owners: &mut ConsumerIndex, old: &Bytes, name: &Bytes, id: Id)
-    ensures names { (n : List ℕ) → is_some (ids_at owners.new.entries n) ≡ is_some (ids_at owners.old.entries n) }
+    ensures seen { (n : List ℕ) → seen_at owners.new.entries n ≡ seen_at owners.old.entries n }
     ensures ids { (n : List ℕ) → (x : Id) → has_pending_id owners.new.entries n x
         ≡ (if is_same_name old.now name.now then has_pending_id owners.old.entries n x
         else (has_pending_id owners.old.entries n x && not (is_same_name n old.now && is_same_id x id))) }
@@ -138,7 +138,7 @@ fn move_row(
     ensures agreed { (rest : List Id) → has_id rest id ≡ false
         → AreAgreedBut rows.old.entries owners.old.entries name.now (id ∷ rest)
         → AreAgreedBut rows.new.entries owners.new.entries name.now rest }
-    ensures names { (n : List ℕ) → is_some (ids_at owners.new.entries n) ≡ is_some (ids_at owners.old.entries n) }
+    ensures seen { (n : List ℕ) → seen_at owners.new.entries n ≡ seen_at owners.old.entries n }
 {
     let Some(entry) = rows.get_mut(&id) else {
         consumer_index::remove_id(owners, name, id);
@@ -164,7 +164,7 @@ pub(crate) fn move_rows(
         ≡ option_and_then (row_after_move name.now terms.now.moment terms.now.rule ids.now x)
         (indexed_row rows.old.entries x) }
     ensures agreed { IsAgreed rows.new.entries owners.new.entries }
-    ensures names { (n : List ℕ) → is_some (ids_at owners.new.entries n) ≡ is_some (ids_at owners.old.entries n) }
+    ensures seen { (n : List ℕ) → seen_at owners.new.entries n ≡ seen_at owners.old.entries n }
 {
     let mut todo = ids;
     for share in names {

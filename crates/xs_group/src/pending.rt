@@ -1,27 +1,29 @@
 //! The consumers and the pending entries, in two indexes: by id, and by consumer.
 ghost use Rattle.std.specs.Prelude.{◌≡◌, ◌<◌, ◌^◌, not, length, true, false, None, Some, IfOk, OnOk, OnErr};
+ghost use Rattle.std.specs.List.{list_any};
 ghost use Rattle.xs_bytes.specs.SortedMap.{empty, get, remove, change};
 ghost use Rattle.xs_stream.specs.Id.{has_id, is_below, zero_id};
-ghost use Rattle.xs_group.specs.Report.{summary_of};
+ghost use Rattle.xs_group.specs.Report.{summary_of, consumer_reports};
 ghost use Rattle.xs_group.specs.Listing.{selected_rows};
 ghost use Rattle.xs_group.specs.Claims.{claim_among, scan_of, row_after_claim};
 ghost use Rattle.xs_group.specs.Verdict.{verdict_of, row_after_move, AreDistinct};
-ghost use Rattle.xs_group.specs.GroupState.{has_name, with_name, first_row, ids_of_consumer, with_rows, reread_ids};
+ghost use Rattle.xs_group.specs.GroupState.{has_name, with_name, is_any, first_row, ids_of_consumer, with_rows};
+ghost use Rattle.xs_group.specs.GroupState.{reread_ids};
 ghost use Rattle.xs_group.specs.GroupState.{unless_acked};
 ghost use Rattle.xs_group.specs.GroupState.{unless_owned};
 ghost use Rattle.xs_group.specs.Indexes.{IsNamed, AreFree};
 ghost use Rattle.xs_stream.specs.StreamContent.{ids_of};
 ghost use Rattle.xs_group.specs.Deliveries.{touch_of, shown_rows, set_one, set_rows, touch_set, row_ids};
 ghost use Rattle.xs_group.specs.Deliveries.{rows_taken_back};
-ghost use Rattle.xs_group.specs.Deliveries.{list_without_delivery};
+ghost use Rattle.xs_group.specs.Deliveries.{list_without_delivery, with_seen};
 
 use crate::claims::{Claim, ClaimTerms, Found, Scan, Verdict};
-use crate::consumer_index::{self, ConsumerIndex};
+use crate::consumer_index::{self, ConsumerIndex, Owner};
 use crate::delivery::{Delivery, DeliveryKind, DeliveryRow, Touch};
 use crate::id_index::{self, IdIndex};
 use crate::name::Name;
 use crate::pending_entry::PendingEntry;
-use crate::reports::{GroupSummary, PendingRow, Selection};
+use crate::reports::{ConsumerReport, GroupSummary, PendingRow, Selection};
 use crate::{claims, moving, reading, reports};
 use std::alloc::{AllocError, Global};
 use std::marker::Model;
@@ -37,13 +39,13 @@ pub(crate) struct Pending {
 }
 
 impl Model for Pending {
-    ghost use Rattle.xs_group.specs.Indexes.{rows_of, PendingList, coded_pending_list, names_of, IsAgreed};
+    ghost use Rattle.xs_group.specs.Indexes.{rows_of, PendingList, coded_pending_list, consumers_of, IsAgreed};
 
     ghost Value = { PendingList };
 
     ghost coded = { coded_pending_list };
 
-    ghost view = { λ p. record { consumers = names_of p.owners.entries; rows = rows_of p.rows.entries } };
+    ghost view = { λ p. record { consumers = consumers_of p.owners.entries; rows = rows_of p.rows.entries } };
 
     ghost invariant = { λ p. IsAgreed p.rows.entries p.owners.entries };
 }
@@ -65,20 +67,60 @@ impl Pending {
         self.owners.contains_key(name)
     }
 
+    /// The moment of a consumer.
+    pub(crate) fn seen_at(&self, name: &Bytes) -> Option<Moment>
+        ensures { result ≡ get self.now.consumers name.now }
+    {
+        match self.owners.get(name) {
+            Some(owner) => Some(owner.seen),
+            None => None,
+        }
+    }
+
+    /// Sets the moment of a consumer that is there.
+    pub(crate) fn set_seen(&mut self, name: &Bytes, seen: Moment)
+        ensures { self.new ≡ record self.old { consumers = with_seen self.old.consumers name.now seen } }
+    {
+        let Some(owner) = self.owners.get_mut(name) else {
+            return;
+        };
+        owner.seen = seen;
+    }
+
+    /// A consumer that is there is given something, or nothing, at this moment.
+    pub(crate) fn give(&mut self, name: &Bytes, now: Moment, given: bool)
+        requires { has_name self.old.consumers name.now ≡ true }
+        ensures { self.new ≡ record self.old { consumers = with_name self.old.consumers name.now now given } }
+    {
+        if given {
+            self.set_seen(name, now);
+        }
+    }
+
     /// Puts a consumer in, and says whether it is new. A new one has no rows.
-    pub(crate) fn add_consumer(&mut self, alloc: Global, name: &Bytes) -> Result<bool, AllocError>
+    pub(crate) fn add_consumer(
+        &mut self,
+        alloc: Global,
+        name: &Bytes,
+        now: Moment,
+    ) -> Result<bool, AllocError>
         ensures named { OnOk result (IsNamed self.old.consumers self.old.rows) }
         ensures made { IfOk result (λ made. made ≡ not (has_name self.old.consumers name.now)) }
         ensures unowned { IfOk result (λ made. made ≡ true
             → change (unless_owned name.now) self.old.rows ≡ self.old.rows) }
-        ensures ok { OnOk result (self.new ≡ record self.old { consumers = with_name self.old.consumers name.now }) }
+        ensures ok { OnOk result (self.new
+            ≡ record self.old { consumers = with_name self.old.consumers name.now now false }) }
         ensures err { OnErr result (self.new ≡ self.old) }
     {
         if self.owners.contains_key(name) {
             return Ok(false);
         }
         let text = Bytes::from_slice(alloc, name.as_slice())?;
-        self.owners.insert(text, SmallSet::new(alloc))?;
+        let owner = Owner {
+            seen: now,
+            ids: SmallSet::new(alloc),
+        };
+        self.owners.insert(text, owner)?;
         Ok(true)
     }
 
@@ -136,18 +178,19 @@ impl Pending {
         ensures named { OnOk result (IsNamed self.old.consumers self.old.rows) }
         ensures made { IfOk result (λ made. made ≡ not (has_name self.old.consumers name.now)) }
         ensures ok { OnOk result (self.new ≡ record {
-          consumers = with_name self.old.consumers name.now;
+          consumers = with_name self.old.consumers name.now now (is_any ids.now);
           rows = with_rows ids.now (first_row name.now now) self.old.rows;
         }) }
         ensures err { OnErr result (self.new ≡ self.old) }
     {
-        let made = self.add_consumer(alloc, name)?;
+        let made = self.add_consumer(alloc, name, now)?;
         let Ok(()) = self.put_all(alloc, name, now, ids) else {
             if made {
                 self.remove_consumer(name);
             }
             return Err(AllocError);
         };
+        self.give(name, now, !ids.is_empty());
         Ok(made)
     }
 
@@ -161,10 +204,10 @@ impl Pending {
     ) -> Result<List<Id>, AllocError>
         ensures { IfOk result (λ ids. ids ≡ reread_ids name.now limit from self.now.rows.entries) }
     {
-        let Some(ids) = self.owners.get(name) else {
+        let Some(owner) = self.owners.get(name) else {
             return Ok(List::new(Vec::new(alloc)));
         };
-        reading::limited_above(alloc, ids, from, limit)
+        reading::limited_above(alloc, &owner.ids, from, limit)
     }
 
     /// When an entry was last delivered, and how often.
@@ -228,6 +271,18 @@ impl Pending {
         }
     }
 
+    /// Delivers these rows once more to the consumer whose they are, those of entries that are in the stream.
+    pub(crate) fn redeliver(&mut self, name: &Bytes, now: Moment, rows: &[DeliveryRow])
+        requires { has_name self.old.consumers name.now ≡ true }
+        ensures { self.new ≡ record {
+          consumers = with_name self.old.consumers name.now now (list_any (λ r. r.present) rows.now);
+          rows = set_rows (Some now) rows.now self.old.rows;
+        } }
+    {
+        self.set_touches(&Some(now), rows);
+        self.give(name, now, reading::is_any_present(rows));
+    }
+
     /// Takes the ids of these rows out.
     pub(crate) fn take_rows(&mut self, rows: &[DeliveryRow])
         ensures { self.new ≡ record self.old { rows = change (unless_acked (row_ids rows.now)) self.old.rows } }
@@ -253,10 +308,12 @@ impl Pending {
         ensures { self.new ≡ list_without_delivery delivery.now self.old }
     {
         self.take_back(delivery.kind, delivery.rows.as_slice());
-        if !delivery.created {
-            return;
+        match delivery.seen_before {
+            Some(seen) => self.set_seen(&delivery.consumer, seen),
+            None => {
+                self.remove_consumer(&delivery.consumer);
+            }
         }
-        self.remove_consumer(&delivery.consumer);
     }
 
     /// What a claim makes of an id.
@@ -336,12 +393,12 @@ impl Pending {
     ) -> Result<(), AllocError>
         requires { AreDistinct claim.now.take }
         ensures ok { OnOk result (self.new ≡ record {
-          consumers = with_name self.old.consumers name.now;
+          consumers = with_name self.old.consumers name.now terms.now.moment (is_any claim.now.take);
           rows = change (row_after_claim name.now terms.now.moment terms.now.rule claim.now) self.old.rows;
         }) }
         ensures err { OnErr result (self.new ≡ self.old) }
     {
-        let made = self.add_consumer(alloc, name)?;
+        let made = self.add_consumer(alloc, name, terms.moment)?;
         let Ok(()) = self.reassign(alloc, name, terms, claim.take.as_slice()) else {
             if made {
                 self.remove_consumer(name);
@@ -349,6 +406,7 @@ impl Pending {
             return Err(AllocError);
         };
         self.take_all(claim.removed.as_slice());
+        self.give(name, terms.moment, !claim.take.as_slice().is_empty());
         Ok(())
     }
 
@@ -365,6 +423,21 @@ impl Pending {
             greatest: reports::greatest(&self.rows),
             owners: List::new(owners),
         })
+    }
+
+    /// The consumers, each with its moment and the number of its rows.
+    pub(crate) fn consumers(
+        &self,
+        alloc: Global,
+        now: Moment,
+    ) -> Result<Vec<ConsumerReport>, AllocError>
+        ensures { IfOk result (λ found. found.items ≡ consumer_reports now (record {
+          cursor = zero_id;
+          consumers = self.now.consumers;
+          rows = self.now.rows;
+        })) }
+    {
+        reports::consumers_of(alloc, &self.owners, now)
     }
 
     /// The selected rows, in a range that isn't empty.
@@ -389,10 +462,10 @@ impl Pending {
         requires { is_below selection.now.range.high selection.now.range.low ≡ false }
         ensures { IfOk result (λ found. found.items ≡ selected_rows selection.now (Some name.now) self.now.rows) }
     {
-        let Some(ids) = self.owners.get(name) else {
+        let Some(owner) = self.owners.get(name) else {
             return Ok(Vec::new(alloc));
         };
-        reports::rows_of_ids(alloc, &self.rows, ids, selection)
+        reports::rows_of_ids(alloc, &self.rows, &owner.ids, selection)
     }
 
     /// Takes these ids out.
@@ -413,11 +486,11 @@ impl Pending {
         ensures count { result ≡ length (ids_of_consumer name.now self.old.rows.entries) }
         ensures small { result < 2 ^ 63 }
     {
-        let Some(ids) = self.owners.remove(name) else {
+        let Some(owner) = self.owners.remove(name) else {
             return 0;
         };
-        let count = ids.len();
-        consumer_index::remove_rows(&mut self.rows, &ids);
+        let count = owner.ids.len();
+        consumer_index::remove_rows(&mut self.rows, &owner.ids);
         count as u64
     }
 

@@ -1,6 +1,7 @@
 //! What a read of a group is made of.
 ghost use Rattle.std.specs.Prelude.{◌≡◌, IfOk, take, filter};
 ghost use Rattle.std.specs.BTreeSet.{IsOrdered};
+ghost use Rattle.std.specs.List.{list_any};
 ghost use Rattle.xs_stream.specs.Id.{has_id, id_cmp, is_below};
 ghost use Rattle.xs_stream.specs.StreamContent.{ids_of, up_to_limit, AreEntriesOf};
 ghost use Rattle.xs_group.specs.GroupState.{last_of};
@@ -89,6 +90,13 @@ fn ids_above(alloc: Global, ids: &SmallSet<Id>, from: Id, most: u64) -> Result<V
         above.push(*id)?;
     }
     Ok(above)
+}
+
+/// Whether the entry of one of these rows is in the stream.
+pub(crate) fn is_any_present(rows: &[DeliveryRow]) -> bool
+    ensures { result ≡ list_any (λ r. r.present) rows.now }
+{
+    rows.iter().any(|row| row.present)
 }
 
 /// The time and the count that a row gets by a delivery at a moment, or gets back.

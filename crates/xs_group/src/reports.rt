@@ -1,12 +1,12 @@
-//! Reports of what is pending (Redis, XPENDING).
+//! Reports of what is pending, and with whom (Redis, XPENDING, XINFO CONSUMERS).
 ghost use Rattle.std.specs.Prelude.{IfOk, List, ℕ, None, Some, false, ◌≡◌};
 ghost use Rattle.std.specs.BTreeSet.{contains};
 ghost use Rattle.xs_group.specs.GroupState.{RowState};
-ghost use Rattle.xs_group.specs.Indexes.{IsAgreed, indexed_row, is_owner, names_of, rows_of};
+ghost use Rattle.xs_group.specs.Indexes.{IsAgreed, indexed_row, is_owner, consumers_of, rows_of};
 ghost use Rattle.xs_group.specs.Listing.{owners_told, selected_rows};
-ghost use Rattle.xs_group.specs.Report.{first_id, last_id, pending_row};
+ghost use Rattle.xs_group.specs.Report.{first_id, last_id, pending_row, consumer_reports};
 ghost use Rattle.xs_stream.specs.declared.id.Id.{Id};
-ghost use Rattle.xs_stream.specs.Id.{id_cmp, is_below};
+ghost use Rattle.xs_stream.specs.Id.{id_cmp, is_below, zero_id};
 
 use crate::consumer_index::ConsumerIndex;
 use crate::id_index::IdIndex;
@@ -24,6 +24,19 @@ pub struct OwnerCount {
     pub consumer: Bytes,
     /// How many entries are pending with it.
     pub count: u64,
+}
+
+/// A consumer of a group.
+#[derive(Debug, Drop)]
+pub struct ConsumerReport {
+    /// Its name.
+    pub consumer: Bytes,
+    /// How many entries are pending with it.
+    pub pending: U63,
+    /// When it was made, or last was given or claimed something.
+    pub seen: Moment,
+    /// How many milliseconds ago that was.
+    pub idle: U63,
 }
 
 /// The short form: how many entries are pending, the least and the greatest of their ids, and whose they are.
@@ -46,7 +59,9 @@ pub struct PendingRow {
     pub id: Id,
     /// Its consumer.
     pub consumer: Bytes,
-    /// For how many milliseconds it is idle: since its last delivery, or the time that a claim gave it.
+    /// The moment of its last delivery, or the one that a claim gave it.
+    pub time: Moment,
+    /// For how many milliseconds it is idle: since that moment.
     pub idle: U63,
     /// How often it was delivered.
     pub count: U63,
@@ -91,11 +106,11 @@ pub(crate) fn owner_counts(
     owners: &ConsumerIndex,
 ) -> Result<Vec<OwnerCount>, AllocError>
     ensures { (rows : List (Id × RowState)) → IsAgreed rows owners.now.entries → IfOk result (λ counts. counts.items
-        ≡ owners_told (names_of owners.now.entries) (rows_of rows)) }
+        ≡ owners_told (consumers_of owners.now.entries) (rows_of rows)) }
 {
     let mut counts = Vec::with_capacity(alloc, owners.len())?;
-    for (name, ids) in owners.iter() {
-        let count = ids.len() as u64;
+    for (name, owner) in owners.iter() {
+        let count = owner.ids.len() as u64;
         if count == 0 {
             continue;
         }
@@ -103,6 +118,33 @@ pub(crate) fn owner_counts(
         counts.push(OwnerCount { consumer, count })?;
     }
     Ok(counts)
+}
+
+/// The consumers, each with its moment and the number of its rows, which are those that this index agrees with.
+pub(crate) fn consumers_of(
+    alloc: Global,
+    owners: &ConsumerIndex,
+    now: Moment,
+) -> Result<Vec<ConsumerReport>, AllocError>
+    ensures { (rows : List (Id × RowState)) → IsAgreed rows owners.now.entries → IfOk result (λ found. found.items
+        ≡ consumer_reports now (record {
+          cursor = zero_id;
+          consumers = consumers_of owners.now.entries;
+          rows = rows_of rows;
+        })) }
+{
+    let mut found = Vec::with_capacity(alloc, owners.len())?;
+    for (name, owner) in owners.iter() {
+        let count = owner.ids.len() as u64;
+        let consumer = Bytes::from_slice(alloc, name.as_slice())?;
+        found.push(ConsumerReport {
+            consumer,
+            pending: U63::new(count),
+            seen: owner.seen,
+            idle: U63::new(now.get().saturating_sub(owner.seen.get())),
+        })?;
+    }
+    Ok(found)
 }
 
 /// A row as it is told.
@@ -114,6 +156,7 @@ fn told(alloc: Global, now: Moment, id: Id, entry: &PendingEntry) -> Result<Pend
     Ok(PendingRow {
         id,
         consumer,
+        time: touch.time,
         idle: U63::new(entry.idle(now)),
         count: touch.count,
     })

@@ -21,7 +21,7 @@ use Rattle.xs_group.specs.Indexes.{is_owner}
 use Rattle.xs_keys.specs.ConsistentContent.{IsConsistentKey, IsConsistentContent}
 use Rattle.xs_keys.proofs.Streams.{ascends-present, up_to-present}
 use Rattle.xs_keys.proofs.GroupRows.{row_ids}
-use Rattle.xs_keys.proofs.GroupSteps.{up_to-rows}
+use Rattle.xs_keys.proofs.GroupSteps.{up_to-rows, seen-there}
 use Rattle.xs_keys.proofs.Deliveries.{PresentAscends, ascends-delivered}
 use Rattle.xs_keys.proofs.Histories.{MeetsAscending, meets-life}
 use Rattle.xs_keys.proofs.Owners.{row-found}
@@ -125,7 +125,7 @@ consistent-group g life h asc = record {
   named name x owned None e = absurd (false≢true (sym (ap (λ r. is_owner r name) e) ∙ owned))
   named name x owned (Some row) e =
       ap (has_name g.consumers) (sym (is_same_name-eq row.consumer name (sym (ap (λ r. is_owner r name) e) ∙ owned)))
-      ∙ h.consumers_are row.consumer
+      ∙ ap is_some (h.consumers_are row.consumer) ∙ seen-there life.start life.events row.consumer
       ∙ of-consumers life.start life.events x row (sym (row-found life.start life.events x) ∙ ap (λ es. row_at es x) (sym h.rows_are) ∙ e)
 
 consistent-held : (s : Option GroupState) (life : Option GroupLife) → GroupHolds s life → MeetsAscending life → (g : GroupState) → s ≡ Some g → IsConsistentGroup g

@@ -12,7 +12,7 @@ one_if_not false = refl
 
 module _ (content : Content) (now : ℕ) (name group_name consumer : List ℕ) (key : KeyState) (was new : GroupState) (found : get content name ≡ Some key) (has : get key.groups group_name ≡ Some was) where
   -- a creation of a consumer is a step
-  pub makes-consumer : (made : Bool) → made ≡ not (has_name was.consumers consumer) → new ≡ with_consumer consumer was
+  pub makes-consumer : (made : Bool) → made ≡ not (has_name was.consumers consumer) → new ≡ with_consumer consumer now was
       → Step content now (ConsumerCreate name group_name consumer) (Int (cond made 1 0)) (insert content name (with_group key group_name new))
   makes-consumer made is changed = inl (record {
     answer_is = rw (found, has) (ap Int (ap (λ b. cond b 1 0) is ∙ one_if_not (has_name was.consumers consumer)));

@@ -19,7 +19,7 @@ use Rattle.xs_keys.specs.Content.{KeyState, Content, IsGroupOfLife, GroupHolds, 
 use Rattle.xs_keys.specs.ContentAfter.{new_key, key_or_new, stream_after, key_after, after_stream_event}
 use Rattle.xs_keys.specs.ContentAfter.{without_keys, group_after, with_group, after_ask, after_create}
 use Rattle.xs_keys.specs.ContentAfter.{group_in, has_all_groups_in, after_reads, content_after}
-use Rattle.xs_keys.proofs.NameMaps.{is_same_name-eq, get-insert, get-remove, same_map, same_names}
+use Rattle.xs_keys.proofs.NameMaps.{is_same_name-eq, get-insert, get-remove, same_map}
 use Rattle.xs_keys.proofs.Streams.{stream-step, ascends-present}
 use Rattle.xs_keys.proofs.GroupSteps.{group-step, group-new}
 
@@ -400,7 +400,7 @@ content-none = λ name. rw (get-empty (slice_cmp nat_cmp) name) (λ g. tt)
 same_group : (a b : GroupState) (life : GroupLife) → IsGroupOfLife a life → IsGroupOfLife b life → a ≡ b
 same_group a b life h k =
     let cursors = h.cursor_is ∙ sym k.cursor_is in
-    let names = same_names a.consumers b.consumers (λ q. h.consumers_are q ∙ sym (k.consumers_are q)) in
+    let names = same_map a.consumers b.consumers (λ q. h.consumers_are q ∙ sym (k.consumers_are q)) in
     let all = same_entries_map a.rows b.rows (h.rows_are ∙ sym k.rows_are) in
     λ i. record { cursor = cursors i; consumers = names i; rows = all i }
 

@@ -1,25 +1,26 @@
 -- A group by looking back, and a group event by event: they are the same.
 use Rattle.std.proofs.Common.{◌≡◌, ℕ, Bool, true, false, cond, List, [], ◌∷◌, ◌++◌, Option, Some, None, option_and_then}
-use Rattle.std.proofs.Common.{is_some, sym, ap, subst, ◌∙◌, refl}
+use Rattle.std.proofs.Common.{is_some, sym, ap, subst, ◌∙◌, refl, not, ◌&&◌, ◌||◌}
 use Rattle.std.proofs.lemmas.List.{append-nil}
 use Rattle.xs_bytes.specs.Each.{each}
 use Rattle.xs_bytes.specs.SortedMap.{empty, get, change, remove}
 use Rattle.xs_bytes.proofs.SortedMaps.{get-empty}
-use Rattle.xs_group.specs.GroupState.{RowState, Rows, GroupState, Names, is_same_name, has_name, with_name, new_ids}
+use Rattle.xs_group.specs.GroupState.{RowState, Rows, GroupState, Consumers, is_same_name, has_name, with_name, is_any, new_ids}
 use Rattle.xs_group.specs.GroupState.{last_of}
 use Rattle.xs_group.specs.GroupState.{first_row, with_rows, group_after_delivery, reread_ids, row_after_reread}
 use Rattle.xs_group.specs.GroupState.{group_after_reread, new_group, group_after_ack, unless_acked, unless_owned}
 use Rattle.xs_group.specs.GroupState.{without_consumer}
 use Rattle.xs_keys.specs.Terms.{Id, has_id, Ascends, AllAbove, AllUpTo, ClaimRule, row_after_claim, claim_by_ids, scan_of}
-use Rattle.xs_keys.specs.Terms.{greatest}
+use Rattle.xs_keys.specs.Terms.{greatest, list_any}
 use Rattle.xs_keys.specs.GroupAsk.{GroupAsk, read_new, read_own, acknowledge, create_consumer, delete_consumer, claim}
-use Rattle.xs_keys.specs.GroupAsk.{auto_claim}
-use Rattle.xs_keys.specs.GroupEvent.{GroupEvent, new_ids_of_event, delivered_ids, cursor, is_consumer, rows_among}
+use Rattle.xs_keys.specs.GroupAsk.{auto_claim, adds_consumer, deletes_consumer, gives}
+use Rattle.xs_keys.specs.GroupEvent.{GroupEvent, new_ids_of_event, delivered_ids, cursor, is_consumer, seen_at, rows_among}
 use Rattle.xs_keys.specs.GroupEvent.{pending_row_at, rows}
 use Rattle.xs_keys.specs.GroupLife.{GroupLife}
 use Rattle.xs_keys.specs.Content.{IsGroupOfLife}
 use Rattle.xs_keys.specs.ContentAfter.{group_after}
-use Rattle.xs_keys.proofs.NameMaps.{get-insert, get-remove}
+use Rattle.xs_group.proofs.Agreeing.{get-with_name}
+use Rattle.xs_keys.proofs.NameMaps.{get-remove, is_same_name-eq}
 use Rattle.xs_keys.proofs.Streams.{greatest-append, up_to-greatest}
 use Rattle.xs_keys.proofs.IdLists.{above-new_ids, ascends-new_ids, greatest-last, not_above}
 use Rattle.xs_keys.proofs.GroupRows.{row_ids, each_row, each-among, among-append, among-alike, among-known, among-none}
@@ -85,17 +86,29 @@ module _ (start : Id) (past : List GroupEvent) (consumer : List ℕ) (now : ℕ)
 
 -- ---- consumers
 
-joined-names : (names : Names) (consumer : List ℕ) (q : List ℕ) → has_name (with_name names consumer) q ≡ cond (is_same_name q consumer) true (has_name names q)
-joined-names names consumer q = ap is_some (get-insert names consumer tt q) ∙ by (is_same_name q consumer) where
-  by : (t : Bool) → is_some (cond t (Some tt) (get names q)) ≡ cond t true (has_name names q)
-  by true = refl
-  by false = refl
+-- a consumer is there if it has a moment
+there-if : (deleted added given there : Bool) (seen : Option ℕ) (now : ℕ) → is_some seen ≡ there
+    → is_some (cond deleted None (cond (added && (given || not there)) (Some now) seen)) ≡ cond deleted false (cond added true there)
+there-if true added given there seen now e = refl
+there-if false false given there seen now e = e
+there-if false true true there seen now e = refl
+there-if false true false true seen now e = e
+there-if false true false false seen now e = refl
 
-left-names : (names : Names) (consumer : List ℕ) (q : List ℕ) → has_name (remove names consumer) q ≡ cond (is_same_name q consumer) false (has_name names q)
-left-names names consumer q = ap is_some (get-remove names consumer q) ∙ by (is_same_name q consumer) where
-  by : (t : Bool) → is_some (cond t None (get names q)) ≡ cond t false (has_name names q)
-  by true = refl
-  by false = refl
+pub seen-there : (start : Id) (past : List GroupEvent) (name : List ℕ) → is_some (seen_at start past name) ≡ is_consumer past name
+seen-there start [] name = refl
+seen-there start (t ∷ past) name =
+    there-if (deletes_consumer t.ask name) (adds_consumer t.ask name) (gives t.ask t.now t.present (cursor start past) (rows start past)) (is_consumer past name) (seen_at start past name) t.now
+    (seen-there start past name)
+
+-- the moment of each consumer when one is put in, or given something
+put-seen : (consumers : Consumers) (consumer : List ℕ) (now : ℕ) (given : Bool) (q : List ℕ)
+    → get (with_name consumers consumer now given) q ≡ cond (is_same_name q consumer && (given || not (has_name consumers q))) (Some now) (get consumers q)
+put-seen consumers consumer now given q = get-with_name consumers consumer now given q ∙ by (is_same_name q consumer) refl where
+  by : (t : Bool) → is_same_name q consumer ≡ t
+      → cond (t && (given || not (has_name consumers consumer))) (Some now) (get consumers q) ≡ cond (t && (given || not (has_name consumers q))) (Some now) (get consumers q)
+  by true same = ap (λ name. cond (given || not (has_name consumers name)) (Some now) (get consumers q)) (sym (is_same_name-eq q consumer same))
+  by false other = refl
 
 -- ---- one event
 
@@ -106,8 +119,11 @@ module _ (life : GroupLife) (g : GroupState) (h : IsGroupOfLife g life) (now : �
   lived : GroupAsk → GroupLife
   lived ask = record { start = life.start; events = event ask ∷ life.events }
 
-  joins : (consumer : List ℕ) (q : List ℕ) → has_name (with_name g.consumers consumer) q ≡ cond (is_same_name q consumer) true (is_consumer life.events q)
-  joins consumer q = joined-names g.consumers consumer q ∙ ap (cond (is_same_name q consumer) true) (h.consumers_are q)
+  joins : (consumer : List ℕ) (given was : Bool) → given ≡ was → (q : List ℕ)
+      → get (with_name g.consumers consumer now given) q ≡ cond (is_same_name q consumer && (was || not (is_consumer life.events q))) (Some now) (seen_at life.start life.events q)
+  joins consumer given was same q =
+      let there : has_name g.consumers q ≡ is_consumer life.events q = ap is_some (h.consumers_are q) ∙ seen-there life.start life.events q in
+      put-seen g.consumers consumer now given q ∙ (λ i. cond (is_same_name q consumer && (same i || not (there i))) (Some now) (h.consumers_are q i))
 
   still : g.cursor ≡ greatest life.start (delivered_ids life.start life.events ++ [])
   still = h.cursor_is ∙ ap (greatest life.start) (sym (append-nil (delivered_ids life.start life.events)))
@@ -126,7 +142,7 @@ module _ (life : GroupLife) (g : GroupState) (h : IsGroupOfLife g life) (now : �
       ∙ sym (cursor-step life.start (event (read_new consumer limit noack)) life.events) in
       record {
         cursor_is = new_cursor;
-        consumers_are = joins consumer;
+        consumers_are = joins consumer _ _ (ap (λ c. is_any (new_ids limit c present)) h.cursor_is);
         rows_are = ap (λ c. (cond noack g.rows (with_rows (new_ids limit c present) (first_row consumer now) g.rows)).entries) h.cursor_is
             ∙ rows-delivered life.start life.events consumer now (new_ids limit at_cursor present) above ascends noack g.rows h.rows_are;
       }
@@ -135,7 +151,7 @@ module _ (life : GroupLife) (g : GroupState) (h : IsGroupOfLife g life) (now : �
   unfolding event lived
   step-read_own consumer limit from = record {
     cursor_is = still;
-    consumers_are = joins consumer;
+    consumers_are = joins consumer _ _ (ap (λ es. list_any (has_id present) (reread_ids consumer limit from es)) h.rows_are);
     rows_are = ap (λ es. (change (row_after_reread now (reread_ids consumer limit from es) present) g.rows).entries) h.rows_are
         ∙ changed_rows (row_after_reread now (reread_ids consumer limit from (rows life.start life.events)) present);
   }
@@ -146,13 +162,13 @@ module _ (life : GroupLife) (g : GroupState) (h : IsGroupOfLife g life) (now : �
 
   step-join : (consumer : List ℕ) → IsGroupOfLife (group_after now present (create_consumer consumer) g) (lived (create_consumer consumer))
   unfolding event lived
-  step-join consumer = record { cursor_is = still; consumers_are = joins consumer; rows_are = rows-same life.start life.events g.rows h.rows_are }
+  step-join consumer = record { cursor_is = still; consumers_are = joins consumer false false refl; rows_are = rows-same life.start life.events g.rows h.rows_are }
 
   step-leave : (consumer : List ℕ) → IsGroupOfLife (without_consumer consumer g) (lived (delete_consumer consumer))
   unfolding event lived
   step-leave consumer = record {
     cursor_is = still;
-    consumers_are = λ q. left-names g.consumers consumer q ∙ ap (cond (is_same_name q consumer) false) (h.consumers_are q);
+    consumers_are = λ q. get-remove g.consumers consumer q ∙ ap (cond (is_same_name q consumer) None) (h.consumers_are q);
     rows_are = changed_rows (unless_owned consumer);
   }
 
@@ -160,7 +176,7 @@ module _ (life : GroupLife) (g : GroupState) (h : IsGroupOfLife g life) (now : �
   unfolding event lived
   step-claim consumer rule ids = record {
     cursor_is = still;
-    consumers_are = joins consumer;
+    consumers_are = joins consumer _ _ (ap (λ es. is_any (claim_by_ids es present now rule ids).take) h.rows_are);
     rows_are = ap (λ es. (change (row_after_claim consumer now rule (claim_by_ids es present now rule ids)) g.rows).entries) h.rows_are
         ∙ changed_rows (row_after_claim consumer now rule (claim_by_ids (rows life.start life.events) present now rule ids));
   }
@@ -169,7 +185,7 @@ module _ (life : GroupLife) (g : GroupState) (h : IsGroupOfLife g life) (now : �
   unfolding event lived
   step-auto_claim consumer rule start limit = record {
     cursor_is = still;
-    consumers_are = joins consumer;
+    consumers_are = joins consumer _ _ (ap (λ es. is_any (scan_of es present now rule start limit).claim.take) h.rows_are);
     rows_are = ap (λ es. (change (row_after_claim consumer now rule (scan_of es present now rule start limit).claim) g.rows).entries) h.rows_are
         ∙ changed_rows (row_after_claim consumer now rule (scan_of (rows life.start life.events) present now rule start limit).claim);
   }
@@ -189,4 +205,4 @@ group-step life g h now present asc (auto_claim consumer rule start limit) = ste
 -- a group that begins
 pub group-new : (start : Id) → IsGroupOfLife (new_group start) (record { start = start; events = [] })
 unfolding empty
-group-new start = record { cursor_is = refl; consumers_are = λ q. ap is_some (get-empty _ q); rows_are = refl }
+group-new start = record { cursor_is = refl; consumers_are = λ q. get-empty _ q; rows_are = refl }

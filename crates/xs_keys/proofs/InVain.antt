@@ -1,20 +1,14 @@
 -- A read that finds nothing, for a consumer that its groups know, changes nothing.
-use Rattle.std.proofs.Common.{◌≡◌, ℕ, Bool, true, false, cond, List, [], ◌∷◌, Option, Some, None, is_some, sym, ap, ◌∙◌, refl}
-use Rattle.std.proofs.lemmas.Bool.{false≢true}
+use Rattle.std.proofs.Common.{◌≡◌, ℕ, Bool, true, false, cond, List, [], ◌∷◌, sym, ap, ◌∙◌, refl}
 use Rattle.xs_keys.specs.Terms.{list_all, get, insert, has_name, GroupState, ReadGroupCommand, ReadOne, ReadGroup}
 use Rattle.xs_group.specs.GroupState.{Rows}
 use Rattle.xs_keys.specs.GroupLife.{ask_of_read}
 use Rattle.xs_keys.specs.Content.{Content}
 use Rattle.xs_keys.specs.ContentAfter.{after_ask, after_reads, with_group}
 use Rattle.xs_keys.specs.Waiting.{finds_none_in, finds_nothing, knows_reader_in, reads_in_vain, ChangesNothing}
-use Rattle.xs_keys.proofs.NameMaps.{insert-same}
 use Rattle.xs_keys.proofs.AskSteps.{put_same}
 use Rattle.xs_keys.proofs.NothingNew.{FindsNone, finds-none, after-is, left, all-there}
 use Rattle.xs_keys.proofs.Truths.{first_of, second_of}
-
-there : (found : Option (Unit {0})) → is_some found ≡ true → found ≡ Some tt
-there None e = absurd (false≢true e)
-there (Some u) e = refl
 
 same-rows : (noack : Bool) (rows : Rows) → cond noack rows rows ≡ rows
 same-rows true rows = refl
@@ -29,7 +23,7 @@ module _ (content : Content) (now : ℕ) (read : ReadGroupCommand) (one : ReadOn
 
   -- the group stays as it was
   same-group : has_name n.was.consumers read.consumer ≡ true → left content now read one n ≡ n.was
-  same-group e = rw n.none_is (rw (insert-same n.was.consumers read.consumer tt (there (get n.was.consumers read.consumer) e)) (ap (with_rows n.was) (same-rows read.noack n.was.rows)))
+  same-group e = rw n.none_is (rw e (ap (with_rows n.was) (same-rows read.noack n.was.rows)))
 
   same-content : knows_reader_in read (get content one.key) ≡ true → after_ask content now one.key read.group (ask_of_read read one.from) ≡ content
   same-content e =

@@ -42,5 +42,6 @@ pub mod Tellings
 pub mod TimesOfRows
 pub mod Truths
 pub mod WholeReplies
+pub mod WholeStreams
 pub mod Appending
 pub mod InVain

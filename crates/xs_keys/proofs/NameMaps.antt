@@ -1,5 +1,5 @@
 -- Names, and maps by names.
-use Rattle.std.proofs.Common.{◌≡◌, ℕ, Bool, true, false, cond, List, Option, Some, None, is_some, sym, ap, ◌∙◌, refl}
+use Rattle.std.proofs.Common.{◌≡◌, ℕ, Bool, true, false, cond, List, Option, Some, None, sym, ap, ◌∙◌, refl}
 use Rattle.std.proofs.lemmas.Bool.{false≢true}
 use Rattle.std.proofs.lemmas.Cmp.{tied_itself}
 use Rattle.std.specs.FinMap.{IsAntisymmetric, slice_cmp-IsAntisymmetric, nat_cmp-IsAntisymmetric}
@@ -10,7 +10,7 @@ use Rattle.std.specs.Cmp.Lexicographic.{slice_cmp, nat_list_cmp_total}
 use Rattle.xs_bytes.specs.SortedMap.{NameMap, get, insert, remove}
 use Rattle.xs_bytes.proofs.SortedMaps.{get-insert_by}
 use Rattle.xs_bytes.proofs.SortedMaps as sorted
-use Rattle.xs_group.specs.GroupState.{Names, is_same_name, has_name}
+use Rattle.xs_group.specs.GroupState.{is_same_name}
 
 pub name_exact : IsAntisymmetric (slice_cmp nat_cmp)
 name_exact = slice_cmp-IsAntisymmetric nat_cmp-IsAntisymmetric
@@ -43,13 +43,3 @@ module _ {X : Type 0} where
     by : (q : List ℕ) (t : Bool) → is_same_name q name ≡ t → cond t (Some x) (get m q) ≡ get m q
     by q true h = rw (is_same_name-eq q name h) (sym e)
     by q false h = refl
-
-something : (a b : Option (Unit {0})) → is_some a ≡ is_some b → a ≡ b
-something None None e = refl
-something (Some u) (Some v) e = refl
-something None (Some v) e = absurd (false≢true e)
-something (Some u) None e = absurd (false≢true (sym e))
-
--- so are sets of names
-pub same_names : (m n : Names) → ((q : List ℕ) → has_name m q ≡ has_name n q) → m ≡ n
-same_names m n is = same_map m n (λ q. something (get m q) (get n q) (is q))

@@ -1,9 +1,9 @@
 -- The replies to commands are whole: no array says that it has more or fewer items than it has.
-use Rattle.std.proofs.Common.{ℕ, decimal, Bool, true, false, List, [], ◌∷◌, ◌++◌, map, Option, Some, None}
+use Rattle.std.proofs.Common.{ℕ, codes, decimal, Bool, true, false, List, [], ◌∷◌, ◌++◌, map, Option, Some, None}
 use Rattle.xs_stream.specs.StreamContent.{StreamState}
 use Rattle.xs_resp.specs.WholeReplies.{IsWholeReply, AreWhole}
 use Rattle.xs_resp.proofs.Wholeness.{items-whole, all-whole, whole-append}
-use Rattle.xs_keys.specs.Terms.{GroupState, option_map_or, get, OwnerCount, GroupSummary, PendingRow, ReadGroupCommand}
+use Rattle.xs_keys.specs.Terms.{GroupState, option_map_or, get, ConsumerReport, OwnerCount, GroupSummary, PendingRow, ReadGroupCommand}
 use Rattle.xs_keys.specs.Terms.{ReadOne, ReadFrom, New, After, new_ids, Bulk, Int, NullBulk, NullArray, flat_map, Id}
 use Rattle.xs_keys.specs.Terms.{Field, fields_at, ids_of}
 use Rattle.xs_keys.specs.GroupLife.{ask_of_read}
@@ -11,7 +11,7 @@ use Rattle.xs_keys.specs.Content.{Content}
 use Rattle.xs_keys.specs.ContentAfter.{after_ask, group_in, entries_in}
 use Rattle.xs_keys.specs.ReplyParts.{array, array_or_null, id_reply, field_replies, entry_reply, present_reply}
 use Rattle.xs_keys.specs.ReplyParts.{entries_reply, stream_part, new_part, owner_reply, row_reply, taken_reply}
-use Rattle.xs_keys.specs.Inspecting.{members_part, progress_part, group_reply, end_reply, size_part, past_part, ends_part}
+use Rattle.xs_keys.specs.Inspecting.{members_part, progress_part, group_reply, consumer_reply, end_reply, size_part, past_part, ends_part}
 use Rattle.xs_keys.specs.Reply.{parts_of_read, parts}
 
 fields-whole : (fields : List Field) → AreWhole (flat_map field_replies fields)
@@ -85,6 +85,12 @@ module _ (summary : GroupSummary) where
 pub group-whole : (present : List Id) (group : List ℕ × GroupState) → IsWholeReply (group_reply present group)
 group-whole present group =
     items-whole (members_part group ++ progress_part present group.1.cursor) (tt, (tt, (tt, (tt, (tt, (tt, (tt, (tt, (tt, (tt, (tt, (tt, tt))))))))))))
+
+-- XINFO CONSUMERS
+pub consumer-whole : (consumer : ConsumerReport) → IsWholeReply (consumer_reply consumer)
+consumer-whole consumer =
+    items-whole (Bulk (codes "name") ∷ Bulk consumer.consumer ∷ Bulk (codes "pending") ∷ Int consumer.pending ∷ Bulk (codes "idle") ∷ Int consumer.idle ∷ [])
+    (tt, (tt, (tt, (tt, (tt, (tt, tt))))))
 
 end-whole : (entries : List (Id × List Field)) → IsWholeReply (end_reply entries)
 end-whole [] = tt

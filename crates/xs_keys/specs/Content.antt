@@ -1,8 +1,8 @@
 -- The content of the keyspace, and which content a history leaves.
 use Rattle.std.specs.Prelude.{◌≡◌, Option, Some, None}
-use Rattle.xs_keys.specs.Terms.{NameMap, get, StreamState, GroupState, has_name}
+use Rattle.xs_keys.specs.Terms.{NameMap, get, StreamState, GroupState}
 use Rattle.xs_keys.specs.Life.{KeyLife, key_life, stream_of}
-use Rattle.xs_keys.specs.GroupEvent.{cursor, is_consumer, rows}
+use Rattle.xs_keys.specs.GroupEvent.{cursor, seen_at, rows}
 use Rattle.xs_keys.specs.GroupLife.{GroupLife, group_life}
 use Rattle.xs_keys.specs.Event.{Bytes, History}
 
@@ -15,10 +15,10 @@ pub record KeyState : Type 0 where
 abbrev pub Content : Type 0
 Content = NameMap KeyState
 
--- a group's cursor, consumers and rows are those of its life
+-- a group's cursor, consumers with their moments, and rows are those of its life
 pub record IsGroupOfLife (group : GroupState) (life : GroupLife) : Type 0 where
   pub cursor_is : group.cursor ≡ cursor life.start life.events
-  pub consumers_are : (name : Bytes) → has_name group.consumers name ≡ is_consumer life.events name
+  pub consumers_are : (name : Bytes) → get group.consumers name ≡ seen_at life.start life.events name
   pub rows_are : group.rows.entries ≡ rows life.start life.events
 
 -- a group is there exactly if its life is open, and its cursor, consumers and rows are those of the life

@@ -56,7 +56,7 @@ group_after now present (read_new consumer limit noack) group =
     group_after_delivery consumer now limit noack present group
 group_after now present (read_own consumer limit from) group = group_after_reread consumer now limit from present group
 group_after now present (acknowledge ids) group = group_after_ack ids group
-group_after now present (create_consumer consumer) group = with_consumer consumer group
+group_after now present (create_consumer consumer) group = with_consumer consumer now group
 group_after now present (delete_consumer consumer) group = without_consumer consumer group
 group_after now present (claim consumer rule ids) group =
     group_after_claim consumer now rule (claim_by_ids group.rows.entries present now rule ids) group

@@ -68,4 +68,4 @@ pub record Contents : Type 0 where
   pub not_another_start : GroupHolds (Some (new_group (at 2 0))) (Some (life [])) → ⊥
   pub not_before_its_read : GroupHolds (Some (new_group (at 1 0))) (Some (life (read_by_a ∷ []))) → ⊥
   pub not_after_a_read : GroupHolds (Some read_group) (Some (life [])) → ⊥
-  pub not_with_a_consumer : GroupHolds (Some (with_consumer (codes "b") (new_group (at 1 0)))) (Some (life [])) → ⊥
+  pub not_with_a_consumer : GroupHolds (Some (with_consumer (codes "b") 5 (new_group (at 1 0)))) (Some (life [])) → ⊥

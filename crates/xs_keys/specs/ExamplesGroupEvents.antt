@@ -12,7 +12,7 @@ use Rattle.xs_keys.specs.GroupAsk.{GroupAsk, read_new, read_own, acknowledge, cr
 use Rattle.xs_keys.specs.GroupAsk.{auto_claim}
 use Rattle.xs_keys.specs.GroupEvent.{GroupEvent}
 use Rattle.xs_keys.specs.GroupEvent.{delivered_ids, cursor}
-use Rattle.xs_keys.specs.GroupEvent.{is_turn_of, is_consumer, rows}
+use Rattle.xs_keys.specs.GroupEvent.{is_turn_of, is_consumer, rows, seen_at}
 use Rattle.xs_keys.specs.Owner.{is_made_pending_by, is_taken_by_claim, may_settle_entry}
 use Rattle.xs_keys.specs.Owner.{is_assigned_by, last_assignee, is_settled, owner}
 use Rattle.xs_keys.specs.GroupAsk.{consumer_of}
@@ -93,6 +93,38 @@ pub record Consumers : Type 0 where
   pub joins : consumer_of (create_consumer (codes "a")) ≡ Some (codes "a")
   pub leaves : consumer_of (delete_consumer (codes "a")) ≡ Some (codes "a")
   pub nobody_acknowledges : consumer_of (acknowledge []) ≡ None
+
+-- own: an event that gives a consumer nothing doesn't change its moment; a real Redis 7.0 takes that of each read and
+-- claim
+pub record Moments : Type 0 where
+  pub nobody_yet : seen_at start [] (codes "a") ≡ None
+  pub of_a_read : seen_at start (read_by_a ∷ []) (codes "a") ≡ Some 100
+  pub of_another : seen_at start (read_by_a ∷ []) (codes "b") ≡ None
+  pub of_a_read_with_noack : seen_at start (noack_by_b ∷ []) (codes "b") ≡ Some 100
+  pub of_a_new_one_that_finds_nothing :
+      seen_at start (event 300 (read_new (codes "c") None false) ∷ read_by_a ∷ []) (codes "c") ≡ Some 300
+  pub not_of_one_that_finds_nothing :
+      seen_at start (event 300 (read_new (codes "a") None false) ∷ read_by_a ∷ []) (codes "a") ≡ Some 100
+  pub of_its_own : seen_at start (event 300 (read_own (codes "a") None (at 0 0)) ∷ read_by_a ∷ []) (codes "a") ≡ Some 300
+  pub not_of_its_own_that_is_deleted :
+      seen_at start (event_without 300 (read_own (codes "a") (Some 1) (at 0 0)) ∷ read_by_a ∷ []) (codes "a") ≡ Some 100
+  pub of_a_claim : seen_at start (claim_by_b ∷ read_by_a ∷ []) (codes "b") ≡ Some 150
+  pub not_of_what_is_claimed_from_it : seen_at start (claim_by_b ∷ read_by_a ∷ []) (codes "a") ≡ Some 100
+  pub of_a_scan :
+      seen_at start (event 300 (auto_claim (codes "a") any_idle_time (at 0 0) 9) ∷ read_by_a ∷ []) (codes "a")
+      ≡ Some 300
+  pub not_of_a_claim_of_nothing :
+      seen_at start (event 300 (claim (codes "a") any_idle_time (at 9 0 ∷ [])) ∷ read_by_a ∷ []) (codes "a")
+      ≡ Some 100
+  pub of_its_creation : seen_at start (event 200 (create_consumer (codes "c")) ∷ []) (codes "c") ≡ Some 200
+  pub not_of_a_second_one : seen_at start (event 200 (create_consumer (codes "a")) ∷ read_by_a ∷ []) (codes "a") ≡ Some 100
+  pub not_of_an_acknowledgement :
+      seen_at start (event 200 (acknowledge (at 2 0 ∷ [])) ∷ read_by_a ∷ []) (codes "a") ≡ Some 100
+  pub removed : seen_at start (event 200 (delete_consumer (codes "a")) ∷ read_by_a ∷ []) (codes "a") ≡ None
+  pub back_again :
+      seen_at start (event 300 (create_consumer (codes "a")) ∷ event 200 (delete_consumer (codes "a")) ∷ read_by_a ∷ [])
+      (codes "a")
+      ≡ Some 300
 
 pub record Owners : Type 0 where
   pub nobody_yet : owner start [] (at 2 0) ≡ None

@@ -2,7 +2,7 @@
 -- (Redis, XREADGROUP, XACK, XGROUP CREATECONSUMER and DELCONSUMER, XCLAIM, XAUTOCLAIM.)
 use Rattle.std.specs.Prelude.{ℕ, Bool, false, not, List, [], Option, Some, None, option_and_then, if◌then◌else◌}
 use Rattle.xs_group.specs.declared.claims.Claim.{Claim}
-use Rattle.xs_keys.specs.Terms.{option_map_or, Id, has_id, ClaimRule, RowState, is_same_name, new_ids, claim_by_ids}
+use Rattle.xs_keys.specs.Terms.{option_map_or, list_any, Id, has_id, ClaimRule, RowState, is_same_name, is_any, new_ids, claim_by_ids}
 use Rattle.xs_keys.specs.Terms.{scan_of}
 use Rattle.xs_keys.specs.Terms.{zero_id}
 use Rattle.xs_keys.specs.Terms.{first_row, reread_ids, row_after_reread, row_after_claim, unless_acked, unless_owned}
@@ -74,6 +74,17 @@ adds_consumer ask name = option_map_or (is_same_name name) (consumer_of ask) fal
 abbrev pub deletes_consumer : GroupAsk → Bytes → Bool
 deletes_consumer (delete_consumer consumer) name = is_same_name name consumer
 deletes_consumer _ name = false
+
+-- whether an ask gives its consumer something, from the rows and the cursor that it meets: it delivers an entry, or
+-- claims one
+abbrev pub gives : GroupAsk → ℕ → List Id → Id → PendingEntries → Bool
+gives (read_new consumer limit noack) now present cursor rows = is_any (new_ids limit cursor present)
+gives (read_own consumer limit from) now present cursor rows =
+    list_any (has_id present) (reread_ids consumer limit from rows)
+gives (claim consumer rule ids) now present cursor rows = is_any (claim_by_ids rows present now rule ids).take
+gives (auto_claim consumer rule start limit) now present cursor rows =
+    is_any (scan_of rows present now rule start limit).claim.take
+gives _ now present cursor rows = false
 
 -- the row of an id after an ask, from the rows and the cursor that it meets
 abbrev pub row_after_ask : GroupAsk → ℕ → List Id → Id → PendingEntries → Id → Option RowState → Option RowState

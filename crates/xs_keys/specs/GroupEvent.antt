@@ -1,10 +1,10 @@
 -- The events of a group, and the group by looking back over them: deliveries, cursor, consumers and rows.
-use Rattle.std.specs.Prelude.{ℕ, Bool, false, not, List, [], Option, None, true, ◌&&◌, ◌∷◌, ◌++◌, if◌then◌else◌}
+use Rattle.std.specs.Prelude.{ℕ, Bool, false, not, List, [], Option, Some, None, true, ◌&&◌, ◌||◌, ◌∷◌, ◌++◌, if◌then◌else◌}
 use Rattle.xs_group.specs.declared.claims.Claim.{Claim}
 use Rattle.xs_keys.specs.Terms.{Id, RowState, with_some, is_below}
 use Rattle.xs_keys.specs.Terms.{greatest}
 use Rattle.xs_keys.specs.Event.{Bytes, PendingEntries}
-use Rattle.xs_keys.specs.GroupAsk.{GroupAsk, new_ids_of_ask, claim_of_ask, scan_end_of_ask, adds_consumer}
+use Rattle.xs_keys.specs.GroupAsk.{GroupAsk, new_ids_of_ask, claim_of_ask, scan_end_of_ask, adds_consumer, gives}
 use Rattle.xs_keys.specs.GroupAsk.{deletes_consumer}
 use Rattle.xs_keys.specs.GroupAsk.{row_after_ask}
 
@@ -63,3 +63,12 @@ pending_row_at start (event ∷ past) x =
 -- all rows, in the order of their ids
 abbrev pub rows : Id → List GroupEvent → PendingEntries
 rows start past = rows_among (λ x. pending_row_at start past x) (delivered_ids start past)
+
+-- when a consumer was made, or the last event gave it something
+abbrev pub seen_at : Id → List GroupEvent → Bytes → Option ℕ
+seen_at start [] name = None
+seen_at start (event ∷ past) name =
+    let given = gives event.ask event.now event.present (cursor start past) (rows start past) in
+    if deletes_consumer event.ask name then None
+    else (if adds_consumer event.ask name && (given || not (is_consumer past name)) then Some event.now
+    else seen_at start past name)

@@ -1,16 +1,12 @@
--- What XINFO GROUPS, EXISTS, TYPE and DBSIZE tell of the content. (Redis, their pages, "RESP2 Reply".)
+-- What XINFO STREAM, XINFO GROUPS and XINFO CONSUMERS tell of a key. (Redis, their pages, "RESP2 Reply".)
 use Rattle.std.specs.Prelude.{ℕ, ◌+◌, Bool, true, false, List, [], ◌∷◌, ◌++◌, map, length, codes, min, Some}
-use Rattle.std.specs.Prelude.{if◌then◌else◌}
 use Rattle.xs_stream.specs.declared.range.Range.{Range}
 use Rattle.xs_stream.specs.Id.{greatest_id}
 use Rattle.xs_stream.specs.StreamContent.{count_above, entries_within}
 use Rattle.xs_group.specs.GroupState.{greatest_count}
-use Rattle.xs_command.specs.declared.command.Inspection.{Inspection}
-use Rattle.xs_command.specs.declared.command.Inspection.TheVariants.{Stream as OfStream, Groups, Existence, KeyType, KeyCount}
-use Rattle.xs_resp.specs.declared.reply.Simple.TheVariants.{Stream, Nothing}
-use Rattle.xs_keys.specs.Terms.{option_map_or, get, has_key, Id, ids_of, StreamState, GroupState, Reply, Simple, Error, Int, Bulk}
-use Rattle.xs_keys.specs.Terms.{NullBulk, MissingKey, zero_id}
-use Rattle.xs_keys.specs.Content.{Content, KeyState}
+use Rattle.xs_keys.specs.Terms.{Id, ids_of, StreamState, GroupState, ConsumerReport, consumer_reports, Reply, Int, Bulk}
+use Rattle.xs_keys.specs.Terms.{NullBulk, zero_id}
+use Rattle.xs_keys.specs.Content.{KeyState}
 use Rattle.xs_keys.specs.Event.{Bytes, Entries}
 use Rattle.xs_keys.specs.ReplyParts.{array, id_reply, present_reply}
 
@@ -87,15 +83,13 @@ stream_reply key =
     let groups = length key.groups.entries in
     array (size_part entries ++ (past_part key.stream (end_id first) ++ ends_part groups first last))
 
--- EXISTS: how many of these keys are there; one that is named twice counts twice
-abbrev pub existing : List Bytes → Content → ℕ
-existing [] content = 0
-existing (name ∷ names) content = (if has_key content name then 1 else 0) + existing names content
+-- XINFO CONSUMERS: a consumer, how many entries are pending with it, and for how long it was given nothing
+abbrev pub consumer_reply : ConsumerReport → Reply
+consumer_reply consumer =
+    array (Bulk (codes "name") ∷ Bulk consumer.consumer
+    ∷ Bulk (codes "pending") ∷ Int consumer.pending
+    ∷ Bulk (codes "idle") ∷ Int consumer.idle ∷ [])
 
--- the reply to each
-abbrev pub inspection_reply : Content → Inspection → Reply
-inspection_reply content (OfStream name) = option_map_or stream_reply (get content name) (Error MissingKey)
-inspection_reply content (Groups name) = option_map_or groups_reply (get content name) (Error MissingKey)
-inspection_reply content (Existence names) = number_reply (existing names content)
-inspection_reply content (KeyType name) = Simple (if has_key content name then Stream else Nothing)
-inspection_reply content KeyCount = Int (length content.entries)
+-- the consumers of a group, in the order of their names
+abbrev pub consumers_reply : ℕ → GroupState → Reply
+consumers_reply now group = array (map consumer_reply (consumer_reports now group))

@@ -14,6 +14,8 @@ pub mod ContentAfter
 pub mod KeysRoom
 pub mod ReplyParts
 pub mod Inspecting
+pub mod InspectingInFull
+pub mod InspectionReply
 pub mod Reply
 pub mod Step
 pub mod Waiting

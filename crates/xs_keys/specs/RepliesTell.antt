@@ -19,7 +19,7 @@ use Rattle.xs_keys.specs.Owner.{owner}
 use Rattle.xs_keys.specs.TimesAndCounts.{time_of, count_of}
 use Rattle.xs_keys.specs.GroupLife.{GroupLife, group_life, present_in, has_all_groups}
 use Rattle.xs_keys.specs.Content.{Content, IsContent}
-use Rattle.xs_keys.specs.Inspecting.{inspection_reply}
+use Rattle.xs_keys.specs.InspectionReply.{inspection_reply}
 use Rattle.xs_keys.specs.ReplyParts.{array, array_or_null, id_reply}
 use Rattle.xs_keys.specs.Telling.{TellsEntry, TellsEach, AreFirst}
 use Rattle.xs_keys.specs.Step.{is_error}
@@ -94,8 +94,9 @@ abbrev pub IfThere : Bool → Reply → Type 0 → Type 0
 IfThere there answer Told = (there ≡ true → Told) × (there ≡ false → answer ≡ Error NoGroup)
 
 -- what is told of the content that the past leaves
-abbrev pub TellsContent : History → Inspection → Reply → Type 0
-TellsContent past inspection answer = (content : Content) × IsContent content past × (answer ≡ inspection_reply content inspection)
+abbrev pub TellsContent : History → ℕ → Inspection → Reply → Type 0
+TellsContent past now inspection answer =
+    (content : Content) × IsContent content past × (answer ≡ inspection_reply content now inspection)
 
 -- the answer to a command, after this past, tells what it did; of ranges, groups, DEL, PING and QUIT nothing is told
 -- beyond the model's reply
@@ -130,5 +131,5 @@ IsTold past now (AutoClaim c) answer =
     × TellsTaken c.rule.just_id (added_at past c.key) found.claim.take told
     × IsAssigned c.consumer found.claim (group_life past c.key c.group)
     (group_life ((now, AutoClaim c) ∷ past) c.key c.group))
-IsTold past now (Inspect inspection) answer = TellsContent past inspection answer
+IsTold past now (Inspect inspection) answer = TellsContent past now inspection answer
 IsTold past now _ answer = Unit {0}

@@ -15,7 +15,7 @@ use Rattle.xs_keys.specs.ContentAfter.{stream_after, key_or_new, after_ask, has_
 use Rattle.xs_keys.specs.ContentAfter.{entries_in}
 use Rattle.xs_keys.specs.Event.{Bytes, Entries}
 use Rattle.xs_keys.specs.ReplyParts.{array, array_or_null, entries_reply, assigned_reply, reply_of_group, reply_of_key}
-use Rattle.xs_keys.specs.Inspecting.{inspection_reply}
+use Rattle.xs_keys.specs.InspectionReply.{inspection_reply}
 use Rattle.xs_keys.specs.ReplyParts.{stream_part}
 use Rattle.xs_keys.specs.ReplyParts.{new_part, summary_reply, row_reply, taken_reply, scan_reply}
 
@@ -58,7 +58,7 @@ reply content now (Scan scan) =
     let entries = entries_in (get content scan.key) in
     entries_reply entries (up_to_limit scan.limit (ids_within scan.range scan.reversed entries))
 reply content now (DropKeys names) = Int (existing_count names content)
-reply content now (Inspect inspection) = inspection_reply content inspection
+reply content now (Inspect inspection) = inspection_reply content now inspection
 reply content now (GroupCreate create) =
     reply_of_key (key_or_new create.make (get content create.key))
     (λ k. if has_key k.groups create.group then Error Busy else Simple Okay)

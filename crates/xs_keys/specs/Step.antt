@@ -2,7 +2,7 @@
 use Rattle.std.specs.Prelude.{◌≡◌, ℕ, Bool, true, false, ◌⊎◌, Some}
 use Rattle.xs_keys.specs.Terms.{Memory, Reply, Error, Command, Ping, Add, Scan}
 use Rattle.xs_keys.specs.Terms.{GroupCreate, ConsumerCreate, ReadGroup, Pending, PendingRows, Claim, AutoClaim, Inspect}
-use Rattle.xs_command.specs.declared.command.Inspection.TheVariants.{Stream, Groups}
+use Rattle.xs_command.specs.declared.command.Inspection.TheVariants.{Stream, StreamInFull, Groups, Consumers}
 use Rattle.xs_keys.specs.Content.{Content}
 use Rattle.xs_keys.specs.ContentAfter.{content_after}
 use Rattle.xs_keys.specs.Reply.{reply}
@@ -20,7 +20,9 @@ takes_memory (PendingRows pending) = true
 takes_memory (Claim claim) = true
 takes_memory (AutoClaim claim) = true
 takes_memory (Inspect (Stream key)) = true
+takes_memory (Inspect (StreamInFull key limit)) = true
 takes_memory (Inspect (Groups key)) = true
+takes_memory (Inspect (Consumers key group)) = true
 takes_memory _ = false
 
 abbrev pub is_error : Reply → Bool

@@ -13,7 +13,7 @@ pub use Rattle.xs_stream.specs.StreamContent.{StreamState}
 pub use Rattle.xs_stream.specs.StreamContent.{ids_of, is_trimmed, entries_after_trim, without, fields_at, ids_within}
 pub use Rattle.xs_stream.specs.StreamContent.{up_to_limit, greatest, new_stream, with_entry, with_deleted}
 pub use Rattle.xs_stream.specs.StreamContent.{Ascends, AllUpTo, AllAbove}
-pub use Rattle.xs_group.specs.GroupState.{is_same_name, RowState, GroupState, has_name, new_group, with_consumer}
+pub use Rattle.xs_group.specs.GroupState.{is_same_name, is_any, RowState, GroupState, has_name, new_group, with_consumer}
 pub use Rattle.xs_group.specs.GroupState.{unless_acked, group_after_ack}
 pub use Rattle.xs_group.specs.GroupState.{unless_owned, without_consumer, new_ids, first_row, group_after_delivery}
 pub use Rattle.xs_group.specs.GroupState.{reread_ids}
@@ -21,10 +21,11 @@ pub use Rattle.xs_group.specs.GroupState.{row_after_reread}
 pub use Rattle.xs_group.specs.GroupState.{group_after_reread}
 pub use Rattle.xs_group.specs.Claims.{claim_by_ids, scan_of, row_after_claim, group_after_claim}
 pub use Rattle.xs_group.specs.declared.claims.ClaimRule.{ClaimRule}
+pub use Rattle.xs_group.specs.declared.reports.ConsumerReport.{ConsumerReport}
 pub use Rattle.xs_group.specs.declared.reports.OwnerCount.{OwnerCount}
 pub use Rattle.xs_group.specs.declared.reports.GroupSummary.{GroupSummary}
 pub use Rattle.xs_group.specs.declared.reports.PendingRow.{PendingRow}
-pub use Rattle.xs_group.specs.Report.{owned_count, summary_of, pending_of}
+pub use Rattle.xs_group.specs.Report.{owned_count, summary_of, pending_of, consumer_reports}
 pub use Rattle.xs_command.specs.declared.command.Command.{Command}
 pub use Rattle.xs_command.specs.declared.command.Command.TheVariants.{Ping, Quit, Add, Delete, TrimTo, Len, Scan}
 pub use Rattle.xs_command.specs.declared.command.Command.TheVariants.{GroupCreate, GroupDestroy, ConsumerCreate}

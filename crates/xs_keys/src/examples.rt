@@ -98,6 +98,11 @@ pub fn consumers()
     ensures { group_events.Consumers }
 {}
 
+/// The moments of consumers by looking back.
+pub fn moments_of_consumers()
+    ensures { group_events.Moments }
+{}
+
 /// Who has an entry.
 pub fn owners()
     ensures { group_events.Owners }

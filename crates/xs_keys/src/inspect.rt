@@ -1,14 +1,15 @@
 //! EXISTS, TYPE and DBSIZE, and XINFO.
 ghost use Rattle.std.specs.Prelude.{◌≡◌, ◌<◌, ◌^◌};
-ghost use Rattle.xs_keys.specs.Inspecting.{existing};
-ghost use Rattle.xs_keys.specs.Step.{StepAtAnyTime};
+ghost use Rattle.xs_keys.specs.InspectionReply.{existing};
+ghost use Rattle.xs_keys.specs.Step.{Step};
 
 use crate::keys::Keys;
-use crate::xinfo;
+use crate::{xinfo, xinfo_full};
 use std::alloc::Global;
 use xs_bytes::{Bytes, U63};
 use xs_command::{Command, Inspection};
 use xs_resp::{Reply, Simple};
+use xs_stream::Moment;
 
 /// How many of these keys are there. One that is named twice counts twice.
 fn count_existing(keys: &Keys, names: &[Bytes]) -> usize
@@ -24,12 +25,16 @@ fn count_existing(keys: &Keys, names: &[Bytes]) -> usize
 }
 
 /// What is told of the content, which stays as it is.
-pub fn inspect(keys: &Keys, alloc: Global, inspection: &Inspection) -> Reply
-    ensures { StepAtAnyTime keys.now (Command.Inspect inspection.now) result keys.now }
+pub fn inspect(keys: &Keys, alloc: Global, now: Moment, inspection: &Inspection) -> Reply
+    ensures { Step keys.now now (Command.Inspect inspection.now) result keys.now }
 {
     match inspection {
         Inspection::Stream { key } => xinfo::stream(keys, alloc, key),
+        Inspection::StreamInFull { key, limit } => {
+            xinfo_full::stream(keys, alloc, now, key, *limit)
+        }
         Inspection::Groups { key } => xinfo::groups(keys, alloc, key),
+        Inspection::Consumers { key, group } => xinfo::consumers(keys, alloc, now, key, group),
         Inspection::Existence { keys: names } => {
             let count = count_existing(keys, names.as_slice()) as u64;
             Reply::Int(U63::new(count.min(U63::MAX)))

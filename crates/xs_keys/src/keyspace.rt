@@ -163,7 +163,7 @@ fn apply_to(
             key,
             group,
             consumer,
-        } => xgroup::create_consumer(keys, alloc, key, group, consumer),
+        } => xgroup::create_consumer(keys, alloc, now, key, group, consumer),
         Command::ConsumerDelete {
             key,
             group,
@@ -176,6 +176,6 @@ fn apply_to(
         Command::Claim(command) => xclaim::claim(keys, alloc, now, command),
         Command::AutoClaim(command) => xautoclaim::claim(keys, alloc, now, command),
         Command::DropKeys { keys: names } => del::delete(keys, names),
-        Command::Inspect(inspection) => inspect::inspect(keys, alloc, inspection),
+        Command::Inspect(inspection) => inspect::inspect(keys, alloc, now, inspection),
     }
 }

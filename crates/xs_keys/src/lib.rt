@@ -21,6 +21,7 @@ mod xclaim;
 mod xdel;
 mod xgroup;
 mod xinfo;
+mod xinfo_full;
 mod xlen;
 mod xpending;
 mod xrange;

@@ -97,7 +97,7 @@ pub fn push_entries(
 }
 
 /// Appends entries that their stream lends.
-fn push_lent_entries(
+pub fn push_lent_entries(
     tokens: &mut Tokens,
     alloc: Global,
     entries: &[Entry<'_>],

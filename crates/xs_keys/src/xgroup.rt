@@ -7,7 +7,7 @@ ghost use Rattle.xs_group.specs.GroupState.{new_group, has_name, with_consumer};
 ghost use Rattle.xs_keys.specs.ContentAfter.{new_key, with_group};
 ghost use Rattle.xs_keys.specs.GroupLife.{starting_id};
 ghost use Rattle.xs_keys.specs.Grouping.{Creates};
-ghost use Rattle.xs_keys.specs.Step.{StepAtAnyTime};
+ghost use Rattle.xs_keys.specs.Step.{Step, StepAtAnyTime};
 
 use crate::account::{Account, NoMemory};
 use crate::keys::{Groups, Keys, Slot};
@@ -18,7 +18,7 @@ use xs_bytes::{Bytes, U63};
 use xs_command::{Command, GroupCreateCommand, GroupStart};
 use xs_group::Group;
 use xs_resp::{Fault, Reply, Simple};
-use xs_stream::{Id, Stream};
+use xs_stream::{Id, Moment, Stream};
 
 /// The id behind which a group starts, in a stream with this top.
 fn start_id(start: GroupStart, top: Id) -> Id
@@ -195,11 +195,12 @@ pub fn destroy(keys: &mut Keys, key: &Bytes, group: &Bytes) -> Reply
 fn add_consumer(
     account: &Account,
     alloc: Global,
+    now: Moment,
     group: &mut Group,
     consumer: &Bytes,
 ) -> Result<bool, NoMemory>
     ensures made { IfOk result (λ made. made ≡ not (has_name group.old.consumers consumer.now)) }
-    ensures ok { OnOk result (group.new ≡ with_consumer consumer.now group.old) }
+    ensures ok { OnOk result (group.new ≡ with_consumer consumer.now now group.old) }
     ensures bound { let is_above = is_above account.now.bound account.now.held (length consumer.now) in
         (result ≡ Err NoMemory.Bound) ↔ ((not (has_name group.old.consumers consumer.now) && is_above) ≡ true) }
     ensures err { OnErr result (group.new ≡ group.old) }
@@ -207,7 +208,7 @@ fn add_consumer(
     if !group.has_consumer(consumer) {
         account.admit(consumer.len() as u128)?;
     }
-    let made = group.add_consumer(alloc, consumer)?;
+    let made = group.add_consumer(alloc, consumer, now)?;
     Ok(made)
 }
 
@@ -215,11 +216,12 @@ fn add_consumer(
 pub fn create_consumer(
     keys: &mut Keys,
     alloc: Global,
+    now: Moment,
     key: &Bytes,
     group: &Bytes,
     consumer: &Bytes,
 ) -> Reply
-    ensures { StepAtAnyTime keys.old (Command.ConsumerCreate key.now group.now consumer.now) result keys.new }
+    ensures { Step keys.old now (Command.ConsumerCreate key.now group.now consumer.now) result keys.new }
 {
     let Some(slot) = keys.slots.get_mut(key) else {
         return Reply::Error(Fault::NoKey);
@@ -228,7 +230,7 @@ pub fn create_consumer(
         return Reply::Error(Fault::NoGroup);
     };
     let before = group.room();
-    let added = add_consumer(&keys.account, alloc, group, consumer);
+    let added = add_consumer(&keys.account, alloc, now, group, consumer);
     keys.account.change(before, group.room());
     match added {
         Ok(made) => one_where(made),

@@ -2,27 +2,30 @@
 ghost use Rattle.std.specs.Prelude.{◌≡◌, ◌++◌, ◌∷◌, [], ◌<◌, ◌^◌, map, IfOk, OnOk};
 ghost use Rattle.std.specs.List.{flat_map};
 ghost use Rattle.xs_command.specs.declared.command.Inspection.TheVariants.{Stream as OfStream, Groups as OfGroups};
+ghost use Rattle.xs_command.specs.declared.command.Inspection.TheVariants.{Consumers as OfConsumers};
 ghost use Rattle.xs_stream.specs.StreamContent.{ids_of, state_of};
 ghost use Rattle.xs_resp.specs.ReplyItems.{tokens_of};
 ghost use Rattle.xs_keys.specs.KeysRoom.{key_state_of};
+ghost use Rattle.xs_keys.specs.ReplyParts.{array};
 ghost use Rattle.xs_keys.specs.Inspecting.{size_part, past_part, ends_part, end_reply, end_id, stream_reply};
 ghost use Rattle.xs_keys.specs.Inspecting.{members_part, progress_part, group_reply, groups_reply};
-ghost use Rattle.xs_keys.specs.Step.{StepAtAnyTime};
+ghost use Rattle.xs_keys.specs.Inspecting.{consumer_reply, consumers_reply};
+ghost use Rattle.xs_keys.specs.Step.{Step, StepAtAnyTime};
 
 use crate::keys::{Keys, Slot};
 use crate::showing::{push_id, push_present};
 use std::alloc::{AllocError, Global};
 use xs_bytes::{Bytes, List, U63};
 use xs_command::Command;
-use xs_group::Group;
+use xs_group::{ConsumerReport, Group};
 use xs_resp::{Fault, Replies, Reply, Tokens};
-use xs_stream::{Entry, Id, Range, Stream};
+use xs_stream::{Entry, Id, Moment, Range, Stream};
 
 /// How many tokens a stream has, beside the fields of its ends.
 const STREAM_TOKENS: usize = 28;
 
 /// All ids.
-const WHOLE: Range = Range {
+pub(crate) const WHOLE: Range = Range {
     low: Id::ZERO,
     high: Id::GREATEST,
 };
@@ -31,7 +34,7 @@ const WHOLE: Range = Range {
 const GROUP_TOKENS: usize = 13;
 
 /// Appends the name of a number, and the number.
-fn push_number(tokens: &mut Tokens, name: &[u8], number: u64) -> Result<(), AllocError>
+pub(crate) fn push_number(tokens: &mut Tokens, name: &[u8], number: u64) -> Result<(), AllocError>
     requires { number < 2 ^ 63 }
     ensures { OnOk result (tokens.new ≡ tokens.old ++ (tokens_of (Reply.Bulk name.now) ++ tokens_of (Reply.Int number))) }
 {
@@ -50,7 +53,7 @@ fn push_members(tokens: &mut Tokens, name: &Bytes, group: &Group) -> Result<(), 
 }
 
 /// Appends how far a group with this cursor has come in a stream.
-fn push_progress(
+pub(crate) fn push_progress(
     tokens: &mut Tokens,
     alloc: Global,
     stream: &Stream,
@@ -116,6 +119,66 @@ pub fn groups(keys: &Keys, alloc: Global, key: &Bytes) -> Reply
     }
 }
 
+/// How many tokens a consumer has.
+const CONSUMER_TOKENS: usize = 7;
+
+/// Appends a consumer.
+fn push_consumer(tokens: &mut Tokens, consumer: ConsumerReport) -> Result<(), AllocError>
+    ensures { OnOk result (tokens.new ≡ tokens.old ++ tokens_of (consumer_reply consumer)) }
+{
+    tokens.push_array(6)?;
+    tokens.push_bulk(b"name")?;
+    tokens.push_bulk(consumer.consumer.as_slice())?;
+    tokens.push_bulk(b"pending")?;
+    tokens.push_int(consumer.pending)?;
+    tokens.push_bulk(b"idle")?;
+    tokens.push_int(consumer.idle)
+}
+
+/// Appends consumers.
+fn push_consumers(tokens: &mut Tokens, consumers: Vec<ConsumerReport>) -> Result<(), AllocError>
+    ensures { OnOk result (tokens.new ≡ tokens.old ++ flat_map tokens_of (map consumer_reply consumers.items)) }
+{
+    for consumer in consumers {
+        push_consumer(tokens, consumer)?;
+    }
+    Ok(())
+}
+
+/// These consumers.
+fn consumers_shown(alloc: Global, consumers: Vec<ConsumerReport>) -> Result<Reply, AllocError>
+    ensures { IfOk result (λ reply. reply ≡ array (map consumer_reply consumers.items)) }
+{
+    let count = consumers.len();
+    let mut tokens = Tokens::with_capacity(alloc, count.saturating_mul(CONSUMER_TOKENS))?;
+    push_consumers(&mut tokens, consumers)?;
+    Ok(Reply::Array(Replies::new(count, tokens)))
+}
+
+/// The consumers of a group, at a moment.
+fn consumers_of(alloc: Global, now: Moment, group: &Group) -> Result<Reply, AllocError>
+    ensures { IfOk result (λ reply. reply ≡ consumers_reply now group.now) }
+{
+    let consumers = group.consumers(alloc, now)?;
+    consumers_shown(alloc, consumers)
+}
+
+/// XINFO CONSUMERS.
+pub fn consumers(keys: &Keys, alloc: Global, now: Moment, key: &Bytes, name: &Bytes) -> Reply
+    ensures { Step keys.now now (Command.Inspect (OfConsumers key.now name.now)) result keys.now }
+{
+    let Some(slot) = keys.get(key) else {
+        return Reply::Error(Fault::MissingKey);
+    };
+    let Some(group) = slot.groups.get(name) else {
+        return Reply::Error(Fault::NoGroup);
+    };
+    match consumers_of(alloc, now, group) {
+        Ok(reply) => reply,
+        Err(AllocError) => Reply::Error(Fault::Memory),
+    }
+}
+
 /// Appends the first entry or the last one, or the null string if there is none.
 fn push_end(tokens: &mut Tokens, alloc: Global, end: &List<Entry<'_>>) -> Result<(), AllocError>
     ensures { OnOk result (tokens.new ≡ tokens.old ++ tokens_of (end_reply end.now)) }
@@ -127,7 +190,7 @@ fn push_end(tokens: &mut Tokens, alloc: Global, end: &List<Entry<'_>>) -> Result
 }
 
 /// Appends how many entries a stream has.
-fn push_size(tokens: &mut Tokens, stream: &Stream) -> Result<(), AllocError>
+pub(crate) fn push_size(tokens: &mut Tokens, stream: &Stream) -> Result<(), AllocError>
     ensures { OnOk result (tokens.new ≡ tokens.old ++ flat_map tokens_of (size_part stream.now.entries)) }
 {
     let length = stream.len() as u64;
@@ -138,7 +201,7 @@ fn push_size(tokens: &mut Tokens, stream: &Stream) -> Result<(), AllocError>
 }
 
 /// Appends what a stream ever had, and the id of its first entry.
-fn push_past(
+pub(crate) fn push_past(
     tokens: &mut Tokens,
     alloc: Global,
     stream: &Stream,
@@ -176,7 +239,7 @@ fn push_ends(
 }
 
 /// The id of the first of these entries, or `0-0`.
-fn first_id(entries: &List<Entry<'_>>) -> Id
+pub(crate) fn first_id(entries: &List<Entry<'_>>) -> Id
     ensures { result ≡ end_id entries.now }
 {
     match entries.as_slice().first() {

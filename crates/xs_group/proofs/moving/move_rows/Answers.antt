@@ -24,5 +24,5 @@ loop-share-preserved c =
             (c.move_row.ensures.rows x),
         inv.rows x,
       );
-      names = λ n. c.move_row.ensures.names n ∙ inv.names n;
+      seen = λ n. c.move_row.ensures.seen n ∙ inv.seen n;
     }

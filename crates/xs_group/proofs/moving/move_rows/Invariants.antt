@@ -1,4 +1,4 @@
-use Rattle.xs_group.proofs.Terms.{◌≡◌, ℕ, List, map, is_some, option_and_then, into_iter_items, Id, ids_at, indexed_row}
+use Rattle.xs_group.proofs.Terms.{◌≡◌, ℕ, List, map, option_and_then, into_iter_items, Id, seen_at, indexed_row}
 use Rattle.xs_group.proofs.Terms.{row_after_move, AreDistinct, AreAgreedBut}
 use Rattle.xs_group.proofs.moving.move_rows.Given as goal
 
@@ -11,5 +11,5 @@ invariant-loop-share l = record {
   rows : (x : Id) → option_and_then (row_after_move l.fn.name l.terms.moment l.terms.rule l.todo x)
       (indexed_row l.rows.entries x)
       ≡ option_and_then (row_after_move l.fn.name l.terms.moment l.terms.rule l.fn.ids x) (indexed_row l.fn.rows.entries x);
-  names : (n : List ℕ) → is_some (ids_at l.owners.entries n) ≡ is_some (ids_at l.fn.owners.entries n);
+  seen : (n : List ℕ) → seen_at l.owners.entries n ≡ seen_at l.fn.owners.entries n;
 }

@@ -11,7 +11,7 @@ loop-id-preserved c =
     let next = take_more c.args.ids.now c.loop-id.id-index (record { ms = 0; seq = 0 }) c.loop-id-test.true in
     let id = get_or c.args.ids.now c.loop-id.id-index (record { ms = 0; seq = 0 }) in
     record {
-      names = λ q. c.take_back_one.ensures.names q ∙ c.loop-id.invariant.names q;
+      seen = λ q. c.take_back_one.ensures.seen q ∙ c.loop-id.invariant.seen q;
       back = λ q x. grind (
         arith,
         c.take_back_one.ensures.ids q x,

@@ -1,4 +1,4 @@
-use Rattle.std.proofs.Common.{codes, refl, ap, length, subst, T, arith}
+use Rattle.std.proofs.Common.{codes, is_some, refl, ap, length, subst, T, arith}
 use Rattle.xs_bytes.specs.SortedMap.{empty, get, insert_by, remove, change}
 use Rattle.xs_stream.specs.StreamContent.{StreamState}
 use Rattle.xs_keys.specs.Content.{IsGroupOfLife}
@@ -22,5 +22,5 @@ returns c = record {
   not_another_start = λ h. omega (arith, ap (λ i. i.ms) (IsGroupOfLife.cursor_is h));
   not_before_its_read = λ h. omega (arith, ap (λ i. i.ms) (IsGroupOfLife.cursor_is h));
   not_after_a_read = λ h. omega (arith, ap (λ i. i.ms) (IsGroupOfLife.cursor_is h));
-  not_with_a_consumer = λ h. subst T (IsGroupOfLife.consumers_are h (codes "b")) tt;
+  not_with_a_consumer = λ h. subst T (ap is_some (IsGroupOfLife.consumers_are h (codes "b"))) tt;
 }

@@ -1,5 +1,5 @@
 use Rattle.std.proofs.Common.{◌≡◌, ◌+◌, ◌≤◌, drop}
-use Rattle.xs_keys.specs.Inspecting.{existing}
+use Rattle.xs_keys.specs.InspectionReply.{existing}
 use Rattle.xs_keys.proofs.inspect.count_existing.Given as goal
 
 -- what is counted and what the rest will bring is all, and no more is counted than was looked at

@@ -22,9 +22,6 @@ returns-in-GroupCreate c = rw c.in-GroupCreate.is (c.create.ensures c.args.now)
 pub returns-in-GroupDestroy : goal.returns-in-GroupDestroy
 returns-in-GroupDestroy c = rw c.in-GroupDestroy.is (c.destroy.ensures c.args.now)
 
-pub returns-in-ConsumerCreate : goal.returns-in-ConsumerCreate
-returns-in-ConsumerCreate c = rw c.in-ConsumerCreate.is (c.create_consumer.ensures c.args.now)
-
 pub returns-in-ConsumerDelete : goal.returns-in-ConsumerDelete
 returns-in-ConsumerDelete c = rw c.in-ConsumerDelete.is (c.delete_consumer.ensures c.args.now)
 
@@ -36,6 +33,3 @@ returns-in-Pending c = rw c.in-Pending.is (c.summary.ensures c.args.now)
 
 pub returns-in-DropKeys : goal.returns-in-DropKeys
 returns-in-DropKeys c = rw c.in-DropKeys.is (c.delete-in-DropKeys.ensures c.args.now)
-
-pub returns-in-Inspect : goal.returns-in-Inspect
-returns-in-Inspect c = rw c.in-Inspect.is (c.inspect.ensures c.args.now)

@@ -8,7 +8,7 @@ use Rattle.xs_keys.proofs.xgroup.create_consumer.Goals as goal
 use Rattle.xs_keys.proofs.xgroup.create_consumer.Goals.{in-Ok, in-Err}
 
 pub returns-in_default : goal.returns-in_default
-returns-in_default c = λ now.
+returns-in_default c =
     let none = shown-none c.keys.inside.slots c.args.keys.now c.keys.view_is c.args.key.now (sym c.in_default.ensures.value) in
     rw c.keys.view_is (inl (record { answer_is = rw none refl; content_is = rw none refl }))
 
@@ -18,7 +18,7 @@ invariant_of-keys-in_default-get_mut c =
     counted-same c.keys.inside.slots c.keys.inside.account.held c.keys.invariant c.args.key.now key (sym c.in-Some.ensures.value ∙ ap Some (sym c.slot.view_is))
 
 pub returns-in_default-get_mut : goal.returns-in_default-get_mut
-returns-in_default-get_mut c = λ now.
+returns-in_default-get_mut c =
     let key : KeyInMemory = record { stream = c.slot.inside.stream; groups = c.slot.inside.groups } in
     let found = sym c.in-Some.ensures.value ∙ ap Some (sym c.slot.view_is) in
     let had = shown-key c.keys.inside.slots c.args.keys.now c.keys.view_is c.args.key.now key found in
@@ -36,7 +36,7 @@ invariant_of-keys-2 c =
     (rw (c.room-before.ensures, c.room.ensures) at c.change.ensures.held)
 
 pub returns : goal.returns
-returns c = λ now.
+returns c =
     let content = c.args.keys.now in
     let name = c.args.key.now in
     let key : KeyInMemory = record { stream = c.slot.inside.stream; groups = c.slot.inside.groups } in
@@ -47,6 +47,6 @@ returns c = λ now.
     let there : get key.groups c.args.group.now ≡ Some was = sym c.in-Some-get_mut.ensures.value in
     rw (shown-change c.keys.inside.slots content c.keys.view_is name new)
     (elim c.match-added.branch [
-      | in-Ok w ↦ rw (w.result-is, w.one_where.ensures) (makes-consumer content now name c.args.group.now c.args.consumer.now (key_state_of key) was after had there w.in-Ok.made w.in-Ok.ensures.made w.in-Ok.ensures.ok)
-      | in-Err w ↦ rw w.result-is (refuses-consumer content now name c.args.group.now c.args.consumer.now (key_state_of key) was after had there w.in-Err.ensures.err)
+      | in-Ok w ↦ rw (w.result-is, w.one_where.ensures) (makes-consumer content c.args.now name c.args.group.now c.args.consumer.now (key_state_of key) was after had there w.in-Ok.made w.in-Ok.ensures.made w.in-Ok.ensures.ok)
+      | in-Err w ↦ rw w.result-is (refuses-consumer content c.args.now name c.args.group.now c.args.consumer.now (key_state_of key) was after had there w.in-Err.ensures.err)
     ])

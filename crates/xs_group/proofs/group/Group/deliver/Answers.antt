@@ -1,4 +1,4 @@
-use Rattle.xs_group.proofs.Terms.{sym, ap, ◌∙◌, subst, AllAbove, ids_of, rules, new_rows, new_ids, GroupState, List, Id}
+use Rattle.xs_group.proofs.Terms.{sym, ap, ◌∙◌, subst, AllAbove, ids_of, rules, new_rows, new_ids, GroupState, List, Id, get}
 use Rattle.xs_group.proofs.group.Group.deliver.Goals as goal
 use Rattle.xs_group.proofs.UndoneReads.{made-delivery}
 use Rattle.xs_group.proofs.Cursors.{new_ids-above}
@@ -14,6 +14,7 @@ returns-clause-answer c =
     λ i. record {
       consumer = (c.in_ok-text.ensures ∙ c.as_slice-2.ensures) i;
       created = c.in_ok-created.ensures.made i;
+      seen_before = (c.seen_at-seen_before.ensures ∙ ap (λ (g : GroupState). get g.consumers c.args.consumer.now) c.self.view_is) i;
       cursor_before = (c.self.view_is i).cursor;
       kind = c.kind_of.ensures i;
       rows = (c.new.ensures ∙ c.in_ok-rows.ensures ∙ ap new_rows (c.as_slice.ensures ∙ c.in_ok-ids.ensures.ids ∙ ap ids c.self.view_is)) i;
