@@ -1,6 +1,6 @@
 -- How many entries have an id or one above it: of the blocks that a walk meets, all but some of the first one's.
-use Rattle.std.proofs.Common.{◌≡◌, ℕ, suc, ◌+◌, ◌≤◌, Bool, true, false, not, cond, List, [], ◌∷◌, ◌++◌, length, filter, map, Some, None}
-use Rattle.std.proofs.Common.{sym, ap, ◌∙◌, refl, append_assoc, arith, length-append}
+use Rattle.std.proofs.Common.{◌≡◌, suc, ◌+◌, ◌≤◌, Bool, true, false, not, cond, List, [], ◌∷◌, ◌++◌, length, filter, Some}
+use Rattle.std.proofs.Common.{sym, ap, ◌∙◌, refl, append_assoc, length-append}
 use Rattle.std.proofs.lemmas.List.Elements.{filter-append}
 use Rattle.std.proofs.lemmas.List.Filters.{length-filter_both}
 use Rattle.std.specs.BTreeMap.Range.{entries_between}

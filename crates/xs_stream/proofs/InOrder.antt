@@ -13,7 +13,7 @@ use Rattle.std.specs.List.{slice_get}
 use Rattle.std.specs.BTreeMap.Range.{range_contains}
 use Rattle.std.specs.declared.ops.Bound.TheVariants.{Included}
 use Rattle.xs_stream.specs.declared.range.Range.{Range}
-use Rattle.xs_stream.specs.StreamContent.{is_within, count_above, StreamState, ids_of, AllAbove, Ascends, AllUpTo}
+use Rattle.xs_stream.specs.StreamContent.{is_within, count_above, ids_of, AllAbove, Ascends, AllUpTo}
 use Rattle.xs_stream.specs.StreamContent.{without, entries_after_trim, up_to_limit}
 use Rattle.xs_stream.specs.declared.id.Id.{Id}
 use Rattle.xs_stream.specs.declared.field.Field.{Field}

@@ -12,6 +12,7 @@ pub mod PackedBlocks
 pub mod PackedCodes
 pub mod PassedEntries
 pub mod Past
+pub mod CountedBelow
 pub mod CountedPast
 pub mod PlacesInLists
 pub mod Rooms

@@ -1,5 +1,5 @@
 -- How a stream lays down its entries: in blocks, each filed under an id, and behind them the newest ones.
-use Rattle.std.specs.Prelude.{◌≡◌, ℕ, ◌+◌, ◌<◌, ◌≤◌, ◌^◌, not, false, List, [], ◌∷◌, ◌++◌, length, Option, Some, None}
+use Rattle.std.specs.Prelude.{◌≡◌, ℕ, ◌+◌, ◌<◌, ◌≤◌, ◌^◌, not, List, [], ◌∷◌, ◌++◌, length, Option, Some, None}
 use Rattle.std.specs.List.{flat_map}
 use Rattle.std.specs.Map.{keys_of, lookup, lookup_key, set_value}
 use Rattle.std.specs.declared.ops.Bound.{Bound}
@@ -76,11 +76,6 @@ abbrev pub HasJoined : Id → List (Id × List Field) → List (Id × List (Id �
 HasJoined next front old new =
     (es : List (Id × List Field)) × (lookup (is_same_id next) old ≡ Some es)
     × (new ≡ set_value (is_same_id next) old (front ++ es))
-
--- no block is filed under an id below this one
-abbrev pub BeginsFrom : Id → List (Id × List (Id × List Field)) → Type 0
-BeginsFrom low [] = Unit {0}
-BeginsFrom low (b ∷ bs) = is_below b.0 low ≡ false
 
 -- the ids under which blocks are filed
 abbrev pub block_ids : Entries → List Id

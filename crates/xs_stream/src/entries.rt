@@ -9,7 +9,7 @@ ghost use Rattle.xs_stream.specs.Id.{is_below, is_same_id, has_id};
 ghost use Rattle.xs_stream.specs.StreamContent.{is_within, ids_of, fields_at, without, entries_after_trim, Ascends};
 ghost use Rattle.xs_stream.specs.StreamContent.{AllUpTo, count_above, greatest};
 ghost use Rattle.xs_stream.specs.ConsistentStream.{AllIds};
-ghost use Rattle.xs_stream.specs.Blocks.{contents, all_of, AreFiled, BeginsFrom, IsLaidDown, IsMeasured, block_ids};
+ghost use Rattle.xs_stream.specs.Blocks.{contents, all_of, AreFiled, IsLaidDown, IsMeasured, block_ids};
 ghost use Rattle.xs_stream.specs.Blocks.{end_at, HasJoined, place_room, room_of};
 
 use crate::block::Block;
@@ -423,7 +423,6 @@ impl Entries {
         ensures laid_down { IsLaidDown self.new }
         ensures filed_up_to_top { (top : Id) → AllUpTo top (block_ids self.old) → AllUpTo top (block_ids self.new) }
         ensures fewer { result ≡ true → length self.new.older.entries < length self.old.older.entries }
-        ensures from { result ≡ false → BeginsFrom low (contents self.new.older.entries) }
     {
         let Some((under, block)) = self.older.first_key_value() else {
             return false;
@@ -439,26 +438,20 @@ impl Entries {
         true
     }
 
-    /// Whether no block is filed under an id below this one.
-    fn begins_from(&self, low: Id) -> bool
-        ensures { result ≡ true → BeginsFrom low (contents self.now.older.entries) }
-    {
-        match self.older.first_key_value() {
-            Some((under, _)) => low <= *under,
-            None => true,
-        }
-    }
-
-    /// How many entries have ids below this one, where no block is filed below it.
+    /// How many entries have ids below this one. Only the first of the blocks that may have others is looked through.
     fn count_below(&self, low: Id) -> usize
-        requires filed { AreFiled (contents self.now.older.entries) self.now.newest.entries }
-        requires from { BeginsFrom low (contents self.now.older.entries) }
+        requires { IsLaidDown self.now }
         ensures { result ≡ length (filter (λ e. is_below e.0 low) (all_of self.now)) }
     {
-        match self.older.first_key_value() {
+        let mut count = match self.older.range(low..).next() {
             Some((_, block)) => block.count_below(low),
             None => self.newest.count_below(low),
+        };
+        let blocks = self.older.range((Bound::Unbounded, Bound::Excluded(low)));
+        for (_under, block) in blocks {
+            count += block.len();
         }
+        count
     }
 
     /// Removes the entries with ids below this one.
@@ -580,6 +573,17 @@ impl Entries {
         count + self.newest.len()
     }
 
+    /// Whether an id is nearer to those of the first blocks than to those of the last ones, so that fewer blocks are below it
+    /// than above it, if ids come evenly.
+    fn is_nearer_first(&self, id: Id) -> bool {
+        match (self.older.first_key_value(), self.older.last_key_value()) {
+            (Some((first, _)), Some((last, _))) => {
+                number_of(id) < number_of(*first) / 2 + number_of(*last) / 2
+            }
+            _ => false,
+        }
+    }
+
     /// How many entries have ids above a cursor.
     pub(crate) fn count_past(&self, cursor: Id) -> usize
         requires laid_down { IsLaidDown self.now }
@@ -589,7 +593,7 @@ impl Entries {
         let Some(low) = cursor.next() else {
             return 0;
         };
-        if self.begins_from(low) {
+        if self.is_nearer_first(low) {
             return self.len - self.count_below(low);
         }
         self.count_from(low)
@@ -644,6 +648,11 @@ impl Entries {
         }
         Ok(shown)
     }
+}
+
+/// An id as one number, in the same order.
+fn number_of(id: Id) -> u128 {
+    ((id.ms as u128) << 64) + id.seq as u128
 }
 
 /// How many entries there are beyond the most that may stay.

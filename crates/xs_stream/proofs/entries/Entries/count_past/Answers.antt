@@ -1,4 +1,4 @@
-use Rattle.std.proofs.Common.{◌≡◌, ◌+◌, length, sym, ap, ◌∙◌, arith}
+use Rattle.std.proofs.Common.{length, sym, ap, ◌∙◌, arith}
 use Rattle.xs_stream.specs.StreamContent.{ids_of}
 use Rattle.xs_stream.specs.Blocks.{all_of}
 use Rattle.xs_stream.proofs.Past.{past-none}
@@ -8,8 +8,8 @@ use Rattle.xs_stream.proofs.entries.Entries.count_past.Goals as goal
 pub overflow_sub-result : goal.overflow_sub-result
 overflow_sub-result c = omega (arith, c.requires.laid_down.counted, c.count_below.ensures, from-split c.in-Some.low (all_of c.args.self.now))
 
-pub returns-then-begins_from : goal.returns-then-begins_from
-returns-then-begins_from c = omega (arith, c.requires.laid_down.counted, c.count_below.ensures, from-split c.in-Some.low (all_of c.args.self.now), counted-past c.args.cursor c.in-Some.low (all_of c.args.self.now) (sym c.next.ensures ∙ c.in-Some.is) c.requires.ids)
+pub returns-then-is_nearer_first : goal.returns-then-is_nearer_first
+returns-then-is_nearer_first c = omega (arith, c.requires.laid_down.counted, c.count_below.ensures, from-split c.in-Some.low (all_of c.args.self.now), counted-past c.args.cursor c.in-Some.low (all_of c.args.self.now) (sym c.next.ensures ∙ c.in-Some.is) c.requires.ids)
 
 pub returns : goal.returns
 returns c = c.count_from.ensures ∙ counted-past c.args.cursor c.in-Some.low (all_of c.args.self.now) (sym c.next.ensures ∙ c.in-Some.is) c.requires.ids

@@ -1,8 +1,8 @@
-use Rattle.std.proofs.Common.{◌≡◌, ◌++◌, ◌∷◌, [], true, false, not, sym, ap, ◌∙◌, subst, arith, length}
+use Rattle.std.proofs.Common.{◌≡◌, ◌++◌, ◌∷◌, [], true, not, sym, ap, ◌∙◌, subst, arith, length}
 use Rattle.xs_stream.specs.declared.trim.Trim.TheVariants.{MinId}
 use Rattle.xs_stream.specs.Id.{is_below}
 use Rattle.xs_stream.specs.StreamContent.{ids_of, Ascends, entries_after_trim}
-use Rattle.xs_stream.specs.Blocks.{contents, entries_of_blocks, AreFiled, BeginsFrom}
+use Rattle.xs_stream.specs.Blocks.{contents, entries_of_blocks, AreFiled}
 use Rattle.xs_stream.proofs.Order.{not_le-below, partial-le}
 use Rattle.xs_stream.proofs.Dropping.{first-splits, popped, trimmed-popped, ascends-popped, length-popped}
 use Rattle.xs_stream.proofs.Rooms.{Filed, first-room-within, measured-popped}
@@ -19,12 +19,6 @@ overflow_sub-self-2 c =
     let all = c.args.self.now in
     let first = first-splits all.older.entries (c.in-Some.under.now, c.in-Some.block.now) c.in-Some.ensures.first in
     omega (arith, c.room-room.ensures.value, first-room-within all.older.entries [] all.room c.requires.laid_down.measured (c.in-Some.under.now, c.in-Some.block.now) first.0 first.1)
-
-pub returns-then-le-clause-from : goal.returns-then-le-clause-from
-returns-then-le-clause-from c = λ stays.
-    let first = first-splits c.args.self.now.older.entries (c.in-Some.under.now, c.in-Some.block.now) c.in-Some.ensures.first in
-    let from : is_below c.in-Some.under.now c.args.low ≡ false = sym (not_le-below c.args.low c.in-Some.under.now) ∙ ap not (sym (partial-le _ _) ∙ sym c.le.ensures ∙ c.if-le.true) in
-    subst (BeginsFrom c.args.low) (sym (ap contents first.1)) from
 
 pub returns-clause-kept : goal.returns-clause-kept
 returns-clause-kept c =
