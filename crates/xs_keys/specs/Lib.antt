@@ -45,6 +45,7 @@ pub mod ExamplesContent
 pub mod ExamplesHeadline
 pub mod ExamplesReplies
 pub mod ExamplesTelling
+pub mod ExamplesInspections
 pub mod ExamplesJob
 pub mod ExamplesPresence
 pub mod ExamplesWaiting

@@ -7,6 +7,7 @@ ghost use Rattle.xs_keys.specs.ExamplesGroupEvents as group_events;
 ghost use Rattle.xs_keys.specs.ExamplesAsks as asked;
 ghost use Rattle.xs_keys.specs.ExamplesContent as content;
 ghost use Rattle.xs_keys.specs.ExamplesHeadline as headline;
+ghost use Rattle.xs_keys.specs.ExamplesInspections.{Inspections};
 ghost use Rattle.xs_keys.specs.ExamplesJob as job;
 ghost use Rattle.xs_keys.specs.ExamplesPresence as presence;
 ghost use Rattle.xs_keys.specs.ExamplesReplies.{ToldAdditions, ToldReads, ToldClaims, ToldNumbers};
@@ -246,4 +247,9 @@ pub fn null_replies()
 /// How long a command may wait.
 pub fn blocks()
     ensures { waiting.Blocks }
+{}
+
+/// What is told of a content.
+pub fn inspections()
+    ensures { Inspections }
 {}
