@@ -3,7 +3,7 @@ use Rattle.std.proofs.Common.{◌≡◌, ℕ, zero, suc, ◌+◌, Bool, true, fa
 use Rattle.std.proofs.Common.{sym, ap, ◌∙◌, ◌<◌, add-one, append_assoc, arith, length-append}
 use Rattle.std.proofs.lemmas.List.{append-nil}
 use Rattle.std.specs.List.{flat_map}
-use Rattle.xs_resp.specs.Token.{Token, Simple, Error, Int, Bulk, NullBulk, Array, NullArray}
+use Rattle.xs_resp.specs.Token.{Token, Simple, Error, ErrorText, Int, Bulk, NullBulk, Array, NullArray}
 use Rattle.xs_resp.specs.ReplyText.{token_text}
 use Rattle.xs_resp.specs.Line.{crlf}
 use Rattle.xs_resp.specs.LeftToWrite.{bytes_left, left_of, pieces, string_of, strings_of, HasString}
@@ -61,6 +61,7 @@ more-lent (b ∷ bs) (t ∷ ts) string none = some-append (string_of t ++ crlf) 
 text-some : (t : Token) (more : List ℕ) → token_text t ++ more ≡ [] → ⊥
 text-some (Simple s) more none = cc
 text-some (Error f) more none = cc
+text-some (ErrorText bytes) more none = cc
 text-some (Int n) more none = cc
 text-some (Bulk bytes) more none = cc
 text-some NullBulk more none = cc

@@ -3,7 +3,7 @@ use Rattle.std.proofs.Common.{◌≡◌, ℕ, zero, suc, ◌+◌, ◌<◌, ◌�
 use Rattle.std.proofs.Common.{ap, ◌∙◌, arith, length-append, length-drop, length-take-le}
 use Rattle.std.proofs.lemmas.List.{drop-drop}
 use Rattle.xs_resp.specs.declared.mark.Mark.{Mark}
-use Rattle.xs_resp.specs.declared.mark.Mark.TheVariants.{Simple, Error, Int, Bulk, NullBulk, Array, NullArray}
+use Rattle.xs_resp.specs.declared.mark.Mark.TheVariants.{Simple, Error, ErrorText, Int, Bulk, NullBulk, Array, NullArray}
 use Rattle.xs_resp.specs.LeftToWrite.{string_of, strings_of}
 use Rattle.xs_resp.specs.Marks.{string_length, strings_length, token_in, tokens_in}
 
@@ -28,6 +28,7 @@ none (b ∷ bs) e = absurd (omega (arith, e))
 pub string-is : (m : Mark) (string : List ℕ) → length string ≡ string_length m → string_of (token_in m string) ≡ string
 string-is (Simple s) string e = none string e
 string-is (Error f) string e = none string e
+string-is (ErrorText n) string e = refl
 string-is (Int n) string e = none string e
 string-is (Bulk n) string e = refl
 string-is NullBulk string e = none string e

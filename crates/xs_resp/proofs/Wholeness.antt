@@ -5,7 +5,7 @@ use Rattle.std.proofs.lemmas.List.{length-map, append-nil}
 use Rattle.std.proofs.lemmas.List.Concat.{flat_map-append}
 use Rattle.std.specs.List.{flat_map}
 use Rattle.xs_resp.specs.declared.reply.Reply.{Reply}
-use Rattle.xs_resp.specs.declared.reply.Reply.TheVariants.{Simple, Error, Int, Bulk, NullBulk, Array, NullArray}
+use Rattle.xs_resp.specs.declared.reply.Reply.TheVariants.{Simple, Error, ErrorText, Int, Bulk, NullBulk, Array, NullArray}
 use Rattle.xs_resp.specs.Token as token
 use Rattle.xs_resp.specs.Items.{Items}
 use Rattle.xs_resp.specs.ReplyItems.{tokens_of, items_of}
@@ -31,6 +31,7 @@ one-item : (r : Reply) → IsWholeReply r → AreItems 1 (tokens_of r)
 unfolding AreItems
 one-item (Simple s) whole = tt
 one-item (Error f) whole = tt
+one-item (ErrorText bytes) whole = tt
 one-item (Int n) whole = tt
 one-item (Bulk bytes) whole = tt
 one-item NullBulk whole = tt
@@ -91,6 +92,7 @@ module _ (n : ℕ) (further : (back : List token.Token) → AreItems n back → 
   unfolding AreItems
   from-first (token.Simple s) ts whole = behind (Simple s) ts tt (alone ts whole)
   from-first (token.Error f) ts whole = behind (Error f) ts tt (alone ts whole)
+  from-first (token.ErrorText bytes) ts whole = behind (ErrorText bytes) ts tt (alone ts whole)
   from-first (token.Int k) ts whole = behind (Int k) ts tt (alone ts whole)
   from-first (token.Bulk bytes) ts whole = behind (Bulk bytes) ts tt (alone ts whole)
   from-first token.NullBulk ts whole = behind NullBulk ts tt (alone ts whole)

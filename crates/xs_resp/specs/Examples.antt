@@ -5,9 +5,9 @@ use Rattle.std.specs.List.{flat_map}
 use Rattle.xs_resp.specs.declared.fault.Fault.TheVariants.{UnknownCommand, Arity, Syntax, BadId, NotInteger, ZeroId}
 use Rattle.xs_resp.specs.declared.fault.Fault.TheVariants.{SmallId, Exhausted, NoKey, MissingKey, Busy, NoGroup}
 use Rattle.xs_resp.specs.declared.fault.Fault.TheVariants.{Unsupported, Memory, Protocol}
-use Rattle.xs_resp.specs.declared.reply.Simple.TheVariants.{Okay, Pong, Stream, Nothing}
+use Rattle.xs_resp.specs.declared.reply.Simple.TheVariants.{Okay, Pong, Stream, Nothing, Reset, Queued}
 use Rattle.xs_resp.specs.declared.reply.Reply.{Reply}
-use Rattle.xs_resp.specs.declared.reply.Reply.TheVariants.{Simple, Error, Int, Bulk, NullBulk, Array, NullArray}
+use Rattle.xs_resp.specs.declared.reply.Reply.TheVariants.{Simple, Error, ErrorText, Int, Bulk, NullBulk, Array, NullArray}
 use Rattle.xs_resp.specs.ReplyItems.{items_of}
 use Rattle.xs_resp.specs.ReplyText.{text}
 use Rattle.xs_resp.specs.Token as token
@@ -25,7 +25,11 @@ pub record Replies : Type 0 where
   pub pong : text (Simple Pong) ≡ wire (codes "+PONG^")
   pub stream : text (Simple Stream) ≡ wire (codes "+stream^")
   pub nothing : text (Simple Nothing) ≡ wire (codes "+none^")
+  pub reset : text (Simple Reset) ≡ wire (codes "+RESET^")
+  pub queued : text (Simple Queued) ≡ wire (codes "+QUEUED^")
   pub an_error : text (Error Syntax) ≡ wire (codes "-ERR syntax error^")
+  pub an_error_with_a_text :
+      text (ErrorText (codes "ERR unknown command 'GET'")) ≡ wire (codes "-ERR unknown command 'GET'^")
   pub zero : text (Int 0) ≡ wire (codes ":0^")
   pub a_number : text (Int 1000) ≡ wire (codes ":1000^")
   pub the_greatest_number : text (Int 9223372036854775807) ≡ wire (codes ":9223372036854775807^")

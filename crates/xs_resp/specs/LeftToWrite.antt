@@ -1,7 +1,7 @@
 -- What is left to be written of a reply, piece by piece.
 use Rattle.std.specs.Prelude.{ℕ, ◌<◌, Bool, true, false, List, [], ◌∷◌, ◌++◌, length}
 use Rattle.std.specs.List.{flat_map}
-use Rattle.xs_resp.specs.Token.{Token, Bulk}
+use Rattle.xs_resp.specs.Token.{Token, ErrorText, Bulk}
 use Rattle.xs_resp.specs.Line.{crlf}
 use Rattle.xs_resp.specs.ReplyText.{token_text}
 
@@ -16,6 +16,7 @@ bytes_left bytes = bytes.piece ++ bytes.behind
 
 -- the string of a token
 abbrev pub string_of : Token → List ℕ
+string_of (ErrorText bytes) = bytes
 string_of (Bulk bytes) = bytes
 string_of other = []
 

@@ -1,11 +1,12 @@
 -- Tokens as they lie in memory: their strings stand in one buffer, one behind the other.
 use Rattle.std.specs.Prelude.{ℕ, ◌+◌, List, [], ◌∷◌, take, drop}
 use Rattle.xs_resp.specs.declared.mark.Mark.{Mark}
-use Rattle.xs_resp.specs.declared.mark.Mark.TheVariants.{Simple, Error, Int, Bulk, NullBulk, Array, NullArray}
+use Rattle.xs_resp.specs.declared.mark.Mark.TheVariants.{Simple, Error, ErrorText, Int, Bulk, NullBulk, Array, NullArray}
 use Rattle.xs_resp.specs.Token as token
 
 -- how many bytes the string of a token has
 abbrev pub string_length : Mark → ℕ
+string_length (ErrorText length) = length
 string_length (Bulk length) = length
 string_length other = 0
 
@@ -13,6 +14,7 @@ string_length other = 0
 abbrev pub token_in : Mark → List ℕ → token.Token
 token_in (Simple s) string = token.Simple s
 token_in (Error f) string = token.Error f
+token_in (ErrorText length) string = token.ErrorText string
 token_in (Int n) string = token.Int n
 token_in (Bulk length) string = token.Bulk string
 token_in NullBulk string = token.NullBulk

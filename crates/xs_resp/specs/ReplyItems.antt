@@ -2,7 +2,7 @@
 use Rattle.std.specs.Prelude.{List, [], ◌∷◌, length}
 use Rattle.std.specs.List.{flat_map}
 use Rattle.xs_resp.specs.declared.reply.Reply.{Reply}
-use Rattle.xs_resp.specs.declared.reply.Reply.TheVariants.{Simple, Error, Int, Bulk, NullBulk, Array, NullArray}
+use Rattle.xs_resp.specs.declared.reply.Reply.TheVariants.{Simple, Error, ErrorText, Int, Bulk, NullBulk, Array, NullArray}
 use Rattle.xs_resp.specs.Token as token
 use Rattle.xs_resp.specs.Items.{Items}
 
@@ -10,6 +10,7 @@ use Rattle.xs_resp.specs.Items.{Items}
 abbrev pub tokens_of : Reply → List token.Token
 tokens_of (Simple s) = token.Simple s ∷ []
 tokens_of (Error f) = token.Error f ∷ []
+tokens_of (ErrorText bytes) = token.ErrorText bytes ∷ []
 tokens_of (Int n) = token.Int n ∷ []
 tokens_of (Bulk bytes) = token.Bulk bytes ∷ []
 tokens_of NullBulk = token.NullBulk ∷ []

@@ -3,11 +3,11 @@ use Rattle.std.specs.Prelude.{◌≡◌, ℕ, ⊤, List, ◌∷◌, ◌++◌, le
 use Rattle.std.specs.declared.alloc.AllocError.{AllocError}
 use Rattle.std.specs.List.{flat_map}
 use Rattle.xs_resp.specs.declared.reply.Simple as simple
-use Rattle.xs_resp.specs.declared.reply.Simple.TheVariants.{Okay, Pong, Stream, Nothing}
+use Rattle.xs_resp.specs.declared.reply.Simple.TheVariants.{Okay, Pong, Stream, Nothing, Reset, Queued}
 use Rattle.xs_resp.specs.declared.reply.Reply.{Reply}
 use Rattle.xs_resp.specs.FaultText.{fault_text}
 use Rattle.xs_resp.specs.Line.{crlf, line}
-use Rattle.xs_resp.specs.Token.{Token, Simple, Error, Int, Bulk, NullBulk, Array, NullArray}
+use Rattle.xs_resp.specs.Token.{Token, Simple, Error, ErrorText, Int, Bulk, NullBulk, Array, NullArray}
 use Rattle.xs_resp.specs.ReplyItems.{tokens_of}
 
 -- what a simple string says
@@ -16,11 +16,14 @@ simple_text Okay = codes "OK"
 simple_text Pong = codes "PONG"
 simple_text Stream = codes "stream"
 simple_text Nothing = codes "none"
+simple_text Reset = codes "RESET"
+simple_text Queued = codes "QUEUED"
 
 -- the text of one token: the markers are + - : $ *
 abbrev pub token_text : Token → List ℕ
 token_text (Simple s) = 43 ∷ simple_text s ++ crlf
 token_text (Error f) = 45 ∷ fault_text f ++ crlf
+token_text (ErrorText bytes) = 45 ∷ bytes ++ crlf
 token_text (Int n) = line 58 n
 token_text (Bulk bytes) = line 36 (length bytes) ++ bytes ++ crlf
 token_text NullBulk = codes "$-1" ++ crlf

@@ -7,6 +7,7 @@ use Rattle.xs_resp.specs.declared.reply.Simple as simple
 pub data Token : Type 0 where
   Simple : simple.Simple → Token
   Error : Fault → Token
+  ErrorText : List ℕ → Token
   Int : ℕ → Token
   Bulk : List ℕ → Token
   NullBulk : Token

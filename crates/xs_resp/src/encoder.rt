@@ -10,7 +10,7 @@ ghost use Rattle.xs_resp.specs.TokenFit.{Appends};
 use crate::mark::Mark;
 use crate::reply::Reply;
 use crate::sequence::Sequence;
-use crate::writing::{SHORT, write_line, write_token};
+use crate::writing::{SHORT, write_header, write_token};
 use std::alloc::{AllocError, Global};
 use std::marker::Model;
 
@@ -190,7 +190,7 @@ fn append(mark: Mark, string: &[u8], out: &mut Vec<u8>) -> Fit
         if room < SHORT {
             return Fit::Nothing;
         }
-        let _ = write_line(b'$', string.len() as u64, out);
+        let _ = write_header(mark, string, out);
         return Fit::Header;
     }
     if room < string.len() + SHORT {

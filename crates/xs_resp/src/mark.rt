@@ -12,6 +12,8 @@ pub(crate) enum Mark {
     Simple(Simple),
     /// An error.
     Error(Fault),
+    /// An error whose text has so many bytes.
+    ErrorText(usize),
     /// An integer.
     Int(u64),
     /// A bulk string of so many bytes.
@@ -30,7 +32,7 @@ impl Mark {
         ensures { result ≡ string_length self }
     {
         match self {
-            Mark::Bulk(length) => length,
+            Mark::ErrorText(length) | Mark::Bulk(length) => length,
             _ => 0,
         }
     }

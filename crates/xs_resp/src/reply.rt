@@ -17,6 +17,10 @@ pub enum Simple {
     Stream,
     /// `none`, the type of one that isn't.
     Nothing,
+    /// `RESET`, for a connection that is as new.
+    Reset,
+    /// `QUEUED`, for a command that waits for EXEC.
+    Queued,
 }
 
 /// The reply to a request.
@@ -26,6 +30,8 @@ pub enum Reply {
     Simple(Simple),
     /// An error.
     Error(Fault),
+    /// An error with a text of its own, in which no line ends.
+    ErrorText(Bytes),
     /// An integer. RESP2's are signed numbers of 64 bits; none of these is negative.
     Int(U63),
     /// A bulk string.

@@ -49,6 +49,11 @@ impl<'a> Sequence<'a> {
         match reply {
             Reply::Simple(simple) => Self::single(Mark::Simple(*simple)),
             Reply::Error(fault) => Self::single(Mark::Error(*fault)),
+            Reply::ErrorText(text) => Self {
+                first: Mark::ErrorText(text.len()),
+                marks: &[],
+                strings: text.as_slice(),
+            },
             Reply::Int(number) => Self::single(Mark::Int(number.get())),
             Reply::Bulk(bytes) => Self {
                 first: Mark::Bulk(bytes.len()),

@@ -108,3 +108,21 @@ fn gathers_replies_in_one_piece(rt: HostRuntime) -> Result<(), Fail> {
     assert_eq!(rt; encoder.piece(), b"\r\n".as_slice());
     Ok(())
 }
+
+#[test]
+fn lends_the_text_of_a_long_error(rt: HostRuntime) -> Result<(), Fail> {
+    let alloc = rt.alloc();
+    let mut encoder = Encoder::new(alloc)?;
+    encoder.begin(Reply::Simple(Simple::Reset));
+    let long = string(alloc, 32_769)?;
+    encoder.begin(Reply::ErrorText(Bytes::from_slice(alloc, long.as_slice())?));
+    assert_eq!(rt; encoder.piece(), b"+RESET\r\n-".as_slice());
+    encoder.advance();
+    assert_eq!(rt; encoder.piece(), long.as_slice());
+    encoder.advance();
+    assert_eq!(rt; encoder.piece(), b"\r\n".as_slice());
+    encoder.advance();
+    encoder.begin(Reply::ErrorText(Bytes::from_slice(alloc, b"ERR no")?));
+    assert_eq!(rt; encoder.piece(), b"-ERR no\r\n".as_slice());
+    Ok(())
+}

@@ -1,10 +1,11 @@
 //! Replies as bytes (RESP protocol specification, version 2).
-ghost use Rattle.std.specs.Prelude.{◌≡◌, ◌++◌, ◌∷◌, OnOk, OnErr, length, ◌+◌, ◌≤◌, vec_len, vec_capacity, IsOk};
+ghost use Rattle.std.specs.Prelude.{◌≡◌, ◌++◌, ◌∷◌, OnOk, OnErr, length, ◌+◌, ◌<◌, ◌≤◌, vec_len, vec_capacity, IsOk};
 ghost use Rattle.std.specs.List.{flat_map};
 ghost use Rattle.xs_resp.specs.ReplyText.{text, token_text, simple_text, Writes};
 ghost use Rattle.xs_resp.specs.Line.{line, crlf};
 ghost use Rattle.xs_resp.specs.FaultText.{fault_text};
 ghost use Rattle.xs_resp.specs.Marks.{token_in, tokens_in, strings_length};
+ghost use Rattle.xs_resp.specs.LeftToWrite.{string_of};
 
 use crate::fault::Fault;
 use crate::mark::Mark;
@@ -35,6 +36,7 @@ fn write_reply(reply: &Reply, out: &mut Vec<u8>) -> Result<(), AllocError>
     match reply {
         Reply::Simple(simple) => write_simple(*simple, out),
         Reply::Error(fault) => write_fault(*fault, out),
+        Reply::ErrorText(text) => write_error_text(text.as_slice(), out),
         Reply::Int(number) => write_line(b':', number.get(), out),
         Reply::Bulk(bytes) => write_bulk(bytes.as_slice(), out),
         Reply::NullBulk => out.extend_from_slice(b"$-1\r\n"),
@@ -75,11 +77,29 @@ pub(crate) fn write_token(mark: Mark, string: &[u8], out: &mut Vec<u8>) -> Resul
     match mark {
         Mark::Simple(simple) => write_simple(simple, out),
         Mark::Error(fault) => write_fault(fault, out),
+        Mark::ErrorText(_) => write_error_text(string, out),
         Mark::Int(number) => write_line(b':', number, out),
         Mark::Bulk(_) => write_bulk(string, out),
         Mark::NullBulk => out.extend_from_slice(b"$-1\r\n"),
         Mark::Array(count) => write_line(b'*', count as u64, out),
         Mark::NullArray => out.extend_from_slice(b"*-1\r\n"),
+    }
+}
+
+/// Appends what stands before the string of a token that has one.
+#[tactic(auto, unfolding(crate::specs::ReplyText::text))]
+pub(crate) fn write_header(mark: Mark, string: &[u8], out: &mut Vec<u8>) -> Result<(), AllocError>
+    requires string { string_of (token_in mark string.now) ≡ string.now }
+    requires some { 0 < length string.now }
+    ensures text { IsOk result → out.new.items ++ string.now ++ crlf
+        ≡ out.old.items ++ token_text (token_in mark string.now) }
+    ensures some { IsOk result → 0 < length out.new.items }
+    ensures grows { vec_capacity out.old ≤ vec_capacity out.new }
+    ensures fits { vec_len out.old + 32 ≤ vec_capacity out.old → IsOk result }
+{
+    match mark {
+        Mark::ErrorText(_) => out.extend_from_slice(b"-"),
+        _ => write_line(b'$', string.len() as u64, out),
     }
 }
 
@@ -145,6 +165,8 @@ fn write_simple(simple: Simple, out: &mut Vec<u8>) -> Result<(), AllocError>
         Simple::Pong => out.extend_from_slice(b"+PONG\r\n"),
         Simple::Stream => out.extend_from_slice(b"+stream\r\n"),
         Simple::Nothing => out.extend_from_slice(b"+none\r\n"),
+        Simple::Reset => out.extend_from_slice(b"+RESET\r\n"),
+        Simple::Queued => out.extend_from_slice(b"+QUEUED\r\n"),
     }
 }
 
@@ -156,5 +178,15 @@ fn write_fault(fault: Fault, out: &mut Vec<u8>) -> Result<(), AllocError>
 {
     out.push(b'-')?;
     out.extend_from_slice(fault.text().as_bytes())?;
+    out.extend_from_slice(b"\r\n")
+}
+
+fn write_error_text(text: &[u8], out: &mut Vec<u8>) -> Result<(), AllocError>
+    ensures text { Writes result out.old.items out.new.items (45 ∷ text.now ++ crlf) }
+    ensures grows { vec_capacity out.old ≤ vec_capacity out.new }
+    ensures fits { vec_len out.old + (length text.now + 128) ≤ vec_capacity out.old → IsOk result }
+{
+    out.push(b'-')?;
+    out.extend_from_slice(text)?;
     out.extend_from_slice(b"\r\n")
 }
