@@ -5,7 +5,7 @@ use xs_bytes::{U63, natural};
 
 /// An integer of a command. No command uses a negative number's value.
 #[derive(Clone, Copy, Debug, PartialEq, Eq)]
-pub(crate) enum Integer {
+pub enum Integer {
     /// A number below 0.
     Negative,
     /// Any other number.
@@ -17,7 +17,7 @@ impl Integer {
 
     /// The integer that a text spells: `0`, or an optional `-` and then a digit from 1 to 9 and
     /// further digits, from -9223372036854775808 to 9223372036854775807. None for any other text.
-    pub(crate) fn parse(text: &[u8]) -> Option<Self>
+    pub fn parse(text: &[u8]) -> Option<Self>
         ensures { result ≡ integer_of text.now }
     {
         let (first, digits) = text.split_first()?;
@@ -33,7 +33,7 @@ impl Integer {
     }
 
     /// The number, with 0 for one below 0.
-    pub(crate) fn at_least_zero(self) -> u64
+    pub fn at_least_zero(self) -> u64
         ensures { result ≡ at_least_zero self }
     {
         match self {

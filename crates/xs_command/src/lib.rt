@@ -8,7 +8,7 @@ mod dbsize;
 mod del;
 pub mod examples;
 mod exists;
-mod integer;
+pub mod integer;
 mod key_type;
 pub mod operands;
 mod options;
@@ -16,8 +16,8 @@ mod ping;
 mod read;
 pub mod refusal;
 mod trim;
-mod word;
-mod words;
+pub mod word;
+pub mod words;
 mod xack;
 mod xadd;
 mod xautoclaim;
@@ -35,6 +35,9 @@ pub use command::{
     AddCommand, AutoClaimCommand, ClaimCommand, Command, GroupCreateCommand, GroupStart,
     Inspection, PendingRowsCommand, ReadFrom, ReadGroupCommand, ReadOne, ScanCommand,
 };
+pub use integer::Integer;
 pub use operands::Operands;
 pub use read::{read_command, read_request};
 pub use refusal::Refusal;
+pub use word::Word;
+pub use words::Words;

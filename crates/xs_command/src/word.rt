@@ -8,7 +8,7 @@ use xs_bytes::Bytes;
 
 /// One word of a request. A contract sees it as the list of its bytes.
 #[derive(Drop)]
-pub(crate) struct Word<'a> {
+pub struct Word<'a> {
     text: &'a [u8],
 }
 
@@ -21,13 +21,15 @@ impl<'a> Model for Word<'a> {
 }
 
 impl<'a> Word<'a> {
-    pub(crate) fn new(text: &'a [u8]) -> Self
+    /// The word of these bytes.
+    pub fn new(text: &'a [u8]) -> Self
         ensures { result ≡ text.now }
     {
         Self { text }
     }
 
-    pub(crate) fn as_slice(&self) -> &[u8]
+    /// Its bytes.
+    pub fn as_slice(&self) -> &[u8]
         ensures { result.now ≡ self.now }
     {
         self.text
@@ -35,14 +37,14 @@ impl<'a> Word<'a> {
 
     /// Whether it is this name, in upper or lower case.
     #[tactic(auto, unfolding(crate::specs::Words::is_word))]
-    pub(crate) fn is(&self, name: &[u8]) -> bool
+    pub fn is(&self, name: &[u8]) -> bool
         ensures { result ≡ is_word name.now self.now }
     {
         self.text.eq_ignore_ascii_case(name)
     }
 
     /// A copy at its exact size.
-    pub(crate) fn copy(&self, alloc: Global) -> Result<Bytes, AllocError>
+    pub fn copy(&self, alloc: Global) -> Result<Bytes, AllocError>
         ensures { IfOk result (λ bytes. bytes ≡ self.now) }
     {
         Bytes::from_slice(alloc, self.text)

@@ -18,7 +18,7 @@ use xs_stream::range::{parse_high, parse_low};
 /// The words that are still to be read: those of a list, and then those of a request. One of both is empty. A contract
 /// sees the list of all of them.
 #[derive(Drop)]
-pub(crate) struct Words<'a> {
+pub struct Words<'a> {
     listed: &'a [Bytes],
     sent: Request<'a>,
 }
@@ -33,7 +33,7 @@ impl<'a> Model for Words<'a> {
 
 impl<'a> Words<'a> {
     /// The words of a list.
-    pub(crate) fn of_list(listed: &'a [Bytes]) -> Self
+    pub fn of_list(listed: &'a [Bytes]) -> Self
         ensures { result ≡ listed.now }
     {
         Self {
@@ -43,7 +43,7 @@ impl<'a> Words<'a> {
     }
 
     /// The words of a request.
-    pub(crate) fn of_request(sent: Request<'a>) -> Self
+    pub fn of_request(sent: Request<'a>) -> Self
         ensures { result ≡ sent.entry }
     {
         Self { listed: &[], sent }
@@ -51,7 +51,7 @@ impl<'a> Words<'a> {
 
     /// How many words are left.
     #[inline(always)]
-    pub(crate) fn len(&self) -> usize
+    pub fn len(&self) -> usize
         ensures count { result ≡ length self.now }
         ensures small { result < 2 ^ 63 }
     {
@@ -75,7 +75,7 @@ impl<'a> Words<'a> {
     /// The next word, and those behind it.
     #[inline(always)]
     #[tactic(auto, unfolding(crate::specs::Words::word))]
-    pub(crate) fn word(&self) -> Result<(Word<'a>, Words<'a>), Fault>
+    pub fn word(&self) -> Result<(Word<'a>, Words<'a>), Fault>
         ensures { result ≡ word self.now }
     {
         match self.split_first() {
@@ -120,7 +120,7 @@ impl<'a> Words<'a> {
 
     /// These words once more.
     #[inline(always)]
-    pub(crate) fn again(&self) -> Words<'a>
+    pub fn again(&self) -> Words<'a>
         ensures { result ≡ self.now }
     {
         Words {
@@ -131,7 +131,7 @@ impl<'a> Words<'a> {
 
     /// The next word as a name, copied.
     #[inline(always)]
-    pub(crate) fn name(&self, alloc: Global) -> Result<(Bytes, Words<'a>), Refusal>
+    pub fn name(&self, alloc: Global) -> Result<(Bytes, Words<'a>), Refusal>
         ensures { Gives result (word self.now) }
     {
         let (word, words) = self.word()?;
@@ -141,7 +141,7 @@ impl<'a> Words<'a> {
 
     /// The next word, an integer.
     #[tactic(auto, unfolding(crate::specs::Words::integer))]
-    pub(crate) fn integer(&self) -> Result<(Integer, Words<'a>), Fault>
+    pub fn integer(&self) -> Result<(Integer, Words<'a>), Fault>
         ensures { result ≡ integer self.now }
     {
         let (word, words) = self.word()?;

@@ -9,7 +9,7 @@ use Rattle.std.proofs.lemmas.List.Folds.{list_any-append}
 use Rattle.xs_resp.specs.declared.fault.Fault.{Fault}
 use Rattle.xs_resp.specs.declared.fault.Fault.TheVariants.{Protocol}
 use Rattle.xs_resp.specs.declared.reply.Reply.{Reply}
-use Rattle.xs_resp.specs.declared.reply.Reply.TheVariants.{Simple, Error, Int, Bulk, NullBulk, Array, NullArray}
+use Rattle.xs_resp.specs.declared.reply.Reply.TheVariants.{Simple, Error, ErrorText, Int, Bulk, NullBulk, Array, NullArray}
 use Rattle.xs_resp.specs.ReplyText.{text}
 use Rattle.xs_resp.specs.Grammar.{IsOpen}
 use Rattle.xs_resp.specs.HeldBytes.{Held, holds_bytes, with_piece}
@@ -40,6 +40,7 @@ some-text : (reply : Reply) → 0 < length (text reply)
 unfolding text
 some-text (Simple s) = omega arith
 some-text (Error f) = omega arith
+some-text (ErrorText bytes) = omega arith
 some-text (Int n) = omega arith
 some-text (Bulk bytes) = omega arith
 some-text NullBulk = omega arith
