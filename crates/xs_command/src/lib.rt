@@ -11,7 +11,7 @@ mod exists;
 pub mod integer;
 mod key_type;
 pub mod operands;
-mod options;
+pub mod options;
 mod ping;
 mod read;
 pub mod refusal;
@@ -37,6 +37,7 @@ pub use command::{
 };
 pub use integer::Integer;
 pub use operands::Operands;
+pub use options::{Options, read_options};
 pub use read::{read_command, read_request};
 pub use refusal::Refusal;
 pub use word::Word;

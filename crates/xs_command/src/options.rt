@@ -10,7 +10,7 @@ use crate::words::Words;
 use std::alloc::Global;
 
 /// What the options of a command have said so far.
-pub(crate) trait Options: Sized + Drop {
+pub trait Options: Sized + Drop {
     ghost option: { Self → List ℕ → List (List ℕ) → Result (Self × Option (List (List ℕ))) Fault };
 
     /// Reads an option of this name, whose further words come next. It gives the words behind the
@@ -25,7 +25,7 @@ pub(crate) trait Options: Sized + Drop {
 }
 
 /// Reads options as long as words are options.
-pub(crate) fn read_options<'a, S: Options>(
+pub fn read_options<'a, S: Options>(
     alloc: Global,
     none: S,
     words: Words<'a>,
