@@ -114,6 +114,7 @@ fn lends_the_text_of_a_long_error(rt: HostRuntime) -> Result<(), Fail> {
     let alloc = rt.alloc();
     let mut encoder = Encoder::new(alloc)?;
     encoder.begin(Reply::Simple(Simple::Reset));
+    assert!(rt; encoder.is_gathered());
     let long = string(alloc, 32_769)?;
     encoder.begin(Reply::ErrorText(Bytes::from_slice(alloc, long.as_slice())?));
     assert_eq!(rt; encoder.piece(), b"+RESET\r\n-".as_slice());
@@ -122,6 +123,7 @@ fn lends_the_text_of_a_long_error(rt: HostRuntime) -> Result<(), Fail> {
     encoder.advance();
     assert_eq!(rt; encoder.piece(), b"\r\n".as_slice());
     encoder.advance();
+    assert!(rt; encoder.is_gathered());
     encoder.begin(Reply::ErrorText(Bytes::from_slice(alloc, b"ERR no")?));
     assert_eq!(rt; encoder.piece(), b"-ERR no\r\n".as_slice());
     Ok(())
