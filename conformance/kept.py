@@ -387,9 +387,11 @@ def no_room_for_many(program):
             with with_room(program, folder, room) as server, Clients(server.port) as clients:
                 make(clients.new(), "empty")
                 reader = clients.waiting("a", "empty")
+                adders = [clients.enter_context(Connection(server.port)) for _ in answered]
 
                 def work(name):
-                    with Connection(server.port) as one, contextlib.suppress(OSError):
+                    one = adders[name]
+                    with contextlib.suppress(OSError):
                         for first in range(1, 100_000, 20):
                             ids = [f"{place}-0" for place in range(first, first + 20)]
                             one.send(*(("XADD", f"s{name}", one_id, "f", "v") for one_id in ids))

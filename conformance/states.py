@@ -12,7 +12,7 @@ from real_redis import read_reply
 # A row of XPENDING, whose consumer has a name without a line's end.
 IDLE = re.compile(rb"(\*4\r\n\$\d+\r\n[^\r]+\r\n\$\d+\r\n[^\r]+\r\n):(-?\d+)\r\n")
 # The commands that only read.
-READS = {b"PING", b"QUIT", b"XLEN", b"XRANGE", b"XREVRANGE", b"XPENDING"}
+READS = {b"PING", b"QUIT", b"XLEN", b"XRANGE", b"XREVRANGE", b"XPENDING", b"XINFO", b"EXISTS", b"TYPE", b"DBSIZE"}
 
 
 def words_of(text):
