@@ -4,7 +4,7 @@
     at_random_served.py [--seed N] [--rounds N] [--counts] PROGRAM
 
 In each round each connection asks 400 commands as conformance/at_random.py makes them, of keys of its own, which it
-has removed first. The first connection sends one at a time, the next 3 together, then 5, and so on to 15. Both servers
+has removed first; EXISTS in the place of DBSIZE, which counts those of all connections. The first connection sends one at a time, the next 3 together, then 5, and so on to 15. Both servers
 have the clock of the machine. A reply has to be that of Redis, as there. `--counts` shows how often each kind of reply
 of each command came. The last line is 'N passed, M failed', by commands; the status is 1 where M > 0.
 """
@@ -29,7 +29,7 @@ def places_of_keys(words):
     if upper[0] == "XREADGROUP":
         behind = upper.index("STREAMS") + 1 if "STREAMS" in upper else len(words)
         return range(behind, behind + (len(words) - behind) // 2)
-    if upper[0] == "DEL":
+    if upper[0] in ("DEL", "EXISTS"):
         return range(1, len(words))
     place = 2 if upper[0] == "XGROUP" else 1
     return range(place, min(place + 1, len(words)))
@@ -39,6 +39,8 @@ def of_its_own(lines, connection):
     """The commands with the keys of the connection."""
     made = []
     for words in lines:
+        if words[0].upper() == "DBSIZE":
+            words = ["EXISTS", "s", "t", "u"]
         places = places_of_keys(words)
         made.append([f"{word}:{connection}" if place in places else word for place, word in enumerate(words)])
     return made
