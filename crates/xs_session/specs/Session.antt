@@ -3,7 +3,6 @@ use Rattle.std.specs.Prelude.{◌≡◌, ◌⊎◌, ℕ, ◌≤◌, Bool, true, 
 use Rattle.std.specs.Prelude.{Option, Some, None, Ok, Err}
 use Rattle.std.specs.List.{flat_map}
 use Rattle.xs_resp.specs.declared.fault.Fault.TheVariants.{Protocol}
-use Rattle.xs_resp.specs.declared.fault.Fault.{Fault}
 use Rattle.xs_resp.specs.declared.reply.Reply.{Reply}
 use Rattle.xs_resp.specs.declared.reply.Reply.TheVariants.{Error}
 use Rattle.xs_resp.specs.declared.read_fault.ProtocolFault.{ProtocolFault}
@@ -15,6 +14,10 @@ use Rattle.xs_command.specs.declared.command.Command.{Command}
 use Rattle.xs_command.specs.declared.command.Command.TheVariants.{Quit}
 use Rattle.xs_desk.specs.declared.answer.Call.{Call}
 use Rattle.xs_desk.specs.Calls.{IsFormed}
+use Rattle.xs_connection.specs.declared.standing.Standing.{Standing}
+use Rattle.xs_connection.specs.Standing.{as_new}
+use Rattle.xs_session.specs.declared.manner.Manner.{Manner}
+use Rattle.xs_session.specs.declared.manner.Manner.TheVariants.{Plain, Full}
 use Rattle.xs_session.specs.declared.ending.Ending.{Ending}
 use Rattle.xs_session.specs.declared.ending.Ending.TheVariants as ending
 use Rattle.xs_session.specs.declared.session.Session.{Session}
@@ -28,7 +31,7 @@ texts replies = flat_map text replies
 
 -- the protocol error has its place behind the requests
 abbrev pub refusal : Option Ending → List Taken
-refusal (Some ending.Protocol) = Says Protocol ∷ []
+refusal (Some ending.Protocol) = Says (Error Protocol) ∷ []
 refusal _ = []
 
 -- whether further requests are taken from the rest of what was read, which is held: not behind a QUIT, which is the
@@ -41,11 +44,16 @@ Goes (Some ending.Protocol) taken rest held =
     (has_quit taken ≡ false) × ((wrong : ProtocolFault) × FaultIn rest wrong × (held ≡ Err wrong))
 Goes _ taken rest held = ⊥
 
+-- a connection that has said nothing, and is allowed to ask if no password is wanted
+abbrev pub IsFirst : Manner → Standing → Type 0
+IsFirst Plain standing = Unit {0}
+IsFirst (Full wanted) standing = standing ≡ as_new wanted standing
+
 -- What was read begins with requests, each of which is taken; asked is what they ask, in their order. Of the answers,
 -- in the order of the requests, the first ones are begun, as far as all are there: sent is their texts, but for what is
 -- owed of them. The others have places, some of which wait for their reply.
 pub record IsAfter
-    (read : List ℕ) (asked : List Command) (got : List Reply) (sent : List ℕ)
+    (manner : Manner) (standing : Standing) (read : List ℕ) (asked : List Command) (got : List Reply) (sent : List ℕ)
     (ended : Option Ending) (held : Held) (places : List (Option Reply)) (owed : List ℕ) : Type 0 where
   pub requests : List (List (List ℕ))
   pub front : List ℕ
@@ -53,7 +61,9 @@ pub record IsAfter
   pub read_is : read ≡ front ++ rest
   pub spelled : SpellsAll front requests
   pub taken : List Taken
-  pub are_taken : AreTaken requests taken
+  pub first : Standing
+  pub is_first : IsFirst manner first
+  pub are_taken : AreTaken manner first requests taken standing
   pub goes : Goes ended taken rest held
   pub asked_is : asked ≡ asked_of taken
   pub fits : length got ≤ length asked
@@ -62,9 +72,10 @@ pub record IsAfter
   pub sent_is : texts begun ≡ sent ++ owed
 
 -- so is a session; and what it asks alone is open alone
-abbrev pub SessionIsAfter : List ℕ → List Command → List Reply → List ℕ → Session → Type 0
-SessionIsAfter read asked got sent session =
-    IsAfter read asked got sent session.ended session.requests session.places (bytes_left session.owed)
+abbrev pub SessionIsAfter : Manner → List ℕ → List Command → List Reply → List ℕ → Session → Type 0
+SessionIsAfter manner read asked got sent session =
+    IsAfter manner session.standing read asked got sent session.ended session.requests session.places
+    (bytes_left session.owed)
     × MayBeOpen session.alone (drop (length got) asked)
 
 -- every answer is begun, and all that is owed is gathered
@@ -77,12 +88,13 @@ ending_of Quit = Some ending.Quit
 ending_of _ = None
 
 -- nothing is read yet
-pub record IsNew (session : Session) : Type 0 where
+pub record IsNew (manner : Manner) (session : Session) : Type 0 where
   pub ended : session.ended ≡ None
   pub requests : session.requests ≡ Ok []
   pub places : session.places ≡ []
   pub owed : bytes_left session.owed ≡ []
   pub alone : session.alone ≡ false
+  pub first : IsFirst manner session.standing
 
 -- what a turn asks
 abbrev pub asked_in : Turn → List Command
@@ -97,6 +109,7 @@ pub record AsksFront (old : Session) (call : Call) (result : Turn) (new : Sessio
   pub ended : new.ended ≡ ending_of call.command
   pub alone : new.alone ≡ is_alone call.command
   pub gathered : is_alone call.command ≡ true → IsGathered old
+  pub standing : new.standing ≡ old.standing
 
 -- it was, or it is to be asked alone and has to wait
 abbrev pub AsksOrWaits : Session → Call → Turn → Session → Type 0
@@ -110,10 +123,10 @@ Takes wants_words turn.Full = Unit {0}
 Takes wants_words (turn.Asks call) = IsFormed call × (wants_words ≡ true → is_some call.words ≡ true)
 Takes wants_words _ = ⊥
 
--- a turn takes one place at most: of a call that is asked, which waits for its reply; else of an error, which is there
+-- a turn takes one place at most: of a call that is asked, which waits for its reply; else of an answer, which is there
 abbrev pub TakesPlace : Turn → List (Option Reply) → List (Option Reply) → Type 0
 TakesPlace (turn.Asks call) old new = new ≡ old ++ None ∷ []
-TakesPlace _ old new = (new ≡ old) ⊎ ((fault : Fault) × (new ≡ old ++ Some (Error fault) ∷ []))
+TakesPlace _ old new = (new ≡ old) ⊎ ((reply : Reply) × (new ≡ old ++ Some reply ∷ []))
 
 -- it waits for bytes: no whole request is held, and no fault
 abbrev pub Waits : Option Ending → Held → Type 0

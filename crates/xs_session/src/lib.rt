@@ -4,12 +4,14 @@
 
 pub mod ending;
 pub mod examples;
+pub mod manner;
 pub mod places;
 pub mod reserve;
 pub mod session;
 pub mod taking;
 
 pub use ending::Ending;
+pub use manner::Manner;
 pub use places::{AHEAD, Places};
 pub use reserve::Reserve;
 pub use session::{Session, Turn};

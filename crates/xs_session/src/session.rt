@@ -15,14 +15,18 @@ ghost use Rattle.xs_session.specs.declared.ending.Ending.{Ending};
 ghost use Rattle.xs_session.specs.Places.{has_open, fill_first, NoneReady};
 ghost use Rattle.xs_session.specs.Answers.{is_alone};
 ghost use Rattle.xs_session.specs.Session.{SessionIsAfter, IsNew, IsGathered, Waits, Takes, TakesPlace, AsksOrWaits};
-ghost use Rattle.xs_session.specs.Session.{asked_in, ending_of};
+ghost use Rattle.xs_session.specs.Session.{asked_in, ending_of, IsFirst};
+ghost use Rattle.xs_session.specs.declared.manner.Manner.{Manner};
 
 use crate::ending::Ending;
+use crate::manner::Manner;
 use crate::places::{AHEAD, Places};
 use crate::reserve::Reserve;
 use crate::taking::take_request;
 use std::alloc::{AllocError, Global};
+use xs_bytes::U63;
 use xs_command::Command;
+use xs_connection::Standing;
 use xs_desk::Call;
 use xs_devices::{Fill, FillFault, Source};
 use xs_resp::{Encoder, Fault, Reply, Requests};
@@ -45,12 +49,17 @@ pub enum Turn {
 /// How many bytes of requests are held without more memory: those of one read, and twice a request of 16 KiB.
 const ROOM: usize = 131_072;
 
+/// How many sessions there are at once, at most.
+const MOST_SESSIONS: u64 = 1024;
+
 /// A session: the bytes that came in and aren't taken yet, the places of the answers to the requests that are, and what
 /// is owed of those that are begun.
 #[derive(Drop)]
 pub struct Session {
     alloc: Global,
     reserve: Reserve,
+    /// What the connection has said of itself.
+    pub standing: Standing,
     pub requests: Requests,
     pub places: Places,
     /// What is being written.
@@ -70,6 +79,24 @@ fn end_by(command: &Command) -> Option<Ending>
     match command {
         Command::Quit => Some(Ending::Quit),
         _ => None,
+    }
+}
+
+/// A connection with this number that has said nothing.
+fn first_standing(alloc: Global, manner: &Manner, id: U63) -> Standing
+    ensures { IsFirst manner.now result }
+{
+    match manner {
+        Manner::Plain => Standing::new(alloc, &None, id),
+        Manner::Full(wanted) => Standing::new(alloc, wanted, id),
+    }
+}
+
+/// The number of the next connection over the same memory. Those over other memory have others.
+fn next_id(id: U63) -> U63 {
+    match id.get().checked_add(MOST_SESSIONS) {
+        Some(next) if next <= U63::MAX => U63::new(next),
+        _ => id,
     }
 }
 
@@ -101,13 +128,14 @@ impl Session {
     ghost use Rattle.xs_devices.specs.declared.fill.FillFault.{FillFault};
     ghost use Rattle.xs_session.specs.declared.ending.Ending.{Ending};
 
-    /// A session before its first byte, with all the memory that small requests need.
-    pub fn new(alloc: Global) -> Result<Self, AllocError>
-        ensures { IfOk result IsNew }
+    /// A session before its first byte, with all the memory that small requests need. Its connection has this number.
+    pub fn new(alloc: Global, manner: &Manner, id: U63) -> Result<Self, AllocError>
+        ensures { IfOk result (IsNew manner.now) }
     {
         Ok(Self {
             alloc,
             reserve: Reserve::new(alloc)?,
+            standing: first_standing(alloc, manner, id),
             requests: Requests::with_capacity(alloc, ROOM)?,
             places: Places::new(alloc)?,
             owed: Encoder::new(alloc)?,
@@ -118,9 +146,10 @@ impl Session {
     }
 
     /// Begins the next session, with the memory of this one.
-    pub fn clear(&mut self)
-        ensures { IsNew self.new }
+    pub fn clear(&mut self, manner: &Manner)
+        ensures { IsNew manner.now self.new }
     {
+        self.standing = first_standing(self.alloc, manner, next_id(self.standing.id));
         self.requests.clear();
         self.places.clear();
         self.owed.clear();
@@ -156,10 +185,10 @@ impl Session {
     ///
     /// A command whose reply may be of any size, or long in coming, is asked only once every answer before it is
     /// gathered, and the next one once its own is. So at most one reply of any size is held.
-    pub fn advance(&mut self, wants_words: bool) -> Turn
+    pub fn advance(&mut self, manner: &Manner, wants_words: bool) -> Turn
         ensures turns { (read : List ℕ) (asked : List Command) (got : List Reply) (sent : List ℕ) →
-            SessionIsAfter read asked got sent self.old →
-            SessionIsAfter read (asked ++ asked_in result) got sent self.new }
+            SessionIsAfter manner.now read asked got sent self.old →
+            SessionIsAfter manner.now read (asked ++ asked_in result) got sent self.new }
         ensures formed { (call : Call) → result ≡ Turn.Asks call → IsFormed call }
         ensures words { wants_words ≡ true → (call : Call) → result ≡ Turn.Asks call → is_some call.words ≡ true }
         ensures alone { (call : Call) → result ≡ Turn.Asks call →
@@ -176,17 +205,17 @@ impl Session {
         if !self.places.has_room(self.most) || self.waits_alone() {
             return Turn::Full;
         }
-        self.take_next(wants_words)
+        self.take_next(manner, wants_words)
     }
 
     /// Takes the next request, if there is one: there is room for its answer.
-    fn take_next(&mut self, wants_words: bool) -> Turn
+    fn take_next(&mut self, manner: &Manner, wants_words: bool) -> Turn
         requires room { length self.old.places < 32 }
         requires going { self.old.ended ≡ None }
         requires several { self.old.alone ≡ false }
         ensures turns { (read : List ℕ) (asked : List Command) (got : List Reply) (sent : List ℕ) →
-            SessionIsAfter read asked got sent self.old →
-            SessionIsAfter read (asked ++ asked_in result) got sent self.new }
+            SessionIsAfter manner.now read asked got sent self.old →
+            SessionIsAfter manner.now read (asked ++ asked_in result) got sent self.new }
         ensures formed { (call : Call) → result ≡ Turn.Asks call → IsFormed call }
         ensures words { wants_words ≡ true → (call : Call) → result ≡ Turn.Asks call → is_some call.words ≡ true }
         ensures alone { (call : Call) → result ≡ Turn.Asks call → is_alone call.command ≡ true → IsGathered self.old }
@@ -199,25 +228,25 @@ impl Session {
             Ok(true) => {}
             Ok(false) => return Turn::Waits,
             Err(_) => {
-                self.places.say(Fault::Protocol);
+                self.places.say(Reply::Error(Fault::Protocol));
                 self.ended = Some(Ending::Protocol);
                 return Turn::Ends(Ending::Protocol);
             }
         }
         // A part of it is better than none.
         let _ = self.reserve.fill(self.alloc);
-        self.take_front(wants_words)
+        self.take_front(manner, wants_words)
     }
 
     /// Takes the request at the front, unless it has to wait for the replies before it.
-    fn take_front(&mut self, wants_words: bool) -> Turn
+    fn take_front(&mut self, manner: &Manner, wants_words: bool) -> Turn
         requires whole { HasNext self.old.requests }
         requires room { length self.old.places < 32 }
         requires going { self.old.ended ≡ None }
         requires several { self.old.alone ≡ false }
         ensures turns { (read : List ℕ) (asked : List Command) (got : List Reply) (sent : List ℕ) →
-            SessionIsAfter read asked got sent self.old →
-            SessionIsAfter read (asked ++ asked_in result) got sent self.new }
+            SessionIsAfter manner.now read asked got sent self.old →
+            SessionIsAfter manner.now read (asked ++ asked_in result) got sent self.new }
         ensures goes { Takes wants_words result }
         ensures alone { (call : Call) → result ≡ Turn.Asks call → is_alone call.command ≡ true → IsGathered self.old }
         ensures places { TakesPlace result self.old.places self.new.places }
@@ -228,11 +257,19 @@ impl Session {
             self.requests.skip();
             return Turn::Goes;
         }
-        match take_request(self.alloc, &mut self.reserve, wants_words, words) {
+        let taken = take_request(
+            self.alloc,
+            &mut self.reserve,
+            wants_words,
+            manner,
+            &mut self.standing,
+            words,
+        );
+        match taken {
             Ok(call) => self.ask(call),
-            Err(fault) => {
+            Err(reply) => {
                 self.requests.skip();
-                self.places.say(fault);
+                self.places.say(reply);
                 Turn::Goes
             }
         }
@@ -270,9 +307,9 @@ impl Session {
     /// are asked ahead.
     pub fn hand_in(&mut self, reply: Reply)
         requires { has_open self.old.places ≡ true }
-        ensures after { (read : List ℕ) (asked : List Command) (got : List Reply) (sent : List ℕ) →
-            SessionIsAfter read asked got sent self.old →
-            SessionIsAfter read asked (got ++ reply ∷ []) sent self.new }
+        ensures after { (manner : Manner) (read : List ℕ) (asked : List Command) (got : List Reply) (sent : List ℕ) →
+            SessionIsAfter manner read asked got sent self.old →
+            SessionIsAfter manner read asked (got ++ reply ∷ []) sent self.new }
         ensures owed { self.new.owed ≡ self.old.owed }
         ensures places { self.new.places ≡ fill_first reply self.old.places }
         ensures ended { self.new.ended ≡ self.old.ended }
@@ -284,8 +321,8 @@ impl Session {
 
     /// Begins the next answer if it is there and all that is owed is gathered, and says whether it did.
     pub fn begin_answer(&mut self) -> bool
-        ensures after { (read : List ℕ) (asked : List Command) (got : List Reply) (sent : List ℕ) →
-            SessionIsAfter read asked got sent self.old → SessionIsAfter read asked got sent self.new }
+        ensures after { (manner : Manner) (read : List ℕ) (asked : List Command) (got : List Reply) (sent : List ℕ) →
+            SessionIsAfter manner read asked got sent self.old → SessionIsAfter manner read asked got sent self.new }
         ensures none { result ≡ false → self.new ≡ self.old }
         ensures last { result ≡ false → self.old.owed.behind ≡ [] → NoneReady self.old.places }
         ensures fewer { result ≡ true → length self.new.places < length self.old.places }
@@ -315,9 +352,9 @@ impl Session {
 
     /// Says that the front of what is owed is written.
     pub fn mark_sent(&mut self)
-        ensures after { (read : List ℕ) (asked : List Command) (got : List Reply) (sent : List ℕ) →
-            SessionIsAfter read asked got sent self.old →
-            SessionIsAfter read asked got (sent ++ self.old.owed.piece) self.new }
+        ensures after { (manner : Manner) (read : List ℕ) (asked : List Command) (got : List Reply) (sent : List ℕ) →
+            SessionIsAfter manner read asked got sent self.old →
+            SessionIsAfter manner read asked got (sent ++ self.old.owed.piece) self.new }
         ensures owed { bytes_left self.new.owed ≡ self.old.owed.behind }
         ensures places { self.new.places ≡ self.old.places }
         ensures ended { self.new.ended ≡ self.old.ended }
@@ -334,8 +371,8 @@ impl Session {
         requires { self.old.ended ≡ None }
         ensures ok { IfOk result (λ n. Gave (R.rest reader.old) (R.rest reader.new) (R.ended reader.new) n
             (λ more. (self.new.requests ≡ with_piece self.old.requests more)
-            × ((read : List ℕ) (asked : List Command) (got : List Reply) (sent : List ℕ) →
-            SessionIsAfter read asked got sent self.old → SessionIsAfter (read ++ more) asked got sent self.new))) }
+            × ((manner : Manner) (read : List ℕ) (asked : List Command) (got : List Reply) (sent : List ℕ) →
+            SessionIsAfter manner read asked got sent self.old → SessionIsAfter manner (read ++ more) asked got sent self.new))) }
         ensures none { result ≡ Ok 0 → self.new ≡ self.old }
         ensures err { OnErr result ((self.new ≡ self.old) × Keeps (R.rest reader.old) (R.rest reader.new)) }
         ensures memory { result ≡ Err FillFault.Memory → reader.new ≡ reader.old }

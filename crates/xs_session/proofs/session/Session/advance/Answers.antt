@@ -4,4 +4,4 @@ use Rattle.xs_session.proofs.session.Session.advance.Goals as goal
 pub returns-clause-turns : goal.returns-clause-turns
 returns-clause-turns c = λ read asked got sent s.
     let free = c.waits_alone.ensures.goes c.if-waits_alone.false in
-    c.take_next.ensures.turns read asked got sent (session-goes read asked got sent c.args.self.now c.waits_alone.new.self s free (c.waits_alone.ensures.settled c.if-waits_alone.false))
+    c.take_next.ensures.turns read asked got sent (session-goes c.args.manner.now read asked got sent c.args.self.now c.waits_alone.new.self s free (c.waits_alone.ensures.settled c.if-waits_alone.false))

@@ -10,7 +10,7 @@ pub returns-then-is_empty-clause-turns : goal.returns-then-is_empty-clause-turns
 returns-then-is_empty-clause-turns c = λ read asked got sent s.
     let session = c.args.self.now in
     let words = c.front-words.result in (
-      turn-skips read asked got sent session.ended session.requests c.skip.new.self session.places (bytes_left session.owed) words c.requires.going s.0 c.front-words.ensures c.skip.ensures
+      turn-skips c.args.manner.now session.standing read asked got sent session.ended session.requests c.skip.new.self session.places (bytes_left session.owed) words c.requires.going s.0 c.front-words.ensures c.skip.ensures
           (empty-none words c.is_empty.result c.is_empty.ensures c.if-is_empty.true),
       open-same session.alone (length got) asked s.1,
     )
@@ -18,15 +18,15 @@ returns-then-is_empty-clause-turns c = λ read asked got sent s.
 pub returns-in-Ok-clause-turns : goal.returns-in-Ok-clause-turns
 returns-in-Ok-clause-turns c = λ read asked got sent s.
     let words = c.front-words.result in
-    let session : Session = record c.args.self.now { reserve = c.take_request.new.reserve } in
-    session-asked read asked got sent session c.ask.new.self c.in-Ok.call c.ask.result words c.requires.going c.requires.several c.front-words.ensures
+    let session : Session = record c.args.self.now { reserve = c.take_request.new.reserve; standing = c.take_request.new.standing } in
+    session-asked c.args.manner.now read asked got sent session c.ask.new.self c.in-Ok.call c.ask.result words c.requires.going c.requires.several c.front-words.ensures
     (empty-some words c.is_empty.result c.is_empty.ensures c.if-is_empty.false) c.in-Ok.ensures.taken c.ask.ensures.owed c.ask.ensures.asks s
 
 pub returns-in-Err-clause-turns : goal.returns-in-Err-clause-turns
 returns-in-Err-clause-turns c = λ read asked got sent s.
     let session = c.args.self.now in
     let words = c.front-words.result in (
-      turn-says read asked got sent session.ended session.requests c.skip-in-Err.new.self session.places c.say.new.self (bytes_left session.owed) words c.in-Err.fault c.requires.going s.0 c.front-words.ensures c.skip-in-Err.ensures
+      turn-says c.args.manner.now session.standing read asked got sent c.take_request.new.standing session.ended session.requests c.skip-in-Err.new.self session.places c.say.new.self (bytes_left session.owed) words c.in-Err.reply c.requires.going s.0 c.front-words.ensures c.skip-in-Err.ensures
           (empty-some words c.is_empty.result c.is_empty.ensures c.if-is_empty.false) c.in-Err.ensures.taken c.say.ensures,
       open-same session.alone (length got) asked s.1,
     )

@@ -14,7 +14,7 @@ returns-in-Ok-false-clause-waits c = λ waiting.
 pub returns-in-Err-clause-turns : goal.returns-in-Err-clause-turns
 returns-in-Err-clause-turns c = λ read asked got sent s.
     let session = c.args.self.now in (
-      turn-refused read asked got sent session.ended session.requests c.has_next.new.self session.places c.say.new.self (bytes_left session.owed) c.in-Err.field-0 c.requires.going s.0 c.in-Err.ensures c.say.ensures,
+      turn-refused c.args.manner.now session.standing read asked got sent session.ended session.requests c.has_next.new.self session.places c.say.new.self (bytes_left session.owed) c.in-Err.field-0 c.requires.going s.0 c.in-Err.ensures c.say.ensures,
       open-same session.alone (length got) asked s.1,
     )
 
@@ -22,4 +22,4 @@ pub returns-clause-turns : goal.returns-clause-turns
 returns-clause-turns c = λ read asked got sent s.
     let session = c.args.self.now in
     let same = (ready-front session.requests c.has_next.new.self (rw c.in-Ok-true.field-0-test at c.in-Ok-true.ensures)).1 in
-    c.take_front.ensures.turns read asked got sent (subst (λ (h : Held). IsAfter read asked got sent session.ended h session.places (bytes_left session.owed)) (sym same) s.0, s.1)
+    c.take_front.ensures.turns read asked got sent (subst (λ (h : Held). IsAfter c.args.manner.now session.standing read asked got sent session.ended h session.places (bytes_left session.owed)) (sym same) s.0, s.1)

@@ -1,0 +1,9 @@
+pub mod Reading
+pub mod Hello
+pub mod Client
+pub mod Others
+pub mod ConnectionName
+pub mod Read
+pub mod Unknown
+pub mod Password
+pub mod Standing
