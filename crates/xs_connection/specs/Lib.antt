@@ -7,3 +7,4 @@ pub mod Read
 pub mod Unknown
 pub mod Password
 pub mod Standing
+pub mod Examples

@@ -1,7 +1,7 @@
 -- What words say: a command of the connection itself, or a fault.
-use Rattle.std.specs.Prelude.{ℕ, Bool, true, false, List, [], ◌∷◌, codes, Option, Some, None, Err, ◌||◌}
+use Rattle.std.specs.Prelude.{ℕ, Bool, true, false, List, [], ◌∷◌, Option, Some, None, Err}
 use Rattle.xs_resp.specs.declared.fault.Fault.TheVariants.{UnknownCommand}
-use Rattle.xs_command.specs.Words.{Reading, ◌>>=◌, is_word}
+use Rattle.xs_command.specs.Words.{Reading, ◌>>=◌}
 use Rattle.xs_connection.specs.declared.command.ConnectionCommand.{ConnectionCommand}
 use Rattle.xs_connection.specs.declared.read.ConnectionName.{ConnectionName}
 use Rattle.xs_connection.specs.declared.read.ConnectionName.TheVariants.{Hello, Auth, Client, Select, Echo, Command}

@@ -1,6 +1,6 @@
 -- What a connection has said of itself, and what it is answered itself. (Redis, HELLO, AUTH, CLIENT, SELECT, ECHO,
 -- RESET.)
-use Rattle.std.specs.Prelude.{◌≡◌, ◌⊎◌, ℕ, Bool, true, ◌||◌, not, List, [], ◌∷◌, ◌++◌, codes, decimal, Option, Some, None}
+use Rattle.std.specs.Prelude.{◌≡◌, ◌⊎◌, ℕ, true, not, List, [], ◌∷◌, ◌++◌, codes, decimal, Option, Some, None}
 use Rattle.std.specs.Prelude.{Result, Ok, Err, is_some, if◌then◌else◌}
 use Rattle.xs_resp.specs.declared.fault.Fault.{Fault}
 use Rattle.xs_resp.specs.declared.fault.Fault.TheVariants.{UnknownCommand, Memory}
@@ -12,7 +12,6 @@ use Rattle.xs_connection.specs.declared.command.ConnectionCommand.{ConnectionCom
 use Rattle.xs_connection.specs.declared.command.ConnectionCommand.TheVariants.{Hello, OtherProtocol, Auth, SetName, BadName}
 use Rattle.xs_connection.specs.declared.command.ConnectionCommand.TheVariants.{GetName, GetId, List as ListClients, Accept}
 use Rattle.xs_connection.specs.declared.command.ConnectionCommand.TheVariants.{OtherDatabase, Echo, ListNothing, Reset}
-use Rattle.xs_connection.specs.declared.command.HelloCommand.{HelloCommand}
 use Rattle.xs_connection.specs.declared.command.Login.{Login}
 use Rattle.xs_connection.specs.declared.standing.Standing.{Standing}
 use Rattle.xs_connection.specs.Password.{is_right, is_needless}
@@ -25,7 +24,7 @@ abbrev pub no_auth : List ℕ
 no_auth = codes "NOAUTH Authentication required."
 
 abbrev pub no_hello : List ℕ
-no_hello = codes "NOAUTH HELLO must be called with the client already authenticated, otherwise the HELLO <proto> AUTH <user> <pass> option can be used to authenticate the client and select the RESP protocol version at the same time"
+no_hello = codes "NOAUTH HELLO must be called with the client already authenticated, otherwise the HELLO AUTH <user> <pass> option can be used to authenticate the client and select the RESP protocol version at the same time"
 
 abbrev pub wrong_password : List ℕ
 wrong_password = codes "WRONGPASS invalid username-password pair or user is disabled."

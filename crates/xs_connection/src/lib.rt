@@ -2,6 +2,7 @@
 #![tactic(auto)]
 
 pub mod command;
+pub mod examples;
 pub mod password;
 mod read;
 mod read_client;

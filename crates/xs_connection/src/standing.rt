@@ -19,7 +19,7 @@ use xs_resp::{Fault, Replies, Reply, Simple, Tokens};
 const NO_AUTH: &[u8] = b"NOAUTH Authentication required.";
 
 const NO_HELLO: &[u8] =
-    b"NOAUTH HELLO must be called with the client already authenticated, otherwise the HELLO <proto> AUTH <user> <pass> option can be used to authenticate the client and select the RESP protocol version at the same time";
+    b"NOAUTH HELLO must be called with the client already authenticated, otherwise the HELLO AUTH <user> <pass> option can be used to authenticate the client and select the RESP protocol version at the same time";
 
 const WRONG_PASSWORD: &[u8] = b"WRONGPASS invalid username-password pair or user is disabled.";
 
