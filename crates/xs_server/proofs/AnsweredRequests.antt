@@ -11,6 +11,8 @@ use Rattle.xs_resp.specs.HeldBytes.{Held}
 use Rattle.xs_command.specs.declared.command.Command.{Command}
 use Rattle.xs_command.specs.declared.command.Command.TheVariants.{Quit}
 use Rattle.xs_command.specs.Read.{command_of_words}
+use Rattle.xs_connection.specs.declared.standing.Standing.{Standing}
+use Rattle.xs_session.specs.declared.manner.Manner.TheVariants.{Plain}
 use Rattle.xs_session.specs.declared.ending.Ending.{Ending}
 use Rattle.xs_session.specs.declared.ending.Ending.TheVariants as ending
 use Rattle.xs_session.specs.Answers.{Taken, Asks, Says, IsTaken, AreTaken, asked_of, answers_to, quits, has_quit}
@@ -69,7 +71,7 @@ AreReplied Replies old commands replies new = ⊥
 
 abbrev pub exchanges_of : List Taken → List Reply → List Exchange
 exchanges_of [] got = []
-exchanges_of (Says fault ∷ taken) got = (record { asked = None; answer = Error fault }) ∷ exchanges_of taken got
+exchanges_of (Says reply ∷ taken) got = (record { asked = None; answer = reply }) ∷ exchanges_of taken got
 exchanges_of (Asks command ∷ taken) [] = []
 exchanges_of (Asks command ∷ taken) (reply ∷ got) = (record { asked = Some command; answer = reply }) ∷ exchanges_of taken got
 
@@ -79,37 +81,37 @@ replied-fits Replies old new [] (reply ∷ got) replied = absurd replied
 replied-fits Replies old new (command ∷ asked) [] replied = absurd replied
 replied-fits Replies old new (command ∷ asked) (reply ∷ got) (mid, step, rest) = omega (arith, replied-fits Replies mid new asked got rest)
 
-said : (words : List (List ℕ)) (fault : Fault) → IsTaken words (Says fault) → ((other : Fault) × (command_of_words words ≡ Err other) × (Error fault ≡ Error other)) ⊎ (Error fault ≡ Error Memory)
-said words fault (inl is) = inl (fault, is, refl)
-said words fault (inr memory) = inr (ap Error memory)
+said : (a b : Standing) (words : List (List ℕ)) (reply : Reply) → IsTaken Plain a words (Says reply) b → ((other : Fault) × (command_of_words words ≡ Err other) × (reply ≡ Error other)) ⊎ (reply ≡ Error Memory)
+said a b words reply (inl (fault, is, told)) = inl (fault, is, told.0)
+said a b words reply (inr (memory, same)) = inr memory
 
-pub run-taken : {P : Type 0} (Replies : P → Command → Reply → P → Type 0) (old new : P) (requests : List (List (List ℕ))) (taken : List Taken) (got : List Reply)
-    → AreTaken requests taken → AreReplied Replies old (asked_of taken) got new → Run Replies old requests (exchanges_of taken got) new
-run-taken Replies old new [] (one ∷ taken) got none replied = absurd (omega (arith, ap length none))
-run-taken Replies old new [] [] [] none replied = (refl, replied)
-run-taken Replies old new [] [] (reply ∷ got) none replied = absurd replied
-run-taken Replies old new ([] ∷ requests) taken got are replied = run-taken Replies old new requests taken got are replied
-run-taken Replies old new ((word ∷ words) ∷ requests) [] got (first, others, is, one, are) replied = absurd (omega (arith, ap length is))
-run-taken Replies old new ((word ∷ words) ∷ requests) (Says fault ∷ taken) got (first, others, is, one, are) replied =
-    let same : first ≡ Says fault = cc in
+pub run-taken : {P : Type 0} (Replies : P → Command → Reply → P → Type 0) (old new : P) (a b : Standing) (requests : List (List (List ℕ))) (taken : List Taken) (got : List Reply)
+    → AreTaken Plain a requests taken b → AreReplied Replies old (asked_of taken) got new → Run Replies old requests (exchanges_of taken got) new
+run-taken Replies old new a b [] (one ∷ taken) got none replied = absurd (omega (arith, ap length none.0))
+run-taken Replies old new a b [] [] [] none replied = (refl, replied)
+run-taken Replies old new a b [] [] (reply ∷ got) none replied = absurd replied
+run-taken Replies old new a b ([] ∷ requests) taken got are replied = run-taken Replies old new a b requests taken got are replied
+run-taken Replies old new a b ((word ∷ words) ∷ requests) [] got (first, others, next, is, one, are) replied = absurd (omega (arith, ap length is))
+run-taken Replies old new a b ((word ∷ words) ∷ requests) (Says answer ∷ taken) got (first, others, next, is, one, are) replied =
+    let same : first ≡ Says answer = cc in
     let rest : others ≡ taken = cc in (
-      record { asked = None; answer = Error fault },
+      record { asked = None; answer = answer },
       exchanges_of taken got,
       old,
       refl,
-      (refl, said (word ∷ words) fault (subst (IsTaken (word ∷ words)) same one)),
-      run-taken Replies old new requests taken got (subst (AreTaken requests) rest are) replied,
+      (refl, said a next (word ∷ words) answer (subst (λ t. IsTaken Plain a (word ∷ words) t next) same one)),
+      run-taken Replies old new next b requests taken got (subst (λ t. AreTaken Plain next requests t b) rest are) replied,
     )
-run-taken Replies old new ((word ∷ words) ∷ requests) (Asks command ∷ taken) [] taken_so replied = absurd replied
-run-taken Replies old new ((word ∷ words) ∷ requests) (Asks command ∷ taken) (reply ∷ got) (first, others, is, one, are) (mid, step, replied) =
+run-taken Replies old new a b ((word ∷ words) ∷ requests) (Asks command ∷ taken) [] taken_so replied = absurd replied
+run-taken Replies old new a b ((word ∷ words) ∷ requests) (Asks command ∷ taken) (reply ∷ got) (first, others, next, is, one, are) (mid, step, replied) =
     let same : first ≡ Asks command = cc in
     let rest : others ≡ taken = cc in (
       record { asked = Some command; answer = reply },
       exchanges_of taken got,
       mid,
       refl,
-      (subst (IsTaken (word ∷ words)) same one, step),
-      run-taken Replies mid new requests taken got (subst (AreTaken requests) rest are) replied,
+      ((subst (λ t. IsTaken Plain a (word ∷ words) t next) same one).1, step),
+      run-taken Replies mid new next b requests taken got (subst (λ t. AreTaken Plain next requests t b) rest are) replied,
     )
 
 answers-refused : (ended : Option Ending) (got : List Reply) → answers_to (refusal ended) got ≡ map Some (refusals ended)
@@ -123,7 +125,7 @@ answers-refused (Some ending.Protocol) got = refl
 pub answers-all : (taken : List Taken) (got : List Reply) (ended : Option Ending) → length got ≡ length (asked_of taken)
     → answers_to (taken ++ refusal ended) got ≡ map Some (map (λ (exchange : Exchange). exchange.answer) (exchanges_of taken got) ++ refusals ended)
 answers-all [] got ended fits = answers-refused ended got
-answers-all (Says fault ∷ taken) got ended fits = ap (λ answers. Some (Error fault) ∷ answers) (answers-all taken got ended fits)
+answers-all (Says reply ∷ taken) got ended fits = ap (λ answers. Some reply ∷ answers) (answers-all taken got ended fits)
 answers-all (Asks command ∷ taken) [] ended fits = absurd (omega (arith, fits))
 answers-all (Asks command ∷ taken) (reply ∷ got) ended fits = ap (λ answers. Some reply ∷ answers) (answers-all taken got ended (omega (arith, fits)))
 
@@ -133,7 +135,7 @@ quits-is _ = refl
 
 has-quit : (taken : List Taken) (got : List Reply) → length got ≡ length (asked_of taken) → asks_quit (exchanges_of taken got) ≡ has_quit taken
 has-quit [] got fits = refl
-has-quit (Says fault ∷ taken) got fits = has-quit taken got fits
+has-quit (Says reply ∷ taken) got fits = has-quit taken got fits
 has-quit (Asks command ∷ taken) [] fits = absurd (omega (arith, fits))
 has-quit (Asks command ∷ taken) (reply ∷ got) fits =
     ap (λ b. b || asks_quit (exchanges_of taken got)) (sym (quits-is command)) ∙ ap (λ b. quits (Asks command) || b) (has-quit taken got (omega (arith, fits)))
@@ -149,24 +151,24 @@ goes-behind (Some ending.Cut) taken got rest held fits goes = absurd goes
 
 -- the port gives no answer to the first request that has words
 pub left-one : {P : Type 0} (Replies : P → Command → Reply → P → Type 0) (Fails : P → Command → P → Type 0) (old new : P) (command : Command) → Fails old command new
-    → (requests : List (List (List ℕ))) (bytes front rest : List ℕ) → AreTaken requests (Asks command ∷ []) → bytes ≡ front ++ rest → SpellsAll front requests → LeavesOne Replies Fails old new bytes
-left-one Replies Fails old new command fails [] bytes front rest are is spelled = absurd (omega (arith, ap length are))
-left-one Replies Fails old new command fails ([] ∷ requests) bytes front rest are is (first, others, split, spells, all) =
-    let later = left-one Replies Fails old new command fails requests (others ++ rest) others rest are refl all in
-    let a = later.answered in
+    → (a b : Standing) (requests : List (List (List ℕ))) (bytes front rest : List ℕ) → AreTaken Plain a requests (Asks command ∷ []) b → bytes ≡ front ++ rest → SpellsAll front requests → LeavesOne Replies Fails old new bytes
+left-one Replies Fails old new command fails a b [] bytes front rest are is spelled = absurd (omega (arith, ap length are.0))
+left-one Replies Fails old new command fails a b ([] ∷ requests) bytes front rest are is (first, others, split, spells, all) =
+    let later = left-one Replies Fails old new command fails a b requests (others ++ rest) others rest are refl all in
+    let answered = later.answered in
     record {
       rest = later.rest;
       answered =
           record {
-            requests = [] ∷ a.requests;
-            front = first ++ a.front;
-            bytes_are = is ∙ ap (λ f. f ++ rest) split ∙ append_assoc first others rest ∙ ap (λ o. first ++ o) a.bytes_are ∙ sym (append_assoc first a.front later.rest);
-            spelled = (first, a.front, refl, spells, a.spelled);
-            run = a.run;
+            requests = [] ∷ answered.requests;
+            front = first ++ answered.front;
+            bytes_are = is ∙ ap (λ f. f ++ rest) split ∙ append_assoc first others rest ∙ ap (λ o. first ++ o) answered.bytes_are ∙ sym (append_assoc first answered.front later.rest);
+            spelled = (first, answered.front, refl, spells, answered.spelled);
+            run = answered.run;
           };
       fails = later.fails;
     }
-left-one Replies Fails old new command fails ((word ∷ words) ∷ requests) bytes front rest (one, more, split, taken_so, are) is (first, others, parts, spells, all) =
+left-one Replies Fails old new command fails a b ((word ∷ words) ∷ requests) bytes front rest (one, more, next, split, taken_so, are) is (first, others, parts, spells, all) =
     let same : one ≡ Asks command = cc in
     record {
       rest = bytes;
@@ -179,7 +181,7 @@ left-one Replies Fails old new command fails ((word ∷ words) ∷ requests) byt
             command = command;
             rest_is = is ∙ ap (λ f. f ++ rest) parts ∙ append_assoc first others rest;
             spelled = spells;
-            reads_as = subst (IsTaken (word ∷ words)) same taken_so;
+            reads_as = (subst (λ t. IsTaken Plain a (word ∷ words) t next) same taken_so).1;
             fails = fails;
           };
     }

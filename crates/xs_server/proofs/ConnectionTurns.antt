@@ -17,6 +17,8 @@ use Rattle.xs_resp.specs.LeftToWrite.{bytes_left}
 use Rattle.xs_command.specs.declared.command.Command.{Command}
 use Rattle.xs_session.specs.declared.ending.Ending.{Ending}
 use Rattle.xs_session.specs.declared.ending.Ending.TheVariants as ending
+use Rattle.xs_connection.specs.declared.standing.Standing.{Standing}
+use Rattle.xs_session.specs.declared.manner.Manner.TheVariants.{Plain}
 use Rattle.xs_session.specs.declared.session.Session.{Session}
 use Rattle.xs_session.specs.Answers.{Taken, Asks, Says, AreTaken, asked_of, answers_to}
 use Rattle.xs_session.specs.Session.{IsAfter, SessionIsAfter, Waits, refusal}
@@ -53,28 +55,28 @@ none-begun (reply ∷ begun) none = absurd (omega (arith, some-text reply, ap le
 
 -- ---- what a turn takes
 
-pub at-rest : (session : Session) (rest : List ℕ) → IsAtRest session rest → SessionIsAfter rest [] [] [] session
-at-rest session rest r = session-new rest session r.ended r.holds r.places r.owed
+pub at-rest : (session : Session) (rest : List ℕ) → IsAtRest session rest → SessionIsAfter Plain rest [] [] [] session
+at-rest session rest r = session-new Plain rest session r.ended r.holds r.places r.owed tt
 
 module _ (bytes : List ℕ) (asked : List Command) (got : List Reply) (ended : Option Ending) (held : Held) (places : List (Option Reply)) where
   -- nothing is sent or begun yet
-  unsent : (s : IsAfter bytes asked got [] ended held places []) → answers_to (s.taken ++ refusal ended) got ≡ places
-  unsent s = s.answers ∙ ap (λ begun. map Some begun ++ places) (none-begun s.begun s.sent_is)
+  unsent : (standing : Standing) (s : IsAfter Plain standing bytes asked got [] ended held places []) → answers_to (s.taken ++ refusal ended) got ≡ places
+  unsent standing s = s.answers ∙ ap (λ begun. map Some begun ++ places) (none-begun s.begun s.sent_is)
 
 module _ {P : Type 0} (Replies : P → Command → Reply → P → Type 0) (old new : P) (bytes : List ℕ) (asked : List Command) (got : List Reply) (session : Session) where
   -- what was asked has its replies, and an answer at most is there
-  pub takes-one : SessionIsAfter bytes asked got [] session → bytes_left session.owed ≡ [] → AreReplied Replies old asked got new → length session.places < 2 → TakesOne Replies old new bytes session
+  pub takes-one : SessionIsAfter Plain bytes asked got [] session → bytes_left session.owed ≡ [] → AreReplied Replies old asked got new → length session.places < 2 → TakesOne Replies old new bytes session
   takes-one after owed replied few =
-      let s : IsAfter bytes asked got [] session.ended session.requests session.places [] = subst (λ (o : List ℕ). IsAfter bytes asked got [] session.ended session.requests session.places o) owed after.0 in
+      let s : IsAfter Plain session.standing bytes asked got [] session.ended session.requests session.places [] = subst (λ (o : List ℕ). IsAfter Plain session.standing bytes asked got [] session.ended session.requests session.places o) owed after.0 in
       let replied : AreReplied Replies old (asked_of s.taken) got new = subst (λ (a : List Command). AreReplied Replies old a got new) s.asked_is replied in
       let fits = replied-fits Replies old new (asked_of s.taken) got replied in
       let exchanges = exchanges_of s.taken got in
       let ready = map (λ (exchange : Exchange). exchange.answer) exchanges ++ refusals session.ended in
-      let places : session.places ≡ map Some ready = sym (unsent bytes asked got session.ended session.requests session.places s) ∙ answers-all s.taken got session.ended fits in
+      let places : session.places ≡ map Some ready = sym (unsent bytes asked got session.ended session.requests session.places session.standing s) ∙ answers-all s.taken got session.ended fits in
       record {
         exchanges = exchanges;
         rest = s.rest;
-        answered = record { requests = s.requests; front = s.front; bytes_are = s.read_is; spelled = s.spelled; run = run-taken Replies old new s.requests s.taken got s.are_taken replied };
+        answered = record { requests = s.requests; front = s.front; bytes_are = s.read_is; spelled = s.spelled; run = run-taken Replies old new s.first session.standing s.requests s.taken got s.are_taken replied };
         goes = goes-behind session.ended s.taken got s.rest session.requests fits s.goes;
         ready = ready;
         ready_is = refl;
@@ -83,13 +85,13 @@ module _ {P : Type 0} (Replies : P → Command → Reply → P → Type 0) (old 
       }
 
 -- nothing is asked
-pub takes-none : {P : Type 0} (Replies : P → Command → Reply → P → Type 0) (port : P) (bytes : List ℕ) (was is : Session) → IsAtRest was bytes → SessionIsAfter bytes [] [] [] is → is.owed ≡ was.owed
-    → (is.places ≡ was.places) ⊎ ((fault : Fault) × (is.places ≡ was.places ++ Some (Error fault) ∷ [])) → TakesOne Replies port port bytes is
+pub takes-none : {P : Type 0} (Replies : P → Command → Reply → P → Type 0) (port : P) (bytes : List ℕ) (was is : Session) → IsAtRest was bytes → SessionIsAfter Plain bytes [] [] [] is → is.owed ≡ was.owed
+    → (is.places ≡ was.places) ⊎ ((reply : Reply) × (is.places ≡ was.places ++ Some reply ∷ [])) → TakesOne Replies port port bytes is
 takes-none Replies port bytes was is r after same places =
     takes-one Replies port port bytes [] [] is after (ap bytes_left same ∙ r.owed) refl (by places) where
-      by : (is.places ≡ was.places) ⊎ ((fault : Fault) × (is.places ≡ was.places ++ Some (Error fault) ∷ [])) → length is.places < 2
+      by : (is.places ≡ was.places) ⊎ ((reply : Reply) × (is.places ≡ was.places ++ Some reply ∷ [])) → length is.places < 2
       by (inl none) = omega (arith, ap length (none ∙ r.places))
-      by (inr (fault, one)) = omega (arith, ap length (one ∙ ap (λ p. p ++ Some (Error fault) ∷ []) r.places))
+      by (inr (reply, one)) = omega (arith, ap length (one ∙ ap (λ p. p ++ Some reply ∷ []) r.places))
 
 -- the only request that was taken is asked
 asked-one : (taken : List Taken) (command : Command) (ended : Option Ending) → command ∷ [] ≡ asked_of taken → answers_to (taken ++ refusal ended) [] ≡ None ∷ [] → taken ≡ Asks command ∷ []
@@ -100,11 +102,11 @@ asked-one (Asks other ∷ Says fault ∷ taken) command ended asked answers = cc
 asked-one (Asks other ∷ Asks more ∷ taken) command ended asked answers = cc
 
 pub leaves-one : {P : Type 0} (Replies : P → Command → Reply → P → Type 0) (Fails : P → Command → P → Type 0) (old new : P) (bytes : List ℕ) (command : Command) (session : Session)
-    → SessionIsAfter bytes (command ∷ []) [] [] session → bytes_left session.owed ≡ [] → session.places ≡ None ∷ [] → Fails old command new → LeavesOne Replies Fails old new bytes
+    → SessionIsAfter Plain bytes (command ∷ []) [] [] session → bytes_left session.owed ≡ [] → session.places ≡ None ∷ [] → Fails old command new → LeavesOne Replies Fails old new bytes
 leaves-one Replies Fails old new bytes command session after owed places fails =
-    let s : IsAfter bytes (command ∷ []) [] [] session.ended session.requests session.places [] = subst (λ (o : List ℕ). IsAfter bytes (command ∷ []) [] [] session.ended session.requests session.places o) owed after.0 in
-    let one = asked-one s.taken command session.ended s.asked_is (unsent bytes (command ∷ []) [] session.ended session.requests session.places s ∙ places) in
-    left-one Replies Fails old new command fails s.requests bytes s.front s.rest (subst (AreTaken s.requests) one s.are_taken) s.read_is s.spelled
+    let s : IsAfter Plain session.standing bytes (command ∷ []) [] [] session.ended session.requests session.places [] = subst (λ (o : List ℕ). IsAfter Plain session.standing bytes (command ∷ []) [] [] session.ended session.requests session.places o) owed after.0 in
+    let one = asked-one s.taken command session.ended s.asked_is (unsent bytes (command ∷ []) [] session.ended session.requests session.places session.standing s ∙ places) in
+    left-one Replies Fails old new command fails s.first session.standing s.requests bytes s.front s.rest (subst (λ t. AreTaken Plain s.first s.requests t session.standing) one s.are_taken) s.read_is s.spelled
 
 -- ---- what is written
 

@@ -10,6 +10,7 @@ use crate::work::session_memory::SessionMemory;
 use std::alloc::{AllocError, Global};
 use std::sync::Wait;
 use std::time::{Clock, Duration};
+use xs_bytes::U63;
 use xs_desk::{Client, Journal, Keeper, Pause};
 
 /// How often a worker looks after its client.
@@ -110,11 +111,11 @@ impl<S: Wait + Clock + Copy + Send + Drop + 'static> Mode<RunGate<S>> for Patien
         })
     }
 
-    fn memory(&self, alloc: Global) -> Result<SessionMemory, AllocError> {
+    fn memory(&self, alloc: Global, number: U63) -> Result<SessionMemory, AllocError> {
         if self.peers.len() <= MADE_AT_START {
-            return SessionMemory::made(alloc);
+            return SessionMemory::made(alloc, number);
         }
-        Ok(SessionMemory::lazy(alloc))
+        Ok(SessionMemory::lazy(alloc, number))
     }
 }
 

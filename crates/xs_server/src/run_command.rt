@@ -1,7 +1,8 @@
 //! The program's command `run`: a server that stays.
-ghost use Rattle.std.specs.Prelude.{◌≡◌, length, All, IfOk, IfErr};
+ghost use Rattle.std.specs.Prelude.{◌≡◌, None, false, length, map, All, IfOk, IfErr};
+ghost use Rattle.xs_session.specs.declared.manner.Manner.TheVariants as manner;
 ghost use Rattle.xs_server.specs.Gates.{new_gate};
-ghost use Rattle.xs_server.specs.WorkOutcome.{HasServed};
+ghost use Rattle.xs_server.specs.WorkOutcome.{HasServed, IsClosed};
 
 use crate::announcement::Announcement;
 use crate::command_line::RunOptions;
@@ -15,7 +16,7 @@ use crate::serve_command::DEPTH;
 use crate::version::VERSION;
 use crate::wall_clock::WallClock;
 use crate::work::gate::Gate;
-use crate::work::working::work_with;
+use crate::work::working::{WorkFailed, WorkOutcome, work_with};
 use std::alloc::{Alloc, AllocError, Global};
 use std::fs::Files;
 use std::io;
@@ -64,7 +65,7 @@ fn gates_of<S: Wait + Copy + Send + Drop>(
     options: &RunOptions,
 ) -> Result<Vec<RunGate<S>>, AllocError>
     ensures count { IfOk result (λ gates. length gates.items ≡ options.now.workers) }
-    ensures new { IfOk result (λ gates. All (λ gate. ⟦<RunGate<S> as Gate>⟧.trace gate ≡ new_gate) gates.items) }
+    ensures new { IfOk result (λ gates. All (λ gate. ⟦<RunGate<S> as Gate>⟧.trace gate ≡ new_gate (manner.Full None)) gates.items) }
 {
     let idle = if options.idle == 0 {
         None
@@ -126,7 +127,7 @@ pub fn make_ready<
         + 'static,
 >(rt: &R, alloc: Global, options: &RunOptions, out: W, errors: &mut E) -> Result<Ready<R>, u8>
     ensures gates { IfOk result (λ ready. length ready.gates.items ≡ options.now.workers) }
-    ensures new { IfOk result (λ ready. All (λ gate. ⟦<RunGate<R> as Gate>⟧.trace gate ≡ new_gate) ready.gates.items) }
+    ensures new { IfOk result (λ ready. All (λ gate. ⟦<RunGate<R> as Gate>⟧.trace gate ≡ new_gate (manner.Full None)) ready.gates.items) }
     ensures status { IfErr result (λ status. status ≡ 1) }
 {
     let files = open_files(rt);
@@ -175,14 +176,27 @@ pub fn run_server<
         + Drop
         + 'static,
 >(rt: &R, alloc: Global, options: &RunOptions, out: W, errors: &mut E) -> u8
-    ensures served { result ≡ 0 → HasServed options.now.workers }
+    ensures served { result ≡ 0 → HasServed (manner.Full None) options.now.workers }
 {
     let Ready { gates, patience } = match make_ready(rt, alloc, options, out, errors) {
         Ok(ready) => ready,
         Err(status) => return status,
     };
-    let worked = work_with(rt, alloc, gates, DEPTH, WallClock::new(*rt), patience);
+    let worked = work_over(rt, alloc, gates, patience);
     report_worked(errors, &worked)
+}
+
+/// Works over the gates of a server that stays.
+fn work_over<R: Threads + Wait + Clock + Copy + Send + Drop + 'static>(
+    rt: &R,
+    alloc: Global,
+    gates: Vec<RunGate<R>>,
+    patience: Patience<R>,
+) -> Result<WorkOutcome<RunGate<R>>, WorkFailed<RunGate<R>>>
+    ensures closed { IfOk result (λ outcome. IsClosed false (map ⟦<RunGate<R> as Gate>⟧.trace gates.items)
+        (map ⟦<RunGate<R> as Gate>⟧.trace outcome.gates.items) outcome.summary) }
+{
+    work_with(rt, alloc, gates, DEPTH, WallClock::new(*rt), patience)
 }
 
 fn hall_of(alloc: Global, room: u64, workers: u64) -> Result<Arc<Hall>, AllocError> {

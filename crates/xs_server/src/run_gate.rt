@@ -1,5 +1,6 @@
 //! A gate of a server that stays: it takes connections from the hall, without end.
-ghost use Rattle.std.specs.Prelude.{◌≡◌, IfOk, IfSome};
+ghost use Rattle.std.specs.Prelude.{◌≡◌, None, IfOk, IfSome};
+ghost use Rattle.xs_session.specs.declared.manner.Manner.TheVariants as manner;
 ghost use Rattle.xs_server.specs.Gates.{AreFresh, new_gate};
 
 use crate::announcement::Announcement;
@@ -12,6 +13,7 @@ use std::net::TcpStream;
 use std::sync::{Arc, Wait};
 use std::time::Duration;
 use xs_devices::{FromRead, Sink, Source, ToWrite};
+use xs_session::Manner;
 
 /// A gate that takes connections from a hall, which other gates share.
 #[derive(Drop)]
@@ -35,7 +37,7 @@ impl<S: Wait + Copy + Send + Drop> RunGate<S> {
         announcement: Announcement,
         idle: Option<Duration>,
     ) -> Result<Self, AllocError>
-        ensures { IfOk result (λ gate. ⟦<RunGate<S> as Gate>⟧.trace gate ≡ new_gate) }
+        ensures { IfOk result (λ gate. ⟦<RunGate<S> as Gate>⟧.trace gate ≡ new_gate (manner.Full None)) }
     {
         Ok(Self {
             system,
@@ -43,7 +45,7 @@ impl<S: Wait + Copy + Send + Drop> RunGate<S> {
             hall,
             announcement,
             idle,
-            register: Register::new(),
+            register: Register::new(Manner::Full(None)),
         })
     }
 }
@@ -94,6 +96,10 @@ impl<S: Wait + Copy + Send + Drop> Gate for RunGate<S> {
     type Writer = ToWrite<Outgoing<S>>;
 
     ghost trace = { λ g. g.register };
+
+    fn manner(&self) -> &Manner {
+        self.register.manner()
+    }
 
     fn open_next<R: Wait>(&mut self, rt: &R) -> Result<Option<Halves<S>>, GateFault> {
         self.announcement.make();

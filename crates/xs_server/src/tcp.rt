@@ -1,5 +1,6 @@
 //! Connections over TCP.
 ghost use Rattle.std.specs.Prelude.{◌≡◌, IfOk, IfSome};
+ghost use Rattle.xs_session.specs.declared.manner.Manner.TheVariants as manner;
 ghost use Rattle.xs_server.specs.Gates.{AreFresh, new_gate};
 
 use crate::announcement::Announcement;
@@ -13,6 +14,7 @@ use std::sync::{Arc, Wait};
 use std::thread;
 use std::time::{Clock, Duration};
 use xs_devices::{FromRead, Sink, Source, ToWrite};
+use xs_session::Manner;
 
 /// Linux's numbers of the errors of `accept` that a listener gives for good: its descriptor is closed, it doesn't
 /// listen any more, and its descriptor is another file's.
@@ -46,7 +48,7 @@ impl<S: Clock + Wait + Copy + Send + Drop> TcpGate<S> {
         announcement: Announcement,
         count: u64,
     ) -> Result<Self, AllocError>
-        ensures { IfOk result (λ gate. ⟦<TcpGate<S> as Gate>⟧.trace gate ≡ new_gate) }
+        ensures { IfOk result (λ gate. ⟦<TcpGate<S> as Gate>⟧.trace gate ≡ new_gate manner.Plain) }
     {
         Ok(Self {
             memory: HalvesMemory::new(alloc)?,
@@ -54,7 +56,7 @@ impl<S: Clock + Wait + Copy + Send + Drop> TcpGate<S> {
             listener,
             announcement,
             left: count,
-            register: Register::new(),
+            register: Register::new(Manner::Plain),
         })
     }
 }
@@ -124,6 +126,10 @@ impl<S: Clock + Wait + Copy + Send + Drop> Gate for TcpGate<S> {
     type Writer = ToWrite<Outgoing<S>>;
 
     ghost trace = { λ g. g.register };
+
+    fn manner(&self) -> &Manner {
+        self.register.manner()
+    }
 
     fn open_next<R: Wait>(&mut self, _rt: &R) -> Result<Option<Halves<S>>, GateFault> {
         self.announcement.make();

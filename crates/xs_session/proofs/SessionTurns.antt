@@ -360,7 +360,7 @@ none-open : (alone : Bool) → MayBeOpen alone []
 none-open true = inl tt
 none-open false = tt
 
-pub session-new : (manner : Manner) (bytes : List ℕ) (session : Session) → session.ended ≡ None → session.requests ≡ Ok bytes → session.places ≡ [] → bytes_left session.owed ≡ [] → SessionIsAfter manner standing bytes [] [] [] session
+pub session-new : (manner : Manner) (bytes : List ℕ) (session : Session) → session.ended ≡ None → session.requests ≡ Ok bytes → session.places ≡ [] → bytes_left session.owed ≡ [] → IsFirst manner session.standing → SessionIsAfter manner bytes [] [] [] session
 session-new manner bytes session going is places owed new = (after-new manner session.standing bytes session.ended session.requests session.places (bytes_left session.owed) going is places owed new, none-open session.alone)
 
 -- ---- turns of a whole session
@@ -387,7 +387,8 @@ module _ (manner : Manner) (read : List ℕ) (asked : List Command) (got : List 
       let waiting = open-more new.alone (length got) asked call.command s.0.fits (subst (λ (b : Bool). MayBeOpen b (drop (length got) asked)) several s.1) asks.alone
       (λ alone. session-closed old s (ap has_open (asks.gathered alone).0)) in
       subst (λ (t : Turn). SessionIsAfter manner read (asked ++ asked_in t) got sent new) (sym asks.asks)
-      (subst (λ (o : List ℕ). IsAfter manner new.standing read (asked ++ call.command ∷ []) got sent new.ended new.requests new.places o) (sym (ap bytes_left owed)) after, waiting)
+      (subst (λ (o : List ℕ). IsAfter manner new.standing read (asked ++ call.command ∷ []) got sent new.ended new.requests new.places o) (sym (ap bytes_left owed))
+      (subst (λ (n : Standing). IsAfter manner n read (asked ++ call.command ∷ []) got sent new.ended new.requests new.places (bytes_left old.owed)) (sym asks.standing) after), waiting)
   session-asked old new call turn words going several are some is owed (inr (full, same)) s =
       subst (λ (t : Turn). SessionIsAfter manner read (asked ++ asked_in t) got sent new) (sym full)
       (subst (λ (a : List Command). SessionIsAfter manner read a got sent new) (sym (append-nil asked))

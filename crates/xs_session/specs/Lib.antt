@@ -5,3 +5,4 @@ pub mod Examples
 pub mod ExamplesPlaces
 pub mod ExamplesSessions
 pub mod ExamplesTurns
+pub mod ExamplesManners

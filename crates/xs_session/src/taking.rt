@@ -68,7 +68,7 @@ fn answer_fault(
     words: Request<'_>,
     fault: Fault,
 ) -> Reply
-    requires { command_of_words words.entry ≡ Err fault }
+    requires { command_of_words words ≡ Err fault }
     ensures { IsSaid manner.now standing.old words.entry fault result standing.new }
 {
     match (manner, fault) {
@@ -87,7 +87,7 @@ fn call_of(
     command: Command,
     words: Request<'_>,
 ) -> Result<Call, AllocError>
-    requires said { command_of_words words.entry ≡ Ok command }
+    requires said { command_of_words words ≡ Ok command }
     requires formed { IsWellFormed command }
     ensures command { IfOk result (λ call. call.command ≡ command) }
     ensures formed { IfOk result IsFormed }
@@ -107,6 +107,7 @@ fn call_of(
 }
 
 /// Whether the first word is QUIT, which may always be asked.
+#[tactic(auto, unfolding(xs_command::specs::Words::word))]
 fn names_quit(words: &Words<'_>) -> bool
     ensures { result ≡ names_quit words.now }
 {

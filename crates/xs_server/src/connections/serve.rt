@@ -15,9 +15,10 @@ use crate::connections::ahead::send_owed;
 use crate::connections::ending::{Ending, ServeFault};
 use std::alloc::Global;
 use std::sync::Wait;
+use xs_bytes::U63;
 use xs_desk::{Port, PortFault};
 use xs_devices::{FillFault, Sink, Source};
-use xs_session::{Session, Turn};
+use xs_session::{Manner, Session, Turn};
 
 /// How often a reader is asked.
 const READS: u64 = 1_000_000_000_000;
@@ -36,7 +37,7 @@ fn ask_next<P: Port, T: Wait>(
     ensures owed { session.new.owed ≡ session.old.owed }
     ensures gone { OnErr result (P.gone port.new ≡ true) }
 {
-    match session.advance(port.wants_words()) {
+    match session.advance(&Manner::Plain, port.wants_words()) {
         Turn::Asks(call) => match port.ask_call(rt, call) {
             Ok(reply) => {
                 session.hand_in(reply);
@@ -178,7 +179,7 @@ pub fn serve<R: Source, W: Sink, P: Port, T: Wait>(
         (R.calls reader.old) (R.calls reader.new) (W.broken writer.new) }
     ensures gone { (replies : ℕ) → result ≡ Err (ServeFault.Port replies) → P.gone port.new ≡ true }
 {
-    let Ok(mut session) = Session::new(alloc) else {
+    let Ok(mut session) = Session::new(alloc, &Manner::Plain, U63::new(1)) else {
         return Err(ServeFault::Memory { replies: 0 });
     };
     let mut replies = 0;

@@ -121,6 +121,10 @@ impl Gate for Scripted {
 
     ghost trace = { λ g. g.register };
 
+    fn manner(&self) -> &Manner {
+        self.register.manner()
+    }
+
     fn open_next<R: Wait>(&mut self, _rt: &R) -> Result<Option<(Incoming, Outgoing)>, GateFault> {
         match self.take_next() {
             Ok(Some(connection)) => {
@@ -187,14 +191,14 @@ fn work_over<R: Threads + Wait + Copy + Send + 'static>(
         refuses: false,
         counted: Arc::try_clone(&counted)?,
         awaited: Arc::try_clone(&counted_there)?,
-        register: Register::new(),
+        register: Register::new(Manner::Plain),
     })?;
     gates.push(Scripted {
         connections: other,
         refuses: other_refuses,
         counted: Arc::try_clone(&counted_there)?,
         awaited: Arc::try_clone(&counted)?,
-        register: Register::new(),
+        register: Register::new(Manner::Plain),
     })?;
     let worked = match work(rt, alloc, gates, 16, still()) {
         Ok(outcome) => Ok(outcome.summary),

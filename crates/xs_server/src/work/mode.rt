@@ -2,6 +2,7 @@
 use crate::work::session_memory::SessionMemory;
 use std::alloc::{AllocError, Global};
 use std::sync::Wait;
+use xs_bytes::U63;
 use xs_desk::{Idle, Journal, Keeper, Pause};
 
 /// What a keeper does between its turns, whatever its journal is.
@@ -32,8 +33,8 @@ pub trait Mode<G>: KeeperMode {
     /// How the worker of this gate waits for an answer. It takes no memory.
     fn pause_of(&self, gate: &G) -> Result<Self::Pause, AllocError>;
 
-    /// The memory of a worker's connections.
-    fn memory(&self, alloc: Global) -> Result<SessionMemory, AllocError>;
+    /// The memory of the connections of the worker of this number.
+    fn memory(&self, alloc: Global, number: U63) -> Result<SessionMemory, AllocError>;
 }
 
 /// No call waits, and all memory is made at the start.
@@ -61,7 +62,7 @@ impl<G> Mode<G> for Bounded {
         Ok(Idle)
     }
 
-    fn memory(&self, alloc: Global) -> Result<SessionMemory, AllocError> {
-        SessionMemory::made(alloc)
+    fn memory(&self, alloc: Global, number: U63) -> Result<SessionMemory, AllocError> {
+        SessionMemory::made(alloc, number)
     }
 }

@@ -13,7 +13,7 @@ use std::sync::Wait;
 use thiserror::Error;
 use xs_desk::{Client, Ended, Pause};
 use xs_devices::{Sink, Source};
-use xs_session::Ending;
+use xs_session::{Ending, Manner};
 
 /// A worker before its thread is started.
 #[derive(Drop)]
@@ -57,13 +57,14 @@ const NO_MEMORY: &[u8] = b"-OOM out of memory\r\n";
 /// An `AheadFault`, which ends this connection alone, but for `Port`.
 fn serve_one<S: Source, W: Sink, P: Pause, R: Wait>(
     rt: &R,
+    manner: &Manner,
     memory: &mut SessionMemory,
     reader: &mut S,
     writer: &mut W,
     client: &mut Client,
     pause: &P,
 ) -> Result<Ending, AheadFault>
-    ensures { ServesOne result client.old client.new
+    ensures { ServesOne manner.now result client.old client.new
         (seen (S.rest reader.old) (S.ended reader.old) (S.broken reader.old) (W.held writer.old) (W.broken writer.old))
         (seen (S.rest reader.new) (S.ended reader.new) (S.broken reader.new)
         (W.held writer.new) (W.broken writer.new)) }
@@ -72,7 +73,7 @@ fn serve_one<S: Source, W: Sink, P: Pause, R: Wait>(
         say(writer, NO_MEMORY);
         return Err(AheadFault::Memory);
     };
-    let served = serve_ahead(rt, session, reader, writer, client, pause);
+    let served = serve_ahead(rt, manner, session, reader, writer, client, pause);
     if served == Err(AheadFault::Memory) {
         say(writer, NO_MEMORY);
         return served;
@@ -100,7 +101,15 @@ fn serve_gate<G: Gate, P: Pause, R: Wait>(
             Ok(None) => return Ok(()),
             Err(GateFault::Refused) => return Err(WorkerFault::Gate),
         };
-        let served = serve_one(rt, memory, &mut reader, &mut writer, client, pause);
+        let served = serve_one(
+            rt,
+            gate.manner(),
+            memory,
+            &mut reader,
+            &mut writer,
+            client,
+            pause,
+        );
         gate.close(reader, writer);
         if matches!(served, Err(AheadFault::Port)) {
             return Err(WorkerFault::Lane);

@@ -11,6 +11,7 @@ use std::alloc::{AllocError, Global};
 use std::snapshot::Snapshot;
 use std::sync::{Arc, Wait};
 use std::thread::{Builder, Promise, PromisedHandle, Threads};
+use xs_bytes::U63;
 use xs_desk::{Client, Ended, Pause};
 
 /// How many bytes of stack a thread has: twice the deepest that was seen in use, and more.
@@ -50,7 +51,8 @@ pub fn make_workers<G: Drop, M: Mode<G>>(
             return Err(AllocError);
         };
         let pause = mode.pause_of(&gate)?;
-        let memory = mode.memory(alloc)?;
+        let number = U63::new(workers.len() as u64);
+        let memory = mode.memory(alloc, number)?;
         workers.push(Worker {
             client,
             gate,

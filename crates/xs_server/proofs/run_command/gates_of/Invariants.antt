@@ -1,5 +1,6 @@
-use Rattle.std.proofs.Common.{◌≡◌, length}
+use Rattle.std.proofs.Common.{◌≡◌, None, length}
 use Rattle.std.specs.List.{All}
+use Rattle.xs_session.specs.declared.manner.Manner.TheVariants.{Full}
 use Rattle.xs_server.specs.Gates.{new_gate}
 use Rattle.xs_server.proofs.run_command.gates_of.Given as goal
 
@@ -7,5 +8,5 @@ use Rattle.xs_server.proofs.run_command.gates_of.Given as goal
 abbrev pub invariant-loop-worker : goal.invariant-loop-worker
 invariant-loop-worker g l = record {
   count : length l.gates.items ≡ l._worker;
-  new : All (λ gate. gate.register ≡ new_gate) l.gates.items;
+  new : All (λ gate. gate.register ≡ new_gate (Full None)) l.gates.items;
 }

@@ -1,9 +1,9 @@
 use Rattle.std.specs.Prelude.{◌≡◌, ◌||◌, ℕ, true, false, List, [], ◌∷◌, ◌++◌, map, codes, Option, Some, None, Ok, Err}
 use Rattle.std.specs.List.{list_any}
-use Rattle.std.proofs.Common.{refl, sym, ap, ◌∙◌, subst, arith, append_assoc}
+use Rattle.std.proofs.Common.{refl, sym, ap, ◌∙◌, subst, arith, append_assoc, inl, inr}
 use Rattle.std.proofs.lemmas.List.{append-nil}
 use Rattle.xs_resp.specs.declared.fault.Fault.{Fault}
-use Rattle.xs_resp.specs.declared.fault.Fault.TheVariants.{Protocol}
+use Rattle.xs_resp.specs.declared.fault.Fault.TheVariants.{Protocol, Memory}
 use Rattle.xs_resp.specs.declared.read_fault.ProtocolFault.{ProtocolFault}
 use Rattle.xs_resp.specs.declared.read_fault.ProtocolFault.TheVariants.{Shape}
 use Rattle.xs_resp.specs.declared.reply.Reply.{Reply}
@@ -20,9 +20,11 @@ use Rattle.xs_command.specs.Examples.{line}
 use Rattle.xs_command.proofs.Computing.{example_functions}
 use Rattle.xs_session.specs.declared.ending.Ending.{Ending}
 use Rattle.xs_session.specs.declared.ending.Ending.TheVariants as ending
+use Rattle.xs_connection.specs.declared.standing.Standing.{Standing}
+use Rattle.xs_session.specs.declared.manner.Manner.TheVariants.{Plain}
 use Rattle.xs_session.specs.Answers.{Taken, Asks, Says, IsTaken, AreTaken, asked_of, answers_to, quits, has_quit}
 use Rattle.xs_session.specs.Session.{Goes, texts}
-use Rattle.xs_session.specs.Examples.{ping, len}
+use Rattle.xs_session.specs.Examples.{ping, len, anyone}
 use Rattle.xs_session.specs.ExamplesSessions.{bytes_of_ping, bytes_of_len, bytes_of_get}
 use Rattle.xs_session.proofs.Answering.{asked-more}
 use Rattle.xs_session.proofs.ReadOnce.{BeginsNone, fault-begins, read-once}
@@ -57,42 +59,48 @@ error-first fault others begun places byte more is e =
     let whole : text (Error fault) ++ first.1 ≡ byte ∷ more = ap (λ r. text r ++ first.1) reply ∙ first.3 in cc
 
 -- a session that goes on and holds nothing has taken all requests that were read
-taken-are : (read front rest : List ℕ) (requests known : List (List (List ℕ))) (taken : List Taken) → SpellsAll front requests → AreTaken requests taken → SpellsAll read known → read ≡ front ++ rest → Goes None taken rest (Ok [])
-    → AreTaken known taken
-taken-are read front rest requests known taken spelled are all is goes =
+taken-are : (first last : Standing) (read front rest : List ℕ) (requests known : List (List (List ℕ))) (taken : List Taken) → SpellsAll front requests → AreTaken Plain first requests taken last → SpellsAll read known → read ≡ front ++ rest
+    → Goes None taken rest (Ok []) → AreTaken Plain first known taken last
+taken-are first last read front rest requests known taken spelled are all is goes =
     let none : [] ≡ rest = cc in
     let once = read-once front rest read [] requests known spelled (subst BeginsNone none nothing-begins) all nothing-begins (sym is ∙ sym (append-nil read)) in
-    subst (λ r. AreTaken r taken) once.0 are
+    subst (λ r. AreTaken Plain first r taken last) once.0 are
 
-one-of : (taken : List Taken) (word : List ℕ) (words : List (List ℕ)) → AreTaken ((word ∷ words) ∷ []) taken → (first : Taken) × (taken ≡ first ∷ []) × IsTaken (word ∷ words) first
-one-of taken word words (first, others, is, so, none) = (first, is ∙ ap (λ o. first ∷ o) none, so)
+one-of : (a b : Standing) (taken : List Taken) (word : List ℕ) (words : List (List ℕ)) → AreTaken Plain a ((word ∷ words) ∷ []) taken b
+    → (first : Taken) × (next : Standing) × (taken ≡ first ∷ []) × IsTaken Plain a (word ∷ words) first next
+one-of a b taken word words (first, others, next, is, so, none) = (first, next, is ∙ ap (λ o. first ∷ o) none.0, so)
 
-both-of : (taken : List Taken) (word name : List ℕ) (words names : List (List ℕ)) → AreTaken ((word ∷ words) ∷ (name ∷ names) ∷ []) taken
-    → (first : Taken) × (second : Taken) × (taken ≡ first ∷ second ∷ []) × IsTaken (word ∷ words) first × IsTaken (name ∷ names) second
-both-of taken word name words names (first, others, is, so, rest) =
-    let last = one-of others name names rest in (first, last.0, is ∙ ap (λ o. first ∷ o) last.1, so, last.2)
+both-of : (a b : Standing) (taken : List Taken) (word name : List ℕ) (words names : List (List ℕ)) → AreTaken Plain a ((word ∷ words) ∷ (name ∷ names) ∷ []) taken b
+    → (first : Taken) × (second : Taken) × (next : Standing) × (then : Standing) × (taken ≡ first ∷ second ∷ []) × IsTaken Plain a (word ∷ words) first next × IsTaken Plain next (name ∷ names) second then
+both-of a b taken word name words names (first, others, next, is, so, rest) =
+    let last = one-of next b others name names rest in (first, last.0, next, last.1, is ∙ ap (λ o. first ∷ o) last.2, so, last.3)
+
+-- what is said at once is an error
+says-error : (a b : Standing) (words : List (List ℕ)) (reply : Reply) → IsTaken Plain a words (Says reply) b → (fault : Fault) × (reply ≡ Error fault)
+says-error a b words reply (inl (fault, is, said)) = (fault, said.0)
+says-error a b words reply (inr (memory, same)) = (Memory, memory)
 
 -- nothing is asked of what is no request yet
-none-asked : (read front rest : List ℕ) (requests : List (List (List ℕ))) (taken : List Taken) → BeginsNone read → SpellsAll front requests → AreTaken requests taken → read ≡ front ++ rest → ping ∷ [] ≡ asked_of taken → ⊥
-none-asked read front rest [] taken begins none are is asked = let never : ping ∷ [] ≡ [] = asked ∙ ap asked_of are in cc
-none-asked read front rest (words ∷ requests) taken begins (first, others, split, s, all) are is asked = begins first (others ++ rest) words (is ∙ ap (λ f. f ++ rest) split ∙ append_assoc first others rest) s
+none-asked : (a b : Standing) (read front rest : List ℕ) (requests : List (List (List ℕ))) (taken : List Taken) → BeginsNone read → SpellsAll front requests → AreTaken Plain a requests taken b → read ≡ front ++ rest → ping ∷ [] ≡ asked_of taken → ⊥
+none-asked a b read front rest [] taken begins none are is asked = let never : ping ∷ [] ≡ [] = asked ∙ ap asked_of are.0 in cc
+none-asked a b read front rest (words ∷ requests) taken begins (first, others, split, s, all) are is asked = begins first (others ++ rest) words (is ∙ ap (λ f. f ++ rest) split ∙ append_assoc first others rest) s
 
 one-asked : (first : Taken) → ping ∷ ping ∷ [] ≡ asked_of (first ∷ []) → ⊥
 one-asked (Asks command) asked = cc
-one-asked (Says fault) asked = cc
+one-asked (Says reply) asked = cc
 
-overtakes : (first second : Taken) (begun : List Reply) (places : List (Option Reply)) (byte : ℕ) (more : List ℕ) → IsTaken (line (codes "GET k")) second → ping ∷ [] ≡ asked_of (first ∷ second ∷ [])
+overtakes : (a b : Standing) (first second : Taken) (begun : List Reply) (places : List (Option Reply)) (byte : ℕ) (more : List ℕ) → IsTaken Plain a (line (codes "GET k")) second b → ping ∷ [] ≡ asked_of (first ∷ second ∷ [])
     → answers_to (first ∷ second ∷ []) [] ≡ map Some begun ++ places → texts begun ≡ byte ∷ more → ⊥
 unfolding example_functions
-overtakes (Asks command) (Asks other) begun places byte more so asked answers sent = cc
-overtakes (Asks command) (Says fault) begun places byte more so asked answers sent = waits (Some (Error fault) ∷ []) begun places byte more answers sent
-overtakes (Says fault) (Asks command) begun places byte more so asked answers sent = cc
-overtakes (Says fault) (Says other) begun places byte more so asked answers sent = cc
+overtakes a b (Asks command) (Asks other) begun places byte more so asked answers sent = let never = so.1 in cc
+overtakes a b (Asks command) (Says reply) begun places byte more so asked answers sent = waits (Some reply ∷ []) begun places byte more answers sent
+overtakes a b (Says reply) (Asks command) begun places byte more so asked answers sent = let never = so.1 in cc
+overtakes a b (Says reply) (Says other) begun places byte more so asked answers sent = cc
 
-error-overtakes : (first : Taken) (fault : Fault) (begun : List Reply) (places : List (Option Reply)) (byte : ℕ) (more : List ℕ) → ping ∷ [] ≡ asked_of (first ∷ [])
-    → answers_to (first ∷ Says fault ∷ []) [] ≡ map Some begun ++ places → texts begun ≡ byte ∷ more → ⊥
-error-overtakes (Asks command) fault begun places byte more asked answers sent = waits (Some (Error fault) ∷ []) begun places byte more answers sent
-error-overtakes (Says other) fault begun places byte more asked answers sent = cc
+error-overtakes : (first : Taken) (reply : Reply) (begun : List Reply) (places : List (Option Reply)) (byte : ℕ) (more : List ℕ) → ping ∷ [] ≡ asked_of (first ∷ [])
+    → answers_to (first ∷ Says reply ∷ []) [] ≡ map Some begun ++ places → texts begun ≡ byte ∷ more → ⊥
+error-overtakes (Asks command) reply begun places byte more asked answers sent = waits (Some reply ∷ []) begun places byte more answers sent
+error-overtakes (Says other) reply begun places byte more asked answers sent = cc
 
 in-order : (first second : Taken) (begun : List Reply) (places : List (Option Reply)) (byte : ℕ) (more : List ℕ) → ping ∷ len ∷ [] ≡ asked_of (first ∷ second ∷ [])
     → answers_to (first ∷ second ∷ []) (Simple Pong ∷ Int 2 ∷ []) ≡ map Some begun ++ places → texts begun ≡ byte ∷ more → 43 ≡ byte
@@ -101,25 +109,29 @@ in-order (Asks command) (Asks other) begun places byte more asked answers sent =
     let first = sent-first (Some (Simple Pong)) (Some (Int 2) ∷ []) begun places byte more answers sent in
     let reply : Simple Pong ≡ first.0 = cc in
     let whole : text (Simple Pong) ++ first.1 ≡ byte ∷ more = ap (λ r. text r ++ first.1) reply ∙ first.3 in cc
-in-order (Asks command) (Says fault) begun places byte more asked answers sent = cc
-in-order (Says fault) (Asks command) begun places byte more asked answers sent = cc
-in-order (Says fault) (Says other) begun places byte more asked answers sent = cc
+in-order (Asks command) (Says reply) begun places byte more asked answers sent = cc
+in-order (Says reply) (Asks command) begun places byte more asked answers sent = cc
+in-order (Says reply) (Says other) begun places byte more asked answers sent = cc
 
-left-out : (first second : Taken) (begun : List Reply) (places : List (Option Reply)) (byte : ℕ) (more : List ℕ) → IsTaken (line (codes "PING")) first → len ∷ [] ≡ asked_of (first ∷ second ∷ [])
+left-out : (a b : Standing) (first second : Taken) (begun : List Reply) (places : List (Option Reply)) (byte : ℕ) (more : List ℕ) → IsTaken Plain a (line (codes "PING")) first b → len ∷ [] ≡ asked_of (first ∷ second ∷ [])
     → answers_to (first ∷ second ∷ []) (Int 2 ∷ []) ≡ map Some begun ++ places → texts begun ≡ byte ∷ more → 45 ≡ byte
 unfolding example_functions
-left-out (Asks command) second begun places byte more so asked answers sent = let is : ping ≡ command = cc in cc
-left-out (Says fault) second begun places byte more so asked answers sent = error-first fault (answers_to (second ∷ []) (Int 2 ∷ [])) begun places byte more answers sent
+left-out a b (Asks command) second begun places byte more so asked answers sent = let said = so.1 in let is : ping ≡ command = cc in cc
+left-out a b (Says reply) second begun places byte more so asked answers sent =
+    let wrong = says-error a b (line (codes "PING")) reply so in
+    error-first wrong.0 (answers_to (second ∷ []) (Int 2 ∷ [])) begun places byte more (ap (λ r. Some r ∷ answers_to (second ∷ []) (Int 2 ∷ [])) (sym wrong.1) ∙ answers) sent
 
-invented : (first : Taken) (begun : List Reply) (places : List (Option Reply)) (byte : ℕ) (more : List ℕ) → [] ≡ asked_of (first ∷ [])
+invented : (a b : Standing) (words : List (List ℕ)) (first : Taken) (begun : List Reply) (places : List (Option Reply)) (byte : ℕ) (more : List ℕ) → IsTaken Plain a words first b → [] ≡ asked_of (first ∷ [])
     → answers_to (first ∷ []) [] ≡ map Some begun ++ places → texts begun ≡ byte ∷ more → 45 ≡ byte
-invented (Asks command) begun places byte more asked answers sent = cc
-invented (Says fault) begun places byte more asked answers sent = error-first fault [] begun places byte more answers sent
+invented a b words (Asks command) begun places byte more so asked answers sent = cc
+invented a b words (Says reply) begun places byte more so asked answers sent =
+    let wrong = says-error a b words reply so in
+    error-first wrong.0 [] begun places byte more (ap (λ (r : Reply). Some r ∷ []) (sym wrong.1) ∙ answers) sent
 
 -- a QUIT that was asked is among what was taken
 no-quit : (taken : List Taken) (more : List Command) → has_quit taken ≡ false → Quit ∷ more ≡ asked_of taken → ⊥
 no-quit [] more none asked = cc
-no-quit (Says fault ∷ taken) more none asked = no-quit taken more none asked
+no-quit (Says reply ∷ taken) more none asked = no-quit taken more none asked
 no-quit (Asks command ∷ taken) more none asked =
     let is : Quit ≡ command = cc in
     let never : (true || list_any quits taken) ≡ false = subst (λ b. (b || list_any quits taken) ≡ false) (ap (λ c. quits (Asks c)) (sym is)) none in cc
@@ -159,30 +171,30 @@ ping-get-spelled = (_, _, refl, spelled-ping, (_, _, refl, spelled-get, refl))
 pub returns : goal.returns
 returns c = record {
   error_before_an_open_reply = λ places owed after.
-      let both = both-of after.taken (codes "PING") (codes "GET") [] (codes "k" ∷ []) (taken-are _ after.front after.rest after.requests (line (codes "PING") ∷ line (codes "GET k") ∷ []) after.taken after.spelled after.are_taken ping-get-spelled after.read_is after.goes) in
-      overtakes both.0 both.1 after.begun places _ _ both.4 (after.asked_is ∙ ap asked_of both.2) (sym (ap (λ t. answers_to (t ++ []) []) both.2) ∙ after.answers) after.sent_is;
+      let both = both-of after.first anyone after.taken (codes "PING") (codes "GET") [] (codes "k" ∷ []) (taken-are after.first anyone _ after.front after.rest after.requests (line (codes "PING") ∷ line (codes "GET k") ∷ []) after.taken after.spelled after.are_taken ping-get-spelled after.read_is after.goes) in
+      overtakes both.2 both.3 both.0 both.1 after.begun places _ _ both.6 (after.asked_is ∙ ap asked_of both.4) (sym (ap (λ t. answers_to (t ++ []) []) both.4) ∙ after.answers) after.sent_is;
   protocol_error_before_an_open_reply = λ places owed after.
       let once = read-once after.front after.rest bytes_of_ping (codes "x") after.requests (line (codes "PING") ∷ []) after.spelled (fault-begins after.rest after.goes.1.0 after.goes.1.1) ping-spelled fault-stands (sym after.read_is) in
-      let one = one-of after.taken (codes "PING") [] (subst (λ r. AreTaken r after.taken) once.0 after.are_taken) in
-      error-overtakes one.0 Protocol after.begun places _ _ (after.asked_is ∙ ap asked_of one.1) (sym (ap (λ t. answers_to (t ++ Says Protocol ∷ []) []) one.1) ∙ after.answers) after.sent_is;
+      let one = one-of after.first anyone after.taken (codes "PING") [] (subst (λ r. AreTaken Plain after.first r after.taken anyone) once.0 after.are_taken) in
+      error-overtakes one.0 (Error Protocol) after.begun places _ _ (after.asked_is ∙ ap asked_of one.2) (sym (ap (λ t. answers_to (t ++ Says (Error Protocol) ∷ []) []) one.2) ∙ after.answers) after.sent_is;
   replies_in_another_order = λ places owed after.
-      let both = both-of after.taken (codes "PING") (codes "XLEN") [] (codes "k" ∷ []) (taken-are _ after.front after.rest after.requests (line (codes "PING") ∷ line (codes "XLEN k") ∷ []) after.taken after.spelled after.are_taken ping-len-spelled after.read_is after.goes) in
-      let never : 43 ≡ 58 = in-order both.0 both.1 after.begun places _ _ (after.asked_is ∙ ap asked_of both.2) (sym (ap (λ t. answers_to (t ++ []) (Simple Pong ∷ Int 2 ∷ [])) both.2) ∙ after.answers) after.sent_is in omega (arith, never);
+      let both = both-of after.first anyone after.taken (codes "PING") (codes "XLEN") [] (codes "k" ∷ []) (taken-are after.first anyone _ after.front after.rest after.requests (line (codes "PING") ∷ line (codes "XLEN k") ∷ []) after.taken after.spelled after.are_taken ping-len-spelled after.read_is after.goes) in
+      let never : 43 ≡ 58 = in-order both.0 both.1 after.begun places _ _ (after.asked_is ∙ ap asked_of both.4) (sym (ap (λ t. answers_to (t ++ []) (Simple Pong ∷ Int 2 ∷ [])) both.4) ∙ after.answers) after.sent_is in omega (arith, never);
   an_answer_left_out = λ places owed after.
-      let both = both-of after.taken (codes "PING") (codes "XLEN") [] (codes "k" ∷ []) (taken-are _ after.front after.rest after.requests (line (codes "PING") ∷ line (codes "XLEN k") ∷ []) after.taken after.spelled after.are_taken ping-len-spelled after.read_is after.goes) in
-      let never : 45 ≡ 58 = left-out both.0 both.1 after.begun places _ _ both.3 (after.asked_is ∙ ap asked_of both.2) (sym (ap (λ t. answers_to (t ++ []) (Int 2 ∷ [])) both.2) ∙ after.answers) after.sent_is in omega (arith, never);
+      let both = both-of after.first anyone after.taken (codes "PING") (codes "XLEN") [] (codes "k" ∷ []) (taken-are after.first anyone _ after.front after.rest after.requests (line (codes "PING") ∷ line (codes "XLEN k") ∷ []) after.taken after.spelled after.are_taken ping-len-spelled after.read_is after.goes) in
+      let never : 45 ≡ 58 = left-out after.first both.2 both.0 both.1 after.begun places _ _ both.5 (after.asked_is ∙ ap asked_of both.4) (sym (ap (λ t. answers_to (t ++ []) (Int 2 ∷ [])) both.4) ∙ after.answers) after.sent_is in omega (arith, never);
   an_answer_invented = λ places owed after.
-      let one = one-of after.taken (codes "PING") [] (taken-are _ after.front after.rest after.requests (line (codes "PING") ∷ []) after.taken after.spelled after.are_taken ping-spelled after.read_is after.goes) in
-      let never : 45 ≡ 43 = invented one.0 after.begun places _ _ (after.asked_is ∙ ap asked_of one.1) (sym (ap (λ t. answers_to (t ++ []) []) one.1) ∙ after.answers) after.sent_is in omega (arith, never);
+      let one = one-of after.first anyone after.taken (codes "PING") [] (taken-are after.first anyone _ after.front after.rest after.requests (line (codes "PING") ∷ []) after.taken after.spelled after.are_taken ping-spelled after.read_is after.goes) in
+      let never : 45 ≡ 43 = invented after.first one.1 (line (codes "PING")) one.0 after.begun places _ _ one.3 (after.asked_is ∙ ap asked_of one.2) (sym (ap (λ t. answers_to (t ++ []) []) one.2) ∙ after.answers) after.sent_is in omega (arith, never);
   an_answer_to_no_words = λ places owed after.
-      let none = taken-are (wire (codes "*0^")) after.front after.rest after.requests ([] ∷ []) after.taken after.spelled after.are_taken (_, _, refl, spelled-none, refl) after.read_is after.goes in
-      nothing-sent after.begun places _ _ (sym (ap (λ t. answers_to (t ++ []) []) none) ∙ after.answers) after.sent_is;
+      let none = taken-are after.first anyone (wire (codes "*0^")) after.front after.rest after.requests ([] ∷ []) after.taken after.spelled after.are_taken (_, _, refl, spelled-none, refl) after.read_is after.goes in
+      nothing-sent after.begun places _ _ (sym (ap (λ t. answers_to (t ++ []) []) none.0) ∙ after.answers) after.sent_is;
   a_reply_to_nothing = λ places after. omega (arith, after.fits);
   asked_twice = λ got sent places owed after.
-      let one = one-of after.taken (codes "PING") [] (taken-are _ after.front after.rest after.requests (line (codes "PING") ∷ []) after.taken after.spelled after.are_taken ping-spelled after.read_is after.goes) in
-      one-asked one.0 (after.asked_is ∙ ap asked_of one.1);
+      let one = one-of after.first anyone after.taken (codes "PING") [] (taken-are after.first anyone _ after.front after.rest after.requests (line (codes "PING") ∷ []) after.taken after.spelled after.are_taken ping-spelled after.read_is after.goes) in
+      one-asked one.0 (after.asked_is ∙ ap asked_of one.2);
   asked_behind_a_quit = λ ended held got sent places owed after. behind-quit ended after.taken after.rest held after.goes after.asked_is;
-  part_of_a_request_asked = λ held got sent places owed after. none-asked _ after.front after.rest after.requests after.taken part-begins after.spelled after.are_taken after.read_is after.asked_is;
+  part_of_a_request_asked = λ held got sent places owed after. none-asked after.first anyone _ after.front after.rest after.requests after.taken part-begins after.spelled after.are_taken after.read_is after.asked_is;
   a_quit_that_ends_nothing = λ got sent places owed after. no-quit after.taken [] after.goes.1 after.asked_is;
   a_protocol_error_of_no_fault = λ got sent places owed after.
       let once = read-once after.front after.rest bytes_of_ping [] after.requests (line (codes "PING") ∷ []) after.spelled (fault-begins after.rest after.goes.1.0 after.goes.1.1) ping-spelled nothing-begins (sym after.read_is) in

@@ -3,6 +3,7 @@ use Rattle.std.specs.List.{list_any}
 use Rattle.std.proofs.lemmas.List.Folds.{list_any-append}
 use Rattle.xs_resp.specs.LeftToWrite.{bytes_left}
 use Rattle.xs_session.specs.Places.{fill_first, is_open, has_open}
+use Rattle.xs_session.specs.declared.manner.Manner.TheVariants.{Plain}
 use Rattle.xs_server.proofs.ConnectionTurns.{at-rest, takes-one, takes-none, leaves-one}
 use Rattle.xs_server.proofs.connections.serve.ask_next.Goals as goal
 
@@ -15,7 +16,7 @@ returns-in-Ok-clause-takes g c = λ rest r.
     let session = c.args.session.now in
     let command = c.in-Asks.call.command in
     let asked = c.in-Asks.ensures.turns rest [] [] [] (at-rest session rest r) in
-    let after = c.hand_in.ensures.after rest (command ∷ []) [] [] asked in
+    let after = c.hand_in.ensures.after Plain rest (command ∷ []) [] [] asked in
     let places = c.hand_in.ensures.places ∙ ap (fill_first c.in-Ok.reply) (c.in-Asks.ensures.places ∙ ap (λ p. p ++ None ∷ []) r.places) in
     takes-one g.P.Port.replies c.args.port.now c.ask_call.new.self rest (command ∷ []) (c.in-Ok.reply ∷ []) c.hand_in.new.self after
     (ap bytes_left (c.hand_in.ensures.owed ∙ c.in-Asks.ensures.owed) ∙ r.owed) (c.ask_call.new.self, c.in-Ok.ensures.asked, refl) (omega (arith, ap length places))

@@ -1,6 +1,9 @@
-use Rattle.std.proofs.Common.{length}
+use Rattle.std.proofs.Common.{length, subst, sym}
 use Rattle.xs_resp.specs.LeftToWrite.{bytes_left}
+use Rattle.xs_connection.specs.declared.standing.Standing.{Standing}
 use Rattle.xs_session.specs.declared.session.Session.{Session}
+use Rattle.xs_session.specs.Answers.{Asks, IsTaken}
+use Rattle.xs_session.specs.Session.{SessionIsAfter}
 use Rattle.xs_session.proofs.OpenCommands.{open-same}
 use Rattle.xs_session.proofs.SessionTurns.{session-asked, turn-says, turn-skips}
 use Rattle.xs_session.proofs.Tests.{empty-none, empty-some}
@@ -17,16 +20,21 @@ returns-then-is_empty-clause-turns c = λ read asked got sent s.
 
 pub returns-in-Ok-clause-turns : goal.returns-in-Ok-clause-turns
 returns-in-Ok-clause-turns c = λ read asked got sent s.
+    let manner = c.args.manner.now in
     let words = c.front-words.result in
-    let session : Session = record c.args.self.now { reserve = c.take_request.new.reserve; standing = c.take_request.new.standing } in
-    session-asked c.args.manner.now read asked got sent session c.ask.new.self c.in-Ok.call c.ask.result words c.requires.going c.requires.several c.front-words.ensures
-    (empty-some words c.is_empty.result c.is_empty.ensures c.if-is_empty.false) c.in-Ok.ensures.taken c.ask.ensures.owed c.ask.ensures.asks s
+    let now = c.take_request-taken.new.standing in
+    let session : Session = record c.args.self.now { reserve = c.take_request-taken.new.reserve; standing = now } in
+    let taken = c.in-Ok.ensures.taken in
+    session-asked manner read asked got sent session c.ask.new.self c.in-Ok.call c.ask.result words c.requires.going c.requires.several c.front-words.ensures
+    (empty-some words c.is_empty.result c.is_empty.ensures c.if-is_empty.false)
+    (subst (λ (o : Standing). IsTaken manner o words (Asks c.in-Ok.call.command) now) (sym taken.2) taken) c.ask.ensures.owed c.ask.ensures.asks
+    (subst (λ (o : Standing). SessionIsAfter manner read asked got sent (record c.args.self.now { reserve = c.take_request-taken.new.reserve; standing = o })) (sym taken.2) s)
 
 pub returns-in-Err-clause-turns : goal.returns-in-Err-clause-turns
 returns-in-Err-clause-turns c = λ read asked got sent s.
     let session = c.args.self.now in
     let words = c.front-words.result in (
-      turn-says c.args.manner.now session.standing read asked got sent c.take_request.new.standing session.ended session.requests c.skip-in-Err.new.self session.places c.say.new.self (bytes_left session.owed) words c.in-Err.reply c.requires.going s.0 c.front-words.ensures c.skip-in-Err.ensures
+      turn-says c.args.manner.now session.standing read asked got sent c.take_request-taken.new.standing session.ended session.requests c.skip-in-Err.new.self session.places c.say.new.self (bytes_left session.owed) words c.in-Err.reply c.requires.going s.0 c.front-words.ensures c.skip-in-Err.ensures
           (empty-some words c.is_empty.result c.is_empty.ensures c.if-is_empty.false) c.in-Err.ensures.taken c.say.ensures,
       open-same session.alone (length got) asked s.1,
     )
