@@ -39,6 +39,10 @@ pub record GateTrace : Type 0 where
 abbrev pub new_gate : Manner → GateTrace
 new_gate manner = record { manner = manner; given = []; returned = []; is_over = false }
 
+-- one whose connections are answered so
+abbrev pub with_manner : Manner → GateTrace → GateTrace
+with_manner manner gate = record gate { manner = manner }
+
 -- this one is given too
 abbrev pub with_given : GateTrace → Seen → GateTrace
 with_given gate one = record gate { given = gate.given ++ one ∷ [] }

@@ -1,8 +1,8 @@
 //! The program's command `run`: a server that stays.
-ghost use Rattle.std.specs.Prelude.{◌≡◌, None, false, length, map, All, IfOk, IfErr};
+ghost use Rattle.std.specs.Prelude.{◌≡◌, None, length, All, IfOk, IfErr};
 ghost use Rattle.xs_session.specs.declared.manner.Manner.TheVariants as manner;
 ghost use Rattle.xs_server.specs.Gates.{new_gate};
-ghost use Rattle.xs_server.specs.WorkOutcome.{HasServed, IsClosed};
+ghost use Rattle.xs_server.specs.WorkOutcome.{HasServed};
 
 use crate::announcement::Announcement;
 use crate::command_line::RunOptions;
@@ -16,7 +16,7 @@ use crate::serve_command::DEPTH;
 use crate::version::VERSION;
 use crate::wall_clock::WallClock;
 use crate::work::gate::Gate;
-use crate::work::working::{WorkFailed, WorkOutcome, work_with};
+use crate::work::working::work_with;
 use std::alloc::{Alloc, AllocError, Global};
 use std::fs::Files;
 use std::io;
@@ -182,21 +182,8 @@ pub fn run_server<
         Ok(ready) => ready,
         Err(status) => return status,
     };
-    let worked = work_over(rt, alloc, gates, patience);
+    let worked = work_with(rt, alloc, gates, DEPTH, WallClock::new(*rt), patience);
     report_worked(errors, &worked)
-}
-
-/// Works over the gates of a server that stays.
-fn work_over<R: Threads + Wait + Clock + Copy + Send + Drop + 'static>(
-    rt: &R,
-    alloc: Global,
-    gates: Vec<RunGate<R>>,
-    patience: Patience<R>,
-) -> Result<WorkOutcome<RunGate<R>>, WorkFailed<RunGate<R>>>
-    ensures closed { IfOk result (λ outcome. IsClosed false (map ⟦<RunGate<R> as Gate>⟧.trace gates.items)
-        (map ⟦<RunGate<R> as Gate>⟧.trace outcome.gates.items) outcome.summary) }
-{
-    work_with(rt, alloc, gates, DEPTH, WallClock::new(*rt), patience)
 }
 
 fn hall_of(alloc: Global, room: u64, workers: u64) -> Result<Arc<Hall>, AllocError> {

@@ -45,7 +45,7 @@ impl<S: Wait + Copy + Send + Drop> RunGate<S> {
             hall,
             announcement,
             idle,
-            register: Register::new(Manner::Full(None)),
+            register: Register::new(),
         })
     }
 }
@@ -95,10 +95,14 @@ impl<S: Wait + Copy + Send + Drop> Gate for RunGate<S> {
 
     type Writer = ToWrite<Outgoing<S>>;
 
-    ghost trace = { λ g. g.register };
+    ghost use Rattle.std.specs.Prelude.{None};
+    ghost use Rattle.xs_session.specs.declared.manner.Manner.TheVariants.{Full};
+    ghost use Rattle.xs_server.specs.Gates.{with_manner};
 
-    fn manner(&self) -> &Manner {
-        self.register.manner()
+    ghost trace = { λ g. with_manner (Full None) g.register };
+
+    fn manner(&self) -> Manner {
+        Manner::Full(None)
     }
 
     fn open_next<R: Wait>(&mut self, rt: &R) -> Result<Option<Halves<S>>, GateFault> {

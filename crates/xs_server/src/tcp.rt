@@ -56,7 +56,7 @@ impl<S: Clock + Wait + Copy + Send + Drop> TcpGate<S> {
             listener,
             announcement,
             left: count,
-            register: Register::new(Manner::Plain),
+            register: Register::new(),
         })
     }
 }
@@ -125,10 +125,13 @@ impl<S: Clock + Wait + Copy + Send + Drop> Gate for TcpGate<S> {
 
     type Writer = ToWrite<Outgoing<S>>;
 
-    ghost trace = { λ g. g.register };
+    ghost use Rattle.xs_session.specs.declared.manner.Manner.TheVariants.{Plain};
+    ghost use Rattle.xs_server.specs.Gates.{with_manner};
 
-    fn manner(&self) -> &Manner {
-        self.register.manner()
+    ghost trace = { λ g. with_manner Plain g.register };
+
+    fn manner(&self) -> Manner {
+        Manner::Plain
     }
 
     fn open_next<R: Wait>(&mut self, _rt: &R) -> Result<Option<Halves<S>>, GateFault> {

@@ -386,9 +386,11 @@ module _ (manner : Manner) (read : List ℕ) (asked : List Command) (got : List 
       let after = turn-asks manner old.standing read asked got sent old.standing old.ended new.ended old.requests new.requests old.places new.places (bytes_left old.owed) words call.command going s.0 are asks.skips some is asks.places asks.ended in
       let waiting = open-more new.alone (length got) asked call.command s.0.fits (subst (λ (b : Bool). MayBeOpen b (drop (length got) asked)) several s.1) asks.alone
       (λ alone. session-closed old s (ap has_open (asks.gathered alone).0)) in
-      subst (λ (t : Turn). SessionIsAfter manner read (asked ++ asked_in t) got sent new) (sym asks.asks)
-      (subst (λ (o : List ℕ). IsAfter manner new.standing read (asked ++ call.command ∷ []) got sent new.ended new.requests new.places o) (sym (ap bytes_left owed))
-      (subst (λ (n : Standing). IsAfter manner n read (asked ++ call.command ∷ []) got sent new.ended new.requests new.places (bytes_left old.owed)) (sym asks.standing) after), waiting)
+      subst (λ (t : Turn). SessionIsAfter manner read (asked ++ asked_in t) got sent new) (sym asks.asks) (
+        subst (λ (o : List ℕ). IsAfter manner new.standing read (asked ++ call.command ∷ []) got sent new.ended new.requests new.places o) (sym (ap bytes_left owed))
+            (subst (λ (n : Standing). IsAfter manner n read (asked ++ call.command ∷ []) got sent new.ended new.requests new.places (bytes_left old.owed)) (sym asks.standing) after),
+        waiting,
+      )
   session-asked old new call turn words going several are some is owed (inr (full, same)) s =
       subst (λ (t : Turn). SessionIsAfter manner read (asked ++ asked_in t) got sent new) (sym full)
       (subst (λ (a : List Command). SessionIsAfter manner read a got sent new) (sym (append-nil asked))

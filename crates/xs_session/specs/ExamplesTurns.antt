@@ -33,7 +33,7 @@ pub record Turns : Type 0 where
 
 -- whatever sessions these are
 pub record TurnsOfSessions : Type 0 where
-  pub begins_with_nothing : 
+  pub begins_with_nothing :
       (manner : Manner) (session : Session) → IsNew manner session → SessionIsAfter manner [] [] [] [] session
   pub an_open_reply_is_not_gathered : (session : Session) → session.places ≡ None ∷ [] → IsGathered session → ⊥
   pub a_read_beside_others :

@@ -14,6 +14,7 @@ use std::sync::{Arc, Wait};
 use std::thread::Threads;
 use xs_desk::{DeskError, LaneSummary, Summary};
 use xs_devices::{Failed, Sink, Source};
+use xs_session::Manner;
 use xs_stream::Moment;
 
 /// How often a reader looks whether it may give more.
@@ -119,10 +120,13 @@ impl Gate for Scripted {
 
     type Writer = Outgoing;
 
-    ghost trace = { λ g. g.register };
+    ghost use Rattle.xs_session.specs.declared.manner.Manner.TheVariants.{Plain};
+    ghost use Rattle.xs_server.specs.Gates.{with_manner};
 
-    fn manner(&self) -> &Manner {
-        self.register.manner()
+    ghost trace = { λ g. with_manner Plain g.register };
+
+    fn manner(&self) -> Manner {
+        Manner::Plain
     }
 
     fn open_next<R: Wait>(&mut self, _rt: &R) -> Result<Option<(Incoming, Outgoing)>, GateFault> {
@@ -191,14 +195,14 @@ fn work_over<R: Threads + Wait + Copy + Send + 'static>(
         refuses: false,
         counted: Arc::try_clone(&counted)?,
         awaited: Arc::try_clone(&counted_there)?,
-        register: Register::new(Manner::Plain),
+        register: Register::new(),
     })?;
     gates.push(Scripted {
         connections: other,
         refuses: other_refuses,
         counted: Arc::try_clone(&counted_there)?,
         awaited: Arc::try_clone(&counted)?,
-        register: Register::new(Manner::Plain),
+        register: Register::new(),
     })?;
     let worked = match work(rt, alloc, gates, 16, still()) {
         Ok(outcome) => Ok(outcome.summary),

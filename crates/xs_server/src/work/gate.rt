@@ -27,8 +27,8 @@ pub trait Gate {
     ghost trace: { Self → GateTrace };
 
     /// Which commands its connections are answered by their sessions.
-    fn manner(&self) -> &Manner
-        ensures { result.now ≡ (trace self.now).manner };
+    fn manner(&self) -> Manner
+        ensures { result ≡ (trace self.now).manner };
 
     /// The next connection, or None after the last. It may wait. Nothing of another connection is left in it.
     ///

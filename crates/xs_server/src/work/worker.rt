@@ -103,7 +103,7 @@ fn serve_gate<G: Gate, P: Pause, R: Wait>(
         };
         let served = serve_one(
             rt,
-            gate.manner(),
+            &gate.manner(),
             memory,
             &mut reader,
             &mut writer,

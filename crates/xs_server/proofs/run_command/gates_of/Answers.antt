@@ -3,7 +3,7 @@ use Rattle.std.specs.List.{All}
 use Rattle.std.proofs.lemmas.List.Elements.{All-push}
 use Rattle.xs_server.specs.declared.run_gate.RunGate.{RunGate}
 use Rattle.xs_session.specs.declared.manner.Manner.TheVariants.{Full}
-use Rattle.xs_server.specs.Gates.{new_gate}
+use Rattle.xs_server.specs.Gates.{new_gate, with_manner}
 use Rattle.xs_server.proofs.run_command.gates_of.Goals as goal
 
 pub loop-worker-preserved : goal.loop-worker-preserved
@@ -12,7 +12,7 @@ loop-worker-preserved g c =
     let before = c.loop-worker.gates.items in
     let gate = c.in_ok-gate.gate in
     let pushed = c.in_ok-push.ensures in
-    let IsNew : RunGate g.row.S.Denot → Type 0 = λ one. one.register ≡ new_gate (Full None) in
+    let IsNew : RunGate g.row.S.Denot → Type 0 = λ one. with_manner (Full None) one.register ≡ new_gate (Full None) in
     record {
       count = omega (arith, ap length pushed.items, length-append before (gate ∷ []), inv.count);
       new = subst (λ (gates : List (RunGate g.row.S.Denot)). All IsNew gates) (sym pushed.items) (All-push IsNew before gate inv.new c.in_ok-gate.ensures);
