@@ -5,7 +5,7 @@ use Rattle.std.proofs.lemmas.List.{length-map, append-nil}
 use Rattle.std.proofs.lemmas.List.Concat.{flat_map-append}
 use Rattle.std.specs.List.{flat_map}
 use Rattle.xs_resp.specs.declared.reply.Reply.{Reply}
-use Rattle.xs_resp.specs.declared.reply.Reply.TheVariants.{Simple, Error, ErrorText, Int, Bulk, NullBulk, Array, NullArray}
+use Rattle.xs_resp.specs.declared.reply.Reply.TheVariants.{Simple, Error, ErrorText, Int, Bulk, NullBulk, Array, Opening, NullArray}
 use Rattle.xs_resp.specs.Token as token
 use Rattle.xs_resp.specs.Items.{Items}
 use Rattle.xs_resp.specs.ReplyItems.{tokens_of, items_of}
@@ -36,6 +36,7 @@ one-item (Int n) whole = tt
 one-item (Bulk bytes) whole = tt
 one-item NullBulk whole = tt
 one-item (Array items) whole = so-many items.count (items.count + 0) items.tokens (omega arith) whole
+one-item (Opening n) whole = absurd whole
 one-item NullArray whole = tt
 
 pub items-whole : (rs : List Reply) → AreWhole rs → AreItems (length rs) (flat_map tokens_of rs)

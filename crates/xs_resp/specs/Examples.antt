@@ -7,7 +7,7 @@ use Rattle.xs_resp.specs.declared.fault.Fault.TheVariants.{SmallId, Exhausted, N
 use Rattle.xs_resp.specs.declared.fault.Fault.TheVariants.{Unsupported, Memory, Protocol}
 use Rattle.xs_resp.specs.declared.reply.Simple.TheVariants.{Okay, Pong, Stream, Nothing, Reset, Queued}
 use Rattle.xs_resp.specs.declared.reply.Reply.{Reply}
-use Rattle.xs_resp.specs.declared.reply.Reply.TheVariants.{Simple, Error, ErrorText, Int, Bulk, NullBulk, Array, NullArray}
+use Rattle.xs_resp.specs.declared.reply.Reply.TheVariants.{Simple, Error, ErrorText, Int, Bulk, NullBulk, Array, Opening, NullArray}
 use Rattle.xs_resp.specs.ReplyItems.{items_of}
 use Rattle.xs_resp.specs.ReplyText.{text}
 use Rattle.xs_resp.specs.Token as token
@@ -38,6 +38,7 @@ pub record Replies : Type 0 where
   pub empty_bulk : text (Bulk []) ≡ wire (codes "$0^^")
   pub null_bulk : text NullBulk ≡ wire (codes "$-1^")
   pub null_array : text NullArray ≡ wire (codes "*-1^")
+  pub opening : text (Opening 2) ≡ wire (codes "*2^")
   pub empty_array : text (array []) ≡ wire (codes "*0^")
   pub two_bulks : text (array (Bulk (codes "hello") ∷ Bulk (codes "world") ∷ [])) ≡ wire (codes "*2^$5^hello^$5^world^")
   pub three_numbers : text (array (Int 1 ∷ Int 2 ∷ Int 3 ∷ [])) ≡ wire (codes "*3^:1^:2^:3^")

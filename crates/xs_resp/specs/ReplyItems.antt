@@ -2,7 +2,7 @@
 use Rattle.std.specs.Prelude.{List, [], ◌∷◌, length}
 use Rattle.std.specs.List.{flat_map}
 use Rattle.xs_resp.specs.declared.reply.Reply.{Reply}
-use Rattle.xs_resp.specs.declared.reply.Reply.TheVariants.{Simple, Error, ErrorText, Int, Bulk, NullBulk, Array, NullArray}
+use Rattle.xs_resp.specs.declared.reply.Reply.TheVariants.{Simple, Error, ErrorText, Int, Bulk, NullBulk, Array, Opening, NullArray}
 use Rattle.xs_resp.specs.Token as token
 use Rattle.xs_resp.specs.Items.{Items}
 
@@ -15,6 +15,7 @@ tokens_of (Int n) = token.Int n ∷ []
 tokens_of (Bulk bytes) = token.Bulk bytes ∷ []
 tokens_of NullBulk = token.NullBulk ∷ []
 tokens_of (Array items) = token.Array items.count ∷ items.tokens
+tokens_of (Opening n) = token.Array n ∷ []
 tokens_of NullArray = token.NullArray ∷ []
 
 -- the items of an array of these replies

@@ -40,6 +40,8 @@ pub enum Reply {
     NullBulk,
     /// An array.
     Array(Replies),
+    /// The header of an array of so many items, which are the replies behind it.
+    Opening(usize),
     /// The null array.
     NullArray,
 }

@@ -69,6 +69,7 @@ impl<'a> Sequence<'a> {
                     strings,
                 }
             }
+            Reply::Opening(count) => Self::single(Mark::Array(*count)),
             Reply::NullArray => Self::single(Mark::NullArray),
         }
     }

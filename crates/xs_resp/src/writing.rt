@@ -41,6 +41,7 @@ fn write_reply(reply: &Reply, out: &mut Vec<u8>) -> Result<(), AllocError>
         Reply::Bulk(bytes) => write_bulk(bytes.as_slice(), out),
         Reply::NullBulk => out.extend_from_slice(b"$-1\r\n"),
         Reply::Array(items) => write_items(items, out),
+        Reply::Opening(count) => write_line(b'*', *count as u64, out),
         Reply::NullArray => out.extend_from_slice(b"*-1\r\n"),
     }
 }
