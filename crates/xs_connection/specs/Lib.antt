@@ -1,0 +1,12 @@
+pub mod Reading
+pub mod Hello
+pub mod Client
+pub mod Others
+pub mod ConnectionName
+pub mod Read
+pub mod Unknown
+pub mod QueueRoom
+pub mod Transaction
+pub mod Password
+pub mod Standing
+pub mod Examples

@@ -1,0 +1,55 @@
+//! The commands of a connection itself, as values.
+
+use xs_bytes::Bytes;
+
+/// A user, if one is named, and its password.
+#[derive(Debug, Drop)]
+pub struct Login {
+    pub user: Option<Bytes>,
+    pub password: Bytes,
+}
+
+/// What HELLO asks for.
+#[derive(Debug, Drop)]
+pub struct HelloCommand {
+    pub login: Option<Login>,
+    /// A name for the connection.
+    pub name: Option<Bytes>,
+}
+
+/// A command of a connection itself.
+#[derive(Debug, Drop)]
+pub enum ConnectionCommand {
+    /// HELLO without a protocol, or with RESP2.
+    Hello(HelloCommand),
+    /// HELLO with another protocol.
+    OtherProtocol,
+    /// AUTH.
+    Auth(Login),
+    /// CLIENT SETNAME.
+    SetName(Bytes),
+    /// A name for the connection that is none.
+    BadName,
+    /// CLIENT GETNAME.
+    GetName,
+    /// CLIENT ID.
+    GetId,
+    /// CLIENT LIST.
+    List,
+    /// What is accepted and changes nothing: CLIENT SETINFO, SELECT 0 and UNWATCH.
+    Accept,
+    /// SELECT of another database.
+    OtherDatabase,
+    /// ECHO.
+    Echo(Bytes),
+    /// COMMAND and CONFIG GET, which list nothing.
+    ListNothing,
+    /// RESET.
+    Reset,
+    /// MULTI.
+    Multi,
+    /// EXEC.
+    Exec,
+    /// DISCARD.
+    Discard,
+}

@@ -1,0 +1,20 @@
+//! The commands of a connection itself: what their words say, and what they are answered. No keyspace is asked.
+#![tactic(auto)]
+
+pub mod command;
+pub mod examples;
+pub mod password;
+pub mod queue;
+mod read;
+mod read_client;
+pub mod standing;
+pub mod transaction;
+pub mod unknown;
+pub mod waiting;
+
+pub use command::{ConnectionCommand, HelloCommand, Login};
+pub use password::Password;
+pub use read::read_connection_command;
+pub use standing::Standing;
+pub use transaction::Transaction;
+pub use unknown::unknown_text;

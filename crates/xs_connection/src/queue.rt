@@ -1,0 +1,97 @@
+//! Requests that wait for EXEC, as far as there is room.
+ghost use Rattle.std.specs.Prelude.{◌≡◌, ◌<◌, ◌≤◌, ◌++◌, ◌∷◌, [], if◌then◌else◌, MatchOption, MatchResult};
+ghost use Rattle.xs_connection.specs.QueueRoom.{size_of, has_room};
+
+use crate::waiting::Waiting;
+use std::alloc::{AllocError, Global};
+use std::marker::Model;
+use xs_bytes::{Bytes, List};
+
+/// The most requests, and the most bytes of their words.
+const MOST_REQUESTS: usize = 1_024;
+
+const MOST_BYTES: usize = 1_048_576;
+
+/// Requests that wait for EXEC, by their words. A contract sees the list of them.
+#[derive(Drop)]
+pub struct Queue {
+    waiting: Waiting,
+    // How many bytes their words have.
+    size: usize,
+}
+
+impl Model for Queue {
+    ghost use Rattle.std.specs.Prelude.{◌≡◌, ◌≤◌, List, ℕ};
+    ghost use Rattle.xs_connection.specs.QueueRoom.{size_of_all};
+
+    ghost Value = { List (List (List ℕ)) };
+
+    ghost view = { λ q. q.waiting };
+
+    ghost invariant = { λ q. (q.size ≡ size_of_all q.waiting) × (q.size ≤ 1048576) };
+}
+
+/// How many bytes these words have, if that is no more than so many.
+fn size_within(words: &[Bytes], most: usize) -> Option<usize>
+    ensures { MatchOption result (most < size_of words.now) (λ size. (size ≡ size_of words.now) × (size ≤ most)) }
+{
+    let mut size = 0;
+    for word in words {
+        if word.len() > most - size {
+            return None;
+        }
+        size += word.len();
+    }
+    Some(size)
+}
+
+impl Queue {
+    ghost use Rattle.std.specs.Prelude.{◌≡◌, ◌++◌, ◌∷◌, [], length, if◌then◌else◌, MatchResult};
+    ghost use Rattle.xs_connection.specs.QueueRoom.{has_room};
+
+    /// None waits. It takes no memory.
+    pub fn new(alloc: Global) -> Self
+        ensures { result ≡ [] }
+    {
+        Self {
+            waiting: Waiting::new(alloc),
+            size: 0,
+        }
+    }
+
+    /// How many wait.
+    pub fn len(&self) -> usize
+        ensures { result ≡ length self.now }
+    {
+        self.waiting.len()
+    }
+
+    /// One more waits, if there is room for it. It says whether there was.
+    ///
+    /// # Errors
+    /// Out of memory: none more does.
+    pub fn push(&mut self, words: List<Bytes>) -> Result<bool, AllocError>
+        ensures { MatchResult result
+            (λ fits. (fits ≡ has_room self.old words)
+            × (self.new ≡ (if fits then self.old ++ words ∷ [] else self.old)))
+            (λ _. self.new ≡ self.old) }
+    {
+        if self.waiting.len() >= MOST_REQUESTS {
+            return Ok(false);
+        }
+        let Some(size) = size_within(words.as_slice(), MOST_BYTES - self.size) else {
+            return Ok(false);
+        };
+        self.waiting.push(words)?;
+        self.size += size;
+        Ok(true)
+    }
+
+    /// Those that wait, in their order.
+    pub fn into_waiting(self) -> Waiting
+        ensures { result ≡ self }
+    {
+        let Self { waiting, size: _ } = self;
+        waiting
+    }
+}
