@@ -1,4 +1,5 @@
 pub mod Answering
+pub mod PlainRequests
 pub mod OpenCommands
 pub mod Placing
 pub mod SessionTurns

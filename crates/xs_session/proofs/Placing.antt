@@ -1,10 +1,7 @@
 -- Places of answers.
 use Rattle.std.proofs.Common.{◌≡◌, ℕ, ◌+◌, ◌<◌, Bool, true, false, not, ◌==◌, List, [], ◌∷◌, ◌++◌, length, map, Option, Some, None}
-use Rattle.std.proofs.Common.{sym, ap, ◌∙◌, refl, arith}
-use Rattle.std.specs.Option.{option_map}
+use Rattle.std.proofs.Common.{sym, ap, ◌∙◌, refl, arith, append_assoc}
 use Rattle.xs_resp.specs.declared.reply.Reply.{Reply}
-use Rattle.xs_resp.specs.declared.reply.Reply.TheVariants.{Error}
-use Rattle.xs_resp.specs.declared.fault.Fault.{Fault}
 use Rattle.xs_session.specs.Places.{has_open, fill_first, places_of, IsSettled, NoneReady}
 
 -- what is begun waits for nothing
@@ -26,63 +23,56 @@ none-left [] none closed = refl
 none-left (Some reply ∷ places) none closed = absurd none
 none-left (None ∷ places) none closed = let e : true ≡ false = closed in cc
 
--- an error moves from behind to the front
-pub settles : (ready : List Reply) (fault : Fault) (behind : List (Option Fault)) → places_of (ready ++ Error fault ∷ []) behind ≡ places_of ready (Some fault ∷ behind)
-settles ready fault behind = sym (begun-more ready (map (option_map Error) behind) (Error fault))
+-- an answer moves from behind to the front
+pub settles : (ready : List Reply) (reply : Reply) (behind : List (Option Reply)) → places_of (ready ++ reply ∷ []) behind ≡ places_of ready (Some reply ∷ behind)
+settles ready reply behind = sym (begun-more ready behind reply)
 
 -- places with one more
-pub places-asked : (ready : List Reply) (behind : List (Option Fault)) → places_of ready (behind ++ None ∷ []) ≡ places_of ready behind ++ None ∷ []
-places-asked [] [] = refl
-places-asked [] (one ∷ behind) = ap (λ p. option_map Error one ∷ p) (places-asked [] behind)
-places-asked (reply ∷ ready) behind = ap (λ p. Some reply ∷ p) (places-asked ready behind)
-
-pub places-said : (ready : List Reply) (behind : List (Option Fault)) (fault : Fault) → places_of ready (behind ++ Some fault ∷ []) ≡ places_of ready behind ++ Some (Error fault) ∷ []
-places-said [] [] fault = refl
-places-said [] (one ∷ behind) fault = ap (λ p. option_map Error one ∷ p) (places-said [] behind fault)
-places-said (reply ∷ ready) behind fault = ap (λ p. Some reply ∷ p) (places-said ready behind fault)
+pub places-more : (ready : List Reply) (behind : List (Option Reply)) (one : Option Reply) → places_of ready (behind ++ one ∷ []) ≡ places_of ready behind ++ one ∷ []
+places-more ready behind one = sym (append_assoc (map Some ready) behind (one ∷ []))
 
 pub places-ready : (ready : List Reply) (reply : Reply) → places_of (ready ++ reply ∷ []) [] ≡ places_of ready [] ++ Some reply ∷ []
 places-ready [] reply = refl
 places-ready (other ∷ ready) reply = ap (λ p. Some other ∷ p) (places-ready ready reply)
 
 -- the first that is waited for has come
-pub places-filled : (ready : List Reply) (behind : List (Option Fault)) (reply : Reply) → places_of (ready ++ reply ∷ []) behind ≡ fill_first reply (places_of ready (None ∷ behind))
+pub places-filled : (ready : List Reply) (behind : List (Option Reply)) (reply : Reply) → places_of (ready ++ reply ∷ []) behind ≡ fill_first reply (places_of ready (None ∷ behind))
 places-filled [] behind reply = refl
 places-filled (other ∷ ready) behind reply = ap (λ p. Some other ∷ p) (places-filled ready behind reply)
 
 -- settled, something is waited for if anything is behind
-pub open-behind : (ready : List Reply) (behind : List (Option Fault)) → IsSettled behind → has_open (places_of ready behind) ≡ true → (others : List (Option Fault)) × (behind ≡ None ∷ others)
+pub open-behind : (ready : List Reply) (behind : List (Option Reply)) → IsSettled behind → has_open (places_of ready behind) ≡ true → (others : List (Option Reply)) × (behind ≡ None ∷ others)
 open-behind [] [] settled waits = let e : false ≡ true = waits in cc
 open-behind [] (None ∷ behind) settled waits = (behind, refl)
-open-behind [] (Some fault ∷ behind) settled waits = absurd settled
+open-behind [] (Some reply ∷ behind) settled waits = absurd settled
 open-behind (reply ∷ ready) behind settled waits = open-behind ready behind settled waits
 
-pub closed-behind : (ready : List Reply) (behind : List (Option Fault)) → IsSettled behind → 0 < length behind → has_open (places_of ready behind) ≡ true
+pub closed-behind : (ready : List Reply) (behind : List (Option Reply)) → IsSettled behind → 0 < length behind → has_open (places_of ready behind) ≡ true
 closed-behind [] [] settled some = absurd (omega (arith, some))
 closed-behind [] (None ∷ behind) settled some = refl
-closed-behind [] (Some fault ∷ behind) settled some = absurd settled
+closed-behind [] (Some reply ∷ behind) settled some = absurd settled
 closed-behind (reply ∷ ready) behind settled some = closed-behind ready behind settled some
 
 pub none-behind : (ready : List Reply) → has_open (places_of ready []) ≡ false
 none-behind [] = refl
 none-behind (reply ∷ ready) = none-behind ready
 
-pub places-length : (ready : List Reply) (behind : List (Option Fault)) → length (places_of ready behind) ≡ length ready + length behind
+pub places-length : (ready : List Reply) (behind : List (Option Reply)) → length (places_of ready behind) ≡ length ready + length behind
 places-length [] [] = refl
 places-length [] (one ∷ behind) = let e = places-length [] behind in omega (arith, e)
 places-length (reply ∷ ready) behind = let e = places-length ready behind in omega (arith, e)
 
-pub none-ready : (behind : List (Option Fault)) → IsSettled behind → NoneReady (places_of [] behind)
+pub none-ready : (behind : List (Option Reply)) → IsSettled behind → NoneReady (places_of [] behind)
 none-ready [] settled = tt
 none-ready (None ∷ behind) settled = tt
-none-ready (Some fault ∷ behind) settled = absurd settled
+none-ready (Some reply ∷ behind) settled = absurd settled
 
-some-test : (behind : List (Option Fault)) (count : ℕ) → count ≡ length behind → 0 < count → not (count == 0) ≡ true
+some-test : (behind : List (Option Reply)) (count : ℕ) → count ≡ length behind → 0 < count → not (count == 0) ≡ true
 some-test behind count is some = grind arith
 
 -- whether anything is behind
-pub is-open : (ready : List Reply) (behind : List (Option Fault)) (count : ℕ) (result : Bool) → count ≡ length behind → IsSettled behind → result ≡ not (count == 0) → result ≡ has_open (places_of ready behind)
+pub is-open : (ready : List Reply) (behind : List (Option Reply)) (count : ℕ) (result : Bool) → count ≡ length behind → IsSettled behind → result ≡ not (count == 0) → result ≡ has_open (places_of ready behind)
 is-open ready [] count result is settled e = e ∙ ap (λ k. not (k == 0)) is ∙ sym (none-behind ready)
 is-open ready (None ∷ behind) count result is settled e =
     e ∙ some-test (None ∷ behind) count is (omega (arith, is)) ∙ sym (closed-behind ready (None ∷ behind) settled (omega arith))
-is-open ready (Some fault ∷ behind) count result is settled e = absurd settled
+is-open ready (Some reply ∷ behind) count result is settled e = absurd settled

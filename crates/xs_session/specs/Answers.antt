@@ -1,43 +1,110 @@
 -- What becomes of the requests of a connection: what is asked, and what each is answered.
-use Rattle.std.specs.Prelude.{◌≡◌, ℕ, ◌≤◌, ◌⊎◌, Bool, true, false, List, [], ◌∷◌, length, Option, Some, None, Ok, Err}
+use Rattle.std.specs.Prelude.{◌≡◌, ℕ, ◌≤◌, ◌⊎◌, Bool, true, false, not, ◌||◌, List, [], ◌∷◌, ◌++◌, length, codes, Option}
+use Rattle.std.specs.Prelude.{Some, None, Ok, Err}
 use Rattle.std.specs.List.{list_any, AllByRecursion}
-use Rattle.xs_resp.specs.declared.fault.Fault.TheVariants.{Memory}
+use Rattle.xs_resp.specs.declared.fault.Fault.TheVariants.{UnknownCommand, Memory}
 use Rattle.xs_resp.specs.declared.reply.Reply.{Reply}
 use Rattle.xs_resp.specs.declared.reply.Reply.TheVariants.{Error}
 use Rattle.xs_command.specs.declared.command.Command.{Command}
 use Rattle.xs_command.specs.declared.command.Command.TheVariants.{Quit, Scan, ReadGroup, PendingRows, Claim, AutoClaim}
 use Rattle.xs_command.specs.declared.command.Command.TheVariants.{Inspect}
 use Rattle.xs_command.specs.Read.{command_of_words}
+use Rattle.xs_command.specs.Words.{is_word}
 use Rattle.xs_resp.specs.declared.fault.Fault.{Fault}
+use Rattle.xs_connection.specs.declared.standing.Standing.{Standing}
+use Rattle.xs_connection.specs.Standing.{IsAnswered, IsAnsweredStranger, IsQueued, spoilt}
+use Rattle.xs_connection.specs.Transaction.{is_queueing, released, released_of}
+use Rattle.xs_connection.specs.declared.transaction.Transaction.{Transaction}
+use Rattle.xs_connection.specs.declared.transaction.Transaction.TheVariants.{Released}
+use Rattle.xs_session.specs.declared.manner.Manner.{Manner}
+use Rattle.xs_session.specs.declared.manner.Manner.TheVariants.{Plain, Full}
 
--- what becomes of a request: its command is asked, or it is answered a fault
+-- what becomes of a request: its command is asked, or it is answered at once
 pub data Taken : Type 0 where
   Asks : Command → Taken
-  Says : Fault → Taken
+  Says : Reply → Taken
 
--- the words are a command, which is asked; or they are answered the fault in them, or that memory ran out
-abbrev pub IsTaken : List (List ℕ) → Taken → Type 0
-IsTaken words (Asks command) = command_of_words words ≡ Ok command
-IsTaken words (Says fault) = (command_of_words words ≡ Err fault) ⊎ (fault ≡ Memory)
+-- a request of this name ends a connection, and may always be asked
+abbrev pub names_quit : List (List ℕ) → Bool
+names_quit [] = false
+names_quit (word ∷ words) = is_word (codes "quit") word
 
--- so the requests are taken, in their order; one of no words comes to nothing
-abbrev pub AreTaken : List (List (List ℕ)) → List Taken → Type 0
-AreTaken [] taken = taken ≡ []
-AreTaken ([] ∷ requests) taken = AreTaken requests taken
-AreTaken ((word ∷ words) ∷ requests) taken =
-    (first : Taken) × (others : List Taken) × (taken ≡ first ∷ others) × IsTaken (word ∷ words) first
-    × AreTaken requests others
+-- a password is wanted that the connection hasn't given
+abbrev pub is_stranger : Manner → Standing → Bool
+is_stranger Plain standing = false
+is_stranger (Full wanted) standing = not standing.is_allowed
+
+-- whether the keyspace may be asked: not before the password is given, if one is wanted
+abbrev pub may_ask : Manner → Standing → List (List ℕ) → Bool
+may_ask Plain standing words = true
+may_ask (Full wanted) standing words = standing.is_allowed || names_quit words
+
+-- whether a command is asked at once: QUIT is, and others unless they wait for EXEC
+abbrev pub goes_at_once : Standing → Command → Bool
+goes_at_once standing Quit = true
+goes_at_once standing command = not (is_queueing standing.transaction)
+
+-- what words with this fault are answered: an unknown command may be one of the connection
+abbrev pub IsSaid : Manner → Standing → List (List ℕ) → Fault → Reply → Standing → Type 0
+IsSaid (Full wanted) old words UnknownCommand reply new = IsAnswered wanted old words reply new
+IsSaid manner old words fault reply new = (reply ≡ Error fault) × (new ≡ spoilt old)
+
+-- what words are answered whose command waits for EXEC
+abbrev pub IsKept : Standing → List (List ℕ) → Reply → Standing → Type 0
+IsKept old words reply new =
+    (command : Command) × (command_of_words words ≡ Ok command) × (goes_at_once old command ≡ false)
+    × IsQueued old words reply new
+
+-- what words are answered for which nothing is asked
+abbrev pub IsRefused : Manner → Bool → Standing → List (List ℕ) → Reply → Standing → Type 0
+IsRefused (Full wanted) false old words reply new = IsAnsweredStranger wanted old words reply new
+IsRefused manner asks old words reply new =
+    ((fault : Fault) × (command_of_words words ≡ Err fault) × IsSaid manner old words fault reply new)
+    ⊎ IsKept old words reply new
+
+-- what becomes of words, and how the connection stands then: they are a command, which is asked; or they are answered at
+-- once; or memory ran out
+abbrev pub IsTaken : Manner → Standing → List (List ℕ) → Taken → Standing → Type 0
+IsTaken manner old words (Asks command) new =
+    (may_ask manner old words ≡ true) × (command_of_words words ≡ Ok command) × (goes_at_once old command ≡ true)
+    × (new ≡ old)
+IsTaken manner old words (Says reply) new =
+    IsRefused manner (may_ask manner old words) old words reply new ⊎ ((reply ≡ Error Memory) × (new ≡ spoilt old))
+
+-- what becomes of words that EXEC has let go
+abbrev pub IsRun : List (List ℕ) → Taken → Type 0
+IsRun words (Asks command) = command_of_words words ≡ Ok command
+IsRun words (Says reply) =
+    ((fault : Fault) × (command_of_words words ≡ Err fault) × (reply ≡ Error fault)) ⊎ (reply ≡ Error Memory)
+
+-- so those are taken that EXEC has let go, in their order, up to what is left
+abbrev pub AreRun : Transaction → List Taken → Transaction → Type 0
+AreRun old [] new = new ≡ old
+AreRun old (one ∷ more) new =
+    (words : List (List ℕ)) × (others : List (List (List ℕ))) × (old ≡ Released (words ∷ others)) × IsRun words one
+    × AreRun (released others) more new
+
+-- So the requests are taken, in their order, and behind each what EXEC has let go, of which nothing is left before the
+-- next one. One of no words comes to nothing.
+abbrev pub AreTaken : Manner → Standing → List (List (List ℕ)) → List Taken → Standing → Type 0
+AreTaken manner old [] taken new = (taken ≡ []) × (new ≡ old)
+AreTaken manner old ([] ∷ requests) taken new = AreTaken manner old requests taken new
+AreTaken manner old ((word ∷ words) ∷ requests) taken new =
+    (first : Taken) × (run others : List Taken) × (mid : Standing) × (left : Transaction)
+    × (taken ≡ first ∷ (run ++ others)) × IsTaken manner old (word ∷ words) first mid × AreRun mid.transaction run left
+    × ((requests ≡ []) ⊎ (released_of left ≡ []))
+    × AreTaken manner (record mid { transaction = left }) requests others new
 
 -- the commands that are asked
 abbrev pub asked_of : List Taken → List Command
 asked_of [] = []
 asked_of (Asks command ∷ more) = command ∷ asked_of more
-asked_of (Says fault ∷ more) = asked_of more
+asked_of (Says reply ∷ more) = asked_of more
 
 -- what each is answered once these replies have come to what was asked, in order; nothing, where one is waited for
 abbrev pub answers_to : List Taken → List Reply → List (Option Reply)
 answers_to [] got = []
-answers_to (Says fault ∷ more) got = Some (Error fault) ∷ answers_to more got
+answers_to (Says reply ∷ more) got = Some reply ∷ answers_to more got
 answers_to (Asks command ∷ more) [] = None ∷ answers_to more []
 answers_to (Asks command ∷ more) (reply ∷ got) = Some reply ∷ answers_to more got
 

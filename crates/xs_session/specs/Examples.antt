@@ -14,7 +14,10 @@ use Rattle.xs_command.specs.declared.command.Command.TheVariants as command
 use Rattle.xs_command.specs.Read.{command_of_words}
 use Rattle.xs_command.specs.Examples.{line}
 use Rattle.xs_command.specs.ExamplesStreams.{adds, scans}
-use Rattle.xs_session.specs.Answers.{Asks, Says, IsTaken, AreTaken, asked_of, answers_to}
+use Rattle.xs_connection.specs.declared.standing.Standing.{Standing}
+use Rattle.xs_connection.specs.declared.transaction.Transaction.TheVariants.{Closed}
+use Rattle.xs_session.specs.declared.manner.Manner.TheVariants.{Plain}
+use Rattle.xs_session.specs.Answers.{Taken, Asks, Says, IsTaken, AreTaken, asked_of, answers_to}
 use Rattle.xs_session.specs.Answers.{is_alone, MayBeOpen, quits, has_quit}
 
 abbrev pub ping : Command
@@ -27,57 +30,68 @@ len = command.Len (codes "k")
 abbrev pub add : Command
 add = adds None (Exact (at 1 1))
 
+-- a connection of which nothing is asked
+abbrev pub anyone : Standing
+anyone = record { id = 1; name = []; is_allowed = true; transaction = Closed }
+
+-- the same where all commands are those of the keyspace
+abbrev pub IsSaidTo : List (List ℕ) → Taken → Type 0
+IsSaidTo words taken = IsTaken Plain anyone words taken anyone
+
+abbrev pub AreSaidTo : List (List (List ℕ)) → List Taken → Type 0
+AreSaidTo requests taken = AreTaken Plain anyone requests taken anyone
+
 -- what one request becomes
 pub record Takings : Type 0 where
-  pub a_command : IsTaken (line (codes "PING")) (Asks ping)
-  pub an_addition : IsTaken (line (codes "XADD k 1-1 f v")) (Asks add)
-  pub no_other_command : IsTaken (line (codes "PING")) (Asks command.Quit) → ⊥
-  pub no_fault_of_a_command : IsTaken (line (codes "PING")) (Says UnknownCommand) → ⊥
-  pub an_unknown_command : IsTaken (line (codes "GET k")) (Says UnknownCommand)
-  pub a_word_too_few : IsTaken (line (codes "XLEN")) (Says Arity)
-  pub no_number : IsTaken (line (codes "XTRIM k MAXLEN x")) (Says NotInteger)
-  pub no_other_fault : IsTaken (line (codes "GET k")) (Says Arity) → ⊥
-  pub no_command_of_a_fault : IsTaken (line (codes "GET k")) (Asks ping) → ⊥
-  pub no_memory_for_a_command : IsTaken (line (codes "XADD k 1-1 f v")) (Says Memory)
-  pub no_memory_to_find_a_fault : IsTaken (line (codes "GET k")) (Says Memory)
+  pub a_command : IsSaidTo (line (codes "PING")) (Asks ping)
+  pub an_addition : IsSaidTo (line (codes "XADD k 1-1 f v")) (Asks add)
+  pub no_other_command : IsSaidTo (line (codes "PING")) (Asks command.Quit) → ⊥
+  pub no_fault_of_a_command : IsSaidTo (line (codes "PING")) (Says (Error UnknownCommand)) → ⊥
+  pub an_unknown_command : IsSaidTo (line (codes "GET k")) (Says (Error UnknownCommand))
+  pub a_word_too_few : IsSaidTo (line (codes "XLEN")) (Says (Error Arity))
+  pub no_number : IsSaidTo (line (codes "XTRIM k MAXLEN x")) (Says (Error NotInteger))
+  pub no_other_fault : IsSaidTo (line (codes "GET k")) (Says (Error Arity)) → ⊥
+  pub no_command_of_a_fault : IsSaidTo (line (codes "GET k")) (Asks ping) → ⊥
+  pub no_memory_for_a_command : IsSaidTo (line (codes "XADD k 1-1 f v")) (Says (Error Memory))
+  pub no_memory_to_find_a_fault : IsSaidTo (line (codes "GET k")) (Says (Error Memory))
 
 -- what requests become, one after the other
 pub record TakenInOrder : Type 0 where
-  pub none : AreTaken [] []
+  pub none : AreSaidTo [] []
   pub three :
-      AreTaken (line (codes "PING") ∷ line (codes "GET k") ∷ line (codes "XLEN k") ∷ [])
-      (Asks ping ∷ Says UnknownCommand ∷ Asks len ∷ [])
-  pub no_words : AreTaken ([] ∷ line (codes "PING") ∷ [] ∷ []) (Asks ping ∷ [])
+      AreSaidTo (line (codes "PING") ∷ line (codes "GET k") ∷ line (codes "XLEN k") ∷ [])
+      (Asks ping ∷ Says (Error UnknownCommand) ∷ Asks len ∷ [])
+  pub no_words : AreSaidTo ([] ∷ line (codes "PING") ∷ [] ∷ []) (Asks ping ∷ [])
   pub one_without_memory :
-      AreTaken (line (codes "PING") ∷ line (codes "XLEN k") ∷ []) (Says Memory ∷ Asks len ∷ [])
-  pub nothing_from_nowhere : AreTaken [] (Asks ping ∷ []) → ⊥
-  pub no_answer_to_no_words : AreTaken ([] ∷ []) (Says Memory ∷ []) → ⊥
-  pub none_left_out : AreTaken (line (codes "PING") ∷ line (codes "XLEN k") ∷ []) (Asks len ∷ []) → ⊥
-  pub none_twice : AreTaken (line (codes "PING") ∷ []) (Asks ping ∷ Asks ping ∷ []) → ⊥
+      AreSaidTo (line (codes "PING") ∷ line (codes "XLEN k") ∷ []) (Says (Error Memory) ∷ Asks len ∷ [])
+  pub nothing_from_nowhere : AreSaidTo [] (Asks ping ∷ []) → ⊥
+  pub no_answer_to_no_words : AreSaidTo ([] ∷ []) (Says (Error Memory) ∷ []) → ⊥
+  pub none_left_out : AreSaidTo (line (codes "PING") ∷ line (codes "XLEN k") ∷ []) (Asks len ∷ []) → ⊥
+  pub none_twice : AreSaidTo (line (codes "PING") ∷ []) (Asks ping ∷ Asks ping ∷ []) → ⊥
   pub no_other_order :
-      AreTaken (line (codes "PING") ∷ line (codes "XLEN k") ∷ []) (Asks len ∷ Asks ping ∷ []) → ⊥
+      AreSaidTo (line (codes "PING") ∷ line (codes "XLEN k") ∷ []) (Asks len ∷ Asks ping ∷ []) → ⊥
 
 -- what is asked, and what each request is answered as the replies come
 pub record Answering : Type 0 where
   pub nothing_asked : asked_of [] ≡ []
-  pub asked : asked_of (Says Memory ∷ Asks ping ∷ Says UnknownCommand ∷ Asks len ∷ []) ≡ ping ∷ len ∷ []
+  pub asked : asked_of (Says (Error Memory) ∷ Asks ping ∷ Says (Error UnknownCommand) ∷ Asks len ∷ []) ≡ ping ∷ len ∷ []
   pub nothing_taken : answers_to [] [] ≡ []
   pub no_reply_yet :
-      answers_to (Asks ping ∷ Says UnknownCommand ∷ Asks len ∷ []) []
+      answers_to (Asks ping ∷ Says (Error UnknownCommand) ∷ Asks len ∷ []) []
       ≡ None ∷ Some (Error UnknownCommand) ∷ None ∷ []
   pub one_reply :
-      answers_to (Asks ping ∷ Says UnknownCommand ∷ Asks len ∷ []) (Simple Pong ∷ [])
+      answers_to (Asks ping ∷ Says (Error UnknownCommand) ∷ Asks len ∷ []) (Simple Pong ∷ [])
       ≡ Some (Simple Pong) ∷ Some (Error UnknownCommand) ∷ None ∷ []
   pub both_replies :
-      answers_to (Asks ping ∷ Says UnknownCommand ∷ Asks len ∷ []) (Simple Pong ∷ Int 2 ∷ [])
+      answers_to (Asks ping ∷ Says (Error UnknownCommand) ∷ Asks len ∷ []) (Simple Pong ∷ Int 2 ∷ [])
       ≡ Some (Simple Pong) ∷ Some (Error UnknownCommand) ∷ Some (Int 2) ∷ []
   pub a_fault_before :
-      answers_to (Says Arity ∷ Asks ping ∷ []) (Simple Pong ∷ []) ≡ Some (Error Arity) ∷ Some (Simple Pong) ∷ []
+      answers_to (Says (Error Arity) ∷ Asks ping ∷ []) (Simple Pong ∷ []) ≡ Some (Error Arity) ∷ Some (Simple Pong) ∷ []
   pub a_quit : quits (Asks command.Quit) ≡ true
   pub another_command : quits (Asks ping) ≡ false
-  pub no_quit_of_a_fault : quits (Says Memory) ≡ false
-  pub a_quit_behind_others : has_quit (Asks ping ∷ Says Memory ∷ Asks command.Quit ∷ []) ≡ true
-  pub no_quit_among_others : has_quit (Asks ping ∷ Says Memory ∷ []) ≡ false
+  pub no_quit_of_a_fault : quits (Says (Error Memory)) ≡ false
+  pub a_quit_behind_others : has_quit (Asks ping ∷ Says (Error Memory) ∷ Asks command.Quit ∷ []) ≡ true
+  pub no_quit_among_others : has_quit (Asks ping ∷ Says (Error Memory) ∷ []) ≡ false
 
 -- whether the command of a line is asked alone, or the fault in it
 abbrev pub asked_alone : List ℕ → Result Bool Fault

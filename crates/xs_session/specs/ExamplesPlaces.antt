@@ -16,11 +16,11 @@ pub record Places : Type 0 where
       ≡ Some (Int 1) ∷ Some (Int 2) ∷ Some (Error Arity) ∷ None ∷ []
   pub none_comes : fill_first (Int 2) (Some (Int 1) ∷ []) ≡ Some (Int 1) ∷ []
   pub in_order :
-      places_of (Simple Okay ∷ Simple Pong ∷ []) (None ∷ Some Memory ∷ [])
+      places_of (Simple Okay ∷ Simple Pong ∷ []) (None ∷ Some (Error Memory) ∷ [])
       ≡ Some (Simple Okay) ∷ Some (Simple Pong) ∷ None ∷ Some (Error Memory) ∷ []
-  pub settled : IsSettled (None ∷ Some Memory ∷ [])
+  pub settled : IsSettled (None ∷ Some (Error Memory) ∷ [])
   pub settled_without_any : IsSettled []
-  pub an_error_left_behind : IsSettled (Some Memory ∷ None ∷ []) → ⊥
+  pub an_error_left_behind : IsSettled (Some (Error Memory) ∷ None ∷ []) → ⊥
   pub none_ready : NoneReady (None ∷ Some (Int 1) ∷ [])
   pub none_ready_without_any : NoneReady []
   pub one_ready : NoneReady (Some (Int 1) ∷ None ∷ []) → ⊥

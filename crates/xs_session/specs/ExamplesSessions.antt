@@ -14,7 +14,8 @@ use Rattle.xs_command.specs.declared.command.Command.TheVariants as command
 use Rattle.xs_session.specs.declared.ending.Ending.{Ending}
 use Rattle.xs_session.specs.declared.ending.Ending.TheVariants as ending
 use Rattle.xs_session.specs.Session.{IsAfter}
-use Rattle.xs_session.specs.Examples.{ping, len, add}
+use Rattle.xs_session.specs.declared.manner.Manner.TheVariants.{Plain}
+use Rattle.xs_session.specs.Examples.{ping, len, add, anyone}
 
 abbrev pub bytes_of_ping : List ℕ
 bytes_of_ping = wire (codes "*1^$4^PING^")
@@ -33,45 +34,51 @@ bytes_of_add = wire (codes "*5^$4^XADD^$1^k^$3^1-1^$1^f^$1^v^")
 abbrev pub bytes_of_get : List ℕ
 bytes_of_get = wire (codes "*2^$3^GET^$1^k^")
 
+-- the same where all commands are those of the keyspace
+abbrev pub IsPlainAfter :
+    List ℕ → List Command → List Reply → List ℕ → Option Ending → Held → List (Option Reply) → List ℕ → Type 0
+IsPlainAfter read asked got sent ended held places owed =
+    IsAfter Plain anyone read asked got sent ended held places owed
+
 pub record Sessions : Type 0 where
-  pub nothing : IsAfter [] [] [] [] None (Ok []) [] []
-  pub asked : IsAfter bytes_of_ping (ping ∷ []) [] [] None (Ok []) (None ∷ []) []
-  pub reply_came : IsAfter bytes_of_ping (ping ∷ []) (Simple Pong ∷ []) [] None (Ok []) (Some (Simple Pong) ∷ []) []
+  pub nothing : IsPlainAfter [] [] [] [] None (Ok []) [] []
+  pub asked : IsPlainAfter bytes_of_ping (ping ∷ []) [] [] None (Ok []) (None ∷ []) []
+  pub reply_came : IsPlainAfter bytes_of_ping (ping ∷ []) (Simple Pong ∷ []) [] None (Ok []) (Some (Simple Pong) ∷ []) []
   pub answered :
-      IsAfter bytes_of_ping (ping ∷ []) (Simple Pong ∷ []) (wire (codes "+PONG^")) None (Ok []) [] []
+      IsPlainAfter bytes_of_ping (ping ∷ []) (Simple Pong ∷ []) (wire (codes "+PONG^")) None (Ok []) [] []
   pub sent_in_part :
-      IsAfter bytes_of_ping (ping ∷ []) (Simple Pong ∷ []) (codes "+PO") None (Ok []) [] (wire (codes "NG^"))
+      IsPlainAfter bytes_of_ping (ping ∷ []) (Simple Pong ∷ []) (codes "+PO") None (Ok []) [] (wire (codes "NG^"))
   pub part_of_a_request :
-      IsAfter (bytes_of_ping ++ codes "*2") (ping ∷ []) [] [] None (Ok (codes "*2")) (None ∷ []) []
-  pub request_not_taken_yet : IsAfter bytes_of_ping [] [] [] None (Ok bytes_of_ping) [] []
+      IsPlainAfter (bytes_of_ping ++ codes "*2") (ping ∷ []) [] [] None (Ok (codes "*2")) (None ∷ []) []
+  pub request_not_taken_yet : IsPlainAfter bytes_of_ping [] [] [] None (Ok bytes_of_ping) [] []
   pub an_addition :
-      IsAfter bytes_of_add (add ∷ []) (Bulk (codes "1-1") ∷ [])
+      IsPlainAfter bytes_of_add (add ∷ []) (Bulk (codes "1-1") ∷ [])
       (wire (codes "$3^1-1^")) None (Ok []) [] []
   pub an_unknown_command_between :
-      IsAfter (bytes_of_ping ++ (bytes_of_get ++ bytes_of_len)) (ping ∷ len ∷ []) (Simple Pong ∷ Int 2 ∷ [])
+      IsPlainAfter (bytes_of_ping ++ (bytes_of_get ++ bytes_of_len)) (ping ∷ len ∷ []) (Simple Pong ∷ Int 2 ∷ [])
       (wire (codes "+PONG^-ERR unknown command^:2^")) None (Ok []) [] []
   pub an_unknown_command_behind_an_open_reply :
-      IsAfter (bytes_of_ping ++ (bytes_of_get ++ bytes_of_len)) (ping ∷ len ∷ []) [] [] None (Ok [])
+      IsPlainAfter (bytes_of_ping ++ (bytes_of_get ++ bytes_of_len)) (ping ∷ len ∷ []) [] [] None (Ok [])
       (None ∷ Some (Error UnknownCommand) ∷ None ∷ []) []
-  pub no_words : IsAfter (wire (codes "*0^*-1^")) [] [] [] None (Ok []) [] []
-  pub no_memory : IsAfter bytes_of_ping [] [] (wire (codes "-OOM out of memory^")) None (Ok []) [] []
+  pub no_words : IsPlainAfter (wire (codes "*0^*-1^")) [] [] [] None (Ok []) [] []
+  pub no_memory : IsPlainAfter bytes_of_ping [] [] (wire (codes "-OOM out of memory^")) None (Ok []) [] []
   pub a_quit :
-      IsAfter (bytes_of_quit ++ bytes_of_ping) (command.Quit ∷ []) (Simple Okay ∷ []) (wire (codes "+OK^"))
+      IsPlainAfter (bytes_of_quit ++ bytes_of_ping) (command.Quit ∷ []) (Simple Okay ∷ []) (wire (codes "+OK^"))
       (Some ending.Quit) (Ok bytes_of_ping) [] []
   pub a_protocol_error :
-      IsAfter (bytes_of_ping ++ codes "x") (ping ∷ []) (Simple Pong ∷ []) (wire (codes "+PONG^-ERR Protocol error^"))
+      IsPlainAfter (bytes_of_ping ++ codes "x") (ping ∷ []) (Simple Pong ∷ []) (wire (codes "+PONG^-ERR Protocol error^"))
       (Some ending.Protocol) (Err Shape) [] []
 
 -- these bytes can't have been sent, whatever has a place or is owed
 abbrev pub IsNeverSent : List ℕ → List Command → List Reply → List ℕ → Option Ending → Held → Type 0
 IsNeverSent read asked got sent ended held =
-    (places : List (Option Reply)) (owed : List ℕ) → IsAfter read asked got sent ended held places owed → ⊥
+    (places : List (Option Reply)) (owed : List ℕ) → IsPlainAfter read asked got sent ended held places owed → ⊥
 
 -- these commands can't have been asked, whatever has happened besides
 abbrev pub IsNeverAsked : List ℕ → List Command → Option Ending → Held → Type 0
 IsNeverAsked read asked ended held =
     (got : List Reply) (sent : List ℕ) (places : List (Option Reply)) (owed : List ℕ) →
-    IsAfter read asked got sent ended held places owed → ⊥
+    IsPlainAfter read asked got sent ended held places owed → ⊥
 
 pub record NoSessions : Type 0 where
   pub error_before_an_open_reply :
@@ -87,7 +94,7 @@ pub record NoSessions : Type 0 where
   pub an_answer_invented : IsNeverSent bytes_of_ping [] [] (wire (codes "+PONG^")) None (Ok [])
   pub an_answer_to_no_words : IsNeverSent (wire (codes "*0^")) [] [] (wire (codes "-OOM out of memory^")) None (Ok [])
   pub a_reply_to_nothing :
-      (places : List (Option Reply)) → IsAfter [] [] (Simple Pong ∷ []) [] None (Ok []) places [] → ⊥
+      (places : List (Option Reply)) → IsPlainAfter [] [] (Simple Pong ∷ []) [] None (Ok []) places [] → ⊥
   pub asked_twice : IsNeverAsked bytes_of_ping (ping ∷ ping ∷ []) None (Ok [])
   pub asked_behind_a_quit :
       (ended : Option Ending) (held : Held) →

@@ -1,7 +1,9 @@
 pub mod Answers
+pub mod Strangers
 pub mod Places
 pub mod Session
 pub mod Examples
 pub mod ExamplesPlaces
 pub mod ExamplesSessions
 pub mod ExamplesTurns
+pub mod ExamplesManners

@@ -1,10 +1,7 @@
 -- The places of answers, in the order of their requests: those that are there, and those that are waited for.
 use Rattle.std.specs.Prelude.{Bool, true, false, List, [], ◌∷◌, ◌++◌, map, Option, Some, None}
 use Rattle.std.specs.List.{list_any}
-use Rattle.std.specs.Option.{option_map}
-use Rattle.xs_resp.specs.declared.fault.Fault.{Fault}
 use Rattle.xs_resp.specs.declared.reply.Reply.{Reply}
-use Rattle.xs_resp.specs.declared.reply.Reply.TheVariants.{Error}
 
 abbrev pub is_open : Option Reply → Bool
 is_open None = true
@@ -20,13 +17,13 @@ fill_first reply [] = []
 fill_first reply (None ∷ places) = Some reply ∷ places
 fill_first reply (Some other ∷ places) = Some other ∷ fill_first reply places
 
--- replies that are there, and behind them errors that wait for the replies before them
-abbrev pub places_of : List Reply → List (Option Fault) → List (Option Reply)
-places_of ready behind = map Some ready ++ map (option_map Error) behind
+-- replies that are there, and behind them those that wait for the replies before them
+abbrev pub places_of : List Reply → List (Option Reply) → List (Option Reply)
+places_of ready behind = map Some ready ++ behind
 
 -- nothing behind is ready
-abbrev pub IsSettled : List (Option Fault) → Type 0
-IsSettled (Some fault ∷ behind) = ⊥
+abbrev pub IsSettled : List (Option Reply) → Type 0
+IsSettled (Some reply ∷ behind) = ⊥
 IsSettled _ = Unit {0}
 
 -- none is there

@@ -3,7 +3,6 @@ use Rattle.std.specs.Prelude.{◌≡◌, ◌⊎◌, ℕ, ◌≤◌, Bool, true, 
 use Rattle.std.specs.Prelude.{Option, Some, None, Ok, Err}
 use Rattle.std.specs.List.{flat_map}
 use Rattle.xs_resp.specs.declared.fault.Fault.TheVariants.{Protocol}
-use Rattle.xs_resp.specs.declared.fault.Fault.{Fault}
 use Rattle.xs_resp.specs.declared.reply.Reply.{Reply}
 use Rattle.xs_resp.specs.declared.reply.Reply.TheVariants.{Error}
 use Rattle.xs_resp.specs.declared.read_fault.ProtocolFault.{ProtocolFault}
@@ -15,12 +14,20 @@ use Rattle.xs_command.specs.declared.command.Command.{Command}
 use Rattle.xs_command.specs.declared.command.Command.TheVariants.{Quit}
 use Rattle.xs_desk.specs.declared.answer.Call.{Call}
 use Rattle.xs_desk.specs.Calls.{IsFormed}
+use Rattle.xs_connection.specs.declared.standing.Standing.{Standing}
+use Rattle.xs_command.specs.Read.{command_of_words}
+use Rattle.xs_connection.specs.Standing.{as_new}
+use Rattle.xs_connection.specs.Transaction.{released}
+use Rattle.xs_connection.specs.declared.transaction.Transaction.TheVariants.{Closed, Released}
+use Rattle.xs_session.specs.declared.manner.Manner.{Manner}
+use Rattle.xs_session.specs.declared.manner.Manner.TheVariants.{Plain, Full}
 use Rattle.xs_session.specs.declared.ending.Ending.{Ending}
 use Rattle.xs_session.specs.declared.ending.Ending.TheVariants as ending
 use Rattle.xs_session.specs.declared.session.Session.{Session}
 use Rattle.xs_session.specs.declared.session.Turn.{Turn}
 use Rattle.xs_session.specs.declared.session.Turn.TheVariants as turn
-use Rattle.xs_session.specs.Answers.{Taken, Asks, Says, AreTaken, MayBeOpen, is_alone, asked_of, answers_to, has_quit}
+use Rattle.xs_session.specs.Strangers.{is_too_much}
+use Rattle.xs_session.specs.Answers.{is_stranger, Taken, Asks, Says, AreTaken, MayBeOpen, is_alone, asked_of, answers_to, has_quit}
 
 -- the texts of replies
 abbrev pub texts : List Reply → List ℕ
@@ -28,24 +35,39 @@ texts replies = flat_map text replies
 
 -- the protocol error has its place behind the requests
 abbrev pub refusal : Option Ending → List Taken
-refusal (Some ending.Protocol) = Says Protocol ∷ []
+refusal (Some ending.Protocol) = Says (Error Protocol) ∷ []
 refusal _ = []
+
+-- why a protocol error ends a session: a fault stands in the bytes that are left; or a client that hasn't given the
+-- password has sent more than it may
+abbrev pub IsFault : List ℕ → Held → Type 0
+IsFault rest held = (wrong : ProtocolFault) × FaultIn rest wrong × (held ≡ Err wrong)
+
+abbrev pub IsWrong : Manner → Standing → List ℕ → Held → Type 0
+IsWrong Plain standing rest held = IsFault rest held
+IsWrong (Full wanted) standing rest held =
+    IsFault rest held ⊎ ((held ≡ Ok rest) × (standing.is_allowed ≡ false) × (is_too_much held ≡ true))
 
 -- whether further requests are taken from the rest of what was read, which is held: not behind a QUIT, which is the
 -- last request, nor from a fault on
-abbrev pub Goes : Option Ending → List Taken → List ℕ → Held → Type 0
-Goes None taken rest held = (held ≡ Ok rest) × (has_quit taken ≡ false)
-Goes (Some ending.Quit) taken rest held =
+abbrev pub Goes : Manner → Standing → Option Ending → List Taken → List ℕ → Held → Type 0
+Goes manner standing None taken rest held = (held ≡ Ok rest) × (has_quit taken ≡ false)
+Goes manner standing (Some ending.Quit) taken rest held =
     (held ≡ Ok rest) × ((before : List Taken) × (taken ≡ before ++ Asks Quit ∷ []) × (has_quit before ≡ false))
-Goes (Some ending.Protocol) taken rest held =
-    (has_quit taken ≡ false) × ((wrong : ProtocolFault) × FaultIn rest wrong × (held ≡ Err wrong))
-Goes _ taken rest held = ⊥
+Goes manner standing (Some ending.Protocol) taken rest held =
+    (has_quit taken ≡ false) × IsWrong manner standing rest held
+Goes manner standing _ taken rest held = ⊥
+
+-- a connection that has said nothing, and is allowed to ask if no password is wanted
+abbrev pub IsFirst : Manner → Standing → Type 0
+IsFirst Plain standing = standing.transaction ≡ Closed
+IsFirst (Full wanted) standing = standing ≡ as_new wanted standing
 
 -- What was read begins with requests, each of which is taken; asked is what they ask, in their order. Of the answers,
 -- in the order of the requests, the first ones are begun, as far as all are there: sent is their texts, but for what is
 -- owed of them. The others have places, some of which wait for their reply.
 pub record IsAfter
-    (read : List ℕ) (asked : List Command) (got : List Reply) (sent : List ℕ)
+    (manner : Manner) (standing : Standing) (read : List ℕ) (asked : List Command) (got : List Reply) (sent : List ℕ)
     (ended : Option Ending) (held : Held) (places : List (Option Reply)) (owed : List ℕ) : Type 0 where
   pub requests : List (List (List ℕ))
   pub front : List ℕ
@@ -53,8 +75,10 @@ pub record IsAfter
   pub read_is : read ≡ front ++ rest
   pub spelled : SpellsAll front requests
   pub taken : List Taken
-  pub are_taken : AreTaken requests taken
-  pub goes : Goes ended taken rest held
+  pub first : Standing
+  pub is_first : IsFirst manner first
+  pub are_taken : AreTaken manner first requests taken standing
+  pub goes : Goes manner standing ended taken rest held
   pub asked_is : asked ≡ asked_of taken
   pub fits : length got ≤ length asked
   pub begun : List Reply
@@ -62,9 +86,10 @@ pub record IsAfter
   pub sent_is : texts begun ≡ sent ++ owed
 
 -- so is a session; and what it asks alone is open alone
-abbrev pub SessionIsAfter : List ℕ → List Command → List Reply → List ℕ → Session → Type 0
-SessionIsAfter read asked got sent session =
-    IsAfter read asked got sent session.ended session.requests session.places (bytes_left session.owed)
+abbrev pub SessionIsAfter : Manner → List ℕ → List Command → List Reply → List ℕ → Session → Type 0
+SessionIsAfter manner read asked got sent session =
+    IsAfter manner session.standing read asked got sent session.ended session.requests session.places
+    (bytes_left session.owed)
     × MayBeOpen session.alone (drop (length got) asked)
 
 -- every answer is begun, and all that is owed is gathered
@@ -77,12 +102,13 @@ ending_of Quit = Some ending.Quit
 ending_of _ = None
 
 -- nothing is read yet
-pub record IsNew (session : Session) : Type 0 where
+pub record IsNew (manner : Manner) (session : Session) : Type 0 where
   pub ended : session.ended ≡ None
   pub requests : session.requests ≡ Ok []
   pub places : session.places ≡ []
   pub owed : bytes_left session.owed ≡ []
   pub alone : session.alone ≡ false
+  pub first : IsFirst manner session.standing
 
 -- what a turn asks
 abbrev pub asked_in : Turn → List Command
@@ -97,11 +123,32 @@ pub record AsksFront (old : Session) (call : Call) (result : Turn) (new : Sessio
   pub ended : new.ended ≡ ending_of call.command
   pub alone : new.alone ≡ is_alone call.command
   pub gathered : is_alone call.command ≡ true → IsGathered old
+  pub standing : new.standing ≡ old.standing
+
+-- the next command that EXEC has let go was asked; alone only once every answer is gathered
+pub record AsksReleased (old : Session) (command : Command) (result : Turn) (new : Session) : Type 0 where
+  pub call : Call
+  pub asks : result ≡ turn.Asks call
+  pub call_is : call.command ≡ command
+  pub words : List (List ℕ)
+  pub others : List (List (List ℕ))
+  pub released_is : old.standing.transaction ≡ Released (words ∷ others)
+  pub said : command_of_words words ≡ Ok command
+  pub places : new.places ≡ old.places ++ None ∷ []
+  pub held : new.requests ≡ old.requests
+  pub ended : new.ended ≡ ending_of command
+  pub alone : new.alone ≡ is_alone command
+  pub gathered : is_alone command ≡ true → IsGathered old
+  pub standing : new.standing ≡ record old.standing { transaction = released others }
 
 -- it was, or it is to be asked alone and has to wait
 abbrev pub AsksOrWaits : Session → Call → Turn → Session → Type 0
 AsksOrWaits old call result new =
     AsksFront old call result new ⊎ ((result ≡ turn.Full) × (new ≡ record old { alone = true }))
+
+abbrev pub ReleasesOrWaits : Session → Command → Turn → Session → Type 0
+ReleasesOrWaits old command result new =
+    AsksReleased old command result new ⊎ ((result ≡ turn.Full) × (new ≡ record old { alone = true }))
 
 -- a request was taken, or has to wait; what is asked is formed, and has its words if they are wanted
 abbrev pub Takes : Bool → Turn → Type 0
@@ -110,10 +157,16 @@ Takes wants_words turn.Full = Unit {0}
 Takes wants_words (turn.Asks call) = IsFormed call × (wants_words ≡ true → is_some call.words ≡ true)
 Takes wants_words _ = ⊥
 
--- a turn takes one place at most: of a call that is asked, which waits for its reply; else of an error, which is there
+-- a turn takes one place at most: of a call that is asked, which waits for its reply; else of an answer, which is there
 abbrev pub TakesPlace : Turn → List (Option Reply) → List (Option Reply) → Type 0
 TakesPlace (turn.Asks call) old new = new ≡ old ++ None ∷ []
-TakesPlace _ old new = (new ≡ old) ⊎ ((fault : Fault) × (new ≡ old ++ Some (Error fault) ∷ []))
+TakesPlace _ old new = (new ≡ old) ⊎ ((reply : Reply) × (new ≡ old ++ Some reply ∷ []))
+
+-- what was taken, or isn't whole yet, is no more than a client may send before it has given the password
+abbrev pub IsHeard : Manner → Standing → Held → Turn → Type 0
+IsHeard manner standing held turn.Goes = is_stranger manner standing ≡ true → is_too_much held ≡ false
+IsHeard manner standing held turn.Waits = is_stranger manner standing ≡ true → is_too_much held ≡ false
+IsHeard manner standing held _ = Unit {0}
 
 -- it waits for bytes: no whole request is held, and no fault
 abbrev pub Waits : Option Ending → Held → Type 0

@@ -1,7 +1,8 @@
 //! Examples of what the definitions say, with values from outside.
-#![tactic(auto, unfolding(xs_command::proofs::Computing::example_functions))]
+#![tactic(auto, unfolding(xs_command::proofs::Computing::example_functions, xs_connection::proofs::Computing::example_functions))]
 
 ghost use Rattle.xs_session.specs.Examples.{Takings, TakenInOrder, Answering, Alone, Open};
+ghost use Rattle.xs_session.specs.ExamplesManners.{Free, Guarded, Transactions};
 ghost use Rattle.xs_session.specs.ExamplesPlaces.{Places};
 ghost use Rattle.xs_session.specs.ExamplesSessions.{Sessions, NoSessions};
 ghost use Rattle.xs_session.specs.ExamplesTurns.{Turns, TurnsOfSessions};
@@ -14,6 +15,21 @@ pub fn takings()
 /// What requests become, one after the other.
 pub fn taken_in_order()
     ensures { TakenInOrder }
+{}
+
+/// What requests become where no password is wanted.
+pub fn free()
+    ensures { Free }
+{}
+
+/// What requests become where one is wanted.
+pub fn guarded()
+    ensures { Guarded }
+{}
+
+/// What requests become between MULTI and EXEC.
+pub fn transactions()
+    ensures { Transactions }
 {}
 
 /// What is asked, and what each request is answered as the replies come.

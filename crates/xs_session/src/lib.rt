@@ -4,12 +4,16 @@
 
 pub mod ending;
 pub mod examples;
+pub mod manner;
 pub mod places;
+mod releasing;
 pub mod reserve;
 pub mod session;
+mod strangers;
 pub mod taking;
 
 pub use ending::Ending;
+pub use manner::Manner;
 pub use places::{AHEAD, Places};
 pub use reserve::Reserve;
 pub use session::{Session, Turn};

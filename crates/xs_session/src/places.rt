@@ -1,13 +1,12 @@
 //! The places of the answers that aren't begun yet.
 ghost use Rattle.std.specs.Prelude.{◌≡◌, ◌+◌, ◌<◌, ◌≤◌, ◌++◌, ◌∷◌, [], length, true, Some, None, IfOk, MatchOption};
 ghost use Rattle.std.specs.VecDeque.{deque_len, deque_capacity};
-ghost use Rattle.xs_resp.specs.declared.reply.Reply.TheVariants.{Error};
 ghost use Rattle.xs_session.specs.Places.{has_open, fill_first, places_of, IsSettled, NoneReady};
 
 use std::alloc::{AllocError, Global};
 use std::collections::VecDeque;
 use std::marker::Model;
-use xs_resp::{Fault, Reply};
+use xs_resp::Reply;
 
 /// The most places.
 pub const AHEAD: usize = 32;
@@ -17,8 +16,8 @@ pub const AHEAD: usize = 32;
 #[derive(Drop)]
 pub struct Places {
     ready: VecDeque<Reply>,
-    // None is waited for. An error may come behind what is waited for.
-    behind: VecDeque<Option<Fault>>,
+    // None is waited for. An answer that nothing was asked for may come behind what is waited for.
+    behind: VecDeque<Option<Reply>>,
 }
 
 impl Model for Places {
@@ -87,15 +86,15 @@ impl Places {
         self.behind.push_back_reserved(None);
     }
 
-    /// One more, which is this error.
-    pub fn say(&mut self, fault: Fault)
+    /// One more, which is this answer.
+    pub fn say(&mut self, reply: Reply)
         requires { length self.old < 32 }
-        ensures { self.new ≡ self.old ++ Some (Error fault) ∷ [] }
+        ensures { self.new ≡ self.old ++ Some reply ∷ [] }
     {
         if self.behind.is_empty() {
-            self.ready.push_back_reserved(Reply::Error(fault));
+            self.ready.push_back_reserved(reply);
         } else {
-            self.behind.push_back_reserved(Some(fault));
+            self.behind.push_back_reserved(Some(reply));
         }
     }
 
@@ -118,17 +117,17 @@ impl Places {
     }
 }
 
-/// Moves the errors at the front of what is behind to what is ready.
-fn settle(ready: &mut VecDeque<Reply>, behind: &mut VecDeque<Option<Fault>>)
+/// Moves the answers at the front of what is behind to what is ready.
+fn settle(ready: &mut VecDeque<Reply>, behind: &mut VecDeque<Option<Reply>>)
     requires { (deque_len ready.old + deque_len behind.old ≤ 32) × (32 ≤ deque_capacity ready.old) }
     ensures view { places_of ready.new.items behind.new.items ≡ places_of ready.old.items behind.old.items }
     ensures settled { IsSettled behind.new.items }
     ensures room { deque_len ready.new + deque_len behind.new ≤ 32 }
     ensures capacity { (32 ≤ deque_capacity ready.new) × (deque_capacity behind.new ≡ deque_capacity behind.old) }
 {
-    while let Some(Some(fault)) = behind.front() {
-        let fault = *fault;
-        let _ = behind.pop_front();
-        ready.push_back_reserved(Reply::Error(fault));
+    while let Some(Some(_)) = behind.front() {
+        if let Some(Some(reply)) = behind.pop_front() {
+            ready.push_back_reserved(reply);
+        }
     }
 }

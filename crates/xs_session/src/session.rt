@@ -15,14 +15,25 @@ ghost use Rattle.xs_session.specs.declared.ending.Ending.{Ending};
 ghost use Rattle.xs_session.specs.Places.{has_open, fill_first, NoneReady};
 ghost use Rattle.xs_session.specs.Answers.{is_alone};
 ghost use Rattle.xs_session.specs.Session.{SessionIsAfter, IsNew, IsGathered, Waits, Takes, TakesPlace, AsksOrWaits};
-ghost use Rattle.xs_session.specs.Session.{asked_in, ending_of};
+ghost use Rattle.xs_session.specs.Session.{asked_in, ending_of, IsFirst, IsHeard, ReleasesOrWaits};
+ghost use Rattle.xs_command.specs.Read.{command_of_words};
+ghost use Rattle.xs_command.specs.WellFormed.{IsWellFormed};
+ghost use Rattle.xs_desk.specs.Calls.{AreWordsOf};
+ghost use Rattle.xs_connection.specs.Transaction.{released_of};
+ghost use Rattle.xs_connection.specs.declared.transaction.Transaction.{Transaction};
+ghost use Rattle.xs_session.specs.declared.manner.Manner.{Manner};
 
 use crate::ending::Ending;
+use crate::manner::Manner;
 use crate::places::{AHEAD, Places};
+use crate::releasing::command_of_released;
 use crate::reserve::Reserve;
+use crate::strangers::is_too_much;
 use crate::taking::take_request;
 use std::alloc::{AllocError, Global};
+use xs_bytes::U63;
 use xs_command::Command;
+use xs_connection::Standing;
 use xs_desk::Call;
 use xs_devices::{Fill, FillFault, Source};
 use xs_resp::{Encoder, Fault, Reply, Requests};
@@ -45,12 +56,17 @@ pub enum Turn {
 /// How many bytes of requests are held without more memory: those of one read, and twice a request of 16 KiB.
 const ROOM: usize = 131_072;
 
+/// How many sessions there are at once, at most.
+const MOST_SESSIONS: u64 = 1024;
+
 /// A session: the bytes that came in and aren't taken yet, the places of the answers to the requests that are, and what
 /// is owed of those that are begun.
 #[derive(Drop)]
 pub struct Session {
     alloc: Global,
     reserve: Reserve,
+    /// What the connection has said of itself.
+    pub standing: Standing,
     pub requests: Requests,
     pub places: Places,
     /// What is being written.
@@ -59,6 +75,8 @@ pub struct Session {
     pub ended: Option<Ending>,
     /// Nothing is taken before every answer is gathered: the last command was asked alone, or the next one will be.
     pub alone: bool,
+    /// The last command was let go by EXEC: a read with BLOCK isn't to wait.
+    pub hurries: bool,
     // How many answers may have places: fewer while memory is refused.
     most: usize,
 }
@@ -70,6 +88,24 @@ fn end_by(command: &Command) -> Option<Ending>
     match command {
         Command::Quit => Some(Ending::Quit),
         _ => None,
+    }
+}
+
+/// A connection with this number that has said nothing.
+fn first_standing(alloc: Global, manner: &Manner, id: U63) -> Standing
+    ensures { IsFirst manner.now result }
+{
+    match manner {
+        Manner::Plain => Standing::new(alloc, &None, id),
+        Manner::Full(wanted) => Standing::new(alloc, wanted, id),
+    }
+}
+
+/// The number of the next connection over the same memory. Those over other memory have others.
+fn next_id(id: U63) -> U63 {
+    match id.get().checked_add(MOST_SESSIONS) {
+        Some(next) if next <= U63::MAX => U63::new(next),
+        _ => id,
     }
 }
 
@@ -101,31 +137,35 @@ impl Session {
     ghost use Rattle.xs_devices.specs.declared.fill.FillFault.{FillFault};
     ghost use Rattle.xs_session.specs.declared.ending.Ending.{Ending};
 
-    /// A session before its first byte, with all the memory that small requests need.
-    pub fn new(alloc: Global) -> Result<Self, AllocError>
-        ensures { IfOk result IsNew }
+    /// A session before its first byte, with all the memory that small requests need. Its connection has this number.
+    pub fn new(alloc: Global, manner: &Manner, id: U63) -> Result<Self, AllocError>
+        ensures { IfOk result (IsNew manner.now) }
     {
         Ok(Self {
             alloc,
             reserve: Reserve::new(alloc)?,
+            standing: first_standing(alloc, manner, id),
             requests: Requests::with_capacity(alloc, ROOM)?,
             places: Places::new(alloc)?,
             owed: Encoder::new(alloc)?,
             ended: None,
             alone: false,
+            hurries: false,
             most: AHEAD,
         })
     }
 
     /// Begins the next session, with the memory of this one.
-    pub fn clear(&mut self)
-        ensures { IsNew self.new }
+    pub fn clear(&mut self, manner: &Manner)
+        ensures { IsNew manner.now self.new }
     {
+        self.standing = first_standing(self.alloc, manner, next_id(self.standing.id));
         self.requests.clear();
         self.places.clear();
         self.owed.clear();
         self.ended = None;
         self.alone = false;
+        self.hurries = false;
         self.most = AHEAD;
     }
 
@@ -156,16 +196,19 @@ impl Session {
     ///
     /// A command whose reply may be of any size, or long in coming, is asked only once every answer before it is
     /// gathered, and the next one once its own is. So at most one reply of any size is held.
-    pub fn advance(&mut self, wants_words: bool) -> Turn
+    pub fn advance(&mut self, manner: &Manner, wants_words: bool) -> Turn
         ensures turns { (read : List ℕ) (asked : List Command) (got : List Reply) (sent : List ℕ) →
-            SessionIsAfter read asked got sent self.old →
-            SessionIsAfter read (asked ++ asked_in result) got sent self.new }
+            SessionIsAfter manner.now read asked got sent self.old →
+            SessionIsAfter manner.now read (asked ++ asked_in result) got sent self.new }
         ensures formed { (call : Call) → result ≡ Turn.Asks call → IsFormed call }
         ensures words { wants_words ≡ true → (call : Call) → result ≡ Turn.Asks call → is_some call.words ≡ true }
         ensures alone { (call : Call) → result ≡ Turn.Asks call →
             (self.old.alone ≡ true) ⊎ (is_alone call.command ≡ true) → IsGathered self.old }
         ensures ended { (ending : Ending) → result ≡ Turn.Ends ending → self.new.ended ≡ Some ending }
         ensures waits { result ≡ Turn.Waits → Waits self.new.ended self.new.requests }
+        ensures heard { released_of self.old.standing.transaction ≡ [] →
+            IsHeard manner.now self.old.standing self.old.requests result }
+        ensures released { result ≡ Turn.Waits → released_of self.new.standing.transaction ≡ [] }
         ensures places { TakesPlace result self.old.places self.new.places }
         ensures owed { self.new.owed ≡ self.old.owed }
     {
@@ -176,48 +219,140 @@ impl Session {
         if !self.places.has_room(self.most) || self.waits_alone() {
             return Turn::Full;
         }
-        self.take_next(wants_words)
+        match self.standing.transaction.next() {
+            Some(_) => self.run_next(wants_words),
+            None => self.take_next(manner, wants_words),
+        }
     }
 
-    /// Takes the next request, if there is one: there is room for its answer.
-    fn take_next(&mut self, wants_words: bool) -> Turn
+    /// Takes the next of the requests that EXEC has let go: there is one, and room for its answer.
+    fn run_next(&mut self, wants_words: bool) -> Turn
+        requires released { 0 < length (released_of self.old.standing.transaction) }
         requires room { length self.old.places < 32 }
         requires going { self.old.ended ≡ None }
         requires several { self.old.alone ≡ false }
+        ensures turns { (manner : Manner) (read : List ℕ) (asked : List Command) (got : List Reply) (sent : List ℕ) →
+            SessionIsAfter manner read asked got sent self.old →
+            SessionIsAfter manner read (asked ++ asked_in result) got sent self.new }
+        ensures goes { Takes wants_words result }
+        ensures alone { (call : Call) → result ≡ Turn.Asks call → is_alone call.command ≡ true → IsGathered self.old }
+        ensures places { TakesPlace result self.old.places self.new.places }
+        ensures owed { self.new.owed ≡ self.old.owed }
+    {
+        let words = self.standing.transaction.next().unwrap();
+        let said = command_of_released(
+            self.alloc,
+            &mut self.reserve,
+            wants_words,
+            words.as_slice(),
+        );
+        match said {
+            Ok(command) => self.ask_released(wants_words, command),
+            Err(reply) => {
+                let _ = self.standing.transaction.take_next();
+                self.places.say(reply);
+                Turn::Goes
+            }
+        }
+    }
+
+    /// Asks a command that EXEC has let go, unless it is to be asked alone and some answer isn't gathered.
+    fn ask_released(&mut self, wants_words: bool, command: Command) -> Turn
+        requires said { (words : List (List ℕ)) × (others : List (List (List ℕ)))
+            × (self.old.standing.transaction ≡ Transaction.Released (words ∷ others))
+            × (command_of_words words ≡ Ok command) × (wants_words ≡ true → AreWordsOf words command) }
+        requires formed { IsWellFormed command }
+        requires room { length self.old.places < 32 }
+        requires several { self.old.alone ≡ false }
+        ensures asks { ReleasesOrWaits self.old command result self.new }
+        ensures goes { Takes wants_words result }
+        ensures owed { self.new.owed ≡ self.old.owed }
+    {
+        if self.waits_for_others(&command) {
+            return Turn::Full;
+        }
+        let words = self.standing.transaction.take_next();
+        self.places.ask();
+        self.ended = end_by(&command);
+        self.hurries = true;
+        Turn::Asks(Call {
+            command,
+            words: wants_words.then_some(words),
+        })
+    }
+
+    /// Whether a command has to wait, since it is to be asked alone and some answer isn't gathered. If it is and goes, the
+    /// next one waits for its answer.
+    fn waits_for_others(&mut self, command: &Command) -> bool
+        requires several { self.old.alone ≡ false }
+        ensures waits { result ≡ true → self.new ≡ record self.old { alone = true } }
+        ensures goes { result ≡ false → self.new ≡ record self.old { alone = is_alone command.now } }
+        ensures gathered { result ≡ false → is_alone command.now ≡ true → IsGathered self.old }
+    {
+        if !is_alone(command) {
+            return false;
+        }
+        self.alone = true;
+        !self.is_gathered()
+    }
+
+    /// Takes the next request, if there is one: there is room for its answer.
+    fn take_next(&mut self, manner: &Manner, wants_words: bool) -> Turn
+        requires room { length self.old.places < 32 }
+        requires going { self.old.ended ≡ None }
+        requires several { self.old.alone ≡ false }
+        requires nothing { released_of self.old.standing.transaction ≡ [] }
         ensures turns { (read : List ℕ) (asked : List Command) (got : List Reply) (sent : List ℕ) →
-            SessionIsAfter read asked got sent self.old →
-            SessionIsAfter read (asked ++ asked_in result) got sent self.new }
+            SessionIsAfter manner.now read asked got sent self.old →
+            SessionIsAfter manner.now read (asked ++ asked_in result) got sent self.new }
         ensures formed { (call : Call) → result ≡ Turn.Asks call → IsFormed call }
         ensures words { wants_words ≡ true → (call : Call) → result ≡ Turn.Asks call → is_some call.words ≡ true }
         ensures alone { (call : Call) → result ≡ Turn.Asks call → is_alone call.command ≡ true → IsGathered self.old }
         ensures ended { (ending : Ending) → result ≡ Turn.Ends ending → self.new.ended ≡ Some ending }
         ensures waits { result ≡ Turn.Waits → Waits self.new.ended self.new.requests }
+        ensures heard { IsHeard manner.now self.old.standing self.old.requests result }
+        ensures released { result ≡ Turn.Waits → released_of self.new.standing.transaction ≡ [] }
         ensures places { TakesPlace result self.old.places self.new.places }
         ensures owed { self.new.owed ≡ self.old.owed }
     {
-        match self.requests.has_next() {
-            Ok(true) => {}
-            Ok(false) => return Turn::Waits,
-            Err(_) => {
-                self.places.say(Fault::Protocol);
-                self.ended = Some(Ending::Protocol);
-                return Turn::Ends(Ending::Protocol);
-            }
+        let Ok(is_whole) = self.requests.has_next() else {
+            return self.refuse();
+        };
+        if manner.is_stranger(&self.standing) && is_too_much(&self.requests, is_whole) {
+            return self.refuse();
+        }
+        if !is_whole {
+            return Turn::Waits;
         }
         // A part of it is better than none.
         let _ = self.reserve.fill(self.alloc);
-        self.take_front(wants_words)
+        self.take_front(manner, wants_words)
+    }
+
+    /// Takes no further request. The protocol error is the last answer.
+    fn refuse(&mut self) -> Turn
+        requires room { length self.old.places < 32 }
+        ensures ends { result ≡ Turn.Ends Ending.Protocol }
+        ensures after { self.new ≡ record self.old {
+          places = self.old.places ++ Some (Reply.Error Fault.Protocol) ∷ [];
+          ended = Some Ending.Protocol;
+        } }
+    {
+        self.places.say(Reply::Error(Fault::Protocol));
+        self.ended = Some(Ending::Protocol);
+        Turn::Ends(Ending::Protocol)
     }
 
     /// Takes the request at the front, unless it has to wait for the replies before it.
-    fn take_front(&mut self, wants_words: bool) -> Turn
+    fn take_front(&mut self, manner: &Manner, wants_words: bool) -> Turn
         requires whole { HasNext self.old.requests }
         requires room { length self.old.places < 32 }
         requires going { self.old.ended ≡ None }
         requires several { self.old.alone ≡ false }
+        requires nothing { released_of self.old.standing.transaction ≡ [] }
         ensures turns { (read : List ℕ) (asked : List Command) (got : List Reply) (sent : List ℕ) →
-            SessionIsAfter read asked got sent self.old →
-            SessionIsAfter read (asked ++ asked_in result) got sent self.new }
+            SessionIsAfter manner.now read asked got sent self.old →
+            SessionIsAfter manner.now read (asked ++ asked_in result) got sent self.new }
         ensures goes { Takes wants_words result }
         ensures alone { (call : Call) → result ≡ Turn.Asks call → is_alone call.command ≡ true → IsGathered self.old }
         ensures places { TakesPlace result self.old.places self.new.places }
@@ -228,11 +363,19 @@ impl Session {
             self.requests.skip();
             return Turn::Goes;
         }
-        match take_request(self.alloc, &mut self.reserve, wants_words, words) {
+        let taken = take_request(
+            self.alloc,
+            &mut self.reserve,
+            wants_words,
+            manner,
+            &mut self.standing,
+            words,
+        );
+        match taken {
             Ok(call) => self.ask(call),
-            Err(fault) => {
+            Err(reply) => {
                 self.requests.skip();
-                self.places.say(fault);
+                self.places.say(reply);
                 Turn::Goes
             }
         }
@@ -246,15 +389,13 @@ impl Session {
         ensures asks { AsksOrWaits self.old call result self.new }
         ensures owed { self.new.owed ≡ self.old.owed }
     {
-        if is_alone(&call.command) {
-            self.alone = true;
-            if !self.is_gathered() {
-                return Turn::Full;
-            }
+        if self.waits_for_others(&call.command) {
+            return Turn::Full;
         }
         self.requests.skip();
         self.places.ask();
         self.ended = end_by(&call.command);
+        self.hurries = false;
         Turn::Asks(call)
     }
 
@@ -270,9 +411,9 @@ impl Session {
     /// are asked ahead.
     pub fn hand_in(&mut self, reply: Reply)
         requires { has_open self.old.places ≡ true }
-        ensures after { (read : List ℕ) (asked : List Command) (got : List Reply) (sent : List ℕ) →
-            SessionIsAfter read asked got sent self.old →
-            SessionIsAfter read asked (got ++ reply ∷ []) sent self.new }
+        ensures after { (manner : Manner) (read : List ℕ) (asked : List Command) (got : List Reply) (sent : List ℕ) →
+            SessionIsAfter manner read asked got sent self.old →
+            SessionIsAfter manner read asked (got ++ reply ∷ []) sent self.new }
         ensures owed { self.new.owed ≡ self.old.owed }
         ensures places { self.new.places ≡ fill_first reply self.old.places }
         ensures ended { self.new.ended ≡ self.old.ended }
@@ -284,8 +425,8 @@ impl Session {
 
     /// Begins the next answer if it is there and all that is owed is gathered, and says whether it did.
     pub fn begin_answer(&mut self) -> bool
-        ensures after { (read : List ℕ) (asked : List Command) (got : List Reply) (sent : List ℕ) →
-            SessionIsAfter read asked got sent self.old → SessionIsAfter read asked got sent self.new }
+        ensures after { (manner : Manner) (read : List ℕ) (asked : List Command) (got : List Reply) (sent : List ℕ) →
+            SessionIsAfter manner read asked got sent self.old → SessionIsAfter manner read asked got sent self.new }
         ensures none { result ≡ false → self.new ≡ self.old }
         ensures last { result ≡ false → self.old.owed.behind ≡ [] → NoneReady self.old.places }
         ensures fewer { result ≡ true → length self.new.places < length self.old.places }
@@ -315,9 +456,9 @@ impl Session {
 
     /// Says that the front of what is owed is written.
     pub fn mark_sent(&mut self)
-        ensures after { (read : List ℕ) (asked : List Command) (got : List Reply) (sent : List ℕ) →
-            SessionIsAfter read asked got sent self.old →
-            SessionIsAfter read asked got (sent ++ self.old.owed.piece) self.new }
+        ensures after { (manner : Manner) (read : List ℕ) (asked : List Command) (got : List Reply) (sent : List ℕ) →
+            SessionIsAfter manner read asked got sent self.old →
+            SessionIsAfter manner read asked got (sent ++ self.old.owed.piece) self.new }
         ensures owed { bytes_left self.new.owed ≡ self.old.owed.behind }
         ensures places { self.new.places ≡ self.old.places }
         ensures ended { self.new.ended ≡ self.old.ended }
@@ -334,8 +475,8 @@ impl Session {
         requires { self.old.ended ≡ None }
         ensures ok { IfOk result (λ n. Gave (R.rest reader.old) (R.rest reader.new) (R.ended reader.new) n
             (λ more. (self.new.requests ≡ with_piece self.old.requests more)
-            × ((read : List ℕ) (asked : List Command) (got : List Reply) (sent : List ℕ) →
-            SessionIsAfter read asked got sent self.old → SessionIsAfter (read ++ more) asked got sent self.new))) }
+            × ((manner : Manner) (read : List ℕ) (asked : List Command) (got : List Reply) (sent : List ℕ) →
+            SessionIsAfter manner read asked got sent self.old → SessionIsAfter manner (read ++ more) asked got sent self.new))) }
         ensures none { result ≡ Ok 0 → self.new ≡ self.old }
         ensures err { OnErr result ((self.new ≡ self.old) × Keeps (R.rest reader.old) (R.rest reader.new)) }
         ensures memory { result ≡ Err FillFault.Memory → reader.new ≡ reader.old }

@@ -1,18 +1,21 @@
 //! What becomes of a request: its call is asked, or it is answered a fault at once.
-ghost use Rattle.std.specs.Prelude.{◌≡◌, ◌<◌, length, true, is_some, IfOk, MatchResult, Ok};
+ghost use Rattle.std.specs.Prelude.{◌≡◌, ◌<◌, length, true, is_some, IfOk, MatchResult, Ok, Err};
 ghost use Rattle.xs_command.specs.declared.command.Command.{Command};
 ghost use Rattle.xs_command.specs.Read.{command_of_words};
 ghost use Rattle.xs_command.specs.WellFormed.{IsWellFormed};
 ghost use Rattle.xs_command.specs.Words.{Gives};
 ghost use Rattle.xs_desk.specs.Calls.{AreWordsOf, IsFormed};
-ghost use Rattle.xs_session.specs.Answers.{Asks, Says, IsTaken};
+ghost use Rattle.xs_connection.specs.Standing.{IsQueued};
+ghost use Rattle.xs_session.specs.Answers.{Asks, Says, IsSaid, IsTaken, names_quit, goes_at_once};
 
+use crate::manner::Manner;
 use crate::reserve::Reserve;
 use std::alloc::{AllocError, Global};
 use xs_bytes::{Bytes, List};
-use xs_command::{Command, Refusal, read_request};
+use xs_command::{Command, Refusal, Words, read_request};
+use xs_connection::Standing;
 use xs_desk::Call;
-use xs_resp::{Fault, Request};
+use xs_resp::{Fault, Reply, Request};
 use xs_tape::can_be_record;
 
 /// The command of a request, as `read_request` gives it. If no memory is found, the reserve is given back for a second
@@ -40,7 +43,8 @@ fn words_of(
     reserve: &mut Reserve,
     words: Request<'_>,
 ) -> Result<List<Bytes>, AllocError>
-    ensures { IfOk result (λ found. (command : Command) → command_of_words words.entry ≡ Ok command →
+    ensures same { IfOk result (λ found. found ≡ words.entry) }
+    ensures said { IfOk result (λ found. (command : Command) → command_of_words words.entry ≡ Ok command →
         AreWordsOf found command) }
 {
     let copies = match words.copy(alloc) {
@@ -58,35 +62,119 @@ fn words_of(
     Ok(copies)
 }
 
-/// The call of a request, with its words if they are wanted; or the fault that it is answered.
-pub fn take_request(
+/// What words with this fault are answered: an unknown command may be one of the connection.
+fn answer_fault(
+    alloc: Global,
+    manner: &Manner,
+    standing: &mut Standing,
+    words: Request<'_>,
+    fault: Fault,
+) -> Reply
+    requires { command_of_words words ≡ Err fault }
+    ensures { IsSaid manner.now standing.old words.entry fault result standing.new }
+{
+    match (manner, fault) {
+        (Manner::Full(wanted), Fault::UnknownCommand) => {
+            standing.answer(alloc, wanted, &Words::of_request(words))
+        }
+        _ => standing.refuse(Reply::Error(fault)),
+    }
+}
+
+/// Whether a command is asked at once. QUIT is, and others unless they wait for EXEC.
+fn goes_at_once(standing: &Standing, command: &Command) -> bool
+    ensures { result ≡ goes_at_once standing.now command.now }
+{
+    matches!(command, Command::Quit) || !standing.transaction.is_queueing()
+}
+
+/// Has the words of a command wait for EXEC.
+fn enqueue(
+    alloc: Global,
+    reserve: &mut Reserve,
+    standing: &mut Standing,
+    words: Request<'_>,
+) -> Reply
+    ensures { IsQueued standing.old words.entry result standing.new }
+{
+    match words_of(alloc, reserve, words) {
+        Ok(copies) => standing.enqueue(alloc, copies),
+        Err(AllocError) => standing.refuse(Reply::Error(Fault::Memory)),
+    }
+}
+
+/// The call of a command, with the words of its request if they are wanted.
+fn call_of(
     alloc: Global,
     reserve: &mut Reserve,
     wants_words: bool,
+    command: Command,
     words: Request<'_>,
-) -> Result<Call, Fault>
-    requires { 0 < length words }
-    ensures taken { MatchResult result (λ call. IsTaken words.entry (Asks call.command))
-        (λ fault. IsTaken words.entry (Says fault)) }
+) -> Result<Call, AllocError>
+    requires said { command_of_words words ≡ Ok command }
+    requires formed { IsWellFormed command }
+    ensures command { IfOk result (λ call. call.command ≡ command) }
     ensures formed { IfOk result IsFormed }
     ensures words { wants_words ≡ true → IfOk result (λ call. is_some call.words ≡ true) }
 {
-    let command = match command_of(alloc, reserve, words.again()) {
-        Ok(command) => command,
-        Err(Refusal::Said(fault)) => return Err(fault),
-        Err(Refusal::Memory) => return Err(Fault::Memory),
-    };
     if !wants_words {
         return Ok(Call {
             command,
             words: None,
         });
     }
-    match words_of(alloc, reserve, words) {
-        Ok(copies) => Ok(Call {
-            command,
-            words: Some(copies),
-        }),
-        Err(AllocError) => Err(Fault::Memory),
+    let copies = words_of(alloc, reserve, words)?;
+    Ok(Call {
+        command,
+        words: Some(copies),
+    })
+}
+
+/// Whether the first word is QUIT, which may always be asked.
+#[tactic(auto, unfolding(xs_command::specs::Words::word))]
+fn names_quit(words: &Words<'_>) -> bool
+    ensures { result ≡ names_quit words.now }
+{
+    match words.word() {
+        Ok((first, _)) => first.is(b"quit"),
+        Err(_) => false,
+    }
+}
+
+/// The call of a request, with its words if they are wanted; or what it is answered at once.
+pub fn take_request(
+    alloc: Global,
+    reserve: &mut Reserve,
+    wants_words: bool,
+    manner: &Manner,
+    standing: &mut Standing,
+    words: Request<'_>,
+) -> Result<Call, Reply>
+    requires { 0 < length words }
+    ensures taken { MatchResult result
+        (λ call. IsTaken manner.now standing.old words.entry (Asks call.command) standing.new)
+        (λ reply. IsTaken manner.now standing.old words.entry (Says reply) standing.new) }
+    ensures formed { IfOk result IsFormed }
+    ensures words { wants_words ≡ true → IfOk result (λ call. is_some call.words ≡ true) }
+{
+    if let Manner::Full(wanted) = manner {
+        let all = Words::of_request(words.again());
+        if !standing.is_allowed && !names_quit(&all) {
+            return Err(standing.answer_stranger(alloc, wanted, &all));
+        }
+    }
+    let command = match command_of(alloc, reserve, words.again()) {
+        Ok(command) => command,
+        Err(Refusal::Said(fault)) => {
+            return Err(answer_fault(alloc, manner, standing, words, fault));
+        }
+        Err(Refusal::Memory) => return Err(standing.refuse(Reply::Error(Fault::Memory))),
+    };
+    if !goes_at_once(standing, &command) {
+        return Err(enqueue(alloc, reserve, standing, words));
+    }
+    match call_of(alloc, reserve, wants_words, command, words) {
+        Ok(call) => Ok(call),
+        Err(AllocError) => Err(standing.refuse(Reply::Error(Fault::Memory))),
     }
 }

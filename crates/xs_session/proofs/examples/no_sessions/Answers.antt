@@ -1,9 +1,9 @@
 use Rattle.std.specs.Prelude.{◌≡◌, ◌||◌, ℕ, true, false, List, [], ◌∷◌, ◌++◌, map, codes, Option, Some, None, Ok, Err}
 use Rattle.std.specs.List.{list_any}
-use Rattle.std.proofs.Common.{refl, sym, ap, ◌∙◌, subst, arith, append_assoc}
+use Rattle.std.proofs.Common.{refl, sym, ap, ◌∙◌, subst, arith, append_assoc, inl, inr}
 use Rattle.std.proofs.lemmas.List.{append-nil}
 use Rattle.xs_resp.specs.declared.fault.Fault.{Fault}
-use Rattle.xs_resp.specs.declared.fault.Fault.TheVariants.{Protocol}
+use Rattle.xs_resp.specs.declared.fault.Fault.TheVariants.{Protocol, Memory}
 use Rattle.xs_resp.specs.declared.read_fault.ProtocolFault.{ProtocolFault}
 use Rattle.xs_resp.specs.declared.read_fault.ProtocolFault.TheVariants.{Shape}
 use Rattle.xs_resp.specs.declared.reply.Reply.{Reply}
@@ -20,11 +20,14 @@ use Rattle.xs_command.specs.Examples.{line}
 use Rattle.xs_command.proofs.Computing.{example_functions}
 use Rattle.xs_session.specs.declared.ending.Ending.{Ending}
 use Rattle.xs_session.specs.declared.ending.Ending.TheVariants as ending
-use Rattle.xs_session.specs.Answers.{Taken, Asks, Says, IsTaken, AreTaken, asked_of, answers_to, quits, has_quit}
+use Rattle.xs_connection.specs.declared.standing.Standing.{Standing}
+use Rattle.xs_session.specs.declared.manner.Manner.TheVariants.{Plain}
+use Rattle.xs_session.specs.Answers.{Taken, Asks, Says, asked_of, answers_to, quits, has_quit}
 use Rattle.xs_session.specs.Session.{Goes, texts}
-use Rattle.xs_session.specs.Examples.{ping, len}
+use Rattle.xs_session.specs.Examples.{ping, len, anyone}
 use Rattle.xs_session.specs.ExamplesSessions.{bytes_of_ping, bytes_of_len, bytes_of_get}
 use Rattle.xs_session.proofs.Answering.{asked-more}
+use Rattle.xs_session.proofs.PlainRequests.{IsTakenPlainly, AreTakenPlainly, all-plainly}
 use Rattle.xs_session.proofs.ReadOnce.{BeginsNone, fault-begins, read-once}
 use Rattle.xs_session.proofs.SpelledExamples.{spelled-ping, spelled-len, spelled-get, spelled-none}
 use Rattle.xs_session.proofs.examples.no_sessions.Goals as goal
@@ -57,42 +60,47 @@ error-first fault others begun places byte more is e =
     let whole : text (Error fault) ++ first.1 ≡ byte ∷ more = ap (λ r. text r ++ first.1) reply ∙ first.3 in cc
 
 -- a session that goes on and holds nothing has taken all requests that were read
-taken-are : (read front rest : List ℕ) (requests known : List (List (List ℕ))) (taken : List Taken) → SpellsAll front requests → AreTaken requests taken → SpellsAll read known → read ≡ front ++ rest → Goes None taken rest (Ok [])
-    → AreTaken known taken
-taken-are read front rest requests known taken spelled are all is goes =
+taken-are : (last : Standing) (read front rest : List ℕ) (requests known : List (List (List ℕ))) (taken : List Taken) → SpellsAll front requests → AreTakenPlainly requests taken → SpellsAll read known → read ≡ front ++ rest
+    → Goes Plain last None taken rest (Ok []) → AreTakenPlainly known taken
+taken-are last read front rest requests known taken spelled are all is goes =
     let none : [] ≡ rest = cc in
     let once = read-once front rest read [] requests known spelled (subst BeginsNone none nothing-begins) all nothing-begins (sym is ∙ sym (append-nil read)) in
-    subst (λ r. AreTaken r taken) once.0 are
+    subst (λ r. AreTakenPlainly r taken) once.0 are
 
-one-of : (taken : List Taken) (word : List ℕ) (words : List (List ℕ)) → AreTaken ((word ∷ words) ∷ []) taken → (first : Taken) × (taken ≡ first ∷ []) × IsTaken (word ∷ words) first
+one-of : (taken : List Taken) (word : List ℕ) (words : List (List ℕ)) → AreTakenPlainly ((word ∷ words) ∷ []) taken → (first : Taken) × (taken ≡ first ∷ []) × IsTakenPlainly (word ∷ words) first
 one-of taken word words (first, others, is, so, none) = (first, is ∙ ap (λ o. first ∷ o) none, so)
 
-both-of : (taken : List Taken) (word name : List ℕ) (words names : List (List ℕ)) → AreTaken ((word ∷ words) ∷ (name ∷ names) ∷ []) taken
-    → (first : Taken) × (second : Taken) × (taken ≡ first ∷ second ∷ []) × IsTaken (word ∷ words) first × IsTaken (name ∷ names) second
+both-of : (taken : List Taken) (word name : List ℕ) (words names : List (List ℕ)) → AreTakenPlainly ((word ∷ words) ∷ (name ∷ names) ∷ []) taken
+    → (first : Taken) × (second : Taken) × (taken ≡ first ∷ second ∷ []) × IsTakenPlainly (word ∷ words) first × IsTakenPlainly (name ∷ names) second
 both-of taken word name words names (first, others, is, so, rest) =
     let last = one-of others name names rest in (first, last.0, is ∙ ap (λ o. first ∷ o) last.1, so, last.2)
 
+-- what is said at once is an error
+says-error : (words : List (List ℕ)) (reply : Reply) → IsTakenPlainly words (Says reply) → (fault : Fault) × (reply ≡ Error fault)
+says-error words reply (inl (fault, is, said)) = (fault, said)
+says-error words reply (inr memory) = (Memory, memory)
+
 -- nothing is asked of what is no request yet
-none-asked : (read front rest : List ℕ) (requests : List (List (List ℕ))) (taken : List Taken) → BeginsNone read → SpellsAll front requests → AreTaken requests taken → read ≡ front ++ rest → ping ∷ [] ≡ asked_of taken → ⊥
+none-asked : (read front rest : List ℕ) (requests : List (List (List ℕ))) (taken : List Taken) → BeginsNone read → SpellsAll front requests → AreTakenPlainly requests taken → read ≡ front ++ rest → ping ∷ [] ≡ asked_of taken → ⊥
 none-asked read front rest [] taken begins none are is asked = let never : ping ∷ [] ≡ [] = asked ∙ ap asked_of are in cc
 none-asked read front rest (words ∷ requests) taken begins (first, others, split, s, all) are is asked = begins first (others ++ rest) words (is ∙ ap (λ f. f ++ rest) split ∙ append_assoc first others rest) s
 
 one-asked : (first : Taken) → ping ∷ ping ∷ [] ≡ asked_of (first ∷ []) → ⊥
 one-asked (Asks command) asked = cc
-one-asked (Says fault) asked = cc
+one-asked (Says reply) asked = cc
 
-overtakes : (first second : Taken) (begun : List Reply) (places : List (Option Reply)) (byte : ℕ) (more : List ℕ) → IsTaken (line (codes "GET k")) second → ping ∷ [] ≡ asked_of (first ∷ second ∷ [])
+overtakes : (first second : Taken) (begun : List Reply) (places : List (Option Reply)) (byte : ℕ) (more : List ℕ) → IsTakenPlainly (line (codes "GET k")) second → ping ∷ [] ≡ asked_of (first ∷ second ∷ [])
     → answers_to (first ∷ second ∷ []) [] ≡ map Some begun ++ places → texts begun ≡ byte ∷ more → ⊥
 unfolding example_functions
-overtakes (Asks command) (Asks other) begun places byte more so asked answers sent = cc
-overtakes (Asks command) (Says fault) begun places byte more so asked answers sent = waits (Some (Error fault) ∷ []) begun places byte more answers sent
-overtakes (Says fault) (Asks command) begun places byte more so asked answers sent = cc
-overtakes (Says fault) (Says other) begun places byte more so asked answers sent = cc
+overtakes (Asks command) (Asks other) begun places byte more so asked answers sent = let never = so in cc
+overtakes (Asks command) (Says reply) begun places byte more so asked answers sent = waits (Some reply ∷ []) begun places byte more answers sent
+overtakes (Says reply) (Asks command) begun places byte more so asked answers sent = let never = so in cc
+overtakes (Says reply) (Says other) begun places byte more so asked answers sent = cc
 
-error-overtakes : (first : Taken) (fault : Fault) (begun : List Reply) (places : List (Option Reply)) (byte : ℕ) (more : List ℕ) → ping ∷ [] ≡ asked_of (first ∷ [])
-    → answers_to (first ∷ Says fault ∷ []) [] ≡ map Some begun ++ places → texts begun ≡ byte ∷ more → ⊥
-error-overtakes (Asks command) fault begun places byte more asked answers sent = waits (Some (Error fault) ∷ []) begun places byte more answers sent
-error-overtakes (Says other) fault begun places byte more asked answers sent = cc
+error-overtakes : (first : Taken) (reply : Reply) (begun : List Reply) (places : List (Option Reply)) (byte : ℕ) (more : List ℕ) → ping ∷ [] ≡ asked_of (first ∷ [])
+    → answers_to (first ∷ Says reply ∷ []) [] ≡ map Some begun ++ places → texts begun ≡ byte ∷ more → ⊥
+error-overtakes (Asks command) reply begun places byte more asked answers sent = waits (Some reply ∷ []) begun places byte more answers sent
+error-overtakes (Says other) reply begun places byte more asked answers sent = cc
 
 in-order : (first second : Taken) (begun : List Reply) (places : List (Option Reply)) (byte : ℕ) (more : List ℕ) → ping ∷ len ∷ [] ≡ asked_of (first ∷ second ∷ [])
     → answers_to (first ∷ second ∷ []) (Simple Pong ∷ Int 2 ∷ []) ≡ map Some begun ++ places → texts begun ≡ byte ∷ more → 43 ≡ byte
@@ -101,25 +109,29 @@ in-order (Asks command) (Asks other) begun places byte more asked answers sent =
     let first = sent-first (Some (Simple Pong)) (Some (Int 2) ∷ []) begun places byte more answers sent in
     let reply : Simple Pong ≡ first.0 = cc in
     let whole : text (Simple Pong) ++ first.1 ≡ byte ∷ more = ap (λ r. text r ++ first.1) reply ∙ first.3 in cc
-in-order (Asks command) (Says fault) begun places byte more asked answers sent = cc
-in-order (Says fault) (Asks command) begun places byte more asked answers sent = cc
-in-order (Says fault) (Says other) begun places byte more asked answers sent = cc
+in-order (Asks command) (Says reply) begun places byte more asked answers sent = cc
+in-order (Says reply) (Asks command) begun places byte more asked answers sent = cc
+in-order (Says reply) (Says other) begun places byte more asked answers sent = cc
 
-left-out : (first second : Taken) (begun : List Reply) (places : List (Option Reply)) (byte : ℕ) (more : List ℕ) → IsTaken (line (codes "PING")) first → len ∷ [] ≡ asked_of (first ∷ second ∷ [])
+left-out : (first second : Taken) (begun : List Reply) (places : List (Option Reply)) (byte : ℕ) (more : List ℕ) → IsTakenPlainly (line (codes "PING")) first → len ∷ [] ≡ asked_of (first ∷ second ∷ [])
     → answers_to (first ∷ second ∷ []) (Int 2 ∷ []) ≡ map Some begun ++ places → texts begun ≡ byte ∷ more → 45 ≡ byte
 unfolding example_functions
-left-out (Asks command) second begun places byte more so asked answers sent = let is : ping ≡ command = cc in cc
-left-out (Says fault) second begun places byte more so asked answers sent = error-first fault (answers_to (second ∷ []) (Int 2 ∷ [])) begun places byte more answers sent
+left-out (Asks command) second begun places byte more so asked answers sent = let said = so in let is : ping ≡ command = cc in cc
+left-out (Says reply) second begun places byte more so asked answers sent =
+    let wrong = says-error (line (codes "PING")) reply so in
+    error-first wrong.0 (answers_to (second ∷ []) (Int 2 ∷ [])) begun places byte more (ap (λ r. Some r ∷ answers_to (second ∷ []) (Int 2 ∷ [])) (sym wrong.1) ∙ answers) sent
 
-invented : (first : Taken) (begun : List Reply) (places : List (Option Reply)) (byte : ℕ) (more : List ℕ) → [] ≡ asked_of (first ∷ [])
+invented : (words : List (List ℕ)) (first : Taken) (begun : List Reply) (places : List (Option Reply)) (byte : ℕ) (more : List ℕ) → IsTakenPlainly words first → [] ≡ asked_of (first ∷ [])
     → answers_to (first ∷ []) [] ≡ map Some begun ++ places → texts begun ≡ byte ∷ more → 45 ≡ byte
-invented (Asks command) begun places byte more asked answers sent = cc
-invented (Says fault) begun places byte more asked answers sent = error-first fault [] begun places byte more answers sent
+invented words (Asks command) begun places byte more so asked answers sent = cc
+invented words (Says reply) begun places byte more so asked answers sent =
+    let wrong = says-error words reply so in
+    error-first wrong.0 [] begun places byte more (ap (λ (r : Reply). Some r ∷ []) (sym wrong.1) ∙ answers) sent
 
 -- a QUIT that was asked is among what was taken
 no-quit : (taken : List Taken) (more : List Command) → has_quit taken ≡ false → Quit ∷ more ≡ asked_of taken → ⊥
 no-quit [] more none asked = cc
-no-quit (Says fault ∷ taken) more none asked = no-quit taken more none asked
+no-quit (Says reply ∷ taken) more none asked = no-quit taken more none asked
 no-quit (Asks command ∷ taken) more none asked =
     let is : Quit ≡ command = cc in
     let never : (true || list_any quits taken) ≡ false = subst (λ b. (b || list_any quits taken) ≡ false) (ap (λ c. quits (Asks c)) (sym is)) none in cc
@@ -128,12 +140,12 @@ quit-last : (before : List Taken) (asked : List Command) → asked ≡ asked_of 
 quit-last before [] is none e = cc
 quit-last before (command ∷ asked) is none e = let first : Quit ≡ command = cc in no-quit before asked none (ap (λ c. c ∷ asked) first ∙ is)
 
-behind-quit : (ended : Option Ending) (taken : List Taken) (rest : List ℕ) (held : _) → Goes ended taken rest held → Quit ∷ ping ∷ [] ≡ asked_of taken → ⊥
-behind-quit None taken rest held goes asked = no-quit taken (ping ∷ []) goes.1 asked
-behind-quit (Some ending.Quit) taken rest held (holds, (before, is, none)) asked = quit-last before (asked_of before) refl none (asked ∙ ap asked_of is ∙ asked-more before Quit)
-behind-quit (Some ending.Protocol) taken rest held goes asked = no-quit taken (ping ∷ []) goes.0 asked
-behind-quit (Some ending.Closed) taken rest held goes asked = goes
-behind-quit (Some ending.Cut) taken rest held goes asked = goes
+behind-quit : (standing : Standing) (ended : Option Ending) (taken : List Taken) (rest : List ℕ) (held : _) → Goes Plain standing ended taken rest held → Quit ∷ ping ∷ [] ≡ asked_of taken → ⊥
+behind-quit standing None taken rest held goes asked = no-quit taken (ping ∷ []) goes.1 asked
+behind-quit standing (Some ending.Quit) taken rest held (holds, (before, is, none)) asked = quit-last before (asked_of before) refl none (asked ∙ ap asked_of is ∙ asked-more before Quit)
+behind-quit standing (Some ending.Protocol) taken rest held goes asked = no-quit taken (ping ∷ []) goes.0 asked
+behind-quit standing (Some ending.Closed) taken rest held goes asked = goes
+behind-quit standing (Some ending.Cut) taken rest held goes asked = goes
 
 fault-stands : BeginsNone (codes "x")
 unfolding resp.example_functions
@@ -159,30 +171,30 @@ ping-get-spelled = (_, _, refl, spelled-ping, (_, _, refl, spelled-get, refl))
 pub returns : goal.returns
 returns c = record {
   error_before_an_open_reply = λ places owed after.
-      let both = both-of after.taken (codes "PING") (codes "GET") [] (codes "k" ∷ []) (taken-are _ after.front after.rest after.requests (line (codes "PING") ∷ line (codes "GET k") ∷ []) after.taken after.spelled after.are_taken ping-get-spelled after.read_is after.goes) in
+      let both = both-of after.taken (codes "PING") (codes "GET") [] (codes "k" ∷ []) (taken-are anyone _ after.front after.rest after.requests (line (codes "PING") ∷ line (codes "GET k") ∷ []) after.taken after.spelled (all-plainly after.first anyone after.requests after.taken after.is_first after.are_taken) ping-get-spelled after.read_is after.goes) in
       overtakes both.0 both.1 after.begun places _ _ both.4 (after.asked_is ∙ ap asked_of both.2) (sym (ap (λ t. answers_to (t ++ []) []) both.2) ∙ after.answers) after.sent_is;
   protocol_error_before_an_open_reply = λ places owed after.
       let once = read-once after.front after.rest bytes_of_ping (codes "x") after.requests (line (codes "PING") ∷ []) after.spelled (fault-begins after.rest after.goes.1.0 after.goes.1.1) ping-spelled fault-stands (sym after.read_is) in
-      let one = one-of after.taken (codes "PING") [] (subst (λ r. AreTaken r after.taken) once.0 after.are_taken) in
-      error-overtakes one.0 Protocol after.begun places _ _ (after.asked_is ∙ ap asked_of one.1) (sym (ap (λ t. answers_to (t ++ Says Protocol ∷ []) []) one.1) ∙ after.answers) after.sent_is;
+      let one = one-of after.taken (codes "PING") [] (subst (λ r. AreTakenPlainly r after.taken) once.0 (all-plainly after.first anyone after.requests after.taken after.is_first after.are_taken)) in
+      error-overtakes one.0 (Error Protocol) after.begun places _ _ (after.asked_is ∙ ap asked_of one.1) (sym (ap (λ t. answers_to (t ++ Says (Error Protocol) ∷ []) []) one.1) ∙ after.answers) after.sent_is;
   replies_in_another_order = λ places owed after.
-      let both = both-of after.taken (codes "PING") (codes "XLEN") [] (codes "k" ∷ []) (taken-are _ after.front after.rest after.requests (line (codes "PING") ∷ line (codes "XLEN k") ∷ []) after.taken after.spelled after.are_taken ping-len-spelled after.read_is after.goes) in
+      let both = both-of after.taken (codes "PING") (codes "XLEN") [] (codes "k" ∷ []) (taken-are anyone _ after.front after.rest after.requests (line (codes "PING") ∷ line (codes "XLEN k") ∷ []) after.taken after.spelled (all-plainly after.first anyone after.requests after.taken after.is_first after.are_taken) ping-len-spelled after.read_is after.goes) in
       let never : 43 ≡ 58 = in-order both.0 both.1 after.begun places _ _ (after.asked_is ∙ ap asked_of both.2) (sym (ap (λ t. answers_to (t ++ []) (Simple Pong ∷ Int 2 ∷ [])) both.2) ∙ after.answers) after.sent_is in omega (arith, never);
   an_answer_left_out = λ places owed after.
-      let both = both-of after.taken (codes "PING") (codes "XLEN") [] (codes "k" ∷ []) (taken-are _ after.front after.rest after.requests (line (codes "PING") ∷ line (codes "XLEN k") ∷ []) after.taken after.spelled after.are_taken ping-len-spelled after.read_is after.goes) in
+      let both = both-of after.taken (codes "PING") (codes "XLEN") [] (codes "k" ∷ []) (taken-are anyone _ after.front after.rest after.requests (line (codes "PING") ∷ line (codes "XLEN k") ∷ []) after.taken after.spelled (all-plainly after.first anyone after.requests after.taken after.is_first after.are_taken) ping-len-spelled after.read_is after.goes) in
       let never : 45 ≡ 58 = left-out both.0 both.1 after.begun places _ _ both.3 (after.asked_is ∙ ap asked_of both.2) (sym (ap (λ t. answers_to (t ++ []) (Int 2 ∷ [])) both.2) ∙ after.answers) after.sent_is in omega (arith, never);
   an_answer_invented = λ places owed after.
-      let one = one-of after.taken (codes "PING") [] (taken-are _ after.front after.rest after.requests (line (codes "PING") ∷ []) after.taken after.spelled after.are_taken ping-spelled after.read_is after.goes) in
-      let never : 45 ≡ 43 = invented one.0 after.begun places _ _ (after.asked_is ∙ ap asked_of one.1) (sym (ap (λ t. answers_to (t ++ []) []) one.1) ∙ after.answers) after.sent_is in omega (arith, never);
+      let one = one-of after.taken (codes "PING") [] (taken-are anyone _ after.front after.rest after.requests (line (codes "PING") ∷ []) after.taken after.spelled (all-plainly after.first anyone after.requests after.taken after.is_first after.are_taken) ping-spelled after.read_is after.goes) in
+      let never : 45 ≡ 43 = invented (line (codes "PING")) one.0 after.begun places _ _ one.2 (after.asked_is ∙ ap asked_of one.1) (sym (ap (λ t. answers_to (t ++ []) []) one.1) ∙ after.answers) after.sent_is in omega (arith, never);
   an_answer_to_no_words = λ places owed after.
-      let none = taken-are (wire (codes "*0^")) after.front after.rest after.requests ([] ∷ []) after.taken after.spelled after.are_taken (_, _, refl, spelled-none, refl) after.read_is after.goes in
+      let none = taken-are anyone (wire (codes "*0^")) after.front after.rest after.requests ([] ∷ []) after.taken after.spelled (all-plainly after.first anyone after.requests after.taken after.is_first after.are_taken) (_, _, refl, spelled-none, refl) after.read_is after.goes in
       nothing-sent after.begun places _ _ (sym (ap (λ t. answers_to (t ++ []) []) none) ∙ after.answers) after.sent_is;
   a_reply_to_nothing = λ places after. omega (arith, after.fits);
   asked_twice = λ got sent places owed after.
-      let one = one-of after.taken (codes "PING") [] (taken-are _ after.front after.rest after.requests (line (codes "PING") ∷ []) after.taken after.spelled after.are_taken ping-spelled after.read_is after.goes) in
+      let one = one-of after.taken (codes "PING") [] (taken-are anyone _ after.front after.rest after.requests (line (codes "PING") ∷ []) after.taken after.spelled (all-plainly after.first anyone after.requests after.taken after.is_first after.are_taken) ping-spelled after.read_is after.goes) in
       one-asked one.0 (after.asked_is ∙ ap asked_of one.1);
-  asked_behind_a_quit = λ ended held got sent places owed after. behind-quit ended after.taken after.rest held after.goes after.asked_is;
-  part_of_a_request_asked = λ held got sent places owed after. none-asked _ after.front after.rest after.requests after.taken part-begins after.spelled after.are_taken after.read_is after.asked_is;
+  asked_behind_a_quit = λ ended held got sent places owed after. behind-quit anyone ended after.taken after.rest held after.goes after.asked_is;
+  part_of_a_request_asked = λ held got sent places owed after. none-asked _ after.front after.rest after.requests after.taken part-begins after.spelled (all-plainly after.first anyone after.requests after.taken after.is_first after.are_taken) after.read_is after.asked_is;
   a_quit_that_ends_nothing = λ got sent places owed after. no-quit after.taken [] after.goes.1 after.asked_is;
   a_protocol_error_of_no_fault = λ got sent places owed after.
       let once = read-once after.front after.rest bytes_of_ping [] after.requests (line (codes "PING") ∷ []) after.spelled (fault-begins after.rest after.goes.1.0 after.goes.1.1) ping-spelled nothing-begins (sym after.read_is) in

@@ -6,8 +6,8 @@ pub returns-then-not-is_gathered-clause-last : goal.returns-then-not-is_gathered
 returns-then-not-is_gathered-clause-last c = λ _ none. absurd (c.is_gathered.ensures.more c.if-not-is_gathered.true none)
 
 pub returns-clause-after : goal.returns-clause-after
-returns-clause-after c = λ read asked got sent s.
+returns-clause-after c = λ manner read asked got sent s.
     let session = c.args.self.now in (
-      after-begun read asked got sent session.ended session.requests session.places c.next.new.self (bytes_left session.owed) (bytes_left c.begin.new.self) c.in-Some.reply s.0 c.in-Some.ensures c.begin.ensures,
+      after-begun manner session.standing read asked got sent session.ended session.requests session.places c.next.new.self (bytes_left session.owed) (bytes_left c.begin.new.self) c.in-Some.reply s.0 c.in-Some.ensures c.begin.ensures,
       s.1,
     )

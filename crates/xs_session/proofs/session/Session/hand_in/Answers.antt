@@ -7,9 +7,9 @@ use Rattle.xs_session.proofs.SessionTurns.{after-answered}
 use Rattle.xs_session.proofs.session.Session.hand_in.Goals as goal
 
 pub returns-clause-after : goal.returns-clause-after
-returns-clause-after c = λ read asked got sent s.
+returns-clause-after c = λ manner read asked got sent s.
     let session = c.args.self.now in (
-      subst (λ (p : List (Option Reply)). IsAfter read asked (got ++ c.args.reply ∷ []) sent session.ended session.requests p (bytes_left session.owed)) (sym c.answer.ensures)
-          (after-answered read asked got sent session.ended session.requests session.places (bytes_left session.owed) c.args.reply s.0 c.requires),
+      subst (λ (p : List (Option Reply)). IsAfter manner session.standing read asked (got ++ c.args.reply ∷ []) sent session.ended session.requests p (bytes_left session.owed)) (sym c.answer.ensures)
+          (after-answered manner session.standing read asked got sent session.ended session.requests session.places (bytes_left session.owed) c.args.reply s.0 c.requires),
       open-fewer session.alone got c.args.reply asked s.1,
     )

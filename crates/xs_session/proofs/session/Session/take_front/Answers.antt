@@ -1,6 +1,10 @@
-use Rattle.std.proofs.Common.{length}
+use Rattle.std.proofs.Common.{◌≡◌, [], length, subst, sym}
 use Rattle.xs_resp.specs.LeftToWrite.{bytes_left}
+use Rattle.xs_connection.specs.declared.standing.Standing.{Standing}
+use Rattle.xs_connection.specs.Transaction.{released_of}
 use Rattle.xs_session.specs.declared.session.Session.{Session}
+use Rattle.xs_session.specs.Answers.{Asks, IsTaken}
+use Rattle.xs_session.specs.Session.{SessionIsAfter}
 use Rattle.xs_session.proofs.OpenCommands.{open-same}
 use Rattle.xs_session.proofs.SessionTurns.{session-asked, turn-says, turn-skips}
 use Rattle.xs_session.proofs.Tests.{empty-none, empty-some}
@@ -10,23 +14,28 @@ pub returns-then-is_empty-clause-turns : goal.returns-then-is_empty-clause-turns
 returns-then-is_empty-clause-turns c = λ read asked got sent s.
     let session = c.args.self.now in
     let words = c.front-words.result in (
-      turn-skips read asked got sent session.ended session.requests c.skip.new.self session.places (bytes_left session.owed) words c.requires.going s.0 c.front-words.ensures c.skip.ensures
+      turn-skips c.args.manner.now session.standing read asked got sent session.ended session.requests c.skip.new.self session.places (bytes_left session.owed) words c.requires.going s.0 c.front-words.ensures c.skip.ensures c.requires.nothing
           (empty-none words c.is_empty.result c.is_empty.ensures c.if-is_empty.true),
       open-same session.alone (length got) asked s.1,
     )
 
 pub returns-in-Ok-clause-turns : goal.returns-in-Ok-clause-turns
 returns-in-Ok-clause-turns c = λ read asked got sent s.
+    let manner = c.args.manner.now in
     let words = c.front-words.result in
-    let session : Session = record c.args.self.now { reserve = c.take_request.new.reserve } in
-    session-asked read asked got sent session c.ask.new.self c.in-Ok.call c.ask.result words c.requires.going c.requires.several c.front-words.ensures
-    (empty-some words c.is_empty.result c.is_empty.ensures c.if-is_empty.false) c.in-Ok.ensures.taken c.ask.ensures.owed c.ask.ensures.asks s
+    let now = c.take_request-taken.new.standing in
+    let session : Session = record c.args.self.now { reserve = c.take_request-taken.new.reserve; standing = now } in
+    let taken = c.in-Ok.ensures.taken in
+    session-asked manner read asked got sent session c.ask.new.self c.in-Ok.call c.ask.result words c.requires.going c.requires.several c.front-words.ensures (subst (λ (o : Standing). released_of o.transaction ≡ []) (sym taken.3) c.requires.nothing)
+    (empty-some words c.is_empty.result c.is_empty.ensures c.if-is_empty.false)
+    (subst (λ (o : Standing). IsTaken manner o words (Asks c.in-Ok.call.command) now) (sym taken.3) taken) c.ask.ensures.owed c.ask.ensures.asks
+    (subst (λ (o : Standing). SessionIsAfter manner read asked got sent (record c.args.self.now { reserve = c.take_request-taken.new.reserve; standing = o })) (sym taken.3) s)
 
 pub returns-in-Err-clause-turns : goal.returns-in-Err-clause-turns
 returns-in-Err-clause-turns c = λ read asked got sent s.
     let session = c.args.self.now in
     let words = c.front-words.result in (
-      turn-says read asked got sent session.ended session.requests c.skip-in-Err.new.self session.places c.say.new.self (bytes_left session.owed) words c.in-Err.fault c.requires.going s.0 c.front-words.ensures c.skip-in-Err.ensures
+      turn-says c.args.manner.now session.standing read asked got sent c.take_request-taken.new.standing session.ended session.requests c.skip-in-Err.new.self session.places c.say.new.self (bytes_left session.owed) words c.in-Err.reply c.requires.going s.0 c.front-words.ensures c.skip-in-Err.ensures c.requires.nothing
           (empty-some words c.is_empty.result c.is_empty.ensures c.if-is_empty.false) c.in-Err.ensures.taken c.say.ensures,
       open-same session.alone (length got) asked s.1,
     )

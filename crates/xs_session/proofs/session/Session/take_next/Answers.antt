@@ -1,25 +1,29 @@
-use Rattle.std.proofs.Common.{length, subst, sym}
+use Rattle.std.proofs.Common.{length, refl, sym, subst}
 use Rattle.xs_resp.specs.HeldBytes.{Held}
 use Rattle.xs_resp.specs.LeftToWrite.{bytes_left}
-use Rattle.xs_resp.proofs.NextRequest.{ready-front}
 use Rattle.xs_session.specs.Session.{IsAfter}
-use Rattle.xs_session.proofs.OpenCommands.{open-same}
-use Rattle.xs_session.proofs.SessionTurns.{turn-refused, waits-of}
+use Rattle.xs_session.proofs.SessionTurns.{ready-same, session-refused, turn-much, turn-refused, waits-of}
 use Rattle.xs_session.proofs.session.Session.take_next.Goals as goal
 
-pub returns-in-Ok-false-clause-waits : goal.returns-in-Ok-false-clause-waits
-returns-in-Ok-false-clause-waits c = λ waiting.
-    (c.requires.going, waits-of c.args.self.now.requests c.has_next.new.self (rw c.in-Ok-false.field-0-test at c.in-Ok-false.ensures))
+pub returns-in_default-clause-turns : goal.returns-in_default-clause-turns
+returns-in_default-clause-turns c = λ read asked got sent s.
+    let session = c.args.self.now in
+    session-refused c.args.manner.now read asked got sent session c.refuse.new.self c.has_next.new.self c.refuse.result c.refuse.ensures.after c.refuse.ensures.ends s.1
+    (turn-refused c.args.manner.now session.standing read asked got sent session.ended session.requests c.has_next.new.self session.places _ (bytes_left session.owed) c.in_default.field-0 c.requires.going s.0 c.in_default.ensures refl)
 
-pub returns-in-Err-clause-turns : goal.returns-in-Err-clause-turns
-returns-in-Err-clause-turns c = λ read asked got sent s.
-    let session = c.args.self.now in (
-      turn-refused read asked got sent session.ended session.requests c.has_next.new.self session.places c.say.new.self (bytes_left session.owed) c.in-Err.field-0 c.requires.going s.0 c.in-Err.ensures c.say.ensures,
-      open-same session.alone (length got) asked s.1,
-    )
+pub returns-then-is_too_much-clause-turns : goal.returns-then-is_too_much-clause-turns
+returns-then-is_too_much-clause-turns c = λ read asked got sent s.
+    let session = c.args.self.now in
+    session-refused c.args.manner.now read asked got sent session c.refuse-then-is_too_much.new.self c.has_next.new.self c.refuse-then-is_too_much.result c.refuse-then-is_too_much.ensures.after c.refuse-then-is_too_much.ensures.ends s.1
+    (turn-much c.args.manner.now session.standing read asked got sent session.ended session.requests c.has_next.new.self session.places _ (bytes_left session.owed) c.requires.going s.0
+    (ready-same session.requests c.has_next.new.self c.in-Ok.is_whole c.in-Ok.ensures) (sym c.if-is_stranger.ensures) (sym c.if-is_too_much.ensures) refl)
+
+pub returns-then-not-is_whole-clause-waits : goal.returns-then-not-is_whole-clause-waits
+returns-then-not-is_whole-clause-waits c = λ waiting.
+    (c.requires.going, waits-of c.args.self.now.requests c.has_next.new.self (rw c.if-not-is_whole.true at c.in-Ok.ensures))
 
 pub returns-clause-turns : goal.returns-clause-turns
 returns-clause-turns c = λ read asked got sent s.
     let session = c.args.self.now in
-    let same = (ready-front session.requests c.has_next.new.self (rw c.in-Ok-true.field-0-test at c.in-Ok-true.ensures)).1 in
-    c.take_front.ensures.turns read asked got sent (subst (λ (h : Held). IsAfter read asked got sent session.ended h session.places (bytes_left session.owed)) (sym same) s.0, s.1)
+    let same = ready-same session.requests c.has_next.new.self c.in-Ok.is_whole c.in-Ok.ensures in
+    c.take_front.ensures.turns read asked got sent (subst (λ (h : Held). IsAfter c.args.manner.now session.standing read asked got sent session.ended h session.places (bytes_left session.owed)) (sym same) s.0, s.1)

@@ -1,0 +1,27 @@
+//! Which commands a session answers itself.
+
+ghost use Rattle.std.specs.Prelude.{◌≡◌};
+ghost use Rattle.xs_session.specs.Answers.{is_stranger};
+
+use xs_connection::{Password, Standing};
+
+/// Which commands a session answers itself.
+#[derive(Drop)]
+pub enum Manner {
+    /// None. All others than those of the keyspace are unknown.
+    Plain,
+    /// Those of a connection. A password is wanted before anything else, if there is one.
+    Full(Option<Password>),
+}
+
+impl Manner {
+    /// Whether a password is wanted that the connection hasn't given.
+    pub fn is_stranger(&self, standing: &Standing) -> bool
+        ensures { result ≡ is_stranger self.now standing.now }
+    {
+        match self {
+            Manner::Plain => false,
+            Manner::Full(_) => !standing.is_allowed,
+        }
+    }
+}

@@ -1,0 +1,60 @@
+//! What becomes of requests that EXEC has let go.
+ghost use Rattle.std.specs.Prelude.{◌≡◌, ◌<◌, length, true, Ok, IfOk, MatchResult};
+ghost use Rattle.xs_command.specs.Read.{command_of_words};
+ghost use Rattle.xs_command.specs.WellFormed.{IsWellFormed};
+ghost use Rattle.xs_command.specs.Words.{Gives};
+ghost use Rattle.xs_desk.specs.Calls.{AreWordsOf};
+ghost use Rattle.xs_session.specs.Answers.{Says, IsRun};
+
+use crate::reserve::Reserve;
+use std::alloc::Global;
+use xs_bytes::Bytes;
+use xs_command::{Command, Refusal, read_command};
+use xs_resp::{Fault, Reply};
+use xs_tape::can_be_record;
+
+/// The command that words say, as `read_command` gives it. If no memory is found, the reserve is given back for a second
+/// try.
+fn command_of(alloc: Global, reserve: &mut Reserve, words: &[Bytes]) -> Result<Command, Refusal>
+    requires { 0 < length words.now }
+    ensures exact { Gives result (command_of_words words.now) }
+    ensures formed { IfOk result IsWellFormed }
+{
+    match read_command(alloc, words) {
+        Err(Refusal::Memory) => {
+            if reserve.give_back() {
+                return read_command(alloc, words);
+            }
+            Err(Refusal::Memory)
+        }
+        first => first,
+    }
+}
+
+/// The command of words that EXEC has let go, or what they are answered. Where words are wanted for a log, those that no
+/// log can have a record of are refused as if there were no memory.
+#[tactic(auto, unfolding(xs_command::specs::Read::command_of_words, xs_command::specs::Words::word))]
+pub fn command_of_released(
+    alloc: Global,
+    reserve: &mut Reserve,
+    wants_words: bool,
+    words: &[Bytes],
+) -> Result<Command, Reply>
+    ensures said { MatchResult result
+        (λ command. command_of_words words.now ≡ Ok command) (λ reply. IsRun words.now (Says reply)) }
+    ensures formed { IfOk result IsWellFormed }
+    ensures words { wants_words ≡ true → IfOk result (AreWordsOf words.now) }
+{
+    if words.is_empty() {
+        return Err(Reply::Error(Fault::Syntax));
+    }
+    let command = match command_of(alloc, reserve, words) {
+        Ok(command) => command,
+        Err(Refusal::Said(fault)) => return Err(Reply::Error(fault)),
+        Err(Refusal::Memory) => return Err(Reply::Error(Fault::Memory)),
+    };
+    if wants_words && !can_be_record(words) {
+        return Err(Reply::Error(Fault::Memory));
+    }
+    Ok(command)
+}
