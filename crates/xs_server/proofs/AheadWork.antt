@@ -1,5 +1,5 @@
 -- Connections that are served through a lane, one after the other.
-use Rattle.std.proofs.Common.{◌≡◌, ◌≢◌, inl, inr, Bool, true, false, List, [], ◌∷◌, ◌++◌, Result, Ok, Err, sym, ap, ◌∙◌, subst, refl}
+use Rattle.std.proofs.Common.{◌≡◌, ◌≢◌, inl, inr, Bool, true, false, List, [], ◌∷◌, ◌++◌, Result, Ok, Err, not, sym, ap, ◌∙◌, subst, refl}
 use Rattle.std.proofs.Common.{append_assoc, arith, length, length-append, ℕ, Option, None}
 use Rattle.std.proofs.lemmas.List.{append-nil}
 use Rattle.xs_devices.specs.Passing.{Passing, Appends, Consumes}
@@ -11,6 +11,12 @@ use Rattle.xs_resp.specs.Grammar.{Spells, HeaderFault, FaultIn}
 use Rattle.xs_desk.specs.Callers.{Caller}
 use Rattle.xs_desk.specs.KeptRings.{KeepsSide}
 use Rattle.xs_desk.proofs.Sides.{side_again}
+use Rattle.std.specs.Option.{is_some}
+use Rattle.xs_connection.specs.declared.standing.Standing.{Standing}
+use Rattle.xs_connection.specs.declared.transaction.Transaction.TheVariants.{Closed}
+use Rattle.xs_session.specs.declared.manner.Manner.{Manner}
+use Rattle.xs_session.specs.declared.manner.Manner.TheVariants.{Plain, Full}
+use Rattle.xs_session.specs.Session.{IsFirst}
 use Rattle.xs_session.specs.declared.ending.Ending.{Ending}
 use Rattle.xs_session.proofs.SessionTurns.{after-new}
 use Rattle.xs_server.specs.declared.connections.ahead.AheadFault.{AheadFault}
@@ -22,22 +28,22 @@ use Rattle.xs_server.specs.Workers.{no_memory, IsTold, ServesOne, ServesEach, Se
 use Rattle.xs_server.proofs.AheadCalls.{calls-none}
 
 -- one more
-serves-more : (lost : Bool) (first mid last : Caller) (given returned : List Seen) (one back : Seen) (result : Result Ending AheadFault) → ServesEach lost first given returned mid
-    → (lost ≡ false → result ≢ Err fault.Port) → AreFresh one.rest one.held → ServesOne result mid last one back → ServesEach lost first (given ++ one ∷ []) (returned ++ back ∷ []) last
-serves-more lost first mid last [] [] one back result none answered fresh served =
-    (result, last, answered, fresh, subst (λ (c : Caller). ServesOne result c last one back) none served, refl)
-serves-more lost first mid last [] (other ∷ returned) one back result none answered fresh served = absurd none
-serves-more lost first mid last (other ∷ given) [] one back result none answered fresh served = absurd none
-serves-more lost first mid last (other ∷ given) (came ∷ returned) one back result (ended, next, fine, new, begun, rest) answered fresh served =
-    (ended, next, fine, new, begun, serves-more lost next mid last given returned one back result rest answered fresh served)
+serves-more : (manner : Manner) (lost : Bool) (first mid last : Caller) (given returned : List Seen) (one back : Seen) (result : Result Ending AheadFault) → ServesEach manner lost first given returned mid
+    → (lost ≡ false → result ≢ Err fault.Port) → AreFresh one.rest one.held → ServesOne manner result mid last one back → ServesEach manner lost first (given ++ one ∷ []) (returned ++ back ∷ []) last
+serves-more manner lost first mid last [] [] one back result none answered fresh served =
+    (result, last, answered, fresh, subst (λ (c : Caller). ServesOne manner result c last one back) none served, refl)
+serves-more manner lost first mid last [] (other ∷ returned) one back result none answered fresh served = absurd none
+serves-more manner lost first mid last (other ∷ given) [] one back result none answered fresh served = absurd none
+serves-more manner lost first mid last (other ∷ given) (came ∷ returned) one back result (ended, next, fine, new, begun, rest) answered fresh served =
+    (ended, next, fine, new, begun, serves-more manner lost next mid last given returned one back result rest answered fresh served)
 
 -- where all were answered, the lane may be lost later
-serves-lost : (first last : Caller) (given returned : List Seen) → ServesEach false first given returned last → ServesEach true first given returned last
-serves-lost first last [] [] is = is
-serves-lost first last [] (back ∷ returned) is = absurd is
-serves-lost first last (one ∷ given) [] is = absurd is
-serves-lost first last (one ∷ given) (back ∷ returned) (ended, mid, fine, fresh, served, rest) =
-    (ended, mid, (λ n. absurd cc), fresh, served, serves-lost mid last given returned rest)
+serves-lost : (manner : Manner) (first last : Caller) (given returned : List Seen) → ServesEach manner false first given returned last → ServesEach manner true first given returned last
+serves-lost manner first last [] [] is = is
+serves-lost manner first last [] (back ∷ returned) is = absurd is
+serves-lost manner first last (one ∷ given) [] is = absurd is
+serves-lost manner first last (one ∷ given) (back ∷ returned) (ended, mid, fine, fresh, served, rest) =
+    (ended, mid, (λ n. absurd cc), fresh, served, serves-lost manner mid last given returned rest)
 
 pub gate-none : (client : Caller) (gate : GateTrace) → ServesGate false client client gate gate
 gate-none client gate = record {
@@ -45,6 +51,7 @@ gate-none client gate = record {
   returned = [];
   given_is = sym (append-nil gate.given);
   returned_is = sym (append-nil gate.returned);
+  manner_is = refl;
   served = refl;
 }
 
@@ -54,7 +61,8 @@ gate-lost first last before now s = record {
   returned = s.returned;
   given_is = s.given_is;
   returned_is = s.returned_is;
-  served = serves-lost first last s.given s.returned s.served;
+  manner_is = s.manner_is;
+  served = serves-lost before.manner first last s.given s.returned s.served;
 }
 
 -- the gate gives no further one
@@ -64,13 +72,14 @@ gate-over lost first last before now later s is = record {
   returned = s.returned;
   given_is = ap (λ (g : GateTrace). g.given) is ∙ s.given_is;
   returned_is = ap (λ (g : GateTrace). g.returned) is ∙ s.returned_is;
+  manner_is = ap (λ (g : GateTrace). g.manner) is ∙ s.manner_is;
   served = s.served;
 }
 
 -- one more connection was given, served, and came back
-pub gate-more : (lost : Bool) (first mid last : Caller) (before now opened closed : GateTrace) (one back : Seen) (result : Result Ending AheadFault) → ServesGate lost first mid before now
-    → (opened ≡ with_given now one) × AreFresh one.rest one.held → closed ≡ with_returned opened back → (lost ≡ false → result ≢ Err fault.Port) → ServesOne result mid last one back → ServesGate lost first last before closed
-gate-more lost first mid last before now opened closed one back result s (opens, fresh) closes answered served = record {
+pub gate-more : (lost : Bool) (first mid last : Caller) (before now opened closed : GateTrace) (one back : Seen) (result : Result Ending AheadFault) (manner : Manner) → manner ≡ opened.manner → ServesGate lost first mid before now
+    → (opened ≡ with_given now one) × AreFresh one.rest one.held → closed ≡ with_returned opened back → (lost ≡ false → result ≢ Err fault.Port) → ServesOne manner result mid last one back → ServesGate lost first last before closed
+gate-more lost first mid last before now opened closed one back result manner is s (opens, fresh) closes answered served = record {
   given = s.given ++ one ∷ [];
   returned = s.returned ++ back ∷ [];
   given_is =
@@ -79,23 +88,26 @@ gate-more lost first mid last before now opened closed one back result s (opens,
   returned_is =
       ap (λ (g : GateTrace). g.returned) closes ∙ ap (λ (g : GateTrace). g.returned ++ back ∷ []) opens
       ∙ ap (λ gs. gs ++ back ∷ []) s.returned_is ∙ append_assoc before.returned s.returned (back ∷ []);
-  served = serves-more lost first mid last s.given s.returned one back result s.served answered fresh served;
+  manner_is = ap (λ (g : GateTrace). g.manner) closes ∙ ap (λ (g : GateTrace). g.manner) opens ∙ s.manner_is;
+  served =
+      serves-more before.manner lost first mid last s.given s.returned one back result s.served answered fresh
+      (subst (λ (m : Manner). ServesOne m result mid last one back) (is ∙ ap (λ (g : GateTrace). g.manner) opens ∙ s.manner_is) served);
 }
 
 -- the rings and the number of the lane stay
-serves-side : (first last : Caller) (read sent : List ℕ) (result : Result Ending AheadFault) → ServesAhead result first last read sent → KeepsSide first last
-serves-side first last read sent result s =
+serves-side : (manner : Manner) (first last : Caller) (read sent : List ℕ) (result : Result Ending AheadFault) → ServesAhead result first last manner read sent → KeepsSide first last
+serves-side manner first last read sent result s =
     (ap (λ (x : Caller). x.lane) s.calls.client_is, ap (λ (x : Caller). x.calls) s.calls.client_is, ap (λ (x : Caller). x.answers) s.calls.client_is)
 
-each-side : (lost : Bool) (first last : Caller) (given returned : List Seen) → ServesEach lost first given returned last → KeepsSide first last
-each-side lost first last [] [] is = subst (λ (c : Caller). KeepsSide first c) (sym is) (refl, refl, refl)
-each-side lost first last [] (back ∷ returned) is = absurd is
-each-side lost first last (one ∷ given) [] is = absurd is
-each-side lost first last (one ∷ given) (back ∷ returned) (ended, mid, fine, fresh, served, rest) =
-    side_again first mid last (serves-side first mid served.read served.sent ended served.served) (each-side lost mid last given returned rest)
+each-side : (manner : Manner) (lost : Bool) (first last : Caller) (given returned : List Seen) → ServesEach manner lost first given returned last → KeepsSide first last
+each-side manner lost first last [] [] is = subst (λ (c : Caller). KeepsSide first c) (sym is) (refl, refl, refl)
+each-side manner lost first last [] (back ∷ returned) is = absurd is
+each-side manner lost first last (one ∷ given) [] is = absurd is
+each-side manner lost first last (one ∷ given) (back ∷ returned) (ended, mid, fine, fresh, served, rest) =
+    side_again first mid last (serves-side manner first mid served.read served.sent ended served.served) (each-side manner lost mid last given returned rest)
 
 pub works-side : (faulty : Bool) (first last : Caller) (before now : GateTrace) → Works faulty first last before now → KeepsSide first last
-works-side faulty first last before now w = each-side faulty first last w.served.given w.served.returned w.served.served
+works-side faulty first last before now w = each-side before.manner faulty first last w.served.given w.served.returned w.served.served
 
 -- a worker that didn't begin
 pub works-none : (client : Caller) (gate : GateTrace) → Works true client client gate gate
@@ -120,16 +132,21 @@ none-wrong wrong (inl f) = none-headed wrong f
 none-wrong wrong (inr f) = omega (arith, ap length f.whole)
 
 -- a connection that nothing was read of, since there is no memory for it
-pub serves-none : (client : Caller) → ServesAhead (Err fault.Memory) client client [] []
-serves-none client = record {
+first-standing : (manner : Manner) → (standing : Standing) × IsFirst manner standing
+first-standing Plain = (record { id = 0; name = []; is_allowed = true; transaction = Closed }, refl)
+first-standing (Full wanted) = (record { id = 0; name = []; is_allowed = not (is_some wanted); transaction = Closed }, refl)
+
+pub serves-none : (manner : Manner) (client : Caller) → ServesAhead (Err fault.Memory) client client manner [] []
+serves-none manner client = record {
   asked = [];
   put = [];
   got = [];
+  standing = (first-standing manner).0;
   ended = None;
   held = Ok [];
   places = [];
   owed = [];
-  after = after-new [] None (Ok []) [] [] refl refl refl refl;
+  after = after-new manner (first-standing manner).0 [] None (Ok []) [] [] refl refl refl refl (first-standing manner).1;
   calls = calls-none client;
   all = λ n. (refl, refl);
   last = ([], refl, omega arith);
@@ -137,9 +154,9 @@ serves-none client = record {
 }
 
 -- a connection that ended out of memory, whose client was told
-pub serves-told : (first last : Caller) (read sent : List ℕ) (given back : Seen) (held : Passing) → Consumes given.rest back.rest read → Appends given.held held sent → ServesAhead (Err fault.Memory) first last read sent
-    → Says no_memory held back.held back.unwritten → ServesOne (Err fault.Memory) first last given back
-serves-told first last read sent given back held consumes appends served says = record {
+pub serves-told : (manner : Manner) (first last : Caller) (read sent : List ℕ) (given back : Seen) (held : Passing) → Consumes given.rest back.rest read → Appends given.held held sent → ServesAhead (Err fault.Memory) first last manner read sent
+    → Says no_memory held back.held back.unwritten → ServesOne manner (Err fault.Memory) first last given back
+serves-told manner first last read sent given back held consumes appends served says = record {
   read = read;
   sent = sent;
   told = says.0;
@@ -151,9 +168,9 @@ serves-told first last read sent given back held consumes appends served says = 
 }
 
 -- a connection that ended so that nothing was told
-pub serves-untold : (result : Result Ending AheadFault) (first last : Caller) (read sent : List ℕ) (given back : Seen) → result ≢ Err fault.Memory → Consumes given.rest back.rest read → Appends given.held back.held sent
-    → ServesAhead result first last read sent → HasCauseOf result back.rest back.ended back.unread back.unwritten → ServesOne result first last given back
-serves-untold result first last read sent given back other consumes appends served cause = record {
+pub serves-untold : (manner : Manner) (result : Result Ending AheadFault) (first last : Caller) (read sent : List ℕ) (given back : Seen) → result ≢ Err fault.Memory → Consumes given.rest back.rest read → Appends given.held back.held sent
+    → ServesAhead result first last manner read sent → HasCauseOf result back.rest back.ended back.unread back.unwritten → ServesOne manner result first last given back
+serves-untold manner result first last read sent given back other consumes appends served cause = record {
   read = read;
   sent = sent;
   told = [];

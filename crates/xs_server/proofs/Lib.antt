@@ -5,10 +5,6 @@ pub mod HeldLines
 pub mod ScriptLines
 pub mod ScriptHeadline
 pub mod CommandLines
-pub mod AnsweredRequests
-pub mod ConnectionTurns
-pub mod AloneRuns
-pub mod Lanes
 pub mod WorkerEnds
 pub mod ScriptTurns
 pub mod AheadCalls

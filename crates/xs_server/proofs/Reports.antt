@@ -10,6 +10,7 @@ use Rattle.std.proofs.lemmas.List.{length-map}
 use Rattle.std.proofs.lemmas.List.Elements.{All-map}
 use Rattle.std.specs.Prelude.{All, length, map}
 use Rattle.xs_desk.specs.declared.summary.Summary.{Summary}
+use Rattle.xs_session.specs.declared.manner.Manner.{Manner}
 use Rattle.xs_server.specs.Gates.{GateTrace, new_gate}
 use Rattle.xs_server.specs.WorkOutcome.{IsClosed, HasServed}
 use Rattle.xs_server.specs.Report.{Says, work_text, IsServeCause, ReportsWork}
@@ -48,10 +49,10 @@ told-of-work fault_of (Ok outcome) status old new held holds broken told = inl t
 told-of-work fault_of (Err failed) status old new held holds broken told = inr (told.0, work_text (fault_of failed), is-cause (fault_of failed), told.1)
 
 -- after an outcome of work over new gates
-pub served-at-zero : {W G A B : Type 0} (fault_of : B → WorkFault) (trace : G → GateTrace) (gates : List G) (n : ℕ) (now : A → List GateTrace) (summary : A → Summary) (worked : Result A B) (status : ℕ) (old new : W)
+pub served-at-zero : {W G A B : Type 0} (fault_of : B → WorkFault) (trace : G → GateTrace) (gates : List G) (manner : Manner) (n : ℕ) (now : A → List GateTrace) (summary : A → Summary) (worked : Result A B) (status : ℕ) (old new : W)
     (held holds : Passing) (broken : Bool)
-    → length gates ≡ n → All (λ gate. trace gate ≡ new_gate) gates → IfOk worked (λ outcome. IsClosed false (map trace gates) (now outcome) (summary outcome))
-    → ReportsWork fault_of worked status old new held holds broken → status ≡ 0 → HasServed n
-served-at-zero fault_of trace gates n now summary worked status old new held holds broken count fresh closed told zero =
+    → length gates ≡ n → All (λ gate. trace gate ≡ new_gate manner) gates → IfOk worked (λ outcome. IsClosed false (map trace gates) (now outcome) (summary outcome))
+    → ReportsWork fault_of worked status old new held holds broken → status ≡ 0 → HasServed manner n
+served-at-zero fault_of trace gates manner n now summary worked status old new held holds broken count fresh closed told zero =
     let done = closed-at-zero fault_of (λ outcome. IsClosed false (map trace gates) (now outcome) (summary outcome)) worked status old new held holds broken closed told zero in
-    (map trace gates, now done.0, summary done.0, length-map gates trace ∙ count, All-map (λ (gate : GateTrace). gate ≡ new_gate) trace gates fresh, done.1)
+    (map trace gates, now done.0, summary done.0, length-map gates trace ∙ count, All-map (λ (gate : GateTrace). gate ≡ new_gate manner) trace gates fresh, done.1)

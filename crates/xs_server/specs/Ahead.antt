@@ -9,6 +9,8 @@ use Rattle.xs_resp.specs.LeftToWrite.{bytes_left}
 use Rattle.xs_command.specs.declared.command.Command.{Command}
 use Rattle.xs_desk.specs.declared.answer.Answer.{Answer}
 use Rattle.xs_desk.specs.Callers.{Caller}
+use Rattle.xs_connection.specs.declared.standing.Standing.{Standing}
+use Rattle.xs_session.specs.declared.manner.Manner.{Manner}
 use Rattle.xs_session.specs.declared.ending.Ending.{Ending}
 use Rattle.xs_session.specs.declared.ending.Ending.TheVariants as ending
 use Rattle.xs_session.specs.declared.session.Session.{Session}
@@ -26,19 +28,25 @@ pub record Calls (first now : Caller) (put : List Command) (got : List Reply) : 
 
 -- a session and its lane: what was asked, and what of it was submitted
 pub record IsAheadAfter
-    (first now : Caller) (read : List ℕ) (asked put : List Command) (sent : List ℕ) (session : Session) : Type 0 where
+    (first now : Caller) (manner : Manner) (read : List ℕ) (asked put : List Command) (sent : List ℕ)
+    (session : Session) : Type 0 where
   pub got : List Reply
-  pub after : SessionIsAfter read asked got sent session
+  pub after : SessionIsAfter manner read asked got sent session
   pub calls : Calls first now put got
 
+-- a text that lacks some bytes of the whole one
+abbrev pub IsPart : List ℕ → List ℕ → Type 0
+IsPart part whole = (more : List ℕ) × (whole ≡ part ++ more) × (0 < length more)
+
 -- behind the bytes that were sent before, these were, and some of what is owed wasn't
-pub record BreaksOff (read : List ℕ) (asked : List Command) (got : List Reply) (sent more : List ℕ) (session : Session)
+pub record BreaksOff
+    (manner : Manner) (read : List ℕ) (asked : List Command) (got : List Reply) (sent more : List ℕ) (session : Session)
     : Type 0 where
   pub before : List ℕ
   pub part : List ℕ
   pub rest : List ℕ
   pub more_is : more ≡ before ++ part
-  pub after : SessionIsAfter read asked got (sent ++ before) session
+  pub after : SessionIsAfter manner read asked got (sent ++ before) session
   pub owed_is : bytes_left session.owed ≡ part ++ rest
   pub some : 0 < length rest
 
@@ -74,13 +82,15 @@ IsLost _ unwritten = ⊥
 
 -- a connection ends by this fault
 pub record AheadFails
-    (wrong : AheadFault) (first now : Caller) (read : List ℕ) (asked put : List Command) (sent : List ℕ) : Type 0 where
+    (wrong : AheadFault) (first now : Caller) (manner : Manner) (read : List ℕ) (asked put : List Command)
+    (sent : List ℕ) : Type 0 where
   pub got : List Reply
+  pub standing : Standing
   pub ended : Option Ending
   pub held : Held
   pub places : List (Option Reply)
   pub owed : List ℕ
-  pub after : IsAfter read asked got sent ended held places owed
+  pub after : IsAfter manner standing read asked got sent ended held places owed
   pub calls : Calls first now put got
   pub ends : AheadEnds (Err wrong) ended held places owed
   pub closed : wrong ≢ fault.Port → has_open places ≡ false
@@ -89,15 +99,16 @@ pub record AheadFails
 -- replies are those of the answers that were taken meanwhile, in order; and what was sent is their texts, with the
 -- errors in their places. But where nobody answers any more, as many answers were taken as were asked.
 pub record ServesAhead
-    (result : Result Ending AheadFault) (first now : Caller) (read sent : List ℕ) : Type 0 where
+    (result : Result Ending AheadFault) (first now : Caller) (manner : Manner) (read sent : List ℕ) : Type 0 where
   pub asked : List Command
   pub put : List Command
   pub got : List Reply
+  pub standing : Standing
   pub ended : Option Ending
   pub held : Held
   pub places : List (Option Reply)
   pub owed : List ℕ
-  pub after : IsAfter read asked got sent ended held places owed
+  pub after : IsAfter manner standing read asked got sent ended held places owed
   pub calls : Calls first now put got
   pub all : result ≢ Err fault.Port → (put ≡ asked) × (length got ≡ length asked)
   pub last : (unasked : List Command) × (asked ≡ put ++ unasked) × (length unasked < 2)

@@ -1,4 +1,4 @@
--- How the words of a request are answered, by whatever replies to commands: a port, a keyspace, a history.
+-- How the words of a line are answered, by whatever replies to commands: a keyspace, a history.
 use Rattle.std.specs.Prelude.{◌≡◌, ℕ, ◌⊎◌, List, Option, Some, None, Ok, Err}
 use Rattle.xs_resp.specs.declared.fault.Fault.{Fault}
 use Rattle.xs_resp.specs.declared.fault.Fault.TheVariants.{Memory}

@@ -1,4 +1,4 @@
--- Why a script or a connection is at its end.
+-- Why a script is at its end.
 use Rattle.std.specs.Prelude.{◌≡◌, ℕ, ◌+◌, ◌⊎◌, Bool, true, List, Option}
 use Rattle.xs_devices.specs.Passing.{Passing, IsAtEnd}
 use Rattle.xs_devices.specs.Device.{counter_at}

@@ -5,10 +5,6 @@ pub mod Script
 pub mod ScriptRun
 pub mod Report
 pub mod CommandLine
-pub mod Exchange
-pub mod Serve
-pub mod Connection
-pub mod Alone
 pub mod WorkOutcome
 pub mod WallTime
 pub mod Ahead

@@ -7,6 +7,7 @@ use Rattle.xs_desk.specs.History.{ServedCall, Desk, IsHistory, events_of, replie
 use Rattle.xs_desk.specs.Callers.{Caller, AreEnds}
 use Rattle.xs_desk.specs.Closing.{SumUp}
 use Rattle.xs_desk.specs.Opening.{IsDeskError, IsLaneCount, IsDepth}
+use Rattle.xs_session.specs.declared.manner.Manner.{Manner}
 use Rattle.xs_server.specs.Gates.{GateTrace, new_gate}
 use Rattle.xs_server.specs.Workers.{Works}
 use Rattle.xs_server.specs.declared.work.fault.WorkFault.{WorkFault}
@@ -45,9 +46,9 @@ pub record IsClosed (faulty : Bool) (before now : List GateTrace) (summary : Sum
   pub runs : RunsOn empty (events_of history) (replies_of history) summary.keyspace
 
 -- a desk was closed that had so many gates, none of which had given a connection before
-abbrev pub HasServed : ℕ → Type 0
-HasServed n =
-    (before now : List GateTrace) × (summary : Summary) × (length before ≡ n) × All (λ gate. gate ≡ new_gate) before
+abbrev pub HasServed : Manner → ℕ → Type 0
+HasServed manner n =
+    (before now : List GateTrace) × (summary : Summary) × (length before ≡ n) × All (λ gate. gate ≡ new_gate manner) before
     × IsClosed false before now summary
 
 -- what the fault of a worker is for work

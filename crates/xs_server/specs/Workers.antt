@@ -4,6 +4,7 @@ use Rattle.std.specs.Prelude.{Some, Result, Err}
 use Rattle.xs_devices.specs.Passing.{Appends, Consumes}
 use Rattle.xs_resp.specs.Line.{crlf}
 use Rattle.xs_desk.specs.Callers.{Caller}
+use Rattle.xs_session.specs.declared.manner.Manner.{Manner}
 use Rattle.xs_session.specs.declared.ending.Ending.{Ending}
 use Rattle.xs_server.specs.declared.connections.ahead.AheadFault.{AheadFault}
 use Rattle.xs_server.specs.declared.connections.ahead.AheadFault.TheVariants as fault
@@ -22,25 +23,27 @@ IsTold _ told unwritten = told ≡ []
 
 -- a connection, from what was given to what came back: these bytes were read of it, and what they ask was submitted
 -- through the lane; the answers were sent; and it ended so, for a cause that its reader and writer tell
-pub record ServesOne (result : Result Ending AheadFault) (first last : Caller) (given back : Seen) : Type 0 where
+pub record ServesOne
+    (manner : Manner) (result : Result Ending AheadFault) (first last : Caller) (given back : Seen) : Type 0 where
   pub read : List ℕ
   pub sent : List ℕ
   pub told : List ℕ
   pub consumes : Consumes given.rest back.rest read
   pub appends : Appends given.held back.held (sent ++ told)
-  pub served : ServesAhead result first last read sent
+  pub served : ServesAhead result first last manner read sent
   pub cause : HasCauseOf result back.rest back.ended back.unread back.unwritten
   pub is_told : IsTold result told back.unwritten
 
 -- the connections that were given are those that came back, one by one and in order; nothing had passed through any
 -- before; each was served through the lane, and nothing else was submitted or taken; and unless the lane was lost, all
 -- were answered
-abbrev pub ServesEach : Bool → Caller → List Seen → List Seen → Caller → Type 0
-ServesEach lost first [] [] last = last ≡ first
-ServesEach lost first (one ∷ given) (back ∷ returned) last =
+abbrev pub ServesEach : Manner → Bool → Caller → List Seen → List Seen → Caller → Type 0
+ServesEach manner lost first [] [] last = last ≡ first
+ServesEach manner lost first (one ∷ given) (back ∷ returned) last =
     (result : Result Ending AheadFault) × (mid : Caller) × (lost ≡ false → result ≢ Err fault.Port)
-    × AreFresh one.rest one.held × ServesOne result first mid one back × ServesEach lost mid given returned last
-ServesEach lost first _ _ last = ⊥
+    × AreFresh one.rest one.held × ServesOne manner result first mid one back
+    × ServesEach manner lost mid given returned last
+ServesEach manner lost first _ _ last = ⊥
 
 -- so were the connections that the gate gave meanwhile
 pub record ServesGate (lost : Bool) (first last : Caller) (before now : GateTrace) : Type 0 where
@@ -48,7 +51,8 @@ pub record ServesGate (lost : Bool) (first last : Caller) (before now : GateTrac
   pub returned : List Seen
   pub given_is : now.given ≡ before.given ++ given
   pub returned_is : now.returned ≡ before.returned ++ returned
-  pub served : ServesEach lost first given returned last
+  pub manner_is : now.manner ≡ before.manner
+  pub served : ServesEach before.manner lost first given returned last
 
 -- What a worker did. Without a fault it served its gate to the end.
 pub record Works (faulty : Bool) (first last : Caller) (before now : GateTrace) : Type 0 where

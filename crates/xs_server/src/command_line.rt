@@ -50,6 +50,8 @@ pub struct RunOptions {
     pub max_memory: u64,
     /// The log, if there is one.
     pub log: Option<LogOptions>,
+    /// The file of the password, if one is wanted.
+    pub password_file: Option<String>,
 }
 
 /// What the command line asks for.
@@ -90,7 +92,7 @@ const NO_FOLDER: &str = "error: the value of --log is empty\n";
 const NO_LOG: &str = "error: --sync says when a log is synced, and there is no --log\n";
 
 const NOT_OPEN: &str =
-    "error: whoever reaches --bind beyond loopback may do all; if that is meant, add --open\n";
+    "error: whoever reaches --bind beyond loopback may do all: add --password-file, or --open if that is meant\n";
 
 /// Whether the words run a script: no error means that they do.
 fn parse(alloc: Global, words: &[String]) -> Result<(), Error>
@@ -182,10 +184,14 @@ fn run_command<'a>(alloc: Global) -> Result<Command<'a>, AllocError> {
     let sync = Arg::new(alloc, "sync").long("sync").help(
         "When the log is synced: always before an answer (the default), each second, or no",
     );
+    let password_file = Arg::new(alloc, "password-file")
+        .long("password-file")
+        .value_name("FILE")
+        .help("Clients have to give the first line of this file as their password");
     let open = Arg::new(alloc, "open")
         .long("open")
         .action(ArgAction::SetTrue)
-        .help("Lets --bind be an address that others reach");
+        .help("Lets --bind be an address that others reach without a password");
     Command::new(alloc, "run")
         .about(ABOUT_RUN)
         .arg(option_with_default(alloc, "port", port, "6379", "The port, 1 to 65535"))?
@@ -205,6 +211,7 @@ fn run_command<'a>(alloc: Global) -> Result<Command<'a>, AllocError> {
             "After how many seconds a connection that sends or takes nothing is closed; 0 is never",
         ))?
         .arg(open)?
+        .arg(password_file)?
         .arg(max_memory)?
         .arg(log)?
         .arg(sync)
@@ -229,7 +236,8 @@ fn bind_of(matches: &ArgMatches) -> Result<IpAddr, &'static str> {
     let Ok(address) = text.parse::<IpAddr>() else {
         return Err(NO_ADDRESS);
     };
-    if address.is_loopback() || matches.get_flag("open") {
+    let is_guarded = matches.get_str("password-file").is_some();
+    if address.is_loopback() || is_guarded || matches.get_flag("open") {
         Ok(address)
     } else {
         Err(NOT_OPEN)
@@ -275,12 +283,21 @@ fn log_of(
     }
 }
 
+/// The file of the password of `run`, if the words behind it name one.
+fn password_file_of(alloc: Global, matches: &ArgMatches) -> Result<Option<String>, AllocError> {
+    match matches.get_str("password-file") {
+        Some(path) => Ok(Some(String::from_str(alloc, path)?)),
+        None => Ok(None),
+    }
+}
+
 /// What the words behind `run` say.
 fn run_options_of(
     matches: &ArgMatches,
     bind: IpAddr,
     max_memory: u64,
     log: Option<LogOptions>,
+    password_file: Option<String>,
 ) -> Option<RunOptions> {
     Some(RunOptions {
         bind,
@@ -289,6 +306,7 @@ fn run_options_of(
         idle: matches.get_one::<u64>("idle")?,
         max_memory,
         log,
+        password_file,
     })
 }
 
@@ -349,10 +367,13 @@ fn parse_run(alloc: Global, matches: &ArgMatches) -> Result<Others, Error> {
         Err(text) => return Ok(Others::Refused(text)),
     };
     let log = log_of(alloc, matches, policy)?;
-    Ok(match run_options_of(matches, bind, max_memory, log) {
-        Some(options) => Others::Run(options),
-        None => Others::Nothing,
-    })
+    let password_file = password_file_of(alloc, matches)?;
+    Ok(
+        match run_options_of(matches, bind, max_memory, log, password_file) {
+            Some(options) => Others::Run(options),
+            None => Others::Nothing,
+        },
+    )
 }
 
 /// Parses words, of which `run help` is `run --help`.

@@ -1,5 +1,2 @@
-//! Connections: requests in, replies out, over any port or a lane.
+//! Connections: requests in, replies out, over a lane.
 pub mod ahead;
-pub mod ending;
-pub mod serve;
-pub mod serve_alone;

@@ -3,6 +3,8 @@
 //! While a call waits nobody reads, so somebody has to look whether the client is still there. Whether it has closed
 //! its side shows only behind the bytes that it sent before. So a look reads them, without waiting, into a buffer that
 //! the reader takes them from later. Once that is full a reset connection alone shows.
+//!
+//! A client that hasn't given the password has until a deadline, for all that it sends and takes.
 ghost use Rattle.std.specs.Prelude.{◌≤◌, length, IfOk, IfSome};
 ghost use Rattle.xs_server.specs.Gates.{AreFresh};
 
@@ -11,6 +13,7 @@ use std::io;
 use std::io::{ErrorKind, Read, Write};
 use std::net::TcpStream;
 use std::sync::{Arc, Mutex, Wait};
+use std::time::{Clock, Duration};
 use xs_devices::{FromRead, Sink, Source, ToWrite};
 
 /// How many bytes are read while a call waits, and how many at once.
@@ -28,6 +31,46 @@ struct Shared {
     ahead_at: usize,
     // The client has closed its side, or the connection has failed.
     has_ended: bool,
+    // How long a client may send nothing, or take nothing of a reply.
+    idle: Option<Duration>,
+    // When the connection ends whose client hasn't given the password, by the monotonic clock.
+    deadline: Option<Duration>,
+}
+
+/// How long a stream waits at most. Without these times a client is slower to be closed: no reason to refuse it.
+fn set_patience(stream: &TcpStream, patience: Option<Duration>) {
+    let _ = stream.set_read_timeout(patience);
+    let _ = stream.set_write_timeout(patience);
+}
+
+/// How long a client may still wait: up to the deadline, and no longer than it may be idle.
+fn patience_at(now: Duration, deadline: Duration, idle: Option<Duration>) -> Option<Duration> {
+    let left = deadline.checked_sub(now).filter(|left| !left.is_zero())?;
+    Some(idle.map_or(left, |idle| idle.min(left)))
+}
+
+/// Whether a stream may wait for its client. If there is a deadline, it waits no longer.
+fn may_wait<S: Clock>(system: &S, shared: &Shared, stream: &TcpStream) -> bool {
+    let Some(deadline) = shared.deadline else {
+        return true;
+    };
+    let Ok(now) = system.monotonic() else {
+        return false;
+    };
+    let patience = patience_at(now, deadline, shared.idle);
+    set_patience(stream, patience);
+    patience.is_some()
+}
+
+/// The client has given the password: there is no deadline any more.
+fn let_in(shared: &mut Shared) {
+    if shared.deadline.is_none() {
+        return;
+    }
+    shared.deadline = None;
+    if let Some(stream) = shared.stream.as_ref() {
+        set_patience(stream, shared.idle);
+    }
 }
 
 /// The error of a half that is used by two at once, or behind the end of its connection.
@@ -36,12 +79,15 @@ fn busy() -> io::Error {
 }
 
 /// Sends bytes from the front of a slice, and says how many. An interrupted write is made again.
-fn send(shared: &Shared, from: &[u8]) -> io::Result<usize>
+fn send<S: Clock>(system: &S, shared: &Shared, from: &[u8]) -> io::Result<usize>
     ensures { IfOk result (λ n. n ≤ length from.now) }
 {
     let Some(mut stream) = shared.stream.as_ref() else {
         return Err(busy());
     };
+    if !may_wait(system, shared, stream) {
+        return Err(io::Error::from(ErrorKind::TimedOut));
+    }
     for _ in 0..u64::MAX {
         match stream.write(from) {
             Err(error) if error.kind() == ErrorKind::Interrupted => {}
@@ -75,7 +121,7 @@ fn take_ahead(shared: &mut Shared, into: &mut [u8]) -> usize
 }
 
 /// Waits for bytes. An interrupted read is made again; one whose time is over is the end.
-fn receive(shared: &mut Shared, into: &mut [u8]) -> io::Result<usize>
+fn receive<S: Clock>(system: &S, shared: &mut Shared, into: &mut [u8]) -> io::Result<usize>
     ensures { IfOk result (λ n. n ≤ length into.new) }
 {
     if !shared.ahead.is_empty() {
@@ -87,6 +133,9 @@ fn receive(shared: &mut Shared, into: &mut [u8]) -> io::Result<usize>
     let Some(mut stream) = shared.stream.as_ref() else {
         return Err(busy());
     };
+    if !may_wait(system, shared, stream) {
+        return Ok(0);
+    }
     for _ in 0..u64::MAX {
         match stream.read(into) {
             Err(error) if error.kind() == ErrorKind::Interrupted => {}
@@ -149,15 +198,16 @@ fn has_left(shared: &mut Shared) -> bool {
 
 /// Where the requests come from.
 #[derive(Drop)]
-pub struct Incoming {
+pub struct Incoming<S: Drop> {
+    system: S,
     // Nobody looks while it reads: no call waits then.
     shared: Arc<Mutex<Shared>>,
 }
 
-impl Read for Incoming {
+impl<S: Clock + Drop> Read for Incoming<S> {
     fn read(&mut self, into: &mut [u8]) -> io::Result<usize> {
         match self.shared.try_lock() {
-            Some(mut shared) => receive(&mut shared, into),
+            Some(mut shared) => receive(&self.system, &mut shared, into),
             None => Err(busy()),
         }
     }
@@ -179,9 +229,9 @@ impl<S: Drop> Drop for Outgoing<S> {
     }
 }
 
-impl<S: Wait + Drop> Write for Outgoing<S> {
+impl<S: Clock + Wait + Drop> Write for Outgoing<S> {
     fn write(&mut self, from: &[u8]) -> io::Result<usize> {
-        send(&self.shared.lock(&self.system), from)
+        send(&self.system, &self.shared.lock(&self.system), from)
     }
 
     fn flush(&mut self) -> io::Result<()> {
@@ -205,6 +255,13 @@ impl Peer {
         }
     }
 
+    /// Lets the client of the present connection take its time: it has given the password.
+    pub fn let_in(&self) {
+        if let Some(mut shared) = self.shared.try_lock() {
+            let_in(&mut shared);
+        }
+    }
+
     /// Whether a look has found that it has left.
     pub fn was_seen_to_leave(&self) -> bool {
         match self.shared.try_lock() {
@@ -215,7 +272,7 @@ impl Peer {
 }
 
 /// Both halves of a connection.
-pub type Halves<S> = (FromRead<Incoming>, ToWrite<Outgoing<S>>);
+pub type Halves<S> = (FromRead<Incoming<S>>, ToWrite<Outgoing<S>>);
 
 /// The memory of the halves of connections, one after the other.
 #[derive(Drop)]
@@ -224,13 +281,15 @@ pub struct HalvesMemory {
 }
 
 impl HalvesMemory {
-    /// What the halves need.
-    pub fn new(alloc: Global) -> Result<Self, AllocError> {
+    /// What the halves need of connections that may be idle so long.
+    pub fn new(alloc: Global, idle: Option<Duration>) -> Result<Self, AllocError> {
         let shared = Shared {
             stream: None,
             ahead: Vec::new(alloc),
             ahead_at: 0,
             has_ended: false,
+            idle,
+            deadline: None,
         };
         Ok(Self {
             shared: Arc::new(alloc, Mutex::new(shared))?,
@@ -244,9 +303,15 @@ impl HalvesMemory {
         })
     }
 
-    /// Both halves of a stream. They take no memory. None while the halves of another connection are in use.
-    pub fn halves_of<S: Wait + Drop>(&self, system: S, stream: TcpStream) -> Option<Halves<S>>
-        ensures { IfSome result (λ one. AreFresh (⟦<FromRead<Incoming> as Source>⟧.rest one.0)
+    /// Both halves of a stream. They take no memory. None while the halves of another connection are in use. Its client
+    /// has to give a password up to the deadline, by the monotonic clock, if there is one.
+    pub fn halves_of<S: Clock + Wait + Copy + Drop>(
+        &self,
+        system: S,
+        stream: TcpStream,
+        deadline: Option<Duration>,
+    ) -> Option<Halves<S>>
+        ensures { IfSome result (λ one. AreFresh (⟦<FromRead<Incoming<S>> as Source>⟧.rest one.0)
             (⟦<ToWrite<Outgoing<S>> as Sink>⟧.held one.1)) }
     {
         let shared = Arc::try_clone(&self.shared).ok()?;
@@ -254,10 +319,14 @@ impl HalvesMemory {
         {
             let mut shared = self.shared.try_lock()?;
             forget_ahead(&mut shared);
+            if shared.idle.is_some() {
+                set_patience(&stream, shared.idle);
+            }
             shared.has_ended = false;
+            shared.deadline = deadline;
             shared.stream = Some(stream);
         }
-        let incoming = FromRead::new(Incoming { shared });
+        let incoming = FromRead::new(Incoming { system, shared });
         let outgoing = ToWrite::new(Outgoing {
             system,
             shared: other,

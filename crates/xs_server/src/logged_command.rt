@@ -20,6 +20,7 @@ use std::net::{Net, TcpListener, TcpStream};
 use std::sync::Wait;
 use std::thread::Threads;
 use std::time::Clock;
+use xs_connection::Password;
 use xs_devices::{Sink, write_all};
 use xs_files::{FileTape, FolderFault, OpenedFolder, SyncPolicy, open_folder};
 use xs_keys::Keyspace;
@@ -195,6 +196,7 @@ pub fn run_logged<
     alloc: Global,
     options: &RunOptions,
     log: &LogOptions,
+    password: &Option<Password>,
     opened: OpenedFolder<HostRuntime>,
     out: W,
     errors: &mut E,
@@ -205,7 +207,7 @@ pub fn run_logged<
         ⟦<TapeLog<FileTape<HostRuntime>> as EventLog>⟧.has opened.log events (length events) }
     ensures { result ≡ 1 }
 {
-    let Ready { gates, patience } = match make_ready(rt, alloc, options, out, errors) {
+    let Ready { gates, patience } = match make_ready(rt, alloc, options, password, out, errors) {
         Ok(ready) => ready,
         Err(status) => return status,
     };

@@ -14,6 +14,7 @@ mod limits;
 mod lines;
 mod log_threads;
 mod logged_command;
+mod password_file;
 mod patience;
 mod report;
 mod run_command;
@@ -27,6 +28,7 @@ mod work;
 
 use command_line::{Asked, read_command_line};
 use logged_command::{open_logs, run_logged};
+use password_file::password_of;
 use report::report_memory;
 use run_command::run_server;
 use script::command::run_and_report;
@@ -49,20 +51,28 @@ fn main(rt: HostRuntime) -> ExitCode {
         Asked::Run(options) => {
             let out = ToWrite::new(rt.stderr());
             let alloc = rt.alloc();
-            match &options.log {
-                None => run_server(&rt, alloc, &options, out, &mut errors),
-                Some(log) => match open_logs(
-                    &rt,
-                    &rt,
-                    log,
-                    ToWrite::new(rt.stderr()),
-                    &mut errors,
-                ) {
-                    Ok(opened) => {
-                        run_logged(&rt, alloc, &options, log, opened, out, &mut errors)
+            let password = password_of(&rt, alloc, &options.password_file, &mut errors);
+            match (password, &options.log) {
+                (Err(status), _) => status,
+                (Ok(password), None) => {
+                    run_server(&rt, alloc, &options, &password, out, &mut errors)
+                }
+                (Ok(password), Some(log)) => {
+                    let told = ToWrite::new(rt.stderr());
+                    match open_logs(&rt, &rt, log, told, &mut errors) {
+                        Ok(opened) => run_logged(
+                            &rt,
+                            alloc,
+                            &options,
+                            log,
+                            &password,
+                            opened,
+                            out,
+                            &mut errors,
+                        ),
+                        Err(status) => status,
                     }
-                    Err(status) => status,
-                },
+                }
             }
         }
         Asked::Text => 0,

@@ -5,11 +5,12 @@
 //! to a call that has waited it looks too, so that a job goes to one that is there.
 use crate::halves::Peer;
 use crate::run_gate::RunGate;
-use crate::work::mode::{KeeperMode, Mode};
+use crate::work::mode::{Attend, KeeperMode, Mode};
 use crate::work::session_memory::SessionMemory;
 use std::alloc::{AllocError, Global};
 use std::sync::Wait;
 use std::time::{Clock, Duration};
+use xs_bytes::U63;
 use xs_desk::{Client, Journal, Keeper, Pause};
 
 /// How often a worker looks after its client.
@@ -50,6 +51,12 @@ impl<S: Wait + Clock + Drop> Pause for Watch<S> {
             return false;
         }
         client.is_blocked() || client.idle_for(&self.system, Duration::from_millis(PROMPT_MILLIS))
+    }
+}
+
+impl<S: Wait + Clock + Drop> Attend for Watch<S> {
+    fn let_in(&self) {
+        self.peer.let_in();
     }
 }
 
@@ -110,11 +117,11 @@ impl<S: Wait + Clock + Copy + Send + Drop + 'static> Mode<RunGate<S>> for Patien
         })
     }
 
-    fn memory(&self, alloc: Global) -> Result<SessionMemory, AllocError> {
+    fn memory(&self, alloc: Global, number: U63) -> Result<SessionMemory, AllocError> {
         if self.peers.len() <= MADE_AT_START {
-            return SessionMemory::made(alloc);
+            return SessionMemory::made(alloc, number);
         }
-        Ok(SessionMemory::lazy(alloc))
+        Ok(SessionMemory::lazy(alloc, number))
     }
 }
 

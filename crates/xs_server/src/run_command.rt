@@ -1,5 +1,6 @@
 //! The program's command `run`: a server that stays.
 ghost use Rattle.std.specs.Prelude.{◌≡◌, length, All, IfOk, IfErr};
+ghost use Rattle.xs_session.specs.declared.manner.Manner.TheVariants as manner;
 ghost use Rattle.xs_server.specs.Gates.{new_gate};
 ghost use Rattle.xs_server.specs.WorkOutcome.{HasServed};
 
@@ -10,7 +11,7 @@ use crate::hall::Hall;
 use crate::limits::open_files;
 use crate::patience::Patience;
 use crate::report::{report_memory, report_text, report_worked};
-use crate::run_gate::RunGate;
+use crate::run_gate::{RunGate, again};
 use crate::serve_command::DEPTH;
 use crate::version::VERSION;
 use crate::wall_clock::WallClock;
@@ -24,6 +25,7 @@ use std::net::{Net, SocketAddr, TcpListener, TcpStream};
 use std::sync::{Arc, Wait};
 use std::thread::Threads;
 use std::time::{Clock, Duration};
+use xs_connection::Password;
 use xs_devices::Sink;
 
 /// How many files are open besides the connections of workers: standard streams, listener and its double, one to read
@@ -56,15 +58,17 @@ fn name_of(error: &io::Error) -> &'static str {
 }
 
 /// A gate for each worker. They share the hall and the announcement.
-fn gates_of<S: Wait + Copy + Send + Drop>(
+fn gates_of<S: Clock + Wait + Copy + Send + Drop>(
     system: S,
     alloc: Global,
     hall: &Arc<Hall>,
     announcement: &Announcement,
     options: &RunOptions,
+    password: &Option<Password>,
 ) -> Result<Vec<RunGate<S>>, AllocError>
     ensures count { IfOk result (λ gates. length gates.items ≡ options.now.workers) }
-    ensures new { IfOk result (λ gates. All (λ gate. ⟦<RunGate<S> as Gate>⟧.trace gate ≡ new_gate) gates.items) }
+    ensures new { IfOk result (λ gates.
+        All (λ gate. ⟦<RunGate<S> as Gate>⟧.trace gate ≡ new_gate (manner.Full password.now)) gates.items) }
 {
     let idle = if options.idle == 0 {
         None
@@ -74,7 +78,7 @@ fn gates_of<S: Wait + Copy + Send + Drop>(
     let mut gates = Vec::new(alloc);
     for _worker in 0..options.workers {
         let (hall, announcement) = (Arc::try_clone(hall)?, announcement.again()?);
-        let gate = RunGate::new(system, alloc, hall, announcement, idle)?;
+        let gate = RunGate::new(system, alloc, hall, announcement, idle, again(password))?;
         gates.push(gate)?;
     }
     Ok(gates)
@@ -100,7 +104,7 @@ fn ready_line(
 
 /// What is made before the first connection is served.
 #[derive(Drop)]
-pub struct Ready<S: Wait + Drop> {
+pub struct Ready<S: Clock + Wait + Drop> {
     /// A gate for each worker.
     pub gates: Vec<RunGate<S>>,
     /// How they are served.
@@ -124,9 +128,17 @@ pub fn make_ready<
         + Send
         + Drop
         + 'static,
->(rt: &R, alloc: Global, options: &RunOptions, out: W, errors: &mut E) -> Result<Ready<R>, u8>
+>(
+    rt: &R,
+    alloc: Global,
+    options: &RunOptions,
+    password: &Option<Password>,
+    out: W,
+    errors: &mut E,
+) -> Result<Ready<R>, u8>
     ensures gates { IfOk result (λ ready. length ready.gates.items ≡ options.now.workers) }
-    ensures new { IfOk result (λ ready. All (λ gate. ⟦<RunGate<R> as Gate>⟧.trace gate ≡ new_gate) ready.gates.items) }
+    ensures new { IfOk result (λ ready.
+        All (λ gate. ⟦<RunGate<R> as Gate>⟧.trace gate ≡ new_gate (manner.Full password.now)) ready.gates.items) }
     ensures status { IfErr result (λ status. status ≡ 1) }
 {
     let files = open_files(rt);
@@ -147,7 +159,7 @@ pub fn make_ready<
     let Ok(announcement) = Announcement::new(rt, alloc, out, line) else {
         return Err(report_memory(errors));
     };
-    let Ok(gates) = gates_of(*rt, alloc, &hall, &announcement, options) else {
+    let Ok(gates) = gates_of(*rt, alloc, &hall, &announcement, options, password) else {
         return Err(report_memory(errors));
     };
     let Ok(patience) = Patience::new(*rt, alloc, gates.as_slice(), options.max_memory) else {
@@ -174,10 +186,17 @@ pub fn run_server<
         + Send
         + Drop
         + 'static,
->(rt: &R, alloc: Global, options: &RunOptions, out: W, errors: &mut E) -> u8
-    ensures served { result ≡ 0 → HasServed options.now.workers }
+>(
+    rt: &R,
+    alloc: Global,
+    options: &RunOptions,
+    password: &Option<Password>,
+    out: W,
+    errors: &mut E,
+) -> u8
+    ensures served { result ≡ 0 → HasServed (manner.Full password.now) options.now.workers }
 {
-    let Ready { gates, patience } = match make_ready(rt, alloc, options, out, errors) {
+    let Ready { gates, patience } = match make_ready(rt, alloc, options, password, out, errors) {
         Ok(ready) => ready,
         Err(status) => return status,
     };

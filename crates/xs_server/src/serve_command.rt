@@ -1,6 +1,7 @@
 //! The program's command `serve`.
 ghost use Rattle.std.specs.Prelude.{◌≡◌, ◌⊎◌, ℕ, List, length, All, IfOk};
 ghost use Rattle.xs_server.specs.Report.{Says, IsServeCause};
+ghost use Rattle.xs_session.specs.declared.manner.Manner.TheVariants as manner;
 ghost use Rattle.xs_server.specs.Gates.{new_gate};
 ghost use Rattle.xs_server.specs.WorkOutcome.{HasServed};
 
@@ -31,7 +32,8 @@ fn gates_of<S: Clock + Wait + Copy + Send + Drop>(
     announcement: &Announcement,
 ) -> Result<Vec<TcpGate<S>>, AllocError>
     ensures count { IfOk result (λ gates. length gates.items ≡ options.workers) }
-    ensures new { IfOk result (λ gates. All (λ gate. ⟦<TcpGate<S> as Gate>⟧.trace gate ≡ new_gate) gates.items) }
+    ensures new { IfOk result (λ gates.
+        All (λ gate. ⟦<TcpGate<S> as Gate>⟧.trace gate ≡ new_gate manner.Plain) gates.items) }
 {
     let listener = Arc::new(alloc, listener)?;
     let mut gates = Vec::new(alloc);
@@ -65,7 +67,7 @@ pub fn serve_and_report<
         + Drop
         + 'static,
 >(rt: &R, alloc: Global, options: ServeOptions, out: W, errors: &mut E) -> u8
-    ensures served { result ≡ 0 → HasServed options.workers }
+    ensures served { result ≡ 0 → HasServed manner.Plain options.workers }
     ensures told { ((result ≡ 0) × (errors.new ≡ errors.old))
         ⊎ ((result ≡ 1) × (cause : List ℕ) × IsServeCause cause
         × Says cause (E.held errors.old) (E.held errors.new) (E.broken errors.new)) }

@@ -1,5 +1,6 @@
 //! Connections over TCP.
 ghost use Rattle.std.specs.Prelude.{◌≡◌, IfOk, IfSome};
+ghost use Rattle.xs_session.specs.declared.manner.Manner.TheVariants as manner;
 ghost use Rattle.xs_server.specs.Gates.{AreFresh, new_gate};
 
 use crate::announcement::Announcement;
@@ -13,6 +14,7 @@ use std::sync::{Arc, Wait};
 use std::thread;
 use std::time::{Clock, Duration};
 use xs_devices::{FromRead, Sink, Source, ToWrite};
+use xs_session::Manner;
 
 /// Linux's numbers of the errors of `accept` that a listener gives for good: its descriptor is closed, it doesn't
 /// listen any more, and its descriptor is another file's.
@@ -33,7 +35,7 @@ pub struct TcpGate<S: Clock + Wait + Drop> {
     listener: Arc<TcpListener>,
     announcement: Announcement,
     left: u64,
-    register: Register<FromRead<Incoming>, ToWrite<Outgoing<S>>>,
+    register: Register<FromRead<Incoming<S>>, ToWrite<Outgoing<S>>>,
 }
 
 impl<S: Clock + Wait + Copy + Send + Drop> TcpGate<S> {
@@ -46,10 +48,10 @@ impl<S: Clock + Wait + Copy + Send + Drop> TcpGate<S> {
         announcement: Announcement,
         count: u64,
     ) -> Result<Self, AllocError>
-        ensures { IfOk result (λ gate. ⟦<TcpGate<S> as Gate>⟧.trace gate ≡ new_gate) }
+        ensures { IfOk result (λ gate. ⟦<TcpGate<S> as Gate>⟧.trace gate ≡ new_gate manner.Plain) }
     {
         Ok(Self {
-            memory: HalvesMemory::new(alloc)?,
+            memory: HalvesMemory::new(alloc, None)?,
             system,
             listener,
             announcement,
@@ -103,7 +105,7 @@ fn take_next<S: Clock + Wait + Copy + Drop>(
     memory: &HalvesMemory,
     left: &mut u64,
 ) -> Result<Option<Halves<S>>, GateFault>
-    ensures { IfOk result (λ next. IfSome next (λ one. AreFresh (⟦<FromRead<Incoming> as Source>⟧.rest one.0)
+    ensures { IfOk result (λ next. IfSome next (λ one. AreFresh (⟦<FromRead<Incoming<S>> as Source>⟧.rest one.0)
         (⟦<ToWrite<Outgoing<S>> as Sink>⟧.held one.1))) }
 {
     for _ in 0..*left {
@@ -111,7 +113,7 @@ fn take_next<S: Clock + Wait + Copy + Drop>(
         let stream = accept(system, listener)?;
         // Without it replies may be late. So a fault here is no reason to refuse the connection.
         let _ = stream.set_nodelay(true);
-        if let Some(halves) = memory.halves_of(*system, stream) {
+        if let Some(halves) = memory.halves_of(*system, stream, None) {
             return Ok(Some(halves));
         }
     }
@@ -119,11 +121,18 @@ fn take_next<S: Clock + Wait + Copy + Drop>(
 }
 
 impl<S: Clock + Wait + Copy + Send + Drop> Gate for TcpGate<S> {
-    type Reader = FromRead<Incoming>;
+    type Reader = FromRead<Incoming<S>>;
 
     type Writer = ToWrite<Outgoing<S>>;
 
-    ghost trace = { λ g. g.register };
+    ghost use Rattle.xs_session.specs.declared.manner.Manner.TheVariants.{Plain};
+    ghost use Rattle.xs_server.specs.Gates.{with_manner};
+
+    ghost trace = { λ g. with_manner Plain g.register };
+
+    fn manner(&self) -> Manner {
+        Manner::Plain
+    }
 
     fn open_next<R: Wait>(&mut self, _rt: &R) -> Result<Option<Halves<S>>, GateFault> {
         self.announcement.make();
@@ -143,7 +152,7 @@ impl<S: Clock + Wait + Copy + Send + Drop> Gate for TcpGate<S> {
         }
     }
 
-    fn close(&mut self, reader: FromRead<Incoming>, writer: ToWrite<Outgoing<S>>) {
+    fn close(&mut self, reader: FromRead<Incoming<S>>, writer: ToWrite<Outgoing<S>>) {
         self.register.take_back(&(reader, writer));
     }
 }

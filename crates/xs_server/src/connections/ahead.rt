@@ -7,17 +7,19 @@ ghost use Rattle.xs_resp.specs.LeftToWrite.{bytes_left};
 ghost use Rattle.xs_command.specs.declared.command.Command.{Command};
 ghost use Rattle.xs_desk.specs.Calls.{IsFormed};
 ghost use Rattle.xs_desk.specs.Callers.{Caller};
+ghost use Rattle.xs_session.specs.declared.manner.Manner.{Manner};
 ghost use Rattle.xs_session.specs.Places.{has_open, NoneReady};
 ghost use Rattle.xs_session.specs.Session.{IsNew, SessionIsAfter, Waits};
-ghost use Rattle.xs_server.specs.Ahead.{IsAheadAfter, AheadEnds, AheadFails, ServesAhead, IsDone, IsLost, BreaksOff};
+ghost use Rattle.xs_server.specs.Ahead.{IsPart, IsAheadAfter, AheadEnds, AheadFails, ServesAhead, IsDone, IsLost};
+ghost use Rattle.xs_server.specs.Ahead.{BreaksOff};
 ghost use Rattle.xs_server.specs.Ahead.{HasCauseOf};
-ghost use Rattle.xs_server.specs.Serve.{IsPart};
 
+use crate::work::mode::Attend;
 use std::sync::Wait;
 use thiserror::Error;
 use xs_desk::{Call, Client, Pause, PortFault};
 use xs_devices::{FillFault, Sink, Source, write_all};
-use xs_session::{Ending, Session, Turn};
+use xs_session::{Ending, Manner, Session, Turn};
 
 /// Why a connection ended before its end.
 #[derive(Clone, Copy, Debug, PartialEq, Eq, Error)]
@@ -38,9 +40,9 @@ pub enum AheadFault {
 
 /// Hands in the next answer of the lane, if one is waited for and has come, and says so.
 fn take_answer(session: &mut Session, client: &mut Client) -> bool
-    ensures after { (first : Caller) (read : List ℕ) (asked put : List Command) (sent : List ℕ) →
-        IsAheadAfter first client.old read asked put sent session.old →
-        IsAheadAfter first client.new read asked put sent session.new }
+    ensures after { (first : Caller) (manner : Manner) (read : List ℕ) (asked put : List Command) (sent : List ℕ) →
+        IsAheadAfter first client.old manner read asked put sent session.old →
+        IsAheadAfter first client.new manner read asked put sent session.new }
     ensures owed { session.new.owed ≡ session.old.owed }
     ensures ended { session.new.ended ≡ session.old.ended }
     ensures held { session.new.requests ≡ session.old.requests }
@@ -64,9 +66,9 @@ fn receive<P: Pause, T: Wait>(
     client: &mut Client,
     pause: &P,
 ) -> Result<(), PortFault>
-    ensures after { (first : Caller) (read : List ℕ) (asked put : List Command) (sent : List ℕ) →
-        IsAheadAfter first client.old read asked put sent session.old →
-        IsAheadAfter first client.new read asked put sent session.new }
+    ensures after { (first : Caller) (manner : Manner) (read : List ℕ) (asked put : List Command) (sent : List ℕ) →
+        IsAheadAfter first client.old manner read asked put sent session.old →
+        IsAheadAfter first client.new manner read asked put sent session.new }
     ensures owed { session.new.owed ≡ session.old.owed }
     ensures ended { session.new.ended ≡ session.old.ended }
     ensures held { session.new.requests ≡ session.old.requests }
@@ -84,7 +86,8 @@ fn receive<P: Pause, T: Wait>(
     unreachable!()
 }
 
-/// Submits a call that is asked. While the lane has no room for it, an answer is taken first.
+/// Submits a call that is asked, which doesn't wait if EXEC let it go. While the lane has no room for it, an answer is
+/// taken first.
 fn submit<P: Pause, T: Wait>(
     rt: &T,
     session: &mut Session,
@@ -93,15 +96,20 @@ fn submit<P: Pause, T: Wait>(
     call: Call,
 ) -> Result<(), PortFault>
     requires { IsFormed call }
-    ensures after { (first : Caller) (read : List ℕ) (asked put : List Command) (sent : List ℕ) →
-        IsAheadAfter first client.old read asked put sent session.old → MatchResult result
-        (λ _. IsAheadAfter first client.new read asked (put ++ call.command ∷ []) sent session.new)
-        (λ _. IsAheadAfter first client.new read asked put sent session.new) }
+    ensures after { (first : Caller) (manner : Manner) (read : List ℕ) (asked put : List Command) (sent : List ℕ) →
+        IsAheadAfter first client.old manner read asked put sent session.old → MatchResult result
+        (λ _. IsAheadAfter first client.new manner read asked (put ++ call.command ∷ []) sent session.new)
+        (λ _. IsAheadAfter first client.new manner read asked put sent session.new) }
 {
     let mut call = call;
     for _ in rt.forever() {
         match client.submit_call(call) {
-            Ok(_) => return Ok(()),
+            Ok(_) => {
+                if session.hurries {
+                    client.hurry();
+                }
+                return Ok(());
+            }
             Err(back) => call = back,
         }
         if !session.is_open() {
@@ -116,11 +124,11 @@ fn submit<P: Pause, T: Wait>(
 pub fn send_owed<W: Sink>(writer: &mut W, session: &mut Session) -> Result<(), AheadFault>
     ensures exact { (more : List ℕ) × Appends (W.held writer.old) (W.held writer.new) more × MatchResult result
         (λ _. more ≡ bytes_left session.old.owed) (λ _. IsPart more (bytes_left session.old.owed)) }
-    ensures sends { (read : List ℕ) (asked : List Command) (got : List Reply) (sent : List ℕ) →
-        SessionIsAfter read asked got sent session.old →
+    ensures sends { (manner : Manner) (read : List ℕ) (asked : List Command) (got : List Reply) (sent : List ℕ) →
+        SessionIsAfter manner read asked got sent session.old →
         (more : List ℕ) × Appends (W.held writer.old) (W.held writer.new) more × MatchResult result
-        (λ _. SessionIsAfter read asked got (sent ++ more) session.new)
-        (λ _. BreaksOff read asked got sent more session.new) }
+        (λ _. SessionIsAfter manner read asked got (sent ++ more) session.new)
+        (λ _. BreaksOff manner read asked got sent more session.new) }
     ensures none { OnOk result (bytes_left session.new.owed ≡ []) }
     ensures places { session.new.places ≡ session.old.places }
     ensures ended { session.new.ended ≡ session.old.ended }
@@ -139,8 +147,8 @@ pub fn send_owed<W: Sink>(writer: &mut W, session: &mut Session) -> Result<(), A
 /// Gathers the answers that are there, in their order, up to the first that is waited for, as far as there is room. It
 /// says whether one was there.
 fn gather_answers(session: &mut Session) -> bool
-    ensures after { (read : List ℕ) (asked : List Command) (got : List Reply) (sent : List ℕ) →
-        SessionIsAfter read asked got sent session.old → SessionIsAfter read asked got sent session.new }
+    ensures after { (manner : Manner) (read : List ℕ) (asked : List Command) (got : List Reply) (sent : List ℕ) →
+        SessionIsAfter manner read asked got sent session.old → SessionIsAfter manner read asked got sent session.new }
     ensures none { result ≡ false → session.new ≡ session.old }
     ensures last { result ≡ false → session.old.owed.behind ≡ [] → NoneReady session.old.places }
     ensures fewer { result ≡ true → length session.new.places < length session.old.places }
@@ -157,11 +165,11 @@ fn gather_answers(session: &mut Session) -> bool
 
 /// Sends all answers that are there, in their order, up to the first that is waited for.
 fn send_ready<W: Sink>(writer: &mut W, session: &mut Session) -> Result<(), AheadFault>
-    ensures sends { (read : List ℕ) (asked : List Command) (got : List Reply) (sent : List ℕ) →
-        SessionIsAfter read asked got sent session.old →
+    ensures sends { (manner : Manner) (read : List ℕ) (asked : List Command) (got : List Reply) (sent : List ℕ) →
+        SessionIsAfter manner read asked got sent session.old →
         (more : List ℕ) × Appends (W.held writer.old) (W.held writer.new) more × MatchResult result
-        (λ _. SessionIsAfter read asked got (sent ++ more) session.new)
-        (λ _. BreaksOff read asked got sent more session.new) }
+        (λ _. SessionIsAfter manner read asked got (sent ++ more) session.new)
+        (λ _. BreaksOff manner read asked got sent more session.new) }
     ensures none { OnOk result ((bytes_left session.new.owed ≡ []) × NoneReady session.new.places) }
     ensures open { has_open session.new.places ≡ has_open session.old.places }
     ensures ended { session.new.ended ≡ session.old.ended }
@@ -190,9 +198,9 @@ fn give_up<P: Pause, T: Wait>(
     client: &mut Client,
     pause: &P,
 ) -> AheadFault
-    ensures after { (first : Caller) (read : List ℕ) (asked put : List Command) (sent : List ℕ) →
-        IsAheadAfter first client.old read asked put sent session.old →
-        IsAheadAfter first client.new read asked put sent session.new }
+    ensures after { (first : Caller) (manner : Manner) (read : List ℕ) (asked put : List Command) (sent : List ℕ) →
+        IsAheadAfter first client.old manner read asked put sent session.old →
+        IsAheadAfter first client.new manner read asked put sent session.new }
     ensures fault { ((result ≡ AheadFault.Write) × (has_open session.new.places ≡ false)
         × (length session.new.places ≤ 32)) ⊎ (result ≡ AheadFault.Port) }
     ensures owed { session.new.owed ≡ session.old.owed }
@@ -217,11 +225,11 @@ fn send_before<W: Sink, P: Pause, T: Wait>(
     client: &mut Client,
     pause: &P,
 ) -> Result<(), AheadFault>
-    ensures after { (first : Caller) (read : List ℕ) (asked put : List Command) (sent : List ℕ) →
-        IsAheadAfter first client.old read asked put sent session.old →
+    ensures after { (first : Caller) (manner : Manner) (read : List ℕ) (asked put : List Command) (sent : List ℕ) →
+        IsAheadAfter first client.old manner read asked put sent session.old →
         (more : List ℕ) × Appends (W.held writer.old) (W.held writer.new) more × MatchResult result
-        (λ _. IsAheadAfter first client.new read asked put (sent ++ more) session.new)
-        (λ fault. AheadFails fault first client.new read asked put (sent ++ more)) }
+        (λ _. IsAheadAfter first client.new manner read asked put (sent ++ more) session.new)
+        (λ fault. AheadFails fault first client.new manner read asked put (sent ++ more)) }
     ensures none { OnOk result ((bytes_left session.new.owed ≡ []) × NoneReady session.new.places) }
     ensures open { OnOk result (has_open session.new.places ≡ has_open session.old.places) }
     ensures ended { OnOk result (session.new.ended ≡ session.old.ended) }
@@ -241,9 +249,9 @@ fn receive_briefly<P: Pause, T: Wait>(
     client: &mut Client,
     pause: &P,
 ) -> Result<bool, PortFault>
-    ensures after { (first : Caller) (read : List ℕ) (asked put : List Command) (sent : List ℕ) →
-        IsAheadAfter first client.old read asked put sent session.old →
-        IsAheadAfter first client.new read asked put sent session.new }
+    ensures after { (first : Caller) (manner : Manner) (read : List ℕ) (asked put : List Command) (sent : List ℕ) →
+        IsAheadAfter first client.old manner read asked put sent session.old →
+        IsAheadAfter first client.new manner read asked put sent session.new }
     ensures ended { session.new.ended ≡ session.old.ended }
     ensures held { session.new.requests ≡ session.old.requests }
 {
@@ -275,11 +283,11 @@ fn settle<W: Sink, P: Pause, T: Wait>(
     client: &mut Client,
     pause: &P,
 ) -> Result<bool, AheadFault>
-    ensures after { (first : Caller) (read : List ℕ) (asked put : List Command) (sent : List ℕ) →
-        IsAheadAfter first client.old read asked put sent session.old →
+    ensures after { (first : Caller) (manner : Manner) (read : List ℕ) (asked put : List Command) (sent : List ℕ) →
+        IsAheadAfter first client.old manner read asked put sent session.old →
         (more : List ℕ) × Appends (W.held writer.old) (W.held writer.new) more × MatchResult result
-        (λ _. IsAheadAfter first client.new read asked put (sent ++ more) session.new)
-        (λ fault. AheadFails fault first client.new read asked put (sent ++ more)) }
+        (λ _. IsAheadAfter first client.new manner read asked put (sent ++ more) session.new)
+        (λ fault. AheadFails fault first client.new manner read asked put (sent ++ more)) }
     ensures done { result ≡ Ok false → IsDone session.new.places (bytes_left session.new.owed) }
     ensures ended { OnOk result (session.new.ended ≡ session.old.ended) }
     ensures held { OnOk result (session.new.requests ≡ session.old.requests) }
@@ -317,11 +325,11 @@ fn make_room<W: Sink, P: Pause, T: Wait>(
     client: &mut Client,
     pause: &P,
 ) -> Result<(), AheadFault>
-    ensures after { (first : Caller) (read : List ℕ) (asked put : List Command) (sent : List ℕ) →
-        IsAheadAfter first client.old read asked put sent session.old →
+    ensures after { (first : Caller) (manner : Manner) (read : List ℕ) (asked put : List Command) (sent : List ℕ) →
+        IsAheadAfter first client.old manner read asked put sent session.old →
         (more : List ℕ) × Appends (W.held writer.old) (W.held writer.new) more × MatchResult result
-        (λ _. IsAheadAfter first client.new read asked put (sent ++ more) session.new)
-        (λ fault. AheadFails fault first client.new read asked put (sent ++ more)) }
+        (λ _. IsAheadAfter first client.new manner read asked put (sent ++ more) session.new)
+        (λ fault. AheadFails fault first client.new manner read asked put (sent ++ more)) }
     ensures cause { IfErr result (λ fault. IsLost fault (W.broken writer.new)) }
 {
     if gather_answers(session) {
@@ -340,10 +348,10 @@ fn read_on<R: Source>(
 ) -> Result<(), Result<Ending, AheadFault>>
     requires waits { Waits session.old.ended session.old.requests }
     requires done { IsDone session.old.places (bytes_left session.old.owed) }
-    ensures reads { (read : List ℕ) (asked : List Command) (got : List Reply) (sent : List ℕ) →
-        SessionIsAfter read asked got sent session.old →
+    ensures reads { (manner : Manner) (read : List ℕ) (asked : List Command) (got : List Reply) (sent : List ℕ) →
+        SessionIsAfter manner read asked got sent session.old →
         (more : List ℕ) × Consumes (R.rest reader.old) (R.rest reader.new) more
-        × SessionIsAfter (read ++ more) asked got sent session.new }
+        × SessionIsAfter manner (read ++ more) asked got sent session.new }
     ensures ends { IfErr result (λ end. AheadEnds end session.new.ended session.new.requests session.new.places
         (bytes_left session.new.owed)) }
     ensures done { IsDone session.new.places (bytes_left session.new.owed) }
@@ -358,10 +366,18 @@ fn read_on<R: Source>(
     }
 }
 
+/// Lets the client take its time if it has given the password.
+fn greet<P: Attend>(manner: &Manner, session: &Session, pause: &P) {
+    if matches!(manner, Manner::Full(Some(_))) && !manner.is_stranger(&session.standing) {
+        pause.let_in();
+    }
+}
+
 /// One step of a connection: a request is taken, or an answer, or all that is owed is sent and more is read. Its end is
 /// the error.
-fn step<R: Source, W: Sink, P: Pause, T: Wait>(
+fn step<R: Source, W: Sink, P: Attend, T: Wait>(
     rt: &T,
+    manner: &Manner,
     session: &mut Session,
     reader: &mut R,
     writer: &mut W,
@@ -369,15 +385,19 @@ fn step<R: Source, W: Sink, P: Pause, T: Wait>(
     pause: &P,
 ) -> Result<(), Result<Ending, AheadFault>>
     ensures steps { (first : Caller) (read : List ℕ) (asked : List Command) (sent : List ℕ) →
-        IsAheadAfter first client.old read asked asked sent session.old →
+        IsAheadAfter first client.old manner.now read asked asked sent session.old →
         (came went : List ℕ) × Consumes (R.rest reader.old) (R.rest reader.new) came
         × Appends (W.held writer.old) (W.held writer.new) went × MatchResult result
-        (λ _. (now : List Command) × IsAheadAfter first client.new (read ++ came) now now (sent ++ went) session.new)
-        (λ end. ServesAhead end first client.new (read ++ came) (sent ++ went)
+        (λ _. (now : List Command)
+        × IsAheadAfter first client.new manner.now (read ++ came) now now (sent ++ went) session.new)
+        (λ end. ServesAhead end first client.new manner.now (read ++ came) (sent ++ went)
         × HasCauseOf end (R.rest reader.new) (R.ended reader.new) (R.broken reader.new) (W.broken writer.new)) }
 {
-    match session.advance(client.wants_words()) {
-        Turn::Goes => Ok(()),
+    match session.advance(manner, client.wants_words()) {
+        Turn::Goes => {
+            greet(manner, session, pause);
+            Ok(())
+        }
         Turn::Asks(call) => match submit(rt, session, client, pause, call) {
             Ok(()) => Ok(()),
             Err(_) => Err(Err(AheadFault::Port)),
@@ -400,12 +420,13 @@ fn step<R: Source, W: Sink, P: Pause, T: Wait>(
 }
 
 /// Serves a connection through a lane. The commands of its requests are submitted as they are read, while there is room
-/// for them, and nothing is read while one of them is open; the replies are sent in the order of the requests.
+/// for them, and nothing is read while one of them is open; the answers are sent in the order of the requests.
 ///
 /// # Errors
 /// An `AheadFault`. What was asked is executed.
-pub fn serve_ahead<R: Source, W: Sink, P: Pause, T: Wait>(
+pub fn serve_ahead<R: Source, W: Sink, P: Attend, T: Wait>(
     rt: &T,
+    manner: &Manner,
     session: &mut Session,
     reader: &mut R,
     writer: &mut W,
@@ -414,17 +435,17 @@ pub fn serve_ahead<R: Source, W: Sink, P: Pause, T: Wait>(
 ) -> Result<Ending, AheadFault>
     ensures serves { (read sent : List ℕ)
         × Consumes (R.rest reader.old) (R.rest reader.new) read × Appends (W.held writer.old) (W.held writer.new) sent
-        × ServesAhead result client.old client.new read sent }
+        × ServesAhead result client.old client.new manner.now read sent }
     ensures cause { HasCauseOf result (R.rest reader.new) (R.ended reader.new) (R.broken reader.new)
         (W.broken writer.new) }
-    ensures clear { IsNew session.new }
+    ensures clear { IsNew manner.now session.new }
 {
-    session.clear();
+    session.clear(manner);
     for _ in rt.forever() {
-        match step(rt, session, reader, writer, client, pause) {
+        match step(rt, manner, session, reader, writer, client, pause) {
             Ok(()) => {}
             Err(end) => {
-                session.clear();
+                session.clear(manner);
                 return end;
             }
         }

@@ -14,6 +14,7 @@ use std::sync::{Arc, Wait};
 use std::thread::Threads;
 use xs_desk::{DeskError, LaneSummary, Summary};
 use xs_devices::{Failed, Sink, Source};
+use xs_session::Manner;
 use xs_stream::Moment;
 
 /// How often a reader looks whether it may give more.
@@ -119,7 +120,14 @@ impl Gate for Scripted {
 
     type Writer = Outgoing;
 
-    ghost trace = { λ g. g.register };
+    ghost use Rattle.xs_session.specs.declared.manner.Manner.TheVariants.{Plain};
+    ghost use Rattle.xs_server.specs.Gates.{with_manner};
+
+    ghost trace = { λ g. with_manner Plain g.register };
+
+    fn manner(&self) -> Manner {
+        Manner::Plain
+    }
 
     fn open_next<R: Wait>(&mut self, _rt: &R) -> Result<Option<(Incoming, Outgoing)>, GateFault> {
         match self.take_next() {

@@ -1,24 +1,12 @@
-//! Whole connections over a keyspace alone, at moment 1000.
+//! Whole connections, at moment 1000.
 use super::*;
-use crate::connections::ending::{Ending, ServeFault};
-use crate::connections::serve::serve;
-use crate::connections::serve_alone::serve_alone;
-use crate::tests::fakes::{InTwo, Still};
+use crate::connections::ahead::{AheadFault, serve_ahead};
+use crate::tests::fakes::{InTwo, OneThread};
 use std::sync::atomic::AtomicU64;
 use std::sync::{Arc, Wait};
-use xs_desk::{Alone, Lane, desk};
-use xs_keys::Keyspace;
-use xs_stream::Moment;
-
-/// An empty keyspace at moment 1000.
-pub fn new_alone(alloc: Global) -> Alone<Still> {
-    Alone {
-        keyspace: Keyspace::new(alloc),
-        clock: Still {
-            moment: Moment::new(1000).unwrap(),
-        },
-    }
-}
+use xs_bytes::U63;
+use xs_desk::{Idle, desk};
+use xs_session::{Ending, Manner, Session};
 
 /// A reader that fails if it is read for the others before so many bytes are counted.
 fn in_two<'a>(
@@ -92,7 +80,7 @@ fn serves_whole_connections(rt: HostRuntime) -> Result<(), Fail> {
             let (first, others) = input.as_bytes().split_at(cut.min(input.len()));
             let mut reader = in_two(first, others, 0, &none)?;
             let mut writer = sips(alloc)?;
-            let served = serve_alone(&rt, alloc, &mut reader, &mut writer, &mut new_alone(alloc));
+            let served = OneThread::new(alloc)?.serve(&rt, &mut reader, &mut writer);
             assert_eq!(rt; served, Ok(ending), "{input} cut at {cut}");
             assert_eq!(rt;
                 writer.into_inner().bytes.as_slice(),
@@ -112,7 +100,7 @@ fn reads_on_once_all_is_answered(rt: HostRuntime) -> Result<(), Fail> {
     let sips = Sips::new(alloc, 1)?;
     let mut reader = in_two(ping, ping, 7, &sips.counted)?;
     let mut writer = ToWrite::new(sips);
-    let served = serve_alone(&rt, alloc, &mut reader, &mut writer, &mut new_alone(alloc));
+    let served = OneThread::new(alloc)?.serve(&rt, &mut reader, &mut writer);
     assert_eq!(rt; served, Ok(Ending::Closed));
     assert_eq!(rt;
         writer.into_inner().bytes.as_slice(),
@@ -124,10 +112,10 @@ fn reads_on_once_all_is_answered(rt: HostRuntime) -> Result<(), Fail> {
 const ADDITION: &[u8] = b"*5\r\n$4\r\nXADD\r\n$1\r\ns\r\n$1\r\n*\r\n$1\r\nf\r\n$1\r\nv\r\n";
 
 /// How long the stream `s` is, as it is told.
-fn told_length(rt: &impl Wait, alloc: Global, alone: &mut Alone<Still>) -> Result<Vec<u8>, Fail> {
+fn told_length(rt: &impl Wait, alloc: Global, server: &mut OneThread) -> Result<Vec<u8>, Fail> {
     let mut writer = sips(alloc)?;
     let mut reader = dribble(b"*2\r\n$4\r\nXLEN\r\n$1\r\ns\r\n");
-    serve_alone(rt, alloc, &mut reader, &mut writer, alone)?;
+    server.serve(rt, &mut reader, &mut writer)?;
     Ok(writer.into_inner().bytes)
 }
 
@@ -141,19 +129,18 @@ fn tells_of_each_failed_write_of_a_reply(rt: HostRuntime) -> Result<(), Fail> {
             let mut sips = Sips::new(alloc, 1)?;
             (sips.fails_at, sips.stops) = (at, stops);
             let mut writer = ToWrite::new(sips);
-            let mut alone = new_alone(alloc);
+            let mut server = OneThread::new(alloc)?;
             let mut reader = dribble(input.as_slice());
-            let served = serve_alone(&rt, alloc, &mut reader, &mut writer, &mut alone);
-            let replies = (at - 1) / 12;
-            assert_eq!(rt; served, Err(ServeFault::Write { replies }), "write {at}");
+            let served = server.serve(&rt, &mut reader, &mut writer);
+            assert_eq!(rt; served, Err(AheadFault::Write), "write {at}");
             assert_eq!(rt;
                 writer.into_inner().bytes.len() as u64,
                 at - 1,
                 "write {at}"
             );
-            let told = format!(in alloc; ":{}\r\n", replies + 1)?;
+            let told = format!(in alloc; ":{}\r\n", (at - 1) / 12 + 1)?;
             assert_eq!(rt;
-                told_length(&rt, alloc, &mut alone)?.as_slice(),
+                told_length(&rt, alloc, &mut server)?.as_slice(),
                 told.as_bytes(),
                 "write {at}"
             );
@@ -163,7 +150,7 @@ fn tells_of_each_failed_write_of_a_reply(rt: HostRuntime) -> Result<(), Fail> {
 }
 
 /// Whether these are the bytes that the two requests are answered, one allocation of which was refused.
-fn is_answer(served: Result<Ending, ServeFault>, bytes: &[u8]) -> bool {
+fn is_answer(served: Result<Ending, AheadFault>, bytes: &[u8]) -> bool {
     match served {
         Ok(Ending::Closed) => [
             PONGS,
@@ -172,8 +159,7 @@ fn is_answer(served: Result<Ending, ServeFault>, bytes: &[u8]) -> bool {
         ]
         .iter()
         .any(|text| text.as_bytes() == bytes),
-        Err(ServeFault::Memory { replies: 0 }) => bytes.is_empty(),
-        Err(ServeFault::Memory { replies: 1 }) => bytes == b"+PONG\r\n".as_slice(),
+        Err(AheadFault::Memory) => bytes.is_empty() || bytes == b"+PONG\r\n".as_slice(),
         _ => false,
     }
 }
@@ -187,7 +173,7 @@ fn a_refused_connection_is_served_again(rt: HostRuntime) -> Result<(), Fail> {
     for _ in 0..2 {
         let mut writer = roomy(alloc)?;
         let mut reader = dribble(PINGS.as_bytes());
-        let served = serve_alone(&rt, alloc, &mut reader, &mut writer, &mut new_alone(alloc));
+        let served = OneThread::new(alloc)?.serve(&rt, &mut reader, &mut writer);
         let written = writer.into_inner();
         let bytes = written.bytes.as_slice();
         assert!(rt; is_answer(served, bytes));
@@ -203,11 +189,20 @@ fn ends_where_the_keeper_is_gone(rt: HostRuntime) -> Result<(), Fail> {
     let alloc = rt.alloc();
     let (keeper, mut clients) = desk(alloc, 1, 1)?;
     drop(keeper);
-    let mut lane = Lane::new(clients.pop().ok_or("a client")?);
+    let mut client = clients.pop().ok_or("a client")?;
+    let mut session = Session::new(alloc, &Manner::Plain, U63::new(1))?;
     let mut reader = dribble(PINGS.as_bytes());
     let mut writer = sips(alloc)?;
-    let served = serve(&rt, alloc, &mut reader, &mut writer, &mut lane);
-    assert_eq!(rt; served, Err(ServeFault::Port { replies: 0 }));
+    let served = serve_ahead(
+        &rt,
+        &Manner::Plain,
+        &mut session,
+        &mut reader,
+        &mut writer,
+        &mut client,
+        &Idle,
+    );
+    assert_eq!(rt; served, Err(AheadFault::Port));
     assert!(rt; writer.into_inner().bytes.is_empty());
     Ok(())
 }

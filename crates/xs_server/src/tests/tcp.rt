@@ -1,11 +1,11 @@
 //! Whole connections over TCP, both ends of which are in one thread.
-use super::sessions::{new_alone, whole_connections};
+use super::sessions::whole_connections;
 use super::*;
-use crate::connections::serve_alone::serve_alone;
 use crate::halves::{HalvesMemory, Incoming, Peer};
 use crate::limits::open_files_in;
 use crate::run_command::waiting_room;
 use crate::tcp::{AfterFailure, after_failure};
+use crate::tests::fakes::OneThread;
 use std::io::{self, ErrorKind, Read, Write};
 use std::net::{Ipv4Addr, Shutdown, TcpListener, TcpStream};
 use std::thread;
@@ -17,7 +17,7 @@ use xs_devices::{Failed, Source};
 struct Prompted<'a> {
     client: &'a TcpStream,
     parts: &'a [&'a [u8]],
-    incoming: FromRead<Incoming>,
+    incoming: FromRead<Incoming<HostRuntime>>,
 }
 
 /// Sends the first of the parts that are left, and leaves the others; where none is left, ends what is sent.
@@ -48,20 +48,20 @@ fn serves_whole_connections_over_tcp(rt: HostRuntime) -> Result<(), Fail> {
     let alloc = rt.alloc();
     let listener = TcpListener::bind(&rt, (Ipv4Addr::LOCALHOST, 0))?;
     let address = listener.local_addr()?;
-    let memory = HalvesMemory::new(alloc)?;
+    let memory = HalvesMemory::new(alloc, None)?;
     for (input, output, ending) in whole_connections() {
         for cut in 1..input.len() {
             let (first, others) = input.as_bytes().split_at(cut);
             let parts = [first, others];
             let client = TcpStream::connect(&rt, address)?;
             let (stream, _) = listener.accept()?;
-            let (incoming, mut writer) = memory.halves_of(rt, stream).ok_or("halves in use")?;
+            let (incoming, mut writer) = memory.halves_of(rt, stream, None).ok_or("halves in use")?;
             let mut reader = FromRead::new(Prompted {
                 client: &client,
                 parts: &parts,
                 incoming,
             });
-            let served = serve_alone(&rt, alloc, &mut reader, &mut writer, &mut new_alone(alloc));
+            let served = OneThread::new(alloc)?.serve(&rt, &mut reader, &mut writer);
             assert_eq!(rt; served, Ok(ending), "{input} cut at {cut}");
             drop(reader);
             drop(writer);
@@ -114,7 +114,7 @@ fn a_client_that_leaves_is_seen(rt: HostRuntime) -> Result<(), Fail> {
     let alloc = rt.alloc();
     let listener = TcpListener::bind(&rt, (Ipv4Addr::LOCALHOST, 0))?;
     let address = listener.local_addr()?;
-    let memory = HalvesMemory::new(alloc)?;
+    let memory = HalvesMemory::new(alloc, None)?;
     let peer = memory.peer()?;
     for sent in [
         &b""[..],
@@ -123,7 +123,7 @@ fn a_client_that_leaves_is_seen(rt: HostRuntime) -> Result<(), Fail> {
     ] {
         let client = TcpStream::connect(&rt, address)?;
         let (stream, _) = listener.accept()?;
-        let (mut reader, writer) = memory.halves_of(rt, stream).ok_or("halves in use")?;
+        let (mut reader, writer) = memory.halves_of(rt, stream, None).ok_or("halves in use")?;
         assert!(rt; !peer.has_left());
         (&client).write_all(sent)?;
         assert!(rt; !peer.has_left());

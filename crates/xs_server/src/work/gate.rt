@@ -2,6 +2,7 @@
 use std::sync::Wait;
 use thiserror::Error;
 use xs_devices::{Sink, Source};
+use xs_session::Manner;
 
 /// Why a gate gives no further connection.
 #[derive(Clone, Copy, Debug, PartialEq, Eq, Error)]
@@ -24,6 +25,10 @@ pub trait Gate {
 
     /// The connections that it gave and those that came back, and whether it gives no further one.
     ghost trace: { Self → GateTrace };
+
+    /// Which commands its connections are answered by their sessions.
+    fn manner(&self) -> Manner
+        ensures { result ≡ (trace self.now).manner };
 
     /// The next connection, or None after the last. It may wait. Nothing of another connection is left in it.
     ///

@@ -2,7 +2,18 @@
 use crate::work::session_memory::SessionMemory;
 use std::alloc::{AllocError, Global};
 use std::sync::Wait;
+use xs_bytes::U63;
 use xs_desk::{Idle, Journal, Keeper, Pause};
+
+/// How a worker waits for answers, and what it does once a client has given the password.
+pub trait Attend: Pause {
+    /// Lets the client of the present connection take its time from now on.
+    fn let_in(&self);
+}
+
+impl Attend for Idle {
+    fn let_in(&self) {}
+}
 
 /// What a keeper does between its turns, whatever its journal is.
 pub trait KeeperMode {
@@ -27,13 +38,13 @@ pub trait KeeperMode {
 /// How the connections of gates are served.
 pub trait Mode<G>: KeeperMode {
     /// How a worker waits for an answer.
-    type Pause: Pause + Send + Drop + 'static;
+    type Pause: Attend + Send + Drop + 'static;
 
     /// How the worker of this gate waits for an answer. It takes no memory.
     fn pause_of(&self, gate: &G) -> Result<Self::Pause, AllocError>;
 
-    /// The memory of a worker's connections.
-    fn memory(&self, alloc: Global) -> Result<SessionMemory, AllocError>;
+    /// The memory of the connections of the worker of this number.
+    fn memory(&self, alloc: Global, number: U63) -> Result<SessionMemory, AllocError>;
 }
 
 /// No call waits, and all memory is made at the start.
@@ -61,7 +72,7 @@ impl<G> Mode<G> for Bounded {
         Ok(Idle)
     }
 
-    fn memory(&self, alloc: Global) -> Result<SessionMemory, AllocError> {
-        SessionMemory::made(alloc)
+    fn memory(&self, alloc: Global, number: U63) -> Result<SessionMemory, AllocError> {
+        SessionMemory::made(alloc, number)
     }
 }

@@ -1,13 +1,14 @@
 //! What a gate gave and what came back, as clauses see it.
 ghost use Rattle.std.specs.Prelude.{◌≡◌};
+ghost use Rattle.xs_session.specs.declared.manner.Manner.TheVariants.{Plain};
 ghost use Rattle.xs_server.specs.Gates.{new_gate, seen, with_given, with_returned, at_end};
 
 use std::marker::Model;
 use xs_devices::{Sink, Source};
 use xs_trace::Trace;
 
-/// The register of a gate. Contracts see the connections that were given, those that came back, and whether none is
-/// given any more. It keeps none of them.
+/// The register of a gate whose sessions answer no commands of a connection. Contracts see the connections that were
+/// given, those that came back, and whether none is given any more. It keeps none of them.
 #[derive(Drop)]
 pub struct Register<R: Source + Drop, W: Sink + Drop> {
     given: Trace<(R, W)>,
@@ -16,11 +17,13 @@ pub struct Register<R: Source + Drop, W: Sink + Drop> {
 }
 
 impl<R: Source + Drop, W: Sink + Drop> Model for Register<R, W> {
+    ghost use Rattle.xs_session.specs.declared.manner.Manner.TheVariants.{Plain};
     ghost use Rattle.xs_server.specs.Gates.{GateTrace, all_seen};
 
     ghost Value = { GateTrace };
 
     ghost view = { λ r. record {
+      manner = Plain;
       given = all_seen R.rest R.ended R.broken W.held W.broken r.given;
       returned = all_seen R.rest R.ended R.broken W.held W.broken r.returned;
       is_over = r.is_over;
@@ -30,7 +33,7 @@ impl<R: Source + Drop, W: Sink + Drop> Model for Register<R, W> {
 impl<R: Source + Drop, W: Sink + Drop> Register<R, W> {
     /// None was given yet. It takes no memory.
     pub fn new() -> Self
-        ensures { result ≡ new_gate }
+        ensures { result ≡ new_gate Plain }
     {
         Self {
             given: Trace::new(),

@@ -8,12 +8,13 @@ use crate::connections::ahead::{AheadFault, serve_ahead};
 use crate::report::say;
 use crate::work::gate::{Gate, GateFault};
 use crate::work::lifecycle::Lifecycle;
+use crate::work::mode::Attend;
 use crate::work::session_memory::SessionMemory;
 use std::sync::Wait;
 use thiserror::Error;
-use xs_desk::{Client, Ended, Pause};
+use xs_desk::{Client, Ended};
 use xs_devices::{Sink, Source};
-use xs_session::Ending;
+use xs_session::{Ending, Manner};
 
 /// A worker before its thread is started.
 #[derive(Drop)]
@@ -55,15 +56,16 @@ const NO_MEMORY: &[u8] = b"-OOM out of memory\r\n";
 ///
 /// # Errors
 /// An `AheadFault`, which ends this connection alone, but for `Port`.
-fn serve_one<S: Source, W: Sink, P: Pause, R: Wait>(
+fn serve_one<S: Source, W: Sink, P: Attend, R: Wait>(
     rt: &R,
+    manner: &Manner,
     memory: &mut SessionMemory,
     reader: &mut S,
     writer: &mut W,
     client: &mut Client,
     pause: &P,
 ) -> Result<Ending, AheadFault>
-    ensures { ServesOne result client.old client.new
+    ensures { ServesOne manner.now result client.old client.new
         (seen (S.rest reader.old) (S.ended reader.old) (S.broken reader.old) (W.held writer.old) (W.broken writer.old))
         (seen (S.rest reader.new) (S.ended reader.new) (S.broken reader.new)
         (W.held writer.new) (W.broken writer.new)) }
@@ -72,7 +74,7 @@ fn serve_one<S: Source, W: Sink, P: Pause, R: Wait>(
         say(writer, NO_MEMORY);
         return Err(AheadFault::Memory);
     };
-    let served = serve_ahead(rt, session, reader, writer, client, pause);
+    let served = serve_ahead(rt, manner, session, reader, writer, client, pause);
     if served == Err(AheadFault::Memory) {
         say(writer, NO_MEMORY);
         return served;
@@ -85,7 +87,7 @@ fn serve_one<S: Source, W: Sink, P: Pause, R: Wait>(
 ///
 /// # Errors
 /// `Gate` or `Lane`.
-fn serve_gate<G: Gate, P: Pause, R: Wait>(
+fn serve_gate<G: Gate, P: Attend, R: Wait>(
     rt: &R,
     memory: &mut SessionMemory,
     gate: &mut G,
@@ -100,7 +102,15 @@ fn serve_gate<G: Gate, P: Pause, R: Wait>(
             Ok(None) => return Ok(()),
             Err(GateFault::Refused) => return Err(WorkerFault::Gate),
         };
-        let served = serve_one(rt, memory, &mut reader, &mut writer, client, pause);
+        let served = serve_one(
+            rt,
+            &gate.manner(),
+            memory,
+            &mut reader,
+            &mut writer,
+            client,
+            pause,
+        );
         gate.close(reader, writer);
         if matches!(served, Err(AheadFault::Port)) {
             return Err(WorkerFault::Lane);
@@ -110,7 +120,7 @@ fn serve_gate<G: Gate, P: Pause, R: Wait>(
 }
 
 /// Waits for the word to begin, serves the gate, and ends the client.
-pub fn run_worker<G: Gate + Drop, P: Pause + Drop, R: Wait>(
+pub fn run_worker<G: Gate + Drop, P: Attend + Drop, R: Wait>(
     rt: &R,
     worker: Worker<G, P>,
     lifecycle: &Lifecycle,

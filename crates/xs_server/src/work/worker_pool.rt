@@ -5,13 +5,14 @@ ghost use Rattle.xs_server.specs.Workers.{WorkEach};
 
 use crate::work::gate::Gate;
 use crate::work::lifecycle::Lifecycle;
-use crate::work::mode::Mode;
+use crate::work::mode::{Attend, Mode};
 use crate::work::worker::{Worked, Worker, WorkerFault, run_worker};
 use std::alloc::{AllocError, Global};
 use std::snapshot::Snapshot;
 use std::sync::{Arc, Wait};
 use std::thread::{Builder, Promise, PromisedHandle, Threads};
-use xs_desk::{Client, Ended, Pause};
+use xs_bytes::U63;
+use xs_desk::{Client, Ended};
 
 /// How many bytes of stack a thread has: twice the deepest that was seen in use, and more.
 pub const STACK: usize = 262_144;
@@ -50,7 +51,8 @@ pub fn make_workers<G: Drop, M: Mode<G>>(
             return Err(AllocError);
         };
         let pause = mode.pause_of(&gate)?;
-        let memory = mode.memory(alloc)?;
+        let number = U63::new(workers.len() as u64);
+        let memory = mode.memory(alloc, number)?;
         workers.push(Worker {
             client,
             gate,
@@ -63,7 +65,7 @@ pub fn make_workers<G: Drop, M: Mode<G>>(
 
 fn start<
     G: Gate + Send + Drop + 'static,
-    P: Pause + Send + Drop + 'static,
+    P: Attend + Send + Drop + 'static,
     R: Threads + Wait + Copy + Send + 'static,
 >(rt: &R, worker: Worker<G, P>, lifecycle: Arc<Lifecycle>) -> Option<WorkerThread<G>>
     ensures client { IfSome result (λ started. started.promise.0.value ≡ worker.client) }
@@ -85,7 +87,7 @@ fn start<
 /// was made before.
 pub fn start_all<
     G: Gate + Send + Drop + 'static,
-    P: Pause + Send + Drop + 'static,
+    P: Attend + Send + Drop + 'static,
     R: Threads + Wait + Copy + Send + 'static,
 >(
     rt: &R,

@@ -1,8 +1,9 @@
-use Rattle.std.proofs.Common.{◌≡◌, List, [], ◌∷◌, ◌++◌, sym, ap, subst, arith, length, length-append}
+use Rattle.std.proofs.Common.{◌≡◌, ◌∙◌, ℕ, Option, List, [], ◌∷◌, ◌++◌, sym, ap, subst, arith, length, length-append}
 use Rattle.std.specs.List.{All}
 use Rattle.std.proofs.lemmas.List.Elements.{All-push}
 use Rattle.xs_server.specs.declared.run_gate.RunGate.{RunGate}
-use Rattle.xs_server.specs.Gates.{new_gate}
+use Rattle.xs_session.specs.declared.manner.Manner.TheVariants.{Full}
+use Rattle.xs_server.specs.Gates.{new_gate, with_manner}
 use Rattle.xs_server.proofs.run_command.gates_of.Goals as goal
 
 pub loop-worker-preserved : goal.loop-worker-preserved
@@ -11,8 +12,8 @@ loop-worker-preserved g c =
     let before = c.loop-worker.gates.items in
     let gate = c.in_ok-gate.gate in
     let pushed = c.in_ok-push.ensures in
-    let IsNew : RunGate g.row.S.Denot → Type 0 = λ one. one.register ≡ new_gate in
+    let IsNew : RunGate g.row.S.Denot → Type 0 = λ one. with_manner (Full one.password) one.register ≡ new_gate (Full c.args.password.now) in
     record {
       count = omega (arith, ap length pushed.items, length-append before (gate ∷ []), inv.count);
-      new = subst (λ (gates : List (RunGate g.row.S.Denot)). All IsNew gates) (sym pushed.items) (All-push IsNew before gate inv.new c.in_ok-gate.ensures);
+      new = subst (λ (gates : List (RunGate g.row.S.Denot)). All IsNew gates) (sym pushed.items) (All-push IsNew before gate inv.new (c.in_ok-gate.ensures ∙ ap (λ (p : Option (List ℕ)). new_gate (Full p)) c.again-in-loop-worker.ensures));
     }

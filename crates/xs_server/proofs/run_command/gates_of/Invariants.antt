@@ -1,11 +1,12 @@
 use Rattle.std.proofs.Common.{◌≡◌, length}
 use Rattle.std.specs.List.{All}
-use Rattle.xs_server.specs.Gates.{new_gate}
+use Rattle.xs_session.specs.declared.manner.Manner.TheVariants.{Full}
+use Rattle.xs_server.specs.Gates.{new_gate, with_manner}
 use Rattle.xs_server.proofs.run_command.gates_of.Given as goal
 
 -- a gate for each worker so far, none of which has given a connection
 abbrev pub invariant-loop-worker : goal.invariant-loop-worker
 invariant-loop-worker g l = record {
   count : length l.gates.items ≡ l._worker;
-  new : All (λ gate. gate.register ≡ new_gate) l.gates.items;
+  new : All (λ gate. with_manner (Full gate.password) gate.register ≡ new_gate (Full l.password)) l.gates.items;
 }

@@ -1,5 +1,7 @@
 use Rattle.std.proofs.Common.{inl, inr, refl, map}
+use Rattle.xs_session.specs.declared.manner.Manner.TheVariants.{Plain}
 use Rattle.xs_server.specs.Report.{memory_text, listening_text}
+use Rattle.xs_server.specs.Gates.{with_manner}
 use Rattle.xs_server.proofs.Reports.{served-at-zero, told-of-work}
 use Rattle.xs_server.proofs.serve_command.serve_and_report.Goals as goal
 
@@ -16,7 +18,7 @@ returns-in_default-gates_of-clause-told g c =
 pub returns-clause-served : goal.returns-clause-served
 returns-clause-served g c =
     let made = c.in-Ok-gates_of.ensures in
-    served-at-zero (λ failed. failed.fault) _ c.in-Ok-gates_of.gates.items c.args.options.workers (λ outcome. map (λ gate. gate.register) outcome.gates.items) (λ outcome. outcome.summary) c.work-worked.result _ _ _ _ _ _
+    served-at-zero (λ failed. failed.fault) _ c.in-Ok-gates_of.gates.items Plain c.args.options.workers (λ outcome. map (λ gate. with_manner Plain gate.register) outcome.gates.items) (λ outcome. outcome.summary) c.work-worked.result _ _ _ _ _ _
     made.count made.new c.work-worked.ensures.closed c.report_worked.ensures
 
 pub returns-clause-told : goal.returns-clause-told

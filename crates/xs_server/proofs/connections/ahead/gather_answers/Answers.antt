@@ -17,7 +17,7 @@ answers-preserved c =
     let inv = c.answers.invariant in
     let begun = c.begin_answer-in-answers.ensures in
     record {
-      after = λ read asked got sent s. begun.after read asked got sent (inv.after read asked got sent s);
+      after = λ manner read asked got sent s. begun.after manner read asked got sent (inv.after manner read asked got sent s);
       fewer = omega (arith, begun.fewer c.answers-test.true, inv.fewer);
       waits = begun.open ∙ inv.waits;
       ended = begun.ended ∙ inv.ended;
@@ -25,4 +25,4 @@ answers-preserved c =
     }
 
 pub returns-clause-after : goal.returns-clause-after
-returns-clause-after c = λ read asked got sent s. c.begin_answer-in-answers.ensures.after read asked got sent (c.answers.invariant.after read asked got sent s)
+returns-clause-after c = λ manner read asked got sent s. c.begin_answer-in-answers.ensures.after manner read asked got sent (c.answers.invariant.after manner read asked got sent s)

@@ -10,7 +10,7 @@ pub pieces-init : goal.pieces-init
 pieces-init g c = record {
   went = [];
   appends = Appends-nil _;
-  after = λ read asked got sent s. rw (append-nil sent) s;
+  after = λ manner read asked got sent s. rw (append-nil sent) s;
   owed = refl;
   places = refl;
   ended = refl;
@@ -25,7 +25,7 @@ pieces-preserved g c =
     record {
       went = inv.went ++ piece;
       appends = Appends-trans _ _ _ inv.went piece inv.appends wrote.1;
-      after = λ read asked got sent s. rw (← append_assoc) (c.mark_sent.ensures.after read asked got (sent ++ inv.went) (inv.after read asked got sent s));
+      after = λ manner read asked got sent s. rw (← append_assoc) (c.mark_sent.ensures.after manner read asked got (sent ++ inv.went) (inv.after manner read asked got sent s));
       owed = inv.owed ∙ ap (λ o. inv.went ++ (piece ++ o)) (sym c.mark_sent.ensures.owed) ∙ sym (append_assoc inv.went piece (bytes_left c.mark_sent.new.self.owed));
       places = c.mark_sent.ensures.places ∙ inv.places;
       ended = c.mark_sent.ensures.ended ∙ inv.ended;
@@ -40,19 +40,19 @@ pieces-smaller g c =
     omega (arith, some, ap length c.output.ensures.value, ap length c.mark_sent.ensures.owed, length-append owed.piece owed.behind)
 
 pub returns-in-Err-clause-sends : goal.returns-in-Err-clause-sends
-returns-in-Err-clause-sends g c = λ read asked got sent s.
+returns-in-Err-clause-sends g c = λ manner read asked got sent s.
     let inv = c.pieces.invariant in
     let session = c.pieces.session in
     let err = rw (c.output-in-pieces.ensures.value) at c.in-Err.ensures.err in (
       inv.went ++ take c.in-Err.field-0 session.owed.piece,
       Appends-trans _ _ _ inv.went _ inv.appends err.1,
-      part-sent read asked got sent inv.went session c.in-Err.field-0 err.0 (inv.after read asked got sent s),
+      part-sent manner read asked got sent inv.went session c.in-Err.field-0 err.0 (inv.after manner read asked got sent s),
     )
 
 pub returns-clause-sends : goal.returns-clause-sends
-returns-clause-sends g c = λ read asked got sent s.
+returns-clause-sends g c = λ manner read asked got sent s.
     let inv = c.pieces.invariant in
-    (inv.went, inv.appends, inv.after read asked got sent s)
+    (inv.went, inv.appends, inv.after manner read asked got sent s)
 
 pub returns-in-Err-clause-exact : goal.returns-in-Err-clause-exact
 returns-in-Err-clause-exact g c =

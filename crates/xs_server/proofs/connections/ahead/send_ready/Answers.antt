@@ -12,7 +12,7 @@ answers-init g c =
     let begun = c.gather_answers.ensures in
     let once = c.in-Ok.ensures in
     record {
-      sends = λ read asked got sent s. once.sends read asked got sent (begun.after read asked got sent s);
+      sends = λ manner read asked got sent s. once.sends manner read asked got sent (begun.after manner read asked got sent s);
       owed = once.none;
       waits = ap has_open once.places ∙ begun.open;
       ended = once.ended ∙ begun.ended;
@@ -25,9 +25,9 @@ answers-preserved g c =
     let begun = c.gather_answers-in-answers.ensures in
     let again = c.in-Ok-send_owed.ensures in
     record {
-      sends = λ read asked got sent s.
-          let (went, appends, after) = inv.sends read asked got sent s in
-          let (more, also, later) = again.sends read asked got (sent ++ went) (begun.after read asked got (sent ++ went) after) in
+      sends = λ manner read asked got sent s.
+          let (went, appends, after) = inv.sends manner read asked got sent s in
+          let (more, also, later) = again.sends manner read asked got (sent ++ went) (begun.after manner read asked got (sent ++ went) after) in
           (went ++ more, Appends-trans _ _ _ went more appends also, rw (← append_assoc) later);
       owed = again.none;
       waits = ap has_open again.places ∙ begun.open ∙ inv.waits;
@@ -36,19 +36,19 @@ answers-preserved g c =
     }
 
 pub returns-clause-sends : goal.returns-clause-sends
-returns-clause-sends g c = λ read asked got sent s.
-    let (went, appends, after) = c.answers.invariant.sends read asked got sent s in
-    (went, appends, c.gather_answers-in-answers.ensures.after read asked got (sent ++ went) after)
+returns-clause-sends g c = λ manner read asked got sent s.
+    let (went, appends, after) = c.answers.invariant.sends manner read asked got sent s in
+    (went, appends, c.gather_answers-in-answers.ensures.after manner read asked got (sent ++ went) after)
 
 pub returns-in-Err-clause-sends : goal.returns-in-Err-clause-sends
-returns-in-Err-clause-sends g c = λ read asked got sent s.
-    c.in-Err.ensures.sends read asked got sent (c.gather_answers.ensures.after read asked got sent s)
+returns-in-Err-clause-sends g c = λ manner read asked got sent s.
+    c.in-Err.ensures.sends manner read asked got sent (c.gather_answers.ensures.after manner read asked got sent s)
 
 pub returns-in-Err-send_owed-clause-sends : goal.returns-in-Err-send_owed-clause-sends
-returns-in-Err-send_owed-clause-sends g c = λ read asked got sent s.
-    let (went, appends, after) = c.answers.invariant.sends read asked got sent s in
-    let (more, also, breaks) = c.in-Err-send_owed.ensures.sends read asked got (sent ++ went) (c.gather_answers-in-answers.ensures.after read asked got (sent ++ went) after) in
-    (went ++ more, Appends-trans _ _ _ went more appends also, breaks-later read asked got sent went more c.send_owed-in-answers.new.session breaks)
+returns-in-Err-send_owed-clause-sends g c = λ manner read asked got sent s.
+    let (went, appends, after) = c.answers.invariant.sends manner read asked got sent s in
+    let (more, also, breaks) = c.in-Err-send_owed.ensures.sends manner read asked got (sent ++ went) (c.gather_answers-in-answers.ensures.after manner read asked got (sent ++ went) after) in
+    (went ++ more, Appends-trans _ _ _ went more appends also, breaks-later manner read asked got sent went more c.send_owed-in-answers.new.session breaks)
 
 pub returns-clause-none : goal.returns-clause-none
 returns-clause-none g c =

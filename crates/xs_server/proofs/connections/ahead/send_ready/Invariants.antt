@@ -3,6 +3,7 @@ use Rattle.xs_devices.specs.Passing.{Appends}
 use Rattle.xs_resp.specs.declared.reply.Reply.{Reply}
 use Rattle.xs_resp.specs.LeftToWrite.{bytes_left}
 use Rattle.xs_command.specs.declared.command.Command.{Command}
+use Rattle.xs_session.specs.declared.manner.Manner.{Manner}
 use Rattle.xs_session.specs.Places.{has_open}
 use Rattle.xs_session.specs.Session.{SessionIsAfter}
 use Rattle.xs_server.proofs.connections.ahead.send_ready.Given as goal
@@ -10,8 +11,8 @@ use Rattle.xs_server.proofs.connections.ahead.send_ready.Given as goal
 -- bytes are sent, and nothing that is begun is owed
 abbrev pub invariant-answers : goal.invariant-answers
 invariant-answers g l = record {
-  sends : (read : List ℕ) (asked : List Command) (got : List Reply) (sent : List ℕ) → SessionIsAfter read asked got sent l.fn.session
-      → (went : List ℕ) × Appends (g.W.Sink.held l.fn.writer) (g.W.Sink.held l.writer) went × SessionIsAfter read asked got (sent ++ went) l.session;
+  sends : (manner : Manner) (read : List ℕ) (asked : List Command) (got : List Reply) (sent : List ℕ) → SessionIsAfter manner read asked got sent l.fn.session
+      → (went : List ℕ) × Appends (g.W.Sink.held l.fn.writer) (g.W.Sink.held l.writer) went × SessionIsAfter manner read asked got (sent ++ went) l.session;
   owed : bytes_left l.session.owed ≡ [];
   waits : has_open l.session.places ≡ has_open l.fn.session.places;
   ended : l.session.ended ≡ l.fn.session.ended;

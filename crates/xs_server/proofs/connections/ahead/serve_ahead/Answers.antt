@@ -16,7 +16,7 @@ loop-init g c =
       after =
           record {
             got = [];
-            after = session-new [] c.clear.new.self new.ended new.requests new.places new.owed;
+            after = session-new c.args.manner.now [] c.clear.new.self new.ended new.requests new.places new.owed new.first;
             calls = calls-none c.args.client.now;
           };
     }

@@ -12,5 +12,5 @@ invariant-loop g l = record {
   consumes : Consumes (g.R.Source.rest l.fn.reader) (g.R.Source.rest l.reader) read;
   appends : Appends (g.W.Sink.held l.fn.writer) (g.W.Sink.held l.writer) sent;
   asked : List Command;
-  after : IsAheadAfter l.fn.client l.client read asked asked sent l.session;
+  after : IsAheadAfter l.fn.client l.client l.fn.manner read asked asked sent l.session;
 }

@@ -25,7 +25,7 @@ returns-then-matches g c =
     let before = trace c.args.gate.now in
     record {
       served =
-          gate-more true first c.loop.client c.serve_one-served.new.client before (trace c.loop.gate) (trace c.open_next.new.self) (trace c.close.new.self) _ _ c.serve_one-served.result
+          gate-more true first c.loop.client c.serve_one-served.new.client before (trace c.loop.gate) (trace c.open_next.new.self) (trace c.close.new.self) _ _ c.serve_one-served.result c.manner.result c.manner.ensures
           (gate-lost first c.loop.client before (trace c.loop.gate) c.loop.invariant) (rw c.in-Ok-Some.field-0-is at c.in-Ok-Some.ensures) c.close.ensures (λ n. absurd (cc)) c.serve_one-served.ensures;
       over = λ n. absurd (cc);
     }
@@ -39,5 +39,5 @@ loop-preserved g c =
       | in_default w ↦ let not = w.in_default in search rules
       | in_default-2 w ↦ let not = w.in_default in search rules
     ] in
-    gate-more false c.args.client.now c.loop.client c.serve_one-served.new.client (trace c.args.gate.now) (trace c.loop.gate) (trace c.open_next.new.self) (trace c.close.new.self) _ _ c.serve_one-served.result
+    gate-more false c.args.client.now c.loop.client c.serve_one-served.new.client (trace c.args.gate.now) (trace c.loop.gate) (trace c.open_next.new.self) (trace c.close.new.self) _ _ c.serve_one-served.result c.manner.result c.manner.ensures
     c.loop.invariant (rw c.in-Ok-Some.field-0-is at c.in-Ok-Some.ensures) c.close.ensures (λ n. answered) c.serve_one-served.ensures

@@ -1,0 +1,118 @@
+//! The file of a password.
+ghost use Rattle.std.specs.Prelude.{◌≡◌};
+
+use crate::report::{report_memory, report_text, say};
+use memchr::memchr;
+use std::alloc::{Alloc, Global};
+use std::fs;
+use std::fs::Files;
+use std::io::{self, ErrorKind};
+use std::os::unix::fs::PermissionsExt;
+use thiserror::Error;
+use xs_connection::Password;
+use xs_devices::Sink;
+
+/// The permissions of a file by which others than its owner read it.
+const READ_BY_OTHERS: u32 = 0o044;
+
+/// Why a file gives no password.
+#[derive(Clone, Copy, Debug, PartialEq, Eq, Error)]
+pub enum PasswordFault {
+    /// It can't be read.
+    #[error("it can't be read")]
+    Read,
+    /// Its first line is empty.
+    #[error("its first line is empty")]
+    Empty,
+    /// Out of memory.
+    #[error("out of memory")]
+    Memory,
+}
+
+impl From<io::Error> for PasswordFault {
+    fn from(error: io::Error) -> Self {
+        match error.kind() {
+            ErrorKind::OutOfMemory => Self::Memory,
+            _ => Self::Read,
+        }
+    }
+}
+
+/// The first line of a text, without its end.
+pub fn first_line(text: &[u8]) -> &[u8] {
+    let line = match memchr(b'\n', text) {
+        Some(end) => &text[..end],
+        None => text,
+    };
+    line.strip_suffix(b"\r").unwrap_or(line)
+}
+
+/// The password that a file holds, which is its first line.
+///
+/// # Errors
+/// A `PasswordFault`.
+fn read_password<R: Files + Alloc<A = Global>>(
+    rt: &R,
+    alloc: Global,
+    path: &str,
+) -> Result<Password, PasswordFault> {
+    let text = fs::read(rt, path)?;
+    let line = first_line(text.as_slice());
+    if line.is_empty() {
+        return Err(PasswordFault::Empty);
+    }
+    let mut kept = Vec::new(alloc);
+    if kept.extend_from_slice(line).is_err() {
+        return Err(PasswordFault::Memory);
+    }
+    Ok(Password::keep(kept))
+}
+
+/// Whether others than its owner may read a file.
+fn is_read_by_others<R: Files>(rt: &R, path: &str) -> bool {
+    match fs::metadata(rt, path) {
+        Ok(metadata) => metadata.permissions().mode() & READ_BY_OTHERS != 0,
+        Err(_) => false,
+    }
+}
+
+/// Says why a file gives no password. It gives the status of the program.
+fn report_fault<E: Sink>(alloc: Global, path: &str, fault: PasswordFault, errors: &mut E) -> u8
+    ensures { result ≡ 1 }
+{
+    match format!(in alloc; "xs_server: the password file {path}: {fault}\n") {
+        Ok(text) => report_text(errors, text.as_bytes()),
+        Err(_) => report_memory(errors),
+    }
+}
+
+/// Says that others may read the file of the password. Without memory it isn't said.
+fn report_open<E: Sink>(alloc: Global, path: &str, errors: &mut E) {
+    if let Ok(text) = format!(in alloc; "xs_server: others may read the password file {path}\n") {
+        say(errors, text.as_bytes());
+    }
+}
+
+/// The password of `run`, if it is given a file of one. If others may read the file, a line on `errors` says so.
+///
+/// # Errors
+/// The status of the program, 1. The cause was said on `errors`.
+pub fn password_of<R: Files + Alloc<A = Global>, E: Sink>(
+    rt: &R,
+    alloc: Global,
+    file: &Option<String>,
+    errors: &mut E,
+) -> Result<Option<Password>, u8> {
+    let Some(path) = file else {
+        return Ok(None);
+    };
+    let path = path.as_str();
+    let password = match read_password(rt, alloc, path) {
+        Ok(password) => password,
+        Err(fault) => return Err(report_fault(alloc, path, fault, errors)),
+    };
+    if is_read_by_others(rt, path) {
+        report_open(alloc, path, errors);
+    }
+    Ok(Some(password))
+}
