@@ -4,10 +4,10 @@
     sessions.py [--runs N] PROGRAM        by processor time; needs the toolchain, redis-server and cc
     sessions.py --instructions PROGRAM    by instructions, of sessions and scripts; needs the toolchain and valgrind
 
-1,000,000 additions with one value of 60 bytes, and 1,000,000 PINGs. A session is `serve` over a keyspace alone, fed out
-of memory in pieces of 16 KiB and of 100 bytes; its replies go to nowhere. The program over it is
-bench_sessions of extra.txt, in a copy of the repository. A script is read
-by PROGRAM from a file, and its replies go to nowhere. Of both the whole process is measured, its end included. Redis
+1,000,000 additions with one value of 60 bytes, and 1,000,000 PINGs. A session of xs_session asks a keyspace alone, and
+is fed out of memory in pieces of 16 KiB and of 100 bytes; its replies go to nowhere. The program over it is
+bench_sessions of extra.txt, in a copy of the repository. A script is read by PROGRAM from a file, and its replies go to
+nowhere. Of both the whole process is measured, its end included. Redis
 keeps nothing on disk and is fed over a Unix socket by bench/feed.c, whose own time isn't counted.
 """
 import argparse

@@ -6,11 +6,13 @@
 Each client of conformance/clients adds jobs, reads them by two consumers, acknowledges, leaves some and claims them by
 id and by scan, trims, deletes, and is refused what is wrong, on a server of its own; it prints a line for each step, in
 the form that clients/forms.py tells. All lines have to be those that the same client prints with Redis, and a step has
-to be answered alike to all clients. A client that isn't installed is skipped, and counts as neither. `--show` prints
-the lines of each. The last line is 'N passed, M failed'; the status is 1 where M > 0. Debian: the Makefile names the
-packages.
+to be answered alike to all clients. Those of conformance/clients/guarded do a thousand jobs behind a name, a database, a
+password and transactions, with `run` and with Redis. A client that isn't installed is skipped, and counts as neither.
+`--show` prints the lines of each. The last line is 'N passed, M failed'; the status is 1 where M > 0. Debian: the
+Makefile names the packages.
 """
 import argparse
+import contextlib
 import os
 import shutil
 import subprocess
@@ -18,8 +20,9 @@ import sys
 import tempfile
 from dataclasses import dataclass, field
 
+import passwords
 import real_redis
-from served import free_port, serving
+from served import asking, free_port, serving
 
 HERE = os.path.join(os.path.dirname(os.path.abspath(__file__)), "clients")
 STEPS = os.path.join(HERE, "steps.txt")
@@ -91,6 +94,26 @@ CLIENTS = [
 ]
 
 
+def guarded(name, words, there, **how):
+    """A client that does a thousand jobs behind a name, a database, a password and transactions."""
+    return Client(f"{name}, guarded", words, there, **how)
+
+
+GUARDED = [
+    guarded("redis-py", [PYTHON, in_here("guarded/redis_py.py")], [PYTHON, "-c", "import redis"]),
+    guarded("node-redis", ["node", in_here("guarded/node_redis.js")], ["node", "-e", 'require("redis")'],
+            surroundings=NODE),
+    guarded("redis-rb", ["ruby", in_here("guarded/redis_rb.rb")], ["ruby", "-e", 'require "redis"']),
+    guarded("redigo", ["@/redigo"], ["go", "list", "github.com/gomodule/redigo/redis"],
+            made=["go", "build", "-o", "@/redigo", in_here("guarded/redigo.go")], surroundings=GO),
+    guarded("phpredis", ["php", in_here("guarded/phpredis.php")],
+            ["php", "-r", 'exit(class_exists("Redis") ? 0 : 1);']),
+    guarded("Predis", ["php", in_here("guarded/predis.php")],
+            ["php", "-r", 'exit((@include "Predis/autoload.php") ? 0 : 1);']),
+]
+DONE = "1000, left: 0, pending: 0"
+
+
 def difference(what, ours, theirs):
     """What is told of the first step that was answered in two ways."""
     for step in {**theirs, **ours}:
@@ -113,19 +136,33 @@ def faults_of(client, program, folder, standard):
                   or difference("here and by other clients", {step: ours[step] for step in common}, common))
 
 
+def faults_of_guarded(client, program, folder, _):
+    """The first difference from Redis, or from what has to be done."""
+    client.make(folder)
+    with passwords.guarded(program, workers=WORKERS) as server:
+        ours = client.told(folder, server.port)
+    with real_redis.started(port=free_port()) as port:
+        with contextlib.closing(real_redis.connect(port)) as stream:
+            stream.sendall(asking("CONFIG SET requirepass secret"))
+            stream.recv(100)
+        theirs = client.told(folder, port)
+    return ours, difference("here and on Redis", ours, theirs) or difference("here", {"done": ours.get("done")}, {"done": DONE})
+
+
 def main():
     parser = argparse.ArgumentParser(description=__doc__, formatter_class=argparse.RawDescriptionHelpFormatter)
     parser.add_argument("--show", action="store_true")
     parser.add_argument("program")
     given = parser.parse_args()
     passed, failed, standard = 0, 0, {}
-    for client in CLIENTS:
+    kinds = ((CLIENTS, faults_of), (GUARDED, faults_of_guarded))
+    for client, faults in ((client, faults) for clients, faults in kinds for client in clients):
         if not client.is_there():
             print(f"{client.name}: skipped, it isn't installed", flush=True)
             continue
         try:
             with tempfile.TemporaryDirectory() as folder:
-                ours, fault = faults_of(client, given.program, folder, standard)
+                ours, fault = faults(client, given.program, folder, standard)
         except (AssertionError, OSError, subprocess.SubprocessError) as error:
             ours, fault = {}, f"{type(error).__name__} {error}"
         if given.show:

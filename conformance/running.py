@@ -4,8 +4,9 @@
     running.py PROGRAM
 
 Readers that wait and the clients that leave them (conformance/waiting.py), more connections than workers, few
-descriptors, little memory, a bound on what is held (conformance/max_memory.py), a wall clock that is set
-(conformance/clock_steps.py), the options. Cases that mostly wait
+descriptors, little memory, a bound on what is held (conformance/max_memory.py), what clients send when they connect
+(conformance/greetings.py) and before they have given a password (conformance/passwords.py), MULTI and EXEC
+(conformance/transactions.py), a wall clock that is set (conformance/clock_steps.py), the options. Cases that mostly wait
 are tried together. It needs Python's standard library, and a C compiler for the clock. The last line is 'N passed, M
 failed'; the status is 1 if M > 0.
 """
@@ -22,10 +23,13 @@ import time
 
 import clock_steps
 import full_queue
+import greetings
 import logged
 import max_memory
+import passwords
 import served
 import serves
+import transactions
 import waiting
 from full_queue import MEGABYTE
 from great import bulk, number
@@ -776,7 +780,7 @@ def tells_of_itself(program):
         for word in ("--help", "-h", "help"):
             done = run([program, *before, word])
             assert (done.returncode, done.stderr) == (0, b"") and done.stdout, (before, word, done)
-            options = ("--port", "--bind", "--workers", "--idle", "--open", "--max-memory") if before == ["run"] else ()
+            options = ("--port", "--bind", "--workers", "--idle", "--open", "--max-memory", "--log", "--password-file") if before == ["run"] else ()
             assert all(option.encode() in done.stdout for option in options), (before, word, done.stdout)
     done = run([program, "--version"])
     assert (done.returncode, done.stderr) == (0, b""), done
@@ -899,11 +903,12 @@ def main(arguments):
              waiting.waiting_costs_nothing, without_delay, pieces_of_a_pipeline, idle_ones_cost_little,
              readers_cost_little, pauses_cost_little, fast_ones_behind_pauses_wake_few, keys_cost_little,
              pieces_of_a_request_cost_little, a_thousand, busy_among_idle, a_thousand_wait, full_memory,
-             full_memory_of_many, full_queue_beside_producers, memory_of_the_gone, *max_memory.CASES)
+             full_memory_of_many, full_queue_beside_producers, memory_of_the_gone, *max_memory.CASES,
+             *greetings.CASES, *passwords.CASES, *transactions.CASES)
     at_once = (waiting.clients_that_go, waiting.has_just_gone, waiting.many_have_just_gone, waiting.terminated,
                forty_too_many, one_ends_in_time, few_descriptors, no_descriptors, closes_the_idle, keeps_the_idle,
                odd_errors, never_waits, clock_steps.clock_is_set, in_their_order, sends_while_it_waits,
-               more_than_may_wait, sends_on_though_it_is_told)
+               more_than_may_wait, sends_on_though_it_is_told, *passwords.AT_ONCE)
     results = []
     for case in alone:
         if results.count(False) < MOST_FAULTS:

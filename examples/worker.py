@@ -39,7 +39,7 @@ class Worker:
 
     def settle(self, entry):
         """Says that a job is done. XACK comes first: a deleted job that is pending can't be claimed any more. Both go out
-        at once (False: MULTI is refused)."""
+        at once; without MULTI (False), which would be two requests more."""
         self.queue.pipeline(False).xack(QUEUE, GROUP, entry).xdel(QUEUE, entry).execute()
 
     def work_on(self, entry, fields):

@@ -49,18 +49,9 @@ def files_of(name):
             yield path, os.path.relpath(path, folder).removesuffix(".txt")
 
 
-def lay_extra(folder, name, over):
-    """Lays down an extra crate, over the sources of another one if it says so."""
+def lay_extra(folder, name):
+    """Lays down an extra crate."""
     crate = os.path.join(folder, "crates", name)
-    if over:
-        base = os.path.join(TOP, "crates", over)
-        for part in ("src", "specs", "proofs"):
-            shutil.copytree(os.path.join(base, part), os.path.join(crate, part))
-        os.remove(os.path.join(crate, "src", "tests.rt"))
-        shutil.rmtree(os.path.join(crate, "src", "tests"))
-        for at, _, files in os.walk(crate):
-            for file in files:
-                rename(os.path.join(at, file), over, name)
     for path, place in files_of(name):
         to = os.path.join(crate, place)
         os.makedirs(os.path.dirname(to), exist_ok=True)
@@ -68,26 +59,17 @@ def lay_extra(folder, name, over):
     return crate
 
 
-def rename(path, old, new):
-    """Gives the definitions of a crate that stands under another name that name."""
-    with open(path, encoding="utf-8") as source:
-        text = source.read()
-    with open(path, "w", encoding="utf-8") as source:
-        source.write(text.replace(f"Rattle.{old}.", f"Rattle.{new}."))
-
-
 def lay_down(folder, names=()):
     """Lays down the crates of crates.txt, and these of extra.txt; gives the folders of the latter."""
     listed, extra = lines_of("crates.txt"), lines_of("extra.txt")
-    over = {name: re.search(r"^\w+ over (\w+)", extra[name]) for name in names}
-    lines = [*listed.values(), *(re.sub(r" over \w+", "", extra[name]) for name in names)]
+    lines = [*listed.values(), *(extra[name] for name in names)]
     with open(os.path.join(folder, "crates.txt"), "w", encoding="utf-8") as out:
         out.write("\n".join([*lines, ""]))
     shutil.copy2(os.path.join(TOP, "HANDLES"), folder)
     for crate in listed:
         copy_crate(os.path.join(TOP, "crates", crate), os.path.join(folder, "crates", crate))
     subprocess.run(["git", "init", "-q"], cwd=folder, check=True)
-    return [lay_extra(folder, name, over[name] and over[name][1]) for name in names]
+    return [lay_extra(folder, name) for name in names]
 
 
 def build_by_run(crate, words):
