@@ -20,6 +20,8 @@ HOST = "127.0.0.1"
 # How many seconds a connection waits for the next bytes, and after how many faults no further case is tried.
 PATIENCE = 20
 MOST_FAULTS = 3
+# The names of the cases that failed: the end of a long output says which they were.
+FAILED = []
 PING, PONG = real_redis.request([b"PING"]), b"+PONG\r\n"
 # What `run` tells a connection for which no worker is free in time.
 FULL = b"-ERR max number of clients reached\r\n"
@@ -368,7 +370,10 @@ def timed(case):
 
 def passes(case, given, behind=None):
     """Whether the case passes, and what stands behind it; its faults are shown."""
-    return any(is_passed(case, given, behind) for _ in range(getattr(case, "tries", 1)))
+    passed = any(is_passed(case, given, behind) for _ in range(getattr(case, "tries", 1)))
+    if not passed:
+        FAILED.append(case.__name__)
+    return passed
 
 
 def is_passed(case, given, behind):
@@ -392,8 +397,10 @@ def pass_together(cases, given):
 
 
 def tell(results):
-    """Says how many of these passed, and gives the status."""
+    """Says which cases failed, and how many of these passed, and gives the status."""
     passed, faults = results.count(True), results.count(False)
+    if FAILED:
+        print(f"failed: {', '.join(FAILED)}")
     print(f"{passed} passed, {faults} failed")
     return 1 if faults else 0
 
