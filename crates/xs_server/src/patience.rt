@@ -9,12 +9,16 @@ use crate::work::mode::{Attend, KeeperMode, Mode};
 use crate::work::session_memory::SessionMemory;
 use std::alloc::{AllocError, Global};
 use std::sync::Wait;
+use std::thread;
 use std::time::{Clock, Duration};
 use xs_bytes::U63;
 use xs_desk::{Client, Journal, Keeper, Pause};
 
 /// How often a worker looks after its client.
 const BEAT_MILLIS: u64 = 1000;
+
+/// How long a worker lets others go on while it waits for memory.
+const REST_MILLIS: u64 = 1;
 
 /// After how long a worker sends the replies to the requests before the one whose answer it waits for.
 const PROMPT_MILLIS: u64 = 1;
@@ -57,6 +61,10 @@ impl<S: Wait + Clock + Drop> Pause for Watch<S> {
 impl<S: Wait + Clock + Drop> Attend for Watch<S> {
     fn let_in(&self) {
         self.peer.let_in();
+    }
+
+    fn rest(&self) {
+        thread::sleep(&self.system, Duration::from_millis(REST_MILLIS));
     }
 }
 

@@ -26,6 +26,13 @@ run-more : (old mid : Transaction) (run : List Taken) (words : List (List ℕ)) 
 run-more old mid [] words others one same is runs = (words, others, sym same ∙ is, runs, refl)
 run-more old mid (first ∷ run) words others one (name, more, split, so, ran) is runs = (name, more, split, so, run-more (released more) mid run words others one ran is runs)
 
+-- where nothing is left at the end, nothing is left before the next request
+left-clear : (manner : Manner) (mid standing : Standing) (left : Transaction) (requests : List (List (List ℕ))) (more : List Taken) → released_of standing.transaction ≡ []
+    → (requests ≡ []) ⊎ (released_of left ≡ []) → AreTaken manner (record mid { transaction = left }) requests more standing → released_of left ≡ []
+left-clear manner mid standing left [] more nothing clear (none, same) = ap (λ (s : Standing). released_of s.transaction) (sym same) ∙ nothing
+left-clear manner mid standing left (request ∷ requests) more nothing (inl never) are = cc
+left-clear manner mid standing left (request ∷ requests) more nothing (inr clear) are = clear
+
 -- a request more that has words, where nothing is left that EXEC has let go
 pub taken-more : (manner : Manner) (first standing next : Standing) (requests : List (List (List ℕ))) (taken : List Taken) (words : List (List ℕ)) (one : Taken) → released_of standing.transaction ≡ []
     → AreTaken manner first requests taken standing → 0 < length words → IsTaken manner standing words one next → AreTaken manner first (requests ++ words ∷ []) (taken ++ one ∷ []) next
@@ -42,13 +49,9 @@ taken-more manner first standing next ((word ∷ others) ∷ requests) taken wor
   ap (λ t. t ++ one ∷ []) split ∙ ap (λ t. here ∷ t) (append_assoc run more (one ∷ [])),
   taken_so,
   ran,
-  inr (left-clear requests clear are),
+  inr (left-clear manner mid standing left requests more nothing clear are),
   taken-more manner (record mid { transaction = left }) standing next requests more words one nothing are some is,
-) where
-  left-clear : (requests : List (List (List ℕ))) → (requests ≡ []) ⊎ (released_of left ≡ []) → AreTaken manner (record mid { transaction = left }) requests more standing → released_of left ≡ []
-  left-clear [] clear (none, same) = ap (λ (s : Standing). released_of s.transaction) (sym same) ∙ nothing
-  left-clear (request ∷ requests) (inl never) are = cc
-  left-clear (request ∷ requests) (inr clear) are = clear
+)
 
 -- a request more of no words
 pub taken-same : (manner : Manner) (first standing : Standing) (requests : List (List (List ℕ))) (taken : List Taken) → released_of standing.transaction ≡ [] → AreTaken manner first requests taken standing
@@ -56,11 +59,7 @@ pub taken-same : (manner : Manner) (first standing : Standing) (requests : List 
 taken-same manner first standing [] taken nothing none = none
 taken-same manner first standing ([] ∷ requests) taken nothing are = taken-same manner first standing requests taken nothing are
 taken-same manner first standing ((word ∷ others) ∷ requests) taken nothing (here, run, more, mid, left, split, is, ran, clear, are) =
-    (here, run, more, mid, left, split, is, ran, inr (left-clear requests clear are), taken-same manner (record mid { transaction = left }) standing requests more nothing are) where
-      left-clear : (requests : List (List (List ℕ))) → (requests ≡ []) ⊎ (released_of left ≡ []) → AreTaken manner (record mid { transaction = left }) requests more standing → released_of left ≡ []
-      left-clear [] clear (none, same) = ap (λ (s : Standing). released_of s.transaction) (sym same) ∙ nothing
-      left-clear (request ∷ requests) (inl never) are = cc
-      left-clear (request ∷ requests) (inr clear) are = clear
+    (here, run, more, mid, left, split, is, ran, inr (left-clear manner mid standing left requests more nothing clear are), taken-same manner (record mid { transaction = left }) standing requests more nothing are)
 
 -- one more that EXEC has let go, behind the last request
 pub taken-runs : (manner : Manner) (first standing : Standing) (requests : List (List (List ℕ))) (taken : List Taken) (words : List (List ℕ)) (others : List (List (List ℕ))) (one : Taken) → released_of first.transaction ≡ []

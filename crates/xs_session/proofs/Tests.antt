@@ -1,6 +1,6 @@
 -- What tests of emptiness tell.
 use Rattle.std.proofs.Common.{◌≡◌, ℕ, ◌<◌, ◌==◌, Bool, true, false, List, [], ◌∷◌, ◌++◌, length, Result, Ok, Err}
-use Rattle.std.proofs.Common.{sym, ap, ◌∙◌, refl, arith}
+use Rattle.std.proofs.Common.{sym, ◌∙◌, refl, arith}
 use Rattle.std.specs.Prelude.{IfOk}
 use Rattle.xs_devices.specs.Passing.{Passing}
 use Rattle.xs_devices.specs.Device.{Gave}

@@ -13,26 +13,22 @@ use xs_command::{Command, Refusal, read_command};
 use xs_resp::{Fault, Reply};
 use xs_tape::can_be_record;
 
-/// The command that words say, as `read_command` gives it. If no memory is found, the reserve is given back for a second
-/// try.
+/// The command that words say, as `read_command` gives it. While no memory is found, the reserve is given back piece by
+/// piece for further tries.
 fn command_of(alloc: Global, reserve: &mut Reserve, words: &[Bytes]) -> Result<Command, Refusal>
     requires { 0 < length words.now }
     ensures exact { Gives result (command_of_words words.now) }
     ensures formed { IfOk result IsWellFormed }
 {
-    match read_command(alloc, words) {
-        Err(Refusal::Memory) => {
-            if reserve.give_back() {
-                return read_command(alloc, words);
-            }
-            Err(Refusal::Memory)
-        }
-        first => first,
+    let mut said = read_command(alloc, words);
+    while matches!(said, Err(Refusal::Memory)) && reserve.give_back() {
+        said = read_command(alloc, words);
     }
+    said
 }
 
-/// The command of words that EXEC has let go, or what they are answered. Where words are wanted for a log, those that no
-/// log can have a record of are refused as if there were no memory.
+/// The command of words that EXEC has let go, or what they are answered. If words are wanted for a log, those that no log
+/// can have a record of are refused as if there were no memory.
 #[tactic(auto, unfolding(xs_command::specs::Read::command_of_words, xs_command::specs::Words::word))]
 pub fn command_of_released(
     alloc: Global,

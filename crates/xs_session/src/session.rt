@@ -1,6 +1,6 @@
 //! The session of a connection.
-ghost use Rattle.std.specs.Prelude.{◌≡◌, ◌≢◌, ◌+◌, ◌<◌, ◌≤◌, ◌++◌, ◌∷◌, ◌⊎◌, List, ℕ, [], Ok, Err, Some, None, true, false};
-ghost use Rattle.std.specs.Prelude.{length, is_some, if◌then◌else◌, IfOk, OnErr};
+ghost use Rattle.std.specs.Prelude.{◌≡◌, ◌≢◌, ◌+◌, ◌<◌, ◌≤◌, ◌++◌, ◌∷◌, ◌⊎◌, List, ℕ, [], Ok, Err, Some, None};
+ghost use Rattle.std.specs.Prelude.{true, false, length, is_some, if◌then◌else◌, IfOk, OnErr};
 ghost use Rattle.xs_devices.specs.Passing.{Keeps};
 ghost use Rattle.xs_devices.specs.Device.{counter_at, Gave};
 ghost use Rattle.xs_devices.specs.declared.fill.FillFault.{FillFault};
@@ -29,14 +29,14 @@ use crate::places::{AHEAD, Places};
 use crate::releasing::command_of_released;
 use crate::reserve::Reserve;
 use crate::strangers::is_too_much;
-use crate::taking::take_request;
+use crate::taking::{names_addition, take_request};
 use std::alloc::{AllocError, Global};
 use xs_bytes::U63;
 use xs_command::Command;
 use xs_connection::Standing;
 use xs_desk::Call;
 use xs_devices::{Fill, FillFault, Source};
-use xs_resp::{Encoder, Fault, Reply, Requests};
+use xs_resp::{Encoder, Fault, Reply, Request, Requests};
 
 /// What a turn of a session comes to.
 #[derive(Debug, Drop)]
@@ -47,7 +47,8 @@ pub enum Turn {
     Asks(Call),
     /// It waits for bytes.
     Waits,
-    /// It takes no further request until answers that it waits for are there, and are gathered.
+    /// It takes no further request until answers that it waits for are there, and are gathered. If there are none, it waits
+    /// for memory: the caller lets others go on, and tries again.
     Full,
     /// It takes no further request.
     Ends(Ending),
@@ -55,6 +56,9 @@ pub enum Turn {
 
 /// How many bytes of requests are held without more memory: those of one read, and twice a request of 16 KiB.
 const ROOM: usize = 131_072;
+
+/// How often a session waits for a piece of its reserve, at most, before it takes requests without any.
+const MOST_WAITS: u32 = 100;
 
 /// How many sessions there are at once, at most.
 const MOST_SESSIONS: u64 = 1024;
@@ -79,6 +83,8 @@ pub struct Session {
     pub hurries: bool,
     // How many answers may have places: fewer while memory is refused.
     most: usize,
+    // How often it may wait for a piece of its reserve until there is one again.
+    waits_left: u32,
 }
 
 /// How a session ends behind a command, if it does.
@@ -133,6 +139,26 @@ fn next_most(most: usize, reply: &Reply) -> usize {
     most.saturating_add(1).min(AHEAD)
 }
 
+/// Makes the reserve whole as far as memory is found, and says whether a request has to wait, since there is no piece.
+/// Additions don't wait, and others only so often.
+fn waits_for_memory(
+    alloc: Global,
+    reserve: &mut Reserve,
+    waits_left: &mut u32,
+    words: Request<'_>,
+) -> bool {
+    let _ = reserve.fill(alloc);
+    if !reserve.is_empty() {
+        *waits_left = MOST_WAITS;
+        return false;
+    }
+    if *waits_left == 0 || names_addition(words) {
+        return false;
+    }
+    *waits_left -= 1;
+    true
+}
+
 impl Session {
     ghost use Rattle.xs_devices.specs.declared.fill.FillFault.{FillFault};
     ghost use Rattle.xs_session.specs.declared.ending.Ending.{Ending};
@@ -152,6 +178,7 @@ impl Session {
             alone: false,
             hurries: false,
             most: AHEAD,
+            waits_left: MOST_WAITS,
         })
     }
 
@@ -167,6 +194,7 @@ impl Session {
         self.alone = false;
         self.hurries = false;
         self.most = AHEAD;
+        self.waits_left = MOST_WAITS;
     }
 
     /// Whether every answer is begun, and all that is owed is gathered.
@@ -281,8 +309,8 @@ impl Session {
         })
     }
 
-    /// Whether a command has to wait, since it is to be asked alone and some answer isn't gathered. If it is and goes, the
-    /// next one waits for its answer.
+    /// Whether a command has to wait, since it is to be asked alone and some answer isn't gathered. If it is and goes,
+    /// the next one waits for its answer.
     fn waits_for_others(&mut self, command: &Command) -> bool
         requires several { self.old.alone ≡ false }
         ensures waits { result ≡ true → self.new ≡ record self.old { alone = true } }
@@ -324,8 +352,14 @@ impl Session {
         if !is_whole {
             return Turn::Waits;
         }
-        // A part of it is better than none.
-        let _ = self.reserve.fill(self.alloc);
+        if waits_for_memory(
+            self.alloc,
+            &mut self.reserve,
+            &mut self.waits_left,
+            self.requests.front(),
+        ) {
+            return Turn::Full;
+        }
         self.take_front(manner, wants_words)
     }
 
@@ -476,7 +510,8 @@ impl Session {
         ensures ok { IfOk result (λ n. Gave (R.rest reader.old) (R.rest reader.new) (R.ended reader.new) n
             (λ more. (self.new.requests ≡ with_piece self.old.requests more)
             × ((manner : Manner) (read : List ℕ) (asked : List Command) (got : List Reply) (sent : List ℕ) →
-            SessionIsAfter manner read asked got sent self.old → SessionIsAfter manner (read ++ more) asked got sent self.new))) }
+            SessionIsAfter manner read asked got sent self.old →
+            SessionIsAfter manner (read ++ more) asked got sent self.new))) }
         ensures none { result ≡ Ok 0 → self.new ≡ self.old }
         ensures err { OnErr result ((self.new ≡ self.old) × Keeps (R.rest reader.old) (R.rest reader.new)) }
         ensures memory { result ≡ Err FillFault.Memory → reader.new ≡ reader.old }

@@ -18,26 +18,22 @@ use xs_desk::Call;
 use xs_resp::{Fault, Reply, Request};
 use xs_tape::can_be_record;
 
-/// The command of a request, as `read_request` gives it. If no memory is found, the reserve is given back for a second
-/// try.
+/// The command of a request, as `read_request` gives it. While no memory is found, the reserve is given back piece by
+/// piece for further tries.
 fn command_of(alloc: Global, reserve: &mut Reserve, words: Request<'_>) -> Result<Command, Refusal>
     requires { 0 < length words }
     ensures exact { Gives result (command_of_words words.entry) }
     ensures formed { IfOk result IsWellFormed }
 {
-    match read_request(alloc, words.again()) {
-        Err(Refusal::Memory) => {
-            if reserve.give_back() {
-                return read_request(alloc, words);
-            }
-            Err(Refusal::Memory)
-        }
-        first => first,
+    let mut said = read_request(alloc, words.again());
+    while matches!(said, Err(Refusal::Memory)) && reserve.give_back() {
+        said = read_request(alloc, words.again());
     }
+    said
 }
 
-/// A copy of the words of a request, for a log. If no memory is found, the reserve is given back for a second try.
-/// Words that no log can have a record of are refused as if there were none.
+/// A copy of the words of a request, for a log. While no memory is found, the reserve is given back piece by piece for
+/// further tries. Words that no log can have a record of are refused as if there were no memory.
 fn words_of(
     alloc: Global,
     reserve: &mut Reserve,
@@ -47,15 +43,11 @@ fn words_of(
     ensures said { IfOk result (λ found. (command : Command) → command_of_words words.entry ≡ Ok command →
         AreWordsOf found command) }
 {
-    let copies = match words.copy(alloc) {
-        Ok(copies) => copies,
-        Err(refused) => {
-            if !reserve.give_back() {
-                return Err(refused);
-            }
-            words.copy(alloc)?
-        }
-    };
+    let mut copied = words.again().copy(alloc);
+    while copied.is_err() && reserve.give_back() {
+        copied = words.again().copy(alloc);
+    }
+    let copies = copied?;
     if !can_be_record(copies.as_slice()) {
         return Err(AllocError);
     }
@@ -137,6 +129,14 @@ fn names_quit(words: &Words<'_>) -> bool
 {
     match words.word() {
         Ok((first, _)) => first.is(b"quit"),
+        Err(_) => false,
+    }
+}
+
+/// Whether the first word is XADD: it has to do without memory first.
+pub(crate) fn names_addition(words: Request<'_>) -> bool {
+    match Words::of_request(words).word() {
+        Ok((first, _)) => first.is(b"xadd"),
         Err(_) => false,
     }
 }

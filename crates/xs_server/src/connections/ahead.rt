@@ -317,8 +317,9 @@ fn settle<W: Sink, P: Pause, T: Wait>(
     }
 }
 
-/// Makes room for further answers: those that are there are gathered; if none is, it settles.
-fn make_room<W: Sink, P: Pause, T: Wait>(
+/// Makes room for further answers: those that are there are gathered; if none is, it settles. If nothing is left to do,
+/// the session waits for memory, and others go on meanwhile.
+fn make_room<W: Sink, P: Attend, T: Wait>(
     rt: &T,
     session: &mut Session,
     writer: &mut W,
@@ -333,6 +334,10 @@ fn make_room<W: Sink, P: Pause, T: Wait>(
     ensures cause { IfErr result (λ fault. IsLost fault (W.broken writer.new)) }
 {
     if gather_answers(session) {
+        return Ok(());
+    }
+    if !session.is_open() && session.output().is_empty() {
+        pause.rest();
         return Ok(());
     }
     match settle(rt, session, writer, client, pause) {

@@ -2,17 +2,30 @@
 use crate::work::session_memory::SessionMemory;
 use std::alloc::{AllocError, Global};
 use std::sync::Wait;
+use std::thread;
 use xs_bytes::U63;
 use xs_desk::{Idle, Journal, Keeper, Pause};
 
-/// How a worker waits for answers, and what it does once a client has given the password.
+/// How often a worker without a clock yields while it waits for memory.
+const YIELDS: u32 = 1000;
+
+/// How a worker waits for answers and for memory, and what it does once a client has given the password.
 pub trait Attend: Pause {
     /// Lets the client of the present connection take its time from now on.
     fn let_in(&self);
+
+    /// Lets other threads go on for a moment.
+    fn rest(&self);
 }
 
 impl Attend for Idle {
     fn let_in(&self) {}
+
+    fn rest(&self) {
+        for _ in 0..YIELDS {
+            thread::yield_now();
+        }
+    }
 }
 
 /// What a keeper does between its turns, whatever its journal is.

@@ -35,6 +35,8 @@ impl Pause for Beside {
 
 impl Attend for Beside {
     fn let_in(&self) {}
+
+    fn rest(&self) {}
 }
 
 /// Serves connections, one after the other, as a worker of a desk does that has no other one.

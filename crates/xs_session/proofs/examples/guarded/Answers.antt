@@ -1,4 +1,4 @@
-use Rattle.std.specs.Prelude.{◌≡◌, Bool, [], codes, true, false}
+use Rattle.std.specs.Prelude.{◌≡◌, [], codes, true, false}
 use Rattle.std.proofs.Common.{refl, ap, inl, inr}
 use Rattle.xs_resp.specs.declared.reply.Reply.{Reply}
 use Rattle.xs_resp.specs.declared.reply.Reply.TheVariants.{Simple}
