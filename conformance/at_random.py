@@ -5,7 +5,7 @@
 
 Each round has 400 commands of streams and groups (conformance/commands.py says which, and what is left out), from the
 empty keyspace on; the program runs them as one script. A reply has to be that of Redis, byte by byte; of an error the
-first word, since texts differ. The moments of the script lie about the clock's own at the round's beginning, forwards
+first word, since texts differ; of XINFO what conformance/inspections.py says. The moments of the script lie about the clock's own at the round's beginning, forwards
 and backwards, while Redis has its clock; so an idle time is compared as old or as new, and least idle times are none
 or lie far between. A round ends at its first difference, which is shown. `--counts` shows how often each kind of reply
 of each command came. The last line is 'N passed, M failed', by commands; the status is 1 where M > 0.
@@ -19,6 +19,7 @@ import sys
 import time
 
 import commands
+import inspections
 import kinds
 import real_redis
 
@@ -44,10 +45,17 @@ def by_age(reply):
     return re.sub(rb":([0-9]+)(\r\n:)", age, reply)
 
 
+def is_same(words, ours, theirs):
+    """Whether a reply is that of Redis, as far as both know."""
+    if inspections.is_told(words, ours, theirs):
+        return inspections.agree(words, ours, theirs)
+    return real_redis.is_same(by_age(ours), by_age(theirs))
+
+
 def same_in_round(lines, here, there, counts):
     """How many commands got the reply of Redis, up to the first that didn't; that one is shown."""
     for number, (words, ours, theirs) in enumerate(zip(lines, here, there)):
-        if not real_redis.is_same(by_age(ours), by_age(theirs)):
+        if not is_same(words, ours, theirs):
             print(f"{number}: {' '.join(words)}\n  here  {ours}\n  Redis {theirs}")
             return number
         counts.add(words, ours)

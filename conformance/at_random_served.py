@@ -31,7 +31,7 @@ def places_of_keys(words):
         return range(behind, behind + (len(words) - behind) // 2)
     if upper[0] in ("DEL", "EXISTS"):
         return range(1, len(words))
-    place = 2 if upper[0] == "XGROUP" else 1
+    place = 2 if upper[0] in ("XGROUP", "XINFO") else 1
     return range(place, min(place + 1, len(words)))
 
 

@@ -6,7 +6,7 @@ Left out is where this server and Redis 7.0 say something else, and each for a r
   consumers of CREATECONSUMER have names of their own, which never read;
 - an id twice in XCLAIM; IDLE that is past now there, and a RETRYCOUNT below 0; a key twice in XREADGROUP; the greatest
   id as the start of a read; counts of deliveries near the greatest;
-- XINFO GROUPS, since Redis counts what a group has read, and doesn't always know how far behind it is;
+- XINFO STREAM FULL, which tells consumers and what groups have read among the rest;
 - a BLOCK that waits for long; FORCE, LASTID, ENTRIESREAD and SETID;
 - words that are refused here, where Redis doesn't read them or passes over them: ids of XDEL and XACK that are none,
   as a key may be missing, no id at all in XCLAIM, more words behind the long form of XPENDING.
@@ -109,6 +109,10 @@ class Maker:
         keys = [self.key() for _ in range(self.one(1, 2, 3))]
         return self.one(["EXISTS", *keys], ["TYPE", keys[0]], ["DBSIZE"])
 
+    def information(self):
+        key = self.key()
+        return ["XINFO", *self.one(["STREAM", key], ["GROUPS", key], ["CONSUMERS", key, self.group()])]
+
     def scan(self):
         key = self.key()
         name, step = self.one(("XRANGE", 1), ("XREVRANGE", -1))
@@ -191,8 +195,9 @@ class Maker:
         """What makes a command, with how often it is wanted."""
         ends = {self.deletion: 10, self.trimming: 4, self.dropping: 1, self.destruction: 1, self.consumer_removal: 2,
                 self.acknowledgement: 12}
-        often = {self.addition: 50, self.length: 2, self.inspection: 3, self.scan: 8, self.creation: 20, self.consumer_creation: 4,
-                 self.read: 40, self.summary: 6, self.rows: 12, self.claim: 20, self.auto_claim: 20, self.greeting: 2}
+        often = {self.addition: 50, self.length: 2, self.inspection: 3, self.information: 6, self.scan: 8,
+                 self.creation: 20, self.consumer_creation: 4, self.read: 40, self.summary: 6, self.rows: 12,
+                 self.claim: 20, self.auto_claim: 20, self.greeting: 2}
         often.update({make: count * (0.1 if self.grows else 1) for make, count in ends.items()})
         return often
 

@@ -12,7 +12,7 @@ from books import Connection
 from logged import logged, new_folder, read_at_start
 from states import words_of
 
-SEED, CLIENTS, COMMANDS = 43, 4, 200
+SEED, CLIENTS, COMMANDS = 50, 4, 200
 KEYS, GROUPS, CONSUMERS = ("s", "t", "u", "x"), ("g", "h"), ("a", "b", "B")
 # Among the commands at random, in turn: what they leave out.
 MORE = ["XADD x * f \1\0\1\1\0\2", "XREADGROUP GROUP g a COUNT 1 STREAMS x >",
@@ -20,7 +20,8 @@ MORE = ["XADD x * f \1\0\1\1\0\2", "XREADGROUP GROUP g a COUNT 1 STREAMS x >",
         "XREADGROUP BLOCK 5 GROUP g a COUNT 1 STREAMS x >",
         "XREADGROUP BLOCK 1 GROUP g a STREAMS x >", "XREADGROUP GROUP g a STREAMS x >", "XCLAIM x g b 0 1-0 0-1",
         "XAUTOCLAIM x g B 0 0 COUNT 1", "XADD x 1-0 f v", "XREADGROUP GROUP h b COUNT 2 STREAMS x >", "XADD x 2",
-        "XGROUP DESTROY x h", "XGROUP CREATE x h 0", "XTRIM x MAXLEN 2"]
+        "XGROUP DESTROY x h", "XGROUP CREATE x h 0", "XTRIM x MAXLEN 2",
+        "XGROUP DELCONSUMER x g B"]
 OPENING = ["XGROUP CREATE x g 0 MKSTREAM", "XGROUP CREATE x h $",
            *(f"XGROUP CREATE {key} g 0 MKSTREAM" for key in "stu")]
 # Of each of these the log has to have a record whose reply tells of an effect: its name, and words among the others.
@@ -63,7 +64,8 @@ def commands_of_a_life():
     maker, more, made = commands.Maker(SEED), itertools.cycle(MORE), [words_of(text) for text in OPENING]
     while len(made) < COMMANDS:
         words = [word.encode() for word in maker.command()] if len(made) % 3 else words_of(next(more))
-        if words[0].upper() != b"QUIT":
+        # XINFO CONSUMERS tells how long each is idle.
+        if words[0].upper() != b"QUIT" and words[1:2] != [b"CONSUMERS"]:
             made.append(words)
     return made
 

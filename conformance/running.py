@@ -606,10 +606,9 @@ def full_queue_beside_producers(program):
         all_answer(server)
         full_queue.limit_memory(server, 64 * MEGABYTE)
         full_queue.consume_beside_producers(server, 600)
-    # without that variable some are, as docs/CLIENTS.md says
-    with running(program, workers=16, limits={resource.RLIMIT_AS: 500_000 * 1024},
-                 environment={"MALLOC_ARENA_MAX": "1"}) as server:
-        full_queue.consume_beside_producers(server, 600)
+    for workers, kilobytes in ((6, 200_000), (16, 500_000)):
+        with running(program, workers=workers, limits={resource.RLIMIT_AS: kilobytes * 1024}) as server:
+            full_queue.consume_beside_producers(server, 600)
 
 
 # What the server may have five seconds after clients have left who asked for 100 MB that stay stored: Redis 7.0 has 131
