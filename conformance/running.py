@@ -601,7 +601,7 @@ def full_memory_of_many(program):
 
 
 def full_queue_beside_producers(program):
-    """While memory is full and two producers never stop, no consumer is refused."""
+    """While memory is full and two producers never stop, consumers are served."""
     with running(program, workers=16) as server:
         all_answer(server)
         full_queue.limit_memory(server, 64 * MEGABYTE)

@@ -662,7 +662,7 @@ def full_queue_trimmed(program):
 
 
 def full_queue_beside_producers(program):
-    """While memory is full and two producers never stop, no consumer is refused."""
+    """While memory is full and two producers never stop, consumers are served."""
     with serving(program, workers=6, limits={resource.RLIMIT_AS: 200_000 * 1024}) as server:
         full_queue.consume_beside_producers(server, 600)
 

@@ -58,7 +58,7 @@ pub enum Turn {
 const ROOM: usize = 131_072;
 
 /// How often a session waits for a piece of its reserve, at most, before it takes requests without any.
-const MOST_WAITS: u32 = 100;
+const MOST_WAITS: u32 = 20;
 
 /// How many sessions there are at once, at most.
 const MOST_SESSIONS: u64 = 1024;

@@ -11,6 +11,7 @@ ghost use Rattle.xs_session.specs.Answers.{Asks, Says, IsSaid, IsTaken, names_qu
 use crate::manner::Manner;
 use crate::reserve::Reserve;
 use std::alloc::{AllocError, Global};
+use std::thread;
 use xs_bytes::{Bytes, List};
 use xs_command::{Command, Refusal, Words, read_request};
 use xs_connection::Standing;
@@ -18,22 +19,48 @@ use xs_desk::Call;
 use xs_resp::{Fault, Reply, Request};
 use xs_tape::can_be_record;
 
-/// The command of a request, as `read_request` gives it. While no memory is found, the reserve is given back piece by
-/// piece for further tries.
+/// Whether the first word is XADD: it has to do without memory first.
+pub(crate) fn names_addition(words: Request<'_>) -> bool {
+    match Words::of_request(words).word() {
+        Ok((first, _)) => first.is(b"xadd"),
+        Err(_) => false,
+    }
+}
+
+/// How often memory is looked for, at most, before a request is answered that there is none.
+const MOST_TRIES: u32 = 1000;
+
+/// Makes room for a further try to find memory, and says whether there is to be one: a piece of the reserve is given back,
+/// or others go on that may give some back. Additions have to do with the reserve.
+fn makes_room(reserve: &mut Reserve, words: Request<'_>) -> bool {
+    if reserve.give_back() {
+        return true;
+    }
+    if names_addition(words) {
+        return false;
+    }
+    thread::yield_now();
+    true
+}
+
+/// The command of a request, as `read_request` gives it. While no memory is found there are further tries.
 fn command_of(alloc: Global, reserve: &mut Reserve, words: Request<'_>) -> Result<Command, Refusal>
     requires { 0 < length words }
     ensures exact { Gives result (command_of_words words.entry) }
     ensures formed { IfOk result IsWellFormed }
 {
     let mut said = read_request(alloc, words.again());
-    while matches!(said, Err(Refusal::Memory)) && reserve.give_back() {
+    for _ in 0..MOST_TRIES {
+        if !matches!(said, Err(Refusal::Memory)) || !makes_room(reserve, words.again()) {
+            break;
+        }
         said = read_request(alloc, words.again());
     }
     said
 }
 
-/// A copy of the words of a request, for a log. While no memory is found, the reserve is given back piece by piece for
-/// further tries. Words that no log can have a record of are refused as if there were no memory.
+/// A copy of the words of a request, for a log. While no memory is found there are further tries. Words that no log can
+/// have a record of are refused as if there were no memory.
 fn words_of(
     alloc: Global,
     reserve: &mut Reserve,
@@ -44,7 +71,10 @@ fn words_of(
         AreWordsOf found command) }
 {
     let mut copied = words.again().copy(alloc);
-    while copied.is_err() && reserve.give_back() {
+    for _ in 0..MOST_TRIES {
+        if copied.is_ok() || !makes_room(reserve, words.again()) {
+            break;
+        }
         copied = words.again().copy(alloc);
     }
     let copies = copied?;
@@ -129,14 +159,6 @@ fn names_quit(words: &Words<'_>) -> bool
 {
     match words.word() {
         Ok((first, _)) => first.is(b"quit"),
-        Err(_) => false,
-    }
-}
-
-/// Whether the first word is XADD: it has to do without memory first.
-pub(crate) fn names_addition(words: Request<'_>) -> bool {
-    match Words::of_request(words).word() {
-        Ok((first, _)) => first.is(b"xadd"),
         Err(_) => false,
     }
 }

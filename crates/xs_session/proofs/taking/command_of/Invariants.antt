@@ -5,8 +5,5 @@ use Rattle.xs_command.specs.Words.{Gives}
 use Rattle.xs_session.proofs.taking.command_of.Given as goal
 
 -- what was read last is what the words say
-abbrev pub invariant-loop-said : goal.invariant-loop-said
-invariant-loop-said l = Gives l.said (command_of_words l.fn.words) × IfOk l.said IsWellFormed
-
-abbrev pub decreases-loop-said : goal.decreases-loop-said
-decreases-loop-said l = l.reserve
+abbrev pub invariant-loop : goal.invariant-loop
+invariant-loop l = Gives l.said (command_of_words l.fn.words) × IfOk l.said IsWellFormed
