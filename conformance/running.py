@@ -270,6 +270,7 @@ def a_thousand_wait(program):
 # ---- delays and costs
 
 
+@timed
 def without_delay(program):
     """A small reply behind another one comes at once, as under `serve`."""
     with running(program) as server:

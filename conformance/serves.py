@@ -24,7 +24,7 @@ import served
 from great import array, bulk, entry, number
 from real_redis import read_reply, request
 from served import (PING, PONG, add_many, all_answer, asking, fill, raw, read_exactly, read_to_end, reset, say, say_at,
-                    send_all_that_goes, serving, together, try_all)
+                    send_all_that_goes, serving, timed, together, try_all)
 
 WORKERS = 4
 PROTOCOL = b"-ERR Protocol error\r\n"
@@ -106,6 +106,7 @@ def byte_by_byte(server):
     say_at(server, "DEL slow", number(1))
 
 
+@timed
 def without_delay(server):
     """A small reply behind another small one comes at once, though the client hasn't acknowledged the former. The second
     request comes while the first one is executed, which names so many ids that it takes a while. A turn in which that
