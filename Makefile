@@ -83,7 +83,8 @@ compare:
 # Runs the program as a server for clients of others, beside a real Redis 7.0, and for the examples. Clients that aren't
 # installed are skipped.
 # Debian: apt-get install redis-server redis-tools python3-redis python3-hiredis gcc libhiredis-dev node-redis ruby-redis
-# golang-go golang-github-gomodule-redigo-dev php-cli php-redis php-predis
+# golang-go golang-github-gomodule-redigo-dev php-cli php-redis php-predis php-symfony-redis-messenger
+# prometheus-redis-exporter
 clients:
 	$(BUILD)
 	python3 conformance/clients.py $(PROGRAM)

@@ -7,7 +7,8 @@ Each client of conformance/clients adds jobs, reads them by two consumers, ackno
 id and by scan, trims, deletes, and is refused what is wrong, on a server of its own; it prints a line for each step, in
 the form that clients/forms.py tells. All lines have to be those that the same client prints with Redis, and a step has
 to be answered alike to all clients. Those of conformance/clients/guarded do a thousand jobs behind a name, a database, a
-password and transactions, with `run` and with Redis. A client that isn't installed is skipped, and counts as neither.
+password and transactions, and those of conformance/clients/started start and tell what they found, with `run` and with
+Redis. A client that isn't installed is skipped, and counts as neither.
 `--show` prints the lines of each. The last line is 'N passed, M failed'; the status is 1 where M > 0. Debian: the
 Makefile names the packages.
 """
@@ -22,7 +23,7 @@ from dataclasses import dataclass, field
 
 import passwords
 import real_redis
-from served import asking, free_port, serving
+from served import asking, free_port, running, serving
 
 HERE = os.path.join(os.path.dirname(os.path.abspath(__file__)), "clients")
 STEPS = os.path.join(HERE, "steps.txt")
@@ -111,6 +112,12 @@ GUARDED = [
     guarded("Predis", ["php", in_here("guarded/predis.php")],
             ["php", "-r", 'exit((@include "Predis/autoload.php") ? 0 : 1);']),
 ]
+STARTED = [
+    Client("prometheus-redis-exporter", [PYTHON, in_here("started/redis_exporter.py")],
+           ["prometheus-redis-exporter", "--version"]),
+    Client("Symfony Messenger", ["php", in_here("started/symfony_messenger.php")],
+           ["php", "-r", 'exit((@include "Symfony/Component/Messenger/Bridge/Redis/autoload.php") ? 0 : 1);']),
+]
 DONE = "1000, left: 0, pending: 0"
 
 
@@ -149,13 +156,22 @@ def faults_of_guarded(client, program, folder, _):
     return ours, difference("here and on Redis", ours, theirs) or difference("here", {"done": ours.get("done")}, {"done": DONE})
 
 
+def faults_of_started(client, program, folder, _):
+    """The first difference from Redis of what it found."""
+    with running(program, workers=WORKERS) as server:
+        ours = client.told(folder, server.port)
+    with real_redis.started(port=free_port()) as port:
+        theirs = client.told(folder, port)
+    return ours, difference("here and on Redis", ours, theirs)
+
+
 def main():
     parser = argparse.ArgumentParser(description=__doc__, formatter_class=argparse.RawDescriptionHelpFormatter)
     parser.add_argument("--show", action="store_true")
     parser.add_argument("program")
     given = parser.parse_args()
     passed, failed, standard = 0, 0, {}
-    kinds = ((CLIENTS, faults_of), (GUARDED, faults_of_guarded))
+    kinds = ((CLIENTS, faults_of), (GUARDED, faults_of_guarded), (STARTED, faults_of_started))
     for client, faults in ((client, faults) for clients, faults in kinds for client in clients):
         if not client.is_there():
             print(f"{client.name}: skipped, it isn't installed", flush=True)

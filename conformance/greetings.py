@@ -28,8 +28,11 @@ LIBRARIES = {
     "go-redis 9": [("HELLO 3", NO_RESP3), ("CLIENT SETINFO LIB-NAME go-redis(,go1.22)", OK)],
     "Lettuce 6": [("HELLO 3", NO_RESP3), ("PING", PONG.decode()), ("CLIENT SETINFO lib-name Lettuce", OK)],
     "redis-client of Ruby": [("HELLO 3", NO_RESP3)],
-    "StackExchange.Redis": [("HELLO 3", NO_RESP3), ("CLIENT SETNAME host", OK), ("CONFIG GET timeout", NOTHING),
-                            ("ECHO x", bulk("x"))],
+    "StackExchange.Redis": [("HELLO 3", NO_RESP3), ("CLIENT SETNAME host", OK), ("CLIENT ID", None),
+                            ("CONFIG GET timeout", NOTHING), ("INFO replication", None), ("ECHO x", bulk("x"))],
+    "ioredis 5": [("CLIENT SETINFO LIB-NAME ioredis", OK), ("INFO", None)],
+    "Jedis 5, redis-rs and node-redis 5": [("CLIENT SETINFO LIB-NAME jedis", OK), ("CLIENT SETINFO lib-ver 5.1", OK)],
+    "redisqueue of Go": [("INFO", None)],
     "deadpool-redis": [("UNWATCH", OK), ("PING 1", bulk("1"))],
 }
 

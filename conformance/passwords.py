@@ -25,6 +25,7 @@ PROTOCOL_ERROR = b"-ERR Protocol error\r\n"
 REFUSED = [
     ("PING", NO_AUTH), ("XADD s 1-0 f v", NO_AUTH), ("XREADGROUP GROUP g c BLOCK 0 STREAMS s >", NO_AUTH),
     ("DEL s", NO_AUTH), ("FOO", NO_AUTH), ("CLIENT SETNAME app", NO_AUTH), ("SELECT 0", NO_AUTH), ("ECHO x", NO_AUTH),
+    ("INFO", NO_AUTH),
     ("XLEN", NO_AUTH),
     ("AUTH", "-ERR wrong number of arguments\r\n"), ("AUTH wrong", WRONG), ("AUTH secre", WRONG), ("AUTH secrets", WRONG),
     ("AUTH other secret", WRONG), ("AUTH default wrong", WRONG), ("HELLO", NO_HELLO), ("HELLO 2", NO_HELLO),

@@ -6,8 +6,8 @@
 Readers that wait and the clients that leave them (conformance/waiting.py), more connections than workers, few
 descriptors, little memory, a bound on what is held (conformance/max_memory.py), what clients send when they connect
 (conformance/greetings.py) and before they have given a password (conformance/passwords.py), MULTI and EXEC
-(conformance/transactions.py), a wall clock that is set (conformance/clock_steps.py), the options. Cases that mostly wait
-are tried together. It needs Python's standard library, and a C compiler for the clock. The last line is 'N passed, M
+(conformance/transactions.py), INFO (conformance/information.py), a wall clock that is set (conformance/clock_steps.py),
+the options. Cases that mostly wait are tried together. It needs Python's standard library, and a C compiler for the clock. The last line is 'N passed, M
 failed'; the status is 1 if M > 0.
 """
 import contextlib
@@ -24,6 +24,7 @@ import time
 import clock_steps
 import full_queue
 import greetings
+import information
 import logged
 import max_memory
 import passwords
@@ -904,7 +905,7 @@ def main(arguments):
              readers_cost_little, pauses_cost_little, fast_ones_behind_pauses_wake_few, keys_cost_little,
              pieces_of_a_request_cost_little, a_thousand, busy_among_idle, a_thousand_wait, full_memory,
              full_memory_of_many, full_queue_beside_producers, memory_of_the_gone, *max_memory.CASES,
-             *greetings.CASES, *passwords.CASES, *transactions.CASES)
+             *greetings.CASES, *passwords.CASES, *transactions.CASES, *information.CASES)
     at_once = (waiting.clients_that_go, waiting.has_just_gone, waiting.many_have_just_gone, waiting.terminated,
                forty_too_many, one_ends_in_time, few_descriptors, no_descriptors, closes_the_idle, keeps_the_idle,
                odd_errors, never_waits, clock_steps.clock_is_set, in_their_order, sends_while_it_waits,

@@ -5,12 +5,14 @@ use Rattle.xs_command.specs.Words.{is_word}
 use Rattle.xs_connection.specs.declared.read.ConnectionName.{ConnectionName}
 use Rattle.xs_connection.specs.declared.read.ConnectionName.TheVariants.{Hello, Auth, Client, Select, Echo, Command}
 use Rattle.xs_connection.specs.declared.read.ConnectionName.TheVariants.{Config, Unwatch, Reset, Multi, Exec, Discard}
+use Rattle.xs_connection.specs.declared.read.ConnectionName.TheVariants.{Info}
 
 abbrev pub names : List (List ℕ × ConnectionName)
 names =
     (codes "hello", Hello) ∷ (codes "auth", Auth) ∷ (codes "client", Client) ∷ (codes "select", Select)
     ∷ (codes "echo", Echo) ∷ (codes "command", Command) ∷ (codes "config", Config) ∷ (codes "unwatch", Unwatch)
-    ∷ (codes "reset", Reset) ∷ (codes "multi", Multi) ∷ (codes "exec", Exec) ∷ (codes "discard", Discard) ∷ []
+    ∷ (codes "reset", Reset) ∷ (codes "multi", Multi) ∷ (codes "exec", Exec) ∷ (codes "discard", Discard)
+    ∷ (codes "info", Info) ∷ []
 
 -- the command that a word names
 unfoldable pub name_of : List ℕ → Option ConnectionName

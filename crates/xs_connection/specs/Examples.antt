@@ -22,13 +22,17 @@ third name is_allowed = record { id = 3; name = name; is_allowed = is_allowed; t
 abbrev pub secret : Option (List ℕ)
 secret = Some (codes "secret")
 
+-- what the server tells of itself
+abbrev pub about : List ℕ
+about = codes "loading:0"
+
 -- a line of words is answered so, and the connection has this name then and may ask or not
 abbrev pub IsSaid : Option (List ℕ) → Standing → List ℕ → Reply → Standing → Type 0
-IsSaid wanted old text reply new = answer_of wanted old (line text) ≡ (reply, new)
+IsSaid wanted old text reply new = answer_of wanted about old (line text) ≡ (reply, new)
 
 -- the same before the password is given
 abbrev pub IsSaidFirst : List ℕ → Reply → Standing → Type 0
-IsSaidFirst text reply new = stranger_answer secret (third [] false) (line text) ≡ (reply, new)
+IsSaidFirst text reply new = stranger_answer secret about (third [] false) (line text) ≡ (reply, new)
 
 -- what changes nothing, where no password is wanted
 abbrev pub Tells : List ℕ → Reply → Type 0
@@ -82,6 +86,8 @@ pub record Telling : Type 0 where
   pub descriptions : Tells (codes "COMMAND DOCS xadd") nothing
   pub settings : Tells (codes "CONFIG GET maxmemory") nothing
   pub settings_of_no_pattern : Tells (codes "CONFIG GET") (Error Arity)
+  pub information : Tells (codes "INFO") (Bulk (codes "loading:0"))
+  pub information_of_sections : Tells (codes "info server CLIENTS") (Bulk (codes "loading:0"))
   pub nothing_watched : Tells (codes "UNWATCH") okay
   pub needless_password :
       Tells (codes "AUTH x")
@@ -104,9 +110,10 @@ pub record Standings : Type 0 where
   pub a_name : IsSaid None (third [] true) (codes "CLIENT SETNAME app") okay (third (codes "app") true)
   pub a_name_in_hello : IsSaid None (third [] true) (codes "HELLO 2 SETNAME n") greeting (third (codes "n") true)
   pub a_space_in_a_name :
-      answer_of None (third [] true) (codes "CLIENT" ∷ codes "SETNAME" ∷ codes "a b" ∷ []) ≡ (bad_name, third [] true)
+      answer_of None about (third [] true) (codes "CLIENT" ∷ codes "SETNAME" ∷ codes "a b" ∷ [])
+      ≡ (bad_name, third [] true)
   pub a_space_in_the_name_of_hello :
-      answer_of None (third [] true) (codes "HELLO" ∷ codes "2" ∷ codes "SETNAME" ∷ codes "a b" ∷ [])
+      answer_of None about (third [] true) (codes "HELLO" ∷ codes "2" ∷ codes "SETNAME" ∷ codes "a b" ∷ [])
       ≡ (bad_name, third [] true)
   pub no_name : IsSaid None (third [] true) (codes "CLIENT GETNAME") NullBulk (third [] true)
   pub a_reset : IsSaid None (third (codes "app") true) (codes "RESET") (Simple simple.Reset) (third [] true)
@@ -130,6 +137,7 @@ pub record Strangers : Type 0 where
   pub hello_with_another : IsSaidFirst (codes "HELLO 2 AUTH default wrong SETNAME me") wrong (third [] false)
   pub a_name : IsSaidFirst (codes "CLIENT SETNAME app") no_auth (third [] false)
   pub an_echo : IsSaidFirst (codes "ECHO x") no_auth (third [] false)
+  pub information : IsSaidFirst (codes "INFO") no_auth (third [] false)
   pub an_addition : IsSaidFirst (codes "XADD s * f v") no_auth (third [] false)
   pub a_reset : IsSaidFirst (codes "RESET") (Simple simple.Reset) (third [] false)
 
@@ -169,6 +177,8 @@ pub record Transactions : Type 0 where
       (ErrorText (codes "ERR unknown command 'FOO', with args beginning with: ")) Spoiled
   pub a_command_of_the_connection :
       GoesOn (Open []) (codes "ECHO a") (ErrorText (codes "ERR Command not allowed inside a transaction")) Spoiled
+  pub no_information :
+      GoesOn (Open []) (codes "INFO") (ErrorText (codes "ERR Command not allowed inside a transaction")) Spoiled
   pub a_reset : GoesOn (Open (ping ∷ [])) (codes "RESET") (Simple simple.Reset) Closed
 
 -- unknown commands by their names

@@ -1,5 +1,5 @@
 -- What words say: a command of the connection itself, or a fault.
-use Rattle.std.specs.Prelude.{ℕ, Bool, true, false, List, [], ◌∷◌, Option, Some, None, Err}
+use Rattle.std.specs.Prelude.{ℕ, Bool, true, false, List, [], ◌∷◌, Option, Some, None, Ok, Err}
 use Rattle.xs_resp.specs.declared.fault.Fault.TheVariants.{UnknownCommand, Arity}
 use Rattle.xs_command.specs.Words.{Reading, ◌>>=◌}
 use Rattle.xs_connection.specs.declared.command.ConnectionCommand.{ConnectionCommand}
@@ -7,6 +7,7 @@ use Rattle.xs_connection.specs.declared.command.ConnectionCommand.TheVariants as
 use Rattle.xs_connection.specs.declared.read.ConnectionName.{ConnectionName}
 use Rattle.xs_connection.specs.declared.read.ConnectionName.TheVariants.{Hello, Auth, Client, Select, Echo, Command}
 use Rattle.xs_connection.specs.declared.read.ConnectionName.TheVariants.{Config, Unwatch, Reset, Multi, Exec, Discard}
+use Rattle.xs_connection.specs.declared.read.ConnectionName.TheVariants.{Info}
 use Rattle.xs_connection.specs.ConnectionName.{name_of}
 use Rattle.xs_connection.specs.Reading.{operand, ending}
 use Rattle.xs_connection.specs.Hello.{hello, auth}
@@ -28,6 +29,7 @@ command_by_name (Some Reset) words = ending Arity command.Reset words
 command_by_name (Some Multi) words = ending Arity command.Multi words
 command_by_name (Some Exec) words = ending Arity command.Exec words
 command_by_name (Some Discard) words = ending Arity command.Discard words
+command_by_name (Some Info) words = Ok command.Info
 
 -- a name, and what stands behind it
 unfoldable pub connection_command : Reading ConnectionCommand

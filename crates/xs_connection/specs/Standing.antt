@@ -1,5 +1,5 @@
 -- What a connection has said of itself, and what it is answered itself. (Redis, HELLO, AUTH, CLIENT, SELECT, ECHO,
--- RESET, MULTI.)
+-- RESET, MULTI, INFO.)
 use Rattle.std.specs.Prelude.{◌≡◌, ◌⊎◌, ℕ, Bool, true, false, not, ◌&&◌, List, [], ◌∷◌, ◌++◌, codes, decimal, Option, Some, None}
 use Rattle.std.specs.Prelude.{Result, Ok, Err, is_some, if◌then◌else◌}
 use Rattle.xs_resp.specs.declared.fault.Fault.{Fault}
@@ -12,6 +12,7 @@ use Rattle.xs_connection.specs.declared.command.ConnectionCommand.{ConnectionCom
 use Rattle.xs_connection.specs.declared.command.ConnectionCommand.TheVariants.{Hello, OtherProtocol, Auth, SetName, BadName}
 use Rattle.xs_connection.specs.declared.command.ConnectionCommand.TheVariants.{GetName, GetId, List as ListClients, Accept}
 use Rattle.xs_connection.specs.declared.command.ConnectionCommand.TheVariants.{OtherDatabase, Echo, ListNothing, Reset, Multi, Exec, Discard}
+use Rattle.xs_connection.specs.declared.command.ConnectionCommand.TheVariants.{Info}
 use Rattle.xs_connection.specs.declared.command.Login.{Login}
 use Rattle.xs_connection.specs.declared.standing.Standing.{Standing}
 use Rattle.xs_connection.specs.Password.{is_right, is_needless}
@@ -118,24 +119,26 @@ hello_answer wanted standing None name = hello_alone standing name
 hello_answer wanted standing (Some login) name =
     if is_right wanted login then greet standing name else (ErrorText wrong_password, standing)
 
--- what each command is answered where this password is wanted, and how the connection stands then
-abbrev pub applied : Option (List ℕ) → Standing → ConnectionCommand → Reply × Standing
-applied wanted standing (Hello hello) = hello_answer wanted standing hello.login hello.name
-applied wanted standing OtherProtocol = (ErrorText other_protocol, standing)
-applied wanted standing (Auth login) = auth_answer wanted standing login
-applied wanted standing (SetName name) = (okay, record standing { name = name })
-applied wanted standing BadName = (ErrorText bad_name, standing)
-applied wanted standing GetName = (name_reply standing.name, standing)
-applied wanted standing GetId = (Int standing.id, standing)
-applied wanted standing ListClients = (Bulk (client_line standing), standing)
-applied wanted standing Accept = (okay, standing)
-applied wanted standing OtherDatabase = (ErrorText other_database, standing)
-applied wanted standing (Echo text) = (Bulk text, standing)
-applied wanted standing ListNothing = (Array (items_of []), standing)
-applied wanted standing Reset = (Simple simple.Reset, as_new wanted standing)
-applied wanted standing Multi = with_transaction standing (begun standing.transaction)
-applied wanted standing Exec = with_transaction standing (executed standing.transaction)
-applied wanted standing Discard = with_transaction standing (discarded standing.transaction)
+-- What each command is answered if this password is wanted, and how the connection stands then. INFO is answered what
+-- the server tells of itself.
+abbrev pub applied : Option (List ℕ) → List ℕ → Standing → ConnectionCommand → Reply × Standing
+applied wanted told standing (Hello hello) = hello_answer wanted standing hello.login hello.name
+applied wanted told standing OtherProtocol = (ErrorText other_protocol, standing)
+applied wanted told standing (Auth login) = auth_answer wanted standing login
+applied wanted told standing (SetName name) = (okay, record standing { name = name })
+applied wanted told standing BadName = (ErrorText bad_name, standing)
+applied wanted told standing GetName = (name_reply standing.name, standing)
+applied wanted told standing GetId = (Int standing.id, standing)
+applied wanted told standing ListClients = (Bulk (client_line standing), standing)
+applied wanted told standing Accept = (okay, standing)
+applied wanted told standing OtherDatabase = (ErrorText other_database, standing)
+applied wanted told standing (Echo text) = (Bulk text, standing)
+applied wanted told standing ListNothing = (Array (items_of []), standing)
+applied wanted told standing Reset = (Simple simple.Reset, as_new wanted standing)
+applied wanted told standing Multi = with_transaction standing (begun standing.transaction)
+applied wanted told standing Exec = with_transaction standing (executed standing.transaction)
+applied wanted told standing Discard = with_transaction standing (discarded standing.transaction)
+applied wanted told standing Info = (Bulk told, standing)
 
 -- what is heard between MULTI and EXEC
 abbrev pub is_heard : ConnectionCommand → Bool
@@ -146,36 +149,38 @@ is_heard Discard = true
 is_heard command = false
 
 -- no other command of a connection waits for EXEC
-abbrev pub answer_to_command : Option (List ℕ) → Standing → ConnectionCommand → Reply × Standing
-answer_to_command wanted standing command =
+abbrev pub answer_to_command : Option (List ℕ) → List ℕ → Standing → ConnectionCommand → Reply × Standing
+answer_to_command wanted told standing command =
     if is_queueing standing.transaction && not (is_heard command) then (ErrorText not_queued, spoilt standing)
-    else applied wanted standing command
+    else applied wanted told standing command
 
 -- what words are answered that say a command of the connection, or a fault
 abbrev pub answer_to :
-    Option (List ℕ) → Standing → List (List ℕ) → Result ConnectionCommand Fault → Reply × Standing
-answer_to wanted standing words (Ok command) = answer_to_command wanted standing command
-answer_to wanted standing words (Err UnknownCommand) = (ErrorText (unknown_text words), spoilt standing)
-answer_to wanted standing words (Err fault) = (Error fault, spoilt standing)
+    Option (List ℕ) → List ℕ → Standing → List (List ℕ) → Result ConnectionCommand Fault → Reply × Standing
+answer_to wanted told standing words (Ok command) = answer_to_command wanted told standing command
+answer_to wanted told standing words (Err UnknownCommand) = (ErrorText (unknown_text words), spoilt standing)
+answer_to wanted told standing words (Err fault) = (Error fault, spoilt standing)
 
 -- what words are answered that are no command of the keyspace
-abbrev pub answer_of : Option (List ℕ) → Standing → List (List ℕ) → Reply × Standing
-answer_of wanted standing words = answer_to wanted standing words (connection_command words)
+abbrev pub answer_of : Option (List ℕ) → List ℕ → Standing → List (List ℕ) → Reply × Standing
+answer_of wanted told standing words = answer_to wanted told standing words (connection_command words)
 
--- so they are answered, or that memory ran out, which is a refusal
+-- so they are answered, whatever the server tells of itself; or that memory ran out, which is a refusal
 abbrev pub IsAnswered : Option (List ℕ) → Standing → List (List ℕ) → Reply → Standing → Type 0
 IsAnswered wanted old words reply new =
-    ((reply, new) ≡ answer_of wanted old words) ⊎ ((reply ≡ Error Memory) × (new ≡ spoilt old))
+    ((told : List ℕ) × ((reply, new) ≡ answer_of wanted told old words))
+    ⊎ ((reply ≡ Error Memory) × (new ≡ spoilt old))
 
 -- what words are answered before the password is given: only a greeting is heard
-abbrev pub stranger_answer : Option (List ℕ) → Standing → List (List ℕ) → Reply × Standing
-stranger_answer wanted standing words =
-    if is_greeting (first_name words) then answer_of wanted standing words else (ErrorText no_auth, standing)
+abbrev pub stranger_answer : Option (List ℕ) → List ℕ → Standing → List (List ℕ) → Reply × Standing
+stranger_answer wanted told standing words =
+    if is_greeting (first_name words) then answer_of wanted told standing words else (ErrorText no_auth, standing)
 
 -- so is a stranger answered, or that memory ran out
 abbrev pub IsAnsweredStranger : Option (List ℕ) → Standing → List (List ℕ) → Reply → Standing → Type 0
 IsAnsweredStranger wanted old words reply new =
-    ((reply, new) ≡ stranger_answer wanted old words) ⊎ ((reply ≡ Error Memory) × (new ≡ spoilt old))
+    ((told : List ℕ) × ((reply, new) ≡ stranger_answer wanted told old words))
+    ⊎ ((reply ≡ Error Memory) × (new ≡ spoilt old))
 
 -- the words of a command wait for EXEC, or memory ran out, and none do any more
 abbrev pub IsQueued : Standing → List (List ℕ) → Reply → Standing → Type 0

@@ -52,4 +52,6 @@ pub enum ConnectionCommand {
     Exec,
     /// DISCARD.
     Discard,
+    /// INFO, of the sections that the words behind it name.
+    Info,
 }

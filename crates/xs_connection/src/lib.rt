@@ -3,6 +3,7 @@
 
 pub mod command;
 pub mod examples;
+pub mod inform;
 pub mod password;
 pub mod queue;
 mod read;
@@ -13,6 +14,7 @@ pub mod unknown;
 pub mod waiting;
 
 pub use command::{ConnectionCommand, HelloCommand, Login};
+pub use inform::Inform;
 pub use password::Password;
 pub use read::read_connection_command;
 pub use standing::Standing;

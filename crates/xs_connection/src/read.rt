@@ -29,6 +29,7 @@ pub enum ConnectionName {
     Multi,
     Exec,
     Discard,
+    Info,
 }
 
 impl ConnectionName {
@@ -59,8 +60,10 @@ impl ConnectionName {
             Some(Self::Multi)
         } else if word.is(b"exec") {
             Some(Self::Exec)
+        } else if word.is(b"discard") {
+            Some(Self::Discard)
         } else {
-            word.is(b"discard").then_some(Self::Discard)
+            word.is(b"info").then_some(Self::Info)
         }
     }
 }
@@ -151,6 +154,7 @@ fn read_named(
         ConnectionName::Multi => end(words, Fault::Arity, ConnectionCommand::Multi),
         ConnectionName::Exec => end(words, Fault::Arity, ConnectionCommand::Exec),
         ConnectionName::Discard => end(words, Fault::Arity, ConnectionCommand::Discard),
+        ConnectionName::Info => Ok(ConnectionCommand::Info),
     }
 }
 

@@ -1,5 +1,5 @@
 //! What a connection has said of itself, and what it is answered itself.
-ghost use Rattle.std.specs.Prelude.{◌≡◌, ◌++◌, ◌∷◌, [], Some, not, is_some, IfOk, OnOk, OnErr};
+ghost use Rattle.std.specs.Prelude.{◌≡◌, ◌++◌, ◌∷◌, [], List, ℕ, Some, not, is_some, IfOk, OnOk, OnErr};
 ghost use Rattle.xs_resp.specs.declared.reply.Reply.TheVariants.{ErrorText, Array};
 ghost use Rattle.xs_resp.specs.Token as token;
 ghost use Rattle.xs_resp.specs.ReplyItems.{items_of};
@@ -8,6 +8,7 @@ ghost use Rattle.xs_connection.specs.Standing.{greet, hello_alone, hello_answer,
 ghost use Rattle.xs_connection.specs.Standing.{IsAnsweredStranger, IsQueued, spoilt, is_heard, answer_to_command};
 
 use crate::command::{ConnectionCommand, HelloCommand, Login};
+use crate::inform::Inform;
 use crate::password::{Password, is_needless, is_right};
 use crate::read::{is_greeting, read_connection_command};
 use crate::transaction::Transaction;
@@ -79,6 +80,19 @@ fn nothing(alloc: Global) -> Reply
     Reply::Array(Replies::new(0, Tokens::new(alloc)))
 }
 
+/// What INFO is answered, if the command is INFO.
+fn told_for<I: Inform>(
+    alloc: Global,
+    inform: &I,
+    command: &ConnectionCommand,
+    words: &Words<'_>,
+) -> Result<Bytes, AllocError> {
+    match (command, words.word()) {
+        (ConnectionCommand::Info, Ok((_, sections))) => inform.inform(alloc, &sections),
+        _ => Ok(Bytes::new(Vec::new(alloc))),
+    }
+}
+
 /// Appends two strings.
 fn push_pair(tokens: &mut Tokens, name: &[u8], value: &[u8]) -> Result<(), AllocError>
     ensures { OnOk result (tokens.new ≡ tokens.old ++ token.Bulk name.now ∷ token.Bulk value.now ∷ []) }
@@ -124,10 +138,16 @@ impl Standing {
     }
 
     /// Answers words that are no command of the keyspace, if this password is wanted.
-    pub fn answer(&mut self, alloc: Global, wanted: &Option<Password>, words: &Words<'_>) -> Reply
+    pub fn answer<I: Inform>(
+        &mut self,
+        alloc: Global,
+        wanted: &Option<Password>,
+        inform: &I,
+        words: &Words<'_>,
+    ) -> Reply
         ensures { IsAnswered wanted.now self.old words.now result self.new }
     {
-        match self.try_answer(alloc, wanted, words) {
+        match self.try_answer(alloc, wanted, inform, words) {
             Ok(reply) => reply,
             Err(AllocError) => self.refuse(Reply::Error(Fault::Memory)),
         }
@@ -153,16 +173,17 @@ impl Standing {
     }
 
     /// Answers words before the password is given: only a greeting is heard.
-    pub fn answer_stranger(
+    pub fn answer_stranger<I: Inform>(
         &mut self,
         alloc: Global,
         wanted: &Option<Password>,
+        inform: &I,
         words: &Words<'_>,
     ) -> Reply
         ensures { IsAnsweredStranger wanted.now self.old words.now result self.new }
     {
         if is_greeting(words) {
-            return self.answer(alloc, wanted, words);
+            return self.answer(alloc, wanted, inform, words);
         }
         match error(alloc, NO_AUTH) {
             Ok(reply) => reply,
@@ -171,17 +192,22 @@ impl Standing {
     }
 
     /// Answers words, unless memory runs out, which changes nothing.
-    fn try_answer(
+    fn try_answer<I: Inform>(
         &mut self,
         alloc: Global,
         wanted: &Option<Password>,
+        inform: &I,
         words: &Words<'_>,
     ) -> Result<Reply, AllocError>
-        ensures ok { IfOk result (λ reply. (reply, self.new) ≡ answer_of wanted.now self.old words.now) }
+        ensures ok { IfOk result (λ reply.
+            (told : List ℕ) × ((reply, self.new) ≡ answer_of wanted.now told self.old words.now)) }
         ensures err { OnErr result (self.new ≡ self.old) }
     {
         match read_connection_command(alloc, words) {
-            Ok(command) => self.answer_command(alloc, wanted, command),
+            Ok(command) => {
+                let told = told_for(alloc, inform, &command, words)?;
+                self.answer_command(alloc, wanted, told, command)
+            }
             Err(Refusal::Said(Fault::UnknownCommand)) => {
                 let reply = Reply::ErrorText(unknown_text(alloc, words)?);
                 Ok(self.refuse(reply))
@@ -191,31 +217,33 @@ impl Standing {
         }
     }
 
-    /// Answers a command. Between MULTI and EXEC few are heard.
+    /// Answers a command; INFO is answered this. Between MULTI and EXEC few are heard.
     fn answer_command(
         &mut self,
         alloc: Global,
         wanted: &Option<Password>,
+        told: Bytes,
         command: ConnectionCommand,
     ) -> Result<Reply, AllocError>
-        ensures ok { IfOk result (λ reply. (reply, self.new) ≡ answer_to_command wanted.now self.old command) }
+        ensures ok { IfOk result (λ reply. (reply, self.new) ≡ answer_to_command wanted.now told self.old command) }
         ensures err { OnErr result (self.new ≡ self.old) }
     {
         if self.transaction.is_queueing() && !is_heard(&command) {
             let reply = error(alloc, NOT_QUEUED)?;
             return Ok(self.refuse(reply));
         }
-        self.apply(alloc, wanted, command)
+        self.apply(alloc, wanted, told, command)
     }
 
-    /// Answers a command.
+    /// Answers a command; INFO is answered this.
     fn apply(
         &mut self,
         alloc: Global,
         wanted: &Option<Password>,
+        told: Bytes,
         command: ConnectionCommand,
     ) -> Result<Reply, AllocError>
-        ensures ok { IfOk result (λ reply. (reply, self.new) ≡ applied wanted.now self.old command) }
+        ensures ok { IfOk result (λ reply. (reply, self.new) ≡ applied wanted.now told self.old command) }
         ensures err { OnErr result (self.new ≡ self.old) }
     {
         match command {
@@ -241,6 +269,7 @@ impl Standing {
             ConnectionCommand::Multi => self.transaction.begin(alloc),
             ConnectionCommand::Exec => self.transaction.execute(alloc),
             ConnectionCommand::Discard => self.transaction.discard(alloc),
+            ConnectionCommand::Info => Ok(Reply::Bulk(told)),
         }
     }
 

@@ -167,6 +167,11 @@ impl BlockedCalls {
         })
     }
 
+    /// How many calls wait.
+    pub fn len(&self) -> usize {
+        self.calls.len()
+    }
+
     /// Whether no call waits.
     pub fn is_empty(&self) -> bool {
         self.calls.is_empty()

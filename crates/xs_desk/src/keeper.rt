@@ -156,6 +156,7 @@ impl<J: Journal + Drop> Keeper<J> {
     ghost use Rattle.xs_desk.specs.KeeperTurns.{HistoryGoesOn};
     ghost use Rattle.xs_desk.specs.LaneEnds.{desk_of};
     ghost use Rattle.xs_desk.specs.KeptRings.{KeepsRings};
+    ghost use Rattle.xs_keys.specs.KeysRoom.{IsRoomOf};
 
     /// A keeper that has served nobody.
     pub(crate) fn new(
@@ -185,6 +186,25 @@ impl<J: Journal + Drop> Keeper<J> {
         ensures { result ≡ length self.now.lanes }
     {
         self.lane_ends.len()
+    }
+
+    /// How many keys its keyspace has.
+    pub fn keys(&self) -> usize
+        ensures { result ≡ length self.now.keyspace.entries }
+    {
+        self.keyspace.len()
+    }
+
+    /// How many bytes its keyspace is counted with, modulo 2^128.
+    pub fn bytes_held(&self) -> u128
+        ensures { IsRoomOf self.now.keyspace result }
+    {
+        self.keyspace.bytes_held()
+    }
+
+    /// How many calls wait.
+    pub fn blocked_calls(&self) -> usize {
+        self.schedule.blocked.len()
     }
 
     /// Looks at each lane once, in order, and serves at most one call of each, at the moment that the clock gives. A

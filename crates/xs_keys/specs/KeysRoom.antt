@@ -50,3 +50,7 @@ is_above bound held more = nat_lt 0 bound && nat_lt bound (held + more)
 -- what is kept of a sum: it is the sum itself, as long as that is below 2^128
 abbrev pub IsCountOf : ℕ → ℕ → Type 0
 IsCountOf sum held = held ≡ sum % 2 ^ 128
+
+-- so many bytes are counted for keys with this content
+abbrev pub IsRoomOf : Content → ℕ → Type 0
+IsRoomOf content held = (keys : NameMap KeyInMemory) × (content_of keys ≡ content) × IsCountOf (room_of_keys keys) held

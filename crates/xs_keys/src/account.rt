@@ -42,6 +42,13 @@ impl Account {
         Self { held: 0, bound: 0 }
     }
 
+    /// How many bytes are held.
+    pub(crate) fn held(&self) -> u128
+        ensures { result ≡ self.now.held }
+    {
+        self.held
+    }
+
     /// From now on so many bytes may be held; 0 if there is no bound.
     pub(crate) fn set_bound(&mut self, bound: u64)
         ensures { self.new ≡ record self.old { bound = bound } }

@@ -3,7 +3,7 @@ ghost use Rattle.std.specs.Prelude.{◌≡◌, ◌<◌, ◌^◌, ◌%◌, length
 ghost use Rattle.std.specs.Option.{option_copied};
 ghost use Rattle.xs_bytes.specs.SortedMap.{empty, get, insert, remove};
 ghost use Rattle.xs_group.specs.GroupRoom.{room_of_group};
-ghost use Rattle.xs_keys.specs.KeysRoom.{key_state_of, state_in, room_of_named, room_of_key};
+ghost use Rattle.xs_keys.specs.KeysRoom.{key_state_of, state_in, room_of_named, room_of_key, IsRoomOf};
 ghost use Rattle.xs_keys.specs.ContentAfter.{group_in};
 
 use crate::account::Account;
@@ -100,6 +100,13 @@ impl Keys {
         ensures { self.new ≡ self.old }
     {
         self.account.set_bound(bytes);
+    }
+
+    /// How many bytes they are counted with.
+    pub fn bytes_held(&self) -> u128
+        ensures { IsRoomOf self.now result }
+    {
+        self.account.held()
     }
 
     /// What a key holds.

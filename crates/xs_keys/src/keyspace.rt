@@ -41,6 +41,8 @@ impl Model for Keyspace {
 
 impl Keyspace {
     ghost use Rattle.std.specs.Prelude.{false};
+    ghost use Rattle.std.specs.Prelude.{length};
+    ghost use Rattle.xs_keys.specs.KeysRoom.{IsRoomOf};
     ghost use Rattle.xs_keys.specs.Waiting.{IsAnsweredNull, IsAnsweredOtherwise, ChangesNothing};
 
     /// The empty keyspace. It takes no memory.
@@ -68,6 +70,20 @@ impl Keyspace {
         ensures { self.new ≡ self.old }
     {
         self.keys.set_bound(bytes);
+    }
+
+    /// How many keys there are.
+    pub fn len(&self) -> usize
+        ensures { result ≡ length self.now.entries }
+    {
+        self.keys.len()
+    }
+
+    /// How many bytes they are counted with, modulo 2^128.
+    pub fn bytes_held(&self) -> u128
+        ensures { IsRoomOf self.now result }
+    {
+        self.keys.bytes_held()
     }
 
     /// Applies one command at a moment, and gives its reply. What is refused changes nothing. The reply

@@ -1,5 +1,6 @@
 -- What events leave.
-use Rattle.std.specs.Prelude.{ℕ, Option, Some, List, [], ◌∷◌}
+use Rattle.std.specs.Prelude.{ℕ, Option, Some, None, List, [], ◌∷◌}
+use Rattle.xs_bytes.specs.SortedMap.{empty}
 use Rattle.xs_resp.specs.declared.reply.Reply.{Reply}
 use Rattle.xs_keys.specs.Event.{Event, event_moment, event_command}
 use Rattle.xs_keys.specs.Content.{Content}
@@ -25,3 +26,16 @@ abbrev pub model_replies : Content → List Event → List Reply
 model_replies content [] = []
 model_replies content (event ∷ events) =
     reply content (event_moment event) (event_command event) ∷ model_replies (after content event) events
+
+-- what a server has: its content, and the moment of its last event, if there was one
+pub record ServerState : Type 0 where
+  pub content : Content
+  pub moment : Option ℕ
+
+-- before any event
+abbrev pub new_server : ServerState
+new_server = record { content = empty; moment = None }
+
+abbrev pub state_after : ServerState → List Event → ServerState
+state_after state events =
+    record { content = contents_after state.content events; moment = moment_after state.moment events }

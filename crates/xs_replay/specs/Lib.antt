@@ -1,3 +1,13 @@
 pub mod Log
 pub mod After
 pub mod Calls
+pub mod Pieces
+pub mod Folder
+pub mod SnapshotWords
+pub mod PieceReading
+pub mod Snapshot
+pub mod Ranges
+pub mod ExamplesPieces
+pub mod ExamplesFolder
+pub mod ExamplesSnapshot
+pub mod ExamplesRanges

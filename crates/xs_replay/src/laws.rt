@@ -1,5 +1,6 @@
-//! Laws of logs. Each is a function that does nothing.
-ghost use Rattle.std.specs.Prelude.{◌≡◌, ◌+◌, ◌≤◌, ℕ, List, [], ◌∷◌, ◌++◌, false, true, not, length, take};
+//! Laws of logs and snapshots. Each is a function that does nothing.
+ghost use Rattle.std.specs.Prelude.{◌≡◌, ◌≢◌, ◌+◌, ◌<◌, ◌≤◌, ◌^◌, ℕ, suc, List, [], ◌∷◌, ◌++◌, false, true, not};
+ghost use Rattle.std.specs.Prelude.{length, take, Some, None, IfSome};
 ghost use Rattle.std.specs.List.{AllByRecursion};
 ghost use Rattle.xs_bytes.specs.SortedMap.{empty};
 ghost use Rattle.xs_resp.specs.declared.reply.Reply.{Reply};
@@ -11,10 +12,17 @@ ghost use Rattle.xs_keys.specs.Step.{Step};
 ghost use Rattle.xs_keys.specs.Headline.{Headline, RunsOn};
 ghost use Rattle.xs_tape.specs.Crash.{before_zero, CrashLeaves};
 ghost use Rattle.xs_tape.specs.Records.{CanBeSpelled, spellings};
-ghost use Rattle.xs_replay.specs.After.{after, contents_after, model_replies};
+ghost use Rattle.xs_replay.specs.After.{after, contents_after, moment_after, model_replies, state_after, new_server};
+ghost use Rattle.xs_replay.specs.After.{ServerState};
 ghost use Rattle.xs_replay.specs.Calls.{Call, KeepsTheRule, Serves, events_of, answers_of, log_of, survivors};
 ghost use Rattle.xs_replay.specs.Calls.{ServerLife, Lives, survivors_of, is_left_out};
 ghost use Rattle.xs_replay.specs.Log.{IsLog, HasEvents};
+ghost use Rattle.xs_replay.specs.Pieces.{Piece, content_of, pieces_of};
+ghost use Rattle.xs_replay.specs.Folder.{Folder, recovered, left_by, events_up_to, HasServed, put};
+ghost use Rattle.xs_replay.specs.SnapshotWords.{words_of_piece, Fits};
+ghost use Rattle.xs_replay.specs.PieceReading.{piece_of_words};
+ghost use Rattle.xs_replay.specs.Snapshot.{IsSnapshotFile};
+ghost use Rattle.xs_replay.specs.Ranges.{EventFits};
 
 /// What a crash leaves of a log has a beginning of its events, among them all whose records, behind the header, were
 /// kept.
@@ -86,4 +94,74 @@ pub fn lives_are_one_history()
     ensures headline { (lives : List ServerLife) (new : Content) → Lives empty lives new →
         (history : History)
         × Headline [] (events_of (survivors_of lives)) (answers_of (survivors_of lives)) history }
+{}
+
+/// The pieces of a content say it, to the last count: no two contents have the same pieces.
+pub fn a_snapshot_says_its_content()
+    ensures { (content : Content) → content_of (pieces_of content) ≡ content }
+{}
+
+/// A start reads the greatest snapshot of a folder and the logs from its number on, and finds what all events left. So
+/// it is while events are appended and logs begun, whatever snapshot a follower puts that has read the closed logs, in
+/// whatever order what lies below is removed, and where a crash takes events from the end of the last log.
+pub fn the_greatest_snapshot_wins()
+    // So does a follower that reads the logs up to an earlier one.
+    ensures recovers { (folder : Folder) (served : ℕ → List Event) (last n : ℕ) (is : HasServed folder served last) →
+        is.below < n → n ≤ last → recovered folder n ≡ Some (left_by served n) }
+    ensures leaves { (served : ℕ → List Event) (n : ℕ) →
+        left_by served n ≡ state_after new_server (events_up_to served n) }
+    // What is found is the content of a run of all events, also of those that no file has any more.
+    ensures runs { (folder : Folder) (served : ℕ → List Event) (last : ℕ) (state : ServerState) →
+        AllByRecursion (λ e. IsWellFormed (event_command e)) (events_up_to served last) →
+        HasServed folder served last → recovered folder last ≡ Some state →
+        RunsOn empty (events_up_to served last) (model_replies empty (events_up_to served last)) state.content }
+    ensures first { HasServed (record { snapshots = λ n. None; logs = put 1 (Some []) (λ n. None) }) (λ n. []) 1 }
+    ensures appends { (folder : Folder) (served : ℕ → List Event) (last : ℕ) (event : Event) →
+        HasServed folder served last →
+        HasServed (record folder { logs = put last (Some (served last ++ event ∷ [])) folder.logs })
+        (put last (served last ++ event ∷ []) served) last }
+    ensures crash { (folder : Folder) (served : ℕ → List Event) (last left : ℕ) → HasServed folder served last →
+        HasServed (record folder { logs = put last (Some (take left (served last))) folder.logs })
+        (put last (take left (served last)) served) last }
+    ensures begins { (folder : Folder) (served : ℕ → List Event) (last : ℕ) → HasServed folder served last →
+        HasServed (record folder { logs = put (suc last) (Some []) folder.logs })
+        (put (suc last) [] served) (suc last) }
+    // A snapshot gets the number of the log behind those that were read.
+    ensures puts { (folder : Folder) (served : ℕ → List Event) (last n : ℕ) (state : ServerState)
+        (is : HasServed folder served last) → is.below < n → n < last → recovered folder n ≡ Some state →
+        HasServed (record folder { snapshots = put (suc n) (Some state) folder.snapshots }) served last }
+    ensures removes_snapshot { (folder : Folder) (served : ℕ → List Event) (last n : ℕ)
+        (is : HasServed folder served last) → n ≤ is.below →
+        HasServed (record folder { snapshots = put n None folder.snapshots }) served last }
+    ensures removes_log { (folder : Folder) (served : ℕ → List Event) (last n : ℕ)
+        (is : HasServed folder served last) → n ≤ is.below →
+        HasServed (record folder { logs = put n None folder.logs }) served last }
+{}
+
+/// The words of a piece say it, and no other words do.
+pub fn a_piece_is_spelled_in_one_way()
+    ensures said { (piece : Piece) → Fits piece → piece_of_words (words_of_piece piece) ≡ Some piece }
+    ensures only { (words : List (List ℕ)) (piece : Piece) → piece_of_words words ≡ Some piece →
+        (words ≡ words_of_piece piece) × Fits piece }
+{}
+
+/// The bytes of a snapshot say which state it is of, and which log goes on from it. Where they are cut, or anything
+/// stands behind them, they are no snapshot.
+pub fn a_snapshot_is_whole()
+    ensures only { (number other : ℕ) (bytes : List ℕ) (state found : ServerState) →
+        IsSnapshotFile number bytes state → IsSnapshotFile other bytes found → (number ≡ other) × (state ≡ found) }
+    ensures whole { (number other : ℕ) (bytes more : List ℕ) (state found : ServerState) → more ≢ [] →
+        IsSnapshotFile number bytes state → IsSnapshotFile other (bytes ++ more) found → ⊥ }
+    // What a crash leaves of a snapshot is all of it, or none.
+    ensures crash { (number other kept : ℕ) (bytes file : List ℕ) (state found : ServerState) →
+        IsSnapshotFile number bytes state → CrashLeaves kept bytes file → IsSnapshotFile other file found →
+        file ≡ bytes }
+{}
+
+/// Whatever events leave has its numbers in range, if theirs are.
+pub fn what_events_leave_can_be_written()
+    ensures pieces { (events : List Event) → AllByRecursion EventFits events →
+        AllByRecursion Fits (pieces_of (contents_after empty events)) }
+    ensures moment { (events : List Event) → AllByRecursion EventFits events →
+        IfSome (moment_after None events) (λ moment. moment < 2 ^ 63) }
 {}

@@ -1,10 +1,16 @@
-//! The limits of the process, as the system shows them.
+//! The limits and the memory of the process, as the system shows them.
 use std::alloc::{Alloc, Global};
 use std::fs;
 use std::fs::Files;
 
 /// Where Linux shows the limits of a process.
 const LIMITS: &str = "/proc/self/limits";
+
+/// Where Linux shows how much memory a process has, in pages.
+const MEMORY: &str = "/proc/self/statm";
+
+/// How many bytes a page has.
+const PAGE: u64 = 4096;
 
 /// How the line begins that shows how many files it may have open.
 const OPEN_FILES: &str = "Max open files";
@@ -20,4 +26,16 @@ pub fn open_files_in(text: &str) -> Option<u64> {
 pub fn open_files<R: Files + Alloc<A = Global>>(rt: &R) -> Option<u64> {
     let text = fs::read_to_string(rt, LIMITS).ok()?;
     open_files_in(text.as_str())
+}
+
+/// How many bytes this text of memory shows as resident, if it shows any: its second number, in pages.
+pub fn resident_in(text: &str) -> Option<u64> {
+    let pages = text.split_whitespace().nth(1)?.parse::<u64>().ok()?;
+    pages.checked_mul(PAGE)
+}
+
+/// How many bytes of memory this process has resident. None if the system doesn't show it.
+pub fn resident_bytes<R: Files + Alloc<A = Global>>(rt: &R) -> Option<u64> {
+    let text = fs::read_to_string(rt, MEMORY).ok()?;
+    resident_in(text.as_str())
 }

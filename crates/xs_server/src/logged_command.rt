@@ -13,8 +13,7 @@ use crate::wall_clock::WallClock;
 use crate::work::gate::Gate;
 use crate::work::logged::{LoggedEnd, work_logged};
 use crate::work::mode::Mode;
-use std::alloc::{Alloc, AllocError, Global};
-use std::fs::Files;
+use std::alloc::{AllocError, Global};
 use std::marker::Model;
 use std::net::{Net, TcpListener, TcpStream};
 use std::sync::Wait;
@@ -182,8 +181,6 @@ pub fn run_logged<
     W: Sink + Send + Drop + 'static,
     E: Sink,
     R: Net<Listener = TcpListener, Stream = TcpStream>
-        + Files
-        + Alloc<A = Global>
         + Threads
         + Wait
         + Clock
@@ -193,7 +190,7 @@ pub fn run_logged<
         + 'static,
 >(
     rt: &R,
-    alloc: Global,
+    files: &HostRuntime,
     options: &RunOptions,
     log: &LogOptions,
     password: &Option<Password>,
@@ -207,7 +204,8 @@ pub fn run_logged<
         ⟦<TapeLog<FileTape<HostRuntime>> as EventLog>⟧.has opened.log events (length events) }
     ensures { result ≡ 1 }
 {
-    let Ready { gates, patience } = match make_ready(rt, alloc, options, password, out, errors) {
+    let alloc = files.alloc();
+    let Ready { gates, patience } = match make_ready(rt, files, options, password, out, errors) {
         Ok(ready) => ready,
         Err(status) => return status,
     };

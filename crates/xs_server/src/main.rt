@@ -8,8 +8,10 @@ mod byte_count;
 mod command_line;
 mod connections;
 mod door;
+mod figures;
 mod hall;
 mod halves;
+mod information;
 mod limits;
 mod lines;
 mod log_threads;
@@ -55,14 +57,14 @@ fn main(rt: HostRuntime) -> ExitCode {
             match (password, &options.log) {
                 (Err(status), _) => status,
                 (Ok(password), None) => {
-                    run_server(&rt, alloc, &options, &password, out, &mut errors)
+                    run_server(&rt, &rt, &options, &password, out, &mut errors)
                 }
                 (Ok(password), Some(log)) => {
                     let told = ToWrite::new(rt.stderr());
                     match open_logs(&rt, &rt, log, told, &mut errors) {
                         Ok(opened) => run_logged(
                             &rt,
-                            alloc,
+                            &rt,
                             &options,
                             log,
                             &password,

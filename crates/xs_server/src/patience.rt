@@ -3,16 +3,21 @@
 //! While its call waits a worker sends the replies that it owes, and looks once a second whether its client is still
 //! there, and if not it lets the keeper answer as if the time of the wait were over. Before the keeper gives something
 //! to a call that has waited it looks too, so that a job goes to one that is there.
+use crate::command_line::RunOptions;
+use crate::figures::{Figures, SharedFigures};
 use crate::halves::Peer;
+use crate::information::{Information, Settings};
 use crate::run_gate::RunGate;
 use crate::work::mode::{Attend, KeeperMode, Mode};
 use crate::work::session_memory::SessionMemory;
 use std::alloc::{AllocError, Global};
-use std::sync::Wait;
+use std::sync::{Arc, Wait};
 use std::thread;
 use std::time::{Clock, Duration};
-use xs_bytes::U63;
+use xs_bytes::{Bytes, U63};
+use xs_command::Words;
 use xs_desk::{Client, Journal, Keeper, Pause};
+use xs_session::Tally;
 
 /// How often a worker looks after its client.
 const BEAT_MILLIS: u64 = 1000;
@@ -30,7 +35,12 @@ const MADE_AT_START: usize = 64;
 #[derive(Drop)]
 pub struct Watch<S: Drop> {
     system: S,
+    // What INFO reads files by.
+    files: HostRuntime,
     peer: Peer,
+    // What this worker counts.
+    own: SharedFigures,
+    information: Arc<Information>,
 }
 
 impl<S: Wait + Clock + Drop> Pause for Watch<S> {
@@ -66,36 +76,71 @@ impl<S: Wait + Clock + Drop> Attend for Watch<S> {
     fn rest(&self) {
         thread::sleep(&self.system, Duration::from_millis(REST_MILLIS));
     }
+
+    fn inform(&self, alloc: Global, sections: &Words<'_>) -> Result<Bytes, AllocError> {
+        self.information.text(&self.files, alloc, sections)
+    }
+
+    fn note(&self, tally: Tally) {
+        self.own.note(tally);
+    }
 }
 
 /// Calls wait, and with many workers the memory of connections is made when they come.
 #[derive(Drop)]
 pub struct Patience<S: Drop> {
     system: S,
+    files: HostRuntime,
     // The client of each lane.
     peers: Vec<Peer>,
     most_held_back: u64,
-    // How many bytes the keyspace may hold; 0 if there is no bound.
-    max_memory: u64,
+    information: Arc<Information>,
+}
+
+/// What INFO tells of a server over these gates.
+fn information_of<S: Wait + Clock + Copy + Drop>(
+    system: S,
+    alloc: Global,
+    gates: &[RunGate<S>],
+    options: &RunOptions,
+) -> Result<Arc<Information>, AllocError> {
+    let mut workers = Vec::with_capacity(alloc, gates.len())?;
+    for gate in gates {
+        workers.push(gate.figures()?)?;
+    }
+    let settings = Settings {
+        port: options.port,
+        workers: options.workers,
+        max_memory: options.max_memory,
+        log: options.log.as_ref().map(|log| log.policy),
+        started: system.monotonic().unwrap_or(Duration::ZERO),
+    };
+    let information = Information {
+        settings,
+        figures: Figures::new(workers),
+    };
+    Ok(Arc::new(alloc, information)?)
 }
 
 impl<S: Wait + Clock + Copy + Drop> Patience<S> {
-    /// The way of the workers of these gates, over a keyspace that may hold so many bytes; 0 if there is no bound.
+    /// The way of the workers of these gates.
     pub fn new(
         system: S,
-        alloc: Global,
+        files: HostRuntime,
         gates: &[RunGate<S>],
-        max_memory: u64,
+        options: &RunOptions,
     ) -> Result<Patience<S>, AllocError> {
+        let alloc = files.alloc();
         let mut peers = Vec::with_capacity(alloc, gates.len())?;
         for gate in gates {
             peers.push(gate.peer()?)?;
         }
         Ok(Patience {
             system,
+            files,
             peers,
             most_held_back: u64::MAX,
-            max_memory,
+            information: information_of(system, alloc, gates, options)?,
         })
     }
 
@@ -104,6 +149,13 @@ impl<S: Wait + Clock + Copy + Drop> Patience<S> {
         let mut patience = self;
         patience.most_held_back = calls;
         patience
+    }
+
+    /// Tells others of what the keeper has now.
+    fn tell<J: Journal + Drop>(&self, keeper: &Keeper<J>) {
+        let held = u64::try_from(keeper.bytes_held()).unwrap_or(u64::MAX);
+        let figures = &self.information.figures;
+        figures.note_turn(keeper.keys() as u64, held, keeper.blocked_calls() as u64);
     }
 
     /// Whether the client of this lane has left.
@@ -121,7 +173,10 @@ impl<S: Wait + Clock + Copy + Send + Drop + 'static> Mode<RunGate<S>> for Patien
     fn pause_of(&self, gate: &RunGate<S>) -> Result<Watch<S>, AllocError> {
         Ok(Watch {
             system: gate.system(),
+            files: self.files,
             peer: gate.peer()?,
+            own: gate.figures()?,
+            information: Arc::try_clone(&self.information)?,
         })
     }
 
@@ -136,10 +191,11 @@ impl<S: Wait + Clock + Copy + Send + Drop + 'static> Mode<RunGate<S>> for Patien
 impl<S: Wait + Clock + Copy + Drop> KeeperMode for Patience<S> {
     fn begin<J: Journal + Drop>(&self, keeper: &mut Keeper<J>) {
         keeper.let_wait();
-        keeper.set_bound(self.max_memory);
+        keeper.set_bound(self.information.settings.max_memory);
     }
 
     fn before_turn<J: Journal + Drop>(&self, keeper: &mut Keeper<J>) {
+        self.tell(keeper);
         keeper.read_clock(&self.system);
         for _ in 0..self.peers.len() {
             let Some(lane) = keeper.next_due() else {
@@ -157,6 +213,7 @@ impl<S: Wait + Clock + Copy + Drop> KeeperMode for Patience<S> {
     }
 
     fn idle<J: Journal + Drop, R: Wait>(&self, _rt: &R, keeper: &Keeper<J>) {
+        self.tell(keeper);
         keeper.idle_until(&self.system);
     }
 }

@@ -17,8 +17,7 @@ use crate::version::VERSION;
 use crate::wall_clock::WallClock;
 use crate::work::gate::Gate;
 use crate::work::working::work_with;
-use std::alloc::{Alloc, AllocError, Global};
-use std::fs::Files;
+use std::alloc::{AllocError, Global};
 use std::io;
 use std::io::ErrorKind;
 use std::net::{Net, SocketAddr, TcpListener, TcpStream};
@@ -119,8 +118,6 @@ pub fn make_ready<
     W: Sink + Send + Drop + 'static,
     E: Sink,
     R: Net<Listener = TcpListener, Stream = TcpStream>
-        + Files
-        + Alloc<A = Global>
         + Threads
         + Wait
         + Clock
@@ -130,7 +127,7 @@ pub fn make_ready<
         + 'static,
 >(
     rt: &R,
-    alloc: Global,
+    files: &HostRuntime,
     options: &RunOptions,
     password: &Option<Password>,
     out: W,
@@ -141,8 +138,9 @@ pub fn make_ready<
         All (λ gate. ⟦<RunGate<R> as Gate>⟧.trace gate ≡ new_gate (manner.Full password.now)) ready.gates.items) }
     ensures status { IfErr result (λ status. status ≡ 1) }
 {
-    let files = open_files(rt);
-    let Some(room) = waiting_room(options.workers, files) else {
+    let alloc = files.alloc();
+    let most = open_files(files);
+    let Some(room) = waiting_room(options.workers, most) else {
         return Err(report_few_files(alloc, options.workers, errors));
     };
     let address = SocketAddr::new(options.bind, options.port);
@@ -150,7 +148,7 @@ pub fn make_ready<
         Ok(listener) => listener,
         Err(error) => return Err(report_listening_failed(alloc, address, &error, errors)),
     };
-    let Ok(line) = ready_line(alloc, address, options.workers, files) else {
+    let Ok(line) = ready_line(alloc, address, options.workers, most) else {
         return Err(report_memory(errors));
     };
     let Ok(hall) = hall_of(alloc, room, options.workers) else {
@@ -162,7 +160,7 @@ pub fn make_ready<
     let Ok(gates) = gates_of(*rt, alloc, &hall, &announcement, options, password) else {
         return Err(report_memory(errors));
     };
-    let Ok(patience) = Patience::new(*rt, alloc, gates.as_slice(), options.max_memory) else {
+    let Ok(patience) = Patience::new(*rt, *files, gates.as_slice(), options) else {
         return Err(report_memory(errors));
     };
     if open_door(rt, alloc, listener, &hall).is_err() {
@@ -177,8 +175,6 @@ pub fn run_server<
     W: Sink + Send + Drop + 'static,
     E: Sink,
     R: Net<Listener = TcpListener, Stream = TcpStream>
-        + Files
-        + Alloc<A = Global>
         + Threads
         + Wait
         + Clock
@@ -188,7 +184,7 @@ pub fn run_server<
         + 'static,
 >(
     rt: &R,
-    alloc: Global,
+    files: &HostRuntime,
     options: &RunOptions,
     password: &Option<Password>,
     out: W,
@@ -196,11 +192,18 @@ pub fn run_server<
 ) -> u8
     ensures served { result ≡ 0 → HasServed (manner.Full password.now) options.now.workers }
 {
-    let Ready { gates, patience } = match make_ready(rt, alloc, options, password, out, errors) {
+    let Ready { gates, patience } = match make_ready(rt, files, options, password, out, errors) {
         Ok(ready) => ready,
         Err(status) => return status,
     };
-    let worked = work_with(rt, alloc, gates, DEPTH, WallClock::new(*rt), patience);
+    let worked = work_with(
+        rt,
+        files.alloc(),
+        gates,
+        DEPTH,
+        WallClock::new(*rt),
+        patience,
+    );
     report_worked(errors, &worked)
 }
 

@@ -4,6 +4,7 @@ ghost use Rattle.xs_session.specs.declared.manner.Manner.TheVariants as manner;
 ghost use Rattle.xs_server.specs.Gates.{AreFresh, new_gate};
 
 use crate::announcement::Announcement;
+use crate::figures::{SharedFigures, WorkerFigures};
 use crate::hall::Hall;
 use crate::halves::{Halves, HalvesMemory, Incoming, Outgoing, Peer};
 use crate::work::gate::{Gate, GateFault};
@@ -30,6 +31,8 @@ pub struct RunGate<S: Clock + Wait + Drop> {
     // What a client has to give before it may ask anything.
     password: Option<Password>,
     register: Register<FromRead<Incoming<S>>, ToWrite<Outgoing<S>>>,
+    // What its worker counts.
+    figures: SharedFigures,
 }
 
 impl<S: Clock + Wait + Copy + Send + Drop> RunGate<S> {
@@ -52,6 +55,7 @@ impl<S: Clock + Wait + Copy + Send + Drop> RunGate<S> {
             announcement,
             password,
             register: Register::new(),
+            figures: WorkerFigures::new(alloc)?,
         })
     }
 }
@@ -75,6 +79,11 @@ impl<S: Clock + Wait + Copy + Drop> RunGate<S> {
     /// The clients of its connections. It takes no memory.
     pub fn peer(&self) -> Result<Peer, AllocError> {
         self.memory.peer()
+    }
+
+    /// What its worker counts. It takes no memory.
+    pub fn figures(&self) -> Result<SharedFigures, AllocError> {
+        Arc::try_clone(&self.figures)
     }
 
     /// When a connection of now ends whose client hasn't given the password. Without a clock that is at once.
@@ -127,6 +136,7 @@ impl<S: Clock + Wait + Copy + Send + Drop> Gate for RunGate<S> {
         self.announcement.make();
         match self.take_next(rt) {
             Some(connection) => {
+                self.figures.open();
                 self.register.give(&connection);
                 Ok(Some(connection))
             }
@@ -138,6 +148,7 @@ impl<S: Clock + Wait + Copy + Send + Drop> Gate for RunGate<S> {
     }
 
     fn close(&mut self, reader: FromRead<Incoming<S>>, writer: ToWrite<Outgoing<S>>) {
+        self.figures.close();
         self.register.take_back(&(reader, writer));
     }
 }

@@ -158,6 +158,7 @@ fn reports_each_fault(rt: HostRuntime) -> Result<(), Fail> {
 
 mod fakes;
 mod gates;
+mod information;
 mod of_bytes;
 mod options;
 mod sessions;

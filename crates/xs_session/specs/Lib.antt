@@ -1,5 +1,6 @@
 pub mod Answers
 pub mod Strangers
+pub mod Tally
 pub mod Places
 pub mod Session
 pub mod Examples

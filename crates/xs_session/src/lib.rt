@@ -11,6 +11,7 @@ pub mod reserve;
 pub mod session;
 mod strangers;
 pub mod taking;
+pub mod tally;
 
 pub use ending::Ending;
 pub use manner::Manner;
@@ -18,3 +19,4 @@ pub use places::{AHEAD, Places};
 pub use reserve::Reserve;
 pub use session::{Session, Turn};
 pub use taking::take_request;
+pub use tally::Tally;

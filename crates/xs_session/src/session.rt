@@ -30,10 +30,11 @@ use crate::releasing::command_of_released;
 use crate::reserve::Reserve;
 use crate::strangers::is_too_much;
 use crate::taking::{names_addition, take_request};
+use crate::tally::Tally;
 use std::alloc::{AllocError, Global};
 use xs_bytes::U63;
 use xs_command::Command;
-use xs_connection::Standing;
+use xs_connection::{Inform, Standing};
 use xs_desk::Call;
 use xs_devices::{Fill, FillFault, Source};
 use xs_resp::{Encoder, Fault, Reply, Request, Requests};
@@ -81,6 +82,8 @@ pub struct Session {
     pub alone: bool,
     /// The last command was let go by EXEC: a read with BLOCK isn't to wait.
     pub hurries: bool,
+    /// What was answered, in this session and in those before it over the same memory.
+    pub tally: Tally,
     // How many answers may have places: fewer while memory is refused.
     most: usize,
     // How often it may wait for a piece of its reserve until there is one again.
@@ -177,6 +180,7 @@ impl Session {
             ended: None,
             alone: false,
             hurries: false,
+            tally: Tally::default(),
             most: AHEAD,
             waits_left: MOST_WAITS,
         })
@@ -220,11 +224,12 @@ impl Session {
         false
     }
 
-    /// Takes the next request, if there is one and room for its answer. A call has its words if they are wanted.
+    /// Takes the next request, if there is one and room for its answer. A call has its words if they are wanted. INFO
+    /// is answered what is told here.
     ///
     /// A command whose reply may be of any size, or long in coming, is asked only once every answer before it is
     /// gathered, and the next one once its own is. So at most one reply of any size is held.
-    pub fn advance(&mut self, manner: &Manner, wants_words: bool) -> Turn
+    pub fn advance<I: Inform>(&mut self, manner: &Manner, inform: &I, wants_words: bool) -> Turn
         ensures turns { (read : List ℕ) (asked : List Command) (got : List Reply) (sent : List ℕ) →
             SessionIsAfter manner.now read asked got sent self.old →
             SessionIsAfter manner.now read (asked ++ asked_in result) got sent self.new }
@@ -249,7 +254,7 @@ impl Session {
         }
         match self.standing.transaction.next() {
             Some(_) => self.run_next(wants_words),
-            None => self.take_next(manner, wants_words),
+            None => self.take_next(manner, inform, wants_words),
         }
     }
 
@@ -325,7 +330,7 @@ impl Session {
     }
 
     /// Takes the next request, if there is one: there is room for its answer.
-    fn take_next(&mut self, manner: &Manner, wants_words: bool) -> Turn
+    fn take_next<I: Inform>(&mut self, manner: &Manner, inform: &I, wants_words: bool) -> Turn
         requires room { length self.old.places < 32 }
         requires going { self.old.ended ≡ None }
         requires several { self.old.alone ≡ false }
@@ -360,7 +365,7 @@ impl Session {
         ) {
             return Turn::Full;
         }
-        self.take_front(manner, wants_words)
+        self.take_front(manner, inform, wants_words)
     }
 
     /// Takes no further request. The protocol error is the last answer.
@@ -378,7 +383,7 @@ impl Session {
     }
 
     /// Takes the request at the front, unless it has to wait for the replies before it.
-    fn take_front(&mut self, manner: &Manner, wants_words: bool) -> Turn
+    fn take_front<I: Inform>(&mut self, manner: &Manner, inform: &I, wants_words: bool) -> Turn
         requires whole { HasNext self.old.requests }
         requires room { length self.old.places < 32 }
         requires going { self.old.ended ≡ None }
@@ -402,6 +407,7 @@ impl Session {
             &mut self.reserve,
             wants_words,
             manner,
+            inform,
             &mut self.standing,
             words,
         );
@@ -476,6 +482,7 @@ impl Session {
         let Some(reply) = self.places.next() else {
             return false;
         };
+        self.tally.count(&reply);
         self.owed.begin(reply);
         true
     }

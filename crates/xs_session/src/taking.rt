@@ -14,7 +14,7 @@ use std::alloc::{AllocError, Global};
 use std::thread;
 use xs_bytes::{Bytes, List};
 use xs_command::{Command, Refusal, Words, read_request};
-use xs_connection::Standing;
+use xs_connection::{Inform, Standing};
 use xs_desk::Call;
 use xs_resp::{Fault, Reply, Request};
 use xs_tape::can_be_record;
@@ -85,9 +85,10 @@ fn words_of(
 }
 
 /// What words with this fault are answered: an unknown command may be one of the connection.
-fn answer_fault(
+fn answer_fault<I: Inform>(
     alloc: Global,
     manner: &Manner,
+    inform: &I,
     standing: &mut Standing,
     words: Request<'_>,
     fault: Fault,
@@ -97,7 +98,7 @@ fn answer_fault(
 {
     match (manner, fault) {
         (Manner::Full(wanted), Fault::UnknownCommand) => {
-            standing.answer(alloc, wanted, &Words::of_request(words))
+            standing.answer(alloc, wanted, inform, &Words::of_request(words))
         }
         _ => standing.refuse(Reply::Error(fault)),
     }
@@ -164,11 +165,12 @@ fn names_quit(words: &Words<'_>) -> bool
 }
 
 /// The call of a request, with its words if they are wanted; or what it is answered at once.
-pub fn take_request(
+pub fn take_request<I: Inform>(
     alloc: Global,
     reserve: &mut Reserve,
     wants_words: bool,
     manner: &Manner,
+    inform: &I,
     standing: &mut Standing,
     words: Request<'_>,
 ) -> Result<Call, Reply>
@@ -182,13 +184,13 @@ pub fn take_request(
     if let Manner::Full(wanted) = manner {
         let all = Words::of_request(words.again());
         if !standing.is_allowed && !names_quit(&all) {
-            return Err(standing.answer_stranger(alloc, wanted, &all));
+            return Err(standing.answer_stranger(alloc, wanted, inform, &all));
         }
     }
     let command = match command_of(alloc, reserve, words.again()) {
         Ok(command) => command,
         Err(Refusal::Said(fault)) => {
-            return Err(answer_fault(alloc, manner, standing, words, fault));
+            return Err(answer_fault(alloc, manner, inform, standing, words, fault));
         }
         Err(Refusal::Memory) => return Err(standing.refuse(Reply::Error(Fault::Memory))),
     };

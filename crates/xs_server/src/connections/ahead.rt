@@ -15,8 +15,12 @@ ghost use Rattle.xs_server.specs.Ahead.{BreaksOff};
 ghost use Rattle.xs_server.specs.Ahead.{HasCauseOf};
 
 use crate::work::mode::Attend;
+use std::alloc::{AllocError, Global};
 use std::sync::Wait;
 use thiserror::Error;
+use xs_bytes::Bytes;
+use xs_command::Words;
+use xs_connection::Inform;
 use xs_desk::{Call, Client, Pause, PortFault};
 use xs_devices::{FillFault, Sink, Source, write_all};
 use xs_session::{Ending, Manner, Session, Turn};
@@ -371,6 +375,18 @@ fn read_on<R: Source>(
     }
 }
 
+/// What a worker tells of its server.
+#[derive(Drop)]
+struct Informant<'a, P> {
+    worker: &'a P,
+}
+
+impl<P: Attend> Inform for Informant<'_, P> {
+    fn inform(&self, alloc: Global, sections: &Words<'_>) -> Result<Bytes, AllocError> {
+        self.worker.inform(alloc, sections)
+    }
+}
+
 /// Lets the client take its time if it has given the password.
 fn greet<P: Attend>(manner: &Manner, session: &Session, pause: &P) {
     if matches!(manner, Manner::Full(Some(_))) && !manner.is_stranger(&session.standing) {
@@ -398,7 +414,8 @@ fn step<R: Source, W: Sink, P: Attend, T: Wait>(
         (λ end. ServesAhead end first client.new manner.now (read ++ came) (sent ++ went)
         × HasCauseOf end (R.rest reader.new) (R.ended reader.new) (R.broken reader.new) (W.broken writer.new)) }
 {
-    match session.advance(manner, client.wants_words()) {
+    let informant = Informant { worker: pause };
+    match session.advance(manner, &informant, client.wants_words()) {
         Turn::Goes => {
             greet(manner, session, pause);
             Ok(())
@@ -418,7 +435,10 @@ fn step<R: Source, W: Sink, P: Attend, T: Wait>(
         },
         Turn::Waits => match settle(rt, session, writer, client, pause) {
             Ok(true) => Ok(()),
-            Ok(false) => read_on(reader, session),
+            Ok(false) => {
+                pause.note(session.tally);
+                read_on(reader, session)
+            }
             Err(fault) => Err(Err(fault)),
         },
     }
@@ -450,6 +470,7 @@ pub fn serve_ahead<R: Source, W: Sink, P: Attend, T: Wait>(
         match step(rt, manner, session, reader, writer, client, pause) {
             Ok(()) => {}
             Err(end) => {
+                pause.note(session.tally);
                 session.clear(manner);
                 return end;
             }

@@ -3,19 +3,27 @@ use crate::work::session_memory::SessionMemory;
 use std::alloc::{AllocError, Global};
 use std::sync::Wait;
 use std::thread;
-use xs_bytes::U63;
+use xs_bytes::{Bytes, U63};
+use xs_command::Words;
 use xs_desk::{Idle, Journal, Keeper, Pause};
+use xs_session::Tally;
 
 /// How often a worker without a clock yields while it waits for memory.
 const YIELDS: u32 = 1000;
 
-/// How a worker waits for answers and for memory, and what it does once a client has given the password.
+/// How a worker waits for answers and for memory, what it does once a client has given the password, and what it tells.
 pub trait Attend: Pause {
     /// Lets the client of the present connection take its time from now on.
     fn let_in(&self);
 
     /// Lets other threads go on for a moment.
     fn rest(&self);
+
+    /// What INFO is answered, of the sections that these words name.
+    fn inform(&self, alloc: Global, sections: &Words<'_>) -> Result<Bytes, AllocError>;
+
+    /// So much was answered by this worker.
+    fn note(&self, tally: Tally);
 }
 
 impl Attend for Idle {
@@ -26,6 +34,12 @@ impl Attend for Idle {
             thread::yield_now();
         }
     }
+
+    fn inform(&self, alloc: Global, _sections: &Words<'_>) -> Result<Bytes, AllocError> {
+        Ok(Bytes::new(Vec::new(alloc)))
+    }
+
+    fn note(&self, _tally: Tally) {}
 }
 
 /// What a keeper does between its turns, whatever its journal is.

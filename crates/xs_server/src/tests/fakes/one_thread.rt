@@ -2,13 +2,14 @@
 use crate::connections::ahead::{AheadFault, serve_ahead};
 use crate::tests::fakes::Still;
 use crate::work::mode::Attend;
-use std::alloc::Global;
+use std::alloc::{AllocError, Global};
 use std::sync::{Mutex, Wait};
 use std::test::Fail;
-use xs_bytes::U63;
+use xs_bytes::{Bytes, U63};
+use xs_command::Words;
 use xs_desk::{Client, Keeper, Pause, desk};
 use xs_devices::{Sink, Source};
-use xs_session::{Ending, Manner, Session};
+use xs_session::{Ending, Manner, Session, Tally};
 use xs_stream::Moment;
 
 /// The keeper, at moment 1000.
@@ -37,6 +38,12 @@ impl Attend for Beside {
     fn let_in(&self) {}
 
     fn rest(&self) {}
+
+    fn inform(&self, alloc: Global, _sections: &Words<'_>) -> Result<Bytes, AllocError> {
+        Ok(Bytes::new(Vec::new(alloc)))
+    }
+
+    fn note(&self, _tally: Tally) {}
 }
 
 /// Serves connections, one after the other, as a worker of a desk does that has no other one.

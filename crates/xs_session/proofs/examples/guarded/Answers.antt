@@ -13,13 +13,13 @@ use Rattle.xs_session.proofs.examples.guarded.Goals as goal
 
 beginning : Becomes secret false (codes "AUTH secre") (Says (Simple Okay)) true → ⊥
 unfolding example_functions connection.example_functions
-beginning (inl (inl answered)) = let never : true ≡ false = ap (λ (said : Reply × Standing). said.1.is_allowed) answered in cc
+beginning (inl (inl (told, answered))) = let never : true ≡ false = ap (λ (said : Reply × Standing). said.1.is_allowed) answered in cc
 beginning (inl (inr memory)) = let never = memory.0 in cc
 beginning (inr memory) = let never = memory.0 in cc
 
 refused : Becomes secret false (codes "PING") no_auth true → ⊥
 unfolding example_functions connection.example_functions
-refused (inl (inl answered)) = let never : true ≡ false = ap (λ (said : Reply × Standing). said.1.is_allowed) answered in cc
+refused (inl (inl (told, answered))) = let never : true ≡ false = ap (λ (said : Reply × Standing). said.1.is_allowed) answered in cc
 refused (inl (inr memory)) = let never = memory.0 in cc
 refused (inr memory) = let never = memory.0 in cc
 
@@ -28,12 +28,12 @@ unfolding example_functions connection.example_functions
 returns c = record {
   nothing_is_asked = λ taken. let never = taken.0 in cc;
   no_addition_is_asked = λ taken. let never = taken.0 in cc;
-  it_is_refused = inl (inl refl);
-  so_is_an_unknown_command = inl (inl refl);
-  the_password = inl (inl refl);
+  it_is_refused = inl (inl ([], refl));
+  so_is_an_unknown_command = inl (inl ([], refl));
+  the_password = inl (inl ([], refl));
   its_beginning = beginning;
   not_by_being_refused = refused;
   a_quit = (refl, refl, refl, refl);
   asked_once_it_is_given = (refl, refl, refl, refl);
-  then_an_addition = (_, [], _, _, Closed, refl, inl (inl refl), refl, inr refl, (_, [], _, _, Closed, refl, (refl, refl, refl, refl), refl, inr refl, (refl, refl)));
+  then_an_addition = (_, [], _, _, Closed, refl, inl (inl ([], refl)), refl, inr refl, (_, [], _, _, Closed, refl, (refl, refl, refl, refl), refl, inr refl, (refl, refl)));
 }

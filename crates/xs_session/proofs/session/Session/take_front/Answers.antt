@@ -11,7 +11,7 @@ use Rattle.xs_session.proofs.Tests.{empty-none, empty-some}
 use Rattle.xs_session.proofs.session.Session.take_front.Goals as goal
 
 pub returns-then-is_empty-clause-turns : goal.returns-then-is_empty-clause-turns
-returns-then-is_empty-clause-turns c = λ read asked got sent s.
+returns-then-is_empty-clause-turns g c = λ read asked got sent s.
     let session = c.args.self.now in
     let words = c.front-words.result in (
       turn-skips c.args.manner.now session.standing read asked got sent session.ended session.requests c.skip.new.self session.places (bytes_left session.owed) words c.requires.going s.0 c.front-words.ensures c.skip.ensures c.requires.nothing
@@ -20,7 +20,7 @@ returns-then-is_empty-clause-turns c = λ read asked got sent s.
     )
 
 pub returns-in-Ok-clause-turns : goal.returns-in-Ok-clause-turns
-returns-in-Ok-clause-turns c = λ read asked got sent s.
+returns-in-Ok-clause-turns g c = λ read asked got sent s.
     let manner = c.args.manner.now in
     let words = c.front-words.result in
     let now = c.take_request-taken.new.standing in
@@ -32,7 +32,7 @@ returns-in-Ok-clause-turns c = λ read asked got sent s.
     (subst (λ (o : Standing). SessionIsAfter manner read asked got sent (record c.args.self.now { reserve = c.take_request-taken.new.reserve; standing = o })) (sym taken.3) s)
 
 pub returns-in-Err-clause-turns : goal.returns-in-Err-clause-turns
-returns-in-Err-clause-turns c = λ read asked got sent s.
+returns-in-Err-clause-turns g c = λ read asked got sent s.
     let session = c.args.self.now in
     let words = c.front-words.result in (
       turn-says c.args.manner.now session.standing read asked got sent c.take_request-taken.new.standing session.ended session.requests c.skip-in-Err.new.self session.places c.say.new.self (bytes_left session.owed) words c.in-Err.reply c.requires.going s.0 c.front-words.ensures c.skip-in-Err.ensures c.requires.nothing
