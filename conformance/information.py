@@ -3,6 +3,7 @@
 The names of sections and fields are those of the Redis page of INFO; the figures are counted here.
 """
 import tempfile
+import threading
 import time
 
 from great import bulk, number
@@ -113,4 +114,30 @@ def waits_for_its_place(program):
         say(stream, "INFO", UNKNOWN)
 
 
-CASES = [names_its_sections, counts, tells_of_its_age_and_log, waits_for_its_place]
+def keeps_busy(port, done):
+    """A client that sends requests ahead until it is told that all is done."""
+    with raw(port) as stream, stream.makefile("rb") as replies:
+        while not done.is_set():
+            stream.sendall(asking("XADD busy * f v") * 100)
+            for _ in range(100):
+                read_reply(replies)
+
+
+def tells_what_was_answered(program):
+    """The keyspace that INFO tells is behind each request before it, sent in one piece, while others keep the keeper busy."""
+    with running(program, workers=2) as server, raw(server.port) as stream, stream.makefile("rb") as replies:
+        say(stream, "XADD busy 1-1 f v", bulk("1-1"))
+        done = threading.Event()
+        other = threading.Thread(target=keeps_busy, args=(server.port, done))
+        other.start()
+        try:
+            for count in range(1, 501):
+                stream.sendall(asking(f"XADD k{count} 1-1 f v") + asking("INFO keyspace"))
+                assert read_reply(replies) == bulk("1-1").encode()
+                assert f"db0:keys={count + 1},".encode() in (text := read_reply(replies)), (count, text)
+        finally:
+            done.set()
+            other.join()
+
+
+CASES = [names_its_sections, counts, tells_of_its_age_and_log, waits_for_its_place, tells_what_was_answered]

@@ -1,12 +1,3 @@
 pub mod Reports
-pub mod Emptiness
-pub mod LineEnds
-pub mod HeldLines
-pub mod ScriptLines
-pub mod ScriptHeadline
 pub mod CommandLines
-pub mod WorkerEnds
-pub mod ScriptTurns
-pub mod AheadCalls
-pub mod AheadTurns
-pub mod AheadWork
+pub mod Computing

@@ -4,16 +4,17 @@ use Rattle.std.proofs.Common.{Result, Ok, Err, IfOk}
 use Rattle.xs_devices.specs.Passing.{Passing, Appends}
 use Rattle.xs_devices.proofs.Passing.{Appends-trans}
 use Rattle.xs_desk.specs.declared.opening.DeskError.TheVariants as desk
-use Rattle.xs_server.specs.declared.work.fault.WorkFault.{WorkFault}
-use Rattle.xs_server.specs.declared.work.fault.WorkFault.TheVariants as work
+use Rattle.xs_work.specs.declared.fault.WorkFault.{WorkFault}
+use Rattle.xs_work.specs.declared.fault.WorkFault.TheVariants as work
 use Rattle.std.proofs.lemmas.List.{length-map}
 use Rattle.std.proofs.lemmas.List.Elements.{All-map}
 use Rattle.std.specs.Prelude.{All, length, map}
 use Rattle.xs_desk.specs.declared.summary.Summary.{Summary}
 use Rattle.xs_session.specs.declared.manner.Manner.{Manner}
-use Rattle.xs_server.specs.Gates.{GateTrace, new_gate}
-use Rattle.xs_server.specs.WorkOutcome.{IsClosed, HasServed}
-use Rattle.xs_server.specs.Report.{Says, work_text, IsServeCause, ReportsWork}
+use Rattle.xs_work.specs.Gates.{GateTrace, new_gate}
+use Rattle.xs_work.specs.WorkOutcome.{IsClosed, HasServed}
+use Rattle.xs_work.specs.Texts.{Says}
+use Rattle.xs_server.specs.Report.{work_text, IsServeCause, ReportsWork}
 
 -- where the writer fails, what was to follow isn't said
 pub fails-before : (a b : List ℕ) (old new : Passing) (broken : Bool) → Says a old new broken → broken ≡ true → Says (a ++ b) old new broken

@@ -1,12 +1,3 @@
-pub mod Cause
-pub mod Line
-pub mod Answering
-pub mod Script
-pub mod ScriptRun
 pub mod Report
 pub mod CommandLine
-pub mod WorkOutcome
-pub mod WallTime
-pub mod Ahead
-pub mod Gates
-pub mod Workers
+pub mod ExamplesReport

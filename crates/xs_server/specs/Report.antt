@@ -1,10 +1,11 @@
 -- What the program says at its end.
 use Rattle.std.specs.Prelude.{◌≡◌, ℕ, ◌⊎◌, Bool, true, List, [], ◌++◌, codes, decimal, Option, Result, Ok, Err}
-use Rattle.xs_devices.specs.Passing.{Passing, Appends}
-use Rattle.xs_server.specs.declared.script.fault.ScriptFault.{ScriptFault}
-use Rattle.xs_server.specs.declared.script.fault.ScriptFault.TheVariants.{Line, Read, Write, Memory}
-use Rattle.xs_server.specs.declared.work.fault.WorkFault.{WorkFault}
-use Rattle.xs_server.specs.declared.work.fault.WorkFault.TheVariants as work
+use Rattle.xs_devices.specs.Passing.{Passing}
+use Rattle.xs_work.specs.Texts.{Says}
+use Rattle.xs_script.specs.declared.fault.ScriptFault.{ScriptFault}
+use Rattle.xs_script.specs.declared.fault.ScriptFault.TheVariants.{Line, Read, Write, Memory}
+use Rattle.xs_work.specs.declared.fault.WorkFault.{WorkFault}
+use Rattle.xs_work.specs.declared.fault.WorkFault.TheVariants as work
 use Rattle.xs_desk.specs.declared.opening.DeskError.TheVariants as desk
 
 -- the status of the program where a script ends before its end: 2 for a line that is no script line, and 1 for a
@@ -60,11 +61,6 @@ status_of_run (Err fault) = status_of fault
 abbrev pub text_of_run : Result ℕ ScriptFault → List ℕ
 text_of_run (Ok written) = []
 text_of_run (Err fault) = script_fault_text fault
-
--- a writer takes this text, or a part of it if it fails
-abbrev pub Says : List ℕ → Passing → Passing → Bool → Type 0
-Says text old new broken =
-    (part rest : List ℕ) × (text ≡ part ++ rest) × Appends old new part × ((rest ≡ []) ⊎ (broken ≡ true))
 
 -- the status of the program after work, and what it says: nothing after an outcome, else the line of the fault
 abbrev pub ReportsWork :

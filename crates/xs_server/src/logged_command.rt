@@ -9,22 +9,20 @@ use crate::log_threads::{start_syncing, start_telling};
 use crate::report::{report_memory, report_text, report_work};
 use crate::run_command::{Ready, make_ready};
 use crate::serve_command::DEPTH;
-use crate::wall_clock::WallClock;
-use crate::work::gate::Gate;
-use crate::work::logged::{LoggedEnd, work_logged};
-use crate::work::mode::Mode;
 use std::alloc::{AllocError, Global};
 use std::marker::Model;
 use std::net::{Net, TcpListener, TcpStream};
 use std::sync::Wait;
 use std::thread::Threads;
 use std::time::Clock;
+use xs_clock::WallClock;
 use xs_connection::Password;
 use xs_devices::{Sink, write_all};
 use xs_files::{FileTape, FolderFault, OpenedFolder, SyncPolicy, open_folder};
 use xs_keys::Keyspace;
 use xs_log::TapeLog;
 use xs_replay::EventLog;
+use xs_work::{Gate, LoggedEnd, Mode, work_logged};
 
 /// How many calls share a write to the log, if it isn't synced for them: the workers of the first ones go on meanwhile.
 const ROUND: u64 = 32;

@@ -3,37 +3,24 @@
 //! replies on standard output.
 #![tactic(auto)]
 
-mod announcement;
 mod byte_count;
 mod command_line;
-mod connections;
-mod door;
-mod figures;
-mod hall;
-mod halves;
-mod information;
-mod limits;
-mod lines;
+mod examples;
 mod log_threads;
 mod logged_command;
 mod password_file;
-mod patience;
 mod report;
 mod run_command;
-mod run_gate;
-mod script;
+mod script_command;
 mod serve_command;
-mod tcp;
 mod version;
-mod wall_clock;
-mod work;
 
 use command_line::{Asked, read_command_line};
 use logged_command::{open_logs, run_logged};
 use password_file::password_of;
 use report::report_memory;
 use run_command::run_server;
-use script::command::run_and_report;
+use script_command::run_and_report;
 use serve_command::serve_and_report;
 use std::process::ExitCode;
 use xs_devices::{FromRead, ToWrite};
@@ -83,6 +70,3 @@ fn main(rt: HostRuntime) -> ExitCode {
     };
     ExitCode::from(status)
 }
-
-#[cfg(test)]
-mod tests;

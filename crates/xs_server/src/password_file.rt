@@ -1,7 +1,7 @@
 //! The file of a password.
 ghost use Rattle.std.specs.Prelude.{◌≡◌};
 
-use crate::report::{report_memory, report_text, say};
+use crate::report::{report_memory, report_text};
 use memchr::memchr;
 use std::alloc::{Alloc, Global};
 use std::fs;
@@ -11,6 +11,7 @@ use std::os::unix::fs::PermissionsExt;
 use thiserror::Error;
 use xs_connection::Password;
 use xs_devices::Sink;
+use xs_work::say;
 
 /// The permissions of a file by which others than its owner read it.
 const READ_BY_OTHERS: u32 = 0o044;

@@ -1,28 +1,15 @@
 //! What the program says on standard error, and its status.
 ghost use Rattle.std.specs.Prelude.{◌≡◌, ◌++◌, true, false, decimal};
-ghost use Rattle.xs_devices.specs.Passing.{Appends};
 ghost use Rattle.xs_server.specs.Report.{status_of, script_fault_text, memory_text, line_text, listening_text};
 ghost use Rattle.xs_server.specs.Report.{work_text};
-ghost use Rattle.xs_server.specs.Report.{Says, ready_text, ReportsWork};
+ghost use Rattle.xs_server.specs.Report.{ready_text, ReportsWork};
+ghost use Rattle.xs_work.specs.Texts.{Says};
 
-use crate::script::fault::ScriptFault;
-use crate::work::fault::WorkFault;
-use crate::work::working::{WorkFailed, WorkOutcome};
 use itoa::Buffer;
 use xs_desk::DeskError;
-use xs_devices::{Sink, write_all};
-
-/// Writes a text, up to a fault of the writer, and says whether it is whole.
-pub fn say<W: Sink>(errors: &mut W, text: &[u8]) -> bool
-    ensures said { Says text.now (W.held errors.old) (W.held errors.new) (W.broken errors.new) }
-    ensures whole { result ≡ true → Appends (W.held errors.old) (W.held errors.new) text.now }
-    ensures part { result ≡ false → W.broken errors.new ≡ true }
-{
-    match write_all(errors, text) {
-        Ok(_) => true,
-        Err(_) => false,
-    }
-}
+use xs_devices::Sink;
+use xs_script::ScriptFault;
+use xs_work::{WorkFailed, WorkFault, WorkOutcome, say};
 
 /// Writes the line of a script's fault, passes over a fault of the writer, and gives the status of the program.
 pub fn report_script<W: Sink>(errors: &mut W, fault: &ScriptFault) -> u8

@@ -1,22 +1,13 @@
 //! The program's command `run`: a server that stays.
 ghost use Rattle.std.specs.Prelude.{◌≡◌, length, All, IfOk, IfErr};
 ghost use Rattle.xs_session.specs.declared.manner.Manner.TheVariants as manner;
-ghost use Rattle.xs_server.specs.Gates.{new_gate};
-ghost use Rattle.xs_server.specs.WorkOutcome.{HasServed};
+ghost use Rattle.xs_work.specs.Gates.{new_gate};
+ghost use Rattle.xs_work.specs.WorkOutcome.{HasServed};
 
-use crate::announcement::Announcement;
 use crate::command_line::RunOptions;
-use crate::door::open_door;
-use crate::hall::Hall;
-use crate::limits::open_files;
-use crate::patience::Patience;
 use crate::report::{report_memory, report_text, report_worked};
-use crate::run_gate::{RunGate, again};
 use crate::serve_command::DEPTH;
 use crate::version::VERSION;
-use crate::wall_clock::WallClock;
-use crate::work::gate::Gate;
-use crate::work::working::work_with;
 use std::alloc::{AllocError, Global};
 use std::io;
 use std::io::ErrorKind;
@@ -24,26 +15,17 @@ use std::net::{Net, SocketAddr, TcpListener, TcpStream};
 use std::sync::{Arc, Wait};
 use std::thread::Threads;
 use std::time::{Clock, Duration};
+use xs_clock::WallClock;
 use xs_connection::Password;
 use xs_devices::Sink;
-
-/// How many files are open besides the connections of workers: standard streams, listener and its double, one to read
-/// limits by, and some for connections that come or leave.
-const OTHER_FILES: u64 = 32;
-
-/// How many connections may wait for a worker at once, at most.
-const MOST_WAITING: u64 = 1024;
-
-/// How many connections may wait for a worker, if so many files may be open; None if these are too few for the workers.
-pub fn waiting_room(workers: u64, files: Option<u64>) -> Option<u64> {
-    match files {
-        Some(files) => {
-            let left = files.checked_sub(workers)?.checked_sub(OTHER_FILES)?;
-            Some((left + OTHER_FILES / 2).min(MOST_WAITING))
-        }
-        None => Some(MOST_WAITING),
-    }
-}
+use xs_tcp::announcement::Announcement;
+use xs_tcp::door::open_door;
+use xs_tcp::hall::Hall;
+use xs_tcp::information::Settings;
+use xs_tcp::limits::{OTHER_FILES, open_files, waiting_room};
+use xs_tcp::patience::Patience;
+use xs_tcp::run_gate::{RunGate, again};
+use xs_work::{Gate, work_with};
 
 /// What an error of listening is called.
 fn name_of(error: &io::Error) -> &'static str {
@@ -99,6 +81,18 @@ fn ready_line(
         }
     };
     Ok(text.into_bytes())
+}
+
+/// What INFO tells of these options.
+fn settings_of<S: Clock>(system: &S, options: &RunOptions) -> Settings {
+    Settings {
+        version: VERSION,
+        port: options.port,
+        workers: options.workers,
+        max_memory: options.max_memory,
+        log: options.log.as_ref().map(|log| log.policy),
+        started: system.monotonic().unwrap_or(Duration::ZERO),
+    }
 }
 
 /// What is made before the first connection is served.
@@ -160,7 +154,8 @@ pub fn make_ready<
     let Ok(gates) = gates_of(*rt, alloc, &hall, &announcement, options, password) else {
         return Err(report_memory(errors));
     };
-    let Ok(patience) = Patience::new(*rt, *files, gates.as_slice(), options) else {
+    let settings = settings_of(rt, options);
+    let Ok(patience) = Patience::new(*rt, *files, gates.as_slice(), settings) else {
         return Err(report_memory(errors));
     };
     if open_door(rt, alloc, listener, &hall).is_err() {

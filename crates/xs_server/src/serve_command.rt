@@ -1,24 +1,24 @@
 //! The program's command `serve`.
 ghost use Rattle.std.specs.Prelude.{◌≡◌, ◌⊎◌, ℕ, List, length, All, IfOk};
-ghost use Rattle.xs_server.specs.Report.{Says, IsServeCause};
+ghost use Rattle.xs_work.specs.Texts.{Says};
+ghost use Rattle.xs_server.specs.Report.{IsServeCause};
 ghost use Rattle.xs_session.specs.declared.manner.Manner.TheVariants as manner;
-ghost use Rattle.xs_server.specs.Gates.{new_gate};
-ghost use Rattle.xs_server.specs.WorkOutcome.{HasServed};
+ghost use Rattle.xs_work.specs.Gates.{new_gate};
+ghost use Rattle.xs_work.specs.WorkOutcome.{HasServed};
 
-use crate::announcement::Announcement;
 use crate::command_line::ServeOptions;
 use crate::report::{report_listening, report_memory, report_ready, report_worked};
-use crate::tcp::TcpGate;
-use crate::wall_clock::WallClock;
-use crate::work::gate::Gate;
-use crate::work::working::work;
 use std::alloc::{AllocError, Global};
 use std::io::ErrorKind;
 use std::net::{Ipv4Addr, Net, TcpListener, TcpStream};
 use std::sync::{Arc, Wait};
 use std::thread::Threads;
 use std::time::Clock;
+use xs_clock::WallClock;
 use xs_devices::{Sink, ToWrite};
+use xs_tcp::announcement::Announcement;
+use xs_tcp::tcp::TcpGate;
+use xs_work::{Gate, work};
 
 /// How many places the rings of a lane have.
 pub const DEPTH: usize = 32;

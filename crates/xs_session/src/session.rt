@@ -29,7 +29,7 @@ use crate::places::{AHEAD, Places};
 use crate::releasing::command_of_released;
 use crate::reserve::Reserve;
 use crate::strangers::is_too_much;
-use crate::taking::{names_addition, take_request};
+use crate::taking::{names_addition, names_info, take_request};
 use crate::tally::Tally;
 use std::alloc::{AllocError, Global};
 use xs_bytes::U63;
@@ -48,8 +48,8 @@ pub enum Turn {
     Asks(Call),
     /// It waits for bytes.
     Waits,
-    /// It takes no further request until answers that it waits for are there, and are gathered. If there are none, it waits
-    /// for memory: the caller lets others go on, and tries again.
+    /// It takes no further request until answers that it waits for are there, and are gathered. If there are none, it
+    /// waits for memory: the caller lets others go on, and tries again.
     Full,
     /// It takes no further request.
     Ends(Ending),
@@ -356,6 +356,9 @@ impl Session {
         }
         if !is_whole {
             return Turn::Waits;
+        }
+        if self.places.is_open() && names_info(self.requests.front()) {
+            return Turn::Full;
         }
         if waits_for_memory(
             self.alloc,

@@ -19,12 +19,22 @@ use xs_desk::Call;
 use xs_resp::{Fault, Reply, Request};
 use xs_tape::can_be_record;
 
-/// Whether the first word is XADD: it has to do without memory first.
-pub(crate) fn names_addition(words: Request<'_>) -> bool {
+/// Whether this is the first word, in upper or lower case.
+fn is_named(words: Request<'_>, name: &[u8]) -> bool {
     match Words::of_request(words).word() {
-        Ok((first, _)) => first.is(b"xadd"),
+        Ok((first, _)) => first.is(name),
         Err(_) => false,
     }
+}
+
+/// Whether the first word is XADD: it has to do without memory first.
+pub(crate) fn names_addition(words: Request<'_>) -> bool {
+    is_named(words, b"xadd")
+}
+
+/// Whether the first word is INFO: it tells of what was answered before it.
+pub(crate) fn names_info(words: Request<'_>) -> bool {
+    is_named(words, b"info")
 }
 
 /// How often memory is looked for, at most, before a request is answered that there is none.

@@ -1,9 +1,9 @@
 use Rattle.std.proofs.Common.{◌≡◌, ◌∙◌, ℕ, Option, List, [], ◌∷◌, ◌++◌, sym, ap, subst, arith, length, length-append}
 use Rattle.std.specs.List.{All}
 use Rattle.std.proofs.lemmas.List.Elements.{All-push}
-use Rattle.xs_server.specs.declared.run_gate.RunGate.{RunGate}
+use Rattle.xs_tcp.specs.declared.run_gate.RunGate.{RunGate}
 use Rattle.xs_session.specs.declared.manner.Manner.TheVariants.{Full}
-use Rattle.xs_server.specs.Gates.{new_gate, with_manner}
+use Rattle.xs_work.specs.Gates.{new_gate, with_manner}
 use Rattle.xs_server.proofs.run_command.gates_of.Goals as goal
 
 pub loop-worker-preserved : goal.loop-worker-preserved

@@ -1,7 +1,7 @@
 use Rattle.std.proofs.Common.{◌≡◌, length}
 use Rattle.std.specs.List.{All}
 use Rattle.xs_session.specs.declared.manner.Manner.TheVariants.{Full}
-use Rattle.xs_server.specs.Gates.{new_gate, with_manner}
+use Rattle.xs_work.specs.Gates.{new_gate, with_manner}
 use Rattle.xs_server.proofs.run_command.gates_of.Given as goal
 
 -- a gate for each worker so far, none of which has given a connection

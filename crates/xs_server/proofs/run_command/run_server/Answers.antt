@@ -1,6 +1,6 @@
 use Rattle.std.proofs.Common.{map}
 use Rattle.xs_session.specs.declared.manner.Manner.TheVariants.{Full}
-use Rattle.xs_server.specs.Gates.{with_manner}
+use Rattle.xs_work.specs.Gates.{with_manner}
 use Rattle.xs_server.proofs.Reports.{served-at-zero}
 use Rattle.xs_server.proofs.run_command.run_server.Goals as goal
 

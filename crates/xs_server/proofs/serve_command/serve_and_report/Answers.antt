@@ -1,7 +1,7 @@
 use Rattle.std.proofs.Common.{inl, inr, refl, map}
 use Rattle.xs_session.specs.declared.manner.Manner.TheVariants.{Plain}
 use Rattle.xs_server.specs.Report.{memory_text, listening_text}
-use Rattle.xs_server.specs.Gates.{with_manner}
+use Rattle.xs_work.specs.Gates.{with_manner}
 use Rattle.xs_server.proofs.Reports.{served-at-zero, told-of-work}
 use Rattle.xs_server.proofs.serve_command.serve_and_report.Goals as goal
 

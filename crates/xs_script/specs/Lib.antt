@@ -1,0 +1,5 @@
+pub mod Cause
+pub mod Line
+pub mod Answering
+pub mod Script
+pub mod ScriptRun

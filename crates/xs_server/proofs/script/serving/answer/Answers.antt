@@ -1,5 +1,0 @@
-use Rattle.std.proofs.Common.{Some}
-use Rattle.xs_server.proofs.script.serving.answer.Goals as goal
-
-pub returns-in-Ok : goal.returns-in-Ok
-returns-in-Ok c = (Some c.in-Ok.command, (c.in-Ok.ensures.exact, c.apply_owned.ensures))

@@ -1,7 +1,0 @@
-use Rattle.std.proofs.Common.{false}
-use Rattle.xs_server.specs.Workers.{ServesGate}
-use Rattle.xs_server.proofs.work.worker.serve_gate.Given as goal
-
--- all connections so far were served, and all were answered
-abbrev pub invariant-loop : goal.invariant-loop
-invariant-loop g l = ServesGate false l.initial.client l.client (g.G.Gate.trace l.initial.gate) (g.G.Gate.trace l.gate)

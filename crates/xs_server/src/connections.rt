@@ -1,2 +1,0 @@
-//! Connections: requests in, replies out, over a lane.
-pub mod ahead;

@@ -1,0 +1,20 @@
+//! A script over bytes that are in hand.
+ghost use Rattle.std.specs.Prelude.{◌≡◌, IfOk};
+ghost use Rattle.xs_script.specs.Line.{script_lines};
+ghost use Rattle.xs_script.specs.Script.{IsScript};
+
+use std::alloc::Global;
+use xs_devices::{FromRead, ToWrite};
+use xs_script::{ScriptFault, run_script};
+
+/// Runs a script over these bytes, and gives the replies.
+pub fn run_bytes(alloc: Global, script: &[u8]) -> Result<Vec<u8>, ScriptFault>
+    ensures { IfOk result (λ replies. IsScript (script_lines script.now) replies.items) }
+{
+    let mut reader = FromRead::new(script);
+    let mut writer = ToWrite::new(Vec::new(alloc));
+    match run_script(alloc, &mut reader, &mut writer) {
+        Ok(_) => Ok(writer.into_inner()),
+        Err(fault) => Err(fault),
+    }
+}

@@ -1,0 +1,187 @@
+//! What the server counts, for INFO. Each thread writes figures of its own, and anyone reads them.
+use crossbeam_utils::CachePadded;
+use std::alloc::{AllocError, Global};
+use std::sync::Arc;
+use std::sync::atomic::{AtomicBool, AtomicU64, Ordering};
+use xs_session::Tally;
+
+/// What one worker counts. It alone writes these.
+#[derive(Drop)]
+pub struct WorkerFigures {
+    opened: AtomicU64,
+    closed: AtomicU64,
+    replies: AtomicU64,
+    errors: AtomicU64,
+}
+
+/// The figures of a worker, in a line of memory that no other thread writes.
+pub type SharedFigures = Arc<CachePadded<WorkerFigures>>;
+
+/// Counts one more. Nobody else writes this figure.
+fn count(figure: &AtomicU64) {
+    let value = figure.load(Ordering::Relaxed);
+    figure.store(value.wrapping_add(1), Ordering::Relaxed);
+}
+
+impl WorkerFigures {
+    /// The figures of a worker that has served nobody.
+    pub fn new(alloc: Global) -> Result<SharedFigures, AllocError> {
+        let figures = WorkerFigures {
+            opened: AtomicU64::new(0),
+            closed: AtomicU64::new(0),
+            replies: AtomicU64::new(0),
+            errors: AtomicU64::new(0),
+        };
+        Ok(Arc::new(alloc, CachePadded::new(figures))?)
+    }
+
+    /// A connection begins.
+    pub fn open(&self) {
+        count(&self.opened);
+    }
+
+    /// It has ended.
+    pub fn close(&self) {
+        count(&self.closed);
+    }
+
+    /// So much was answered, over all its connections.
+    pub fn note(&self, tally: Tally) {
+        self.replies.store(tally.replies, Ordering::Relaxed);
+        self.errors.store(tally.errors, Ordering::Relaxed);
+    }
+}
+
+/// What all workers have counted together.
+#[derive(Clone, Copy, Debug, Default, PartialEq, Eq)]
+pub struct Sums {
+    pub opened: u64,
+    pub closed: u64,
+    pub replies: u64,
+    pub errors: u64,
+}
+
+impl Sums {
+    /// With the figures of one worker more.
+    fn with(self, one: &WorkerFigures) -> Sums {
+        Sums {
+            opened: self.opened.wrapping_add(one.opened.load(Ordering::Relaxed)),
+            closed: self.closed.wrapping_add(one.closed.load(Ordering::Relaxed)),
+            replies: self
+                .replies
+                .wrapping_add(one.replies.load(Ordering::Relaxed)),
+            errors: self.errors.wrapping_add(one.errors.load(Ordering::Relaxed)),
+        }
+    }
+
+    /// How many connections are served.
+    pub fn connected(&self) -> u64 {
+        self.opened.saturating_sub(self.closed)
+    }
+}
+
+/// What the keeper tells between its turns.
+#[derive(Drop)]
+struct KeeperFigures {
+    keys: AtomicU64,
+    bytes_held: AtomicU64,
+    blocked: AtomicU64,
+    // How many turns it has begun.
+    turns: AtomicU64,
+    // Whether it has told since the last of them.
+    rests: AtomicBool,
+}
+
+/// What the keeper has between two turns.
+#[derive(Clone, Copy, Debug, PartialEq, Eq)]
+pub struct KeeperState {
+    /// How many keys there are.
+    pub keys: u64,
+    /// How many bytes they are counted with.
+    pub bytes_held: u64,
+    /// How many calls wait.
+    pub blocked: u64,
+}
+
+/// What all threads of a server count.
+#[derive(Drop)]
+pub struct Figures {
+    workers: Vec<SharedFigures>,
+    keeper: CachePadded<KeeperFigures>,
+}
+
+impl Figures {
+    /// The figures of a server with these workers.
+    pub fn new(workers: Vec<SharedFigures>) -> Figures {
+        let keeper = KeeperFigures {
+            keys: AtomicU64::new(0),
+            bytes_held: AtomicU64::new(0),
+            blocked: AtomicU64::new(0),
+            turns: AtomicU64::new(0),
+            rests: AtomicBool::new(false),
+        };
+        Figures {
+            workers,
+            keeper: CachePadded::new(keeper),
+        }
+    }
+
+    fn note(&self, state: KeeperState) {
+        self.keeper.keys.store(state.keys, Ordering::Relaxed);
+        self.keeper
+            .bytes_held
+            .store(state.bytes_held, Ordering::Relaxed);
+        self.keeper.blocked.store(state.blocked, Ordering::Relaxed);
+    }
+
+    /// The keeper has this, and begins its next turn.
+    pub fn note_turn(&self, state: KeeperState) {
+        self.note(state);
+        self.keeper.rests.store(false, Ordering::SeqCst);
+        let turns = self.keeper.turns.load(Ordering::Relaxed);
+        self.keeper
+            .turns
+            .store(turns.wrapping_add(1), Ordering::SeqCst);
+    }
+
+    /// The keeper has this, and waits for calls.
+    pub fn note_rest(&self, state: KeeperState) {
+        self.note(state);
+        self.keeper.rests.store(true, Ordering::SeqCst);
+    }
+
+    /// How many turns the keeper has begun.
+    pub fn turns(&self) -> u64 {
+        self.keeper.turns.load(Ordering::SeqCst)
+    }
+
+    /// Whether the keeper has told since so many turns were begun: then its figures are behind each answer that was given
+    /// until then.
+    pub fn has_told_since(&self, turns: u64) -> bool {
+        self.keeper.rests.load(Ordering::SeqCst) || self.turns() != turns
+    }
+
+    /// How many keys there are.
+    pub fn keys(&self) -> u64 {
+        self.keeper.keys.load(Ordering::Relaxed)
+    }
+
+    /// How many bytes they are counted with.
+    pub fn bytes_held(&self) -> u64 {
+        self.keeper.bytes_held.load(Ordering::Relaxed)
+    }
+
+    /// How many calls wait.
+    pub fn blocked(&self) -> u64 {
+        self.keeper.blocked.load(Ordering::Relaxed)
+    }
+
+    /// What all workers have counted.
+    pub fn sums(&self) -> Sums {
+        let mut sums = Sums::default();
+        for one in &self.workers {
+            sums = sums.with(one);
+        }
+        sums
+    }
+}

@@ -1,0 +1,204 @@
+//! The text of INFO. (Redis, INFO.)
+use crate::figures::{Figures, Sums};
+use crate::limits::resident_bytes;
+use std::alloc::{Alloc, AllocError, Global};
+use std::fs::Files;
+use std::time::{Clock, Duration};
+use xs_bytes::Bytes;
+use xs_command::{Word, Words};
+use xs_files::SyncPolicy;
+
+/// A section of INFO.
+#[derive(Clone, Copy, Debug, PartialEq, Eq)]
+pub enum Section {
+    Server,
+    Clients,
+    Memory,
+    Persistence,
+    Stats,
+    Replication,
+    Keyspace,
+}
+
+/// All sections, in their order.
+const SECTIONS: [Section; 7] = [
+    Section::Server,
+    Section::Clients,
+    Section::Memory,
+    Section::Persistence,
+    Section::Stats,
+    Section::Replication,
+    Section::Keyspace,
+];
+
+/// At most so many names of sections are looked at.
+const MOST_NAMES: usize = 16;
+
+/// What was settled before the server began to serve.
+#[derive(Clone, Copy, Debug, PartialEq, Eq)]
+pub struct Settings {
+    /// The version of the program.
+    pub version: &'static str,
+    pub port: u16,
+    pub workers: u64,
+    /// How many bytes the queues may hold; 0 if there is no bound.
+    pub max_memory: u64,
+    /// When the log is synced, if there is one.
+    pub log: Option<SyncPolicy>,
+    /// When it began, by the monotonic clock.
+    pub started: Duration,
+}
+
+/// What INFO tells of a server.
+#[derive(Drop)]
+pub struct Information {
+    pub settings: Settings,
+    pub figures: Figures,
+}
+
+/// Whether a word names a section, or all of them.
+fn names(word: &Word<'_>, section: Section) -> bool {
+    let name: &[u8] = match section {
+        Section::Server => b"server",
+        Section::Clients => b"clients",
+        Section::Memory => b"memory",
+        Section::Persistence => b"persistence",
+        Section::Stats => b"stats",
+        Section::Replication => b"replication",
+        Section::Keyspace => b"keyspace",
+    };
+    word.is(name) || word.is(b"default") || word.is(b"all") || word.is(b"everything")
+}
+
+/// Whether a section is asked for: each is if none is named.
+fn is_asked(section: Section, named: &Words<'_>) -> bool {
+    let mut words = named.again();
+    for count in 0..MOST_NAMES {
+        let Ok((word, behind)) = words.word() else {
+            return count == 0;
+        };
+        if names(&word, section) {
+            return true;
+        }
+        words = behind;
+    }
+    false
+}
+
+/// What the policy of a log is called.
+fn policy_name(log: Option<SyncPolicy>) -> &'static str {
+    match log {
+        Some(SyncPolicy::Always) => "always",
+        Some(SyncPolicy::EachSecond) => "second",
+        Some(SyncPolicy::Never) => "no",
+        None => "none",
+    }
+}
+
+/// The section that tells of the keys: nothing if there is none.
+fn keyspace(alloc: Global, keys: u64) -> Result<String, AllocError> {
+    if keys == 0 {
+        return format!(in alloc; "# Keyspace\r\n");
+    }
+    format!(in alloc; "# Keyspace\r\ndb0:keys={keys},expires=0,avg_ttl=0\r\n")
+}
+
+impl Information {
+    /// The section that tells of the program.
+    fn server<S: Clock>(&self, system: &S, alloc: Global) -> Result<String, AllocError> {
+        let version = self.settings.version;
+        let port = self.settings.port;
+        let now = system.monotonic().unwrap_or(self.settings.started);
+        let seconds = now.saturating_sub(self.settings.started).as_secs();
+        let days = seconds / 86_400;
+        format!(in alloc;
+            "# Server\r\nredis_version:7.0.15\r\nredis_mode:standalone\r\nxs_server_version:{version}\r\n\
+            tcp_port:{port}\r\nuptime_in_seconds:{seconds}\r\nuptime_in_days:{days}\r\n"
+        )
+    }
+
+    /// The section that tells of connections.
+    fn clients(&self, alloc: Global, sums: Sums) -> Result<String, AllocError> {
+        let connected = sums.connected();
+        let blocked = self.figures.blocked();
+        let workers = self.settings.workers;
+        format!(in alloc;
+            "# Clients\r\nconnected_clients:{connected}\r\nmaxclients:{workers}\r\nblocked_clients:{blocked}\r\n"
+        )
+    }
+
+    /// The section that tells of memory.
+    fn memory<S: Files + Alloc<A = Global>>(
+        &self,
+        system: &S,
+        alloc: Global,
+    ) -> Result<String, AllocError> {
+        let held = self.figures.bytes_held();
+        let resident = resident_bytes(system).unwrap_or(0);
+        let bound = self.settings.max_memory;
+        format!(in alloc;
+            "# Memory\r\nused_memory:{held}\r\nused_memory_rss:{resident}\r\nmaxmemory:{bound}\r\n\
+            maxmemory_policy:noeviction\r\n"
+        )
+    }
+
+    /// The section that tells of the log.
+    fn persistence(&self, alloc: Global) -> Result<String, AllocError> {
+        let enabled = u8::from(self.settings.log.is_some());
+        let policy = policy_name(self.settings.log);
+        format!(in alloc;
+            "# Persistence\r\nloading:0\r\naof_enabled:{enabled}\r\nlog_sync:{policy}\r\n"
+        )
+    }
+
+    /// The section that tells what was served.
+    fn stats(&self, alloc: Global, sums: Sums) -> Result<String, AllocError> {
+        let opened = sums.opened;
+        let replies = sums.replies;
+        let errors = sums.errors;
+        format!(in alloc;
+            "# Stats\r\ntotal_connections_received:{opened}\r\ntotal_commands_processed:{replies}\r\n\
+            total_error_replies:{errors}\r\n"
+        )
+    }
+
+    /// The text of a section.
+    fn section<S: Clock + Files + Alloc<A = Global>>(
+        &self,
+        system: &S,
+        alloc: Global,
+        section: Section,
+    ) -> Result<String, AllocError> {
+        match section {
+            Section::Server => self.server(system, alloc),
+            Section::Clients => self.clients(alloc, self.figures.sums()),
+            Section::Memory => self.memory(system, alloc),
+            Section::Persistence => self.persistence(alloc),
+            Section::Stats => self.stats(alloc, self.figures.sums()),
+            Section::Replication => {
+                format!(in alloc; "# Replication\r\nrole:master\r\nconnected_slaves:0\r\n")
+            }
+            Section::Keyspace => keyspace(alloc, self.figures.keys()),
+        }
+    }
+
+    /// The sections that these words name, all if there is none, with an empty line between two.
+    pub fn text<S: Clock + Files + Alloc<A = Global>>(
+        &self,
+        system: &S,
+        alloc: Global,
+        named: &Words<'_>,
+    ) -> Result<Bytes, AllocError> {
+        let mut text = Vec::new(alloc);
+        for section in SECTIONS {
+            if !is_asked(section, named) {
+                continue;
+            }
+            if !text.is_empty() {
+                text.extend_from_slice(b"\r\n")?;
+            }
+            text.extend_from_slice(self.section(system, alloc, section)?.as_bytes())?;
+        }
+        Ok(Bytes::new(text))
+    }
+}

@@ -1,0 +1,14 @@
+use Rattle.std.proofs.Common.{◌≡◌, ℕ, List}
+use Rattle.xs_session.specs.declared.manner.Manner.{Manner}
+use Rattle.xs_command.specs.declared.command.Command.{Command}
+use Rattle.xs_desk.specs.Callers.{Caller}
+use Rattle.xs_work.specs.Ahead.{IsAheadAfter}
+use Rattle.xs_work.proofs.ahead.submit.Given as goal
+
+-- answers have come, and the call isn't submitted yet
+abbrev pub invariant-loop : goal.invariant-loop
+invariant-loop g l = record {
+  after : (first : Caller) (manner : Manner) (read : List ℕ) (asked put : List Command) (sent : List ℕ) → IsAheadAfter first l.fn.client manner read asked put sent l.fn.session
+      → IsAheadAfter first l.client manner read asked put sent l.session;
+  same : l.call ≡ l.fn.call;
+}

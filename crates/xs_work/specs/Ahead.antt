@@ -1,0 +1,115 @@
+-- A connection whose requests are asked through a lane, several at once.
+use Rattle.std.specs.Prelude.{◌≡◌, ◌≢◌, ℕ, ◌<◌, ◌≤◌, Bool, true, false, List, [], ◌++◌, length, map}
+use Rattle.std.specs.Prelude.{Option, Some, None, Result, Ok, Err}
+use Rattle.xs_resp.specs.declared.reply.Reply.{Reply}
+use Rattle.xs_resp.specs.Grammar.{IsOpen}
+use Rattle.xs_devices.specs.Passing.{Passing, IsAtEnd}
+use Rattle.xs_resp.specs.HeldBytes.{Held}
+use Rattle.xs_resp.specs.LeftToWrite.{bytes_left}
+use Rattle.xs_command.specs.declared.command.Command.{Command}
+use Rattle.xs_desk.specs.declared.answer.Answer.{Answer}
+use Rattle.xs_desk.specs.Callers.{Caller}
+use Rattle.xs_connection.specs.declared.standing.Standing.{Standing}
+use Rattle.xs_session.specs.declared.manner.Manner.{Manner}
+use Rattle.xs_session.specs.declared.ending.Ending.{Ending}
+use Rattle.xs_session.specs.declared.ending.Ending.TheVariants as ending
+use Rattle.xs_session.specs.declared.session.Session.{Session}
+use Rattle.xs_session.specs.Places.{has_open}
+use Rattle.xs_session.specs.Session.{IsAfter, SessionIsAfter, Waits}
+use Rattle.xs_work.specs.declared.ahead.AheadFault.{AheadFault}
+use Rattle.xs_work.specs.declared.ahead.AheadFault.TheVariants as fault
+
+-- since it was as at first these commands were submitted through the lane, in this order, and its answers that were
+-- taken have these replies, in this order
+pub record Calls (first now : Caller) (put : List Command) (got : List Reply) : Type 0 where
+  pub answers : List Answer
+  pub got_is : got ≡ map (λ a. a.reply) answers
+  pub client_is : now ≡ record first { submitted = first.submitted ++ put; taken = first.taken ++ answers }
+
+-- a session and its lane: what was asked, and what of it was submitted
+pub record IsAheadAfter
+    (first now : Caller) (manner : Manner) (read : List ℕ) (asked put : List Command) (sent : List ℕ)
+    (session : Session) : Type 0 where
+  pub got : List Reply
+  pub after : SessionIsAfter manner read asked got sent session
+  pub calls : Calls first now put got
+
+-- a text that lacks some bytes of the whole one
+abbrev pub IsPart : List ℕ → List ℕ → Type 0
+IsPart part whole = (more : List ℕ) × (whole ≡ part ++ more) × (0 < length more)
+
+-- behind the bytes that were sent before, these were, and some of what is owed wasn't
+pub record BreaksOff
+    (manner : Manner) (read : List ℕ) (asked : List Command) (got : List Reply) (sent more : List ℕ) (session : Session)
+    : Type 0 where
+  pub before : List ℕ
+  pub part : List ℕ
+  pub rest : List ℕ
+  pub more_is : more ≡ before ++ part
+  pub after : SessionIsAfter manner read asked got (sent ++ before) session
+  pub owed_is : bytes_left session.owed ≡ part ++ rest
+  pub some : 0 < length rest
+
+-- nothing is waited for or owed
+abbrev pub IsDone : List (Option Reply) → List ℕ → Type 0
+IsDone places owed = (places ≡ []) × (owed ≡ [])
+
+-- How a connection ends. If the writer fails, some of what is owed wasn't sent, and at most 32 answers weren't begun.
+abbrev pub AheadEnds : Result Ending AheadFault → Option Ending → Held → List (Option Reply) → List ℕ → Type 0
+AheadEnds (Ok ending.Closed) ended held places owed = (ended ≡ None) × (held ≡ Ok []) × IsDone places owed
+AheadEnds (Ok ending.Cut) ended held places owed =
+    (ended ≡ None) × ((bytes : List ℕ) × (held ≡ Ok bytes) × (bytes ≢ []) × IsOpen bytes) × IsDone places owed
+AheadEnds (Ok end) ended held places owed = (ended ≡ Some end) × IsDone places owed
+AheadEnds (Err fault.Read) ended held places owed = Waits ended held × IsDone places owed
+AheadEnds (Err fault.Memory) ended held places owed = Waits ended held × IsDone places owed
+AheadEnds (Err fault.Write) ended held places owed =
+    (has_open places ≡ false) × (0 < length owed) × (length places ≤ 32)
+AheadEnds (Err fault.Port) ended held places owed = Unit {0}
+
+-- what a reader that has these bytes left, and a writer, tell of how a connection ended
+abbrev pub HasCauseOf : Result Ending AheadFault → Passing → Bool → Bool → Bool → Type 0
+HasCauseOf (Ok ending.Closed) rest ended broken unwritten = IsAtEnd rest × (ended ≡ true)
+HasCauseOf (Ok ending.Cut) rest ended broken unwritten = IsAtEnd rest × (ended ≡ true)
+HasCauseOf (Err fault.Read) rest ended broken unwritten = broken ≡ true
+HasCauseOf (Err fault.Write) rest ended broken unwritten = unwritten ≡ true
+HasCauseOf _ rest ended broken unwritten = Unit {0}
+
+-- the writer failed, or nobody answers
+abbrev pub IsLost : AheadFault → Bool → Type 0
+IsLost fault.Write unwritten = unwritten ≡ true
+IsLost fault.Port unwritten = Unit {0}
+IsLost _ unwritten = ⊥
+
+-- a connection ends by this fault
+pub record AheadFails
+    (wrong : AheadFault) (first now : Caller) (manner : Manner) (read : List ℕ) (asked put : List Command)
+    (sent : List ℕ) : Type 0 where
+  pub got : List Reply
+  pub standing : Standing
+  pub ended : Option Ending
+  pub held : Held
+  pub places : List (Option Reply)
+  pub owed : List ℕ
+  pub after : IsAfter manner standing read asked got sent ended held places owed
+  pub calls : Calls first now put got
+  pub ends : AheadEnds (Err wrong) ended held places owed
+  pub closed : wrong ≢ fault.Port → has_open places ≡ false
+
+-- A whole connection: what its requests ask was submitted through the lane, in order, each once and nothing else; the
+-- replies are those of the answers that were taken meanwhile, in order; and what was sent is their texts, with the
+-- errors in their places. But where nobody answers any more, as many answers were taken as were asked.
+pub record ServesAhead
+    (result : Result Ending AheadFault) (first now : Caller) (manner : Manner) (read sent : List ℕ) : Type 0 where
+  pub asked : List Command
+  pub put : List Command
+  pub got : List Reply
+  pub standing : Standing
+  pub ended : Option Ending
+  pub held : Held
+  pub places : List (Option Reply)
+  pub owed : List ℕ
+  pub after : IsAfter manner standing read asked got sent ended held places owed
+  pub calls : Calls first now put got
+  pub all : result ≢ Err fault.Port → (put ≡ asked) × (length got ≡ length asked)
+  pub last : (unasked : List Command) × (asked ≡ put ++ unasked) × (length unasked < 2)
+  pub ends : AheadEnds result ended held places owed

@@ -1,0 +1,67 @@
+-- A worker: it serves the connections of a gate, one after the other, through a lane.
+use Rattle.std.specs.Prelude.{◌≡◌, ◌≢◌, ℕ, ◌⊎◌, Bool, true, false, List, [], ◌∷◌, ◌++◌, codes, slice_get}
+use Rattle.std.specs.Prelude.{Some, Result, Err}
+use Rattle.xs_devices.specs.Passing.{Appends, Consumes}
+use Rattle.xs_resp.specs.Line.{crlf}
+use Rattle.xs_desk.specs.Callers.{Caller}
+use Rattle.xs_session.specs.declared.manner.Manner.{Manner}
+use Rattle.xs_session.specs.declared.ending.Ending.{Ending}
+use Rattle.xs_work.specs.declared.ahead.AheadFault.{AheadFault}
+use Rattle.xs_work.specs.declared.ahead.AheadFault.TheVariants as fault
+use Rattle.xs_work.specs.Ahead.{ServesAhead, HasCauseOf}
+use Rattle.xs_work.specs.Gates.{Seen, GateTrace, AreFresh}
+
+-- what a client is told for whom there is no memory
+abbrev pub no_memory : List ℕ
+no_memory = codes "-OOM out of memory" ++ crlf
+
+-- the client of a connection that ended out of memory was told so, unless the writer failed; no other one was
+abbrev pub IsTold : Result Ending AheadFault → List ℕ → Bool → Type 0
+IsTold (Err fault.Memory) told unwritten =
+    (rest : List ℕ) × (no_memory ≡ told ++ rest) × ((rest ≡ []) ⊎ (unwritten ≡ true))
+IsTold _ told unwritten = told ≡ []
+
+-- a connection, from what was given to what came back: these bytes were read of it, and what they ask was submitted
+-- through the lane; the answers were sent; and it ended so, for a cause that its reader and writer tell
+pub record ServesOne
+    (manner : Manner) (result : Result Ending AheadFault) (first last : Caller) (given back : Seen) : Type 0 where
+  pub read : List ℕ
+  pub sent : List ℕ
+  pub told : List ℕ
+  pub consumes : Consumes given.rest back.rest read
+  pub appends : Appends given.held back.held (sent ++ told)
+  pub served : ServesAhead result first last manner read sent
+  pub cause : HasCauseOf result back.rest back.ended back.unread back.unwritten
+  pub is_told : IsTold result told back.unwritten
+
+-- the connections that were given are those that came back, one by one and in order; nothing had passed through any
+-- before; each was served through the lane, and nothing else was submitted or taken; and unless the lane was lost, all
+-- were answered
+abbrev pub ServesEach : Manner → Bool → Caller → List Seen → List Seen → Caller → Type 0
+ServesEach manner lost first [] [] last = last ≡ first
+ServesEach manner lost first (one ∷ given) (back ∷ returned) last =
+    (result : Result Ending AheadFault) × (mid : Caller) × (lost ≡ false → result ≢ Err fault.Port)
+    × AreFresh one.rest one.held × ServesOne manner result first mid one back
+    × ServesEach manner lost mid given returned last
+ServesEach manner lost first _ _ last = ⊥
+
+-- so were the connections that the gate gave meanwhile
+pub record ServesGate (lost : Bool) (first last : Caller) (before now : GateTrace) : Type 0 where
+  pub given : List Seen
+  pub returned : List Seen
+  pub given_is : now.given ≡ before.given ++ given
+  pub returned_is : now.returned ≡ before.returned ++ returned
+  pub manner_is : now.manner ≡ before.manner
+  pub served : ServesEach before.manner lost first given returned last
+
+-- What a worker did. Without a fault it served its gate to the end.
+pub record Works (faulty : Bool) (first last : Caller) (before now : GateTrace) : Type 0 where
+  pub served : ServesGate faulty first last before now
+  pub over : faulty ≡ false → now.is_over ≡ true
+
+-- so did each worker, from its client to its end, over its gate
+abbrev pub WorkEach : Bool → List Caller → List Caller → List GateTrace → List GateTrace → Type 0
+WorkEach faulty clients ends before now =
+    (i : ℕ) (end : Caller) → slice_get ends i ≡ Some end
+    → (client : Caller) × (first last : GateTrace) × (slice_get clients i ≡ Some client)
+    × (slice_get before i ≡ Some first) × (slice_get now i ≡ Some last) × Works faulty client end first last

@@ -1,0 +1,67 @@
+//! What a gate gave and what came back, as clauses see it.
+ghost use Rattle.std.specs.Prelude.{◌≡◌};
+ghost use Rattle.xs_session.specs.declared.manner.Manner.TheVariants.{Plain};
+ghost use Rattle.xs_work.specs.Gates.{new_gate, seen, with_given, with_returned, at_end};
+
+use std::marker::Model;
+use xs_devices::{Sink, Source};
+use xs_trace::Trace;
+
+/// The register of a gate whose sessions answer no commands of a connection. Contracts see the connections that were
+/// given, those that came back, and whether none is given any more. It keeps none of them.
+#[derive(Drop)]
+pub struct Register<R: Source + Drop, W: Sink + Drop> {
+    given: Trace<(R, W)>,
+    returned: Trace<(R, W)>,
+    is_over: bool,
+}
+
+impl<R: Source + Drop, W: Sink + Drop> Model for Register<R, W> {
+    ghost use Rattle.xs_session.specs.declared.manner.Manner.TheVariants.{Plain};
+    ghost use Rattle.xs_work.specs.Gates.{GateTrace, all_seen};
+
+    ghost Value = { GateTrace };
+
+    ghost view = { λ r. record {
+      manner = Plain;
+      given = all_seen R.rest R.ended R.broken W.held W.broken r.given;
+      returned = all_seen R.rest R.ended R.broken W.held W.broken r.returned;
+      is_over = r.is_over;
+    } };
+}
+
+impl<R: Source + Drop, W: Sink + Drop> Register<R, W> {
+    /// None was given yet. It takes no memory.
+    pub fn new() -> Self
+        ensures { result ≡ new_gate Plain }
+    {
+        Self {
+            given: Trace::new(),
+            returned: Trace::new(),
+            is_over: false,
+        }
+    }
+
+    /// This connection is given.
+    pub fn give(&mut self, one: &(R, W))
+        ensures { self.new ≡ with_given self.old (seen (R.rest one.now.0) (R.ended one.now.0) (R.broken one.now.0)
+            (W.held one.now.1) (W.broken one.now.1)) }
+    {
+        self.given.add(one);
+    }
+
+    /// This connection came back.
+    pub fn take_back(&mut self, one: &(R, W))
+        ensures { self.new ≡ with_returned self.old (seen (R.rest one.now.0) (R.ended one.now.0) (R.broken one.now.0)
+            (W.held one.now.1) (W.broken one.now.1)) }
+    {
+        self.returned.add(one);
+    }
+
+    /// No further connection is given.
+    pub fn end(&mut self)
+        ensures { self.new ≡ at_end self.old }
+    {
+        self.is_over = true;
+    }
+}
