@@ -102,6 +102,8 @@ def guarded(name, words, there, **how):
 
 GUARDED = [
     guarded("redis-py", [PYTHON, in_here("guarded/redis_py.py")], [PYTHON, "-c", "import redis"]),
+    guarded("hiredis", ["@/hiredis"], ["sh", "-c", "command -v cc && test -f /usr/include/hiredis/hiredis.h"],
+            made=["cc", "-O1", "-o", "@/hiredis", in_here("guarded/hiredis.c"), "-lhiredis"]),
     guarded("node-redis", ["node", in_here("guarded/node_redis.js")], ["node", "-e", 'require("redis")'],
             surroundings=NODE),
     guarded("redis-rb", ["ruby", in_here("guarded/redis_rb.rb")], ["ruby", "-e", 'require "redis"']),

@@ -6,7 +6,6 @@ Left out is where this server and Redis 7.0 say something else, and each for a r
   consumers of CREATECONSUMER have names of their own, which never read;
 - an id twice in XCLAIM; IDLE that is past now there, and a RETRYCOUNT below 0; a key twice in XREADGROUP; the greatest
   id as the start of a read; counts of deliveries near the greatest;
-- XINFO STREAM FULL, which tells consumers and what groups have read among the rest;
 - a BLOCK that waits for long; FORCE, LASTID, ENTRIESREAD and SETID;
 - words that are refused here, where Redis doesn't read them or passes over them: ids of XDEL and XACK that are none,
   as a key may be missing, no id at all in XCLAIM, more words behind the long form of XPENDING.
@@ -111,7 +110,8 @@ class Maker:
 
     def information(self):
         key = self.key()
-        return ["XINFO", *self.one(["STREAM", key], ["GROUPS", key], ["CONSUMERS", key, self.group()])]
+        full = ["STREAM", key, "FULL", *self.chance(0.5, ["COUNT", self.number(-1, 4)])]
+        return ["XINFO", *self.one(["STREAM", key], full, ["GROUPS", key], ["CONSUMERS", key, self.group()])]
 
     def scan(self):
         key = self.key()

@@ -3,13 +3,14 @@
 - the radix tree of a stream is ours;
 - of groups Redis counts what was read, and how many entries are ahead it reckons from that, which goes wrong once some
   were deleted or trimmed;
-- of consumers it knows some more, without pending entries, and the idle time is of something else.
+- of consumers it knows some more, without pending entries, and the idle time is of something else;
+- the moments of deliveries are those of the clock there.
 """
 import io
 
 from kinds import parsed
 
-OWN = {"radix-tree-keys", "radix-tree-nodes", "entries-read", "lag", "idle"}
+OWN = {"radix-tree-keys", "radix-tree-nodes", "entries-read", "lag", "idle", "seen-time"}
 
 
 def named(pairs):
@@ -28,12 +29,34 @@ def consumers(told):
     return [one for one in map(named, told) if one["pending"]]
 
 
+def rows(told):
+    """Pending rows without the moments of their deliveries, which stand before the count."""
+    return [[*row[:-2], row[-1]] for row in told]
+
+
+def with_rows(told):
+    """A group or a consumer of XINFO STREAM FULL."""
+    one = named(told)
+    one["pending"] = rows(one["pending"])
+    return one
+
+
+def whole(told):
+    """A stream of XINFO STREAM FULL, with its groups and their consumers that have pending entries."""
+    stream = named(told)
+    stream["groups"] = [with_rows(group) for group in stream["groups"]]
+    for group in stream["groups"]:
+        group["consumers"] = [one for one in map(with_rows, group["consumers"]) if one["pel-count"]]
+    return stream
+
+
 def agree(words, here, there):
     """Whether both replies to XINFO tell the same."""
     ours, theirs = (parsed(io.BytesIO(reply)) for reply in (here, there))
     what = words[1].upper()
     if what == "STREAM":
-        return named(ours) == named(theirs)
+        told = whole if len(words) > 3 else named
+        return told(ours) == told(theirs)
     if what == "GROUPS":
         return groups(ours) == groups(theirs)
     return consumers(ours) == consumers(theirs)

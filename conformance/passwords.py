@@ -116,6 +116,15 @@ def lines_of_a_file(program):
             say(stream, "PING", PONG.decode())
 
 
+def as_long_as_may_be(program):
+    """A password may have as many bytes as a word of a client that hasn't given it."""
+    password = b"x" * 16_384
+    with guarded(program, content=password + b"\r\n", workers=1) as server, raw(server.port) as stream:
+        for given, reply in ((password[:-1], WRONG), (password, OK)):
+            stream.sendall(request([b"AUTH", given]))
+            assert (got := read_exactly(stream, len(reply))) == reply.encode(), got
+
+
 def run(program, *options):
     """What becomes of `run` with these options, which ends by itself."""
     words = [*served.words_of_run(program, served.free_port(), 1), *options]
@@ -124,9 +133,11 @@ def run(program, *options):
 
 def files_of_no_password(program):
     """Without a password in its file the program ends with 1 and says why; it says too if others may read it."""
-    with password_file(b"") as empty, password_file(b"\r\nsecret\n") as late, tempfile.TemporaryDirectory() as folder:
+    with (password_file(b"") as empty, password_file(b"\r\nsecret\n") as late,
+          password_file(b"x" * 16_385 + b"\n") as long, tempfile.TemporaryDirectory() as folder):
         none = os.path.join(folder, "none")
-        for path, cause in ((empty, b"empty"), (late, b"empty"), (none, b"can't be read"), (folder, b"read")):
+        for path, cause in ((empty, b"empty"), (late, b"empty"), (none, b"can't be read"), (folder, b"read"),
+                            (long, b"more than 16384 bytes")):
             done = run(program, "--password-file", path)
             assert (done.returncode, done.stdout, done.stderr.count(b"\n")) == (1, b"", 1), done
             assert path.encode() in done.stderr and cause in done.stderr, done
@@ -203,6 +214,11 @@ def is_late(server, place):
         elif place == 2:
             stream.sendall(b"*2\r\n$4\r\nAUTH\r\n$16384\r\n")
             ends_in_time(stream, began, b"x")
+        elif place == 3:
+            say(stream, "AUTH secret", OK)
+            time.sleep(2)
+            say(stream, "RESET", "+RESET\r\n")
+            ends_in_time(stream, time.monotonic(), asking("AUTH wrong"))
         else:
             time.sleep(TIME - 2)
             say(stream, "AUTH secret", OK)
@@ -211,9 +227,10 @@ def is_late(server, place):
 
 
 def have_ten_seconds(program):
-    """A client that has given no password after ten seconds is closed, whatever it sends; another one stays."""
-    with guarded(program, workers=4) as server:
-        together(4, lambda place: is_late(server, place))
+    """A client that has given no password after ten seconds is closed, whatever it sends, and also behind a RESET; another
+    one stays."""
+    with guarded(program, workers=5) as server:
+        together(5, lambda place: is_late(server, place))
         # They have left their workers to others.
         with raw(server.port) as stream:
             say(stream, "AUTH secret", OK)
@@ -230,6 +247,6 @@ def idle_before_the_password(program):
             assert 0.9 <= took <= 2.5, f"it ended after {took:.2f} s"
 
 
-CASES = [keeps_strangers_out, in_one_pipeline, one_after_the_other, lines_of_a_file, files_of_no_password,
+CASES = [keeps_strangers_out, in_one_pipeline, one_after_the_other, lines_of_a_file, as_long_as_may_be, files_of_no_password,
          others_may_reach_it, too_much]
 AT_ONCE = [have_ten_seconds, idle_before_the_password]

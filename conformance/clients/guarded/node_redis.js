@@ -14,7 +14,7 @@ async function work(queue) {
   await adding.exec();
   const done = new Set();
   for (;;) {
-    const found = await queue.xReadGroup("workers", "one", { key: "jobs", id: ">" }, { COUNT: 100 });
+    const found = await queue.xReadGroup("workers", "one", { key: "jobs", id: ">" }, { COUNT: 100, BLOCK: 100 });
     if (found === null) {
       break;
     }

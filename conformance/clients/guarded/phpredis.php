@@ -14,7 +14,7 @@ for ($number = 0; $number < 1000; $number++) {
 }
 $queue->exec();
 $done = [];
-while ($found = $queue->xReadGroup('workers', 'one', ['jobs' => '>'], 100)) {
+while ($found = $queue->xReadGroup('workers', 'one', ['jobs' => '>'], 100, 100)) {
     $queue->multi();
     foreach ($found['jobs'] as $id => $fields) {
         $done[$fields['number']] = true;

@@ -22,7 +22,7 @@ echo 'transaction: ', implode(' ', $together(['XADD t 1-0 f v', 'XLEN t'])), "\n
 $ask('XGROUP CREATE jobs workers 0 MKSTREAM');
 $together(array_map(function ($number) { return "XADD jobs * number $number"; }, range(0, 999)));
 $done = [];
-while ($found = $ask('XREADGROUP GROUP workers one COUNT 100 STREAMS jobs >')) {
+while ($found = $ask('XREADGROUP GROUP workers one COUNT 100 BLOCK 100 STREAMS jobs >')) {
     $ends = [];
     foreach ($found[0][1] as list($id, $fields)) {
         $done[$fields[1]] = true;

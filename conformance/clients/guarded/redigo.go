@@ -45,7 +45,7 @@ func main() {
 	must(queue.Do("EXEC"))
 	done := map[string]bool{}
 	for {
-		found := must(queue.Do("XREADGROUP", "GROUP", "workers", "one", "COUNT", 100, "STREAMS", "jobs", ">"))
+		found := must(queue.Do("XREADGROUP", "GROUP", "workers", "one", "COUNT", 100, "BLOCK", 100, "STREAMS", "jobs", ">"))
 		if found == nil {
 			break
 		}

@@ -12,7 +12,7 @@ for number in range(1000):
     adding.xadd("jobs", {"number": number})
 adding.execute()
 done = set()
-while found := queue.xreadgroup("workers", "one", {"jobs": ">"}, count=100):
+while found := queue.xreadgroup("workers", "one", {"jobs": ">"}, count=100, block=100):
     ending = queue.pipeline()
     for identifier, fields in found[0][1]:
         done.add(fields["number"])

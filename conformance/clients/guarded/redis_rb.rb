@@ -11,7 +11,7 @@ puts "transaction: #{told}"
 queue.xgroup(:create, "jobs", "workers", "0", mkstream: true)
 queue.multi { |together| 1000.times { |number| together.xadd("jobs", { "number" => number }) } }
 done = {}
-until (found = queue.xreadgroup("workers", "one", "jobs", ">", count: 100)).empty?
+until (found = queue.xreadgroup("workers", "one", "jobs", ">", count: 100, block: 100)).empty?
   queue.multi do |together|
     found["jobs"].each do |id, fields|
       done[fields["number"]] = true

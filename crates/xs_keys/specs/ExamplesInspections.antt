@@ -1,5 +1,5 @@
--- What is told of a content, by examples: the replies to XINFO, EXISTS, TYPE and DBSIZE, as a real Redis 7.0 gives them. Its
--- lag and its seen-time differ (docs/COMMANDS.md), and are this server's own here.
+-- What is told of a content, by examples: the replies to XINFO, EXISTS, TYPE and DBSIZE, as a real Redis 7.0 gives them.
+-- Its lag, entries-read and seen-time differ (docs/COMMANDS.md), and are this server's own here.
 use Rattle.std.specs.Prelude.{ℕ, ◌+◌, List, [], ◌∷◌, ◌++◌, codes}
 use Rattle.xs_resp.specs.declared.fault.Fault.TheVariants.{MissingKey, NoGroup}
 use Rattle.xs_resp.specs.declared.reply.Simple.TheVariants.{Stream, Nothing}

@@ -16,6 +16,9 @@ use xs_work::say;
 /// The permissions of a file by which others than its owner read it.
 const READ_BY_OTHERS: u32 = 0o044;
 
+/// How long a password may be: as long as a word of a client that hasn't given it.
+const MOST_BYTES: usize = 16_384;
+
 /// Why a file gives no password.
 #[derive(Clone, Copy, Debug, PartialEq, Eq, Error)]
 pub enum PasswordFault {
@@ -25,6 +28,9 @@ pub enum PasswordFault {
     /// Its first line is empty.
     #[error("its first line is empty")]
     Empty,
+    /// No client could give it: its first line is too long.
+    #[error("its first line has more than 16384 bytes")]
+    Long,
     /// Out of memory.
     #[error("out of memory")]
     Memory,
@@ -61,6 +67,9 @@ fn read_password<R: Files + Alloc<A = Global>>(
     let line = first_line(text.as_slice());
     if line.is_empty() {
         return Err(PasswordFault::Empty);
+    }
+    if line.len() > MOST_BYTES {
+        return Err(PasswordFault::Long);
     }
     let mut kept = Vec::new(alloc);
     if kept.extend_from_slice(line).is_err() {

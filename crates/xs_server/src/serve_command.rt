@@ -17,7 +17,7 @@ use std::time::Clock;
 use xs_clock::WallClock;
 use xs_devices::{Sink, ToWrite};
 use xs_tcp::announcement::Announcement;
-use xs_tcp::tcp::TcpGate;
+use xs_tcp::serve_gate::TcpGate;
 use xs_work::{Gate, work};
 
 /// How many places the rings of a lane have.

@@ -1,7 +1,7 @@
 //! The door of a server that stays: one thread takes connections from the listener, another shows those out for which
 //! no worker was free in time. Nothing that these sent is executed.
 use crate::hall::{Hall, Overdue};
-use crate::tcp::{AfterFailure, after_failure};
+use crate::serve_gate::{AfterFailure, after_failure};
 use std::alloc::{AllocError, Global};
 use std::io::{ErrorKind, Read, Write};
 use std::net::{Shutdown, TcpListener, TcpStream};

@@ -21,6 +21,9 @@ const AHEAD: usize = 1_048_576;
 
 const PIECE: usize = 4096;
 
+/// How many seconds a client has to give the password.
+const SECONDS_FOR_PASSWORD: u64 = 10;
+
 /// What both halves of a connection share, and then those of the next one.
 #[derive(Drop)]
 struct Shared {
@@ -71,6 +74,19 @@ fn let_in(shared: &mut Shared) {
     if let Some(stream) = shared.stream.as_ref() {
         set_patience(stream, shared.idle);
     }
+}
+
+/// The client has to give the password, by a deadline that begins now unless there is one.
+fn ask_for_password<S: Clock>(system: &S, shared: &mut Shared) {
+    if shared.deadline.is_none() {
+        shared.deadline = Some(password_deadline(system));
+    }
+}
+
+/// When a client of now has to have given the password, by the monotonic clock. Without a clock that is at once.
+pub fn password_deadline<S: Clock>(system: &S) -> Duration {
+    let now = system.monotonic().unwrap_or(Duration::ZERO);
+    now.saturating_add(Duration::from_secs(SECONDS_FOR_PASSWORD))
 }
 
 /// The error of a half that is used by two at once, or behind the end of its connection.
@@ -259,6 +275,13 @@ impl Peer {
     pub fn let_in(&self) {
         if let Some(mut shared) = self.shared.try_lock() {
             let_in(&mut shared);
+        }
+    }
+
+    /// The client of the present connection has to give the password, by a deadline that begins now unless there is one.
+    pub fn ask_for_password<S: Clock>(&self, system: &S) {
+        if let Some(mut shared) = self.shared.try_lock() {
+            ask_for_password(system, &mut shared);
         }
     }
 

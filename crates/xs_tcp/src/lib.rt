@@ -11,4 +11,4 @@ pub mod information;
 pub mod limits;
 pub mod patience;
 pub mod run_gate;
-pub mod tcp;
+pub mod serve_gate;

@@ -88,6 +88,10 @@ impl<S: Wait + Clock + Drop> Attend for Watch<S> {
         self.peer.let_in();
     }
 
+    fn ask_for_password(&self) {
+        self.peer.ask_for_password(&self.system);
+    }
+
     fn rest(&self) {
         thread::sleep(&self.system, Duration::from_millis(REST_MILLIS));
     }

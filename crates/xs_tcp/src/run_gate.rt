@@ -6,7 +6,7 @@ ghost use Rattle.xs_work.specs.Gates.{AreFresh, new_gate};
 use crate::announcement::Announcement;
 use crate::figures::{SharedFigures, WorkerFigures};
 use crate::hall::Hall;
-use crate::halves::{Halves, HalvesMemory, Incoming, Outgoing, Peer};
+use crate::halves::{Halves, HalvesMemory, Incoming, Outgoing, Peer, password_deadline};
 use std::alloc::{AllocError, Global};
 use std::net::TcpStream;
 use std::sync::{Arc, Wait};
@@ -15,9 +15,6 @@ use xs_connection::Password;
 use xs_devices::{FromRead, Sink, Source, ToWrite};
 use xs_session::Manner;
 use xs_work::{Gate, GateFault, Register};
-
-/// How many seconds a client has to give the password.
-const SECONDS_FOR_PASSWORD: u64 = 10;
 
 /// A gate that takes connections from a hall, which other gates share.
 #[derive(Drop)]
@@ -85,11 +82,10 @@ impl<S: Clock + Wait + Copy + Drop> RunGate<S> {
         Arc::try_clone(&self.figures)
     }
 
-    /// When a connection of now ends whose client hasn't given the password. Without a clock that is at once.
+    /// When a connection of now ends whose client hasn't given the password.
     fn deadline(&self) -> Option<Duration> {
         self.password.as_ref()?;
-        let now = self.system.monotonic().unwrap_or(Duration::ZERO);
-        Some(now.saturating_add(Duration::from_secs(SECONDS_FOR_PASSWORD)))
+        Some(password_deadline(&self.system))
     }
 
     /// Both halves of a stream.

@@ -387,9 +387,14 @@ impl<P: Attend> Inform for Informant<'_, P> {
     }
 }
 
-/// Lets the client take its time if it has given the password.
+/// If a password is wanted, lets the client take its time once it has given it, and no longer if RESET took it away.
 fn greet<P: Attend>(manner: &Manner, session: &Session, pause: &P) {
-    if matches!(manner, Manner::Full(Some(_))) && !manner.is_stranger(&session.standing) {
+    if !matches!(manner, Manner::Full(Some(_))) {
+        return;
+    }
+    if manner.is_stranger(&session.standing) {
+        pause.ask_for_password();
+    } else {
         pause.let_in();
     }
 }

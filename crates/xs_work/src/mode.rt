@@ -16,6 +16,9 @@ pub trait Attend: Pause {
     /// Lets the client of the present connection take its time from now on.
     fn let_in(&self);
 
+    /// The client of the present connection has to give the password, by a deadline that begins now unless there is one.
+    fn ask_for_password(&self);
+
     /// Lets other threads go on for a moment.
     fn rest(&self);
 
@@ -28,6 +31,8 @@ pub trait Attend: Pause {
 
 impl Attend for Idle {
     fn let_in(&self) {}
+
+    fn ask_for_password(&self) {}
 
     fn rest(&self) {
         for _ in 0..YIELDS {

@@ -9,7 +9,7 @@ use std::time::Duration;
 use xs_devices::{Failed, Source};
 use xs_tcp::halves::{HalvesMemory, Incoming, Peer};
 use xs_tcp::limits::{open_files_in, waiting_room};
-use xs_tcp::tcp::{AfterFailure, after_failure};
+use xs_tcp::serve_gate::{AfterFailure, after_failure};
 
 /// The server's reader of a connection. Before each read the client sends its next part, or ends what it sends.
 #[derive(Drop)]

@@ -1,7 +1,7 @@
 use Rattle.std.proofs.Common.{◌≡◌, List, [], ◌∷◌, ◌++◌, sym, ap, subst, arith, length, length-append}
 use Rattle.std.specs.List.{All}
 use Rattle.std.proofs.lemmas.List.Elements.{All-push}
-use Rattle.xs_tcp.specs.declared.tcp.TcpGate.{TcpGate}
+use Rattle.xs_tcp.specs.declared.serve_gate.TcpGate.{TcpGate}
 use Rattle.xs_session.specs.declared.manner.Manner.TheVariants.{Plain}
 use Rattle.xs_work.specs.Gates.{new_gate, with_manner}
 use Rattle.xs_server.proofs.serve_command.gates_of.Goals as goal

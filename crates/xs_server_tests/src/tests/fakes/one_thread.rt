@@ -36,6 +36,8 @@ impl Pause for Beside {
 impl Attend for Beside {
     fn let_in(&self) {}
 
+    fn ask_for_password(&self) {}
+
     fn rest(&self) {}
 
     fn inform(&self, alloc: Global, _sections: &Words<'_>) -> Result<Bytes, AllocError> {
