@@ -13,8 +13,6 @@ pub mod reply;
 pub mod request;
 pub mod requests;
 mod sequence;
-#[cfg(test)]
-mod tests;
 pub mod tokens;
 mod word;
 pub mod writing;

@@ -1,8 +1,8 @@
 //! Replies that are written piece by piece.
-use super::*;
 use std::alloc::{AllocError, Global};
 use std::test::Fail;
 use xs_bytes::Bytes;
+use xs_resp::{Encoder, Replies, Reply, Simple, Tokens};
 
 /// A string of so many bytes, no two neighbours of which are alike.
 fn string(alloc: Global, length: usize) -> Result<Vec<u8>, AllocError> {
@@ -14,7 +14,7 @@ fn string(alloc: Global, length: usize) -> Result<Vec<u8>, AllocError> {
 }
 
 /// An array of this string, five times.
-#[tactic(auto, unfolding(crate::specs::Whole::AreItems))]
+#[tactic(auto, unfolding(xs_resp::specs::Whole::AreItems))]
 fn five(alloc: Global, bytes: &[u8]) -> Result<Reply, AllocError> {
     let mut tokens = Tokens::new(alloc);
     tokens.push_bulk(bytes)?;
