@@ -21,7 +21,9 @@ struct SmallDesk {
 
 /// A desk of three lanes, whose keeper lets calls wait, with a group that has nothing new.
 fn small_desk<R: Abort>(rt: &R, alloc: Global) -> Result<SmallDesk, Fail> {
-    let (keeper, clients) = xs_desk::desk(alloc, 3, 4).map_err(|_| "a desk")?;
+    let Ok((keeper, clients)) = xs_desk::desk(alloc, 3, 4) else {
+        return Err(Fail::from("a desk"));
+    };
     let clock = Still::at(1000).ok_or("a clock")?;
     let mut desk = SmallDesk {
         keeper,
@@ -38,8 +40,10 @@ fn small_desk<R: Abort>(rt: &R, alloc: Global) -> Result<SmallDesk, Fail> {
 fn asks(alloc: Global, desk: &mut SmallDesk, lane: usize, line: &str) -> Result<(), Fail> {
     let command = read(alloc, line)?;
     let client = desk.clients.get_mut(lane).ok_or("a client")?;
-    client.submit(command).map_err(|_| "a full lane")?;
-    Ok(())
+    match client.submit(command) {
+        Ok(_) => Ok(()),
+        Err(_) => Err(Fail::from("a full lane")),
+    }
 }
 
 fn turn(desk: &mut SmallDesk) -> Option<u64> {

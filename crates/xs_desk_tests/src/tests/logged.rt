@@ -106,7 +106,10 @@ impl Scene {
     fn submit(&mut self, alloc: Global, lane: usize, line: &str) -> Result<bool, Fail> {
         let call = read_call(alloc, line)?;
         let client = self.clients.get_mut(lane).ok_or("a client")?;
-        Ok(client.submit_call(call).is_ok())
+        match client.submit_call(call) {
+            Ok(_) => Ok(true),
+            Err(_) => Ok(false),
+        }
     }
 
     /// The text of the next answer to a lane, if one was handed out.

@@ -97,10 +97,24 @@ fn askers(alloc: Global, lanes: usize, each: u64, seed: u64) -> Result<Vec<Askin
     Ok(jobs)
 }
 
-/// Whether a lane's first call came between the first one of another lane and its last: the two were at work at once.
+/// Whether a lane's first call came between the first one of another of these lanes and its last.
+fn begins_within_any(one: &Asking, jobs: &Vec<Asking>) -> bool {
+    for other in jobs {
+        if one.begins_within(other) {
+            return true;
+        }
+    }
+    false
+}
+
+/// Whether two lanes were at work at once.
 fn are_at_once(jobs: &Vec<Asking>) -> bool {
-    jobs.iter()
-        .any(|one| jobs.iter().any(|other| one.begins_within(other)))
+    for one in jobs {
+        if begins_within_any(one, jobs) {
+            return true;
+        }
+    }
+    false
 }
 
 /// Asks so many commands from each of so many lanes at once, and gives what was seen of them, and the desk's summary.

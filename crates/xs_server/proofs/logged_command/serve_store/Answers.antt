@@ -5,7 +5,7 @@ use Rattle.std.proofs.Crossing.{crosses}
 use Rattle.std.specs.declared.sync.Wait.{Ghosts}
 use Rattle.std.specs.declared.time.Clock as clock
 use Rattle.xs_trace.proofs.trace.Trace.TheLaws.TheKnot.{crosses as traces}
-use Rattle.xs_server.specs.contracts.run_gate.RunGate
+use Rattle.xs_tcp.specs.contracts.run_gate.RunGate
 use Rattle.xs_server.proofs.logged_command.serve_store.Goals as goal
 
 gate-send : (S : RattleType) (clocks : clock.Ghosts S.Denot) (waits : Ghosts S.Denot) → IsSend S → IsSend (RunGate.the_row S clocks waits)
