@@ -147,7 +147,9 @@ fn takes<R: Abort>(
 fn answers_wait_for_the_log(rt: HostRuntime) -> Result<(), Fail> {
     let alloc = rt.alloc();
     let mut scene = make_scene(alloc, 4, 100)?;
-    assert!(rt; scene.clients.iter().all(|client| client.wants_words()));
+    for client in &scene.clients {
+        assert!(rt; client.wants_words());
+    }
     assert!(rt; scene.submit(alloc, 0, "XADD s * f v")?);
     assert!(rt; scene.submit(alloc, 0, "XLEN s")?);
     assert!(rt; scene.submit(alloc, 1, "PING")?);

@@ -9,13 +9,23 @@ use xs_desk::{Client, Lane, Port, desk};
 use xs_resp::{Reply, Simple};
 use xs_testing::{Still, read};
 
+/// Whether a PING without a message is answered as such.
+fn is_answered<R: Wait>(rt: &R, lane: &mut Lane) -> bool {
+    matches!(
+        lane.ask(rt, Command::Ping(None)),
+        Ok(Reply::Simple(Simple::Pong))
+    )
+}
+
 /// Whether so many times a PING without a message is answered as such, over a lane with this client.
 pub fn are_answered<R: Wait>(rt: &R, client: Client, times: u64) -> bool {
     let mut lane = Lane::new(client);
-    (0..times).all(|_| matches!(
-        lane.ask(rt, Command::Ping(None)),
-        Ok(Reply::Simple(Simple::Pong))
-    ))
+    for _ in 0..times {
+        if !is_answered(rt, &mut lane) {
+            return false;
+        }
+    }
+    true
 }
 
 /// Whether a QUIT and a PING are answered as such a while later, when the keeper is idle.

@@ -117,6 +117,16 @@ fn are_at_once(jobs: &Vec<Asking>) -> bool {
     false
 }
 
+/// Whether each job has all its answers in order.
+fn are_in_order(jobs: &Vec<Asking>) -> bool {
+    for job in jobs {
+        if !is_in_order(job, 0) {
+            return false;
+        }
+    }
+    true
+}
+
 /// Asks so many commands from each of so many lanes at once, and gives what was seen of them, and the desk's summary.
 /// None says that a desk, a thread or memory for it is missing.
 pub fn ask_at_random<R: Threads + Wait + Sync>(
@@ -130,7 +140,7 @@ pub fn ask_at_random<R: Threads + Wait + Sync>(
     let trial = Trial::new(alloc, lanes, ON_THEIR_WAY / lanes.max(1)).ok()?;
     let (trial, jobs) = trial.together(rt, alloc, Slow { calls: 0 }, jobs).ok()?;
     let summary = trial.close(alloc)?;
-    if !jobs.iter().all(|job| is_in_order(job, 0)) {
+    if !are_in_order(&jobs) {
         return Some((Seen::Disorder, summary));
     }
     if lanes > 1 && !are_at_once(&jobs) {

@@ -91,7 +91,9 @@ fn each_call_is_answered_once(rt: HostRuntime) -> Result<(), Fail> {
         let jobs = adders(alloc, lanes)?;
         let trial = Trial::new(alloc, lanes as usize, depth)?;
         let (mut trial, jobs) = trial.together(&rt, alloc, clock, jobs)?;
-        assert!(rt; jobs.iter().all(|job| job.answered == TIMES));
+        for job in &jobs {
+            assert_eq!(rt; job.answered, TIMES);
+        }
         let all = lanes.saturating_mul(TIMES);
         assert_eq!(rt; length(alloc, &mut trial, &mut clock)?, Some((all, all)));
     }
