@@ -21,7 +21,7 @@ MORE = ["XADD x * f \1\0\1\1\0\2", "XREADGROUP GROUP g a COUNT 1 STREAMS x >",
         "XREADGROUP BLOCK 1 GROUP g a STREAMS x >", "XREADGROUP GROUP g a STREAMS x >", "XCLAIM x g b 0 1-0 0-1",
         "XAUTOCLAIM x g B 0 0 COUNT 1", "XADD x 1-0 f v", "XREADGROUP GROUP h b COUNT 2 STREAMS x >", "XADD x 2",
         "XGROUP DESTROY x h", "XGROUP CREATE x h 0", "XTRIM x MAXLEN 2",
-        "XGROUP DELCONSUMER x g B"]
+        "XGROUP CREATECONSUMER x g new", "XGROUP DELCONSUMER x g B"]
 OPENING = ["XGROUP CREATE x g 0 MKSTREAM", "XGROUP CREATE x h $",
            *(f"XGROUP CREATE {key} g 0 MKSTREAM" for key in "stu")]
 # Of each of these the log has to have a record whose reply tells of an effect: its name, and words among the others.

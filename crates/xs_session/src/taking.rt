@@ -32,9 +32,9 @@ pub(crate) fn names_addition(words: Request<'_>) -> bool {
     is_named(words, b"xadd")
 }
 
-/// Whether the first word is INFO: it tells of what was answered before it.
+/// Whether this is INFO, of one section at most: it tells of what was answered before it.
 pub(crate) fn names_info(words: Request<'_>) -> bool {
-    is_named(words, b"info")
+    words.len() <= 2 && is_named(words, b"info")
 }
 
 /// How often memory is looked for, at most, before a request is answered that there is none.

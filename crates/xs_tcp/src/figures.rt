@@ -80,15 +80,17 @@ impl Sums {
     }
 }
 
-/// What the keeper tells between its turns.
+/// What the keeper tells between its turns, if it is asked.
 #[derive(Drop)]
 struct KeeperFigures {
     keys: AtomicU64,
     bytes_held: AtomicU64,
     blocked: AtomicU64,
-    // How many turns it has begun.
-    turns: AtomicU64,
-    // Whether it has told since the last of them.
+    // How often it has told.
+    told: AtomicU64,
+    // Whether it is to tell.
+    asked: AtomicBool,
+    // Whether it waits for calls, and has told before.
     rests: AtomicBool,
 }
 
@@ -117,7 +119,8 @@ impl Figures {
             keys: AtomicU64::new(0),
             bytes_held: AtomicU64::new(0),
             blocked: AtomicU64::new(0),
-            turns: AtomicU64::new(0),
+            told: AtomicU64::new(0),
+            asked: AtomicBool::new(false),
             rests: AtomicBool::new(false),
         };
         Figures {
@@ -126,39 +129,47 @@ impl Figures {
         }
     }
 
-    fn note(&self, state: KeeperState) {
+    /// The keeper has this.
+    pub fn tell(&self, state: KeeperState) {
         self.keeper.keys.store(state.keys, Ordering::Relaxed);
         self.keeper
             .bytes_held
             .store(state.bytes_held, Ordering::Relaxed);
         self.keeper.blocked.store(state.blocked, Ordering::Relaxed);
-    }
-
-    /// The keeper has this, and begins its next turn.
-    pub fn note_turn(&self, state: KeeperState) {
-        self.note(state);
-        self.keeper.rests.store(false, Ordering::SeqCst);
-        let turns = self.keeper.turns.load(Ordering::Relaxed);
+        let told = self.keeper.told.load(Ordering::Relaxed);
         self.keeper
-            .turns
-            .store(turns.wrapping_add(1), Ordering::SeqCst);
+            .told
+            .store(told.wrapping_add(1), Ordering::SeqCst);
     }
 
-    /// The keeper has this, and waits for calls.
-    pub fn note_rest(&self, state: KeeperState) {
-        self.note(state);
+    /// The keeper goes on, and says whether it is to tell what it has.
+    pub fn is_asked(&self) -> bool {
+        if self.keeper.rests.load(Ordering::Relaxed) {
+            self.keeper.rests.store(false, Ordering::SeqCst);
+        }
+        if !self.keeper.asked.load(Ordering::SeqCst) {
+            return false;
+        }
+        self.keeper.asked.store(false, Ordering::SeqCst);
+        true
+    }
+
+    /// The keeper has told, and waits for calls.
+    pub fn rest(&self) {
         self.keeper.rests.store(true, Ordering::SeqCst);
     }
 
-    /// How many turns the keeper has begun.
-    pub fn turns(&self) -> u64 {
-        self.keeper.turns.load(Ordering::SeqCst)
+    /// Asks the keeper to tell, and gives how often it has.
+    pub fn ask(&self) -> u64 {
+        let told = self.keeper.told.load(Ordering::SeqCst);
+        self.keeper.asked.store(true, Ordering::SeqCst);
+        told
     }
 
-    /// Whether the keeper has told since so many turns were begun: then its figures are behind each answer that was given
+    /// Whether the keeper has told since it had done so so often: then its figures are behind each answer that was given
     /// until then.
-    pub fn has_told_since(&self, turns: u64) -> bool {
-        self.keeper.rests.load(Ordering::SeqCst) || self.turns() != turns
+    pub fn has_told_since(&self, told: u64) -> bool {
+        self.keeper.rests.load(Ordering::SeqCst) || self.keeper.told.load(Ordering::SeqCst) != told
     }
 
     /// How many keys there are.

@@ -48,9 +48,9 @@ impl<S: Wait + Clock + Drop> Watch<S> {
     /// Waits until the keeper has told what it has behind the answers that were given until now, for a second at most.
     fn wait_for_keeper(&self) {
         let figures = &self.information.figures;
-        let turns = figures.turns();
+        let told = figures.ask();
         for _ in 0..MOST_RESTS {
-            if figures.has_told_since(turns) {
+            if figures.has_told_since(told) {
                 return;
             }
             thread::sleep(&self.system, Duration::from_millis(REST_MILLIS));
@@ -209,7 +209,9 @@ impl<S: Wait + Clock + Copy + Drop> KeeperMode for Patience<S> {
     }
 
     fn before_turn<J: Journal + Drop>(&self, keeper: &mut Keeper<J>) {
-        self.information.figures.note_turn(state_of(keeper));
+        if self.information.figures.is_asked() {
+            self.information.figures.tell(state_of(keeper));
+        }
         keeper.read_clock(&self.system);
         for _ in 0..self.peers.len() {
             let Some(lane) = keeper.next_due() else {
@@ -227,7 +229,8 @@ impl<S: Wait + Clock + Copy + Drop> KeeperMode for Patience<S> {
     }
 
     fn idle<J: Journal + Drop, R: Wait>(&self, _rt: &R, keeper: &Keeper<J>) {
-        self.information.figures.note_rest(state_of(keeper));
+        self.information.figures.tell(state_of(keeper));
+        self.information.figures.rest();
         keeper.idle_until(&self.system);
     }
 }

@@ -29,7 +29,7 @@ fn server(rt: &HostRuntime) -> Result<Information, Fail> {
     workers.push(worker(alloc, 5, 1)?)?;
     workers.push(worker(alloc, 6, 0)?)?;
     let figures = Figures::new(workers);
-    figures.note_turn(KeeperState {
+    figures.tell(KeeperState {
         keys: 4,
         bytes_held: 7000,
         blocked: 1,
