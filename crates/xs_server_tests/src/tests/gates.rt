@@ -11,7 +11,7 @@ use xs_desk::{DeskError, LaneSummary, Summary};
 use xs_devices::{Failed, Sink, Source};
 use xs_session::Manner;
 use xs_stream::Moment;
-use xs_work::{Gate, GateFault, Register, WorkFault, work};
+use xs_work::{Gate, GateFault, Register, WorkFault, WorkOutcome, work};
 
 /// How often a reader looks whether it may give more.
 const LOOKS: u64 = 1_000_000;
@@ -174,6 +174,14 @@ const UNHEARD_PING: Script = Script {
 /// Why work didn't come to its end, and the summary that it has all the same.
 type Fault = (WorkFault, Option<Summary>);
 
+/// The summary of what work came to.
+fn summary_of(outcome: Option<WorkOutcome<Scripted>>) -> Option<Summary> {
+    match outcome {
+        Some(outcome) => Some(outcome.summary),
+        None => None,
+    }
+}
+
 /// Works over two gates, each of which may wait for the replies to the other one, and answers what `work` answers and
 /// how many replies were counted at each.
 fn work_over<R: Threads + Wait + Copy + Send + 'static>(
@@ -202,7 +210,7 @@ fn work_over<R: Threads + Wait + Copy + Send + 'static>(
     })?;
     let worked = match work(rt, alloc, gates, 16, still()) {
         Ok(outcome) => Ok(outcome.summary),
-        Err(failed) => Err((failed.fault, failed.outcome.map(|outcome| outcome.summary))),
+        Err(failed) => Err((failed.fault, summary_of(failed.outcome))),
     };
     Ok((
         worked,

@@ -152,13 +152,11 @@ fn tells_of_each_failed_write_of_a_reply(rt: HostRuntime) -> Result<(), Fail> {
 /// Whether these are the bytes that the two requests are answered, one allocation of which was refused.
 fn is_answer(served: Result<Ending, AheadFault>, bytes: &[u8]) -> bool {
     match served {
-        Ok(Ending::Closed) => [
-            PONGS,
-            "-OOM out of memory\r\n$2\r\nhi\r\n",
-            "+PONG\r\n-OOM out of memory\r\n",
-        ]
-        .iter()
-        .any(|text| text.as_bytes() == bytes),
+        Ok(Ending::Closed) => {
+            bytes == PONGS.as_bytes()
+                || bytes == b"-OOM out of memory\r\n$2\r\nhi\r\n".as_slice()
+                || bytes == b"+PONG\r\n-OOM out of memory\r\n".as_slice()
+        }
         Err(AheadFault::Memory) => bytes.is_empty() || bytes == b"+PONG\r\n".as_slice(),
         _ => false,
     }
