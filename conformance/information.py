@@ -124,17 +124,20 @@ def keeps_busy(port, done):
 
 
 def tells_what_was_answered(program):
-    """The keyspace that INFO tells is behind each request before it, sent in one piece, while others keep the keeper busy."""
+    """The keys that INFO tells are those behind each request before it, sent in one piece, whatever sections are named,
+    while others keep the keeper busy."""
     with running(program, workers=2) as server, raw(server.port) as stream, stream.makefile("rb") as replies:
         say(stream, "XADD busy 1-1 f v", bulk("1-1"))
         done = threading.Event()
         other = threading.Thread(target=keeps_busy, args=(server.port, done))
         other.start()
         try:
-            for count in range(1, 501):
-                stream.sendall(asking(f"XADD k{count} 1-1 f v") + asking("INFO keyspace"))
+            for count in range(1, 601):
+                words = ("INFO keyspace", "INFO server keyspace", "INFO")[count % 3]
+                stream.sendall(asking(f"XADD k{count} 1-1 f v") + asking(words) + asking(f"DEL gone{count}"))
                 assert read_reply(replies) == bulk("1-1").encode()
-                assert f"db0:keys={count + 1},".encode() in (text := read_reply(replies)), (count, text)
+                assert f"db0:keys={count + 1},".encode() in (text := read_reply(replies)), (words, count, text)
+                assert read_reply(replies) == number(0).encode()
         finally:
             done.set()
             other.join()

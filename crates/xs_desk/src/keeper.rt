@@ -188,13 +188,6 @@ impl<J: Journal + Drop> Keeper<J> {
         self.lane_ends.len()
     }
 
-    /// How many keys its keyspace has.
-    pub fn keys(&self) -> usize
-        ensures { result ≡ length self.now.keyspace.entries }
-    {
-        self.keyspace.len()
-    }
-
     /// How many bytes its keyspace is counted with, modulo 2^128.
     pub fn bytes_held(&self) -> u128
         ensures { IsRoomOf self.now.keyspace result }

@@ -1,16 +1,21 @@
 -- Requests that are taken, one more at a time, and the replies that come to them.
-use Rattle.std.proofs.Common.{◌≡◌, ℕ, ◌<◌, ◌≤◌, true, false, List, [], ◌∷◌, ◌++◌, length, Some, None}
+use Rattle.std.proofs.Common.{◌≡◌, ℕ, ◌<◌, ◌≤◌, true, false, List, [], ◌∷◌, ◌++◌, length}
 use Rattle.std.proofs.Common.{ap, refl, sym, ◌∙◌, arith, subst, ◌⊎◌, inl, inr, append_assoc}
 use Rattle.std.proofs.lemmas.List.{append-nil}
 use Rattle.xs_resp.specs.declared.reply.Reply.{Reply}
 use Rattle.xs_command.specs.declared.command.Command.{Command}
+use Rattle.xs_command.specs.declared.command.Command.TheVariants.{Inspect}
+use Rattle.xs_command.specs.declared.command.Inspection.TheVariants.{KeyCount}
 use Rattle.xs_connection.specs.declared.standing.Standing.{Standing}
 use Rattle.xs_connection.specs.Transaction.{released, released_of}
 use Rattle.xs_connection.specs.declared.transaction.Transaction.{Transaction}
 use Rattle.xs_connection.specs.declared.transaction.Transaction.TheVariants.{Released}
 use Rattle.xs_session.specs.declared.manner.Manner.{Manner}
 use Rattle.xs_session.specs.declared.manner.Manner.TheVariants.{Plain, Full}
-use Rattle.xs_session.specs.Answers.{Taken, Asks, Says, may_ask, IsKept, IsRefused, IsTaken, IsRun, AreRun, AreTaken, asked_of, answers_to}
+use Rattle.xs_session.specs.declared.places.Place.{Place}
+use Rattle.xs_session.specs.declared.places.Place.TheVariants.{Answer, Awaits, AwaitsKeys}
+use Rattle.xs_session.specs.Information.{informed}
+use Rattle.xs_session.specs.Answers.{Taken, Asks, Informs, Says, may_ask, IsKept, IsRefused, IsTaken, IsRun, AreRun, AreTaken, asked_of, answers_to}
 use Rattle.xs_session.specs.Places.{has_open, fill_first}
 
 -- a command that waits is answered, if the keyspace may be asked
@@ -93,39 +98,63 @@ taken-runs manner first standing ((word ∷ names) ∷ request ∷ requests) tak
   taken-runs manner (record mid { transaction = left }) standing (request ∷ requests) more words others one clear are is runs,
 )
 
-pub asked-more : (taken : List Taken) (command : Command) → asked_of (taken ++ Asks command ∷ []) ≡ asked_of taken ++ command ∷ []
-asked-more [] command = refl
-asked-more (Asks other ∷ taken) command = ap (λ c. other ∷ c) (asked-more taken command)
-asked-more (Says reply ∷ taken) command = asked-more taken command
+-- this asks a command, and its answer is waited for so
+abbrev pub IsAsking : Taken → Command → Place → Type 0
+IsAsking (Asks other) command place = (command ≡ other) × (place ≡ Awaits)
+IsAsking (Informs told) command place = (command ≡ Inspect KeyCount) × (place ≡ AwaitsKeys told)
+IsAsking (Says reply) command place = ⊥
+
+asks-one : (one : Taken) (command : Command) (place : Place) → IsAsking one command place → asked_of (one ∷ []) ≡ command ∷ []
+asks-one (Asks other) command place (is, waits) = ap (λ c. c ∷ []) (sym is)
+asks-one (Informs told) command place (is, waits) = ap (λ c. c ∷ []) (sym is)
+asks-one (Says reply) command place never = absurd never
+
+waits-one : (one : Taken) (command : Command) (place : Place) → IsAsking one command place → answers_to (one ∷ []) [] ≡ place ∷ []
+waits-one (Asks other) command place (is, waits) = ap (λ p. p ∷ []) (sym waits)
+waits-one (Informs told) command place (is, waits) = ap (λ p. p ∷ []) (sym waits)
+waits-one (Says reply) command place never = absurd never
+
+pub asked-more : (taken : List Taken) (one : Taken) (command : Command) (place : Place) → IsAsking one command place → asked_of (taken ++ one ∷ []) ≡ asked_of taken ++ command ∷ []
+asked-more [] one command place asking = asks-one one command place asking
+asked-more (Asks other ∷ taken) one command place asking = ap (λ c. other ∷ c) (asked-more taken one command place asking)
+asked-more (Informs told ∷ taken) one command place asking = ap (λ c. Inspect KeyCount ∷ c) (asked-more taken one command place asking)
+asked-more (Says reply ∷ taken) one command place asking = asked-more taken one command place asking
 
 pub asked-same : (taken : List Taken) (reply : Reply) → asked_of (taken ++ Says reply ∷ []) ≡ asked_of taken
 asked-same [] reply = refl
 asked-same (Asks other ∷ taken) reply = ap (λ c. other ∷ c) (asked-same taken reply)
+asked-same (Informs told ∷ taken) reply = ap (λ c. Inspect KeyCount ∷ c) (asked-same taken reply)
 asked-same (Says other ∷ taken) reply = asked-same taken reply
 
 -- a reply is waited for
-pub answers-ask : (taken : List Taken) (got : List Reply) (command : Command) → length got ≤ length (asked_of taken)
-    → answers_to (taken ++ Asks command ∷ []) got ≡ answers_to taken got ++ None ∷ []
-answers-ask [] [] command fits = refl
-answers-ask [] (reply ∷ got) command fits = absurd (omega (arith, fits))
-answers-ask (Says reply ∷ taken) got command fits = ap (λ a. Some reply ∷ a) (answers-ask taken got command fits)
-answers-ask (Asks other ∷ taken) [] command fits = ap (λ a. None ∷ a) (answers-ask taken [] command (omega arith))
-answers-ask (Asks other ∷ taken) (reply ∷ got) command fits = ap (λ a. Some reply ∷ a) (answers-ask taken got command (omega (arith, fits)))
+pub answers-ask : (taken : List Taken) (got : List Reply) (one : Taken) (command : Command) (place : Place) → IsAsking one command place → length got ≤ length (asked_of taken)
+    → answers_to (taken ++ one ∷ []) got ≡ answers_to taken got ++ place ∷ []
+answers-ask [] [] one command place asking fits = waits-one one command place asking
+answers-ask [] (reply ∷ got) one command place asking fits = absurd (omega (arith, fits))
+answers-ask (Says reply ∷ taken) got one command place asking fits = ap (λ a. Answer reply ∷ a) (answers-ask taken got one command place asking fits)
+answers-ask (Asks other ∷ taken) [] one command place asking fits = ap (λ a. Awaits ∷ a) (answers-ask taken [] one command place asking (omega arith))
+answers-ask (Asks other ∷ taken) (reply ∷ got) one command place asking fits = ap (λ a. Answer reply ∷ a) (answers-ask taken got one command place asking (omega (arith, fits)))
+answers-ask (Informs told ∷ taken) [] one command place asking fits = ap (λ a. AwaitsKeys told ∷ a) (answers-ask taken [] one command place asking (omega arith))
+answers-ask (Informs told ∷ taken) (reply ∷ got) one command place asking fits = ap (λ a. Answer (informed told reply) ∷ a) (answers-ask taken got one command place asking (omega (arith, fits)))
 
 -- what is said is there at once
-pub answers-say : (taken : List Taken) (got : List Reply) (said : Reply) → answers_to (taken ++ Says said ∷ []) got ≡ answers_to taken got ++ Some said ∷ []
+pub answers-say : (taken : List Taken) (got : List Reply) (said : Reply) → answers_to (taken ++ Says said ∷ []) got ≡ answers_to taken got ++ Answer said ∷ []
 answers-say [] got said = refl
-answers-say (Says other ∷ taken) got said = ap (λ a. Some other ∷ a) (answers-say taken got said)
-answers-say (Asks other ∷ taken) [] said = ap (λ a. None ∷ a) (answers-say taken [] said)
-answers-say (Asks other ∷ taken) (reply ∷ got) said = ap (λ a. Some reply ∷ a) (answers-say taken got said)
+answers-say (Says other ∷ taken) got said = ap (λ a. Answer other ∷ a) (answers-say taken got said)
+answers-say (Asks other ∷ taken) [] said = ap (λ a. Awaits ∷ a) (answers-say taken [] said)
+answers-say (Asks other ∷ taken) (reply ∷ got) said = ap (λ a. Answer reply ∷ a) (answers-say taken got said)
+answers-say (Informs told ∷ taken) [] said = ap (λ a. AwaitsKeys told ∷ a) (answers-say taken [] said)
+answers-say (Informs told ∷ taken) (reply ∷ got) said = ap (λ a. Answer (informed told reply) ∷ a) (answers-say taken got said)
 
 -- a reply has come
 pub answers-got : (taken : List Taken) (got : List Reply) (reply : Reply) → has_open (answers_to taken got) ≡ true
     → answers_to taken (got ++ reply ∷ []) ≡ fill_first reply (answers_to taken got)
 answers-got [] got reply waits = let e : false ≡ true = waits in cc
-answers-got (Says said ∷ taken) got reply waits = ap (λ a. Some said ∷ a) (answers-got taken got reply waits)
+answers-got (Says said ∷ taken) got reply waits = ap (λ a. Answer said ∷ a) (answers-got taken got reply waits)
 answers-got (Asks command ∷ taken) [] reply waits = refl
-answers-got (Asks command ∷ taken) (other ∷ got) reply waits = ap (λ a. Some other ∷ a) (answers-got taken got reply waits)
+answers-got (Asks command ∷ taken) (other ∷ got) reply waits = ap (λ a. Answer other ∷ a) (answers-got taken got reply waits)
+answers-got (Informs told ∷ taken) [] reply waits = refl
+answers-got (Informs told ∷ taken) (other ∷ got) reply waits = ap (λ a. Answer (informed told other) ∷ a) (answers-got taken got reply waits)
 
 -- what is waited for was asked
 pub open-fits : (taken : List Taken) (got : List Reply) → has_open (answers_to taken got) ≡ true → length got < length (asked_of taken)
@@ -133,6 +162,8 @@ open-fits [] got waits = let e : false ≡ true = waits in cc
 open-fits (Says reply ∷ taken) got waits = open-fits taken got waits
 open-fits (Asks command ∷ taken) [] waits = omega arith
 open-fits (Asks command ∷ taken) (other ∷ got) waits = omega (arith, open-fits taken got waits)
+open-fits (Informs told ∷ taken) [] waits = omega arith
+open-fits (Informs told ∷ taken) (other ∷ got) waits = omega (arith, open-fits taken got waits)
 
 -- where none is waited for, as many replies have come as were asked
 pub closed-fits : (taken : List Taken) (got : List Reply) → has_open (answers_to taken got) ≡ false → length (asked_of taken) ≤ length got
@@ -140,3 +171,5 @@ closed-fits [] got closed = omega arith
 closed-fits (Says reply ∷ taken) got closed = closed-fits taken got closed
 closed-fits (Asks command ∷ taken) [] closed = let e : true ≡ false = closed in cc
 closed-fits (Asks command ∷ taken) (other ∷ got) closed = omega (arith, closed-fits taken got closed)
+closed-fits (Informs told ∷ taken) [] closed = let e : true ≡ false = closed in cc
+closed-fits (Informs told ∷ taken) (other ∷ got) closed = omega (arith, closed-fits taken got closed)

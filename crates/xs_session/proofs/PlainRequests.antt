@@ -11,11 +11,12 @@ use Rattle.xs_connection.specs.declared.standing.Standing.{Standing}
 use Rattle.xs_connection.specs.declared.transaction.Transaction.{Transaction}
 use Rattle.xs_connection.specs.declared.transaction.Transaction.TheVariants.{Closed}
 use Rattle.xs_session.specs.declared.manner.Manner.TheVariants.{Plain}
-use Rattle.xs_session.specs.Answers.{Taken, Asks, Says, IsTaken, AreRun, AreTaken, goes_at_once}
+use Rattle.xs_session.specs.Answers.{Taken, Asks, Informs, Says, IsTaken, AreRun, AreTaken, goes_at_once}
 
 -- a command is asked; or words with a fault are answered, or that memory ran out
 abbrev pub IsTakenPlainly : List (List ℕ) → Taken → Type 0
 IsTakenPlainly words (Asks command) = command_of_words words ≡ Ok command
+IsTakenPlainly words (Informs told) = ⊥
 IsTakenPlainly words (Says reply) = ((fault : Fault) × (command_of_words words ≡ Err fault) × (reply ≡ Error fault)) ⊎ (reply ≡ Error Memory)
 
 abbrev pub AreTakenPlainly : List (List (List ℕ)) → List Taken → Type 0
@@ -31,6 +32,7 @@ at-once old command closed = ap (λ t. not (is_queueing t)) closed
 
 pub plainly : (old mid : Standing) (words : List (List ℕ)) (one : Taken) → old.transaction ≡ Closed → IsTaken Plain old words one mid → IsTakenPlainly words one × (mid.transaction ≡ Closed)
 plainly old mid words (Asks command) closed (may, said, once, same) = (said, ap (λ (s : Standing). s.transaction) same ∙ closed)
+plainly old mid words (Informs told) closed (never, same) = absurd never
 plainly old mid words (Says reply) closed (inl (inl (fault, is, said))) = (inl (fault, is, said.0), ap (λ (s : Standing). s.transaction) said.1 ∙ ap spoiled closed)
 plainly old mid words (Says reply) closed (inl (inr (command, is, waits, queued))) = let never : true ≡ false = sym (at-once old command closed) ∙ waits in cc
 plainly old mid words (Says reply) closed (inr memory) = (inr memory.0, ap (λ (s : Standing). s.transaction) memory.1 ∙ ap spoiled closed)

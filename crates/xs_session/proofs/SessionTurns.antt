@@ -25,7 +25,9 @@ use Rattle.xs_session.specs.declared.manner.Manner.TheVariants.{Plain, Full}
 use Rattle.xs_session.specs.declared.ending.Ending.{Ending}
 use Rattle.xs_session.specs.declared.ending.Ending.TheVariants as ending
 use Rattle.xs_session.specs.Strangers.{is_too_much}
-use Rattle.xs_session.specs.Answers.{is_stranger, Taken, Asks, Says, IsTaken, IsRun, AreTaken, MayBeOpen, asked_of, answers_to, quits, has_quit}
+use Rattle.xs_session.specs.declared.places.Place.{Place}
+use Rattle.xs_session.specs.declared.places.Place.TheVariants.{Answer, Awaits}
+use Rattle.xs_session.specs.Answers.{is_stranger, Taken, Asks, Informs, Says, IsTaken, IsRun, AreTaken, MayBeOpen, asked_of, answers_to, quits, has_quit}
 use Rattle.xs_session.specs.Places.{has_open, fill_first}
 use Rattle.xs_session.specs.declared.session.Session.{Session}
 use Rattle.xs_session.specs.declared.session.Turn.{Turn}
@@ -34,7 +36,7 @@ use Rattle.xs_desk.specs.declared.answer.Call.{Call}
 use Rattle.xs_resp.specs.LeftToWrite.{bytes_left}
 use Rattle.xs_session.specs.Session.{texts, refusal, IsFault, IsWrong, Goes, IsFirst, IsAfter, SessionIsAfter, IsGathered, AsksOrWaits, ReleasesOrWaits, asked_in, ending_of}
 use Rattle.xs_session.proofs.OpenCommands.{open-free, open-more, open-same}
-use Rattle.xs_session.proofs.Answering.{taken-more, taken-same, taken-runs, asked-more, asked-same, answers-ask, answers-say, answers-got, open-fits, closed-fits}
+use Rattle.xs_session.proofs.Answering.{IsAsking, taken-more, taken-same, taken-runs, asked-more, asked-same, answers-ask, answers-say, answers-got, open-fits, closed-fits}
 use Rattle.xs_session.proofs.Placing.{begun-open, begun-fill, begun-more}
 
 same-bytes : (held : Held) (a b : List ℕ) → held ≡ Ok a → held ≡ Ok b → a ≡ b
@@ -77,10 +79,18 @@ no-refusal _ = refl
 quit-more : (taken : List Taken) (one : Taken) → has_quit taken ≡ false → quits one ≡ false → has_quit (taken ++ one ∷ []) ≡ false
 quit-more taken one none other = list_any-append quits taken (one ∷ []) ∙ ap (λ b. b || (quits one || false)) none ∙ ap (λ b. b || false) other
 
-goes-asks : (manner : Manner) (standing : Standing) (command : Command) (taken : List Taken) (rest : List ℕ) (held : Held) → held ≡ Ok rest → has_quit taken ≡ false
+goes-command : (manner : Manner) (standing : Standing) (command : Command) (taken : List Taken) (rest : List ℕ) (held : Held) → held ≡ Ok rest → has_quit taken ≡ false
     → Goes manner standing (ending_of command) (taken ++ Asks command ∷ []) rest held
-goes-asks manner standing Quit taken rest held is none = (is, (taken, refl, none))
-goes-asks manner standing command taken rest held is none = (is, quit-more taken (Asks command) none refl)
+goes-command manner standing Quit taken rest held is none = (is, (taken, refl, none))
+goes-command manner standing command taken rest held is none = (is, quit-more taken (Asks command) none refl)
+
+goes-asks : (manner : Manner) (standing : Standing) (one : Taken) (command : Command) (place : Place) (taken : List Taken) (rest : List ℕ) (held : Held) → IsAsking one command place → held ≡ Ok rest → has_quit taken ≡ false
+    → Goes manner standing (ending_of command) (taken ++ one ∷ []) rest held
+goes-asks manner standing (Asks other) command place taken rest held (same, waits) is none =
+    subst (λ (c : Command). Goes manner standing (ending_of c) (taken ++ Asks other ∷ []) rest held) (sym same) (goes-command manner standing other taken rest held is none)
+goes-asks manner standing (Informs told) command place taken rest held (same, waits) is none =
+    subst (λ (c : Command). Goes manner standing (ending_of c) (taken ++ Informs told ∷ []) rest held) (sym same) (is, quit-more taken (Informs told) none refl)
+goes-asks manner standing (Says reply) command place taken rest held never is none = absurd never
 
 fault-wrong : (manner : Manner) (standing : Standing) (rest : List ℕ) (held : Held) → IsFault rest held → IsWrong manner standing rest held
 fault-wrong Plain standing rest held fault = fault
@@ -110,14 +120,14 @@ texts-more begun reply = flat_map-append text begun (reply ∷ []) ∙ ap (λ t.
 
 module _ (manner : Manner) (standing : Standing) (read : List ℕ) (asked : List Command) (got : List Reply) (sent : List ℕ) where
   -- without an end
-  answers-now : (held : Held) (places : List (Option Reply)) (owed : List ℕ) (s : IsAfter manner standing read asked got sent None held places owed) → answers_to s.taken got ≡ map Some s.begun ++ places
+  answers-now : (held : Held) (places : List Place) (owed : List ℕ) (s : IsAfter manner standing read asked got sent None held places owed) → answers_to s.taken got ≡ map Answer s.begun ++ places
   answers-now held places owed s = ap (λ t. answers_to t got) (sym (append-nil s.taken)) ∙ s.answers
 
   -- one more command is asked: that of the next request, or one that EXEC has let go
-  asks-more : (next : Standing) (held after : Held) (places : List (Option Reply)) (owed : List ℕ) (command : Command) → (s : IsAfter manner standing read asked got sent None held places owed)
-      → (requests : List (List (List ℕ))) (front rest : List ℕ) → read ≡ front ++ rest → SpellsAll front requests → AreTaken manner s.first requests (s.taken ++ Asks command ∷ []) next → after ≡ Ok rest
-      → IsAfter manner next read (asked ++ command ∷ []) got sent (ending_of command) after (places ++ None ∷ []) owed
-  asks-more next held after places owed command s requests front rest read_is spelled are_taken holds =
+  asks-more : (next : Standing) (held after : Held) (places : List Place) (owed : List ℕ) (one : Taken) (command : Command) (place : Place) → IsAsking one command place → (s : IsAfter manner standing read asked got sent None held places owed)
+      → (requests : List (List (List ℕ))) (front rest : List ℕ) → read ≡ front ++ rest → SpellsAll front requests → AreTaken manner s.first requests (s.taken ++ one ∷ []) next → after ≡ Ok rest
+      → IsAfter manner next read (asked ++ command ∷ []) got sent (ending_of command) after (places ++ place ∷ []) owed
+  asks-more next held after places owed one command place asking s requests front rest read_is spelled are_taken holds =
       let fits : length got ≤ length (asked_of s.taken) = subst (λ (a : List Command). length got ≤ length a) s.asked_is s.fits in
       record {
         requests = requests;
@@ -125,27 +135,27 @@ module _ (manner : Manner) (standing : Standing) (read : List ℕ) (asked : List
         rest = rest;
         read_is = read_is;
         spelled = spelled;
-        taken = s.taken ++ Asks command ∷ [];
+        taken = s.taken ++ one ∷ [];
         first = s.first;
         is_first = s.is_first;
         are_taken = are_taken;
-        goes = goes-asks manner next command s.taken rest after holds s.goes.1;
-        asked_is = ap (λ a. a ++ command ∷ []) s.asked_is ∙ sym (asked-more s.taken command);
+        goes = goes-asks manner next one command place s.taken rest after asking holds s.goes.1;
+        asked_is = ap (λ a. a ++ command ∷ []) s.asked_is ∙ sym (asked-more s.taken one command place asking);
         fits = omega (arith, s.fits, length-append asked (command ∷ []));
         begun = s.begun;
         answers =
-            ap (λ r. answers_to ((s.taken ++ Asks command ∷ []) ++ r) got) (no-refusal command)
-            ∙ ap (λ t. answers_to t got) (append-nil (s.taken ++ Asks command ∷ []))
-            ∙ answers-ask s.taken got command fits
-            ∙ ap (λ a. a ++ None ∷ []) (answers-now held places owed s)
-            ∙ append_assoc (map Some s.begun) places (None ∷ []);
+            ap (λ r. answers_to ((s.taken ++ one ∷ []) ++ r) got) (no-refusal command)
+            ∙ ap (λ t. answers_to t got) (append-nil (s.taken ++ one ∷ []))
+            ∙ answers-ask s.taken got one command place asking fits
+            ∙ ap (λ a. a ++ place ∷ []) (answers-now held places owed s)
+            ∙ append_assoc (map Answer s.begun) places (place ∷ []);
         sent_is = s.sent_is;
       }
 
   -- one more answer is given at once
-  says-more : (next : Standing) (held after : Held) (places : List (Option Reply)) (owed : List ℕ) (reply : Reply) → (s : IsAfter manner standing read asked got sent None held places owed)
+  says-more : (next : Standing) (held after : Held) (places : List Place) (owed : List ℕ) (reply : Reply) → (s : IsAfter manner standing read asked got sent None held places owed)
       → (requests : List (List (List ℕ))) (front rest : List ℕ) → read ≡ front ++ rest → SpellsAll front requests → AreTaken manner s.first requests (s.taken ++ Says reply ∷ []) next → after ≡ Ok rest
-      → IsAfter manner next read asked got sent None after (places ++ Some reply ∷ []) owed
+      → IsAfter manner next read asked got sent None after (places ++ Answer reply ∷ []) owed
   says-more next held after places owed reply s requests front rest read_is spelled are_taken holds = record {
     requests = requests;
     front = front;
@@ -163,25 +173,25 @@ module _ (manner : Manner) (standing : Standing) (read : List ℕ) (asked : List
     answers =
         ap (λ t. answers_to t got) (append-nil (s.taken ++ Says reply ∷ []))
         ∙ answers-say s.taken got reply
-        ∙ ap (λ a. a ++ Some reply ∷ []) (answers-now held places owed s)
-        ∙ append_assoc (map Some s.begun) places (Some reply ∷ []);
+        ∙ ap (λ a. a ++ Answer reply ∷ []) (answers-now held places owed s)
+        ∙ append_assoc (map Answer s.begun) places (Answer reply ∷ []);
     sent_is = s.sent_is;
   }
 
-  -- the command of a request is asked
-  pub after-asks : (next : Standing) (held after : Held) (places : List (Option Reply)) (owed : List ℕ) (words : List (List ℕ)) (command : Command) → (s : IsAfter manner standing read asked got sent None held places owed)
-      → IsNext s.rest words after → released_of standing.transaction ≡ [] → 0 < length words → IsTaken manner standing words (Asks command) next
-      → IsAfter manner next read (asked ++ command ∷ []) got sent (ending_of command) after (places ++ None ∷ []) owed
-  after-asks next held after places owed words command s n nothing some is =
+  -- what a request asks is asked
+  pub after-asks : (next : Standing) (held after : Held) (places : List Place) (owed : List ℕ) (words : List (List ℕ)) (one : Taken) (command : Command) (place : Place) → IsAsking one command place → (s : IsAfter manner standing read asked got sent None held places owed)
+      → IsNext s.rest words after → released_of standing.transaction ≡ [] → 0 < length words → IsTaken manner standing words one next
+      → IsAfter manner next read (asked ++ command ∷ []) got sent (ending_of command) after (places ++ place ∷ []) owed
+  after-asks next held after places owed words one command place asking s n nothing some is =
       let t = took read s.front s.rest s.requests n.found s.read_is s.spelled n.read in
-      asks-more next held after places owed command s (s.requests ++ words ∷ []) (s.front ++ t.first) (drop n.found.end s.rest) t.read_is
+      asks-more next held after places owed one command place asking s (s.requests ++ words ∷ []) (s.front ++ t.first) (drop n.found.end s.rest) t.read_is
       (subst (λ (w : List (List ℕ)). SpellsAll (s.front ++ t.first) (s.requests ++ w ∷ [])) n.words_are t.spelled)
-      (taken-more manner s.first standing next s.requests s.taken words (Asks command) nothing s.are_taken some is) n.left
+      (taken-more manner s.first standing next s.requests s.taken words one nothing s.are_taken some is) n.left
 
   -- a request is answered at once
-  after-says : (next : Standing) (held after : Held) (places : List (Option Reply)) (owed : List ℕ) (words : List (List ℕ)) (reply : Reply) → (s : IsAfter manner standing read asked got sent None held places owed)
+  after-says : (next : Standing) (held after : Held) (places : List Place) (owed : List ℕ) (words : List (List ℕ)) (reply : Reply) → (s : IsAfter manner standing read asked got sent None held places owed)
       → IsNext s.rest words after → released_of standing.transaction ≡ [] → 0 < length words → IsTaken manner standing words (Says reply) next
-      → IsAfter manner next read asked got sent None after (places ++ Some reply ∷ []) owed
+      → IsAfter manner next read asked got sent None after (places ++ Answer reply ∷ []) owed
   after-says next held after places owed words reply s n nothing some is =
       let t = took read s.front s.rest s.requests n.found s.read_is s.spelled n.read in
       says-more next held after places owed reply s (s.requests ++ words ∷ []) (s.front ++ t.first) (drop n.found.end s.rest) t.read_is
@@ -189,7 +199,7 @@ module _ (manner : Manner) (standing : Standing) (read : List ℕ) (asked : List
       (taken-more manner s.first standing next s.requests s.taken words (Says reply) nothing s.are_taken some is) n.left
 
   -- a request of no words
-  after-skips : (held after : Held) (places : List (Option Reply)) (owed : List ℕ) (words : List (List ℕ)) → (s : IsAfter manner standing read asked got sent None held places owed)
+  after-skips : (held after : Held) (places : List Place) (owed : List ℕ) (words : List (List ℕ)) → (s : IsAfter manner standing read asked got sent None held places owed)
       → IsNext s.rest words after → released_of standing.transaction ≡ [] → words ≡ [] → IsAfter manner standing read asked got sent None after places owed
   after-skips held after places owed words s n nothing none =
       let t = took read s.front s.rest s.requests n.found s.read_is s.spelled n.read in
@@ -212,24 +222,24 @@ module _ (manner : Manner) (standing : Standing) (read : List ℕ) (asked : List
       }
 
   -- what EXEC has let go is asked
-  after-runs : (held : Held) (places : List (Option Reply)) (owed : List ℕ) (words : List (List ℕ)) (others : List (List (List ℕ))) (command : Command) → (s : IsAfter manner standing read asked got sent None held places owed)
+  after-runs : (held : Held) (places : List Place) (owed : List ℕ) (words : List (List ℕ)) (others : List (List (List ℕ))) (command : Command) → (s : IsAfter manner standing read asked got sent None held places owed)
       → standing.transaction ≡ Released (words ∷ others) → IsRun words (Asks command)
-      → IsAfter manner (record standing { transaction = released others }) read (asked ++ command ∷ []) got sent (ending_of command) held (places ++ None ∷ []) owed
+      → IsAfter manner (record standing { transaction = released others }) read (asked ++ command ∷ []) got sent (ending_of command) held (places ++ Awaits ∷ []) owed
   after-runs held places owed words others command s is runs =
-      asks-more (record standing { transaction = released others }) held held places owed command s s.requests s.front s.rest s.read_is s.spelled
+      asks-more (record standing { transaction = released others }) held held places owed (Asks command) command Awaits (refl, refl) s s.requests s.front s.rest s.read_is s.spelled
       (taken-runs manner s.first standing s.requests s.taken words others (Asks command) (first-none manner s.first s.is_first) s.are_taken is runs) s.goes.0
 
   -- or answered
-  after-run-says : (held : Held) (places : List (Option Reply)) (owed : List ℕ) (words : List (List ℕ)) (others : List (List (List ℕ))) (reply : Reply) → (s : IsAfter manner standing read asked got sent None held places owed)
+  after-run-says : (held : Held) (places : List Place) (owed : List ℕ) (words : List (List ℕ)) (others : List (List (List ℕ))) (reply : Reply) → (s : IsAfter manner standing read asked got sent None held places owed)
       → standing.transaction ≡ Released (words ∷ others) → IsRun words (Says reply)
-      → IsAfter manner (record standing { transaction = released others }) read asked got sent None held (places ++ Some reply ∷ []) owed
+      → IsAfter manner (record standing { transaction = released others }) read asked got sent None held (places ++ Answer reply ∷ []) owed
   after-run-says held places owed words others reply s is runs =
       says-more (record standing { transaction = released others }) held held places owed reply s s.requests s.front s.rest s.read_is s.spelled
       (taken-runs manner s.first standing s.requests s.taken words others (Says reply) (first-none manner s.first s.is_first) s.are_taken is runs) s.goes.0
 
   -- what is held isn't a request, or too much
-  after-refused : (held after : Held) (places : List (Option Reply)) (owed : List ℕ) → (s : IsAfter manner standing read asked got sent None held places owed)
-      → IsWrong manner standing s.rest after → IsAfter manner standing read asked got sent (Some ending.Protocol) after (places ++ Some (Error Protocol) ∷ []) owed
+  after-refused : (held after : Held) (places : List Place) (owed : List ℕ) → (s : IsAfter manner standing read asked got sent None held places owed)
+      → IsWrong manner standing s.rest after → IsAfter manner standing read asked got sent (Some ending.Protocol) after (places ++ Answer (Error Protocol) ∷ []) owed
   after-refused held after places owed s wrong = record {
     requests = s.requests;
     front = s.front;
@@ -246,42 +256,42 @@ module _ (manner : Manner) (standing : Standing) (read : List ℕ) (asked : List
     begun = s.begun;
     answers =
         answers-say s.taken got (Error Protocol)
-        ∙ ap (λ a. a ++ Some (Error Protocol) ∷ []) (answers-now held places owed s)
-        ∙ append_assoc (map Some s.begun) places (Some (Error Protocol) ∷ []);
+        ∙ ap (λ a. a ++ Answer (Error Protocol) ∷ []) (answers-now held places owed s)
+        ∙ append_assoc (map Answer s.begun) places (Answer (Error Protocol) ∷ []);
     sent_is = s.sent_is;
   }
 
   -- nothing is asked
-  asks-none : (next : Standing) (ended : Option Ending) (held : Held) (places : List (Option Reply)) (owed : List ℕ) → IsAfter manner next read asked got sent ended held places owed → IsAfter manner next read (asked ++ []) got sent ended held places owed
+  asks-none : (next : Standing) (ended : Option Ending) (held : Held) (places : List Place) (owed : List ℕ) → IsAfter manner next read asked got sent ended held places owed → IsAfter manner next read (asked ++ []) got sent ended held places owed
   asks-none next ended held places owed s = subst (λ (a : List Command). IsAfter manner next read a got sent ended held places owed) (sym (append-nil asked)) s
 
   -- ---- turns of a session
 
-  open-now : (ended : Option Ending) (held : Held) (places : List (Option Reply)) (owed : List ℕ) → ended ≡ None → IsAfter manner standing read asked got sent ended held places owed → IsAfter manner standing read asked got sent None held places owed
+  open-now : (ended : Option Ending) (held : Held) (places : List Place) (owed : List ℕ) → ended ≡ None → IsAfter manner standing read asked got sent ended held places owed → IsAfter manner standing read asked got sent None held places owed
   open-now ended held places owed going s = subst (λ (e : Option Ending). IsAfter manner standing read asked got sent e held places owed) going s
 
-  pub turn-asks : (next : Standing) (ended end : Option Ending) (held after : Held) (places later : List (Option Reply)) (owed : List ℕ) (words : List (List ℕ)) (command : Command) → ended ≡ None → IsAfter manner standing read asked got sent ended held places owed
-      → words ≡ front_of held → Skips held after → released_of standing.transaction ≡ [] → 0 < length words → IsTaken manner standing words (Asks command) next → later ≡ places ++ None ∷ [] → end ≡ ending_of command
+  pub turn-asks : (next : Standing) (ended end : Option Ending) (held after : Held) (places later : List Place) (owed : List ℕ) (words : List (List ℕ)) (one : Taken) (command : Command) (place : Place) → IsAsking one command place → ended ≡ None → IsAfter manner standing read asked got sent ended held places owed
+      → words ≡ front_of held → Skips held after → released_of standing.transaction ≡ [] → 0 < length words → IsTaken manner standing words one next → later ≡ places ++ place ∷ [] → end ≡ ending_of command
       → IsAfter manner next read (asked ++ command ∷ []) got sent end after later owed
-  turn-asks next ended end held after places later owed words command going s are skips nothing some is more ends =
+  turn-asks next ended end held after places later owed words one command place asking going s are skips nothing some is more ends =
       let s = open-now ended held places owed going s in
       let n = is-next held after s.rest words s.goes.0 are skips in
       subst (λ (e : Option Ending). IsAfter manner next read (asked ++ command ∷ []) got sent e after later owed) (sym ends)
-      (subst (λ (p : List (Option Reply)). IsAfter manner next read (asked ++ command ∷ []) got sent (ending_of command) after p owed) (sym more)
-      (after-asks next held after places owed words command s n nothing some is))
+      (subst (λ (p : List Place). IsAfter manner next read (asked ++ command ∷ []) got sent (ending_of command) after p owed) (sym more)
+      (after-asks next held after places owed words one command place asking s n nothing some is))
 
-  pub turn-says : (next : Standing) (ended : Option Ending) (held after : Held) (places later : List (Option Reply)) (owed : List ℕ) (words : List (List ℕ)) (reply : Reply) → ended ≡ None → IsAfter manner standing read asked got sent ended held places owed
-      → words ≡ front_of held → Skips held after → released_of standing.transaction ≡ [] → 0 < length words → IsTaken manner standing words (Says reply) next → later ≡ places ++ Some reply ∷ []
+  pub turn-says : (next : Standing) (ended : Option Ending) (held after : Held) (places later : List Place) (owed : List ℕ) (words : List (List ℕ)) (reply : Reply) → ended ≡ None → IsAfter manner standing read asked got sent ended held places owed
+      → words ≡ front_of held → Skips held after → released_of standing.transaction ≡ [] → 0 < length words → IsTaken manner standing words (Says reply) next → later ≡ places ++ Answer reply ∷ []
       → IsAfter manner next read (asked ++ []) got sent ended after later owed
   turn-says next ended held after places later owed words reply going s are skips nothing some is more =
       let s = open-now ended held places owed going s in
       let n = is-next held after s.rest words s.goes.0 are skips in
       asks-none next ended after later owed
       (subst (λ (e : Option Ending). IsAfter manner next read asked got sent e after later owed) (sym going)
-      (subst (λ (p : List (Option Reply)). IsAfter manner next read asked got sent None after p owed) (sym more)
+      (subst (λ (p : List Place). IsAfter manner next read asked got sent None after p owed) (sym more)
       (after-says next held after places owed words reply s n nothing some is)))
 
-  pub turn-skips : (ended : Option Ending) (held after : Held) (places : List (Option Reply)) (owed : List ℕ) (words : List (List ℕ)) → ended ≡ None → IsAfter manner standing read asked got sent ended held places owed
+  pub turn-skips : (ended : Option Ending) (held after : Held) (places : List Place) (owed : List ℕ) (words : List (List ℕ)) → ended ≡ None → IsAfter manner standing read asked got sent ended held places owed
       → words ≡ front_of held → Skips held after → released_of standing.transaction ≡ [] → words ≡ [] → IsAfter manner standing read (asked ++ []) got sent ended after places owed
   turn-skips ended held after places owed words going s are skips nothing none =
       let s = open-now ended held places owed going s in
@@ -289,49 +299,49 @@ module _ (manner : Manner) (standing : Standing) (read : List ℕ) (asked : List
       asks-none standing ended after places owed
       (subst (λ (e : Option Ending). IsAfter manner standing read asked got sent e after places owed) (sym going) (after-skips held after places owed words s n nothing none))
 
-  pub turn-runs : (ended end : Option Ending) (held after : Held) (places later : List (Option Reply)) (owed : List ℕ) (next : Standing) (words : List (List ℕ)) (others : List (List (List ℕ))) (command : Command) → ended ≡ None
+  pub turn-runs : (ended end : Option Ending) (held after : Held) (places later : List Place) (owed : List ℕ) (next : Standing) (words : List (List ℕ)) (others : List (List (List ℕ))) (command : Command) → ended ≡ None
       → IsAfter manner standing read asked got sent ended held places owed → standing.transaction ≡ Released (words ∷ others) → IsRun words (Asks command) → next ≡ (let x : Standing = record standing { transaction = released others } in x)
-      → after ≡ held → later ≡ places ++ None ∷ [] → end ≡ ending_of command → IsAfter manner next read (asked ++ command ∷ []) got sent end after later owed
+      → after ≡ held → later ≡ places ++ Awaits ∷ [] → end ≡ ending_of command → IsAfter manner next read (asked ++ command ∷ []) got sent end after later owed
   turn-runs ended end held after places later owed next words others command going s is runs then same more ends =
       let s = open-now ended held places owed going s in
       subst (λ (e : Option Ending). IsAfter manner next read (asked ++ command ∷ []) got sent e after later owed) (sym ends)
       (subst (λ (h : Held). IsAfter manner next read (asked ++ command ∷ []) got sent (ending_of command) h later owed) (sym same)
-      (subst (λ (p : List (Option Reply)). IsAfter manner next read (asked ++ command ∷ []) got sent (ending_of command) held p owed) (sym more)
-      (subst (λ (n : Standing). IsAfter manner n read (asked ++ command ∷ []) got sent (ending_of command) held (places ++ None ∷ []) owed) (sym then)
+      (subst (λ (p : List Place). IsAfter manner next read (asked ++ command ∷ []) got sent (ending_of command) held p owed) (sym more)
+      (subst (λ (n : Standing). IsAfter manner n read (asked ++ command ∷ []) got sent (ending_of command) held (places ++ Awaits ∷ []) owed) (sym then)
       (after-runs held places owed words others command s is runs))))
 
-  pub turn-run-says : (ended : Option Ending) (held : Held) (places later : List (Option Reply)) (owed : List ℕ) (next : Standing) (words : List (List ℕ)) (others : List (List (List ℕ))) (reply : Reply) → ended ≡ None
+  pub turn-run-says : (ended : Option Ending) (held : Held) (places later : List Place) (owed : List ℕ) (next : Standing) (words : List (List ℕ)) (others : List (List (List ℕ))) (reply : Reply) → ended ≡ None
       → IsAfter manner standing read asked got sent ended held places owed → standing.transaction ≡ Released (words ∷ others) → IsRun words (Says reply) → next ≡ (let x : Standing = record standing { transaction = released others } in x)
-      → later ≡ places ++ Some reply ∷ [] → IsAfter manner next read (asked ++ []) got sent ended held later owed
+      → later ≡ places ++ Answer reply ∷ [] → IsAfter manner next read (asked ++ []) got sent ended held later owed
   turn-run-says ended held places later owed next words others reply going s is runs then more =
       let s = open-now ended held places owed going s in
       asks-none next ended held later owed
       (subst (λ (e : Option Ending). IsAfter manner next read asked got sent e held later owed) (sym going)
-      (subst (λ (p : List (Option Reply)). IsAfter manner next read asked got sent None held p owed) (sym more)
-      (subst (λ (n : Standing). IsAfter manner n read asked got sent None held (places ++ Some reply ∷ []) owed) (sym then)
+      (subst (λ (p : List Place). IsAfter manner next read asked got sent None held p owed) (sym more)
+      (subst (λ (n : Standing). IsAfter manner n read asked got sent None held (places ++ Answer reply ∷ []) owed) (sym then)
       (after-run-says held places owed words others reply s is runs))))
 
-  pub turn-refused : (ended : Option Ending) (held after : Held) (places later : List (Option Reply)) (owed : List ℕ) (fault : ReadFault) → ended ≡ None → IsAfter manner standing read asked got sent ended held places owed
-      → Ready held (Err fault) after → later ≡ places ++ Some (Error Protocol) ∷ [] → IsAfter manner standing read (asked ++ []) got sent (Some ending.Protocol) after later owed
+  pub turn-refused : (ended : Option Ending) (held after : Held) (places later : List Place) (owed : List ℕ) (fault : ReadFault) → ended ≡ None → IsAfter manner standing read asked got sent ended held places owed
+      → Ready held (Err fault) after → later ≡ places ++ Answer (Error Protocol) ∷ [] → IsAfter manner standing read (asked ++ []) got sent (Some ending.Protocol) after later owed
   turn-refused ended held after places later owed fault going s ready more =
       let s = open-now ended held places owed going s in
       let wrong = ready-wrong held s.rest fault after s.goes.0 ready in
       asks-none standing (Some ending.Protocol) after later owed
-      (subst (λ (p : List (Option Reply)). IsAfter manner standing read asked got sent (Some ending.Protocol) after p owed) (sym more)
+      (subst (λ (p : List Place). IsAfter manner standing read asked got sent (Some ending.Protocol) after p owed) (sym more)
       (after-refused held after places owed s (fault-wrong manner standing s.rest after (wrong.0, request-fault s.rest wrong.0 wrong.1, wrong-held held s.rest fault after wrong.0 s.goes.0 wrong.1 ready))))
 
   -- a client that hasn't given the password has sent too much
-  pub turn-much : (ended : Option Ending) (held after : Held) (places later : List (Option Reply)) (owed : List ℕ) → ended ≡ None → IsAfter manner standing read asked got sent ended held places owed
-      → after ≡ held → is_stranger manner standing ≡ true → is_too_much after ≡ true → later ≡ places ++ Some (Error Protocol) ∷ []
+  pub turn-much : (ended : Option Ending) (held after : Held) (places later : List Place) (owed : List ℕ) → ended ≡ None → IsAfter manner standing read asked got sent ended held places owed
+      → after ≡ held → is_stranger manner standing ≡ true → is_too_much after ≡ true → later ≡ places ++ Answer (Error Protocol) ∷ []
       → IsAfter manner standing read (asked ++ []) got sent (Some ending.Protocol) after later owed
   turn-much ended held after places later owed going s same stranger much more =
       let s = open-now ended held places owed going s in
       asks-none standing (Some ending.Protocol) after later owed
-      (subst (λ (p : List (Option Reply)). IsAfter manner standing read asked got sent (Some ending.Protocol) after p owed) (sym more)
+      (subst (λ (p : List Place). IsAfter manner standing read asked got sent (Some ending.Protocol) after p owed) (sym more)
       (after-refused held after places owed s (much-wrong manner standing s.rest after stranger (same ∙ s.goes.0) much)))
 
   -- a reply has come
-  pub after-answered : (ended : Option Ending) (held : Held) (places : List (Option Reply)) (owed : List ℕ) (reply : Reply) → IsAfter manner standing read asked got sent ended held places owed → has_open places ≡ true
+  pub after-answered : (ended : Option Ending) (held : Held) (places : List Place) (owed : List ℕ) (reply : Reply) → IsAfter manner standing read asked got sent ended held places owed → has_open places ≡ true
       → IsAfter manner standing read asked (got ++ reply ∷ []) sent ended held (fill_first reply places) owed
   after-answered ended held places owed reply s still =
       let all = s.taken ++ refusal ended in
@@ -357,8 +367,8 @@ module _ (manner : Manner) (standing : Standing) (read : List ℕ) (asked : List
       }
 
   -- an answer is begun
-  pub after-begun : (ended : Option Ending) (held : Held) (places later : List (Option Reply)) (owed now : List ℕ) (reply : Reply) → IsAfter manner standing read asked got sent ended held places owed
-      → places ≡ Some reply ∷ later → now ≡ owed ++ text reply → IsAfter manner standing read asked got sent ended held later now
+  pub after-begun : (ended : Option Ending) (held : Held) (places later : List Place) (owed now : List ℕ) (reply : Reply) → IsAfter manner standing read asked got sent ended held places owed
+      → places ≡ Answer reply ∷ later → now ≡ owed ++ text reply → IsAfter manner standing read asked got sent ended held later now
   after-begun ended held places later owed now reply s is more = record {
     requests = s.requests;
     front = s.front;
@@ -373,12 +383,12 @@ module _ (manner : Manner) (standing : Standing) (read : List ℕ) (asked : List
     asked_is = s.asked_is;
     fits = s.fits;
     begun = s.begun ++ reply ∷ [];
-    answers = s.answers ∙ ap (λ p. map Some s.begun ++ p) is ∙ begun-more s.begun later reply;
+    answers = s.answers ∙ ap (λ p. map Answer s.begun ++ p) is ∙ begun-more s.begun later reply;
     sent_is = texts-more s.begun reply ∙ ap (λ t. t ++ text reply) s.sent_is ∙ append_assoc sent owed (text reply) ∙ ap (λ o. sent ++ o) (sym more);
   }
 
   -- the front of what is owed is sent
-  pub after-sent : (ended : Option Ending) (held : Held) (places : List (Option Reply)) (owed front behind : List ℕ) → IsAfter manner standing read asked got sent ended held places owed
+  pub after-sent : (ended : Option Ending) (held : Held) (places : List Place) (owed front behind : List ℕ) → IsAfter manner standing read asked got sent ended held places owed
       → owed ≡ front ++ behind → IsAfter manner standing read asked got (sent ++ front) ended held places behind
   after-sent ended held places owed front behind s is = record {
     requests = s.requests;
@@ -399,7 +409,7 @@ module _ (manner : Manner) (standing : Standing) (read : List ℕ) (asked : List
   }
 
   -- more is read
-  pub after-read : (ended : Option Ending) (held later : Held) (places : List (Option Reply)) (owed more : List ℕ) → ended ≡ None → later ≡ with_piece held more → IsAfter manner standing read asked got sent ended held places owed
+  pub after-read : (ended : Option Ending) (held later : Held) (places : List Place) (owed more : List ℕ) → ended ≡ None → later ≡ with_piece held more → IsAfter manner standing read asked got sent ended held places owed
       → IsAfter manner standing (read ++ more) asked got sent ended later places owed
   after-read ended held later places owed more going is s =
       let s = open-now ended held places owed going s in
@@ -422,7 +432,7 @@ module _ (manner : Manner) (standing : Standing) (read : List ℕ) (asked : List
       })
 
 -- as many replies have come as were asked, where none is waited for
-pub after-even : (manner : Manner) (standing : Standing) (read : List ℕ) (asked : List Command) (got : List Reply) (sent : List ℕ) (ended : Option Ending) (held : Held) (places : List (Option Reply)) (owed : List ℕ)
+pub after-even : (manner : Manner) (standing : Standing) (read : List ℕ) (asked : List Command) (got : List Reply) (sent : List ℕ) (ended : Option Ending) (held : Held) (places : List Place) (owed : List ℕ)
     → IsAfter manner standing read asked got sent ended held places owed → has_open places ≡ false → length got ≡ length asked
 after-even manner standing read asked got sent ended held places owed s closed =
     let all = s.taken ++ refusal ended in
@@ -431,7 +441,7 @@ after-even manner standing read asked got sent ended held places owed s closed =
     omega (arith, s.fits, closed-fits all got none, count)
 
 -- nothing is taken yet
-pub after-new : (manner : Manner) (standing : Standing) (bytes : List ℕ) (ended : Option Ending) (held : Held) (places : List (Option Reply)) (owed : List ℕ) → ended ≡ None → held ≡ Ok bytes → places ≡ [] → owed ≡ [] → IsFirst manner standing → IsAfter manner standing bytes [] [] [] ended held places owed
+pub after-new : (manner : Manner) (standing : Standing) (bytes : List ℕ) (ended : Option Ending) (held : Held) (places : List Place) (owed : List ℕ) → ended ≡ None → held ≡ Ok bytes → places ≡ [] → owed ≡ [] → IsFirst manner standing → IsAfter manner standing bytes [] [] [] ended held places owed
 after-new manner standing bytes ended held places owed going is empty all new = subst (λ (e : Option Ending). IsAfter manner standing bytes [] [] [] e held places owed) (sym going) (record {
   requests = [];
   front = [];
@@ -473,11 +483,11 @@ module _ (manner : Manner) (read : List ℕ) (asked : List Command) (got : List 
       omega (arith, even)
 
   -- the call of the request at the front is asked, or has to wait
-  pub session-asked : (old new : Session) (call : Call) (turn : Turn) (words : List (List ℕ)) → old.ended ≡ None → old.alone ≡ false → words ≡ front_of old.requests → released_of old.standing.transaction ≡ [] → 0 < length words
-      → IsTaken manner old.standing words (Asks call.command) old.standing → new.owed ≡ old.owed → AsksOrWaits old call turn new → SessionIsAfter manner read asked got sent old
+  pub session-asked : (old new : Session) (call : Call) (one : Taken) (place : Place) (turn : Turn) (words : List (List ℕ)) → IsAsking one call.command place → old.ended ≡ None → old.alone ≡ false → words ≡ front_of old.requests → released_of old.standing.transaction ≡ [] → 0 < length words
+      → IsTaken manner old.standing words one old.standing → new.owed ≡ old.owed → AsksOrWaits old call place turn new → SessionIsAfter manner read asked got sent old
       → SessionIsAfter manner read (asked ++ asked_in turn) got sent new
-  session-asked old new call turn words going several are nothing some is owed (inl asks) s =
-      let after = turn-asks manner old.standing read asked got sent old.standing old.ended new.ended old.requests new.requests old.places new.places (bytes_left old.owed) words call.command going s.0 are asks.skips nothing some is asks.places asks.ended in
+  session-asked old new call one place turn words asking going several are nothing some is owed (inl asks) s =
+      let after = turn-asks manner old.standing read asked got sent old.standing old.ended new.ended old.requests new.requests old.places new.places (bytes_left old.owed) words one call.command place asking going s.0 are asks.skips nothing some is asks.places asks.ended in
       let waiting = open-more new.alone (length got) asked call.command s.0.fits (subst (λ (b : Bool). MayBeOpen b (drop (length got) asked)) several s.1) asks.alone
       (λ alone. session-closed old s (ap has_open (asks.gathered alone).0)) in
       subst (λ (t : Turn). SessionIsAfter manner read (asked ++ asked_in t) got sent new) (sym asks.asks) (
@@ -485,7 +495,7 @@ module _ (manner : Manner) (read : List ℕ) (asked : List Command) (got : List 
             (subst (λ (n : Standing). IsAfter manner n read (asked ++ call.command ∷ []) got sent new.ended new.requests new.places (bytes_left old.owed)) (sym asks.standing) after),
         waiting,
       )
-  session-asked old new call turn words going several are nothing some is owed (inr (full, same)) s =
+  session-asked old new call one place turn words asking going several are nothing some is owed (inr (full, same)) s =
       subst (λ (t : Turn). SessionIsAfter manner read (asked ++ asked_in t) got sent new) (sym full)
       (subst (λ (a : List Command). SessionIsAfter manner read a got sent new) (sym (append-nil asked))
       (subst (λ (n : Session). SessionIsAfter manner read asked got sent n) (sym same) (s.0, inl (subst (λ (b : Bool). MayBeOpen b (drop (length got) asked)) several s.1))))
@@ -508,8 +518,8 @@ module _ (manner : Manner) (read : List ℕ) (asked : List Command) (got : List 
       (subst (λ (n : Session). SessionIsAfter manner read asked got sent n) (sym same) (s.0, inl (subst (λ (b : Bool). MayBeOpen b (drop (length got) asked)) several s.1))))
 
   -- or it is answered
-  pub session-run-says : (old : Session) (places : List (Option Reply)) (next : Standing) (words : List (List ℕ)) (others : List (List (List ℕ))) (reply : Reply) → old.ended ≡ None
-      → old.standing.transaction ≡ Released (words ∷ others) → IsRun words (Says reply) → next ≡ (let x : Standing = record old.standing { transaction = released others } in x) → places ≡ old.places ++ Some reply ∷ []
+  pub session-run-says : (old : Session) (places : List Place) (next : Standing) (words : List (List ℕ)) (others : List (List (List ℕ))) (reply : Reply) → old.ended ≡ None
+      → old.standing.transaction ≡ Released (words ∷ others) → IsRun words (Says reply) → next ≡ (let x : Standing = record old.standing { transaction = released others } in x) → places ≡ old.places ++ Answer reply ∷ []
       → SessionIsAfter manner read asked got sent old → IsAfter manner next read (asked ++ []) got sent old.ended old.requests places (bytes_left old.owed) × MayBeOpen old.alone (drop (length got) (asked ++ []))
   session-run-says old places next words others reply going is runs then more s = (
     turn-run-says manner old.standing read asked got sent old.ended old.requests old.places places (bytes_left old.owed) next words others reply going s.0 is runs then more,
@@ -517,9 +527,9 @@ module _ (manner : Manner) (read : List ℕ) (asked : List Command) (got : List 
   )
 
   -- the protocol error is the last answer
-  pub session-refused : (old new : Session) (held : Held) (result : Turn) → new ≡ (let x : Session = record old { requests = held; places = old.places ++ Some (Error Protocol) ∷ []; ended = Some ending.Protocol } in x)
+  pub session-refused : (old new : Session) (held : Held) (result : Turn) → new ≡ (let x : Session = record old { requests = held; places = old.places ++ Answer (Error Protocol) ∷ []; ended = Some ending.Protocol } in x)
       → result ≡ turn.Ends ending.Protocol → MayBeOpen old.alone (drop (length got) asked)
-      → IsAfter manner old.standing read (asked ++ []) got sent (Some ending.Protocol) held (old.places ++ Some (Error Protocol) ∷ []) (bytes_left old.owed)
+      → IsAfter manner old.standing read (asked ++ []) got sent (Some ending.Protocol) held (old.places ++ Answer (Error Protocol) ∷ []) (bytes_left old.owed)
       → SessionIsAfter manner read (asked ++ asked_in result) got sent new
   session-refused old new held result is ends few after =
       subst (λ (t : Turn). SessionIsAfter manner read (asked ++ asked_in t) got sent new) (sym ends)

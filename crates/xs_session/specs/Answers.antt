@@ -1,6 +1,6 @@
 -- What becomes of the requests of a connection: what is asked, and what each is answered.
-use Rattle.std.specs.Prelude.{◌≡◌, ℕ, ◌≤◌, ◌⊎◌, Bool, true, false, not, ◌||◌, List, [], ◌∷◌, ◌++◌, length, codes, Option}
-use Rattle.std.specs.Prelude.{Some, None, Ok, Err}
+use Rattle.std.specs.Prelude.{◌≡◌, ℕ, ◌≤◌, ◌⊎◌, Bool, true, false, not, ◌||◌, List, [], ◌∷◌, ◌++◌, length, codes}
+use Rattle.std.specs.Prelude.{Ok, Err}
 use Rattle.std.specs.List.{list_any, AllByRecursion}
 use Rattle.xs_resp.specs.declared.fault.Fault.TheVariants.{UnknownCommand, Memory}
 use Rattle.xs_resp.specs.declared.reply.Reply.{Reply}
@@ -8,6 +8,7 @@ use Rattle.xs_resp.specs.declared.reply.Reply.TheVariants.{Error}
 use Rattle.xs_command.specs.declared.command.Command.{Command}
 use Rattle.xs_command.specs.declared.command.Command.TheVariants.{Quit, Scan, ReadGroup, PendingRows, Claim, AutoClaim}
 use Rattle.xs_command.specs.declared.command.Command.TheVariants.{Inspect}
+use Rattle.xs_command.specs.declared.command.Inspection.TheVariants.{KeyCount}
 use Rattle.xs_command.specs.Read.{command_of_words}
 use Rattle.xs_command.specs.Words.{is_word}
 use Rattle.xs_resp.specs.declared.fault.Fault.{Fault}
@@ -18,10 +19,15 @@ use Rattle.xs_connection.specs.declared.transaction.Transaction.{Transaction}
 use Rattle.xs_connection.specs.declared.transaction.Transaction.TheVariants.{Released}
 use Rattle.xs_session.specs.declared.manner.Manner.{Manner}
 use Rattle.xs_session.specs.declared.manner.Manner.TheVariants.{Plain, Full}
+use Rattle.xs_session.specs.declared.places.Place.{Place}
+use Rattle.xs_session.specs.declared.places.Place.TheVariants.{Answer, Awaits, AwaitsKeys}
+use Rattle.xs_session.specs.Information.{asks_keys, informed}
 
--- what becomes of a request: its command is asked, or it is answered at once
+-- what becomes of a request: its command is asked; or how many keys there are, for an answer that tells this besides;
+-- or it is answered at once
 pub data Taken : Type 0 where
   Asks : Command → Taken
+  Informs : List ℕ → Taken
   Says : Reply → Taken
 
 -- a request of this name ends a connection, and may always be asked
@@ -44,9 +50,10 @@ abbrev pub goes_at_once : Standing → Command → Bool
 goes_at_once standing Quit = true
 goes_at_once standing command = not (is_queueing standing.transaction)
 
--- what words with this fault are answered: an unknown command may be one of the connection
+-- what words with this fault are answered: an unknown command may be one of the connection, which asks nothing
 abbrev pub IsSaid : Manner → Standing → List (List ℕ) → Fault → Reply → Standing → Type 0
-IsSaid (Full wanted) old words UnknownCommand reply new = IsAnswered wanted old words reply new
+IsSaid (Full wanted) old words UnknownCommand reply new =
+    (asks_keys old words ≡ false) × IsAnswered wanted old words reply new
 IsSaid manner old words fault reply new = (reply ≡ Error fault) × (new ≡ spoilt old)
 
 -- what words are answered whose command waits for EXEC
@@ -62,18 +69,25 @@ IsRefused manner asks old words reply new =
     ((fault : Fault) × (command_of_words words ≡ Err fault) × IsSaid manner old words fault reply new)
     ⊎ IsKept old words reply new
 
--- what becomes of words, and how the connection stands then: they are a command, which is asked; or they are answered at
--- once; or memory ran out
+-- words that ask how many keys there are, of a connection that may
+abbrev pub IsAskedForKeys : Manner → Standing → List (List ℕ) → Type 0
+IsAskedForKeys Plain old words = ⊥
+IsAskedForKeys (Full wanted) old words = (may_ask (Full wanted) old words ≡ true) × (asks_keys old words ≡ true)
+
+-- what becomes of words, and how the connection stands then: they are a command, which is asked; or INFO, which asks how
+-- many keys there are; or they are answered at once; or memory ran out
 abbrev pub IsTaken : Manner → Standing → List (List ℕ) → Taken → Standing → Type 0
 IsTaken manner old words (Asks command) new =
     (may_ask manner old words ≡ true) × (command_of_words words ≡ Ok command) × (goes_at_once old command ≡ true)
     × (new ≡ old)
+IsTaken manner old words (Informs told) new = IsAskedForKeys manner old words × (new ≡ old)
 IsTaken manner old words (Says reply) new =
     IsRefused manner (may_ask manner old words) old words reply new ⊎ ((reply ≡ Error Memory) × (new ≡ spoilt old))
 
 -- what becomes of words that EXEC has let go
 abbrev pub IsRun : List (List ℕ) → Taken → Type 0
 IsRun words (Asks command) = command_of_words words ≡ Ok command
+IsRun words (Informs told) = ⊥
 IsRun words (Says reply) =
     ((fault : Fault) × (command_of_words words ≡ Err fault) × (reply ≡ Error fault)) ⊎ (reply ≡ Error Memory)
 
@@ -99,14 +113,17 @@ AreTaken manner old ((word ∷ words) ∷ requests) taken new =
 abbrev pub asked_of : List Taken → List Command
 asked_of [] = []
 asked_of (Asks command ∷ more) = command ∷ asked_of more
+asked_of (Informs told ∷ more) = Inspect KeyCount ∷ asked_of more
 asked_of (Says reply ∷ more) = asked_of more
 
--- what each is answered once these replies have come to what was asked, in order; nothing, where one is waited for
-abbrev pub answers_to : List Taken → List Reply → List (Option Reply)
+-- what each is answered once these replies have come to what was asked, in order, and what waits for a reply
+abbrev pub answers_to : List Taken → List Reply → List Place
 answers_to [] got = []
-answers_to (Says reply ∷ more) got = Some reply ∷ answers_to more got
-answers_to (Asks command ∷ more) [] = None ∷ answers_to more []
-answers_to (Asks command ∷ more) (reply ∷ got) = Some reply ∷ answers_to more got
+answers_to (Says reply ∷ more) got = Answer reply ∷ answers_to more got
+answers_to (Asks command ∷ more) [] = Awaits ∷ answers_to more []
+answers_to (Asks command ∷ more) (reply ∷ got) = Answer reply ∷ answers_to more got
+answers_to (Informs told ∷ more) [] = AwaitsKeys told ∷ answers_to more []
+answers_to (Informs told ∷ more) (reply ∷ got) = Answer (informed told reply) ∷ answers_to more got
 
 -- its reply may be of any size, or long in coming: it is asked alone
 abbrev pub is_alone : Command → Bool

@@ -1,7 +1,7 @@
 -- What becomes of requests, by examples: their words are commands, or have a fault, as docs/COMMANDS.md tells it; the
 -- texts are those of the RESP protocol specification (version 2). That a request may find no memory, and that some
 -- commands are asked alone, are this server's own rules.
-use Rattle.std.specs.Prelude.{◌≡◌, ℕ, Bool, true, false, List, [], ◌∷◌, codes, Some, None, Result, Ok}
+use Rattle.std.specs.Prelude.{◌≡◌, ℕ, Bool, true, false, List, [], ◌∷◌, codes, None, Result, Ok}
 use Rattle.std.specs.Result.{result_map_both}
 use Rattle.xs_stream.specs.declared.add.AddId.TheVariants.{Exact}
 use Rattle.xs_stream.specs.Examples.{at}
@@ -17,6 +17,7 @@ use Rattle.xs_command.specs.ExamplesStreams.{adds, scans}
 use Rattle.xs_connection.specs.declared.standing.Standing.{Standing}
 use Rattle.xs_connection.specs.declared.transaction.Transaction.TheVariants.{Closed}
 use Rattle.xs_session.specs.declared.manner.Manner.TheVariants.{Plain}
+use Rattle.xs_session.specs.declared.places.Place.TheVariants.{Answer, Awaits}
 use Rattle.xs_session.specs.Answers.{Taken, Asks, Says, IsTaken, AreTaken, asked_of, answers_to}
 use Rattle.xs_session.specs.Answers.{is_alone, MayBeOpen, quits, has_quit}
 
@@ -78,15 +79,15 @@ pub record Answering : Type 0 where
   pub nothing_taken : answers_to [] [] ≡ []
   pub no_reply_yet :
       answers_to (Asks ping ∷ Says (Error UnknownCommand) ∷ Asks len ∷ []) []
-      ≡ None ∷ Some (Error UnknownCommand) ∷ None ∷ []
+      ≡ Awaits ∷ Answer (Error UnknownCommand) ∷ Awaits ∷ []
   pub one_reply :
       answers_to (Asks ping ∷ Says (Error UnknownCommand) ∷ Asks len ∷ []) (Simple Pong ∷ [])
-      ≡ Some (Simple Pong) ∷ Some (Error UnknownCommand) ∷ None ∷ []
+      ≡ Answer (Simple Pong) ∷ Answer (Error UnknownCommand) ∷ Awaits ∷ []
   pub both_replies :
       answers_to (Asks ping ∷ Says (Error UnknownCommand) ∷ Asks len ∷ []) (Simple Pong ∷ Int 2 ∷ [])
-      ≡ Some (Simple Pong) ∷ Some (Error UnknownCommand) ∷ Some (Int 2) ∷ []
+      ≡ Answer (Simple Pong) ∷ Answer (Error UnknownCommand) ∷ Answer (Int 2) ∷ []
   pub a_fault_before :
-      answers_to (Says (Error Arity) ∷ Asks ping ∷ []) (Simple Pong ∷ []) ≡ Some (Error Arity) ∷ Some (Simple Pong) ∷ []
+      answers_to (Says (Error Arity) ∷ Asks ping ∷ []) (Simple Pong ∷ []) ≡ Answer (Error Arity) ∷ Answer (Simple Pong) ∷ []
   pub a_quit : quits (Asks command.Quit) ≡ true
   pub another_command : quits (Asks ping) ≡ false
   pub no_quit_of_a_fault : quits (Says (Error Memory)) ≡ false

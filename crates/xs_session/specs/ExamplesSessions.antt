@@ -14,6 +14,8 @@ use Rattle.xs_command.specs.declared.command.Command.TheVariants as command
 use Rattle.xs_session.specs.declared.ending.Ending.{Ending}
 use Rattle.xs_session.specs.declared.ending.Ending.TheVariants as ending
 use Rattle.xs_session.specs.Session.{IsAfter}
+use Rattle.xs_session.specs.declared.places.Place.{Place}
+use Rattle.xs_session.specs.declared.places.Place.TheVariants.{Answer, Awaits}
 use Rattle.xs_session.specs.declared.manner.Manner.TheVariants.{Plain}
 use Rattle.xs_session.specs.Examples.{ping, len, add, anyone}
 
@@ -36,20 +38,20 @@ bytes_of_get = wire (codes "*2^$3^GET^$1^k^")
 
 -- the same where all commands are those of the keyspace
 abbrev pub IsPlainAfter :
-    List ℕ → List Command → List Reply → List ℕ → Option Ending → Held → List (Option Reply) → List ℕ → Type 0
+    List ℕ → List Command → List Reply → List ℕ → Option Ending → Held → List Place → List ℕ → Type 0
 IsPlainAfter read asked got sent ended held places owed =
     IsAfter Plain anyone read asked got sent ended held places owed
 
 pub record Sessions : Type 0 where
   pub nothing : IsPlainAfter [] [] [] [] None (Ok []) [] []
-  pub asked : IsPlainAfter bytes_of_ping (ping ∷ []) [] [] None (Ok []) (None ∷ []) []
-  pub reply_came : IsPlainAfter bytes_of_ping (ping ∷ []) (Simple Pong ∷ []) [] None (Ok []) (Some (Simple Pong) ∷ []) []
+  pub asked : IsPlainAfter bytes_of_ping (ping ∷ []) [] [] None (Ok []) (Awaits ∷ []) []
+  pub reply_came : IsPlainAfter bytes_of_ping (ping ∷ []) (Simple Pong ∷ []) [] None (Ok []) (Answer (Simple Pong) ∷ []) []
   pub answered :
       IsPlainAfter bytes_of_ping (ping ∷ []) (Simple Pong ∷ []) (wire (codes "+PONG^")) None (Ok []) [] []
   pub sent_in_part :
       IsPlainAfter bytes_of_ping (ping ∷ []) (Simple Pong ∷ []) (codes "+PO") None (Ok []) [] (wire (codes "NG^"))
   pub part_of_a_request :
-      IsPlainAfter (bytes_of_ping ++ codes "*2") (ping ∷ []) [] [] None (Ok (codes "*2")) (None ∷ []) []
+      IsPlainAfter (bytes_of_ping ++ codes "*2") (ping ∷ []) [] [] None (Ok (codes "*2")) (Awaits ∷ []) []
   pub request_not_taken_yet : IsPlainAfter bytes_of_ping [] [] [] None (Ok bytes_of_ping) [] []
   pub an_addition :
       IsPlainAfter bytes_of_add (add ∷ []) (Bulk (codes "1-1") ∷ [])
@@ -59,7 +61,7 @@ pub record Sessions : Type 0 where
       (wire (codes "+PONG^-ERR unknown command^:2^")) None (Ok []) [] []
   pub an_unknown_command_behind_an_open_reply :
       IsPlainAfter (bytes_of_ping ++ (bytes_of_get ++ bytes_of_len)) (ping ∷ len ∷ []) [] [] None (Ok [])
-      (None ∷ Some (Error UnknownCommand) ∷ None ∷ []) []
+      (Awaits ∷ Answer (Error UnknownCommand) ∷ Awaits ∷ []) []
   pub no_words : IsPlainAfter (wire (codes "*0^*-1^")) [] [] [] None (Ok []) [] []
   pub no_memory : IsPlainAfter bytes_of_ping [] [] (wire (codes "-OOM out of memory^")) None (Ok []) [] []
   pub a_quit :
@@ -72,12 +74,12 @@ pub record Sessions : Type 0 where
 -- these bytes can't have been sent, whatever has a place or is owed
 abbrev pub IsNeverSent : List ℕ → List Command → List Reply → List ℕ → Option Ending → Held → Type 0
 IsNeverSent read asked got sent ended held =
-    (places : List (Option Reply)) (owed : List ℕ) → IsPlainAfter read asked got sent ended held places owed → ⊥
+    (places : List Place) (owed : List ℕ) → IsPlainAfter read asked got sent ended held places owed → ⊥
 
 -- these commands can't have been asked, whatever has happened besides
 abbrev pub IsNeverAsked : List ℕ → List Command → Option Ending → Held → Type 0
 IsNeverAsked read asked ended held =
-    (got : List Reply) (sent : List ℕ) (places : List (Option Reply)) (owed : List ℕ) →
+    (got : List Reply) (sent : List ℕ) (places : List Place) (owed : List ℕ) →
     IsPlainAfter read asked got sent ended held places owed → ⊥
 
 pub record NoSessions : Type 0 where
@@ -94,7 +96,7 @@ pub record NoSessions : Type 0 where
   pub an_answer_invented : IsNeverSent bytes_of_ping [] [] (wire (codes "+PONG^")) None (Ok [])
   pub an_answer_to_no_words : IsNeverSent (wire (codes "*0^")) [] [] (wire (codes "-OOM out of memory^")) None (Ok [])
   pub a_reply_to_nothing :
-      (places : List (Option Reply)) → IsPlainAfter [] [] (Simple Pong ∷ []) [] None (Ok []) places [] → ⊥
+      (places : List Place) → IsPlainAfter [] [] (Simple Pong ∷ []) [] None (Ok []) places [] → ⊥
   pub asked_twice : IsNeverAsked bytes_of_ping (ping ∷ ping ∷ []) None (Ok [])
   pub asked_behind_a_quit :
       (ended : Option Ending) (held : Held) →

@@ -6,6 +6,8 @@ use Rattle.xs_command.specs.declared.command.Command.TheVariants as command
 use Rattle.xs_desk.specs.declared.answer.Call.{Call}
 use Rattle.xs_session.specs.declared.ending.Ending.TheVariants as ending
 use Rattle.xs_session.specs.declared.manner.Manner.{Manner}
+use Rattle.xs_session.specs.declared.places.Place.{Place}
+use Rattle.xs_session.specs.declared.places.Place.TheVariants.{Awaits}
 use Rattle.xs_session.specs.declared.session.Session.{Session}
 use Rattle.xs_session.specs.declared.session.Turn.{Turn}
 use Rattle.xs_session.specs.declared.session.Turn.TheVariants as turn
@@ -35,6 +37,7 @@ pub record Turns : Type 0 where
 pub record TurnsOfSessions : Type 0 where
   pub begins_with_nothing :
       (manner : Manner) (session : Session) → IsNew manner session → SessionIsAfter manner [] [] [] [] session
-  pub an_open_reply_is_not_gathered : (session : Session) → session.places ≡ None ∷ [] → IsGathered session → ⊥
+  pub an_open_reply_is_not_gathered : (session : Session) → session.places ≡ Awaits ∷ [] → IsGathered session → ⊥
   pub a_read_beside_others :
-      (old new : Session) (result : Turn) → old.places ≡ None ∷ [] → AsksFront old (call_of scan) result new → ⊥
+      (old new : Session) (place : Place) (result : Turn) → old.places ≡ Awaits ∷ [] →
+      AsksFront old (call_of scan) place result new → ⊥

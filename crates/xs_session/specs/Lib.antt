@@ -1,10 +1,13 @@
+pub mod Information
 pub mod Answers
 pub mod Strangers
 pub mod Tally
 pub mod Places
 pub mod Session
+pub mod Taking
 pub mod Examples
 pub mod ExamplesPlaces
 pub mod ExamplesSessions
 pub mod ExamplesTurns
 pub mod ExamplesManners
+pub mod ExamplesInformation

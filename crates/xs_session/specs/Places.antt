@@ -1,32 +1,41 @@
 -- The places of answers, in the order of their requests: those that are there, and those that are waited for.
-use Rattle.std.specs.Prelude.{Bool, true, false, List, [], ◌∷◌, ◌++◌, map, Option, Some, None}
+use Rattle.std.specs.Prelude.{Bool, true, false, List, [], ◌∷◌, ◌++◌, map}
 use Rattle.std.specs.List.{list_any}
 use Rattle.xs_resp.specs.declared.reply.Reply.{Reply}
+use Rattle.xs_session.specs.declared.places.Place.{Place}
+use Rattle.xs_session.specs.declared.places.Place.TheVariants.{Answer, Awaits, AwaitsKeys}
+use Rattle.xs_session.specs.Information.{informed}
 
-abbrev pub is_open : Option Reply → Bool
-is_open None = true
-is_open (Some reply) = false
+abbrev pub is_open : Place → Bool
+is_open (Answer reply) = false
+is_open _ = true
 
 -- an answer is waited for
-abbrev pub has_open : List (Option Reply) → Bool
+abbrev pub has_open : List Place → Bool
 has_open places = list_any is_open places
 
--- the first that is waited for has come
-abbrev pub fill_first : Reply → List (Option Reply) → List (Option Reply)
+-- the answer at a place, once a reply that it waits for has come
+abbrev pub answered : Place → Reply → Reply
+answered (Answer other) reply = other
+answered Awaits reply = reply
+answered (AwaitsKeys told) reply = informed told reply
+
+-- the reply has come that the first place waits for
+abbrev pub fill_first : Reply → List Place → List Place
 fill_first reply [] = []
-fill_first reply (None ∷ places) = Some reply ∷ places
-fill_first reply (Some other ∷ places) = Some other ∷ fill_first reply places
+fill_first reply (Answer other ∷ places) = Answer other ∷ fill_first reply places
+fill_first reply (place ∷ places) = Answer (answered place reply) ∷ places
 
 -- replies that are there, and behind them those that wait for the replies before them
-abbrev pub places_of : List Reply → List (Option Reply) → List (Option Reply)
-places_of ready behind = map Some ready ++ behind
+abbrev pub places_of : List Reply → List Place → List Place
+places_of ready behind = map Answer ready ++ behind
 
 -- nothing behind is ready
-abbrev pub IsSettled : List (Option Reply) → Type 0
-IsSettled (Some reply ∷ behind) = ⊥
+abbrev pub IsSettled : List Place → Type 0
+IsSettled (Answer reply ∷ behind) = ⊥
 IsSettled _ = Unit {0}
 
 -- none is there
-abbrev pub NoneReady : List (Option Reply) → Type 0
-NoneReady (Some reply ∷ places) = ⊥
+abbrev pub NoneReady : List Place → Type 0
+NoneReady (Answer reply ∷ places) = ⊥
 NoneReady _ = Unit {0}

@@ -27,6 +27,9 @@ use Rattle.xs_session.specs.declared.session.Session.{Session}
 use Rattle.xs_session.specs.declared.session.Turn.{Turn}
 use Rattle.xs_session.specs.declared.session.Turn.TheVariants as turn
 use Rattle.xs_session.specs.Strangers.{is_too_much}
+use Rattle.xs_session.specs.Places.{is_open}
+use Rattle.xs_session.specs.declared.places.Place.{Place}
+use Rattle.xs_session.specs.declared.places.Place.TheVariants.{Answer, Awaits}
 use Rattle.xs_session.specs.Answers.{is_stranger, Taken, Asks, Says, AreTaken, MayBeOpen, is_alone, asked_of, answers_to, has_quit}
 
 -- the texts of replies
@@ -68,7 +71,7 @@ IsFirst (Full wanted) standing = standing ≡ as_new wanted standing
 -- owed of them. The others have places, some of which wait for their reply.
 pub record IsAfter
     (manner : Manner) (standing : Standing) (read : List ℕ) (asked : List Command) (got : List Reply) (sent : List ℕ)
-    (ended : Option Ending) (held : Held) (places : List (Option Reply)) (owed : List ℕ) : Type 0 where
+    (ended : Option Ending) (held : Held) (places : List Place) (owed : List ℕ) : Type 0 where
   pub requests : List (List (List ℕ))
   pub front : List ℕ
   pub rest : List ℕ
@@ -82,7 +85,7 @@ pub record IsAfter
   pub asked_is : asked ≡ asked_of taken
   pub fits : length got ≤ length asked
   pub begun : List Reply
-  pub answers : answers_to (taken ++ refusal ended) got ≡ map Some begun ++ places
+  pub answers : answers_to (taken ++ refusal ended) got ≡ map Answer begun ++ places
   pub sent_is : texts begun ≡ sent ++ owed
 
 -- so is a session; and what it asks alone is open alone
@@ -115,11 +118,12 @@ abbrev pub asked_in : Turn → List Command
 asked_in (turn.Asks call) = call.command ∷ []
 asked_in _ = []
 
--- the call of the request at the front was asked; alone only once every answer is gathered
-pub record AsksFront (old : Session) (call : Call) (result : Turn) (new : Session) : Type 0 where
+-- the call of the request at the front was asked, and its reply or its answer is waited for here; alone only once every
+-- answer is gathered
+pub record AsksFront (old : Session) (call : Call) (place : Place) (result : Turn) (new : Session) : Type 0 where
   pub asks : result ≡ turn.Asks call
   pub skips : Skips old.requests new.requests
-  pub places : new.places ≡ old.places ++ None ∷ []
+  pub places : new.places ≡ old.places ++ place ∷ []
   pub ended : new.ended ≡ ending_of call.command
   pub alone : new.alone ≡ is_alone call.command
   pub gathered : is_alone call.command ≡ true → IsGathered old
@@ -134,7 +138,7 @@ pub record AsksReleased (old : Session) (command : Command) (result : Turn) (new
   pub others : List (List (List ℕ))
   pub released_is : old.standing.transaction ≡ Released (words ∷ others)
   pub said : command_of_words words ≡ Ok command
-  pub places : new.places ≡ old.places ++ None ∷ []
+  pub places : new.places ≡ old.places ++ Awaits ∷ []
   pub held : new.requests ≡ old.requests
   pub ended : new.ended ≡ ending_of command
   pub alone : new.alone ≡ is_alone command
@@ -142,9 +146,9 @@ pub record AsksReleased (old : Session) (command : Command) (result : Turn) (new
   pub standing : new.standing ≡ record old.standing { transaction = released others }
 
 -- it was, or it is to be asked alone and has to wait
-abbrev pub AsksOrWaits : Session → Call → Turn → Session → Type 0
-AsksOrWaits old call result new =
-    AsksFront old call result new ⊎ ((result ≡ turn.Full) × (new ≡ record old { alone = true }))
+abbrev pub AsksOrWaits : Session → Call → Place → Turn → Session → Type 0
+AsksOrWaits old call place result new =
+    AsksFront old call place result new ⊎ ((result ≡ turn.Full) × (new ≡ record old { alone = true }))
 
 abbrev pub ReleasesOrWaits : Session → Command → Turn → Session → Type 0
 ReleasesOrWaits old command result new =
@@ -157,10 +161,10 @@ Takes wants_words turn.Full = Unit {0}
 Takes wants_words (turn.Asks call) = IsFormed call × (wants_words ≡ true → is_some call.words ≡ true)
 Takes wants_words _ = ⊥
 
--- a turn takes one place at most: of a call that is asked, which waits for its reply; else of an answer, which is there
-abbrev pub TakesPlace : Turn → List (Option Reply) → List (Option Reply) → Type 0
-TakesPlace (turn.Asks call) old new = new ≡ old ++ None ∷ []
-TakesPlace _ old new = (new ≡ old) ⊎ ((reply : Reply) × (new ≡ old ++ Some reply ∷ []))
+-- a turn takes one place at most: of a call that is asked, whose answer is waited for; else of an answer, which is there
+abbrev pub TakesPlace : Turn → List Place → List Place → Type 0
+TakesPlace (turn.Asks call) old new = (place : Place) × (is_open place ≡ true) × (new ≡ old ++ place ∷ [])
+TakesPlace _ old new = (new ≡ old) ⊎ ((reply : Reply) × (new ≡ old ++ Answer reply ∷ []))
 
 -- what was taken, or isn't whole yet, is no more than a client may send before it has given the password
 abbrev pub IsHeard : Manner → Standing → Held → Turn → Type 0

@@ -2,6 +2,7 @@
 #![tactic(auto, unfolding(xs_command::proofs::Computing::example_functions, xs_connection::proofs::Computing::example_functions))]
 
 ghost use Rattle.xs_session.specs.Examples.{Takings, TakenInOrder, Answering, Alone, Open};
+ghost use Rattle.xs_session.specs.ExamplesInformation.{Sections, Lines, Informing};
 ghost use Rattle.xs_session.specs.ExamplesManners.{Free, Guarded, Transactions};
 ghost use Rattle.xs_session.specs.ExamplesPlaces.{Places};
 ghost use Rattle.xs_session.specs.ExamplesSessions.{Sessions, NoSessions};
@@ -30,6 +31,21 @@ pub fn guarded()
 /// What requests become between MULTI and EXEC.
 pub fn transactions()
     ensures { Transactions }
+{}
+
+/// Which words ask how many keys there are.
+pub fn sections()
+    ensures { Sections }
+{}
+
+/// The line of the keyspace.
+pub fn lines()
+    ensures { Lines }
+{}
+
+/// What becomes of INFO.
+pub fn informing()
+    ensures { Informing }
 {}
 
 /// What is asked, and what each request is answered as the replies come.

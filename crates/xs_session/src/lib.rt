@@ -4,6 +4,8 @@
 
 pub mod ending;
 pub mod examples;
+pub mod information;
+mod informing;
 pub mod manner;
 pub mod places;
 mod releasing;
@@ -14,9 +16,10 @@ pub mod taking;
 pub mod tally;
 
 pub use ending::Ending;
+pub use information::{Information, names_keyspace};
 pub use manner::Manner;
-pub use places::{AHEAD, Places};
+pub use places::{AHEAD, Place, Places};
 pub use reserve::Reserve;
 pub use session::{Session, Turn};
-pub use taking::take_request;
+pub use taking::{Taking, take_request};
 pub use tally::Tally;

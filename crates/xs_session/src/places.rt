@@ -1,8 +1,11 @@
 //! The places of the answers that aren't begun yet.
-ghost use Rattle.std.specs.Prelude.{◌≡◌, ◌+◌, ◌<◌, ◌≤◌, ◌++◌, ◌∷◌, [], length, true, Some, None, IfOk, MatchOption};
+ghost use Rattle.std.specs.Prelude.{◌≡◌, ◌+◌, ◌<◌, ◌≤◌, ◌++◌, ◌∷◌, [], length, true, IfOk, MatchOption};
 ghost use Rattle.std.specs.VecDeque.{deque_len, deque_capacity};
-ghost use Rattle.xs_session.specs.Places.{has_open, fill_first, places_of, IsSettled, NoneReady};
+ghost use Rattle.xs_session.specs.declared.places.Place.TheVariants as place;
+ghost use Rattle.xs_session.specs.Places.{is_open, has_open, answered, fill_first, places_of, IsSettled};
+ghost use Rattle.xs_session.specs.Places.{NoneReady};
 
+use crate::information::Information;
 use std::alloc::{AllocError, Global};
 use std::collections::VecDeque;
 use std::marker::Model;
@@ -11,22 +14,48 @@ use xs_resp::Reply;
 /// The most places.
 pub const AHEAD: usize = 32;
 
+/// The place of an answer.
+#[derive(Drop)]
+pub enum Place {
+    /// The answer is there.
+    Answer(Reply),
+    /// A reply is waited for, which is the answer.
+    Awaits,
+    /// A reply is waited for that says how many keys there are. The answer tells this besides.
+    AwaitsKeys(Information),
+}
+
+impl Place {
+    ghost use Rattle.std.specs.Prelude.{◌≡◌};
+
+    /// The answer at this place, once a reply that it waits for has come.
+    fn answer(self, reply: Reply) -> Reply
+        ensures { result ≡ answered self reply }
+    {
+        match self {
+            Place::Answer(other) => other,
+            Place::Awaits => reply,
+            Place::AwaitsKeys(information) => information.answer(reply),
+        }
+    }
+}
+
 /// The places of answers, in the order of their requests: those that are there, and then from the first one on that is
-/// waited for. A contract sees the list of the answers.
+/// waited for. A contract sees the list of the places.
 #[derive(Drop)]
 pub struct Places {
     ready: VecDeque<Reply>,
-    // None is waited for. An answer that nothing was asked for may come behind what is waited for.
-    behind: VecDeque<Option<Reply>>,
+    // An answer that nothing was asked for may come behind what is waited for.
+    behind: VecDeque<Place>,
 }
 
 impl Model for Places {
-    ghost use Rattle.std.specs.Prelude.{List, Option, ◌+◌, ◌≤◌};
+    ghost use Rattle.std.specs.Prelude.{List, ◌+◌, ◌≤◌};
     ghost use Rattle.std.specs.VecDeque.{deque_len, deque_capacity};
-    ghost use Rattle.xs_resp.specs.declared.reply.Reply.{Reply};
+    ghost use Rattle.xs_session.specs.declared.places.Place.{Place};
     ghost use Rattle.xs_session.specs.Places.{places_of, IsSettled};
 
-    ghost Value = { List (Option Reply) };
+    ghost Value = { List Place };
 
     ghost view = { λ p. places_of p.ready.items p.behind.items };
 
@@ -35,7 +64,7 @@ impl Model for Places {
 }
 
 impl Places {
-    ghost use Rattle.std.specs.Prelude.{◌≡◌, ◌<◌, ◌≤◌, ◌++◌, ◌∷◌, [], length, true, Some, None, IfOk, MatchOption};
+    ghost use Rattle.std.specs.Prelude.{◌≡◌, ◌<◌, ◌≤◌, ◌++◌, ◌∷◌, [], length, true, IfOk, MatchOption};
 
     /// No place, with the memory for all.
     pub fn new(alloc: Global) -> Result<Self, AllocError>
@@ -79,54 +108,55 @@ impl Places {
     }
 
     /// One more, which is waited for.
-    pub fn ask(&mut self)
-        requires { length self.old < 32 }
-        ensures { self.new ≡ self.old ++ None ∷ [] }
+    pub fn ask(&mut self, place: Place)
+        requires room { length self.old < 32 }
+        requires waits { is_open place ≡ true }
+        ensures { self.new ≡ self.old ++ place ∷ [] }
     {
-        self.behind.push_back_reserved(None);
+        self.behind.push_back_reserved(place);
     }
 
     /// One more, which is this answer.
     pub fn say(&mut self, reply: Reply)
         requires { length self.old < 32 }
-        ensures { self.new ≡ self.old ++ Some reply ∷ [] }
+        ensures { self.new ≡ self.old ++ place.Answer reply ∷ [] }
     {
         if self.behind.is_empty() {
             self.ready.push_back_reserved(reply);
         } else {
-            self.behind.push_back_reserved(Some(reply));
+            self.behind.push_back_reserved(Place::Answer(reply));
         }
     }
 
-    /// The first one that is waited for has come.
+    /// The reply that the first one waits for has come.
     pub fn answer(&mut self, reply: Reply)
         requires { has_open self.old ≡ true }
         ensures { self.new ≡ fill_first reply self.old }
     {
-        let _ = self.behind.pop_front();
-        self.ready.push_back_reserved(reply);
+        let place = self.behind.pop_front().unwrap();
+        self.ready.push_back_reserved(place.answer(reply));
         settle(&mut self.ready, &mut self.behind);
     }
 
     /// Takes the first one, if it is there.
     pub fn next(&mut self) -> Option<Reply>
         ensures { MatchOption result ((self.new ≡ self.old) × NoneReady self.old)
-            (λ reply. self.old ≡ Some reply ∷ self.new) }
+            (λ reply. self.old ≡ place.Answer reply ∷ self.new) }
     {
         self.ready.pop_front()
     }
 }
 
 /// Moves the answers at the front of what is behind to what is ready.
-fn settle(ready: &mut VecDeque<Reply>, behind: &mut VecDeque<Option<Reply>>)
+fn settle(ready: &mut VecDeque<Reply>, behind: &mut VecDeque<Place>)
     requires { (deque_len ready.old + deque_len behind.old ≤ 32) × (32 ≤ deque_capacity ready.old) }
     ensures view { places_of ready.new.items behind.new.items ≡ places_of ready.old.items behind.old.items }
     ensures settled { IsSettled behind.new.items }
     ensures room { deque_len ready.new + deque_len behind.new ≤ 32 }
     ensures capacity { (32 ≤ deque_capacity ready.new) × (deque_capacity behind.new ≡ deque_capacity behind.old) }
 {
-    while let Some(Some(_)) = behind.front() {
-        if let Some(Some(reply)) = behind.pop_front() {
+    while let Some(Place::Answer(_)) = behind.front() {
+        if let Some(Place::Answer(reply)) = behind.pop_front() {
             ready.push_back_reserved(reply);
         }
     }

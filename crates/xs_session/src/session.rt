@@ -5,16 +5,18 @@ ghost use Rattle.xs_devices.specs.Passing.{Keeps};
 ghost use Rattle.xs_devices.specs.Device.{counter_at, Gave};
 ghost use Rattle.xs_devices.specs.declared.fill.FillFault.{FillFault};
 ghost use Rattle.xs_resp.specs.declared.reply.Reply.{Reply};
-ghost use Rattle.xs_resp.specs.HeldBytes.{HasNext, Skips, holds_bytes, with_piece};
+ghost use Rattle.xs_resp.specs.HeldBytes.{HasNext, Skips, front_of, holds_bytes, with_piece};
 ghost use Rattle.xs_resp.specs.ReplyText.{text};
 ghost use Rattle.xs_resp.specs.LeftToWrite.{bytes_left};
 ghost use Rattle.xs_command.specs.declared.command.Command.{Command};
 ghost use Rattle.xs_desk.specs.declared.answer.Call.{Call};
 ghost use Rattle.xs_desk.specs.Calls.{IsFormed};
 ghost use Rattle.xs_session.specs.declared.ending.Ending.{Ending};
-ghost use Rattle.xs_session.specs.Places.{has_open, fill_first, NoneReady};
+ghost use Rattle.xs_session.specs.declared.places.Place.TheVariants as place;
+ghost use Rattle.xs_session.specs.Places.{is_open, has_open, fill_first, NoneReady};
 ghost use Rattle.xs_session.specs.Answers.{is_alone};
 ghost use Rattle.xs_session.specs.Session.{SessionIsAfter, IsNew, IsGathered, Waits, Takes, TakesPlace, AsksOrWaits};
+ghost use Rattle.xs_session.specs.Taking.{IsUnknown};
 ghost use Rattle.xs_session.specs.Session.{asked_in, ending_of, IsFirst, IsHeard, ReleasesOrWaits};
 ghost use Rattle.xs_command.specs.Read.{command_of_words};
 ghost use Rattle.xs_command.specs.WellFormed.{IsWellFormed};
@@ -24,12 +26,13 @@ ghost use Rattle.xs_connection.specs.declared.transaction.Transaction.{Transacti
 ghost use Rattle.xs_session.specs.declared.manner.Manner.{Manner};
 
 use crate::ending::Ending;
+use crate::informing::take_info;
 use crate::manner::Manner;
-use crate::places::{AHEAD, Places};
+use crate::places::{AHEAD, Place, Places};
 use crate::releasing::command_of_released;
 use crate::reserve::Reserve;
 use crate::strangers::is_too_much;
-use crate::taking::{names_addition, names_info, take_request};
+use crate::taking::{Taking, names_addition, take_request};
 use crate::tally::Tally;
 use std::alloc::{AllocError, Global};
 use xs_bytes::U63;
@@ -305,7 +308,7 @@ impl Session {
             return Turn::Full;
         }
         let words = self.standing.transaction.take_next();
-        self.places.ask();
+        self.places.ask(Place::Awaits);
         self.ended = end_by(&command);
         self.hurries = true;
         Turn::Asks(Call {
@@ -357,9 +360,6 @@ impl Session {
         if !is_whole {
             return Turn::Waits;
         }
-        if self.places.is_open() && names_info(self.requests.front()) {
-            return Turn::Full;
-        }
         if waits_for_memory(
             self.alloc,
             &mut self.reserve,
@@ -376,7 +376,7 @@ impl Session {
         requires room { length self.old.places < 32 }
         ensures ends { result ≡ Turn.Ends Ending.Protocol }
         ensures after { self.new ≡ record self.old {
-          places = self.old.places ++ Some (Reply.Error Fault.Protocol) ∷ [];
+          places = self.old.places ++ place.Answer (Reply.Error Fault.Protocol) ∷ [];
           ended = Some Ending.Protocol;
         } }
     {
@@ -415,28 +415,76 @@ impl Session {
             words,
         );
         match taken {
-            Ok(call) => self.ask(call),
-            Err(reply) => {
-                self.requests.skip();
-                self.places.say(reply);
-                Turn::Goes
-            }
+            Taking::Asks(call) => self.ask(call, Place::Awaits),
+            Taking::Says(reply) => self.say(reply),
+            Taking::Info => self.inform(manner, inform, wants_words),
         }
     }
 
-    /// Asks the call of the request at the front, unless it is to be asked alone and some answer isn't gathered.
-    fn ask(&mut self, call: Call) -> Turn
+    /// Answers the request at the front at once.
+    fn say(&mut self, answer: Reply) -> Turn
+        requires whole { HasNext self.old.requests }
+        requires room { length self.old.places < 32 }
+        ensures goes { result ≡ Turn.Goes }
+        ensures skips { Skips self.old.requests self.new.requests }
+        ensures after { self.new ≡ record self.old {
+          requests = self.new.requests;
+          places = self.old.places ++ place.Answer answer ∷ [];
+        } }
+    {
+        self.requests.skip();
+        self.places.say(answer);
+        Turn::Goes
+    }
+
+    /// Takes INFO, which is at the front, once every answer is gathered: it tells of what was answered before it.
+    fn inform<I: Inform>(&mut self, manner: &Manner, inform: &I, wants_words: bool) -> Turn
+        requires whole { HasNext self.old.requests }
+        requires room { length self.old.places < 32 }
+        requires going { self.old.ended ≡ None }
+        requires several { self.old.alone ≡ false }
+        requires nothing { released_of self.old.standing.transaction ≡ [] }
+        requires unknown { IsUnknown manner.now self.old.standing (front_of self.old.requests) }
+        ensures turns { (read : List ℕ) (asked : List Command) (got : List Reply) (sent : List ℕ) →
+            SessionIsAfter manner.now read asked got sent self.old →
+            SessionIsAfter manner.now read (asked ++ asked_in result) got sent self.new }
+        ensures goes { Takes wants_words result }
+        ensures alone { (call : Call) → result ≡ Turn.Asks call → is_alone call.command ≡ true → IsGathered self.old }
+        ensures places { TakesPlace result self.old.places self.new.places }
+        ensures owed { self.new.owed ≡ self.old.owed }
+    {
+        if !self.is_gathered() {
+            return Turn::Full;
+        }
+        let words = self.requests.front();
+        match take_info(
+            self.alloc,
+            wants_words,
+            manner,
+            inform,
+            &mut self.standing,
+            words,
+        ) {
+            Ok((call, information)) => self.ask(call, Place::AwaitsKeys(information)),
+            Err(reply) => self.say(reply),
+        }
+    }
+
+    /// Asks the call of the request at the front, unless it is to be asked alone and some answer isn't gathered. So its
+    /// answer is waited for.
+    fn ask(&mut self, call: Call, place: Place) -> Turn
         requires whole { HasNext self.old.requests }
         requires room { length self.old.places < 32 }
         requires several { self.old.alone ≡ false }
-        ensures asks { AsksOrWaits self.old call result self.new }
+        requires waits { is_open place ≡ true }
+        ensures asks { AsksOrWaits self.old call place result self.new }
         ensures owed { self.new.owed ≡ self.old.owed }
     {
         if self.waits_for_others(&call.command) {
             return Turn::Full;
         }
         self.requests.skip();
-        self.places.ask();
+        self.places.ask(place);
         self.ended = end_by(&call.command);
         self.hurries = false;
         Turn::Asks(call)

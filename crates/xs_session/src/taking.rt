@@ -1,13 +1,15 @@
-//! What becomes of a request: its call is asked, or it is answered a fault at once.
-ghost use Rattle.std.specs.Prelude.{◌≡◌, ◌<◌, length, true, is_some, IfOk, MatchResult, Ok, Err};
+//! What becomes of a request: its call is asked, or it is answered at once, or it is INFO.
+ghost use Rattle.std.specs.Prelude.{◌≡◌, ◌<◌, length, Bool, true, is_some, IfOk, Ok, Err};
 ghost use Rattle.xs_command.specs.declared.command.Command.{Command};
 ghost use Rattle.xs_command.specs.Read.{command_of_words};
 ghost use Rattle.xs_command.specs.WellFormed.{IsWellFormed};
 ghost use Rattle.xs_command.specs.Words.{Gives};
 ghost use Rattle.xs_desk.specs.Calls.{AreWordsOf, IsFormed};
 ghost use Rattle.xs_connection.specs.Standing.{IsQueued};
-ghost use Rattle.xs_session.specs.Answers.{Asks, Says, IsSaid, IsTaken, names_quit, goes_at_once};
+ghost use Rattle.xs_session.specs.Answers.{may_ask, names_quit, goes_at_once};
+ghost use Rattle.xs_session.specs.Taking.{IsTakingOf, IsFormedTaking, HasWantedWords};
 
+use crate::information::is_info;
 use crate::manner::Manner;
 use crate::reserve::Reserve;
 use std::alloc::{AllocError, Global};
@@ -19,22 +21,23 @@ use xs_desk::Call;
 use xs_resp::{Fault, Reply, Request};
 use xs_tape::can_be_record;
 
-/// Whether this is the first word, in upper or lower case.
-fn is_named(words: Request<'_>, name: &[u8]) -> bool {
+/// Whether the first word is XADD: it has to do without memory first.
+pub(crate) fn names_addition(words: Request<'_>) -> bool {
     match Words::of_request(words).word() {
-        Ok((first, _)) => first.is(name),
+        Ok((first, _)) => first.is(b"xadd"),
         Err(_) => false,
     }
 }
 
-/// Whether the first word is XADD: it has to do without memory first.
-pub(crate) fn names_addition(words: Request<'_>) -> bool {
-    is_named(words, b"xadd")
-}
-
-/// Whether this is INFO, of one section at most: it tells of what was answered before it.
-pub(crate) fn names_info(words: Request<'_>) -> bool {
-    words.len() <= 2 && is_named(words, b"info")
+/// What becomes of a request.
+#[derive(Drop)]
+pub enum Taking {
+    /// This call is asked.
+    Asks(Call),
+    /// It is answered this at once.
+    Says(Reply),
+    /// It is INFO, and nothing has become of it yet: it tells of what was answered before it.
+    Info,
 }
 
 /// How often memory is looked for, at most, before a request is answered that there is none.
@@ -94,23 +97,29 @@ fn words_of(
     Ok(copies)
 }
 
-/// What words with this fault are answered: an unknown command may be one of the connection.
-fn answer_fault<I: Inform>(
+/// What becomes of words with this fault: an unknown command may be one of the connection.
+fn take_fault<I: Inform>(
     alloc: Global,
     manner: &Manner,
     inform: &I,
     standing: &mut Standing,
     words: Request<'_>,
     fault: Fault,
-) -> Reply
-    requires { command_of_words words ≡ Err fault }
-    ensures { IsSaid manner.now standing.old words.entry fault result standing.new }
+) -> Taking
+    requires said { command_of_words words ≡ Err fault }
+    requires may { may_ask manner.now standing.old words ≡ true }
+    ensures taken { IsTakingOf manner.now standing.old words.entry result standing.new }
+    ensures nothing { IsFormedTaking result × ((wanted : Bool) → HasWantedWords wanted result) }
 {
     match (manner, fault) {
         (Manner::Full(wanted), Fault::UnknownCommand) => {
-            standing.answer(alloc, wanted, inform, &Words::of_request(words))
+            let all = Words::of_request(words);
+            if is_info(&all) {
+                return Taking::Info;
+            }
+            Taking::Says(standing.answer(alloc, wanted, inform, &all))
         }
-        _ => standing.refuse(Reply::Error(fault)),
+        _ => Taking::Says(standing.refuse(Reply::Error(fault))),
     }
 }
 
@@ -174,7 +183,7 @@ fn names_quit(words: &Words<'_>) -> bool
     }
 }
 
-/// The call of a request, with its words if they are wanted; or what it is answered at once.
+/// What becomes of a request: a call has its words if they are wanted.
 pub fn take_request<I: Inform>(
     alloc: Global,
     reserve: &mut Reserve,
@@ -183,32 +192,32 @@ pub fn take_request<I: Inform>(
     inform: &I,
     standing: &mut Standing,
     words: Request<'_>,
-) -> Result<Call, Reply>
+) -> Taking
     requires { 0 < length words }
-    ensures taken { MatchResult result
-        (λ call. IsTaken manner.now standing.old words.entry (Asks call.command) standing.new)
-        (λ reply. IsTaken manner.now standing.old words.entry (Says reply) standing.new) }
-    ensures formed { IfOk result IsFormed }
-    ensures words { wants_words ≡ true → IfOk result (λ call. is_some call.words ≡ true) }
+    ensures taken { IsTakingOf manner.now standing.old words.entry result standing.new }
+    ensures formed { IsFormedTaking result }
+    ensures words { HasWantedWords wants_words result }
 {
     if let Manner::Full(wanted) = manner {
         let all = Words::of_request(words.again());
         if !standing.is_allowed && !names_quit(&all) {
-            return Err(standing.answer_stranger(alloc, wanted, inform, &all));
+            return Taking::Says(standing.answer_stranger(alloc, wanted, inform, &all));
         }
     }
     let command = match command_of(alloc, reserve, words.again()) {
         Ok(command) => command,
         Err(Refusal::Said(fault)) => {
-            return Err(answer_fault(alloc, manner, inform, standing, words, fault));
+            return take_fault(alloc, manner, inform, standing, words, fault);
         }
-        Err(Refusal::Memory) => return Err(standing.refuse(Reply::Error(Fault::Memory))),
+        Err(Refusal::Memory) => {
+            return Taking::Says(standing.refuse(Reply::Error(Fault::Memory)));
+        }
     };
     if !goes_at_once(standing, &command) {
-        return Err(enqueue(alloc, reserve, standing, words));
+        return Taking::Says(enqueue(alloc, reserve, standing, words));
     }
     match call_of(alloc, reserve, wants_words, command, words) {
-        Ok(call) => Ok(call),
-        Err(AllocError) => Err(standing.refuse(Reply::Error(Fault::Memory))),
+        Ok(call) => Taking::Asks(call),
+        Err(AllocError) => Taking::Says(standing.refuse(Reply::Error(Fault::Memory))),
     }
 }

@@ -83,7 +83,6 @@ impl Sums {
 /// What the keeper tells between its turns, if it is asked.
 #[derive(Drop)]
 struct KeeperFigures {
-    keys: AtomicU64,
     bytes_held: AtomicU64,
     blocked: AtomicU64,
     // How often it has told.
@@ -97,9 +96,7 @@ struct KeeperFigures {
 /// What the keeper has between two turns.
 #[derive(Clone, Copy, Debug, PartialEq, Eq)]
 pub struct KeeperState {
-    /// How many keys there are.
-    pub keys: u64,
-    /// How many bytes they are counted with.
+    /// How many bytes the keys are counted with.
     pub bytes_held: u64,
     /// How many calls wait.
     pub blocked: u64,
@@ -116,7 +113,6 @@ impl Figures {
     /// The figures of a server with these workers.
     pub fn new(workers: Vec<SharedFigures>) -> Figures {
         let keeper = KeeperFigures {
-            keys: AtomicU64::new(0),
             bytes_held: AtomicU64::new(0),
             blocked: AtomicU64::new(0),
             told: AtomicU64::new(0),
@@ -131,7 +127,6 @@ impl Figures {
 
     /// The keeper has this.
     pub fn tell(&self, state: KeeperState) {
-        self.keeper.keys.store(state.keys, Ordering::Relaxed);
         self.keeper
             .bytes_held
             .store(state.bytes_held, Ordering::Relaxed);
@@ -172,12 +167,7 @@ impl Figures {
         self.keeper.rests.load(Ordering::SeqCst) || self.keeper.told.load(Ordering::SeqCst) != told
     }
 
-    /// How many keys there are.
-    pub fn keys(&self) -> u64 {
-        self.keeper.keys.load(Ordering::Relaxed)
-    }
-
-    /// How many bytes they are counted with.
+    /// How many bytes the keys are counted with.
     pub fn bytes_held(&self) -> u64 {
         self.keeper.bytes_held.load(Ordering::Relaxed)
     }

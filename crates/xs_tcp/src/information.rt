@@ -7,6 +7,7 @@ use std::time::{Clock, Duration};
 use xs_bytes::Bytes;
 use xs_command::{Word, Words};
 use xs_files::SyncPolicy;
+use xs_session::names_keyspace;
 
 /// A section of INFO.
 #[derive(Clone, Copy, Debug, PartialEq, Eq)]
@@ -72,6 +73,9 @@ fn names(word: &Word<'_>, section: Section) -> bool {
 
 /// Whether a section is asked for: each is if none is named.
 fn is_asked(section: Section, named: &Words<'_>) -> bool {
+    if section == Section::Keyspace {
+        return names_keyspace(named);
+    }
     let mut words = named.again();
     for count in 0..MOST_NAMES {
         let Ok((word, behind)) = words.word() else {
@@ -93,14 +97,6 @@ fn policy_name(log: Option<SyncPolicy>) -> &'static str {
         Some(SyncPolicy::Never) => "no",
         None => "none",
     }
-}
-
-/// The section that tells of the keys: nothing if there is none.
-fn keyspace(alloc: Global, keys: u64) -> Result<String, AllocError> {
-    if keys == 0 {
-        return format!(in alloc; "# Keyspace\r\n");
-    }
-    format!(in alloc; "# Keyspace\r\ndb0:keys={keys},expires=0,avg_ttl=0\r\n")
 }
 
 impl Information {
@@ -178,11 +174,12 @@ impl Information {
             Section::Replication => {
                 format!(in alloc; "# Replication\r\nrole:master\r\nconnected_slaves:0\r\n")
             }
-            Section::Keyspace => keyspace(alloc, self.figures.keys()),
+            Section::Keyspace => format!(in alloc; "# Keyspace\r\n"),
         }
     }
 
-    /// The sections that these words name, all if there is none, with an empty line between two.
+    /// The sections that these words name, all if there is none, with an empty line between two. The last one is that of
+    /// the keyspace, whose line is still to come.
     pub fn text<S: Clock + Files + Alloc<A = Global>>(
         &self,
         system: &S,

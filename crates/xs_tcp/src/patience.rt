@@ -120,7 +120,6 @@ pub struct Patience<S: Drop> {
 /// What a keeper has now.
 fn state_of<J: Journal + Drop>(keeper: &Keeper<J>) -> KeeperState {
     KeeperState {
-        keys: keeper.keys() as u64,
         bytes_held: u64::try_from(keeper.bytes_held()).unwrap_or(u64::MAX),
         blocked: keeper.blocked_calls() as u64,
     }

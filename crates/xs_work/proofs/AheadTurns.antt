@@ -15,6 +15,7 @@ use Rattle.xs_session.specs.declared.manner.Manner.{Manner}
 use Rattle.xs_session.specs.declared.ending.Ending.{Ending}
 use Rattle.xs_session.specs.declared.ending.Ending.TheVariants as ending
 use Rattle.xs_session.specs.declared.session.Session.{Session}
+use Rattle.xs_session.specs.declared.places.Place.{Place}
 use Rattle.xs_session.specs.Places.{has_open}
 use Rattle.xs_session.specs.Session.{IsAfter, SessionIsAfter, Goes, Waits}
 use Rattle.xs_session.proofs.SessionTurns.{after-sent, after-even}
@@ -56,7 +57,7 @@ not-none : (byte : ℕ) (bytes : List ℕ) → not (length (byte ∷ bytes) == 0
 not-none byte bytes = grind arith
 
 -- the input ends at a session that waits for bytes
-pub end-waits : (end : Ending) (ended : Option Ending) (held : Held) (places : List (Option Reply)) (owed : List ℕ) → Waits ended held → IsDone places owed
+pub end-waits : (end : Ending) (ended : Option Ending) (held : Held) (places : List Place) (owed : List ℕ) → Waits ended held → IsDone places owed
     → end ≡ (if holds_bytes held then ending.Cut else ending.Closed) → AheadEnds (Ok end) ended held places owed
 end-waits end ended held places owed (none, (bytes, is, stays)) done e = by bytes is stays (e ∙ ap (λ h. if holds_bytes h then ending.Cut else ending.Closed) is) where
   by : (bytes : List ℕ) → held ≡ Ok bytes → IsOpen bytes → end ≡ (if holds_bytes (Ok bytes) then ending.Cut else ending.Closed) → AheadEnds (Ok end) ended held places owed
@@ -67,21 +68,21 @@ end-waits end ended held places owed (none, (bytes, is, stays)) done e = by byte
 
 module _ (first now : Caller) (manner : Manner) (read sent : List ℕ) where
   -- a session that has ended so, with nothing left to do
-  end-is : (standing : Standing) (end : Ending) (ended : Option Ending) (held : Held) (places : List (Option Reply)) (owed : List ℕ) (asked : List Command) (got : List Reply) → IsAfter manner standing read asked got sent ended held places owed
+  end-is : (standing : Standing) (end : Ending) (ended : Option Ending) (held : Held) (places : List Place) (owed : List ℕ) (asked : List Command) (got : List Reply) → IsAfter manner standing read asked got sent ended held places owed
       → ended ≡ Some end → IsDone places owed → AheadEnds (Ok end) ended held places owed
   end-is standing ending.Quit ended held places owed asked got s is done = (is, done)
   end-is standing ending.Protocol ended held places owed asked got s is done = (is, done)
   end-is standing ending.Closed ended held places owed asked got s is done = absurd (subst (λ e. Goes manner standing e s.taken s.rest held) is s.goes)
   end-is standing ending.Cut ended held places owed asked got s is done = absurd (subst (λ e. Goes manner standing e s.taken s.rest held) is s.goes)
 
-  pub end-cause : (standing : Standing) (end : Ending) (ended : Option Ending) (held : Held) (places : List (Option Reply)) (owed : List ℕ) (asked : List Command) (got : List Reply) (left : Passing) (over broken unwritten : Bool) → IsAfter manner standing read asked got sent ended held places owed
+  pub end-cause : (standing : Standing) (end : Ending) (ended : Option Ending) (held : Held) (places : List Place) (owed : List ℕ) (asked : List Command) (got : List Reply) (left : Passing) (over broken unwritten : Bool) → IsAfter manner standing read asked got sent ended held places owed
       → ended ≡ Some end → HasCauseOf (Ok end) left over broken unwritten
   end-cause standing ending.Quit ended held places owed asked got left over broken unwritten s is = tt
   end-cause standing ending.Protocol ended held places owed asked got left over broken unwritten s is = tt
   end-cause standing ending.Closed ended held places owed asked got left over broken unwritten s is = absurd (subst (λ e. Goes manner standing e s.taken s.rest held) is s.goes)
   end-cause standing ending.Cut ended held places owed asked got left over broken unwritten s is = absurd (subst (λ e. Goes manner standing e s.taken s.rest held) is s.goes)
 
-  none-open : (places : List (Option Reply)) → places ≡ [] → has_open places ≡ false
+  none-open : (places : List Place) → places ≡ [] → has_open places ≡ false
   none-open places is = ap has_open is
 
   -- a connection ends, with nothing left to do
@@ -181,7 +182,7 @@ module _ (first now : Caller) (manner : Manner) (read sent : List ℕ) where
     closed = λ other. absurd (other refl);
   }
 
-  pub fails-write : (standing : Standing) (asked put : List Command) (got : List Reply) (ended : Option Ending) (held : Held) (places : List (Option Reply)) (owed : List ℕ)
+  pub fails-write : (standing : Standing) (asked put : List Command) (got : List Reply) (ended : Option Ending) (held : Held) (places : List Place) (owed : List ℕ)
       → IsAfter manner standing read asked got sent ended held places owed → Calls first now put got → has_open places ≡ false → 0 < length owed → length places ≤ 32 → AheadFails fault.Write first now manner read asked put sent
   fails-write standing asked put got ended held places owed after calls closed some few = record {
     got = got;

@@ -14,6 +14,7 @@ use Rattle.xs_session.specs.declared.manner.Manner.{Manner}
 use Rattle.xs_session.specs.declared.ending.Ending.{Ending}
 use Rattle.xs_session.specs.declared.ending.Ending.TheVariants as ending
 use Rattle.xs_session.specs.declared.session.Session.{Session}
+use Rattle.xs_session.specs.declared.places.Place.{Place}
 use Rattle.xs_session.specs.Places.{has_open}
 use Rattle.xs_session.specs.Session.{IsAfter, SessionIsAfter, Waits}
 use Rattle.xs_work.specs.declared.ahead.AheadFault.{AheadFault}
@@ -51,11 +52,11 @@ pub record BreaksOff
   pub some : 0 < length rest
 
 -- nothing is waited for or owed
-abbrev pub IsDone : List (Option Reply) → List ℕ → Type 0
+abbrev pub IsDone : List Place → List ℕ → Type 0
 IsDone places owed = (places ≡ []) × (owed ≡ [])
 
 -- How a connection ends. If the writer fails, some of what is owed wasn't sent, and at most 32 answers weren't begun.
-abbrev pub AheadEnds : Result Ending AheadFault → Option Ending → Held → List (Option Reply) → List ℕ → Type 0
+abbrev pub AheadEnds : Result Ending AheadFault → Option Ending → Held → List Place → List ℕ → Type 0
 AheadEnds (Ok ending.Closed) ended held places owed = (ended ≡ None) × (held ≡ Ok []) × IsDone places owed
 AheadEnds (Ok ending.Cut) ended held places owed =
     (ended ≡ None) × ((bytes : List ℕ) × (held ≡ Ok bytes) × (bytes ≢ []) × IsOpen bytes) × IsDone places owed
@@ -88,7 +89,7 @@ pub record AheadFails
   pub standing : Standing
   pub ended : Option Ending
   pub held : Held
-  pub places : List (Option Reply)
+  pub places : List Place
   pub owed : List ℕ
   pub after : IsAfter manner standing read asked got sent ended held places owed
   pub calls : Calls first now put got
@@ -106,7 +107,7 @@ pub record ServesAhead
   pub standing : Standing
   pub ended : Option Ending
   pub held : Held
-  pub places : List (Option Reply)
+  pub places : List Place
   pub owed : List ℕ
   pub after : IsAfter manner standing read asked got sent ended held places owed
   pub calls : Calls first now put got

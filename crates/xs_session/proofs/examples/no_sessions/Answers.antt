@@ -1,4 +1,4 @@
-use Rattle.std.specs.Prelude.{◌≡◌, ◌||◌, ℕ, true, false, List, [], ◌∷◌, ◌++◌, map, codes, Option, Some, None, Ok, Err}
+use Rattle.std.specs.Prelude.{◌≡◌, ◌||◌, ℕ, true, false, List, [], ◌∷◌, ◌++◌, map, codes, Some, None, Ok, Err}
 use Rattle.std.specs.List.{list_any}
 use Rattle.std.proofs.Common.{refl, sym, ap, ◌∙◌, subst, arith, append_assoc, inl, inr}
 use Rattle.std.proofs.lemmas.List.{append-nil}
@@ -22,7 +22,9 @@ use Rattle.xs_session.specs.declared.ending.Ending.{Ending}
 use Rattle.xs_session.specs.declared.ending.Ending.TheVariants as ending
 use Rattle.xs_connection.specs.declared.standing.Standing.{Standing}
 use Rattle.xs_session.specs.declared.manner.Manner.TheVariants.{Plain}
-use Rattle.xs_session.specs.Answers.{Taken, Asks, Says, asked_of, answers_to, quits, has_quit}
+use Rattle.xs_session.specs.declared.places.Place.{Place}
+use Rattle.xs_session.specs.declared.places.Place.TheVariants.{Answer, Awaits}
+use Rattle.xs_session.specs.Answers.{Taken, Asks, Informs, Says, asked_of, answers_to, quits, has_quit}
 use Rattle.xs_session.specs.Session.{Goes, texts}
 use Rattle.xs_session.specs.Examples.{ping, len, anyone}
 use Rattle.xs_session.specs.ExamplesSessions.{bytes_of_ping, bytes_of_len, bytes_of_get}
@@ -37,25 +39,25 @@ unfolding resp.example_functions
 nothing-begins = (request-open [] refl).0
 
 -- what was sent begins with the first answer
-sent-first : (answer : Option Reply) (others : List (Option Reply)) (begun : List Reply) (places : List (Option Reply)) (byte : ℕ) (more : List ℕ)
-    → answer ∷ others ≡ map Some begun ++ places → texts begun ≡ byte ∷ more → (reply : Reply) × (behind : List ℕ) × (answer ≡ Some reply) × (text reply ++ behind ≡ byte ∷ more)
+sent-first : (answer : Place) (others : List Place) (begun : List Reply) (places : List Place) (byte : ℕ) (more : List ℕ)
+    → answer ∷ others ≡ map Answer begun ++ places → texts begun ≡ byte ∷ more → (reply : Reply) × (behind : List ℕ) × (answer ≡ Answer reply) × (text reply ++ behind ≡ byte ∷ more)
 sent-first answer others [] places byte more is e = absurd (cc (e))
 sent-first answer others (reply ∷ begun) places byte more is e = (reply, texts begun, cc, e)
 
 -- nothing is sent while the first answer is waited for
-waits : (others : List (Option Reply)) (begun : List Reply) (places : List (Option Reply)) (byte : ℕ) (more : List ℕ) → None ∷ others ≡ map Some begun ++ places → texts begun ≡ byte ∷ more → ⊥
-waits others begun places byte more is e = let first = (sent-first None others begun places byte more is e).2 in cc
+waits : (others : List Place) (begun : List Reply) (places : List Place) (byte : ℕ) (more : List ℕ) → Awaits ∷ others ≡ map Answer begun ++ places → texts begun ≡ byte ∷ more → ⊥
+waits others begun places byte more is e = let first = (sent-first Awaits others begun places byte more is e).2 in cc
 
-nothing-sent : (begun : List Reply) (places : List (Option Reply)) (byte : ℕ) (more : List ℕ) → [] ≡ map Some begun ++ places → texts begun ≡ byte ∷ more → ⊥
+nothing-sent : (begun : List Reply) (places : List Place) (byte : ℕ) (more : List ℕ) → [] ≡ map Answer begun ++ places → texts begun ≡ byte ∷ more → ⊥
 nothing-sent [] places byte more is e = cc
 nothing-sent (reply ∷ begun) places byte more is e = cc
 
 -- an error's text begins with its marker
-error-first : (fault : Fault) (others : List (Option Reply)) (begun : List Reply) (places : List (Option Reply)) (byte : ℕ) (more : List ℕ)
-    → Some (Error fault) ∷ others ≡ map Some begun ++ places → texts begun ≡ byte ∷ more → 45 ≡ byte
+error-first : (fault : Fault) (others : List Place) (begun : List Reply) (places : List Place) (byte : ℕ) (more : List ℕ)
+    → Answer (Error fault) ∷ others ≡ map Answer begun ++ places → texts begun ≡ byte ∷ more → 45 ≡ byte
 unfolding text
 error-first fault others begun places byte more is e =
-    let first = sent-first (Some (Error fault)) others begun places byte more is e in
+    let first = sent-first (Answer (Error fault)) others begun places byte more is e in
     let reply : Error fault ≡ first.0 = cc in
     let whole : text (Error fault) ++ first.1 ≡ byte ∷ more = ap (λ r. text r ++ first.1) reply ∙ first.3 in cc
 
@@ -87,51 +89,61 @@ none-asked read front rest (words ∷ requests) taken begins (first, others, spl
 
 one-asked : (first : Taken) → ping ∷ ping ∷ [] ≡ asked_of (first ∷ []) → ⊥
 one-asked (Asks command) asked = cc
+one-asked (Informs told) asked = cc
 one-asked (Says reply) asked = cc
 
-overtakes : (first second : Taken) (begun : List Reply) (places : List (Option Reply)) (byte : ℕ) (more : List ℕ) → IsTakenPlainly (line (codes "GET k")) second → ping ∷ [] ≡ asked_of (first ∷ second ∷ [])
-    → answers_to (first ∷ second ∷ []) [] ≡ map Some begun ++ places → texts begun ≡ byte ∷ more → ⊥
+overtakes : (first second : Taken) (begun : List Reply) (places : List Place) (byte : ℕ) (more : List ℕ) → IsTakenPlainly (line (codes "GET k")) second → ping ∷ [] ≡ asked_of (first ∷ second ∷ [])
+    → answers_to (first ∷ second ∷ []) [] ≡ map Answer begun ++ places → texts begun ≡ byte ∷ more → ⊥
 unfolding example_functions
 overtakes (Asks command) (Asks other) begun places byte more so asked answers sent = let never = so in cc
-overtakes (Asks command) (Says reply) begun places byte more so asked answers sent = waits (Some reply ∷ []) begun places byte more answers sent
+overtakes (Asks command) (Says reply) begun places byte more so asked answers sent = waits (Answer reply ∷ []) begun places byte more answers sent
+overtakes first (Informs told) begun places byte more so asked answers sent = absurd so
+overtakes (Informs told) second begun places byte more so asked answers sent = cc
 overtakes (Says reply) (Asks command) begun places byte more so asked answers sent = let never = so in cc
 overtakes (Says reply) (Says other) begun places byte more so asked answers sent = cc
 
-error-overtakes : (first : Taken) (reply : Reply) (begun : List Reply) (places : List (Option Reply)) (byte : ℕ) (more : List ℕ) → ping ∷ [] ≡ asked_of (first ∷ [])
-    → answers_to (first ∷ Says reply ∷ []) [] ≡ map Some begun ++ places → texts begun ≡ byte ∷ more → ⊥
-error-overtakes (Asks command) reply begun places byte more asked answers sent = waits (Some reply ∷ []) begun places byte more answers sent
+error-overtakes : (first : Taken) (reply : Reply) (begun : List Reply) (places : List Place) (byte : ℕ) (more : List ℕ) → ping ∷ [] ≡ asked_of (first ∷ [])
+    → answers_to (first ∷ Says reply ∷ []) [] ≡ map Answer begun ++ places → texts begun ≡ byte ∷ more → ⊥
+error-overtakes (Asks command) reply begun places byte more asked answers sent = waits (Answer reply ∷ []) begun places byte more answers sent
+error-overtakes (Informs told) reply begun places byte more asked answers sent = cc
 error-overtakes (Says other) reply begun places byte more asked answers sent = cc
 
-in-order : (first second : Taken) (begun : List Reply) (places : List (Option Reply)) (byte : ℕ) (more : List ℕ) → ping ∷ len ∷ [] ≡ asked_of (first ∷ second ∷ [])
-    → answers_to (first ∷ second ∷ []) (Simple Pong ∷ Int 2 ∷ []) ≡ map Some begun ++ places → texts begun ≡ byte ∷ more → 43 ≡ byte
+in-order : (first second : Taken) (begun : List Reply) (places : List Place) (byte : ℕ) (more : List ℕ) → ping ∷ len ∷ [] ≡ asked_of (first ∷ second ∷ [])
+    → answers_to (first ∷ second ∷ []) (Simple Pong ∷ Int 2 ∷ []) ≡ map Answer begun ++ places → texts begun ≡ byte ∷ more → 43 ≡ byte
 unfolding text
 in-order (Asks command) (Asks other) begun places byte more asked answers sent =
-    let first = sent-first (Some (Simple Pong)) (Some (Int 2) ∷ []) begun places byte more answers sent in
+    let first = sent-first (Answer (Simple Pong)) (Answer (Int 2) ∷ []) begun places byte more answers sent in
     let reply : Simple Pong ≡ first.0 = cc in
     let whole : text (Simple Pong) ++ first.1 ≡ byte ∷ more = ap (λ r. text r ++ first.1) reply ∙ first.3 in cc
+in-order (Informs told) second begun places byte more asked answers sent = cc
+in-order (Asks command) (Informs told) begun places byte more asked answers sent = cc
+in-order (Says reply) (Informs told) begun places byte more asked answers sent = cc
 in-order (Asks command) (Says reply) begun places byte more asked answers sent = cc
 in-order (Says reply) (Asks command) begun places byte more asked answers sent = cc
 in-order (Says reply) (Says other) begun places byte more asked answers sent = cc
 
-left-out : (first second : Taken) (begun : List Reply) (places : List (Option Reply)) (byte : ℕ) (more : List ℕ) → IsTakenPlainly (line (codes "PING")) first → len ∷ [] ≡ asked_of (first ∷ second ∷ [])
-    → answers_to (first ∷ second ∷ []) (Int 2 ∷ []) ≡ map Some begun ++ places → texts begun ≡ byte ∷ more → 45 ≡ byte
+left-out : (first second : Taken) (begun : List Reply) (places : List Place) (byte : ℕ) (more : List ℕ) → IsTakenPlainly (line (codes "PING")) first → len ∷ [] ≡ asked_of (first ∷ second ∷ [])
+    → answers_to (first ∷ second ∷ []) (Int 2 ∷ []) ≡ map Answer begun ++ places → texts begun ≡ byte ∷ more → 45 ≡ byte
 unfolding example_functions
 left-out (Asks command) second begun places byte more so asked answers sent = let said = so in let is : ping ≡ command = cc in cc
+left-out (Informs told) second begun places byte more so asked answers sent = absurd so
 left-out (Says reply) second begun places byte more so asked answers sent =
     let wrong = says-error (line (codes "PING")) reply so in
-    error-first wrong.0 (answers_to (second ∷ []) (Int 2 ∷ [])) begun places byte more (ap (λ r. Some r ∷ answers_to (second ∷ []) (Int 2 ∷ [])) (sym wrong.1) ∙ answers) sent
+    error-first wrong.0 (answers_to (second ∷ []) (Int 2 ∷ [])) begun places byte more (ap (λ r. Answer r ∷ answers_to (second ∷ []) (Int 2 ∷ [])) (sym wrong.1) ∙ answers) sent
 
-invented : (words : List (List ℕ)) (first : Taken) (begun : List Reply) (places : List (Option Reply)) (byte : ℕ) (more : List ℕ) → IsTakenPlainly words first → [] ≡ asked_of (first ∷ [])
-    → answers_to (first ∷ []) [] ≡ map Some begun ++ places → texts begun ≡ byte ∷ more → 45 ≡ byte
+invented : (words : List (List ℕ)) (first : Taken) (begun : List Reply) (places : List Place) (byte : ℕ) (more : List ℕ) → IsTakenPlainly words first → [] ≡ asked_of (first ∷ [])
+    → answers_to (first ∷ []) [] ≡ map Answer begun ++ places → texts begun ≡ byte ∷ more → 45 ≡ byte
 invented words (Asks command) begun places byte more so asked answers sent = cc
+invented words (Informs told) begun places byte more so asked answers sent = absurd so
 invented words (Says reply) begun places byte more so asked answers sent =
     let wrong = says-error words reply so in
-    error-first wrong.0 [] begun places byte more (ap (λ (r : Reply). Some r ∷ []) (sym wrong.1) ∙ answers) sent
+    error-first wrong.0 [] begun places byte more (ap (λ (r : Reply). Answer r ∷ []) (sym wrong.1) ∙ answers) sent
 
 -- a QUIT that was asked is among what was taken
 no-quit : (taken : List Taken) (more : List Command) → has_quit taken ≡ false → Quit ∷ more ≡ asked_of taken → ⊥
 no-quit [] more none asked = cc
 no-quit (Says reply ∷ taken) more none asked = no-quit taken more none asked
+no-quit (Informs told ∷ taken) more none asked = cc
 no-quit (Asks command ∷ taken) more none asked =
     let is : Quit ≡ command = cc in
     let never : (true || list_any quits taken) ≡ false = subst (λ b. (b || list_any quits taken) ≡ false) (ap (λ c. quits (Asks c)) (sym is)) none in cc
@@ -142,7 +154,7 @@ quit-last before (command ∷ asked) is none e = let first : Quit ≡ command = 
 
 behind-quit : (standing : Standing) (ended : Option Ending) (taken : List Taken) (rest : List ℕ) (held : _) → Goes Plain standing ended taken rest held → Quit ∷ ping ∷ [] ≡ asked_of taken → ⊥
 behind-quit standing None taken rest held goes asked = no-quit taken (ping ∷ []) goes.1 asked
-behind-quit standing (Some ending.Quit) taken rest held (holds, (before, is, none)) asked = quit-last before (asked_of before) refl none (asked ∙ ap asked_of is ∙ asked-more before Quit)
+behind-quit standing (Some ending.Quit) taken rest held (holds, (before, is, none)) asked = quit-last before (asked_of before) refl none (asked ∙ ap asked_of is ∙ asked-more before (Asks Quit) Quit Awaits (refl, refl))
 behind-quit standing (Some ending.Protocol) taken rest held goes asked = no-quit taken (ping ∷ []) goes.0 asked
 behind-quit standing (Some ending.Closed) taken rest held goes asked = goes
 behind-quit standing (Some ending.Cut) taken rest held goes asked = goes
