@@ -500,6 +500,16 @@ module _ (manner : Manner) (read : List ℕ) (asked : List Command) (got : List 
       (subst (λ (a : List Command). SessionIsAfter manner read a got sent new) (sym (append-nil asked))
       (subst (λ (n : Session). SessionIsAfter manner read asked got sent n) (sym same) (s.0, inl (subst (λ (b : Bool). MayBeOpen b (drop (length got) asked)) several s.1))))
 
+  -- a request is answered at once
+  pub session-says : (old new : Session) (next : Standing) (reply : Reply) (result : Turn) (words : List (List ℕ)) → old.ended ≡ None → words ≡ front_of old.requests → released_of old.standing.transaction ≡ [] → 0 < length words
+      → IsTaken manner old.standing words (Says reply) next → Skips old.requests new.requests → result ≡ turn.Goes
+      → new ≡ (let x : Session = record old { standing = next; requests = new.requests; places = old.places ++ Answer reply ∷ [] } in x) → SessionIsAfter manner read asked got sent old
+      → SessionIsAfter manner read (asked ++ asked_in result) got sent new
+  session-says old new next reply result words going are nothing some is skips goes after s =
+      let said = turn-says manner old.standing read asked got sent next old.ended old.requests new.requests old.places (old.places ++ Answer reply ∷ []) (bytes_left old.owed) words reply going s.0 are skips nothing some is refl in
+      subst (λ (t : Turn). SessionIsAfter manner read (asked ++ asked_in t) got sent new) (sym goes)
+      (subst (λ (n : Session). SessionIsAfter manner read (asked ++ []) got sent n) (sym after) (said, open-same old.alone (length got) asked s.1))
+
   -- what EXEC has let go is asked, or has to wait
   pub session-released : (old new : Session) (command : Command) (turn : Turn) → old.ended ≡ None → old.alone ≡ false → new.owed ≡ old.owed → ReleasesOrWaits old command turn new → SessionIsAfter manner read asked got sent old
       → SessionIsAfter manner read (asked ++ asked_in turn) got sent new

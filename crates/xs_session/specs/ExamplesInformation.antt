@@ -1,7 +1,6 @@
 -- INFO, by examples, as a real Redis 7.0.15 answers it. Redis queues it between MULTI and EXEC; here it is refused.
-use Rattle.std.specs.Prelude.{◌≡◌, ℕ, Bool, true, false, List, [], ◌∷◌, codes, Some, None}
+use Rattle.std.specs.Prelude.{◌≡◌, ℕ, Bool, true, false, List, [], ◌∷◌, codes, None}
 use Rattle.xs_resp.specs.declared.fault.Fault.TheVariants.{Memory}
-use Rattle.xs_resp.specs.declared.reply.Reply.{Reply}
 use Rattle.xs_resp.specs.declared.reply.Reply.TheVariants.{Error, Int, Bulk}
 use Rattle.xs_resp.specs.Examples.{wire}
 use Rattle.xs_command.specs.declared.command.Command.TheVariants as command
@@ -10,7 +9,7 @@ use Rattle.xs_command.specs.Examples.{line}
 use Rattle.xs_connection.specs.declared.transaction.Transaction.TheVariants.{Closed, Open}
 use Rattle.xs_session.specs.declared.manner.Manner.TheVariants.{Plain, Full}
 use Rattle.xs_session.specs.declared.places.Place.TheVariants.{Answer, AwaitsKeys}
-use Rattle.xs_session.specs.Answers.{Asks, Informs, Says, IsTaken, asked_of, answers_to}
+use Rattle.xs_session.specs.Answers.{Informs, Says, IsTaken, asked_of, answers_to}
 use Rattle.xs_session.specs.Examples.{anyone}
 use Rattle.xs_session.specs.ExamplesManners.{at, secret, who}
 use Rattle.xs_session.specs.Information.{asks_keys, informed}

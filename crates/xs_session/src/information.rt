@@ -93,7 +93,7 @@ impl Information {
 
     /// With the line of the keyspace, if there are so many keys.
     fn with_keys(self, keys: U63) -> Bytes
-        ensures { result ≡ self.entry ++ keyspace_line keys }
+        ensures { result ≡ self ++ keyspace_line keys }
     {
         let mut text = self.text;
         if keys.get() > 0 {
@@ -107,7 +107,7 @@ impl Information {
 
     /// The answer to INFO once this reply says how many keys there are. Another reply is the answer itself.
     pub fn answer(self, reply: Reply) -> Reply
-        ensures { result ≡ informed self.entry reply }
+        ensures { result ≡ informed self reply }
     {
         match reply {
             Reply::Int(keys) => Reply::Bulk(self.with_keys(keys)),

@@ -1,5 +1,5 @@
 //! What becomes of INFO.
-ghost use Rattle.std.specs.Prelude.{◌≡◌, true, is_some, IfOk, MatchResult};
+ghost use Rattle.std.specs.Prelude.{◌≡◌, ◌∷◌, [], codes, true, is_some, IfOk, MatchResult};
 ghost use Rattle.xs_command.specs.declared.command.Command.{Command};
 ghost use Rattle.xs_command.specs.declared.command.Inspection.{Inspection};
 ghost use Rattle.xs_desk.specs.Calls.{AreWordsOf, IsFormed};
@@ -16,17 +16,25 @@ use xs_desk::Call;
 use xs_resp::{Fault, Reply, Request};
 use xs_tape::can_be_record;
 
-/// The words that ask how many keys there are, for a log.
-fn words_of_keys(alloc: Global) -> Result<List<Bytes>, AllocError>
-    ensures { IfOk result (λ words. AreWordsOf words (Command.Inspect Inspection.KeyCount)) }
+/// The word that asks how many keys there are.
+fn dbsize(alloc: Global) -> Result<List<Bytes>, AllocError>
+    ensures { IfOk result (λ words. words ≡ codes "DBSIZE" ∷ []) }
 {
     let mut words = Vec::with_capacity(alloc, 1)?;
     words.push(Bytes::from_slice(alloc, b"DBSIZE")?)?;
-    let list = List::new(words);
-    if !can_be_record(list.as_slice()) {
+    Ok(List::new(words))
+}
+
+/// The words that ask how many keys there are, for a log. Words that no log can have a record of are refused as if there
+/// were no memory.
+fn words_of_keys(alloc: Global) -> Result<List<Bytes>, AllocError>
+    ensures { IfOk result (λ words. AreWordsOf words (Command.Inspect Inspection.KeyCount)) }
+{
+    let words = dbsize(alloc)?;
+    if !can_be_record(words.as_slice()) {
         return Err(AllocError);
     }
-    Ok(list)
+    Ok(words)
 }
 
 /// The call that asks how many keys there are, with its words if they are wanted.

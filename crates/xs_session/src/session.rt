@@ -444,6 +444,7 @@ impl Session {
         requires going { self.old.ended ≡ None }
         requires several { self.old.alone ≡ false }
         requires nothing { released_of self.old.standing.transaction ≡ [] }
+        requires some { 0 < length (front_of self.old.requests) }
         requires unknown { IsUnknown manner.now self.old.standing (front_of self.old.requests) }
         ensures turns { (read : List ℕ) (asked : List Command) (got : List Reply) (sent : List ℕ) →
             SessionIsAfter manner.now read asked got sent self.old →
@@ -521,7 +522,7 @@ impl Session {
         ensures none { result ≡ false → self.new ≡ self.old }
         ensures last { result ≡ false → self.old.owed.behind ≡ [] → NoneReady self.old.places }
         ensures fewer { result ≡ true → length self.new.places < length self.old.places }
-        ensures begins { result ≡ true → (reply : Reply) × (self.old.places ≡ Some reply ∷ self.new.places)
+        ensures begins { result ≡ true → (reply : Reply) × (self.old.places ≡ place.Answer reply ∷ self.new.places)
             × (bytes_left self.new.owed ≡ bytes_left self.old.owed ++ text reply) }
         ensures open { has_open self.new.places ≡ has_open self.old.places }
         ensures ended { self.new.ended ≡ self.old.ended }

@@ -22,9 +22,10 @@ nameless : Becomes None true (codes "GET k") (Says (Error UnknownCommand)) true 
 unfolding example_functions connection.example_functions
 nameless (inl (inl (fault, is, said))) =
     let unknown : UnknownCommand ≡ fault = cc in
-    elim (subst (λ f. IsSaid (Full None) (who true) (line (codes "GET k")) f (Error UnknownCommand) (who true)) (sym unknown) said) [
-      | (asks, inl answered) ↦ (let never : false ≡ true = ap (λ (said : Reply × Standing). has_text said.0) answered.1 in cc)
-      | (asks, inr memory) ↦ (let never = memory.0 in cc)
+    let so = subst (λ f. IsSaid (Full None) (who true) (line (codes "GET k")) f (Error UnknownCommand) (who true)) (sym unknown) said in
+    elim so.1 [
+      | inl answered ↦ (let never : false ≡ true = ap (λ (said : Reply × Standing). has_text said.0) answered.1 in cc)
+      | inr memory ↦ (let never = memory.0 in cc)
     ]
 nameless (inl (inr (command, is, waits, queued))) = let never = is in cc
 nameless (inr memory) = let never = memory.0 in cc
@@ -39,10 +40,10 @@ pub returns : goal.returns
 unfolding example_functions connection.example_functions
 returns c = record {
   a_command = (refl, refl, refl, refl);
-  an_unknown_command = inl (inl (UnknownCommand, refl, refl, inl ([], refl)));
+  an_unknown_command = inl (inl (UnknownCommand, refl, (refl, inl ([], refl))));
   no_unknown_command_without_its_name = nameless;
   another_fault = inl (inl (Arity, refl, (refl, refl)));
-  a_command_of_the_connection = inl (inl (UnknownCommand, refl, refl, inl ([], refl)));
+  a_command_of_the_connection = inl (inl (UnknownCommand, refl, (refl, inl ([], refl))));
   plainly_unknown = inl (inl (UnknownCommand, refl, (refl, refl)));
   not_plainly_answered = plainly;
   no_memory = inr (refl, refl);

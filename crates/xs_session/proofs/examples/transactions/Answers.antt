@@ -22,9 +22,9 @@ returns c = record {
   a_command_waits = inl (inr (ping, refl, refl, inl refl));
   it_is_not_asked = λ taken. let never = taken.2 in cc;
   a_quit_is = (refl, refl, refl, refl);
-  asked_by_exec = (_, [], _, _, _, refl, inl (inl (UnknownCommand, refl, refl, inl ([], refl))), refl, inr refl, (_, [], _, _, _, refl, inl (inr (ping, refl, refl, inl refl)), refl, inr refl, (_, [], _, _, _, refl, inl (inr (len, refl, refl, inl refl)), refl, inr refl, (_, Asks ping ∷ Asks len ∷ [], _, _, Closed, refl, inl (inl (UnknownCommand, refl, refl, inl ([], refl))), (_, _, refl, refl, (_, _, refl, refl, refl)), inl refl, (refl, refl)))));
-  before_the_next_one = (_, [], _, _, _, refl, inl (inl (UnknownCommand, refl, refl, inl ([], refl))), refl, inr refl, (_, [], _, _, _, refl, inl (inr (ping, refl, refl, inl refl)), refl, inr refl, (_, Asks ping ∷ [], _, _, Closed, refl, inl (inl (UnknownCommand, refl, refl, inl ([], refl))), (_, _, refl, refl, refl), inr refl, (_, [], _, _, Closed, refl, (refl, refl, refl, refl), refl, inr refl, (refl, refl)))));
+  asked_by_exec = (_, [], _, _, _, refl, inl (inl (UnknownCommand, refl, (refl, inl ([], refl)))), refl, inr refl, (_, [], _, _, _, refl, inl (inr (ping, refl, refl, inl refl)), refl, inr refl, (_, [], _, _, _, refl, inl (inr (len, refl, refl, inl refl)), refl, inr refl, (_, Asks ping ∷ Asks len ∷ [], _, _, Closed, refl, inl (inl (UnknownCommand, refl, (refl, inl ([], refl)))), (_, _, refl, refl, (_, _, refl, refl, refl)), inl refl, (refl, refl)))));
+  before_the_next_one = (_, [], _, _, _, refl, inl (inl (UnknownCommand, refl, (refl, inl ([], refl)))), refl, inr refl, (_, [], _, _, _, refl, inl (inr (ping, refl, refl, inl refl)), refl, inr refl, (_, Asks ping ∷ [], _, _, Closed, refl, inl (inl (UnknownCommand, refl, (refl, inl ([], refl)))), (_, _, refl, refl, refl), inr refl, (_, [], _, _, Closed, refl, (refl, refl, refl, refl), refl, inr refl, (refl, refl)))));
   not_left_out = λ run. let never = run in cc;
   no_other_one = another;
-  none_behind_discard = (_, [], _, _, _, refl, inl (inl (UnknownCommand, refl, refl, inl ([], refl))), refl, inr refl, (_, [], _, _, _, refl, inl (inr (ping, refl, refl, inl refl)), refl, inr refl, (_, [], _, _, Closed, refl, inl (inl (UnknownCommand, refl, refl, inl ([], refl))), refl, inr refl, (refl, refl))));
+  none_behind_discard = (_, [], _, _, _, refl, inl (inl (UnknownCommand, refl, (refl, inl ([], refl)))), refl, inr refl, (_, [], _, _, _, refl, inl (inr (ping, refl, refl, inl refl)), refl, inr refl, (_, [], _, _, Closed, refl, inl (inl (UnknownCommand, refl, (refl, inl ([], refl)))), refl, inr refl, (refl, refl))));
 }

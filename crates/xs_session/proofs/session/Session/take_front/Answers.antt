@@ -1,12 +1,13 @@
-use Rattle.std.proofs.Common.{◌≡◌, [], length, subst, sym}
+use Rattle.std.proofs.Common.{◌≡◌, [], length, refl, subst, sym}
 use Rattle.xs_resp.specs.LeftToWrite.{bytes_left}
 use Rattle.xs_connection.specs.declared.standing.Standing.{Standing}
 use Rattle.xs_connection.specs.Transaction.{released_of}
+use Rattle.xs_session.specs.declared.places.Place.TheVariants.{Awaits}
 use Rattle.xs_session.specs.declared.session.Session.{Session}
 use Rattle.xs_session.specs.Answers.{Asks, IsTaken}
 use Rattle.xs_session.specs.Session.{SessionIsAfter}
 use Rattle.xs_session.proofs.OpenCommands.{open-same}
-use Rattle.xs_session.proofs.SessionTurns.{session-asked, turn-says, turn-skips}
+use Rattle.xs_session.proofs.SessionTurns.{session-asked, session-says, turn-skips}
 use Rattle.xs_session.proofs.Tests.{empty-none, empty-some}
 use Rattle.xs_session.proofs.session.Session.take_front.Goals as goal
 
@@ -19,23 +20,28 @@ returns-then-is_empty-clause-turns g c = λ read asked got sent s.
       open-same session.alone (length got) asked s.1,
     )
 
-pub returns-in-Ok-clause-turns : goal.returns-in-Ok-clause-turns
-returns-in-Ok-clause-turns g c = λ read asked got sent s.
+pub returns-in-Asks-clause-turns : goal.returns-in-Asks-clause-turns
+returns-in-Asks-clause-turns g c = λ read asked got sent s.
     let manner = c.args.manner.now in
     let words = c.front-words.result in
     let now = c.take_request-taken.new.standing in
     let session : Session = record c.args.self.now { reserve = c.take_request-taken.new.reserve; standing = now } in
-    let taken = c.in-Ok.ensures.taken in
-    session-asked manner read asked got sent session c.ask.new.self c.in-Ok.call c.ask.result words c.requires.going c.requires.several c.front-words.ensures (subst (λ (o : Standing). released_of o.transaction ≡ []) (sym taken.3) c.requires.nothing)
+    let one = Asks c.in-Asks.call.command in
+    let taken = c.in-Asks.ensures.taken in
+    session-asked manner read asked got sent session c.ask.new.self c.in-Asks.call one Awaits c.ask.result words (refl, refl) c.requires.going c.requires.several c.front-words.ensures
+    (subst (λ (o : Standing). released_of o.transaction ≡ []) (sym taken.3) c.requires.nothing)
     (empty-some words c.is_empty.result c.is_empty.ensures c.if-is_empty.false)
-    (subst (λ (o : Standing). IsTaken manner o words (Asks c.in-Ok.call.command) now) (sym taken.3) taken) c.ask.ensures.owed c.ask.ensures.asks
+    (subst (λ (o : Standing). IsTaken manner o words one now) (sym taken.3) taken) c.ask.ensures.owed c.ask.ensures.asks
     (subst (λ (o : Standing). SessionIsAfter manner read asked got sent (record c.args.self.now { reserve = c.take_request-taken.new.reserve; standing = o })) (sym taken.3) s)
 
-pub returns-in-Err-clause-turns : goal.returns-in-Err-clause-turns
-returns-in-Err-clause-turns g c = λ read asked got sent s.
-    let session = c.args.self.now in
-    let words = c.front-words.result in (
-      turn-says c.args.manner.now session.standing read asked got sent c.take_request-taken.new.standing session.ended session.requests c.skip-in-Err.new.self session.places c.say.new.self (bytes_left session.owed) words c.in-Err.reply c.requires.going s.0 c.front-words.ensures c.skip-in-Err.ensures c.requires.nothing
-          (empty-some words c.is_empty.result c.is_empty.ensures c.if-is_empty.false) c.in-Err.ensures.taken c.say.ensures,
-      open-same session.alone (length got) asked s.1,
-    )
+pub returns-in-Says-clause-turns : goal.returns-in-Says-clause-turns
+returns-in-Says-clause-turns g c = λ read asked got sent s.
+    let words = c.front-words.result in
+    let session : Session = record c.args.self.now { reserve = c.take_request-taken.new.reserve } in
+    session-says c.args.manner.now read asked got sent session c.say.new.self c.take_request-taken.new.standing c.in-Says.reply c.say.result words c.requires.going c.front-words.ensures c.requires.nothing
+    (empty-some words c.is_empty.result c.is_empty.ensures c.if-is_empty.false) c.in-Says.ensures.taken c.say.ensures.skips c.say.ensures.goes c.say.ensures.after s
+
+pub returns-in-Info-clause-turns : goal.returns-in-Info-clause-turns
+returns-in-Info-clause-turns g c = λ read asked got sent s.
+    c.inform.ensures.turns read asked got sent
+    (subst (λ (o : Standing). SessionIsAfter c.args.manner.now read asked got sent (record c.args.self.now { reserve = c.take_request-taken.new.reserve; standing = o })) (sym c.in-Info.ensures.taken.1) s)
