@@ -2,6 +2,8 @@
 mod asking;
 mod at_random;
 mod blocked;
+mod counting_log;
+mod desks;
 mod gone;
 mod lines;
 mod logged;
@@ -9,7 +11,9 @@ mod older;
 mod one_run;
 mod one_thread;
 mod parking;
+mod pinging;
 mod reading_by_turns;
 mod refusals;
 mod resting;
+mod steps;
 mod stuck_lane;

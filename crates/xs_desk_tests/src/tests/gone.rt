@@ -1,12 +1,16 @@
 //! A keeper that is dropped while its lanes wait.
+use super::desks::{new_desk, serve};
+use super::pinging::is_told_gone;
+use std::alloc::Global;
 use std::sync::Wait;
 use std::test::Fail;
 use std::thread;
+use std::thread::{JoinHandle, Threads};
 use std::time::Duration;
 use xs_command::Command;
-use xs_desk::{Client, Keeper, Lane, Port, PortFault, desk};
+use xs_desk::{Client, Lane, Port, PortFault};
 use xs_resp::{Reply, Simple};
-use xs_testing::{MOST_TURNS, Still};
+use xs_testing::MOST_TURNS;
 
 /// Asks until it is told that the keeper is gone, and once more. It says how many calls were answered before.
 fn ask_until_gone<R: Wait>(rt: &R, client: Client) -> Option<u64> {
@@ -15,56 +19,47 @@ fn ask_until_gone<R: Wait>(rt: &R, client: Client) -> Option<u64> {
         match lane.ask(rt, Command::Ping(None)) {
             Ok(Reply::Simple(Simple::Pong)) => {}
             Ok(_) => return None,
-            Err(PortFault::Gone) => {
-                return lane
-                    .ask(rt, Command::Ping(None))
-                    .is_err()
-                    .then_some(answered);
-            }
+            Err(PortFault::Gone) => return is_told_gone(rt, &mut lane).then_some(answered),
         }
     }
     None
 }
 
-/// Turns until so many calls are served, or more, and says how many. It is idle after a turn that served nobody.
-pub fn serve<R: Wait>(rt: &R, keeper: &mut Keeper, wanted: u64, clock: &mut Still) -> u64 {
-    let mut served = 0u64;
-    for _ in 0..MOST_TURNS {
-        match keeper.turn(clock) {
-            Ok(0) => keeper.idle(rt),
-            Ok(count) => served = served.saturating_add(count),
-            Err(_) => break,
-        }
-        if served >= wanted {
-            break;
-        }
+/// The same in a thread for each client.
+fn ask_beside<R: Threads + Wait + Copy + Send + Drop + 'static>(
+    rt: R,
+    alloc: Global,
+    clients: Vec<Client>,
+) -> Result<Vec<JoinHandle<Option<u64>>>, Fail> {
+    let mut lanes = Vec::new(alloc);
+    for client in clients {
+        lanes.push(thread::spawn(&rt, move || ask_until_gone(&rt, client))?)?;
     }
-    served
+    Ok(lanes)
+}
+
+/// How many calls were answered over all lanes, if each was told that the keeper is gone.
+fn answered<R: Threads + Wait>(rt: &R, lanes: Vec<JoinHandle<Option<u64>>>) -> Option<u64> {
+    let mut all = 0u64;
+    for lane in lanes {
+        all = all.checked_add(lane.join(rt)?)?;
+    }
+    Some(all)
 }
 
 // Each lane has the answers to its calls that were served, and is then told that the keeper is gone: where all of them
 // wait as it is dropped, and where it is dropped as soon as it has served.
 #[test]
 fn lanes_that_wait_are_told(rt: HostRuntime) -> Result<(), Fail> {
-    let alloc = rt.alloc();
-    let mut clock = Still::at(1000).ok_or("a moment")?;
     for (depth, late) in [(1, true), (4, true), (1, false), (4, false)] {
-        let (mut keeper, clients) = desk(alloc, 8, depth)?;
-        let mut lanes = Vec::new(alloc);
-        for client in clients {
-            lanes.push(thread::spawn(&rt, move || ask_until_gone(&rt, client))?)?;
-        }
-        let mut served = serve(&rt, &mut keeper, 1000, &mut clock);
+        let (mut keeper, clients) = new_desk(rt.alloc(), 8, depth)?;
+        let lanes = ask_beside(rt, rt.alloc(), clients)?;
+        let served = serve(&rt, &mut keeper, 1000);
         if late {
             thread::sleep(&rt, Duration::from_millis(100));
         }
         drop(keeper);
-        for lane in lanes {
-            let answered = lane.join(&rt).ok_or("a wrong answer")?;
-            assert!(rt; answered <= served);
-            served -= answered;
-        }
-        assert_eq!(rt; served, 0);
+        assert_eq!(rt; answered(&rt, lanes), Some(served));
     }
     Ok(())
 }
@@ -72,12 +67,11 @@ fn lanes_that_wait_are_told(rt: HostRuntime) -> Result<(), Fail> {
 // The same in one thread: the keeper is gone before the lane asks.
 #[test]
 fn a_lane_of_a_dropped_keeper_is_told(rt: HostRuntime) -> Result<(), Fail> {
-    let alloc = rt.alloc();
-    let (keeper, mut clients) = desk(alloc, 1, 1)?;
+    let (keeper, mut clients) = new_desk(rt.alloc(), 1, 1)?;
     drop(keeper);
     let mut lane = Lane::new(clients.pop().ok_or("a client")?);
     for _ in 0..3 {
-        assert!(rt; matches!(lane.ask(&rt, Command::Ping(None)), Err(PortFault::Gone)));
+        assert!(rt; is_told_gone(&rt, &mut lane));
     }
     Ok(())
 }

@@ -1,5 +1,6 @@
 //! Consumers of one group in threads of their own: each entry is delivered to one of them.
 use super::asking::{Asking, Told, by_place, is_in_order};
+use super::desks::reply_of;
 use super::lines::Line;
 use std::alloc::{AllocError, Global};
 use std::process::Abort;
@@ -8,7 +9,7 @@ use std::test::Fail;
 use std::thread::Threads;
 use xs_command::Refusal;
 use xs_keys::Keyspace;
-use xs_testing::{Still, Trial, read, text_of};
+use xs_testing::{Still, Trial, read};
 
 /// The read of each lane.
 const READS: [&str; 8] = [
@@ -126,9 +127,9 @@ fn read_by_turns<R: Abort + Threads + Wait + Sync>(
     let (trial, jobs) = trial.together(rt, alloc, clock, jobs)?;
     assert!(rt; are_in_order(&jobs));
     reads_all(rt, alloc, &by_place(alloc, jobs)?)?;
-    let mut keyspace = closes(rt, alloc, trial, each)?;
-    let reply = keyspace.apply(clock.moment, &read(alloc, "XPENDING s g")?);
-    assert!(rt; text_of(alloc, &reply)?.starts_with(b"*4\r\n:150\r\n"));
+    let keyspace = closes(rt, alloc, trial, each)?;
+    let pending = reply_of(alloc, keyspace, clock.moment, "XPENDING s g")?;
+    assert!(rt; pending.starts_with(b"*4\r\n:150\r\n"));
     Ok(())
 }
 
