@@ -15,3 +15,4 @@ pub mod SnapshotOutput
 pub mod ShortWords
 pub mod PieceRecords
 pub mod SnapshotReads
+pub mod SnapshotLaws

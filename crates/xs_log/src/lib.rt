@@ -15,6 +15,7 @@ mod record;
 pub mod snapshot_fault;
 mod snapshot_header;
 mod snapshot_input;
+pub mod snapshot_laws;
 pub mod snapshot_output;
 pub mod snapshot_reader;
 mod snapshot_record;
