@@ -1,6 +1,5 @@
 -- Which words the record of a piece has.
-use Rattle.std.proofs.Common.{◌≡◌, ◌≢◌, ◌⊎◌, inl, inr, ℕ, List, [], ◌∷◌, map, decimal, codes, Option, Some, None, refl, sym, ap, ◌∙◌}
-use Rattle.std.specs.Option.{option_map}
+use Rattle.std.proofs.Common.{◌≡◌, ◌≢◌, inl, inr, ℕ, List, [], ◌∷◌, map, decimal, codes, Some, None, sym, ap, ◌∙◌}
 use Rattle.xs_tape.specs.Escape.{escaped}
 use Rattle.xs_tape.specs.Records.{with_checksum, with_size}
 use Rattle.xs_replay.specs.Pieces as content
@@ -9,7 +8,6 @@ use Rattle.xs_replay.specs.PieceReading.{piece_of_words}
 use Rattle.xs_replay.specs.Snapshot.{piece_record}
 use Rattle.xs_replay.proofs.PiecesSpelled.{words-said}
 use Rattle.xs_replay.proofs.SnapshotsRead.{piece-back}
-use Rattle.xs_log.specs.SnapshotPieces.{end_record}
 use Rattle.xs_log.specs.SnapshotReading.{MayStandBehind}
 use Rattle.xs_log.proofs.PlainWords.{not_checked, record_parts, parts_record}
 use Rattle.xs_log.proofs.SnapshotPlaces.{kind_is_no_end}

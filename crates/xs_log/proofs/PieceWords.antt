@@ -1,8 +1,8 @@
 -- Words that say a key.
-use Rattle.std.proofs.Common.{◌≡◌, ℕ, List, [], ◌∷◌, length, Option, Some, refl, sym, ap, ◌∙◌, arith}
+use Rattle.std.proofs.Common.{◌≡◌, ℕ, List, [], ◌∷◌, length, Some, refl, sym, ap, ◌∙◌, arith}
 use Rattle.std.proofs.Math.ListN.{get_or}
 use Rattle.xs_stream.specs.declared.id.Id.{Id}
-use Rattle.xs_replay.specs.Pieces.{Piece, of_key}
+use Rattle.xs_replay.specs.Pieces.{of_key}
 use Rattle.xs_replay.specs.PieceReading.{id_of_words, wide_of_words, key_of_parts, key_of_words}
 
 -- seven words, one by one

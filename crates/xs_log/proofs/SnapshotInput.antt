@@ -1,5 +1,5 @@
 -- Requests that are taken from a source, one by one.
-use Rattle.std.proofs.Common.{◌≡◌, ◌≢◌, inl, inr, ℕ, List, [], ◌∷◌, ◌++◌, length, drop, Some, None, Option, refl, sym, ap, ◌∙◌, subst, append_assoc}
+use Rattle.std.proofs.Common.{◌≡◌, ◌≢◌, ℕ, List, [], ◌∷◌, ◌++◌, length, drop, Some, None, Option, refl, sym, ap, ◌∙◌, subst, append_assoc}
 use Rattle.std.proofs.lemmas.List.{append-nil, append_cancel_left, nil_from_length}
 use Rattle.std.proofs.lemmas.Bool.{eqb-true}
 use Rattle.std.specs.Prelude.{◌==◌, Bool, true, false, not, Result, Ok, Err, MatchOption}
@@ -22,7 +22,7 @@ use Rattle.xs_log.specs.PieceOf.{piece_of}
 use Rattle.xs_log.specs.SnapshotPieces.{end_record}
 use Rattle.xs_log.specs.SnapshotReading.{HasTaken, Gives}
 use Rattle.xs_log.proofs.Crashed.{read-whole}
-use Rattle.xs_log.proofs.Steps.{Behind, behind, IsFault, no-fault-in, nothing-there, spelled-front, spellings-more, all-more, HasFront, front_words, ready_same, ready_fault}
+use Rattle.xs_log.proofs.Steps.{Behind, behind, no-fault-in, nothing-there, spelled-front, spellings-more, all-more, HasFront, front_words, ready_same, ready_fault}
 
 abbrev Requests : Type 0
 Requests = List (List (List ℕ))

@@ -1,13 +1,12 @@
 -- Which record stands behind the first ones of a snapshot.
-use Rattle.std.proofs.Common.{◌≡◌, ◌≢◌, inl, inr, ℕ, ◌+◌, suc, List, [], ◌∷◌, ◌++◌, map, length, decimal, codes, bytes_eq, false, refl, sym, ap, ◌∙◌, arith}
+use Rattle.std.proofs.Common.{◌≡◌, ◌≢◌, inl, inr, ℕ, ◌+◌, List, [], ◌∷◌, ◌++◌, map, length, decimal, codes, bytes_eq, false, refl, sym, ap, ◌∙◌, arith}
 use Rattle.std.proofs.lemmas.Bool.{false≢true}
 use Rattle.std.specs.List.{AllByRecursion}
-use Rattle.xs_tape.specs.Records.{record_words}
 use Rattle.xs_replay.specs.Pieces.{Piece, of_key, of_entry, of_group, of_consumer, of_row}
 use Rattle.xs_replay.specs.SnapshotWords.{kind_of, values_of, Fits}
 use Rattle.xs_replay.specs.Snapshot.{piece_record}
 use Rattle.xs_replay.proofs.Logs.{same-plain}
-use Rattle.xs_log.specs.SnapshotPieces.{end_record, front_records, all_records}
+use Rattle.xs_log.specs.SnapshotPieces.{end_record}
 use Rattle.xs_log.specs.SnapshotReading.{MayStandBehind}
 
 abbrev Requests : Type 0

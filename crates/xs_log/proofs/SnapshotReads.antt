@@ -1,5 +1,5 @@
 -- What is read of a snapshot.
-use Rattle.std.proofs.Common.{◌≡◌, ℕ, ◌+◌, ◌^◌, ◌<◌, List, [], ◌∷◌, ◌++◌, map, length, Option, Some, refl, sym, ap, ◌∙◌, subst, arith, append_assoc, length-append}
+use Rattle.std.proofs.Common.{◌≡◌, ℕ, ◌+◌, List, [], ◌∷◌, ◌++◌, map, length, Option, Some, sym, ap, ◌∙◌, subst, arith, append_assoc, length-append}
 use Rattle.std.proofs.lemmas.List.{append-nil}
 use Rattle.std.specs.List.{AllByRecursion}
 use Rattle.xs_devices.specs.Passing.{Passing, Consumes, IsAtEnd}
@@ -7,7 +7,7 @@ use Rattle.xs_resp.specs.HeldBytes.{Held}
 use Rattle.xs_tape.specs.Records.{CanBeSpelled, spellings}
 use Rattle.xs_replay.specs.Pieces.{Piece}
 use Rattle.xs_replay.specs.SnapshotWords.{Fits}
-use Rattle.xs_replay.specs.Snapshot.{snapshot_header, piece_record, piece_records}
+use Rattle.xs_replay.specs.Snapshot.{piece_record}
 use Rattle.xs_log.specs.SnapshotPieces.{end_record, front_records, all_records, HasPieces}
 use Rattle.xs_log.specs.SnapshotReading.{HasTaken, Gives, MayStandBehind, SnapshotReading, HasRead, HasReadAll}
 use Rattle.xs_log.proofs.SnapshotInput.{others_behind}

@@ -1,9 +1,9 @@
 //! The piece that words say.
 ghost use Rattle.std.specs.Prelude.{◌≡◌, ◌∷◌, IfOk, bytes_eq};
 ghost use Rattle.std.specs.Option.{option_map};
-ghost use Rattle.xs_replay.specs.PieceReading.{id_of_words, wide_of_words, small_of_word, fields_of_words, key_of_words};
-ghost use Rattle.xs_replay.specs.PieceReading.{entry_of_words, group_of_words, consumer_of_words, row_of_words};
-ghost use Rattle.xs_replay.specs.PieceReading.{piece_of_words};
+ghost use Rattle.xs_replay.specs.PieceReading.{id_of_words, wide_of_words, small_of_word, fields_of_words};
+ghost use Rattle.xs_replay.specs.PieceReading.{key_of_words, entry_of_words, group_of_words, consumer_of_words};
+ghost use Rattle.xs_replay.specs.PieceReading.{row_of_words, piece_of_words};
 ghost use Rattle.xs_log.specs.PieceOf.{piece_of};
 
 use crate::piece::Piece;
@@ -11,19 +11,19 @@ use std::alloc::{AllocError, Global};
 use xs_bytes::{Bytes, List, U63, natural};
 use xs_stream::{Field, Id, Moment};
 
-/// What the first word of a key says.
+/// The first word of a key.
 pub(crate) const KEY: &[u8] = b"KEY";
 
-/// Of an entry.
+/// The first word of an entry.
 pub(crate) const ENTRY: &[u8] = b"ENTRY";
 
-/// Of a group.
+/// The first word of a group.
 pub(crate) const GROUP: &[u8] = b"GROUP";
 
-/// Of a consumer.
+/// The first word of a consumer.
 pub(crate) const CONSUMER: &[u8] = b"CONSUMER";
 
-/// Of a pending row.
+/// The first word of a pending row.
 pub(crate) const ROW: &[u8] = b"ROW";
 
 /// The id that two words say.
@@ -63,7 +63,7 @@ fn count_of(word: &Bytes) -> Option<U63>
     Some(U63::new(number))
 }
 
-/// A word, copied.
+/// A copy of a word.
 fn copy_of(alloc: Global, word: &Bytes) -> Result<Bytes, AllocError>
     ensures { IfOk result (λ copy. copy ≡ word.now) }
 {

@@ -36,8 +36,8 @@ pub enum WriteFault {
     /// The tape failed.
     #[error("can't be written")]
     Device,
-    /// A piece has more words, or longer ones, than a record may have, or there are more pieces than a number of 64 bits
-    /// counts.
+    /// A piece has more words, or longer ones, than a record may have, or there are more pieces than a number of 64
+    /// bits counts.
     #[error("has a piece that is too long")]
     TooLong,
 }
@@ -159,7 +159,8 @@ pub(crate) fn put_piece<T: Tape + Drop>(
     requires sound { writer.old.broken ≡ false }
     requires short { length kind.now ≤ 64 }
     ensures has { (number : ℕ) (closed : List (List ℕ)) (moment : Option ℕ) (pieces : List content.Piece)
-        (piece : content.Piece) → HasPut number closed (record { writing = writer.old; count = count.old }) moment pieces →
+        (piece : content.Piece) →
+        HasPut number closed (record { writing = writer.old; count = count.old }) moment pieces →
         kind.now ≡ kind_of piece → values.now ≡ values_of piece → Fits piece →
         OnOk result (HasPut number closed (record { writing = writer.new; count = count.new }) moment
         (pieces ++ piece ∷ [])) }

@@ -88,7 +88,8 @@ impl<T: Tape + Drop> SnapshotWriter<T> {
             (pieces ++ content.of_key name.now top added deleted ∷ [])) }
         ensures sound { OnOk result (self.new.writing.broken ≡ false) }
         ensures device { result ≡ Err WriteFault.Device → self.new.writing.broken ≡ true }
-        ensures long { result ≡ Err WriteFault.TooLong → AreShort (values_of (content.of_key name.now top added deleted)) →
+        ensures long { result ≡ Err WriteFault.TooLong →
+            AreShort (values_of (content.of_key name.now top added deleted)) →
             self.old.count < 2 ^ 64 - 1 → ⊥ }
     {
         let Ok(values) = key_values(self.alloc, name, top, added, deleted) else {
@@ -200,7 +201,8 @@ impl<T: Tape + Drop> SnapshotWriter<T> {
             ++ content.of_row id (record { consumer = consumer.now; time = time; count = deliveries }) ∷ [])) }
         ensures sound { OnOk result (self.new.writing.broken ≡ false) }
         ensures device { result ≡ Err WriteFault.Device → self.new.writing.broken ≡ true }
-        ensures long { result ≡ Err WriteFault.TooLong → AreShort (values_of (content.of_row id (record { consumer = consumer.now; time = time; count = deliveries }))) →
+        ensures long { result ≡ Err WriteFault.TooLong → AreShort (values_of
+            (content.of_row id (record { consumer = consumer.now; time = time; count = deliveries }))) →
             self.old.count < 2 ^ 64 - 1 → ⊥ }
     {
         let Ok(values) = row_values(self.alloc, id, consumer, time, deliveries) else {

@@ -1,7 +1,6 @@
-use Rattle.std.proofs.Common.{◌≡◌, ◌∷◌, [], ◌++◌, length, sym, ap, ◌∙◌, subst}
-use Rattle.std.specs.Prelude.{MatchOption}
+use Rattle.std.proofs.Common.{sym, subst}
 use Rattle.xs_log.specs.SnapshotPieces.{front_records}
-use Rattle.xs_log.specs.SnapshotReading.{SnapshotReading, HasRead}
+use Rattle.xs_log.specs.SnapshotReading.{HasRead}
 use Rattle.xs_log.proofs.SnapshotReads.{gives_all, goes_on, ends_there, read_piece_more, read_to_end}
 use Rattle.xs_log.proofs.snapshot_reader.SnapshotReader.next_piece.Goals as goal
 
