@@ -1,6 +1,5 @@
 -- The header of a log, and other words.
-use Rattle.std.specs.Prelude.{Result, Ok, Err, OnErr, IfErr}
-use Rattle.std.proofs.Common.{◌≡◌, ◌≢◌, ◌⊎◌, inr, ℕ, List, [], ◌∷◌, map, decimal, codes, sym, ◌∙◌}
+use Rattle.std.proofs.Common.{◌≡◌, ◌≢◌, ℕ, List, [], ◌∷◌, map, decimal, codes, sym, ◌∙◌}
 use Rattle.xs_tape.specs.Escape.{escaped}
 use Rattle.xs_tape.specs.Records.{with_checksum, with_size}
 use Rattle.xs_replay.specs.Log.{model_number, header_words}
@@ -17,7 +16,3 @@ pub header_parts : (number : ℕ) (sent items slice rest : List (List ℕ)) (nam
     → (name ≡ codes "xs-log") × (rest ≡ behind_name number)
 header_parts number sent items slice rest name e f g is =
     same_parts name (codes "xs-log") rest (behind_name number) (sym g ∙ f ∙ not_checked sent items (behind_name number) (codes "xs-log") e is)
-
-pub err_left : {E : Type 0} (Wants : E → Type 0) (result : Result (Unit {0}) E) (Wrong Left : Type 0) → OnErr result Wrong → (Wrong → Left) → IfErr result (λ fault. Wants fault ⊎ Left)
-err_left Wants (Ok done) Wrong Left wrong left = tt
-err_left Wants (Err fault) Wrong Left wrong left = inr (left wrong)

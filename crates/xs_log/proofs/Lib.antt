@@ -8,3 +8,11 @@ pub mod LogsInTurn
 pub mod TapeLogs
 pub mod Restarts
 pub mod Results
+pub mod PieceWords
+pub mod SnapshotInput
+pub mod SnapshotPlaces
+pub mod SnapshotOutput
+pub mod ShortWords
+pub mod PieceRecords
+pub mod SnapshotReads
+pub mod SnapshotLaws

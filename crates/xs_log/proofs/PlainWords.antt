@@ -59,3 +59,14 @@ parts_are sent items slice rest first event e f g is =
     let all = not_checked sent items is.plain (decimal event.0) e is.stands in
     let same = same_parts first (decimal event.0) rest is.plain (sym g ∙ f ∙ all) in
     (same.0, ap command_of_words same.1 ∙ is.command_is)
+
+-- the parts of the record of these words
+pub record_parts : (sent items slice rest values : List (List ℕ)) (first kind : List ℕ) → sent ≡ with_size (map escaped items) → slice ≡ items → slice ≡ with_checksum first rest → sent ≡ record_words kind values
+    → (first ≡ kind) × (rest ≡ values)
+record_parts sent items slice rest values first kind e f g is = same_parts first kind rest values (sym g ∙ f ∙ not_checked sent items values kind e is)
+
+-- and the record of these parts
+pub parts_record : (sent items slice rest values : List (List ℕ)) (first kind : List ℕ) → sent ≡ with_size (map escaped items) → slice ≡ items → slice ≡ with_checksum first rest → first ≡ kind → rest ≡ values
+    → sent ≡ record_words kind values
+parts_record sent items slice rest values first kind e f g h k =
+    e ∙ ap (λ ws. with_size (map escaped ws)) (sym f ∙ g ∙ ap (λ t. with_checksum t rest) h ∙ ap (λ ws. with_checksum kind ws) k)

@@ -81,7 +81,7 @@ moment-more before [] event = refl
 moment-more before (e ∷ events) event = moment-more (Some (event_moment e)) events event
 
 -- words that are no spelling of nothing stand at the front as they are spelled
-spelled-front : (bytes : List ℕ) (found : Found) → request bytes ≡ Ok (Some found) → found.words ≢ [] → CanBeSpelled found.words × (bytes ≡ spelling found.words ++ drop found.end bytes) × (found.end ≡ length (spelling found.words))
+pub spelled-front : (bytes : List ℕ) (found : Found) → request bytes ≡ Ok (Some found) → found.words ≢ [] → CanBeSpelled found.words × (bytes ≡ spelling found.words ++ drop found.end bytes) × (found.end ≡ length (spelling found.words))
 spelled-front bytes found e some =
     let read = request-read bytes found e in
     elim read.spells.spelled [
@@ -189,7 +189,7 @@ rest_is number start before seen rest held at content moment up holds =
 
 -- ---- a log that was written
 
-nothing-there : request [] ≡ Ok None
+pub nothing-there : request [] ≡ Ok None
 nothing-there = nothing-is (request []) Rattle.xs_resp.proofs.Cutting.nothing-read
   where
     nothing-is : (o : Outcome Found) → Rattle.xs_resp.specs.Pieces.Rests o [] (Ok []) → o ≡ Ok None
@@ -198,13 +198,13 @@ nothing-there = nothing-is (request []) Rattle.xs_resp.proofs.Cutting.nothing-re
     nothing-is (Err wrong) r = absurd (cc)
 
 -- what was written behind the requests that were taken
-record Behind (done written : List (List (List ℕ))) (rest more : List ℕ) : Type 0 where
+pub record Behind (done written : List (List (List ℕ))) (rest more : List ℕ) : Type 0 where
   pub others : List (List (List ℕ))
   pub split : written ≡ done ++ others
   pub spelled : AllByRecursion CanBeSpelled others
   pub text : rest ++ more ≡ spellings others
 
-behind : (done written : List (List (List ℕ))) (seen rest more : List ℕ) → AllByRecursion CanBeSpelled done → AllByRecursion CanBeSpelled written → seen ≡ spellings done ++ rest → seen ++ more ≡ spellings written → Behind done written rest more
+pub behind : (done written : List (List (List ℕ))) (seen rest more : List ℕ) → AllByRecursion CanBeSpelled done → AllByRecursion CanBeSpelled written → seen ≡ spellings done ++ rest → seen ++ more ≡ spellings written → Behind done written rest more
 behind [] written seen rest more one all e f = record { others = written; split = refl; spelled = all; text = ap (λ b. b ++ more) (sym e) ∙ f }
 behind (w ∷ done) [] seen rest more one all e f = absurd (cc (e, f))
 behind (w ∷ done) (v ∷ written) seen rest more one all e f =
@@ -227,7 +227,7 @@ one-begins (x ∷ xs) ys (z ∷ zs) ws e =
     ]
 
 -- no fault stands in what was written
-no-fault-in : (others : List (List (List ℕ))) (rest more : List ℕ) → AllByRecursion CanBeSpelled others → rest ++ more ≡ spellings others → IsFault rest → ⊥
+pub no-fault-in : (others : List (List (List ℕ))) (rest more : List ℕ) → AllByRecursion CanBeSpelled others → rest ++ more ≡ spellings others → IsFault rest → ⊥
 no-fault-in [] rest more can e fault =
     let later : request (rest ++ more) ≡ Err fault.wrong = subst (λ o. Keeps o (request (rest ++ more))) fault.is (request-keeps rest more) in
     absurd (cc (later, ap request e, nothing-there))

@@ -3,3 +3,8 @@ pub mod Reading
 pub mod Logs
 pub mod TapeLog
 pub mod Restart
+pub mod PieceOf
+pub mod SnapshotFault
+pub mod SnapshotPieces
+pub mod SnapshotReading
+pub mod SnapshotWriting

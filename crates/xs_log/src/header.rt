@@ -19,7 +19,7 @@ pub(crate) const NAME: &[u8] = b"xs-log";
 /// What the format's word says.
 pub(crate) const FORMAT: &[u8] = b"2";
 
-fn is_text(word: &[u8], text: &[u8]) -> bool
+pub(crate) fn is_text(word: &[u8], text: &[u8]) -> bool
     ensures yes { result ≡ true → word.now ≡ text.now }
     ensures no { result ≡ false → word.now ≢ text.now }
 {

@@ -98,7 +98,7 @@ pub(crate) fn checked_words(words: &[Bytes]) -> Option<(&Bytes, &[Bytes])>
 }
 
 /// The moment that a word is.
-fn moment_of(word: &Bytes) -> Option<Moment>
+pub(crate) fn moment_of(word: &Bytes) -> Option<Moment>
     ensures { MatchOption result ((now : ℕ) → now < 2 ^ 63 → word.now ≢ decimal now)
         (λ now. (word.now ≡ decimal now) × (now < 2 ^ 63)) }
 {

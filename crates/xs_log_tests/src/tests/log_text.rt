@@ -101,6 +101,14 @@ fn words_in(words: &str) -> u64 {
 }
 
 impl LogText {
+    /// Nothing.
+    pub fn empty(alloc: Global) -> LogText {
+        LogText {
+            bytes: Vec::new(alloc),
+            ends: Vec::new(alloc),
+        }
+    }
+
     /// The log with number 1, and all records.
     pub fn new(alloc: Global) -> Result<LogText, AllocError> {
         LogText::with_header(alloc, 2_305_457_928, "2 1 1", 0, usize::MAX)
@@ -129,10 +137,7 @@ impl LogText {
         from: usize,
         end: usize,
     ) -> Result<LogText, AllocError> {
-        let mut log = LogText {
-            bytes: Vec::new(alloc),
-            ends: Vec::new(alloc),
-        };
+        let mut log = LogText::empty(alloc);
         let mut sent = Vec::new(alloc);
         push_word(&mut sent, b"xs-log")?;
         push_number(&mut sent, alloc, checksum)?;
@@ -145,6 +150,22 @@ impl LogText {
             log.push_record(alloc, record)?;
         }
         Ok(log)
+    }
+
+    /// Appends a record with a first word, a checksum, and these words behind it as they stand in a log.
+    pub fn push_words(
+        &mut self,
+        alloc: Global,
+        first: &[u8],
+        checksum: u64,
+        words: &str,
+    ) -> Result<(), AllocError> {
+        let mut sent = Vec::new(alloc);
+        push_word(&mut sent, first)?;
+        push_number(&mut sent, alloc, checksum)?;
+        push_words(&mut sent, words)?;
+        let count = words_in(words).saturating_add(2);
+        self.push_sized(alloc, count, sent.as_slice())
     }
 
     fn push_record(&mut self, alloc: Global, record: Record) -> Result<(), AllocError> {

@@ -3,7 +3,8 @@ use Rattle.std.specs.Prelude.{Err}
 use Rattle.xs_tape.specs.Records.{with_checksum}
 use Rattle.xs_log.specs.Fault.{IsWant}
 use Rattle.xs_replay.specs.Log.{header_words}
-use Rattle.xs_log.proofs.Headers.{behind_name, not_sealed, header_parts, err_left}
+use Rattle.xs_log.proofs.Headers.{behind_name, not_sealed, header_parts}
+use Rattle.xs_log.proofs.Results.{err_left}
 use Rattle.xs_log.proofs.header.check_header.Goals as goal
 
 pub returns-in-Err-Damaged-clause-err : goal.returns-in-Err-Damaged-clause-err

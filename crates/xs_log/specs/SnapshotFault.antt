@@ -1,0 +1,10 @@
+-- Why a snapshot isn't read, though nothing is wrong with it.
+use Rattle.xs_log.specs.declared.snapshot_fault.SnapshotFault.{SnapshotFault}
+use Rattle.xs_log.specs.declared.snapshot_fault.SnapshotFault.TheVariants.{Memory, Device, TooLong}
+
+-- memory, the device or a number ran out
+abbrev pub HasRunOut : SnapshotFault → Type 0
+HasRunOut Memory = Unit {0}
+HasRunOut Device = Unit {0}
+HasRunOut TooLong = Unit {0}
+HasRunOut _ = ⊥
