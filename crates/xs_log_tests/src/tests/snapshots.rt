@@ -246,7 +246,9 @@ fn a_small_snapshot_is_kept_at_its_end(rt: HostRuntime) -> Result<(), Fail> {
     let alloc = rt.alloc();
     let name = vec![in alloc; b'n'; 65_536]?;
     let tape = MemoryTape::new(alloc, ALL);
-    let mut writer = SnapshotWriter::begin(alloc, tape, 3, None).or(Err("a writer"))?;
+    let Ok(mut writer) = SnapshotWriter::begin(alloc, tape, 3, None) else {
+        return Err("a writer".into());
+    };
     put_many(&mut writer, &name, 60).or(Err("groups"))?;
     assert_eq!(rt; writer.tape().kept(), 0);
     Ok(())
@@ -257,7 +259,9 @@ fn a_great_snapshot_is_kept_before_its_end(rt: HostRuntime) -> Result<(), Fail> 
     let alloc = rt.alloc();
     let name = vec![in alloc; b'n'; 65_536]?;
     let tape = MemoryTape::new(alloc, ALL);
-    let mut writer = SnapshotWriter::begin(alloc, tape, 3, None).or(Err("a writer"))?;
+    let Ok(mut writer) = SnapshotWriter::begin(alloc, tape, 3, None) else {
+        return Err("a writer".into());
+    };
     put_many(&mut writer, &name, 68).or(Err("groups"))?;
     assert!(rt; writer.tape().kept() > 4_194_304);
     Ok(())
