@@ -130,8 +130,8 @@ def producing(server, producers=2):
 
 def consume_beside_producers(server, rounds, counts=(1, 5, 20)):
     """Producers fill the memory and never stop. Meanwhile consumers on new connections read, acknowledge and delete
-    so many jobs at once, by turns: of their commands one in a hundred is refused at most, and each is served when it is
-    asked again."""
+    so many jobs at once, by turns: of their commands one in a thousand is refused at most, and each is served when it
+    is asked again."""
     say_at(server, "XGROUP CREATE q g 0 MKSTREAM", "+OK\r\n")
     add_until_full(server)
     taken, refused = [], []
@@ -140,7 +140,7 @@ def consume_beside_producers(server, rounds, counts=(1, 5, 20)):
             taken += consume(server, counts[turn % len(counts)], "XDEL", tries=100, refused=refused)
     print(f"beside producers, {server.workers} workers: {len(refused)} of {3 * rounds} commands refused", flush=True)
     assert len(taken) == len(set(taken)) and len(taken) >= rounds, (len(taken), len(set(taken)), rounds)
-    assert len(refused) <= 3 * rounds // 100, refused[:3]
+    assert len(refused) <= 3 * rounds // 1000, refused[:3]
 
 
 def under_a_bound(program, takes):

@@ -274,6 +274,14 @@ def four_gigabytes(program):
         full_queue.consume_beside_producers(server, 3000, (1,))
 
 
+def two_gigabytes(program):
+    """Consumers take one and several jobs at once from 16 workers, while memory is full under a bound of 2,000,000 KiB that
+    was set at the start, and two producers never stop."""
+    for of_program in (serving, running):
+        with of_program(program, workers=16, limits={resource.RLIMIT_AS: 2_000_000 * 1024}) as server:
+            full_queue.consume_beside_producers(server, 600)
+
+
 def bounded_queue(program):
     """Producers and consumers for a minute, over a queue that is full by its bound, with many workers."""
     max_memory.beside_producers(program, workers=64, seconds=60)
@@ -303,8 +311,8 @@ def main(arguments):
         return 2
     return try_all(arguments[0], (never_reads, random_bytes, random_value, almost_requests, great_promises,
                                   great_requests, most_words, killed_in_reply, with_pauses, greedy),
-                   (little_memory, no_memory_for_connections, full_queues, four_gigabytes, bounded_queue,
-                    no_memory_kept), WORKERS)
+                   (little_memory, no_memory_for_connections, full_queues, two_gigabytes, four_gigabytes,
+                    bounded_queue, no_memory_kept), WORKERS)
 
 
 if __name__ == "__main__":
