@@ -275,8 +275,8 @@ def four_gigabytes(program):
 
 
 def two_gigabytes(program):
-    """Consumers take one and several jobs at once from 16 workers, while memory is full under a bound of 2,000,000 KiB that
-    was set at the start, and two producers never stop."""
+    """Consumers take one and several jobs at once from 16 workers, while memory is full under a bound of 2,000,000 KiB
+    that was set at the start, and two producers never stop."""
     for of_program in (serving, running):
         with of_program(program, workers=16, limits={resource.RLIMIT_AS: 2_000_000 * 1024}) as server:
             full_queue.consume_beside_producers(server, 600)
