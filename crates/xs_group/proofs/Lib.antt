@@ -8,6 +8,7 @@ pub mod CountedNames
 pub mod NewRows
 pub mod Cursors
 pub mod Touching
+pub mod NextRows
 pub mod OwnIds
 pub mod UndoneReads
 pub mod ChosenIds

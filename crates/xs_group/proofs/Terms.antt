@@ -37,7 +37,7 @@ pub use Rattle.xs_stream.proofs.InOrder.{between-within, filter-filter, limited-
 pub use Rattle.xs_stream.proofs.Lending.{is-lent}
 pub use Rattle.xs_stream.proofs.Order.{is_same_id-eq, is_same_id-symm, equal-from, below-not_back, below-irrefl}
 pub use Rattle.xs_stream.proofs.Order.{not_above-trans, same_id, below-not_below, is_same_id-refl, le-not_below}
-pub use Rattle.xs_stream.proofs.Order.{partial-below}
+pub use Rattle.xs_stream.proofs.Order.{partial-below, below-not_same, below-trans, above-greater}
 pub use Rattle.xs_stream.specs.Id.{id_cmp, is_same_id, has_id, is_below}
 pub use Rattle.xs_stream.specs.StreamContent.{AllAbove, Ascends, up_to_limit, is_within, ids_of, AreEntriesOf}
 pub use Rattle.xs_stream.specs.StreamContent.{IsEntryOf}

@@ -2,6 +2,7 @@ pub mod GroupState
 pub mod Claims
 pub mod Report
 pub mod Indexes
+pub mod NextRow
 pub mod ConsistentGroup
 pub mod GroupRoom
 pub mod Deliveries

@@ -1,5 +1,6 @@
 //! A consumer group: its cursor, its consumers, and what is pending.
 ghost use Rattle.std.specs.Prelude.{◌≡◌, ◌<◌, ◌+◌, ◌^◌, not, length, if◌then◌else◌, IfOk, OnOk, OnErr};
+ghost use Rattle.std.specs.Prelude.{◌++◌, ◌∷◌, [], true, false};
 ghost use Rattle.xs_group.specs.GroupState.{GroupState, has_name, with_consumer, new_group, group_after_ack};
 ghost use Rattle.xs_group.specs.GroupState.{without_consumer, group_after_delivery};
 ghost use Rattle.xs_group.specs.GroupState.{group_after_reread};
@@ -8,18 +9,19 @@ ghost use Rattle.xs_group.specs.Report.{owned_count, summary_of, pending_of, con
 ghost use Rattle.xs_group.specs.ConsistentGroup.{IsConsistentGroup, IsUpTo};
 ghost use Rattle.xs_group.specs.Claims.{claim_by_ids, scan_of, group_after_claim};
 ghost use Rattle.xs_group.specs.Verdict.{IsClaimOn};
+ghost use Rattle.xs_group.specs.NextRow.{is_next_row, with_row};
 ghost use Rattle.std.specs.Option.{option_map};
 ghost use Rattle.xs_group.specs.Deliveries.{delivery_of, history_of, kind_of, group_after_read, IsMade};
 ghost use Rattle.xs_stream.specs.StreamContent.{ids_of, AllAbove, Ascends};
 
 use crate::claims::{Claim, ClaimRule, ClaimTerms, Scan};
-use crate::delivery::{Delivery, DeliveryKind};
+use crate::delivery::{Delivery, DeliveryKind, Touch};
 use crate::pending::Pending;
 use crate::reports::{ConsumerReport, GroupSummary, PendingRow, Selection};
 use crate::{claims, reading};
 use std::alloc::{AllocError, Global};
 use std::marker::Model;
-use xs_bytes::{Bytes, List};
+use xs_bytes::{Bytes, List, U63};
 use xs_stream::{Id, Moment, Range, Stream};
 
 /// How many bytes a group of no consumers is counted with.
@@ -179,6 +181,40 @@ impl Group {
         let count = self.pending.remove_consumer(consumer);
         self.name_bytes -= either(there, consumer.len() as u64, 0);
         count
+    }
+
+    /// Puts a pending row behind the others, with its time and its count, where a group is put together from what was
+    /// kept of it; and says whether it did. Refused, with nothing changed, are a consumer that isn't one of the group,
+    /// an id above the cursor, and an id that isn't above those of all rows.
+    pub fn restore_row(
+        &mut self,
+        alloc: Global,
+        id: Id,
+        consumer: &Bytes,
+        time: Moment,
+        count: U63,
+    ) -> Result<bool, AllocError>
+        ensures next { IfOk result (λ put. put ≡ is_next_row consumer.now id self.old) }
+        ensures ok { IfOk result (λ put. put ≡ true → self.new
+            ≡ with_row id (record { consumer = consumer.now; time = time; count = count }) self.old) }
+        ensures behind { IfOk result (λ put. put ≡ true → self.new.rows.entries ≡ self.old.rows.entries
+            ++ (id, record { consumer = consumer.now; time = time; count = count }) ∷ []) }
+        ensures refused { IfOk result (λ put. put ≡ false → self.new ≡ self.old) }
+        ensures err { OnErr result (self.new ≡ self.old) }
+    {
+        if !self.can_be_next(consumer, id) {
+            return Ok(false);
+        }
+        self.pending
+            .put(alloc, consumer, id, Touch { time, count })?;
+        Ok(true)
+    }
+
+    /// Whether the consumer may have the next row, at this id.
+    fn can_be_next(&self, consumer: &Bytes, id: Id) -> bool
+        ensures { result ≡ is_next_row consumer.now id self.now }
+    {
+        self.pending.has_consumer(consumer) && id <= self.cursor && self.pending.is_past_rows(id)
     }
 
     /// Delivers the entries above the cursor to a consumer, who is there from then on (XREADGROUP with

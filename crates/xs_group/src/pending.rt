@@ -1,14 +1,15 @@
 //! The consumers and the pending entries, in two indexes: by id, and by consumer.
 ghost use Rattle.std.specs.Prelude.{◌≡◌, ◌<◌, ◌^◌, not, length, true, false, None, Some, IfOk, OnOk, OnErr};
 ghost use Rattle.std.specs.List.{list_any};
-ghost use Rattle.xs_bytes.specs.SortedMap.{empty, get, remove, change};
+ghost use Rattle.xs_bytes.specs.SortedMap.{empty, get, has_key, insert_by, remove, change};
 ghost use Rattle.xs_stream.specs.Id.{has_id, is_below, zero_id};
 ghost use Rattle.xs_group.specs.Report.{summary_of, consumer_reports};
 ghost use Rattle.xs_group.specs.Listing.{selected_rows};
 ghost use Rattle.xs_group.specs.Claims.{claim_among, scan_of, row_after_claim};
 ghost use Rattle.xs_group.specs.Verdict.{verdict_of, row_after_move, AreDistinct};
 ghost use Rattle.xs_group.specs.GroupState.{has_name, with_name, is_any, first_row, ids_of_consumer, with_rows};
-ghost use Rattle.xs_group.specs.GroupState.{reread_ids};
+ghost use Rattle.xs_group.specs.GroupState.{reread_ids, ids_total};
+ghost use Rattle.xs_group.specs.NextRow.{is_past_rows};
 ghost use Rattle.xs_group.specs.GroupState.{unless_acked};
 ghost use Rattle.xs_group.specs.GroupState.{unless_owned};
 ghost use Rattle.xs_group.specs.Indexes.{IsNamed, AreFree};
@@ -164,6 +165,43 @@ impl Pending {
             return Err(AllocError);
         };
         Ok(())
+    }
+
+    /// Puts in a row of a consumer that is there, at an id that has none, with its time and its count.
+    pub(crate) fn put(
+        &mut self,
+        alloc: Global,
+        name: &Bytes,
+        id: Id,
+        touch: Touch,
+    ) -> Result<(), AllocError>
+        requires there { has_name self.old.consumers name.now ≡ true }
+        requires free { has_key self.old.rows id ≡ false }
+        ensures ok { OnOk result (self.new ≡ record self.old {
+          rows = insert_by ids_total self.old.rows id (record {
+            consumer = name.now;
+            time = touch.time;
+            count = touch.count;
+          });
+        }) }
+        ensures err { OnErr result (self.new ≡ self.old) }
+    {
+        self.put_all(alloc, name, touch.time, &[id])?;
+        self.set_touch(id, touch);
+        Ok(())
+    }
+
+    /// Whether an id is above those of all rows.
+    pub(crate) fn is_past_rows(&self, id: Id) -> bool
+        ensures { result ≡ is_past_rows id self.now.rows }
+    {
+        if self.rows.len() == 0 {
+            return true;
+        }
+        match reports::greatest(&self.rows) {
+            Some(last) => last < id,
+            None => true,
+        }
     }
 
     /// Makes ids pending with a consumer, who is there from then on, and says whether it is new.

@@ -22,7 +22,7 @@ use Rattle.xs_stream.specs.Id.{id_cmp, is_below, is_same_id, has_id}
 use Rattle.xs_stream.specs.ConsistentStream.{AreValid, AllIds, IsId}
 use Rattle.xs_stream.proofs.Order.{is_same_id-eq, is_same_id-refl, is_same_id-symm, below-not_same, below-not_back}
 use Rattle.xs_stream.proofs.Order.{below-irrefl}
-use Rattle.xs_stream.proofs.Order.{up_to-below, not_below-above, le-not_below, below-not_below}
+use Rattle.xs_stream.proofs.Order.{up_to-below, not_below-above, le-not_below, below-not_below, not_above-trans}
 
 -- ---- an addition
 
@@ -48,6 +48,11 @@ up_to-push (x ∷ xs) top id up h = (below-not_back x id (up_to-below top x id u
 pub up_to-higher : (ids : List Id) (top id : Id) → AllUpTo top ids → is_below top id ≡ true → AllUpTo id ids
 up_to-higher [] top id up h = tt
 up_to-higher (x ∷ xs) top id up h = (below-not_back x id (up_to-below top x id up.0 h), up_to-higher xs top id up.1 h)
+
+-- nor above one that isn't lower
+pub up_to-not_lower : (ids : List Id) (top id : Id) → AllUpTo top ids → is_below id top ≡ false → AllUpTo id ids
+up_to-not_lower [] top id up h = tt
+up_to-not_lower (x ∷ xs) top id up h = (not_above-trans id top x h up.0, up_to-not_lower xs top id up.1 h)
 
 pub ids-push : (ids : List Id) (id : Id) → AllIds ids → IsId id → AllIds (ids ++ id ∷ [])
 ids-push [] id a h = (h, tt)

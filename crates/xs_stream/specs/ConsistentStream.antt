@@ -1,7 +1,8 @@
 -- What holds of a stream at each time: it is consistent, and its ids are ids.
-use Rattle.std.specs.Prelude.{ℕ, ◌+◌, ◌*◌, ◌<◌, ◌^◌, List, [], ◌∷◌}
+use Rattle.std.specs.Prelude.{ℕ, ◌+◌, ◌*◌, ◌<◌, ◌^◌, Bool, not, ◌&&◌, nat_le, List, [], ◌∷◌}
 use Rattle.xs_stream.specs.declared.id.Id.{Id}
 use Rattle.xs_stream.specs.declared.field.Field.{Field}
+use Rattle.xs_stream.specs.Id.{is_below}
 use Rattle.xs_stream.specs.StreamContent.{StreamState, ids_of, Ascends, AllUpTo}
 
 -- both numbers are below 2^64
@@ -29,3 +30,8 @@ pub record AreValid (top : Id) (entries : List (Id × List Field)) : Type 0 wher
 -- how many ids there are below an id
 abbrev pub rank_of : Id → ℕ
 rank_of id = id.ms * 2 ^ 64 + id.seq
+
+-- a stream may have this top and so many additions behind entries up to an earlier top: the top isn't below that one,
+-- and each addition had an id of its own, above 0-0
+abbrev pub is_history_after : Id → Id → ℕ → Bool
+is_history_after earlier top added = not (is_below top earlier) && nat_le added (rank_of top)

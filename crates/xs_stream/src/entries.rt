@@ -578,7 +578,7 @@ impl Entries {
     fn is_nearer_first(&self, id: Id) -> bool {
         match (self.older.first_key_value(), self.older.last_key_value()) {
             (Some((first, _)), Some((last, _))) => {
-                number_of(id) < number_of(*first) / 2 + number_of(*last) / 2
+                id.rank() < first.rank() / 2 + last.rank() / 2
             }
             _ => false,
         }
@@ -648,11 +648,6 @@ impl Entries {
         }
         Ok(shown)
     }
-}
-
-/// An id as one number, in the same order.
-fn number_of(id: Id) -> u128 {
-    ((id.ms as u128) << 64) + id.seq as u128
 }
 
 /// How many entries there are beyond the most that may stay.

@@ -1,6 +1,7 @@
 //! Entry ids (Redis Streams, "Entry IDs"): milliseconds and a sequence, in this order.
 ghost use Rattle.std.specs.Prelude.{◌≡◌, ◌<◌, ◌==◌, ◌++◌, IfOk, IfSome, OnOk, OnErr, length, take, vec_len, position};
 ghost use Rattle.xs_stream.specs.Id.{id_text};
+ghost use Rattle.xs_stream.specs.ConsistentStream.{rank_of};
 ghost use Rattle.xs_stream.specs.IdText.{next_id, previous_id, id_number, parse_id};
 
 use itoa::Buffer;
@@ -62,6 +63,13 @@ impl Id {
             });
         }
         None
+    }
+
+    /// How many ids there are below this one.
+    pub(crate) fn rank(self) -> u128
+        ensures { result ≡ rank_of self }
+    {
+        u128::from(self.ms) * (1 << 64) + u128::from(self.seq)
     }
 
     /// Reads `ms-seq`, or `ms` alone, whose sequence is then `missing_seq`. Each number has one to

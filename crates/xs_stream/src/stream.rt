@@ -1,5 +1,5 @@
 //! A stream: its top id and its entries, in the order of their ids.
-ghost use Rattle.std.specs.Prelude.{◌≡◌, ◌↔◌, ◌+◌, ◌-◌, ◌^◌, ◌<◌, ◌++◌, ◌∷◌, [], true, Ok};
+ghost use Rattle.std.specs.Prelude.{◌≡◌, ◌↔◌, ◌+◌, ◌-◌, ◌^◌, ◌<◌, ◌++◌, ◌∷◌, [], true, false, Ok};
 ghost use Rattle.std.specs.Prelude.{Err, IfOk, OnOk, OnErr, IsErrOf, length};
 ghost use Rattle.std.specs.Prelude.{filter};
 ghost use Rattle.xs_stream.specs.Id.{zero_id, is_below, id_of_addition};
@@ -7,6 +7,7 @@ ghost use Rattle.xs_stream.specs.StreamContent.{ids_of, fields_at, entries_after
 ghost use Rattle.xs_stream.specs.StreamContent.{with_entry, with_deleted};
 ghost use Rattle.xs_stream.specs.StreamContent.{ids_within, entries_within, up_to_limit, AreEntriesOf};
 ghost use Rattle.xs_stream.specs.StreamContent.{Ascends, AllUpTo, state_of};
+ghost use Rattle.xs_stream.specs.ConsistentStream.{is_history_after};
 
 use crate::add::{AddError, AddId};
 use crate::entries::Entries;
@@ -136,6 +137,23 @@ impl Stream {
             }
             Err(error) => Err(error),
         }
+    }
+
+    /// Sets what the entries alone don't tell, where a stream is put together from what was kept of it: its top id, how
+    /// many entries were ever added, and the greatest id that was ever deleted; and says whether it did. Refused, with
+    /// nothing changed, are a top below the present one, and more additions than there are ids up to the top.
+    pub fn restore(&mut self, top: Id, added: u128, deleted: Id) -> bool
+        ensures fits { result ≡ is_history_after self.old.top top added }
+        ensures restored { result ≡ true → self.new ≡ record self.old { top = top; added = added; deleted = deleted } }
+        ensures refused { result ≡ false → self.new ≡ self.old }
+    {
+        if top < self.top || top.rank() < added {
+            return false;
+        }
+        self.top = top;
+        self.added = added;
+        self.deleted = deleted;
+        true
     }
 
     /// Adds an entry above all that were ever added (XADD). What the stream keeps is unchanged on each error.
