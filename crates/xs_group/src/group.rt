@@ -183,9 +183,9 @@ impl Group {
         count
     }
 
-    /// Puts a pending row behind the others, with its time and its count, where a group is put together from what was
-    /// kept of it; and says whether it did. Refused, with nothing changed, are a consumer that isn't one of the group,
-    /// an id above the cursor, and an id that isn't above those of all rows.
+    /// Puts a pending row behind the others, with its time and its count, into a group that is read from a snapshot; and
+    /// says whether it did. It refuses, and changes nothing, a consumer that isn't one of the group, an id above the
+    /// cursor, and an id that isn't above those of all rows.
     pub fn restore_row(
         &mut self,
         alloc: Global,
