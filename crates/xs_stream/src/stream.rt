@@ -139,9 +139,9 @@ impl Stream {
         }
     }
 
-    /// Sets what the entries of a stream that is read from a snapshot don't tell: its top id, how many entries were ever
-    /// added, and the greatest id that was ever deleted; and says whether it did. It refuses, and changes nothing, a top
-    /// below the present one, and more additions than there are ids up to the top.
+    /// Sets what the entries of a stream that is read from a snapshot don't tell: its top id, how many entries were
+    /// ever added, and the greatest id that was ever deleted; and says whether it did. It refuses, and changes nothing,
+    /// a top below the present one, and more additions than there are ids up to the top.
     pub fn restore(&mut self, top: Id, added: u128, deleted: Id) -> bool
         ensures fits { result ≡ is_history_after self.old.top top added }
         ensures restored { result ≡ true → self.new ≡ record self.old { top = top; added = added; deleted = deleted } }
