@@ -5,14 +5,16 @@
 
 In each round each connection asks 400 commands as conformance/at_random.py makes them, of keys of its own, which it
 has removed first; EXISTS in the place of DBSIZE, which counts those of all connections. The first connection sends one at a time, the next 3 together, then 5, and so on to 15. Both servers
-have the clock of the machine. A reply has to be that of Redis, as there. `--counts` shows how often each kind of reply
+have the clock of the machine: an idle time is compared as old or as new. Else a reply has to be that of Redis, as there. `--counts` shows how often each kind of reply
 of each command came. The last line is 'N passed, M failed', by commands; the status is 1 where M > 0.
 """
 import argparse
+import re
 import sys
 from concurrent.futures import ThreadPoolExecutor
 
 import commands
+import inspections
 import kinds
 import real_redis
 from at_random import COMMANDS, lines_of, same_in_round
@@ -46,6 +48,21 @@ def of_its_own(lines, connection):
     return made
 
 
+def by_age(reply):
+    """The reply with idle times, the numbers before a number, told as old or new."""
+    def age(match):
+        return (b":old" if int(match.group(1)) > commands.LONG else b":new") + match.group(2)
+
+    return re.sub(rb":([0-9]+)(\r\n:)", age, reply)
+
+
+def is_same(words, ours, theirs):
+    """Whether a reply is that of Redis, as far as both know."""
+    if inspections.is_told(words, ours, theirs):
+        return inspections.agree(words, ours, theirs, is_timed=False)
+    return real_redis.is_same(by_age(ours), by_age(theirs))
+
+
 def replies_at_once(pool, port, asked):
     """What each connection was answered."""
     def ask(connection):
@@ -70,7 +87,7 @@ def main():
             asked = [of_its_own(lines_of(seed), connection) for connection, seed in enumerate(seeds)]
             here, there = replies_at_once(pool, server.port, asked), replies_at_once(pool, port, asked)
             for connection in range(CONNECTIONS):
-                same = same_in_round(asked[connection], here[connection], there[connection], counts)
+                same = same_in_round(asked[connection], here[connection], there[connection], counts, is_same)
                 passed, failed = passed + same, failed + (same < COMMANDS)
                 if same < COMMANDS:
                     print(f"  in round {number} of seed {given.seed}, connection {connection}", flush=True)

@@ -27,14 +27,21 @@ def library_of(source, folder):
 
 
 @contextlib.contextmanager
+def clock_of(source, variable):
+    """A library that sets the wall clock of a program by a number: the variables of the environment that load it, and
+    what sets the number, which is 0 first."""
+    with tempfile.TemporaryDirectory() as folder, open(os.path.join(folder, "number"), "wb", buffering=0) as file:
+        def set_number(number):
+            os.pwrite(file.fileno(), struct.pack("q", number), 0)
+
+        set_number(0)
+        yield {"LD_PRELOAD": library_of(source, folder), variable: file.name}, set_number
+
+
+@contextlib.contextmanager
 def running_with_a_clock(program):
     """A new server, and what sets its wall clock so many seconds ahead of the true one."""
-    with tempfile.TemporaryDirectory() as folder, open(os.path.join(folder, "step"), "wb", buffering=0) as file:
-        def set_ahead(seconds):
-            os.pwrite(file.fileno(), struct.pack("q", seconds), 0)
-
-        set_ahead(0)
-        loaded = {"LD_PRELOAD": library_of("clock_step.c", folder), "CLOCK_STEP": file.name}
+    with clock_of("clock_step.c", "CLOCK_STEP") as (loaded, set_ahead):
         with running(program, environment=loaded) as server:
             yield server, set_ahead
 

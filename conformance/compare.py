@@ -3,20 +3,27 @@
 
     compare.py          starts redis-server on a socket of its own, and ends it
 
-A reply has to be the case's, byte by byte; of an error the first word, since texts differ.
+Its clock stands still at the moment of each line. A reply has to be the case's, byte by byte; of an error the first word, since texts differ.
 The last line is 'N passed, M failed'; the status is 1 where M > 0.
 """
 import sys
 
 import real_redis
+import redis_at
 from cases import read_all
+
+
+def timed(line):
+    """The moment of a script line, and its words."""
+    moment, _, *words = line.split(" ")
+    return int(moment), words
 
 
 def main():
     cases, failed = [case for case in read_all() if not case.only_ours], 0
-    with real_redis.started() as path:
+    with redis_at.started() as redis:
         for case in cases:
-            got = real_redis.ask(path, [line.split(" ")[2:] for line in case.lines])
+            got = redis.ask(map(timed, case.lines))
             if not all(map(real_redis.is_same, case.replies, got)):
                 failed += 1
                 print(case.title)

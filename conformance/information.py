@@ -2,6 +2,8 @@
 
 The names of sections and fields are those of the Redis page of INFO; the figures are counted here.
 """
+import contextlib
+import re
 import tempfile
 import threading
 import time
@@ -114,13 +116,26 @@ def waits_for_its_place(program):
         say(stream, "INFO", UNKNOWN)
 
 
-def keeps_busy(port, done):
-    """A client that sends requests ahead until it is told that all is done."""
+def sends_ahead(port, text, done):
+    """A client that sends this request ahead, a hundred times at once, until it is told that all is done."""
     with raw(port) as stream, stream.makefile("rb") as replies:
         while not done.is_set():
-            stream.sendall(asking("XADD busy * f v") * 100)
+            stream.sendall(asking(text) * 100)
             for _ in range(100):
                 read_reply(replies)
+
+
+@contextlib.contextmanager
+def beside_a_client(port, text):
+    """While the block runs, a client sends this request ahead."""
+    done = threading.Event()
+    other = threading.Thread(target=sends_ahead, args=(port, text, done))
+    other.start()
+    try:
+        yield
+    finally:
+        done.set()
+        other.join()
 
 
 def tells_what_was_answered(program):
@@ -128,19 +143,32 @@ def tells_what_was_answered(program):
     while others keep the keeper busy."""
     with running(program, workers=2) as server, raw(server.port) as stream, stream.makefile("rb") as replies:
         say(stream, "XADD busy 1-1 f v", bulk("1-1"))
-        done = threading.Event()
-        other = threading.Thread(target=keeps_busy, args=(server.port, done))
-        other.start()
-        try:
+        with beside_a_client(server.port, "XADD busy * f v"):
             for count in range(1, 601):
                 words = ("INFO keyspace", "INFO server keyspace", "INFO")[count % 3]
                 stream.sendall(asking(f"XADD k{count} 1-1 f v") + asking(words) + asking(f"DEL gone{count}"))
                 assert read_reply(replies) == bulk("1-1").encode()
                 assert f"db0:keys={count + 1},".encode() in (text := read_reply(replies)), (words, count, text)
                 assert read_reply(replies) == number(0).encode()
-        finally:
-            done.set()
-            other.join()
 
 
-CASES = [names_its_sections, counts, tells_of_its_age_and_log, waits_for_its_place, tells_what_was_answered]
+def tells_the_memory_behind_additions(program):
+    """`used_memory` has each addition before INFO, sent in one piece, whether the keeper rests between them or answers
+    another client without an end."""
+    size = 100_000
+    with running(program, workers=2) as server, raw(server.port) as stream, stream.makefile("rb") as replies:
+        def told_behind(count):
+            stream.sendall(asking(f"XADD s {count}-1 f {'v' * size}") + asking("INFO memory"))
+            assert read_reply(replies) == bulk(f"{count}-1").encode()
+            used = int(re.search(rb"used_memory:(\d+)", read_reply(replies)).group(1))
+            assert count * size < used < (count + 1) * size, (count, used)
+
+        for count in range(1, 101):
+            told_behind(count)
+        with beside_a_client(server.port, "PING"):
+            for count in range(101, 401):
+                told_behind(count)
+
+
+CASES = [names_its_sections, counts, tells_of_its_age_and_log, waits_for_its_place, tells_what_was_answered,
+         tells_the_memory_behind_additions]

@@ -2,15 +2,16 @@
 
 - the radix tree of a stream is ours;
 - of groups Redis counts what was read, and how many entries are ahead it reckons from that, which goes wrong once some
-  were deleted or trimmed;
+  were deleted or trimmed; before that both numbers are those of Redis, if it says them;
 - of consumers it knows some more, without pending entries, and the idle time is of something else;
-- the moments of deliveries are those of the clock there.
+- the moments of deliveries are those of the clock there, unless that is set to the moments here.
 """
 import io
 
 from kinds import parsed
 
 OWN = {"radix-tree-keys", "radix-tree-nodes", "entries-read", "lag", "idle", "seen-time"}
+PROGRESS = ("entries-read", "lag")
 
 
 def named(pairs):
@@ -29,34 +30,45 @@ def consumers(told):
     return [one for one in map(named, told) if one["pending"]]
 
 
-def rows(told):
-    """Pending rows without the moments of their deliveries, which stand before the count."""
-    return [[*row[:-2], row[-1]] for row in told]
-
-
-def with_rows(told):
-    """A group or a consumer of XINFO STREAM FULL."""
+def with_rows(told, is_timed):
+    """A group or a consumer of XINFO STREAM FULL. The moments of the deliveries stand before the counts."""
     one = named(told)
-    one["pending"] = rows(one["pending"])
+    if not is_timed:
+        one["pending"] = [[*row[:-2], row[-1]] for row in one["pending"]]
     return one
 
 
-def whole(told):
+def whole(told, is_timed):
     """A stream of XINFO STREAM FULL, with its groups and their consumers that have pending entries."""
     stream = named(told)
-    stream["groups"] = [with_rows(group) for group in stream["groups"]]
+    stream["groups"] = [with_rows(group, is_timed) for group in stream["groups"]]
     for group in stream["groups"]:
-        group["consumers"] = [one for one in map(with_rows, group["consumers"]) if one["pel-count"]]
+        group["consumers"] = [one for one in (with_rows(one, is_timed) for one in group["consumers"]) if one["pel-count"]]
     return stream
 
 
-def agree(words, here, there):
-    """Whether both replies to XINFO tell the same."""
+def progress(told):
+    """How far each group of XINFO STREAM FULL has come; nothing once an entry is gone."""
+    stream = dict(zip(told[::2], told[1::2]))
+    if stream["entries-added"] != stream["length"]:
+        return []
+    return [[dict(zip(group[::2], group[1::2]))[name] for name in PROGRESS] for group in stream["groups"]]
+
+
+def agree_on_progress(ours, theirs):
+    """Whether all numbers are the same that Redis says."""
+    return all(there in (None, here) for mine, other in zip(progress(ours), progress(theirs))
+               for here, there in zip(mine, other))
+
+
+def agree(words, here, there, is_timed):
+    """Whether both replies to XINFO tell the same, the moments of deliveries too if the clocks are one."""
     ours, theirs = (parsed(io.BytesIO(reply)) for reply in (here, there))
     what = words[1].upper()
+    if what == "STREAM" and len(words) > 3:
+        return whole(ours, is_timed) == whole(theirs, is_timed) and agree_on_progress(ours, theirs)
     if what == "STREAM":
-        told = whole if len(words) > 3 else named
-        return told(ours) == told(theirs)
+        return named(ours) == named(theirs)
     if what == "GROUPS":
         return groups(ours) == groups(theirs)
     return consumers(ours) == consumers(theirs)

@@ -47,7 +47,7 @@ def connect(path):
 
 
 @contextlib.contextmanager
-def started(port=0):
+def started(port=0, environment=None):
     """The path of a new server's socket, or its port where one is named. It keeps nothing on disk, and ends with the
     block."""
     with tempfile.TemporaryDirectory() as folder:
@@ -55,7 +55,7 @@ def started(port=0):
         server = subprocess.Popen(
             ["redis-server", "--port", str(port), "--unixsocket", path, "--save", "", "--appendonly", "no",
              "--dir", folder],
-            stdout=subprocess.DEVNULL,
+            stdout=subprocess.DEVNULL, env={**os.environ, **(environment or {})},
         )
         try:
             connect(port or path).close()

@@ -261,6 +261,11 @@ impl<J: Journal + Drop> Keeper<J> {
         self.schedule.backoff.snooze(rt);
     }
 
+    /// Whether `idle` may park now, and doesn't come back at once.
+    pub fn will_sleep(&self) -> bool {
+        self.schedule.backoff.may_sleep()
+    }
+
     /// From now on a read with BLOCK that would be answered with the null array waits: it stays in its lane until it
     /// would be answered otherwise, its time is over, or its client hurries it. Then `read_clock` has to come before
     /// each turn, and `idle_until` in the place of `idle`.

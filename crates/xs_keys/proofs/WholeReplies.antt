@@ -1,5 +1,5 @@
 -- The replies to commands are whole: no array says that it has more or fewer items than it has.
-use Rattle.std.proofs.Common.{ℕ, codes, decimal, Bool, true, false, List, [], ◌∷◌, ◌++◌, map, Option, Some, None}
+use Rattle.std.proofs.Common.{ℕ, ◌-◌, codes, decimal, Bool, true, false, if◌then◌else◌, List, [], ◌∷◌, ◌++◌, map, Option, Some, None}
 use Rattle.xs_stream.specs.StreamContent.{StreamState}
 use Rattle.xs_resp.specs.WholeReplies.{IsWholeReply, AreWhole}
 use Rattle.xs_resp.proofs.Wholeness.{items-whole, all-whole, whole-append}
@@ -11,7 +11,8 @@ use Rattle.xs_keys.specs.Content.{Content}
 use Rattle.xs_keys.specs.ContentAfter.{after_ask, group_in, entries_in}
 use Rattle.xs_keys.specs.ReplyParts.{array, array_or_null, id_reply, field_replies, entry_reply, present_reply}
 use Rattle.xs_keys.specs.ReplyParts.{entries_reply, stream_part, new_part, owner_reply, row_reply, taken_reply}
-use Rattle.xs_keys.specs.Inspecting.{members_part, progress_part, group_reply, consumer_reply, end_reply, size_part, past_part, ends_part}
+use Rattle.xs_keys.specs.Inspecting.{number_reply, lag_of, tells_no_number, read_reply, members_part, progress_part, group_reply}
+use Rattle.xs_keys.specs.Inspecting.{consumer_reply, end_reply, size_part, past_part, ends_part}
 use Rattle.xs_keys.specs.Reply.{parts_of_read, parts}
 
 fields-whole : (fields : List Field) → AreWhole (flat_map field_replies fields)
@@ -82,9 +83,16 @@ module _ (summary : GroupSummary) where
   summary-whole owners = (tt, (id-or-null summary.least, (id-or-null summary.greatest, (owners-whole owners, tt))))
 
 -- XINFO GROUPS
-pub group-whole : (present : List Id) (group : List ℕ × GroupState) → IsWholeReply (group_reply present group)
-group-whole present group =
-    items-whole (members_part group ++ progress_part present group.1.cursor) (tt, (tt, (tt, (tt, (tt, (tt, (tt, (tt, (tt, (tt, (tt, (tt, tt))))))))))))
+pub read-whole : (stream : StreamState) (cursor : Id) → IsWholeReply (read_reply stream cursor)
+read-whole stream cursor = by (tells_no_number stream cursor) where
+  by : (untold : Bool) → IsWholeReply (if untold then NullBulk else number_reply (stream.added - lag_of stream cursor))
+  by true = tt
+  by false = tt
+
+pub group-whole : (stream : StreamState) (group : List ℕ × GroupState) → IsWholeReply (group_reply stream group)
+group-whole stream group =
+    items-whole (members_part group ++ progress_part stream group.1.cursor)
+    (tt, (tt, (tt, (tt, (tt, (tt, (tt, (tt, (tt, (read-whole stream group.1.cursor, (tt, (tt, tt))))))))))))
 
 -- XINFO CONSUMERS
 pub consumer-whole : (consumer : ConsumerReport) → IsWholeReply (consumer_reply consumer)

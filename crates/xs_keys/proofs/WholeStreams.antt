@@ -8,7 +8,7 @@ use Rattle.xs_keys.specs.ReplyParts.{id_reply, present_reply}
 use Rattle.xs_keys.specs.Inspecting.{size_part, past_part, progress_part}
 use Rattle.xs_keys.specs.InspectingInFull.{row_reply, own_row_reply, consumer_part, rows_part, listed_part, first_rows}
 use Rattle.xs_keys.specs.InspectingInFull.{whole_consumer_reply, whole_group_reply}
-use Rattle.xs_keys.proofs.WholeReplies.{present-whole}
+use Rattle.xs_keys.proofs.WholeReplies.{present-whole, read-whole}
 
 row-whole : (row : PendingRow) → IsWholeReply (row_reply row)
 row-whole row = items-whole (id_reply row.id ∷ Bulk row.consumer ∷ Int row.time ∷ Int row.count ∷ []) (tt, (tt, (tt, (tt, tt))))
@@ -22,12 +22,12 @@ module _ (now : ℕ) (limit : Option ℕ) where
       let rows = first_rows now limit (Some consumer.consumer) group in
       items-whole (consumer_part consumer rows) (tt, (tt, (tt, (tt, (tt, (tt, (tt, (items-whole (map own_row_reply rows) (all-whole own_row_reply own-row-whole rows), tt))))))))
 
-  pub group-whole : (present : List Id) (group : List ℕ × GroupState) → IsWholeReply (whole_group_reply now limit present group)
-  group-whole present group =
+  pub group-whole : (stream : StreamState) (group : List ℕ × GroupState) → IsWholeReply (whole_group_reply now limit stream group)
+  group-whole stream group =
       let rows = first_rows now limit None group.1 in
       let consumers = consumer_reports now group.1 in
       items-whole
-      ((Bulk (codes "name") ∷ Bulk group.0 ∷ progress_part present group.1.cursor)
+      ((Bulk (codes "name") ∷ Bulk group.0 ∷ progress_part stream group.1.cursor)
       ++ (rows_part (length group.1.rows.entries) rows ++ listed_part (codes "consumers") (map (whole_consumer_reply now limit group.1) consumers))) (
         tt,
         (
@@ -39,7 +39,7 @@ module _ (now : ℕ) (limit : Option ℕ) where
               (
                 tt,
                 (
-                  tt,
+                  read-whole stream group.1.cursor,
                   (
                     tt,
                     (
@@ -69,9 +69,9 @@ module _ (now : ℕ) (limit : Option ℕ) where
         ),
       )
 
-  pub stream-whole : (entries shown : List (Id × List Field)) (stream : StreamState) (id : Id) (present : List Id) (groups : List (List ℕ × GroupState))
-      → AreWhole (size_part entries ++ (past_part stream id ++ (listed_part (codes "entries") (map present_reply shown) ++ listed_part (codes "groups") (map (whole_group_reply now limit present) groups))))
-  stream-whole entries shown stream id present groups = (
+  pub stream-whole : (entries shown : List (Id × List Field)) (stream : StreamState) (id : Id) (groups : List (List ℕ × GroupState))
+      → AreWhole (size_part entries ++ (past_part stream id ++ (listed_part (codes "entries") (map present_reply shown) ++ listed_part (codes "groups") (map (whole_group_reply now limit stream) groups))))
+  stream-whole entries shown stream id groups = (
     tt,
     (
       tt,
@@ -105,7 +105,7 @@ module _ (now : ℕ) (limit : Option ℕ) where
                                   items-whole (map present_reply shown) (all-whole present_reply present-whole shown),
                                   (
                                     tt,
-                                    (items-whole (map (whole_group_reply now limit present) groups) (all-whole (whole_group_reply now limit present) (group-whole present) groups), tt),
+                                    (items-whole (map (whole_group_reply now limit stream) groups) (all-whole (whole_group_reply now limit stream) (group-whole stream) groups), tt),
                                   ),
                                 ),
                               ),

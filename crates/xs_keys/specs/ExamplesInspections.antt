@@ -1,5 +1,5 @@
 -- What is told of a content, by examples: the replies to XINFO, EXISTS, TYPE and DBSIZE, as a real Redis 7.0 gives them.
--- Its lag, entries-read and seen-time differ (docs/COMMANDS.md), and are this server's own here.
+-- Where that says null, the lag is this server's own here (docs/COMMANDS.md).
 use Rattle.std.specs.Prelude.{ℕ, ◌+◌, List, [], ◌∷◌, ◌++◌, codes}
 use Rattle.xs_resp.specs.declared.fault.Fault.TheVariants.{MissingKey, NoGroup}
 use Rattle.xs_resp.specs.declared.reply.Simple.TheVariants.{Stream, Nothing}
@@ -52,18 +52,18 @@ ends groups first last =
     ∷ name (codes "last-entry") ∷ last ∷ []
 
 -- what is told of the progress of a group
-abbrev pub progress : Reply → ℕ → List Reply
-progress cursor lag =
+abbrev pub progress : Reply → Reply → ℕ → List Reply
+progress cursor read lag =
     name (codes "last-delivered-id") ∷ cursor
-    ∷ name (codes "entries-read") ∷ NullBulk
+    ∷ name (codes "entries-read") ∷ read
     ∷ name (codes "lag") ∷ Int lag ∷ []
 
 -- a group, with its numbers of consumers and of pending entries
-abbrev pub group : Bytes → ℕ → ℕ → Reply → ℕ → Reply
-group named consumers pending cursor lag =
+abbrev pub group : Bytes → ℕ → ℕ → Reply → Reply → ℕ → Reply
+group named consumers pending cursor read lag =
     array (name (codes "name") ∷ name named
     ∷ name (codes "consumers") ∷ Int consumers
-    ∷ name (codes "pending") ∷ Int pending ∷ progress cursor lag)
+    ∷ name (codes "pending") ∷ Int pending ∷ progress cursor read lag)
 
 -- a consumer, with its number of pending entries
 abbrev pub consumer : Bytes → ℕ → ℕ → Reply
@@ -73,9 +73,9 @@ consumer named pending idle =
     ∷ name (codes "idle") ∷ Int idle ∷ [])
 
 -- a group with its pending rows and its consumers
-abbrev pub whole_group : Bytes → Reply → ℕ → ℕ → List Reply → List Reply → Reply
-whole_group named cursor lag pending rows consumers =
-    array ((name (codes "name") ∷ name named ∷ progress cursor lag)
+abbrev pub whole_group : Bytes → Reply → Reply → ℕ → ℕ → List Reply → List Reply → Reply
+whole_group named cursor read lag pending rows consumers =
+    array ((name (codes "name") ∷ name named ∷ progress cursor read lag)
     ++ (name (codes "pel-count") ∷ Int pending
     ∷ name (codes "pending") ∷ array rows
     ∷ name (codes "consumers") ∷ array consumers ∷ []))
@@ -91,8 +91,8 @@ whole_consumer named seen pending rows =
 -- the two groups that read nothing
 abbrev pub idle_groups : List Reply
 idle_groups =
-    whole_group (codes "h") (id 9 0) 0 0 [] []
-    ∷ whole_group (codes "m") (id 1 0) 1 0 [] (whole_consumer (codes "c") 5 0 [] ∷ []) ∷ []
+    whole_group (codes "h") (id 9 0) NullBulk 0 0 [] []
+    ∷ whole_group (codes "m") (id 1 0) NullBulk 1 0 [] (whole_consumer (codes "c") 5 0 [] ∷ []) ∷ []
 
 pub record Inspections : Type 0 where
   -- a stream without entries
@@ -110,15 +110,15 @@ pub record Inspections : Type 0 where
   -- groups before, ahead of and between the entries
   pub groups : IsPlayed (before ++ (
       at 7 (codes "XINFO GROUPS s")
-      (array (group (codes "a") 0 0 (id 0 0) 2 ∷ group (codes "h") 0 0 (id 9 0) 0
-      ∷ group (codes "m") 1 0 (id 1 0) 1 ∷ [])) ∷
+      (array (group (codes "a") 0 0 (id 0 0) NullBulk 2 ∷ group (codes "h") 0 0 (id 9 0) NullBulk 0
+      ∷ group (codes "m") 1 0 (id 1 0) NullBulk 1 ∷ [])) ∷
       at 7 (codes "XINFO GROUPS t") (Error MissingKey) ∷
       []))
   -- a group that has read
   pub a_group_that_has_read : IsPlayed (before ++ (both_read ++ (
       at 9 (codes "XINFO GROUPS s")
-      (array (group (codes "a") 1 2 (id 3 0) 0 ∷ group (codes "h") 0 0 (id 9 0) 0
-      ∷ group (codes "m") 1 0 (id 1 0) 1 ∷ [])) ∷
+      (array (group (codes "a") 1 2 (id 3 0) (Int 3) 0 ∷ group (codes "h") 0 0 (id 9 0) NullBulk 0
+      ∷ group (codes "m") 1 0 (id 1 0) NullBulk 1 ∷ [])) ∷
       [])))
   -- consumers with and without pending entries
   pub consumers : IsPlayed (before ++ (both_read ++ (
@@ -133,14 +133,14 @@ pub record Inspections : Type 0 where
       at 7 (codes "XINFO STREAM s FULL COUNT 1")
       (array (size 2 1 ++ (past (id 3 0) (id 2 0) 3 (id 1 0)
       ++ (name (codes "entries") ∷ array (entry 1 0 ∷ [])
-      ∷ name (codes "groups") ∷ array (whole_group (codes "a") (id 0 0) 2 0 [] [] ∷ idle_groups) ∷ [])))) ∷
+      ∷ name (codes "groups") ∷ array (whole_group (codes "a") (id 0 0) NullBulk 2 0 [] [] ∷ idle_groups) ∷ [])))) ∷
       []))
   -- all entries, and all pending rows
   pub in_full : IsPlayed (before ++ (both_read ++ (
       at 11 (codes "XINFO STREAM s FULL")
       (array (size 2 1 ++ (past (id 3 0) (id 2 0) 3 (id 1 0)
       ++ (name (codes "entries") ∷ array (entry 1 0 ∷ entry 3 0 ∷ [])
-      ∷ name (codes "groups") ∷ array (whole_group (codes "a") (id 3 0) 0 2
+      ∷ name (codes "groups") ∷ array (whole_group (codes "a") (id 3 0) (Int 3) 0 2
       (array (id 1 0 ∷ name (codes "b") ∷ Int 7 ∷ Int 1 ∷ [])
       ∷ array (id 3 0 ∷ name (codes "b") ∷ Int 9 ∷ Int 1 ∷ []) ∷ [])
       (whole_consumer (codes "b") 9 2

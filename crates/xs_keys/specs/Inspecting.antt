@@ -1,7 +1,8 @@
 -- What XINFO STREAM, XINFO GROUPS and XINFO CONSUMERS tell of a key. (Redis, their pages, "RESP2 Reply".)
-use Rattle.std.specs.Prelude.{ℕ, ◌+◌, Bool, true, false, List, [], ◌∷◌, ◌++◌, map, length, codes, min, Some}
+use Rattle.std.specs.Prelude.{ℕ, ◌+◌, ◌-◌, Bool, true, false, ◌||◌, if◌then◌else◌, List, [], ◌∷◌, ◌++◌, map, length}
+use Rattle.std.specs.Prelude.{codes, min, Some}
 use Rattle.xs_stream.specs.declared.range.Range.{Range}
-use Rattle.xs_stream.specs.Id.{greatest_id}
+use Rattle.xs_stream.specs.Id.{greatest_id, is_below, is_same_id}
 use Rattle.xs_stream.specs.StreamContent.{count_above, entries_within}
 use Rattle.xs_group.specs.GroupState.{greatest_count}
 use Rattle.xs_keys.specs.Terms.{Id, ids_of, StreamState, GroupState, ConsumerReport, consumer_reports, Reply, Int, Bulk}
@@ -17,20 +18,38 @@ members_part group =
     ∷ Bulk (codes "consumers") ∷ Int (length group.1.consumers.entries)
     ∷ Bulk (codes "pending") ∷ Int (length group.1.rows.entries) ∷ []
 
--- how far a group has come in a stream that has these ids: its lag is how many of them are past its cursor. How many
--- entries it has read isn't kept.
-abbrev pub progress_part : List Id → Id → List Reply
-progress_part present cursor =
-    Bulk (codes "last-delivered-id") ∷ id_reply cursor
-    ∷ Bulk (codes "entries-read") ∷ NullBulk
-    ∷ Bulk (codes "lag") ∷ Int (count_above cursor present) ∷ []
+-- a number that a signed one of 64 bits can't tell is told as the greatest that it can
+abbrev pub number_reply : ℕ → Reply
+number_reply n = Int (min n greatest_count)
 
-abbrev pub group_reply : List Id → Bytes × GroupState → Reply
-group_reply present group = array (members_part group ++ progress_part present group.1.cursor)
+-- how many entries are past a cursor
+abbrev pub lag_of : StreamState → Id → ℕ
+lag_of stream cursor = count_above cursor (ids_of stream.entries)
+
+-- a cursor tells no number of entries at 0-0, where nothing was read, nor above the top, nor if an entry past it was
+-- deleted
+abbrev pub tells_no_number : StreamState → Id → Bool
+tells_no_number stream cursor =
+    is_same_id cursor zero_id || (is_below stream.top cursor || is_below cursor stream.deleted)
+
+-- how many entries a group with this cursor has behind it: all that were ever added, but for those past the cursor
+abbrev pub read_reply : StreamState → Id → Reply
+read_reply stream cursor =
+    if tells_no_number stream cursor then NullBulk else number_reply (stream.added - lag_of stream cursor)
+
+-- how far a group with this cursor has come in a stream
+abbrev pub progress_part : StreamState → Id → List Reply
+progress_part stream cursor =
+    Bulk (codes "last-delivered-id") ∷ id_reply cursor
+    ∷ Bulk (codes "entries-read") ∷ read_reply stream cursor
+    ∷ Bulk (codes "lag") ∷ Int (lag_of stream cursor) ∷ []
+
+abbrev pub group_reply : StreamState → Bytes × GroupState → Reply
+group_reply stream group = array (members_part group ++ progress_part stream group.1.cursor)
 
 -- XINFO GROUPS: the groups of a key, in the order of their names
 abbrev pub groups_reply : KeyState → Reply
-groups_reply key = array (map (group_reply (ids_of key.stream.entries)) key.groups.entries)
+groups_reply key = array (map (group_reply key.stream) key.groups.entries)
 
 -- all ids
 abbrev pub whole_range : Range
@@ -47,10 +66,6 @@ end_reply (e ∷ es) = present_reply e
 abbrev pub end_id : Entries → Id
 end_id [] = zero_id
 end_id (e ∷ es) = e.0
-
--- a number that a signed one of 64 bits can't tell is told as the greatest that it can
-abbrev pub number_reply : ℕ → Reply
-number_reply n = Int (min n greatest_count)
 
 -- XINFO STREAM: what it has. Of the radix tree it says what Redis says of a small stream, since there is none here.
 abbrev pub size_part : Entries → List Reply

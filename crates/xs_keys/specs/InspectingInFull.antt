@@ -2,7 +2,7 @@
 -- theirs. (Redis, XINFO STREAM.)
 use Rattle.std.specs.Prelude.{ℕ, ◌-◌, ◌^◌, false, List, [], ◌∷◌, ◌++◌, map, length, codes, Option, Some, None}
 use Rattle.xs_stream.specs.StreamContent.{entries_within}
-use Rattle.xs_keys.specs.Terms.{Id, ids_of, GroupState, ConsumerReport, PendingRow, consumer_reports, pending_of, Reply}
+use Rattle.xs_keys.specs.Terms.{StreamState, GroupState, ConsumerReport, PendingRow, consumer_reports, pending_of, Reply}
 use Rattle.xs_keys.specs.Terms.{Int, Bulk}
 use Rattle.xs_keys.specs.Content.{KeyState}
 use Rattle.xs_keys.specs.Event.{Bytes, Entries}
@@ -48,10 +48,10 @@ abbrev pub listed_part : List ℕ → List Reply → List Reply
 listed_part name replies = Bulk name ∷ array replies ∷ []
 
 -- a group with its first rows and its consumers
-abbrev pub whole_group_reply : ℕ → Option ℕ → List Id → Bytes × GroupState → Reply
-whole_group_reply now limit present group =
+abbrev pub whole_group_reply : ℕ → Option ℕ → StreamState → Bytes × GroupState → Reply
+whole_group_reply now limit stream group =
     let consumers = map (whole_consumer_reply now limit group.1) (consumer_reports now group.1) in
-    array ((Bulk (codes "name") ∷ Bulk group.0 ∷ progress_part present group.1.cursor)
+    array ((Bulk (codes "name") ∷ Bulk group.0 ∷ progress_part stream group.1.cursor)
     ++ (rows_part (length group.1.rows.entries) (first_rows now limit None group.1)
     ++ listed_part (codes "consumers") consumers))
 
@@ -60,6 +60,6 @@ abbrev pub whole_stream_reply : ℕ → Option ℕ → KeyState → Reply
 whole_stream_reply now limit key =
     let entries = key.stream.entries in
     let shown = map present_reply (entries_within whole_range false limit entries) in
-    let groups = map (whole_group_reply now limit (ids_of entries)) key.groups.entries in
+    let groups = map (whole_group_reply now limit key.stream) key.groups.entries in
     array (size_part entries ++ (past_part key.stream (end_id (end_of false entries))
     ++ (listed_part (codes "entries") shown ++ listed_part (codes "groups") groups)))

@@ -1,14 +1,15 @@
 //! XINFO.
-ghost use Rattle.std.specs.Prelude.{◌≡◌, ◌++◌, ◌∷◌, [], ◌<◌, ◌^◌, map, IfOk, OnOk};
+ghost use Rattle.std.specs.Prelude.{◌≡◌, ◌++◌, ◌∷◌, [], ◌<◌, ◌^◌, map, min, IfOk, OnOk};
 ghost use Rattle.std.specs.List.{flat_map};
 ghost use Rattle.xs_command.specs.declared.command.Inspection.TheVariants.{Stream as OfStream, Groups as OfGroups};
 ghost use Rattle.xs_command.specs.declared.command.Inspection.TheVariants.{Consumers as OfConsumers};
-ghost use Rattle.xs_stream.specs.StreamContent.{ids_of, state_of};
+ghost use Rattle.xs_stream.specs.StreamContent.{state_of};
 ghost use Rattle.xs_resp.specs.ReplyItems.{tokens_of};
+ghost use Rattle.xs_group.specs.GroupState.{greatest_count};
 ghost use Rattle.xs_keys.specs.KeysRoom.{key_state_of};
 ghost use Rattle.xs_keys.specs.ReplyParts.{array};
 ghost use Rattle.xs_keys.specs.Inspecting.{size_part, past_part, ends_part, end_reply, end_id, stream_reply};
-ghost use Rattle.xs_keys.specs.Inspecting.{members_part, progress_part, group_reply, groups_reply};
+ghost use Rattle.xs_keys.specs.Inspecting.{members_part, read_reply, progress_part, group_reply, groups_reply};
 ghost use Rattle.xs_keys.specs.Inspecting.{consumer_reply, consumers_reply};
 ghost use Rattle.xs_keys.specs.Step.{Step, StepAtAnyTime};
 
@@ -33,6 +34,14 @@ pub(crate) const WHOLE: Range = Range {
 /// How many tokens a group has.
 const GROUP_TOKENS: usize = 13;
 
+/// A number as it is told: the greatest of 63 bits in place of a greater one.
+fn told_number(number: u128) -> u64
+    ensures value { result ≡ min number greatest_count }
+    ensures small { result < 2 ^ 63 }
+{
+    number.min(U63::MAX as u128) as u64
+}
+
 /// Appends the name of a number, and the number.
 pub(crate) fn push_number(tokens: &mut Tokens, name: &[u8], number: u64) -> Result<(), AllocError>
     requires { number < 2 ^ 63 }
@@ -52,6 +61,18 @@ fn push_members(tokens: &mut Tokens, name: &Bytes, group: &Group) -> Result<(), 
     push_number(tokens, b"pending", group.count_pending())
 }
 
+/// Appends how many entries a group with this cursor has behind it, or the null string if it tells no number.
+fn push_read(tokens: &mut Tokens, stream: &Stream, cursor: Id) -> Result<(), AllocError>
+    ensures { OnOk result (tokens.new ≡ tokens.old ++ tokens_of (read_reply (state_of stream.now) cursor)) }
+{
+    if cursor == Id::ZERO || stream.top() < cursor || cursor < stream.deleted() {
+        return tokens.push_null_bulk();
+    }
+    let ahead = u128::from(stream.count_past(cursor));
+    let read = stream.added().saturating_sub(ahead);
+    tokens.push_int(U63::new(told_number(read)))
+}
+
 /// Appends how far a group with this cursor has come in a stream.
 pub(crate) fn push_progress(
     tokens: &mut Tokens,
@@ -60,12 +81,12 @@ pub(crate) fn push_progress(
     cursor: Id,
 ) -> Result<(), AllocError>
     ensures { OnOk result (tokens.new ≡ tokens.old
-        ++ flat_map tokens_of (progress_part (ids_of stream.now.entries) cursor)) }
+        ++ flat_map tokens_of (progress_part (state_of stream.now) cursor)) }
 {
     tokens.push_bulk(b"last-delivered-id")?;
     push_id(tokens, alloc, cursor)?;
     tokens.push_bulk(b"entries-read")?;
-    tokens.push_null_bulk()?;
+    push_read(tokens, stream, cursor)?;
     push_number(tokens, b"lag", stream.count_past(cursor))
 }
 
@@ -78,7 +99,7 @@ fn push_group(
     group: &Group,
 ) -> Result<(), AllocError>
     ensures { OnOk result (tokens.new ≡ tokens.old
-        ++ tokens_of (group_reply (ids_of stream.now.entries) (name.now, group.now))) }
+        ++ tokens_of (group_reply (state_of stream.now) (name.now, group.now))) }
 {
     tokens.push_array(12)?;
     push_members(tokens, name, group)?;
@@ -88,7 +109,7 @@ fn push_group(
 /// Appends the groups of a key, in the order of their names.
 fn push_groups(tokens: &mut Tokens, alloc: Global, slot: &Slot) -> Result<(), AllocError>
     ensures { OnOk result (tokens.new ≡ tokens.old
-        ++ flat_map tokens_of (map (group_reply (ids_of slot.now.stream.entries)) slot.now.groups.entries)) }
+        ++ flat_map tokens_of (map (group_reply (state_of slot.now.stream)) slot.now.groups.entries)) }
 {
     for (name, group) in slot.groups.iter() {
         push_group(tokens, alloc, &slot.stream, name, group)?;
@@ -210,7 +231,7 @@ pub(crate) fn push_past(
     ensures { OnOk result (tokens.new ≡ tokens.old
         ++ flat_map tokens_of (past_part (state_of stream.now) first)) }
 {
-    let added = stream.added().min(U63::MAX as u128) as u64;
+    let added = told_number(stream.added());
     tokens.push_bulk(b"last-generated-id")?;
     push_id(tokens, alloc, stream.top())?;
     tokens.push_bulk(b"max-deleted-entry-id")?;

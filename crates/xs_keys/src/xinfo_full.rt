@@ -2,7 +2,7 @@
 ghost use Rattle.std.specs.Prelude.{◌≡◌, ◌++◌, map, length, codes, Some, None, IfOk, OnOk};
 ghost use Rattle.std.specs.List.{flat_map};
 ghost use Rattle.xs_command.specs.declared.command.Inspection.TheVariants.{StreamInFull};
-ghost use Rattle.xs_stream.specs.StreamContent.{ids_of};
+ghost use Rattle.xs_stream.specs.StreamContent.{state_of};
 ghost use Rattle.xs_group.specs.Report.{consumer_reports};
 ghost use Rattle.xs_resp.specs.ReplyItems.{tokens_of};
 ghost use Rattle.xs_keys.specs.KeysRoom.{key_state_of};
@@ -176,9 +176,8 @@ fn push_group(
     name: &Bytes,
     group: &Group,
 ) -> Result<(), AllocError>
-    ensures { let present = ids_of stream.now.entries in
-        OnOk result (tokens.new ≡ tokens.old
-        ++ tokens_of (whole_group_reply asked.now.moment asked.now.limit present (name.now, group.now))) }
+    ensures { OnOk result (tokens.new ≡ tokens.old ++ tokens_of
+        (whole_group_reply asked.now.moment asked.now.limit (state_of stream.now) (name.now, group.now))) }
 {
     tokens.push_array(14)?;
     tokens.push_bulk(b"name")?;
@@ -190,7 +189,7 @@ fn push_group(
 
 /// Appends the groups of a key, in the order of their names.
 fn push_groups(tokens: &mut Tokens, asked: &Asked, slot: &Slot) -> Result<(), AllocError>
-    ensures { let group = whole_group_reply asked.now.moment asked.now.limit (ids_of slot.now.stream.entries) in
+    ensures { let group = whole_group_reply asked.now.moment asked.now.limit (state_of slot.now.stream) in
         OnOk result (tokens.new ≡ tokens.old ++ flat_map tokens_of (map group slot.now.groups.entries)) }
 {
     for (name, group) in slot.groups.iter() {
@@ -201,7 +200,7 @@ fn push_groups(tokens: &mut Tokens, asked: &Asked, slot: &Slot) -> Result<(), Al
 
 /// Appends the groups of a key under their name.
 fn push_groups_part(tokens: &mut Tokens, asked: &Asked, slot: &Slot) -> Result<(), AllocError>
-    ensures { let group = whole_group_reply asked.now.moment asked.now.limit (ids_of slot.now.stream.entries) in
+    ensures { let group = whole_group_reply asked.now.moment asked.now.limit (state_of slot.now.stream) in
         let shown = map group slot.now.groups.entries in
         OnOk result (tokens.new ≡ tokens.old ++ flat_map tokens_of (listed_part (codes "groups") shown)) }
 {

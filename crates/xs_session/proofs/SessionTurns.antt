@@ -1,5 +1,5 @@
 -- How a session goes on.
-use Rattle.std.proofs.Common.{◌≡◌, ℕ, ◌<◌, ◌≤◌, Bool, true, false, not, ◌||◌, List, [], ◌∷◌, ◌++◌, length, drop, map, Option, Some, None}
+use Rattle.std.proofs.Common.{◌≡◌, ℕ, ◌<◌, ◌≤◌, Bool, true, false, not, ◌||◌, if◌then◌else◌, List, [], ◌∷◌, ◌++◌, length, drop, map, Option, Some, None}
 use Rattle.std.proofs.Common.{Ok, Err, sym, ap, ◌∙◌, subst, refl, append_assoc, arith, inl, inr, length-append}
 use Rattle.std.proofs.lemmas.List.{append-nil}
 use Rattle.std.proofs.lemmas.Grind.{flat_map-append}
@@ -483,22 +483,20 @@ module _ (manner : Manner) (read : List ℕ) (asked : List Command) (got : List 
       omega (arith, even)
 
   -- the call of the request at the front is asked, or has to wait
-  pub session-asked : (old new : Session) (call : Call) (one : Taken) (place : Place) (turn : Turn) (words : List (List ℕ)) → IsAsking one call.command place → old.ended ≡ None → old.alone ≡ false → words ≡ front_of old.requests → released_of old.standing.transaction ≡ [] → 0 < length words
-      → IsTaken manner old.standing words one old.standing → new.owed ≡ old.owed → AsksOrWaits old call place turn new → SessionIsAfter manner read asked got sent old
-      → SessionIsAfter manner read (asked ++ asked_in turn) got sent new
-  session-asked old new call one place turn words asking going several are nothing some is owed (inl asks) s =
-      let after = turn-asks manner old.standing read asked got sent old.standing old.ended new.ended old.requests new.requests old.places new.places (bytes_left old.owed) words one call.command place asking going s.0 are asks.skips nothing some is asks.places asks.ended in
-      let waiting = open-more new.alone (length got) asked call.command s.0.fits (subst (λ (b : Bool). MayBeOpen b (drop (length got) asked)) several s.1) asks.alone
-      (λ alone. session-closed old s (ap has_open (asks.gathered alone).0)) in
-      subst (λ (t : Turn). SessionIsAfter manner read (asked ++ asked_in t) got sent new) (sym asks.asks) (
-        subst (λ (o : List ℕ). IsAfter manner new.standing read (asked ++ call.command ∷ []) got sent new.ended new.requests new.places o) (sym (ap bytes_left owed))
-            (subst (λ (n : Standing). IsAfter manner n read (asked ++ call.command ∷ []) got sent new.ended new.requests new.places (bytes_left old.owed)) (sym asks.standing) after),
+  pub session-asked : (old new : Session) (command : Command) (one : Taken) (place : Place) (goes : Bool) (words : List (List ℕ)) → IsAsking one command place → old.ended ≡ None → old.alone ≡ false → words ≡ front_of old.requests → released_of old.standing.transaction ≡ [] → 0 < length words
+      → IsTaken manner old.standing words one old.standing → new.owed ≡ old.owed → AsksOrWaits old command place goes new → SessionIsAfter manner read asked got sent old
+      → SessionIsAfter manner read (asked ++ (if goes then command ∷ [] else [])) got sent new
+  session-asked old new command one place true words asking going several are nothing some is owed asks s =
+      let after = turn-asks manner old.standing read asked got sent old.standing old.ended new.ended old.requests new.requests old.places new.places (bytes_left old.owed) words one command place asking going s.0 are asks.skips nothing some is asks.places asks.ended in
+      let waiting = open-more new.alone (length got) asked command s.0.fits (subst (λ (b : Bool). MayBeOpen b (drop (length got) asked)) several s.1) asks.alone
+      (λ alone. session-closed old s (ap has_open (asks.gathered alone).0)) in (
+        subst (λ (o : List ℕ). IsAfter manner new.standing read (asked ++ command ∷ []) got sent new.ended new.requests new.places o) (sym (ap bytes_left owed))
+            (subst (λ (n : Standing). IsAfter manner n read (asked ++ command ∷ []) got sent new.ended new.requests new.places (bytes_left old.owed)) (sym asks.standing) after),
         waiting,
       )
-  session-asked old new call one place turn words asking going several are nothing some is owed (inr (full, same)) s =
-      subst (λ (t : Turn). SessionIsAfter manner read (asked ++ asked_in t) got sent new) (sym full)
-      (subst (λ (a : List Command). SessionIsAfter manner read a got sent new) (sym (append-nil asked))
-      (subst (λ (n : Session). SessionIsAfter manner read asked got sent n) (sym same) (s.0, inl (subst (λ (b : Bool). MayBeOpen b (drop (length got) asked)) several s.1))))
+  session-asked old new command one place false words asking going several are nothing some is owed same s =
+      subst (λ (a : List Command). SessionIsAfter manner read a got sent new) (sym (append-nil asked))
+      (subst (λ (n : Session). SessionIsAfter manner read asked got sent n) (sym same) (s.0, inl (subst (λ (b : Bool). MayBeOpen b (drop (length got) asked)) several s.1)))
 
   -- a request is answered at once
   pub session-says : (old new : Session) (next : Standing) (reply : Reply) (result : Turn) (words : List (List ℕ)) → old.ended ≡ None → words ≡ front_of old.requests → released_of old.standing.transaction ≡ [] → 0 < length words

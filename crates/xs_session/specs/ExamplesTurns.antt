@@ -39,5 +39,4 @@ pub record TurnsOfSessions : Type 0 where
       (manner : Manner) (session : Session) → IsNew manner session → SessionIsAfter manner [] [] [] [] session
   pub an_open_reply_is_not_gathered : (session : Session) → session.places ≡ Awaits ∷ [] → IsGathered session → ⊥
   pub a_read_beside_others :
-      (old new : Session) (place : Place) (result : Turn) → old.places ≡ Awaits ∷ [] →
-      AsksFront old (call_of scan) place result new → ⊥
+      (old new : Session) (place : Place) → old.places ≡ Awaits ∷ [] → AsksFront old scan place new → ⊥

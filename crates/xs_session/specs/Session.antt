@@ -118,15 +118,14 @@ abbrev pub asked_in : Turn → List Command
 asked_in (turn.Asks call) = call.command ∷ []
 asked_in _ = []
 
--- the call of the request at the front was asked, and its reply or its answer is waited for here; alone only once every
--- answer is gathered
-pub record AsksFront (old : Session) (call : Call) (place : Place) (result : Turn) (new : Session) : Type 0 where
-  pub asks : result ≡ turn.Asks call
+-- the request at the front is taken, whose command is asked, and its reply or its answer is waited for here; alone only
+-- once every answer is gathered
+pub record AsksFront (old : Session) (command : Command) (place : Place) (new : Session) : Type 0 where
   pub skips : Skips old.requests new.requests
   pub places : new.places ≡ old.places ++ place ∷ []
-  pub ended : new.ended ≡ ending_of call.command
-  pub alone : new.alone ≡ is_alone call.command
-  pub gathered : is_alone call.command ≡ true → IsGathered old
+  pub ended : new.ended ≡ ending_of command
+  pub alone : new.alone ≡ is_alone command
+  pub gathered : is_alone command ≡ true → IsGathered old
   pub standing : new.standing ≡ old.standing
 
 -- the next command that EXEC has let go was asked; alone only once every answer is gathered
@@ -145,11 +144,12 @@ pub record AsksReleased (old : Session) (command : Command) (result : Turn) (new
   pub gathered : is_alone command ≡ true → IsGathered old
   pub standing : new.standing ≡ record old.standing { transaction = released others }
 
--- it was, or it is to be asked alone and has to wait
-abbrev pub AsksOrWaits : Session → Call → Place → Turn → Session → Type 0
-AsksOrWaits old call place result new =
-    AsksFront old call place result new ⊎ ((result ≡ turn.Full) × (new ≡ record old { alone = true }))
+-- it is, or it is to be asked alone and has to wait
+abbrev pub AsksOrWaits : Session → Command → Place → Bool → Session → Type 0
+AsksOrWaits old command place true new = AsksFront old command place new
+AsksOrWaits old command place false new = new ≡ record old { alone = true }
 
+-- the next one of EXEC was asked, or it is to be asked alone and has to wait
 abbrev pub ReleasesOrWaits : Session → Command → Turn → Session → Type 0
 ReleasesOrWaits old command result new =
     AsksReleased old command result new ⊎ ((result ≡ turn.Full) × (new ≡ record old { alone = true }))

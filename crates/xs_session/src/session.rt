@@ -415,7 +415,13 @@ impl Session {
             words,
         );
         match taken {
-            Taking::Asks(call) => self.ask(call, Place::Awaits),
+            Taking::Asks(call) => {
+                if self.take_call(&call.command, Place::Awaits) {
+                    Turn::Asks(call)
+                } else {
+                    Turn::Full
+                }
+            }
             Taking::Says(reply) => self.say(reply),
             Taking::Info => self.inform(manner, inform, wants_words),
         }
@@ -466,29 +472,35 @@ impl Session {
             &mut self.standing,
             words,
         ) {
-            Ok((call, information)) => self.ask(call, Place::AwaitsKeys(information)),
+            Ok((call, information)) => {
+                if self.take_call(&call.command, Place::AwaitsKeys(information)) {
+                    Turn::Asks(call)
+                } else {
+                    Turn::Full
+                }
+            }
             Err(reply) => self.say(reply),
         }
     }
 
-    /// Asks the call of the request at the front, unless it is to be asked alone and some answer isn't gathered. So its
-    /// answer is waited for.
-    fn ask(&mut self, call: Call, place: Place) -> Turn
+    /// Takes the request at the front, whose command is to be asked, unless it is to be asked alone and some answer isn't
+    /// gathered; and says whether it did. So its answer is waited for.
+    fn take_call(&mut self, command: &Command, place: Place) -> bool
         requires whole { HasNext self.old.requests }
         requires room { length self.old.places < 32 }
         requires several { self.old.alone ≡ false }
         requires waits { is_open place ≡ true }
-        ensures asks { AsksOrWaits self.old call place result self.new }
+        ensures asks { AsksOrWaits self.old command.now place result self.new }
         ensures owed { self.new.owed ≡ self.old.owed }
     {
-        if self.waits_for_others(&call.command) {
-            return Turn::Full;
+        if self.waits_for_others(command) {
+            return false;
         }
         self.requests.skip();
         self.places.ask(place);
-        self.ended = end_by(&call.command);
+        self.ended = end_by(command);
         self.hurries = false;
-        Turn::Asks(call)
+        true
     }
 
     /// Whether the reply to an asked command is waited for. At most 32 answers are waited for or not begun.

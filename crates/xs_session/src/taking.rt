@@ -4,7 +4,7 @@ ghost use Rattle.xs_command.specs.declared.command.Command.{Command};
 ghost use Rattle.xs_command.specs.Read.{command_of_words};
 ghost use Rattle.xs_command.specs.WellFormed.{IsWellFormed};
 ghost use Rattle.xs_command.specs.Words.{Gives};
-ghost use Rattle.xs_desk.specs.Calls.{AreWordsOf, IsFormed};
+ghost use Rattle.xs_desk.specs.Calls.{AreWordsOf, HasWords};
 ghost use Rattle.xs_connection.specs.Standing.{IsQueued};
 ghost use Rattle.xs_session.specs.Answers.{may_ask, names_quit, goes_at_once};
 ghost use Rattle.xs_session.specs.Taking.{IsTakingOf, IsFormedTaking, HasWantedWords};
@@ -56,12 +56,16 @@ fn makes_room(reserve: &mut Reserve, words: Request<'_>) -> bool {
     true
 }
 
-/// The command of a request, as `read_request` gives it. While no memory is found there are further tries.
+/// The command of a request, as `read_request` gives it. While no memory is found there are further tries. An addition
+/// is refused before its words are copied if memory that was given back for other requests isn't found again.
 fn command_of(alloc: Global, reserve: &mut Reserve, words: Request<'_>) -> Result<Command, Refusal>
     requires { 0 < length words }
     ensures exact { Gives result (command_of_words words.entry) }
     ensures formed { IfOk result IsWellFormed }
 {
+    if !reserve.has_small_pieces() && names_addition(words.again()) {
+        return Err(Refusal::Memory);
+    }
     let mut said = read_request(alloc, words.again());
     for _ in 0..MOST_TRIES {
         if !matches!(said, Err(Refusal::Memory)) || !makes_room(reserve, words.again()) {
@@ -145,31 +149,22 @@ fn enqueue(
     }
 }
 
-/// The call of a command, with the words of its request if they are wanted.
-fn call_of(
+/// The words of a request, if they are wanted for a log.
+fn wanted_words_of(
     alloc: Global,
     reserve: &mut Reserve,
     wants_words: bool,
-    command: Command,
     words: Request<'_>,
-) -> Result<Call, AllocError>
-    requires said { command_of_words words ≡ Ok command }
-    requires formed { IsWellFormed command }
-    ensures command { IfOk result (λ call. call.command ≡ command) }
-    ensures formed { IfOk result IsFormed }
-    ensures words { wants_words ≡ true → IfOk result (λ call. is_some call.words ≡ true) }
+) -> Result<Option<List<Bytes>>, AllocError>
+    ensures said { IfOk result (λ found. (command : Command) → command_of_words words.entry ≡ Ok command →
+        HasWords found command) }
+    ensures wanted { wants_words ≡ true → IfOk result (λ found. is_some found ≡ true) }
 {
     if !wants_words {
-        return Ok(Call {
-            command,
-            words: None,
-        });
+        return Ok(None);
     }
     let copies = words_of(alloc, reserve, words)?;
-    Ok(Call {
-        command,
-        words: Some(copies),
-    })
+    Ok(Some(copies))
 }
 
 /// Whether the first word is QUIT, which may always be asked.
@@ -216,8 +211,8 @@ pub fn take_request<I: Inform>(
     if !goes_at_once(standing, &command) {
         return Taking::Says(enqueue(alloc, reserve, standing, words));
     }
-    match call_of(alloc, reserve, wants_words, command, words) {
-        Ok(call) => Taking::Asks(call),
+    match wanted_words_of(alloc, reserve, wants_words, words) {
+        Ok(words) => Taking::Asks(Call { command, words }),
         Err(AllocError) => Taking::Says(standing.refuse(Reply::Error(Fault::Memory))),
     }
 }

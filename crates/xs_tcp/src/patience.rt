@@ -228,8 +228,10 @@ impl<S: Wait + Clock + Copy + Drop> KeeperMode for Patience<S> {
     }
 
     fn idle<J: Journal + Drop, R: Wait>(&self, _rt: &R, keeper: &Keeper<J>) {
-        self.information.figures.tell(state_of(keeper));
-        self.information.figures.rest();
+        if keeper.will_sleep() {
+            self.information.figures.tell(state_of(keeper));
+            self.information.figures.rest();
+        }
         keeper.idle_until(&self.system);
     }
 }

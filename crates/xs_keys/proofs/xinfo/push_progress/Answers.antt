@@ -7,5 +7,5 @@ returns c =
     let named = c.in_ok-push_bulk.ensures.ok in
     let cursor = appended before _ _ _ _ named c.in_ok-push_id.ensures in
     let read = appended before _ _ _ _ cursor c.in_ok-push_bulk-2.ensures.ok in
-    let none = appended before _ _ _ _ read c.in_ok-push_null_bulk.ensures.ok in
-    appended-last c.push_number.result before _ _ _ _ none (rw c.count_past.ensures.value at c.push_number.ensures)
+    let told = appended before _ _ _ _ read c.in_ok-push_read.ensures in
+    appended-last c.push_number.result before _ _ _ _ told (rw c.count_past.ensures.value at c.push_number.ensures)

@@ -1,5 +1,5 @@
 use Rattle.std.proofs.Common.{List, ◌++◌, ◌∷◌, codes, length, map, None}
-use Rattle.xs_stream.specs.StreamContent.{ids_of}
+use Rattle.xs_stream.specs.StreamContent.{state_of}
 use Rattle.xs_keys.specs.Terms.{Reply, Bulk, consumer_reports}
 use Rattle.xs_keys.specs.Inspecting.{progress_part}
 use Rattle.xs_keys.specs.InspectingInFull.{first_rows, rows_part, listed_part, whole_consumer_reply}
@@ -12,7 +12,7 @@ returns c =
     let limit = c.args.asked.now.limit in
     let group = c.args.group.now in
     let header = c.push_array.new.self in
-    let head : List Reply = Bulk (codes "name") ∷ Bulk c.args.name.now ∷ progress_part (ids_of c.args.stream.now.entries) group.cursor in
+    let head : List Reply = Bulk (codes "name") ∷ Bulk c.args.name.now ∷ progress_part (state_of c.args.stream.now) group.cursor in
     let rows : List Reply = rows_part (length group.rows.entries) (first_rows now limit None group) in
     let consumers : List Reply = listed_part (codes "consumers") (map (whole_consumer_reply now limit group) (consumer_reports now group)) in
     let name = appended header _ _ _ _ c.in_ok-push_bulk.ensures.ok (rw c.as_slice.ensures at c.in_ok-push_bulk-2.ensures.ok) in

@@ -1,6 +1,6 @@
 use Rattle.std.proofs.Common.{◌≡◌, ◌++◌, map}
 use Rattle.std.specs.List.{flat_map}
-use Rattle.xs_stream.specs.StreamContent.{ids_of}
+use Rattle.xs_stream.specs.StreamContent.{state_of}
 use Rattle.xs_resp.specs.ReplyItems.{tokens_of}
 use Rattle.xs_keys.specs.InspectingInFull.{whole_group_reply}
 use Rattle.xs_keys.proofs.xinfo_full.push_groups.Given as goal
@@ -8,5 +8,5 @@ use Rattle.xs_keys.proofs.xinfo_full.push_groups.Given as goal
 -- what is appended and what the rest will bring is all
 abbrev pub invariant-loop-name : goal.invariant-loop-name
 invariant-loop-name l =
-    let shown = whole_group_reply l.asked.moment l.asked.limit (ids_of l.slot.stream.entries) in
+    let shown = whole_group_reply l.asked.moment l.asked.limit (state_of l.slot.stream) in
     l.tokens ++ flat_map tokens_of (map shown l.name-iterator) ≡ l.fn.tokens ++ flat_map tokens_of (map shown l.slot.groups.entries)

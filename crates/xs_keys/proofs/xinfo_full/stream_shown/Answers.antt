@@ -1,6 +1,6 @@
 use Rattle.std.proofs.Common.{◌≡◌, ℕ, Option, List, ◌++◌, codes, map, refl, sym, ap, ◌∙◌}
 use Rattle.std.specs.List.{flat_map}
-use Rattle.xs_stream.specs.StreamContent.{ids_of, state_of}
+use Rattle.xs_stream.specs.StreamContent.{state_of}
 use Rattle.xs_resp.specs.Token.{Token}
 use Rattle.xs_resp.specs.ReplyItems.{tokens_of}
 use Rattle.xs_resp.proofs.Wholeness.{filled}
@@ -16,36 +16,36 @@ use Rattle.xs_keys.proofs.xinfo_full.stream_shown.Goals as goal
 -- tokens with the groups of a key behind them
 abbrev shown_groups : List Token → ℕ → Option ℕ → KeyInMemory → List Token
 shown_groups tokens now limit key =
-    tokens ++ flat_map tokens_of (listed_part (codes "groups") (map (whole_group_reply now limit (ids_of key.stream.entries)) key.groups.entries))
+    tokens ++ flat_map tokens_of (listed_part (codes "groups") (map (whole_group_reply now limit (state_of key.stream)) key.groups.entries))
 
 pub new-requires : goal.new-requires
 new-requires c =
     let stream = c.slot.inside.stream in
-    let present = ids_of stream.entries in
+    let state = state_of stream in
     let now = c.args.asked.now.moment in
     let limit = c.args.asked.now.limit in
     let before = c.in_ok-tokens.tokens in
     let size : List Reply = size_part stream.entries in
     let past : List Reply = past_part (state_of stream) c.first_id.result in
     let shown : List Reply = listed_part (codes "entries") (map present_reply c.in_ok-entries.entries) in
-    let groups : List Reply = listed_part (codes "groups") (map (whole_group_reply now limit present) c.slot.inside.groups.entries) in
+    let groups : List Reply = listed_part (codes "groups") (map (whole_group_reply now limit state) c.slot.inside.groups.entries) in
     let so_far = parts-appended before _ _ size past c.in_ok-push_size.ensures c.in_ok-push_past.ensures in
     let listed = parts-appended before _ _ (size ++ past) shown so_far (rw c.as_slice.ensures at c.in_ok-push_entries_part.ensures) in
     let all = parts-appended before _ _ ((size ++ past) ++ shown) groups listed (c.in_ok-push_groups_part.ensures ∙ ap (shown_groups c.push_entries_part.new.tokens now limit) (sym c.slot.view_is)) in
     filled (size ++ (past ++ (shown ++ groups))) 18 before c.push_groups_part.new.tokens
-    (stream-whole now limit stream.entries c.in_ok-entries.entries (state_of stream) c.first_id.result present c.slot.inside.groups.entries) refl c.in_ok-tokens.ensures all
+    (stream-whole now limit stream.entries c.in_ok-entries.entries (state_of stream) c.first_id.result c.slot.inside.groups.entries) refl c.in_ok-tokens.ensures all
 
 pub returns : goal.returns
 returns c =
     let stream = c.slot.inside.stream in
-    let present = ids_of stream.entries in
+    let state = state_of stream in
     let now = c.args.asked.now.moment in
     let limit = c.args.asked.now.limit in
     let before = c.in_ok-tokens.tokens in
     let size : List Reply = size_part stream.entries in
     let past : List Reply = past_part (state_of stream) c.first_id.result in
     let shown : List Reply = listed_part (codes "entries") (map present_reply c.in_ok-entries.entries) in
-    let groups : List Reply = listed_part (codes "groups") (map (whole_group_reply now limit present) c.slot.inside.groups.entries) in
+    let groups : List Reply = listed_part (codes "groups") (map (whole_group_reply now limit state) c.slot.inside.groups.entries) in
     let so_far = parts-appended before _ _ size past c.in_ok-push_size.ensures c.in_ok-push_past.ensures in
     let listed = parts-appended before _ _ (size ++ past) shown so_far (rw c.as_slice.ensures at c.in_ok-push_entries_part.ensures) in
     let all = parts-appended before _ _ ((size ++ past) ++ shown) groups listed (c.in_ok-push_groups_part.ensures ∙ ap (shown_groups c.push_entries_part.new.tokens now limit) (sym c.slot.view_is)) in

@@ -18,5 +18,5 @@ pub returns : goal.returns
 returns c = record {
   begins_with_nothing = λ manner session new. (begins manner session.standing session.ended session.requests session.places _ new.ended new.requests new.places new.owed new.first, subst (λ a. MayBeOpen a []) (sym new.alone) tt);
   an_open_reply_is_not_gathered = λ session places gathered. let never = sym places ∙ gathered.0 in cc;
-  a_read_beside_others = λ old new place result places asks. let never = sym places ∙ (asks.gathered refl).0 in cc;
+  a_read_beside_others = λ old new place places asks. let never = sym places ∙ (asks.gathered refl).0 in cc;
 }

@@ -1,25 +1,45 @@
-use Rattle.std.proofs.Common.{◌≡◌, ◌<◌, [], length, refl, subst, sym}
+use Rattle.std.proofs.Common.{◌≡◌, ◌<◌, true, false, [], length, refl, subst, sym}
 use Rattle.xs_connection.specs.declared.standing.Standing.{Standing}
 use Rattle.xs_connection.specs.Transaction.{released_of}
 use Rattle.xs_session.specs.declared.places.Place.TheVariants.{AwaitsKeys}
 use Rattle.xs_session.specs.declared.session.Session.{Session}
 use Rattle.xs_session.specs.Answers.{Informs, IsTaken}
-use Rattle.xs_session.specs.Session.{SessionIsAfter}
+use Rattle.xs_session.specs.Session.{SessionIsAfter, AsksOrWaits}
 use Rattle.xs_session.proofs.SessionTurns.{session-asked, session-says}
 use Rattle.xs_session.proofs.session.Session.inform.Goals as goal
 
-pub returns-in-Ok-clause-turns : goal.returns-in-Ok-clause-turns
-returns-in-Ok-clause-turns g c = λ read asked got sent s.
+pub returns-in-Ok-then-take_call-clause-turns : goal.returns-in-Ok-then-take_call-clause-turns
+returns-in-Ok-then-take_call-clause-turns g c = λ read asked got sent s.
     let manner = c.args.manner.now in
     let words = c.front-words.result in
     let now = c.take_info.new.standing in
     let session : Session = record c.args.self.now { standing = now } in
+    let command = c.in-Ok.call.command in
     let one = Informs c.in-Ok.information in
+    let place = AwaitsKeys c.in-Ok.information in
     let taken = c.in-Ok.ensures.taken in
-    session-asked manner read asked got sent session c.ask.new.self c.in-Ok.call one (AwaitsKeys c.in-Ok.information) c.ask.result words (c.in-Ok.ensures.command, refl) c.requires.going c.requires.several c.front-words.ensures
+    session-asked manner read asked got sent session c.take_call.new.self command one place true words (c.in-Ok.ensures.command, refl) c.requires.going c.requires.several c.front-words.ensures
     (subst (λ (o : Standing). released_of o.transaction ≡ []) (sym taken.1) c.requires.nothing)
     (subst (λ w. 0 < length w) (sym c.front-words.ensures) c.requires.some)
-    (subst (λ (o : Standing). IsTaken manner o words one now) (sym taken.1) taken) c.ask.ensures.owed c.ask.ensures.asks
+    (subst (λ (o : Standing). IsTaken manner o words one now) (sym taken.1) taken) c.take_call.ensures.owed
+    (subst (λ goes. AsksOrWaits session command place goes c.take_call.new.self) c.if-take_call.true c.take_call.ensures.asks)
+    (subst (λ (o : Standing). SessionIsAfter manner read asked got sent (record c.args.self.now { standing = o })) (sym taken.1) s)
+
+pub returns-in-Ok-not-take_call-clause-turns : goal.returns-in-Ok-not-take_call-clause-turns
+returns-in-Ok-not-take_call-clause-turns g c = λ read asked got sent s.
+    let manner = c.args.manner.now in
+    let words = c.front-words.result in
+    let now = c.take_info.new.standing in
+    let session : Session = record c.args.self.now { standing = now } in
+    let command = c.in-Ok.call.command in
+    let one = Informs c.in-Ok.information in
+    let place = AwaitsKeys c.in-Ok.information in
+    let taken = c.in-Ok.ensures.taken in
+    session-asked manner read asked got sent session c.take_call.new.self command one place false words (c.in-Ok.ensures.command, refl) c.requires.going c.requires.several c.front-words.ensures
+    (subst (λ (o : Standing). released_of o.transaction ≡ []) (sym taken.1) c.requires.nothing)
+    (subst (λ w. 0 < length w) (sym c.front-words.ensures) c.requires.some)
+    (subst (λ (o : Standing). IsTaken manner o words one now) (sym taken.1) taken) c.take_call.ensures.owed
+    (subst (λ goes. AsksOrWaits session command place goes c.take_call.new.self) c.if-take_call.false c.take_call.ensures.asks)
     (subst (λ (o : Standing). SessionIsAfter manner read asked got sent (record c.args.self.now { standing = o })) (sym taken.1) s)
 
 pub returns-in-Err-clause-turns : goal.returns-in-Err-clause-turns

@@ -1,11 +1,11 @@
-use Rattle.std.proofs.Common.{◌≡◌, [], length, refl, subst, sym}
+use Rattle.std.proofs.Common.{◌≡◌, true, false, [], length, refl, subst, sym}
 use Rattle.xs_resp.specs.LeftToWrite.{bytes_left}
 use Rattle.xs_connection.specs.declared.standing.Standing.{Standing}
 use Rattle.xs_connection.specs.Transaction.{released_of}
 use Rattle.xs_session.specs.declared.places.Place.TheVariants.{Awaits}
 use Rattle.xs_session.specs.declared.session.Session.{Session}
 use Rattle.xs_session.specs.Answers.{Asks, IsTaken}
-use Rattle.xs_session.specs.Session.{SessionIsAfter}
+use Rattle.xs_session.specs.Session.{SessionIsAfter, AsksOrWaits}
 use Rattle.xs_session.proofs.OpenCommands.{open-same}
 use Rattle.xs_session.proofs.SessionTurns.{session-asked, session-says, turn-skips}
 use Rattle.xs_session.proofs.Tests.{empty-none, empty-some}
@@ -20,18 +20,36 @@ returns-then-is_empty-clause-turns g c = λ read asked got sent s.
       open-same session.alone (length got) asked s.1,
     )
 
-pub returns-in-Asks-clause-turns : goal.returns-in-Asks-clause-turns
-returns-in-Asks-clause-turns g c = λ read asked got sent s.
+pub returns-in-Asks-then-take_call-clause-turns : goal.returns-in-Asks-then-take_call-clause-turns
+returns-in-Asks-then-take_call-clause-turns g c = λ read asked got sent s.
     let manner = c.args.manner.now in
     let words = c.front-words.result in
     let now = c.take_request-taken.new.standing in
     let session : Session = record c.args.self.now { reserve = c.take_request-taken.new.reserve; standing = now } in
-    let one = Asks c.in-Asks.call.command in
+    let command = c.in-Asks.call.command in
+    let one = Asks command in
     let taken = c.in-Asks.ensures.taken in
-    session-asked manner read asked got sent session c.ask.new.self c.in-Asks.call one Awaits c.ask.result words (refl, refl) c.requires.going c.requires.several c.front-words.ensures
+    session-asked manner read asked got sent session c.take_call.new.self command one Awaits true words (refl, refl) c.requires.going c.requires.several c.front-words.ensures
     (subst (λ (o : Standing). released_of o.transaction ≡ []) (sym taken.3) c.requires.nothing)
     (empty-some words c.is_empty.result c.is_empty.ensures c.if-is_empty.false)
-    (subst (λ (o : Standing). IsTaken manner o words one now) (sym taken.3) taken) c.ask.ensures.owed c.ask.ensures.asks
+    (subst (λ (o : Standing). IsTaken manner o words one now) (sym taken.3) taken) c.take_call.ensures.owed
+    (subst (λ goes. AsksOrWaits session command Awaits goes c.take_call.new.self) c.if-take_call.true c.take_call.ensures.asks)
+    (subst (λ (o : Standing). SessionIsAfter manner read asked got sent (record c.args.self.now { reserve = c.take_request-taken.new.reserve; standing = o })) (sym taken.3) s)
+
+pub returns-in-Asks-not-take_call-clause-turns : goal.returns-in-Asks-not-take_call-clause-turns
+returns-in-Asks-not-take_call-clause-turns g c = λ read asked got sent s.
+    let manner = c.args.manner.now in
+    let words = c.front-words.result in
+    let now = c.take_request-taken.new.standing in
+    let session : Session = record c.args.self.now { reserve = c.take_request-taken.new.reserve; standing = now } in
+    let command = c.in-Asks.call.command in
+    let one = Asks command in
+    let taken = c.in-Asks.ensures.taken in
+    session-asked manner read asked got sent session c.take_call.new.self command one Awaits false words (refl, refl) c.requires.going c.requires.several c.front-words.ensures
+    (subst (λ (o : Standing). released_of o.transaction ≡ []) (sym taken.3) c.requires.nothing)
+    (empty-some words c.is_empty.result c.is_empty.ensures c.if-is_empty.false)
+    (subst (λ (o : Standing). IsTaken manner o words one now) (sym taken.3) taken) c.take_call.ensures.owed
+    (subst (λ goes. AsksOrWaits session command Awaits goes c.take_call.new.self) c.if-take_call.false c.take_call.ensures.asks)
     (subst (λ (o : Standing). SessionIsAfter manner read asked got sent (record c.args.self.now { reserve = c.take_request-taken.new.reserve; standing = o })) (sym taken.3) s)
 
 pub returns-in-Says-clause-turns : goal.returns-in-Says-clause-turns
