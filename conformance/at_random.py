@@ -6,8 +6,9 @@
 Each round has 400 commands of streams and groups (conformance/commands.py says which, and what is left out), from the
 empty keyspace on; the program runs them as one script. A reply has to be that of Redis, byte by byte; of an error the
 first word, since texts differ; of XINFO what conformance/inspections.py says. The moments of the script go forwards and
-backwards, and the clock of Redis stands still at each: so times are compared too. A round ends at its first difference, which is shown. `--counts` shows how often each kind of reply
-of each command came. The last line is 'N passed, M failed', by commands; the status is 1 where M > 0.
+backwards, and the clock of Redis stands still at each: so times are compared too. A round ends at its first
+difference, which is shown. `--counts` shows how often each kind of reply of each command came. The last line is
+'N passed, M failed', by commands; the status is 1 where M > 0.
 """
 import argparse
 import io
@@ -23,6 +24,8 @@ import real_redis
 import redis_at
 
 COMMANDS = 400
+# Of the times that pass in a round.
+IDLE_TIMES = ("1", "30", "200", "600")
 
 
 def moments_of(seed):
@@ -55,9 +58,9 @@ def same_in_round(lines, here, there, counts, is_same=is_same):
     return len(lines)
 
 
-def lines_of(seed):
-    """The commands of a round."""
-    maker = commands.Maker(seed)
+def lines_of(seed, idle_times=()):
+    """The commands of a round, with these least idle times too."""
+    maker = commands.Maker(seed, idle_times)
     return [*maker.opening(), *(maker.command() for _ in range(COMMANDS))][:COMMANDS]
 
 
@@ -72,7 +75,7 @@ def main():
     with redis_at.started() as redis:
         for number in range(given.rounds):
             seed = f"{given.seed} {number}"
-            lines, moments = lines_of(seed), moments_of(seed)
+            lines, moments = lines_of(seed, IDLE_TIMES), moments_of(seed)
             here = answers(given.program, lines, moments)
             same = same_in_round(lines, here, redis.ask(zip(moments, lines)), counts)
             passed, failed = passed + same, failed + (same < COMMANDS)

@@ -13,7 +13,7 @@ Left out is where this server and Redis 7.0 say something else, and each for a r
 import random
 
 LAST = 2**64 - 1
-# An idle time is above it or far below it, and least idle times are this one or none.
+# An idle time is above it or far below it, and least idle times are this one or none, unless others are named.
 LONG = 500_000_000_000
 KEYWORDS = {"COUNT", "MAXLEN", "MINID", "NOMKSTREAM", "MKSTREAM", "GROUP", "NOACK", "BLOCK", "STREAMS", "IDLE", "TIME",
             "RETRYCOUNT", "JUSTID", "CREATE", "DESTROY", "CREATECONSUMER", "DELCONSUMER"}
@@ -24,8 +24,9 @@ class Maker:
     """Makes the commands of a round. It knows about how far each key's ids are, so that new ones are mostly taken. In
     every third round little ends, so that groups grow and a scan doesn't reach their end."""
 
-    def __init__(self, seed):
+    def __init__(self, seed, idle_times=()):
         self.random = random.Random(seed)
+        self.idle_times = ("0", "0", "-7", str(LONG), *idle_times)
         self.reached = {key: 0 for key in "stu"}
         self.grows = self.random.random() < 0.33
 
@@ -83,7 +84,7 @@ class Maker:
         return self.one(["MAXLEN", *exactly, *count], ["MINID", *exactly, self.id(key)])
 
     def least_idle(self):
-        return self.one("0", "0", "-7", str(LONG))
+        return self.one(*self.idle_times)
 
     # Streams.
 
