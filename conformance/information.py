@@ -163,8 +163,11 @@ def tells_the_memory_behind_additions(program):
             used = int(re.search(rb"used_memory:(\d+)", read_reply(replies)).group(1))
             assert count * size < used < (count + 1) * size, (count, used)
 
+        began = time.monotonic()
         for count in range(1, 101):
             told_behind(count)
+        # It has told before it parks: nobody waits for it then.
+        assert time.monotonic() - began < 10
         with beside_a_client(server.port, "PING"):
             for count in range(101, 401):
                 told_behind(count)
