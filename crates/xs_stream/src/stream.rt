@@ -14,6 +14,7 @@ use crate::entries::Entries;
 use crate::entry::Entry;
 use crate::field::Field;
 use crate::id::Id;
+use crate::lent::LentEntries;
 use crate::moment::Moment;
 use crate::packed::fields::PackedFields;
 use crate::range::Range;
@@ -106,6 +107,13 @@ impl Stream {
         ensures small { result < 2 ^ 127 }
     {
         self.entries.room()
+    }
+
+    /// The entries in the order of their ids, lent one by one. None is copied.
+    pub fn iter(&self) -> LentEntries<'_>
+        ensures { result ≡ self.now.entries }
+    {
+        self.entries.iter()
     }
 
     /// The fields of an entry.
