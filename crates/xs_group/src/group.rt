@@ -129,7 +129,8 @@ impl Group {
 
     /// The pending rows, in the order of their ids, lent one by one.
     pub fn iter_rows(&self) -> LentRows<'_>
-        ensures { result ≡ self.now.rows.entries }
+        ensures rest { result ≡ self.now.rows.entries }
+        ensures consistent { IsConsistentGroup self.now }
     {
         self.pending.iter_rows()
     }

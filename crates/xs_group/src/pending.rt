@@ -72,7 +72,8 @@ impl Pending {
 
     /// The pending rows, in the order of their ids.
     pub(crate) fn iter_rows(&self) -> LentRows<'_>
-        ensures { result ≡ self.now.rows.entries }
+        ensures rest { result ≡ self.now.rows.entries }
+        ensures named { IsNamed self.now.consumers self.now.rows }
     {
         LentRows::new(self.rows.iter())
     }

@@ -1,0 +1,80 @@
+-- Pieces that are put one after the other.
+use Rattle.std.proofs.Common.{◌≡◌, ℕ, ◌+◌, ◌<◌, ◌^◌, false, List, [], ◌∷◌, ◌++◌, length, Option, refl, sym, ap, ◌∙◌, subst, arith, append_assoc, append-nil, length-append}
+use Rattle.std.specs.Prelude.{Result, Ok, Err, OnOk}
+use Rattle.std.specs.List.{AllByRecursion}
+use Rattle.xs_replay.specs.Pieces.{Piece}
+use Rattle.xs_replay.specs.SnapshotWords.{values_of}
+use Rattle.xs_log.specs.SnapshotPieces.{AreShort}
+use Rattle.xs_log.specs.SnapshotWriting.{SnapshotWriting, HasPut}
+use Rattle.xs_snapshot.specs.Writing.{HasPutMore, CanBePut}
+
+-- ---- what is put
+
+-- nothing
+pub none_put : (writer : SnapshotWriting) → writer.writing.broken ≡ false → HasPutMore writer writer []
+none_put writer sound = record {
+  puts = λ number closed moment pieces has. subst (HasPut number closed writer moment) (sym (append-nil pieces)) has;
+  count_is = omega arith;
+  sound = sound;
+}
+
+-- one piece
+pub one_put : (old new : SnapshotWriting) (piece : Piece)
+    → ((number : ℕ) (closed : List (List ℕ)) (moment : Option ℕ) (pieces : List Piece) → HasPut number closed old moment pieces → HasPut number closed new moment (pieces ++ piece ∷ []))
+    → new.count ≡ old.count + 1 → new.writing.broken ≡ false → HasPutMore old new (piece ∷ [])
+one_put old new piece puts count sound = record { puts = puts; count_is = count; sound = sound }
+
+-- some, and others behind them
+pub both_put : (old between new : SnapshotWriting) (some more : List Piece) → HasPutMore old between some → HasPutMore between new more → HasPutMore old new (some ++ more)
+both_put old between new some more first then = record {
+  puts = λ number closed moment pieces has.
+      subst (HasPut number closed new moment) (append_assoc pieces some more) (then.puts number closed moment (pieces ++ some) (first.puts number closed moment pieces has));
+  count_is = omega (arith, first.count_is, then.count_is, length-append some more);
+  sound = then.sound;
+}
+
+-- ---- what can be put
+
+all-first : {X : Type 0} (P : X → Type 0) (xs ys : List X) → AllByRecursion P (xs ++ ys) → AllByRecursion P xs
+all-first P [] ys all = tt
+all-first P (x ∷ xs) ys all = (all.0, all-first P xs ys all.1)
+
+all-rest : {X : Type 0} (P : X → Type 0) (xs ys : List X) → AllByRecursion P (xs ++ ys) → AllByRecursion P ys
+all-rest P [] ys all = all
+all-rest P (x ∷ xs) ys all = all-rest P xs ys all.1
+
+-- the first of these
+pub first_can : (before : ℕ) (first rest : List Piece) → CanBePut before (first ++ rest) → CanBePut before first
+first_can before first rest can =
+    record { short = all-first (λ piece. AreShort (values_of piece)) first rest can.short; few = omega (arith, can.few, length-append first rest) }
+
+-- and the others, once those are put
+pub rest_can : (old now : SnapshotWriting) (first rest : List Piece) → HasPutMore old now first → CanBePut old.count (first ++ rest) → CanBePut now.count rest
+rest_can old now first rest has can =
+    record { short = all-rest (λ piece. AreShort (values_of piece)) first rest can.short; few = omega (arith, can.few, has.count_is, length-append first rest) }
+
+-- ---- halfway
+
+-- of these pieces some are put, and these are ahead
+pub record IsHalfway (old now : SnapshotWriting) (all ahead : List Piece) : Type 0 where
+  pub done : List Piece
+  pub all_are : done ++ ahead ≡ all
+  pub has : HasPutMore old now done
+
+pub at_start : (writer : SnapshotWriting) (all : List Piece) → writer.writing.broken ≡ false → IsHalfway writer writer all all
+at_start writer all sound = record { done = []; all_are = refl; has = none_put writer sound }
+
+pub further : (old now new : SnapshotWriting) (all first ahead : List Piece) → IsHalfway old now all (first ++ ahead) → HasPutMore now new first → IsHalfway old new all ahead
+further old now new all first ahead half more = record {
+  done = half.done ++ first;
+  all_are = append_assoc half.done first ahead ∙ half.all_are;
+  has = both_put old now new half.done first half.has more;
+}
+
+pub at_end : (old now : SnapshotWriting) (all : List Piece) → IsHalfway old now all [] → HasPutMore old now all
+at_end old now all half = subst (HasPutMore old now) (sym (append-nil half.done) ∙ half.all_are) half.has
+
+-- the next ones can be put, if all can
+pub next_can : (old now : SnapshotWriting) (all first ahead : List Piece) → IsHalfway old now all (first ++ ahead) → CanBePut old.count all → CanBePut now.count first
+next_can old now all first ahead half can =
+    first_can now.count first ahead (rest_can old now half.done (first ++ ahead) half.has (subst (CanBePut old.count) (sym half.all_are) can))
