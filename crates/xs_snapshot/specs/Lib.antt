@@ -1,1 +1,2 @@
+pub mod Restorable
 pub mod Writing

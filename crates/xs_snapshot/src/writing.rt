@@ -3,10 +3,13 @@
 ghost use Rattle.std.specs.Prelude.{◌≡◌, ℕ, List, false, true, Err, IfOk, OnOk};
 ghost use Rattle.xs_replay.specs.After.{ServerState};
 ghost use Rattle.xs_replay.specs.Pieces.{pieces_of_group, pieces_of_key, pieces_of};
+ghost use Rattle.xs_stream.specs.StreamContent.{state_of};
+ghost use Rattle.xs_group.specs.ConsistentGroup.{IsConsistentGroup};
 ghost use Rattle.xs_keys.specs.KeysRoom.{key_state_of};
 ghost use Rattle.xs_log.specs.SnapshotWriting.{IsEmptyFile};
 ghost use Rattle.xs_snapshot.specs.Writing.{pieces_of_rows, pieces_of_consumers, pieces_of_entries, pieces_of_groups};
 ghost use Rattle.xs_snapshot.specs.Writing.{HasPutMore, CanBePut, KeepsSnapshot};
+ghost use Rattle.xs_snapshot.specs.Restorable.{IsRestorableStream, AreRestorableGroups, IsRestorableKey, IsRestorable};
 
 use std::alloc::Global;
 use xs_bytes::Bytes;
@@ -44,6 +47,7 @@ fn put_rows<T: Tape + Drop>(
     ensures device { result ≡ Err WriteFault.Device → writer.new.writing.broken ≡ true }
     ensures long { result ≡ Err WriteFault.TooLong →
         CanBePut writer.old.count (pieces_of_rows group.now.rows.entries) → ⊥ }
+    ensures restorable { IsConsistentGroup group.now }
 {
     for row in group.iter_rows() {
         let touch = row.touch();
@@ -63,6 +67,7 @@ fn put_group<T: Tape + Drop>(
     ensures device { result ≡ Err WriteFault.Device → writer.new.writing.broken ≡ true }
     ensures long { result ≡ Err WriteFault.TooLong →
         CanBePut writer.old.count (pieces_of_group (name.now, group.now)) → ⊥ }
+    ensures restorable { OnOk result (IsConsistentGroup group.now) }
 {
     writer.put_group(name.as_slice(), group.cursor())?;
     put_consumers(writer, group)?;
@@ -79,6 +84,7 @@ fn put_groups<T: Tape + Drop>(
     ensures device { result ≡ Err WriteFault.Device → writer.new.writing.broken ≡ true }
     ensures long { result ≡ Err WriteFault.TooLong →
         CanBePut writer.old.count (pieces_of_groups groups.now.entries) → ⊥ }
+    ensures restorable { OnOk result (AreRestorableGroups groups.now.entries) }
 {
     for (name, group) in groups.iter() {
         put_group(writer, name, group)?;
@@ -96,6 +102,7 @@ fn put_entries<T: Tape + Drop>(
     ensures device { result ≡ Err WriteFault.Device → writer.new.writing.broken ≡ true }
     ensures long { result ≡ Err WriteFault.TooLong →
         CanBePut writer.old.count (pieces_of_entries stream.now.entries) → ⊥ }
+    ensures restorable { IsRestorableStream (state_of stream.now) }
 {
     for entry in stream.iter() {
         writer.put_entry(entry.id(), entry.fields())?;
@@ -115,6 +122,7 @@ fn put_key<T: Tape + Drop>(
     ensures device { result ≡ Err WriteFault.Device → writer.new.writing.broken ≡ true }
     ensures long { result ≡ Err WriteFault.TooLong →
         CanBePut writer.old.count (pieces_of_key (name.now, key_state_of slot.now)) → ⊥ }
+    ensures restorable { OnOk result (IsRestorableKey (key_state_of slot.now)) }
 {
     let stream = &slot.stream;
     writer.put_key(
@@ -140,6 +148,8 @@ pub fn put_keys<T: Tape + Drop>(
     ensures more { OnOk result (HasPutMore writer.old writer.new (pieces_of keyspace.now)) }
     ensures device { result ≡ Err WriteFault.Device → writer.new.writing.broken ≡ true }
     ensures long { result ≡ Err WriteFault.TooLong → CanBePut writer.old.count (pieces_of keyspace.now) → ⊥ }
+    // What was put can be put together again.
+    ensures restorable { OnOk result (IsRestorable keyspace.now) }
 {
     for (name, slot) in keyspace.iter() {
         put_key(writer, name, slot)?;
@@ -165,6 +175,8 @@ pub fn write_snapshot<T: Tape + Drop>(
         KeepsSnapshot number closed (T.holds written) (record { content = keyspace.now; moment = moment })) }
     ensures sound { IfOk result (λ written. T.broken written ≡ false) }
     ensures long { result ≡ Err WriteFault.TooLong → CanBePut 0 (pieces_of keyspace.now) → ⊥ }
+    // What is written can be put together again.
+    ensures restorable { OnOk result (IsRestorable keyspace.now) }
 {
     let mut writer = SnapshotWriter::begin(alloc, tape, number, moment)?;
     put_keys(&mut writer, keyspace)?;
