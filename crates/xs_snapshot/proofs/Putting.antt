@@ -1,5 +1,5 @@
 -- Pieces that are put one after the other.
-use Rattle.std.proofs.Common.{◌≡◌, ℕ, ◌+◌, ◌<◌, ◌^◌, ◌-◌, false, List, [], ◌∷◌, ◌++◌, map, length, Option, refl, sym, ap, ◌∙◌, subst, arith, append_assoc, append-nil, length-append}
+use Rattle.std.proofs.Common.{◌≡◌, ℕ, ◌+◌, ◌<◌, ◌^◌, ◌-◌, false, List, [], ◌∷◌, ◌++◌, map, length, Option, sym, ap, ◌∙◌, subst, arith, append_assoc, append-nil, length-append}
 use Rattle.std.specs.Prelude.{Result, Ok, Err, OnOk}
 use Rattle.std.specs.Result.{IsErrAnd}
 use Rattle.std.proofs.lemmas.Result.{err_from_is_err_and}
@@ -69,8 +69,8 @@ pub record IsHalfway (old now : SnapshotWriting) (all ahead : List Piece) : Type
   pub all_are : done ++ ahead ≡ all
   pub has : HasPutMore old now done
 
-pub at_start : (writer : SnapshotWriting) (all : List Piece) → writer.writing.broken ≡ false → IsHalfway writer writer all all
-at_start writer all sound = record { done = []; all_are = refl; has = none_put writer sound }
+pub at_start : (writer : SnapshotWriting) (all ahead : List Piece) → writer.writing.broken ≡ false → ahead ≡ all → IsHalfway writer writer all ahead
+at_start writer all ahead sound is = record { done = []; all_are = is; has = none_put writer sound }
 
 pub further : (old now new : SnapshotWriting) (all first ahead : List Piece) → IsHalfway old now all (first ++ ahead) → HasPutMore now new first → IsHalfway old new all ahead
 further old now new all first ahead half more = record {

@@ -38,10 +38,7 @@ fn put_consumers<T: Tape + Drop>(
 }
 
 /// Puts the pending rows of a group, in the order of their ids.
-fn put_rows<T: Tape + Drop>(
-    writer: &mut SnapshotWriter<T>,
-    group: &Group,
-) -> Result<(), WriteFault>
+fn put_rows<T: Tape + Drop>(writer: &mut SnapshotWriter<T>, group: &Group) -> Result<(), WriteFault>
     requires { writer.old.writing.broken ≡ false }
     ensures more { OnOk result (HasPutMore writer.old writer.new (pieces_of_rows group.now.rows.entries)) }
     ensures device { result ≡ Err WriteFault.Device → writer.new.writing.broken ≡ true }

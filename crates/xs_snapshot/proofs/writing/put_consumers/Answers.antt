@@ -1,8 +1,14 @@
+use Rattle.std.proofs.Common.{ap, ◌∙◌}
 use Rattle.xs_log.specs.declared.snapshot_output.WriteFault.TheVariants.{TooLong}
 use Rattle.xs_replay.specs.Pieces.{of_consumer}
 use Rattle.xs_snapshot.specs.Writing.{pieces_of_consumers}
-use Rattle.xs_snapshot.proofs.Putting.{consumer_next, one_further, next_is_short, given_on}
+use Rattle.xs_snapshot.proofs.Putting.{consumer_next, at_start, one_further, next_is_short, given_on}
 use Rattle.xs_snapshot.proofs.writing.put_consumers.Goals as goal
+
+pub loop-name-init : goal.loop-name-init
+loop-name-init g c =
+    at_start c.args.writer.now (pieces_of_consumers c.args.group.now.consumers.entries) (pieces_of_consumers c.into_iter-name-iterator.result) c.requires
+    (ap pieces_of_consumers (c.into_iter-name-iterator.ensures.into_iter_gives ∙ c.iter_consumers-name-items.ensures))
 
 pub loop-name-preserved : goal.loop-name-preserved
 loop-name-preserved g c =

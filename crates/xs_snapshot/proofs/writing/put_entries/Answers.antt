@@ -1,8 +1,14 @@
+use Rattle.std.proofs.Common.{ap, ◌∙◌}
 use Rattle.xs_log.specs.declared.snapshot_output.WriteFault.TheVariants.{TooLong}
 use Rattle.xs_replay.specs.Pieces.{of_entry}
 use Rattle.xs_snapshot.specs.Writing.{pieces_of_entries}
-use Rattle.xs_snapshot.proofs.Putting.{entry_next, one_further, next_is_short, given_on}
+use Rattle.xs_snapshot.proofs.Putting.{entry_next, at_start, one_further, next_is_short, given_on}
 use Rattle.xs_snapshot.proofs.writing.put_entries.Goals as goal
+
+pub loop-entry-init : goal.loop-entry-init
+loop-entry-init g c =
+    at_start c.args.writer.now (pieces_of_entries c.args.stream.now.entries) (pieces_of_entries c.into_iter-entry-iterator.result) c.requires
+    (ap pieces_of_entries (c.into_iter-entry-iterator.ensures.into_iter_gives ∙ c.iter-entry-items.ensures.rest))
 
 pub loop-entry-preserved : goal.loop-entry-preserved
 loop-entry-preserved g c =

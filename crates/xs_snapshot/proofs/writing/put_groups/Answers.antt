@@ -1,10 +1,18 @@
-use Rattle.std.proofs.Common.{◌≡◌, ◌∷◌, sym, subst}
+use Rattle.std.proofs.Common.{◌≡◌, ◌∷◌, ap, sym, subst, ◌∙◌}
 use Rattle.xs_log.specs.declared.snapshot_output.WriteFault.TheVariants.{TooLong}
 use Rattle.xs_replay.specs.Pieces.{pieces_of_group}
 use Rattle.xs_snapshot.specs.Restorable.{AreRestorableGroups}
 use Rattle.xs_snapshot.specs.Writing.{pieces_of_groups}
-use Rattle.xs_snapshot.proofs.Putting.{IsHalfway, further, next_can, given_on}
+use Rattle.xs_snapshot.proofs.Putting.{IsHalfway, at_start, further, next_can, given_on}
 use Rattle.xs_snapshot.proofs.writing.put_groups.Goals as goal
+
+pub loop-name-init : goal.loop-name-init
+loop-name-init g c =
+    let all : c.into_iter-name-iterator.result ≡ c.args.groups.now.entries = c.into_iter-name-iterator.ensures.into_iter_gives ∙ c.iter-name-items.ensures in
+    record {
+      half = at_start c.args.writer.now (pieces_of_groups c.args.groups.now.entries) (pieces_of_groups c.into_iter-name-iterator.result) c.requires (ap pieces_of_groups all);
+      restorable = subst AreRestorableGroups all;
+    }
 
 pub loop-name-preserved : goal.loop-name-preserved
 loop-name-preserved g c =

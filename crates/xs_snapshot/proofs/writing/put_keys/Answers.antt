@@ -12,7 +12,7 @@ pub loop-name-init : goal.loop-name-init
 loop-name-init g c =
     let all : states_of c.into_iter-name-iterator.result ≡ c.args.keyspace.now.entries = ap states_of c.into_iter-name-iterator.ensures.into_iter_gives ∙ c.iter-name-items.ensures in
     record {
-      half = subst (IsHalfway c.args.writer.now c.args.writer.now (pieces_of c.args.keyspace.now)) (sym (ap (flat_map pieces_of_key) all)) (at_start c.args.writer.now (pieces_of c.args.keyspace.now) c.requires);
+      half = at_start c.args.writer.now (pieces_of c.args.keyspace.now) (pieces_of_keys c.into_iter-name-iterator.result) c.requires (ap (flat_map pieces_of_key) all);
       restorable = subst (λ (es : List (List ℕ × KeyState)). AllByRecursion (λ e. IsRestorableKey e.1) es) all;
     }
 

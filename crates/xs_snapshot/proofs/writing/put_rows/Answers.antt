@@ -2,8 +2,13 @@ use Rattle.std.proofs.Common.{ap, ◌∙◌}
 use Rattle.xs_log.specs.declared.snapshot_output.WriteFault.TheVariants.{TooLong}
 use Rattle.xs_replay.specs.Pieces.{of_row}
 use Rattle.xs_snapshot.specs.Writing.{pieces_of_rows}
-use Rattle.xs_snapshot.proofs.Putting.{row_next, one_further, next_is_short, given_on}
+use Rattle.xs_snapshot.proofs.Putting.{row_next, at_start, one_further, next_is_short, given_on}
 use Rattle.xs_snapshot.proofs.writing.put_rows.Goals as goal
+
+pub loop-row-init : goal.loop-row-init
+loop-row-init g c =
+    at_start c.args.writer.now (pieces_of_rows c.args.group.now.rows.entries) (pieces_of_rows c.into_iter-row-iterator.result) c.requires
+    (ap pieces_of_rows (c.into_iter-row-iterator.ensures.into_iter_gives ∙ c.iter_rows-row-items.ensures.rest))
 
 pub loop-row-preserved : goal.loop-row-preserved
 loop-row-preserved g c =
