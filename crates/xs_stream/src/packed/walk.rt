@@ -59,9 +59,6 @@ impl<'a> Iterator for BlockWalk<'a> {
         let entry = read_entry(self.base, self.rest);
         self.left -= 1;
         self.rest = entry.rest;
-        Some(Entry::new(
-            entry.id,
-            PackedFields::new(self.names, entry.body),
-        ))
+        Some(Entry::new(entry.id, PackedFields::new(self.names, entry.body)))
     }
 }
