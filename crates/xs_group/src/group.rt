@@ -16,6 +16,7 @@ ghost use Rattle.xs_stream.specs.StreamContent.{ids_of, AllAbove, Ascends};
 
 use crate::claims::{Claim, ClaimRule, ClaimTerms, Scan};
 use crate::delivery::{Delivery, DeliveryKind, Touch};
+use crate::lent::{LentConsumers, LentRows};
 use crate::pending::Pending;
 use crate::reports::{ConsumerReport, GroupSummary, PendingRow, Selection};
 use crate::{claims, reading};
@@ -117,6 +118,21 @@ impl Group {
         ensures { IfOk result (λ found. found.items ≡ consumer_reports now self.now) }
     {
         self.pending.consumers(alloc, now)
+    }
+
+    /// The consumers with their moments, in the order of their names, lent one by one.
+    pub fn iter_consumers(&self) -> LentConsumers<'_>
+        ensures { result ≡ self.now.consumers.entries }
+    {
+        self.pending.iter_consumers()
+    }
+
+    /// The pending rows, in the order of their ids, lent one by one.
+    pub fn iter_rows(&self) -> LentRows<'_>
+        ensures rest { result ≡ self.now.rows.entries }
+        ensures consistent { IsConsistentGroup self.now }
+    {
+        self.pending.iter_rows()
     }
 
     /// Whether the consumer is one of the group.

@@ -22,6 +22,7 @@ use crate::claims::{Claim, ClaimTerms, Found, Scan, Verdict};
 use crate::consumer_index::{self, ConsumerIndex, Owner};
 use crate::delivery::{Delivery, DeliveryKind, DeliveryRow, Touch};
 use crate::id_index::{self, IdIndex};
+use crate::lent::{LentConsumers, LentRows};
 use crate::name::Name;
 use crate::pending_entry::PendingEntry;
 use crate::reports::{ConsumerReport, GroupSummary, PendingRow, Selection};
@@ -60,6 +61,21 @@ impl Pending {
             rows: SmallMap::new(alloc),
             owners: SmallMap::new(alloc),
         }
+    }
+
+    /// The consumers with their moments, in the order of their names.
+    pub(crate) fn iter_consumers(&self) -> LentConsumers<'_>
+        ensures { result ≡ self.now.consumers.entries }
+    {
+        LentConsumers::new(self.owners.iter())
+    }
+
+    /// The pending rows, in the order of their ids.
+    pub(crate) fn iter_rows(&self) -> LentRows<'_>
+        ensures rest { result ≡ self.now.rows.entries }
+        ensures named { IsNamed self.now.consumers self.now.rows }
+    {
+        LentRows::new(self.rows.iter())
     }
 
     pub(crate) fn has_consumer(&self, name: &Bytes) -> bool

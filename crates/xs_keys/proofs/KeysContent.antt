@@ -12,10 +12,10 @@ use Rattle.xs_keys.specs.Content.{KeyState}
 use Rattle.xs_keys.specs.KeysRoom.{KeyInMemory, key_state_of, state_in, content_of}
 use Rattle.xs_keys.proofs.NameMaps.{name_exact, same_map, get-insert, get-remove}
 
-abbrev Held : Type 0
+abbrev pub Held : Type 0
 Held = List (List ℕ × KeyInMemory)
 
-abbrev states : Held → List (List ℕ × KeyState)
+abbrev pub states : Held → List (List ℕ × KeyState)
 states es = map (λ e. (e.0, key_state_of e.1)) es
 
 push : (t : Bool) (a b : Option KeyInMemory) → state_in (cond t a b) ≡ cond t (state_in a) (state_in b)
@@ -61,10 +61,13 @@ length-states : (es : Held) → length (states es) ≡ length es
 length-states [] = refl
 length-states (e ∷ es) = ap suc (length-states es)
 
+-- the same keys are there, in the same order
+pub entries-content : (m : NameMap KeyInMemory) → (content_of m).entries ≡ states m.entries
+unfolding get
+entries-content m =
+    same_entries (slice_cmp nat_cmp) nat_list_cmp_total name_exact (content_of m).entries (states m.entries) (content_of m).sorted
+    (subst T (sym (sorted-states m.entries)) m.sorted) (λ q. get-of_entries nat_list_cmp_total (states m.entries) q)
+
 -- as many keys are there
 pub length-content : (m : NameMap KeyInMemory) → length (content_of m).entries ≡ length m.entries
-unfolding get
-length-content m =
-    ap length (same_entries (slice_cmp nat_cmp) nat_list_cmp_total name_exact (content_of m).entries (states m.entries) (content_of m).sorted
-    (subst T (sym (sorted-states m.entries)) m.sorted) (λ q. get-of_entries nat_list_cmp_total (states m.entries) q))
-    ∙ length-states m.entries
+length-content m = ap length (entries-content m) ∙ length-states m.entries

@@ -1,5 +1,5 @@
 //! The keys, and what a key holds.
-ghost use Rattle.std.specs.Prelude.{◌≡◌, ◌<◌, ◌^◌, ◌%◌, length, None, OnOk, OnErr};
+ghost use Rattle.std.specs.Prelude.{◌≡◌, ◌<◌, ◌^◌, ◌%◌, length, map, None, OnOk, OnErr};
 ghost use Rattle.std.specs.Option.{option_copied};
 ghost use Rattle.xs_bytes.specs.SortedMap.{empty, get, insert, remove};
 ghost use Rattle.xs_group.specs.GroupRoom.{room_of_group};
@@ -12,6 +12,7 @@ use std::alloc::{AllocError, Global};
 use std::marker::Model;
 use xs_bytes::Bytes;
 use xs_group::Group;
+use xs_maps::Entries;
 use xs_stream::Stream;
 
 /// How many bytes a key is counted with beside its name, its stream and its groups.
@@ -122,6 +123,13 @@ impl Keys {
         ensures small { result < 2 ^ 63 }
     {
         self.slots.len()
+    }
+
+    /// The keys with what they hold, in the order of the names' bytes.
+    pub fn iter(&self) -> Entries<'_, Bytes, Slot>
+        ensures { map (λ e. (e.0, key_state_of e.1)) result ≡ self.now.entries }
+    {
+        self.slots.iter()
     }
 
     /// Puts a key in that isn't there.

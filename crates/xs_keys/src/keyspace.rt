@@ -5,7 +5,7 @@ ghost use Rattle.xs_command.specs.WellFormed.{IsWellFormed};
 ghost use Rattle.xs_keys.specs.Headline.{RunsOn};
 ghost use Rattle.xs_keys.specs.Step.{Step};
 
-use crate::keys::Keys;
+use crate::keys::{Keys, Slot};
 use crate::reserve::Reserve;
 use crate::{
     del, in_vain, inspect, ping, xack, xadd, xautoclaim, xclaim, xdel, xgroup, xlen, xpending,
@@ -13,7 +13,9 @@ use crate::{
 };
 use std::alloc::{AllocError, Global};
 use std::marker::Model;
+use xs_bytes::Bytes;
 use xs_command::{Command, ReadGroupCommand};
+use xs_maps::Entries;
 use xs_resp::{Fault, Reply, Simple};
 use xs_stream::Moment;
 
@@ -42,7 +44,8 @@ impl Model for Keyspace {
 impl Keyspace {
     ghost use Rattle.std.specs.Prelude.{false};
     ghost use Rattle.std.specs.Prelude.{length};
-    ghost use Rattle.xs_keys.specs.KeysRoom.{IsRoomOf};
+    ghost use Rattle.std.specs.Prelude.{map as list_map};
+    ghost use Rattle.xs_keys.specs.KeysRoom.{IsRoomOf, key_state_of};
     ghost use Rattle.xs_keys.specs.Waiting.{IsAnsweredNull, IsAnsweredOtherwise, ChangesNothing};
 
     /// The empty keyspace. It takes no memory.
@@ -77,6 +80,13 @@ impl Keyspace {
         ensures { result ≡ length self.now.entries }
     {
         self.keys.len()
+    }
+
+    /// The keys with what they hold, in the order of the names' bytes.
+    pub fn iter(&self) -> Entries<'_, Bytes, Slot>
+        ensures { list_map (λ e. (e.0, key_state_of e.1)) result ≡ self.now.entries }
+    {
+        self.keys.iter()
     }
 
     /// How many bytes they are counted with, modulo 2^128.

@@ -1,6 +1,6 @@
 //! The records of a snapshot, written to a tape one by one.
 ghost use Rattle.std.specs.Prelude.{◌≡◌, ◌≢◌, ◌∷◌, [], ◌++◌, ℕ, List, Option, false, true, decimal, length};
-ghost use Rattle.std.specs.Prelude.{◌≤◌, ◌<◌, ◌-◌, ◌^◌, IfOk, OnOk, Err};
+ghost use Rattle.std.specs.Prelude.{◌≤◌, ◌<◌, ◌+◌, ◌-◌, ◌^◌, IfOk, OnOk, Err};
 ghost use Rattle.xs_tape.specs.Records.{CanBeSpelled, record_words, record_text};
 ghost use Rattle.xs_tape.specs.Writing.{Has, Puts};
 ghost use Rattle.xs_replay.specs.Pieces as content;
@@ -164,6 +164,7 @@ pub(crate) fn put_piece<T: Tape + Drop>(
         kind.now ≡ kind_of piece → values.now ≡ values_of piece → Fits piece →
         OnOk result (HasPut number closed (record { writing = writer.new; count = count.new }) moment
         (pieces ++ piece ∷ [])) }
+    ensures count { OnOk result (count.new ≡ count.old + 1) }
     ensures sound { OnOk result (writer.new.broken ≡ false) }
     ensures device { result ≡ Err WriteFault.Device → writer.new.broken ≡ true }
     ensures long { result ≡ Err WriteFault.TooLong → AreShort values.now → count.old < 2 ^ 64 - 1 → ⊥ }

@@ -1,5 +1,5 @@
 //! A writer of a snapshot, piece by piece.
-ghost use Rattle.std.specs.Prelude.{◌≡◌, ◌≢◌, ◌∷◌, [], ◌++◌, ◌-◌, ◌<◌, ◌^◌, ℕ, List, Option, Err, false, true};
+ghost use Rattle.std.specs.Prelude.{◌≡◌, ◌≢◌, ◌∷◌, [], ◌++◌, ◌+◌, ◌-◌, ◌<◌, ◌^◌, ℕ, List, Option, Err, false, true};
 ghost use Rattle.std.specs.Prelude.{IfOk, OnOk};
 ghost use Rattle.xs_replay.specs.Pieces as content;
 ghost use Rattle.xs_replay.specs.SnapshotWords.{values_of};
@@ -51,6 +51,7 @@ impl<T: Tape + Drop> SnapshotWriter<T> {
         requires { T.broken tape ≡ false }
         ensures has { IfOk result (λ writer. (closed : List (List ℕ)) → IsEmptyFile closed (T.holds tape) →
             HasPut number closed writer moment []) }
+        ensures none { IfOk result (λ writer. writer.count ≡ 0) }
         ensures sound { IfOk result (λ writer. writer.writing.broken ≡ false) }
         ensures short { result ≢ Err WriteFault.TooLong }
     {
@@ -86,6 +87,7 @@ impl<T: Tape + Drop> SnapshotWriter<T> {
             HasPut number closed self.old moment pieces →
             OnOk result (HasPut number closed self.new moment
             (pieces ++ content.of_key name.now top added deleted ∷ [])) }
+        ensures count { OnOk result (self.new.count ≡ self.old.count + 1) }
         ensures sound { OnOk result (self.new.writing.broken ≡ false) }
         ensures device { result ≡ Err WriteFault.Device → self.new.writing.broken ≡ true }
         ensures long { result ≡ Err WriteFault.TooLong →
@@ -113,6 +115,7 @@ impl<T: Tape + Drop> SnapshotWriter<T> {
         ensures has { (number : ℕ) (closed : List (List ℕ)) (moment : Option ℕ) (pieces : List content.Piece) →
             HasPut number closed self.old moment pieces →
             OnOk result (HasPut number closed self.new moment (pieces ++ content.of_entry id fields.entry ∷ [])) }
+        ensures count { OnOk result (self.new.count ≡ self.old.count + 1) }
         ensures sound { OnOk result (self.new.writing.broken ≡ false) }
         ensures device { result ≡ Err WriteFault.Device → self.new.writing.broken ≡ true }
         ensures long { result ≡ Err WriteFault.TooLong → AreShort (values_of (content.of_entry id fields.entry)) →
@@ -139,6 +142,7 @@ impl<T: Tape + Drop> SnapshotWriter<T> {
         ensures has { (number : ℕ) (closed : List (List ℕ)) (moment : Option ℕ) (pieces : List content.Piece) →
             HasPut number closed self.old moment pieces →
             OnOk result (HasPut number closed self.new moment (pieces ++ content.of_group name.now cursor ∷ [])) }
+        ensures count { OnOk result (self.new.count ≡ self.old.count + 1) }
         ensures sound { OnOk result (self.new.writing.broken ≡ false) }
         ensures device { result ≡ Err WriteFault.Device → self.new.writing.broken ≡ true }
         ensures long { result ≡ Err WriteFault.TooLong → AreShort (values_of (content.of_group name.now cursor)) →
@@ -165,6 +169,7 @@ impl<T: Tape + Drop> SnapshotWriter<T> {
         ensures has { (number : ℕ) (closed : List (List ℕ)) (moment : Option ℕ) (pieces : List content.Piece) →
             HasPut number closed self.old moment pieces →
             OnOk result (HasPut number closed self.new moment (pieces ++ content.of_consumer name.now seen ∷ [])) }
+        ensures count { OnOk result (self.new.count ≡ self.old.count + 1) }
         ensures sound { OnOk result (self.new.writing.broken ≡ false) }
         ensures device { result ≡ Err WriteFault.Device → self.new.writing.broken ≡ true }
         ensures long { result ≡ Err WriteFault.TooLong → AreShort (values_of (content.of_consumer name.now seen)) →
@@ -199,6 +204,7 @@ impl<T: Tape + Drop> SnapshotWriter<T> {
             HasPut number closed self.old moment pieces →
             OnOk result (HasPut number closed self.new moment (pieces
             ++ content.of_row id (record { consumer = consumer.now; time = time; count = deliveries }) ∷ [])) }
+        ensures count { OnOk result (self.new.count ≡ self.old.count + 1) }
         ensures sound { OnOk result (self.new.writing.broken ≡ false) }
         ensures device { result ≡ Err WriteFault.Device → self.new.writing.broken ≡ true }
         ensures long { result ≡ Err WriteFault.TooLong → AreShort (values_of
@@ -239,5 +245,13 @@ impl<T: Tape + Drop> SnapshotWriter<T> {
         ensures { T.holds result.now ≡ self.now.writing.holds }
     {
         self.writer.tape()
+    }
+
+    /// The tape, without what is pending. After `end` nothing is.
+    pub fn into_tape(self) -> T
+        ensures holds { T.holds result ≡ self.writing.holds }
+        ensures broken { T.broken result ≡ self.writing.broken }
+    {
+        self.writer.into_tape()
     }
 }

@@ -18,7 +18,7 @@ use Rattle.xs_stream.specs.StreamContent.{without, entries_after_trim, up_to_lim
 use Rattle.xs_stream.specs.declared.id.Id.{Id}
 use Rattle.xs_stream.specs.declared.field.Field.{Field}
 use Rattle.xs_stream.specs.declared.trim.Trim.TheVariants.{MaxLen, MinId}
-use Rattle.xs_stream.specs.Id.{id_cmp, is_below, is_same_id, has_id}
+use Rattle.xs_stream.specs.Id.{id_cmp, is_below, is_same_id, has_id, zero_id}
 use Rattle.xs_stream.specs.ConsistentStream.{AreValid, AllIds, IsId}
 use Rattle.xs_stream.proofs.Order.{is_same_id-eq, is_same_id-refl, is_same_id-symm, below-not_same, below-not_back}
 use Rattle.xs_stream.proofs.Order.{below-irrefl}
@@ -216,7 +216,12 @@ valid-filter top es p law = record {
   };
   top_is_id = law.top_is_id;
   are_ids = ids-filter p es law.are_ids;
+  above_zero = above-filter p zero_id es law.above_zero;
 }
+
+-- nothing is below 0-0
+zero-least : (x : Id) → is_below x zero_id ≡ false
+zero-least x = grind (arith, nat_tests)
 
 pub valid-push : (top : Id) (es : List (Id × List Field)) (id : Id) (fields : List Field) → AreValid top es → is_below top id ≡ true → IsId id → AreValid id (es ++ (id, fields) ∷ [])
 valid-push top es id fields law above fits =
@@ -228,6 +233,7 @@ valid-push top es id fields law above fits =
       };
       top_is_id = fits;
       are_ids = rw ids (ids-push (ids_of es) id law.are_ids fits);
+      above_zero = rw ids (above-push zero_id (ids_of es) id law.above_zero (up_to-below top zero_id id (zero-least top) above));
     }
 
 -- ---- the first entry

@@ -2,8 +2,8 @@
 use Rattle.std.specs.Prelude.{ℕ, ◌+◌, ◌*◌, ◌<◌, ◌^◌, Bool, not, ◌&&◌, nat_le, List, [], ◌∷◌}
 use Rattle.xs_stream.specs.declared.id.Id.{Id}
 use Rattle.xs_stream.specs.declared.field.Field.{Field}
-use Rattle.xs_stream.specs.Id.{is_below}
-use Rattle.xs_stream.specs.StreamContent.{StreamState, ids_of, Ascends, AllUpTo}
+use Rattle.xs_stream.specs.Id.{is_below, zero_id}
+use Rattle.xs_stream.specs.StreamContent.{StreamState, ids_of, AllAbove, Ascends, AllUpTo}
 
 -- both numbers are below 2^64
 abbrev pub IsId : Id → Type 0
@@ -21,11 +21,12 @@ pub record AreInOrder (top : Id) (entries : List (Id × List Field)) : Type 0 wh
 abbrev pub IsConsistentStream : StreamState → Type 0
 IsConsistentStream stream = AreInOrder stream.top stream.entries
 
--- and the top and all of them fit into ids
+-- and the top and all of them fit into ids, and no entry is at 0-0
 pub record AreValid (top : Id) (entries : List (Id × List Field)) : Type 0 where
   pub consistent : AreInOrder top entries
   pub top_is_id : IsId top
   pub are_ids : AllIds (ids_of entries)
+  pub above_zero : AllAbove zero_id (ids_of entries)
 
 -- how many ids there are below an id
 abbrev pub rank_of : Id → ℕ

@@ -18,6 +18,7 @@ use crate::packed::fields::PackedFields;
 use crate::packed::gap::{cut, take_out};
 use crate::packed::number::after;
 use crate::packed::text::read_text;
+use crate::packed::walk::BlockWalk;
 use crate::packed::walks::{PackedEntries, after_entries, push_rebased};
 use crate::range::Range;
 use std::alloc::{AllocError, Global};
@@ -256,6 +257,20 @@ impl Block {
             count: self.count,
             start: self.start,
             bytes: self.bytes.as_slice(),
+        }
+    }
+
+    /// A walk over its entries.
+    pub(crate) fn walk(&self) -> BlockWalk<'_>
+        ensures { result ≡ self.now.entries }
+    {
+        let bytes = self.bytes.as_slice();
+        let (names, _) = read_text(bytes);
+        BlockWalk {
+            base: self.base,
+            left: self.count,
+            names,
+            rest: after(bytes, self.start),
         }
     }
 

@@ -16,8 +16,10 @@ use crate::block::Block;
 use crate::entry::Entry;
 use crate::field::Field;
 use crate::id::Id;
+use crate::lent::LentEntries;
 use crate::packed::entry::values_size;
 use crate::packed::fields::PackedFields;
+use crate::packed::walk::BlockWalk;
 use crate::range::Range;
 use crate::trim::Trim;
 use std::alloc::{AllocError, Global};
@@ -119,6 +121,18 @@ impl Entries {
         match from.next() {
             Some((_, block)) => block.get(id),
             None => self.newest.get(id),
+        }
+    }
+
+    /// All entries, lent one by one.
+    pub(crate) fn iter(&self) -> LentEntries<'_>
+        requires { IsLaidDown self.now }
+        ensures { result ≡ all_of self.now }
+    {
+        LentEntries {
+            block: BlockWalk::over_nothing(),
+            older: self.older.iter(),
+            newest: self.newest.walk(),
         }
     }
 

@@ -5,4 +5,5 @@ pub mod fields;
 pub(crate) mod gap;
 pub(crate) mod number;
 pub(crate) mod text;
+pub(crate) mod walk;
 pub(crate) mod walks;

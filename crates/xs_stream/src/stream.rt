@@ -1,5 +1,5 @@
 //! A stream: its top id and its entries, in the order of their ids.
-ghost use Rattle.std.specs.Prelude.{◌≡◌, ◌↔◌, ◌+◌, ◌-◌, ◌^◌, ◌<◌, ◌++◌, ◌∷◌, [], true, false, Ok};
+ghost use Rattle.std.specs.Prelude.{◌≡◌, ◌↔◌, ◌+◌, ◌-◌, ◌^◌, ◌<◌, ◌≤◌, ◌++◌, ◌∷◌, [], true, false, Ok};
 ghost use Rattle.std.specs.Prelude.{Err, IfOk, OnOk, OnErr, IsErrOf, length};
 ghost use Rattle.std.specs.Prelude.{filter};
 ghost use Rattle.xs_stream.specs.Id.{zero_id, is_below, id_of_addition};
@@ -7,13 +7,14 @@ ghost use Rattle.xs_stream.specs.StreamContent.{ids_of, fields_at, entries_after
 ghost use Rattle.xs_stream.specs.StreamContent.{with_entry, with_deleted};
 ghost use Rattle.xs_stream.specs.StreamContent.{ids_within, entries_within, up_to_limit, AreEntriesOf};
 ghost use Rattle.xs_stream.specs.StreamContent.{Ascends, AllUpTo, state_of};
-ghost use Rattle.xs_stream.specs.ConsistentStream.{is_history_after};
+ghost use Rattle.xs_stream.specs.ConsistentStream.{is_history_after, AreValid, rank_of};
 
 use crate::add::{AddError, AddId};
 use crate::entries::Entries;
 use crate::entry::Entry;
 use crate::field::Field;
 use crate::id::Id;
+use crate::lent::LentEntries;
 use crate::moment::Moment;
 use crate::packed::fields::PackedFields;
 use crate::range::Range;
@@ -106,6 +107,16 @@ impl Stream {
         ensures small { result < 2 ^ 127 }
     {
         self.entries.room()
+    }
+
+    /// The entries in the order of their ids, lent one by one. None is copied.
+    pub fn iter(&self) -> LentEntries<'_>
+        ensures rest { result ≡ self.now.entries }
+        ensures valid { AreValid self.now.top self.now.entries }
+        // Each addition had an id of its own.
+        ensures few { self.now.added ≤ rank_of self.now.top }
+    {
+        self.entries.iter()
     }
 
     /// The fields of an entry.

@@ -55,6 +55,14 @@ impl<T: Tape + Drop> LogWriter<T> {
         &self.tape
     }
 
+    /// The tape, without what is pending.
+    pub fn into_tape(self) -> T
+        ensures holds { T.holds result ≡ self.holds }
+        ensures broken { T.broken result ≡ self.broken }
+    {
+        self.tape
+    }
+
     /// How many bytes the last file of the tape has.
     pub fn size(&self) -> u64
         ensures { IfSome self.now.holds (λ tape. result ≡ length tape.written) }

@@ -18,6 +18,7 @@ invariant_of-self c =
         };
         top_is_id = (omega arith, omega arith);
         are_ids = valid.are_ids;
+        above_zero = valid.above_zero;
       };
       few = omega arith;
       laid_down = c.self.invariant.laid_down;

@@ -1,0 +1,2 @@
+pub mod Restorable
+pub mod Writing

@@ -1,0 +1,2 @@
+//! Tests of snapshots of a keyspace.
+mod written;
