@@ -32,20 +32,20 @@ name-above a b h = nat_list_cmp_total.antisymm b a ∙ ap ordering_reverse (less
 pub name-trans : (a b c : List ℕ) → is_name_before a b ≡ true → is_name_before b c ≡ true → is_name_before a c ≡ true
 name-trans a b c h k = ap is_lt (nat_list_cmp_total.trans a b c (less_from _ h) (less_from _ k))
 
-past-joined : (p q a b : Bool) → p ≡ (a && b) → (a ≡ true → q ≡ true) → p ≡ (q && (a && b))
+pub past-joined : (p q a b : Bool) → p ≡ (a && b) → (a ≡ true → q ≡ true) → p ≡ (q && (a && b))
 past-joined p q true b e h = rw (h refl) e
 past-joined p true false b e h = e
 past-joined p false false b e h = e
 
-rises : (a b : Bool) → T (a && b) → a ≡ true
+pub rises : (a b : Bool) → T (a && b) → a ≡ true
 rises true b h = refl
 rises false b h = absurd h
 
-front : (a b : Bool) → T (a && b) → T a
+pub front : (a b : Bool) → T (a && b) → T a
 front true b h = tt
 front false b h = h
 
-tail : (a b : Bool) → T (a && b) → T b
+pub tail : (a b : Bool) → T (a && b) → T b
 tail true b h = h
 tail false b h = absurd h
 

@@ -16,6 +16,6 @@ pub returns-in-Some : goal.returns-in-Some
 returns-in-Some g c =
     let m = c.self.inside.entries in
     let ordered = c.len.ensures.ordered in
-    rw (← c.self.view_is) (?
+    rw (← c.self.view_is) (c.lt.ensures
     ∙ past-last m.entries c.args.name.now _ _ (is_sorted-from (slice_cmp nat_cmp) m.entries ordered) c.in-Some.ensures.last
     ∙ sym (past-entries m c.args.name.now ordered))

@@ -1,0 +1,2 @@
+pub mod PiecesBehind
+pub mod LastConsumers

@@ -1,0 +1,3 @@
+pub mod Building
+pub mod NextPiece
+pub mod BuildingCodes
