@@ -1,2 +1,3 @@
 pub mod PiecesBehind
 pub mod LastConsumers
+pub mod KeysSoFar

@@ -80,6 +80,16 @@ pub pieces-new_key : (name : Bytes) (top : Id) (added : ℕ) (deleted : Id)
 unfolding empty
 pieces-new_key name top added deleted = refl
 
+-- a group behind the last one, which goes to the others
+pub group-next : (name : Bytes) (stream : StreamState) (old new : NameMap GroupState) (last : Option (Bytes × GroupState)) (next : Bytes) (cursor : Id)
+    → flat_map pieces_of_group new.entries ≡ flat_map pieces_of_group old.entries ++ pieces_if_there pieces_of_group last
+    → pieces_of_key_so_far (record { key = (name, record { stream = stream; groups = new }); group = Some (next, new_group cursor) })
+    ≡ pieces_of_key_so_far (record { key = (name, record { stream = stream; groups = old }); group = last }) ++ of_group next cursor ∷ []
+group-next name stream old new last next cursor is =
+    let before : List Piece = pieces_of_key (name, record { stream = stream; groups = old }) ++ pieces_if_there pieces_of_group last in
+    ap (λ ps. ps ++ pieces_of_group (next, new_group cursor)) (groups-behind name stream old new (pieces_if_there pieces_of_group last) is)
+    ∙ ap (λ ps. before ++ ps) (pieces-new_group next cursor)
+
 -- ---- of a list
 
 -- one more
@@ -87,6 +97,15 @@ pub one-more : {X : Type 0} (pieces : X → List Piece) (old new : List X) (x : 
 one-more pieces old new x is =
     ap (flat_map pieces) is ∙ flat_map-append pieces old (x ∷ []) ∙ ap (λ ps. flat_map pieces old ++ ps) (append-nil (pieces x))
 
--- the first of one more
-pub one-behind : (before old new last : List Piece) (piece : Piece) → new ≡ old ++ last → before ++ new ++ piece ∷ [] ≡ (before ++ (old ++ last)) ++ piece ∷ []
-one-behind before old new last piece is = rw is (refl)
+-- ---- of a content
+
+-- a key behind the last one, which goes to the others
+pub key-next : (old new : Content) (last : Option KeySoFar) (name : Bytes) (top : Id) (added : ℕ) (deleted : Id)
+    → pieces_of new ≡ pieces_of old ++ pieces_if_there pieces_of_key_so_far last
+    → pieces_so_far (record { content = new; key = Some (record { key = (name, record { stream = record { top = top; entries = []; added = added; deleted = deleted }; groups = empty }); group = None }) })
+    ≡ pieces_so_far (record { content = old; key = last }) ++ of_key name top added deleted ∷ []
+key-next old new last name top added deleted is =
+    let before : List Piece = pieces_of old ++ pieces_if_there pieces_of_key_so_far last in
+    let first : KeyState = record { stream = record { top = top; entries = []; added = added; deleted = deleted }; groups = empty } in
+    ap (λ ps. ps ++ (pieces_of_key (name, first) ++ [])) is
+    ∙ ap (λ ps. before ++ ps) (append-nil (pieces_of_key (name, first)) ∙ pieces-new_key name top added deleted)

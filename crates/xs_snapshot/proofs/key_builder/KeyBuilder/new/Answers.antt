@@ -1,0 +1,5 @@
+use Rattle.xs_snapshot.proofs.KeysSoFar.{nothing-so_far}
+use Rattle.xs_snapshot.proofs.key_builder.KeyBuilder.new.Goals as goal
+
+pub invariant_of-result : goal.invariant_of-result
+invariant_of-result c = nothing-so_far c.new.result c.new-2.result c.new.ensures c.new-2.ensures
