@@ -23,6 +23,10 @@ nothing-so_far stream groups is none = record {
   groups_are_first = ap (λ (m : NameMap GroupState). m.entries) none;
 }
 
+pub no-groups : (groups : NameMap GroupState) → groups ≡ empty → groups.entries ≡ []
+unfolding empty
+no-groups groups none = ap (λ (m : NameMap GroupState). m.entries) none
+
 -- with an entry more
 pub entry-so_far : (old new : StreamInMemory) (groups : NameMap GroupState) (group : Option (Bytes × GroupState)) (id : Id) (fields : List Field) → IsKeySoFar old groups group
     → state_of new ≡ with_entry id fields (state_of old) → IsKeySoFar new groups group

@@ -68,7 +68,7 @@ impl GroupBuilder {
         moment: Moment,
     ) -> Result<bool, AllocError>
         ensures next { IfOk result (λ put. put ≡ is_next_consumer name self.old.1) }
-        ensures ok { IfOk result (λ put. put ≡ true → pieces_of_group self.new
+        ensures behind { IfOk result (λ put. put ≡ true → pieces_of_group self.new
             ≡ pieces_of_group self.old ++ of_consumer name moment ∷ []) }
         ensures err { OnErr result (self.new ≡ self.old) }
     {
@@ -91,7 +91,7 @@ impl GroupBuilder {
         count: U63,
     ) -> Result<bool, AllocError>
         ensures next { IfOk result (λ put. put ≡ is_next_row consumer.now id self.old.1) }
-        ensures ok { IfOk result (λ put. put ≡ true → pieces_of_group self.new ≡ pieces_of_group self.old
+        ensures behind { IfOk result (λ put. put ≡ true → pieces_of_group self.new ≡ pieces_of_group self.old
             ++ of_row id (record { consumer = consumer.now; time = time; count = count }) ∷ []) }
         ensures err { OnErr result (self.new ≡ self.old) }
     {

@@ -1,11 +1,12 @@
 //! A key that is put together of its pieces.
-ghost use Rattle.std.specs.Prelude.{◌≡◌, ◌++◌, ◌∷◌, [], true, None, IfOk, IfSome};
+ghost use Rattle.std.specs.Prelude.{◌≡◌, ◌++◌, ◌∷◌, [], true, None, is_some, IfOk, IfSome};
 ghost use Rattle.std.specs.List.{flat_map};
 ghost use Rattle.xs_bytes.specs.SortedMap.{empty};
 ghost use Rattle.xs_keys.specs.KeysRoom.{key_state_of};
 ghost use Rattle.xs_replay.specs.Pieces.{of_entry, of_group, of_consumer, of_row, pieces_of_group, pieces_of_key};
 ghost use Rattle.xs_snapshot.specs.Building.{pieces_if_there, pieces_of_key_so_far};
-ghost use Rattle.xs_snapshot.specs.NextPiece.{is_next_entry};
+ghost use Rattle.xs_snapshot.specs.NextPiece.{is_next_entry, is_past_if_there, has_next_consumer, has_next_row, may_end};
+ghost use Rattle.xs_snapshot.specs.NextPiece.{AreGroupsFirst};
 
 use crate::group_builder::GroupBuilder;
 use std::alloc::{AllocError, Global};
@@ -51,7 +52,8 @@ impl Model for KeyBuilder {
 
 /// Puts the last group behind the others, if there is one, and says whether its name is above theirs.
 fn push_group(groups: &mut Groups, last: Option<GroupBuilder>) -> Result<bool, AllocError>
-    ensures { IfOk result (λ put. put ≡ true → flat_map pieces_of_group groups.new.entries
+    ensures next { IfOk result (λ put. put ≡ is_past_if_there last groups.old) }
+    ensures behind { IfOk result (λ put. put ≡ true → flat_map pieces_of_group groups.new.entries
         ≡ flat_map pieces_of_group groups.old.entries ++ pieces_if_there pieces_of_group last) }
 {
     let Some(last) = last else {
@@ -65,7 +67,8 @@ impl KeyBuilder {
     /// A key of no entries and no groups, with the top id that it is to have, how many entries were ever added to it,
     /// and the greatest id that was ever deleted from it.
     pub(crate) fn new(alloc: Global, name: Bytes, top: Id, added: u128, deleted: Id) -> Self
-        ensures { result ≡ record {
+        ensures first { AreGroupsFirst result }
+        ensures value { result ≡ record {
           key = (name, record {
             stream = record { top = top; entries = []; added = added; deleted = deleted };
             groups = empty;
@@ -88,8 +91,9 @@ impl KeyBuilder {
     /// isn't above those of all entries.
     pub(crate) fn put_entry(&mut self, id: Id, fields: &[Field]) -> Result<bool, AllocError>
         ensures next { IfOk result (λ put. put ≡ is_next_entry id self.old) }
-        ensures ok { IfOk result (λ put. put ≡ true → pieces_of_key_so_far self.new
+        ensures behind { IfOk result (λ put. put ≡ true → pieces_of_key_so_far self.new
             ≡ pieces_of_key_so_far self.old ++ of_entry id fields.now ∷ []) }
+        ensures first { AreGroupsFirst self.new }
     {
         if self.group.is_some() || id <= self.stream.top() {
             return Ok(false);
@@ -106,8 +110,10 @@ impl KeyBuilder {
         name: Bytes,
         cursor: Id,
     ) -> Result<bool, AllocError>
-        ensures { IfOk result (λ put. put ≡ true → pieces_of_key_so_far self.new
+        ensures next { IfOk result (λ put. put ≡ is_past_if_there self.old.group self.old.key.1.groups) }
+        ensures behind { IfOk result (λ put. put ≡ true → pieces_of_key_so_far self.new
             ≡ pieces_of_key_so_far self.old ++ of_group name cursor ∷ []) }
+        ensures first { AreGroupsFirst self.new }
     {
         let last = self.group.replace(GroupBuilder::new(alloc, name, cursor));
         push_group(&mut self.groups, last)
@@ -121,8 +127,10 @@ impl KeyBuilder {
         name: Bytes,
         moment: Moment,
     ) -> Result<bool, AllocError>
-        ensures { IfOk result (λ put. put ≡ true → pieces_of_key_so_far self.new
+        ensures next { IfOk result (λ put. put ≡ has_next_consumer name self.old) }
+        ensures behind { IfOk result (λ put. put ≡ true → pieces_of_key_so_far self.new
             ≡ pieces_of_key_so_far self.old ++ of_consumer name moment ∷ []) }
+        ensures first { AreGroupsFirst self.new }
     {
         match &mut self.group {
             Some(group) => group.put_consumer(alloc, name, moment),
@@ -140,8 +148,11 @@ impl KeyBuilder {
         time: Moment,
         count: U63,
     ) -> Result<bool, AllocError>
-        ensures { IfOk result (λ put. put ≡ true → pieces_of_key_so_far self.new ≡ pieces_of_key_so_far self.old
+        ensures next { IfOk result (λ put. put ≡ has_next_row consumer.now id self.old) }
+        ensures behind { IfOk result (λ put. put ≡ true → pieces_of_key_so_far self.new
+            ≡ pieces_of_key_so_far self.old
             ++ of_row id (record { consumer = consumer.now; time = time; count = count }) ∷ []) }
+        ensures first { AreGroupsFirst self.new }
     {
         match &mut self.group {
             Some(group) => group.put_row(alloc, id, consumer, time, count),
@@ -152,7 +163,9 @@ impl KeyBuilder {
     /// The key with its name. None if the name of its last group isn't above those of the others, if its top is below
     /// its last entry, or if fewer entries than were added had ids up to its top.
     pub(crate) fn finish(self) -> Result<Option<(Bytes, Slot)>, AllocError>
-        ensures { IfOk result (λ found. IfSome found (λ key. pieces_of_key (key.0, key_state_of key.1)
+        ensures whole { IfOk result (λ found. is_some found ≡ may_end self) }
+        ensures name { IfOk result (λ found. IfSome found (λ key. key.0 ≡ self.key.0)) }
+        ensures pieces { IfOk result (λ found. IfSome found (λ key. pieces_of_key (key.0, key_state_of key.1)
             ≡ pieces_of_key_so_far self)) }
     {
         let Self {

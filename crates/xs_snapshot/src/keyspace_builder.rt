@@ -1,9 +1,10 @@
 //! A keyspace that is put together of the pieces of a snapshot.
-ghost use Rattle.std.specs.Prelude.{◌≡◌, ◌++◌, ◌∷◌, [], true, None, IfOk, IfSome};
+ghost use Rattle.std.specs.Prelude.{◌≡◌, ◌++◌, ◌∷◌, [], true, None, is_some, IfOk, IfSome};
 ghost use Rattle.xs_bytes.specs.SortedMap.{empty};
 ghost use Rattle.xs_replay.specs.Pieces.{of_key, of_entry, of_group, of_consumer, of_row, pieces_of};
 ghost use Rattle.xs_log.specs.PieceOf.{piece_of};
 ghost use Rattle.xs_snapshot.specs.Building.{pieces_if_there, pieces_of_key_so_far, pieces_so_far};
+ghost use Rattle.xs_snapshot.specs.NextPiece.{is_whole, may_follow, IsInOrder};
 
 use crate::key_builder::KeyBuilder;
 use std::alloc::{AllocError, Global};
@@ -26,19 +27,25 @@ pub struct KeyspaceBuilder {
 }
 
 impl Model for KeyspaceBuilder {
+    ghost use Rattle.std.specs.Prelude.{IfSome};
     ghost use Rattle.xs_snapshot.specs.Building.{Building};
     ghost use Rattle.xs_snapshot.specs.BuildingCodes.{coded_building};
+    ghost use Rattle.xs_snapshot.specs.NextPiece.{AreGroupsFirst};
 
     ghost Value = { Building };
 
     ghost coded = { coded_building };
 
     ghost view = { λ b. record { content = b.keyspace; key = b.key } };
+
+    ghost invariant = { λ b. IfSome b.key AreGroupsFirst };
 }
 
 /// Puts the last key behind the others, if there is one, and says whether it is whole and its name is above theirs.
 fn push_key(keyspace: &mut Keyspace, last: Option<KeyBuilder>) -> Result<bool, AllocError>
-    ensures { IfOk result (λ put. put ≡ true → pieces_of keyspace.new
+    ensures next { IfOk result (λ put. put
+        ≡ is_whole (record { content = keyspace.old; key = last })) }
+    ensures behind { IfOk result (λ put. put ≡ true → pieces_of keyspace.new
         ≡ pieces_of keyspace.old ++ pieces_if_there pieces_of_key_so_far last) }
 {
     let Some(last) = last else {
@@ -53,7 +60,8 @@ fn push_key(keyspace: &mut Keyspace, last: Option<KeyBuilder>) -> Result<bool, A
 impl KeyspaceBuilder {
     /// Of no pieces.
     pub fn new(alloc: Global) -> Self
-        ensures { result ≡ record { content = empty; key = None } }
+        ensures value { result ≡ record { content = empty; key = None } }
+        ensures order { IsInOrder result }
     {
         Self {
             alloc,
@@ -67,8 +75,10 @@ impl KeyspaceBuilder {
     /// there or past the cursor of its group, an entry or a group before any key, a consumer or a row before any group,
     /// and a key or a group behind one that isn't whole.
     pub fn put(&mut self, piece: Piece) -> Result<bool, AllocError>
-        ensures { IfOk result (λ put. put ≡ true → pieces_so_far self.new
+        ensures next { IfOk result (λ put. put ≡ may_follow self.old (piece_of piece)) }
+        ensures behind { IfOk result (λ put. put ≡ true → pieces_so_far self.new
             ≡ pieces_so_far self.old ++ piece_of piece ∷ []) }
+        ensures order { IsInOrder self.new }
     {
         match piece {
             Piece::Key {
@@ -91,7 +101,8 @@ impl KeyspaceBuilder {
 
     /// The keyspace, or None if the last key isn't whole.
     pub fn finish(self) -> Result<Option<Keyspace>, AllocError>
-        ensures { IfOk result (λ found. IfSome found (λ keyspace. pieces_of keyspace ≡ pieces_so_far self)) }
+        ensures whole { IfOk result (λ found. is_some found ≡ is_whole self) }
+        ensures pieces { IfOk result (λ found. IfSome found (λ keyspace. pieces_of keyspace ≡ pieces_so_far self)) }
     {
         let Self {
             mut keyspace, key, ..
@@ -109,8 +120,10 @@ impl KeyspaceBuilder {
         added: u128,
         deleted: Id,
     ) -> Result<bool, AllocError>
-        ensures { IfOk result (λ put. put ≡ true → pieces_so_far self.new
+        ensures next { IfOk result (λ put. put ≡ may_follow self.old (of_key name top added deleted)) }
+        ensures behind { IfOk result (λ put. put ≡ true → pieces_so_far self.new
             ≡ pieces_so_far self.old ++ of_key name top added deleted ∷ []) }
+        ensures order { IsInOrder self.new }
     {
         let last = self
             .key
@@ -119,8 +132,10 @@ impl KeyspaceBuilder {
     }
 
     fn put_entry(&mut self, id: Id, fields: &[Field]) -> Result<bool, AllocError>
-        ensures { IfOk result (λ put. put ≡ true → pieces_so_far self.new
+        ensures next { IfOk result (λ put. put ≡ may_follow self.old (of_entry id fields.now)) }
+        ensures behind { IfOk result (λ put. put ≡ true → pieces_so_far self.new
             ≡ pieces_so_far self.old ++ of_entry id fields.now ∷ []) }
+        ensures order { IsInOrder self.new }
     {
         self.keyspace.hold_room(fields);
         match &mut self.key {
@@ -130,8 +145,10 @@ impl KeyspaceBuilder {
     }
 
     fn put_group(&mut self, name: Bytes, cursor: Id) -> Result<bool, AllocError>
-        ensures { IfOk result (λ put. put ≡ true → pieces_so_far self.new
+        ensures next { IfOk result (λ put. put ≡ may_follow self.old (of_group name cursor)) }
+        ensures behind { IfOk result (λ put. put ≡ true → pieces_so_far self.new
             ≡ pieces_so_far self.old ++ of_group name cursor ∷ []) }
+        ensures order { IsInOrder self.new }
     {
         match &mut self.key {
             Some(key) => key.put_group(self.alloc, name, cursor),
@@ -140,8 +157,10 @@ impl KeyspaceBuilder {
     }
 
     fn put_consumer(&mut self, name: Bytes, moment: Moment) -> Result<bool, AllocError>
-        ensures { IfOk result (λ put. put ≡ true → pieces_so_far self.new
+        ensures next { IfOk result (λ put. put ≡ may_follow self.old (of_consumer name moment)) }
+        ensures behind { IfOk result (λ put. put ≡ true → pieces_so_far self.new
             ≡ pieces_so_far self.old ++ of_consumer name moment ∷ []) }
+        ensures order { IsInOrder self.new }
     {
         match &mut self.key {
             Some(key) => key.put_consumer(self.alloc, name, moment),
@@ -156,8 +175,11 @@ impl KeyspaceBuilder {
         time: Moment,
         count: U63,
     ) -> Result<bool, AllocError>
-        ensures { IfOk result (λ put. put ≡ true → pieces_so_far self.new ≡ pieces_so_far self.old
+        ensures next { IfOk result (λ put. put ≡ may_follow self.old
+            (of_row id (record { consumer = consumer.now; time = time; count = count }))) }
+        ensures behind { IfOk result (λ put. put ≡ true → pieces_so_far self.new ≡ pieces_so_far self.old
             ++ of_row id (record { consumer = consumer.now; time = time; count = count }) ∷ []) }
+        ensures order { IsInOrder self.new }
     {
         match &mut self.key {
             Some(key) => key.put_row(self.alloc, id, consumer, time, count),

@@ -13,8 +13,8 @@ invariant_of-self-2 c =
     let past = subst (λ (e : Bytes × GroupState). is_past_names c.args.name e.1.consumers ≡ true) (sym c.self.view_is) (sym c.is_past.ensures ∙ c.if-not-is_past.false) in
     rw c.in_ok-add_consumer.ensures.ok (sym (ap last_name (consumers-more c.args.name c.args.moment group past) ∙ last-more group.consumers.entries (c.args.name, c.args.moment)))
 
-pub returns-clause-ok : goal.returns-clause-ok
-returns-clause-ok c = λ put.
+pub returns-clause-behind : goal.returns-clause-behind
+returns-clause-behind c = λ put.
     let name = c.self.inside.name in
     let group = c.self.inside.group in
     let past = subst (λ (e : Bytes × GroupState). is_past_names c.args.name e.1.consumers ≡ true) (sym c.self.view_is) (sym c.is_past.ensures ∙ c.if-not-is_past.false) in

@@ -9,8 +9,8 @@ use Rattle.xs_snapshot.specs.Building.{pieces_if_there, KeySoFar, pieces_of_key_
 use Rattle.xs_snapshot.proofs.PiecesBehind.{group-next}
 use Rattle.xs_snapshot.proofs.key_builder.KeyBuilder.put_group.Goals as goal
 
-pub returns : goal.returns
-returns c =
+pub returns-clause-behind : goal.returns-clause-behind
+returns-clause-behind c =
     let inside = c.self.inside in
     let groups = c.push_group.new.groups in
     let stream : StreamState = record { top = inside.top; entries = inside.stream.entries; added = inside.added; deleted = inside.deleted } in
@@ -19,4 +19,4 @@ returns c =
     ap (λ (g : Option (Bytes × GroupState)). pieces_of_key_so_far (record { key = (inside.name, record { stream = stream; groups = groups }); group = g })) next
     ∙ group-next inside.name stream inside.groups groups inside.group c.args.name c.args.cursor
     (is same ∙ ap (λ (g : Option (Bytes × GroupState)). flat_map pieces_of_group inside.groups.entries ++ pieces_if_there pieces_of_group g) c.replace-last.ensures.value)
-    ∙ ap (λ (k : KeySoFar). pieces_of_key_so_far k ++ of_group c.args.name c.args.cursor ∷ []) c.self.view_is) c.push_group.ensures
+    ∙ ap (λ (k : KeySoFar). pieces_of_key_so_far k ++ of_group c.args.name c.args.cursor ∷ []) c.self.view_is) c.push_group.ensures.behind
