@@ -23,9 +23,9 @@ nothing-so_far stream groups is none = record {
   groups_are_first = ap (λ (m : NameMap GroupState). m.entries) none;
 }
 
-pub no-groups : (groups : NameMap GroupState) → groups ≡ empty → groups.entries ≡ []
+pub no-entries : {X : Type 0} (m : NameMap X) → m ≡ empty → m.entries ≡ []
 unfolding empty
-no-groups groups none = ap (λ (m : NameMap GroupState). m.entries) none
+no-entries {X} m none = ap (λ (n : NameMap X). n.entries) none
 
 -- with an entry more
 pub entry-so_far : (old new : StreamInMemory) (groups : NameMap GroupState) (group : Option (Bytes × GroupState)) (id : Id) (fields : List Field) → IsKeySoFar old groups group

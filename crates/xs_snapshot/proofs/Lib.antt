@@ -1,3 +1,4 @@
 pub mod PiecesBehind
 pub mod LastConsumers
 pub mod KeysSoFar
+pub mod PiecesInTurn

@@ -1,5 +1,5 @@
 -- Which piece may come next.
-use Rattle.std.specs.Prelude.{◌≡◌, ◌==◌, ℕ, Bool, ◌&&◌, List, [], ◌∷◌, length, Option, Some, None, is_none, IfNone, IfSome, true, false}
+use Rattle.std.specs.Prelude.{◌≡◌, ◌==◌, ℕ, Bool, ◌&&◌, List, [], ◌∷◌, length, Option, Some, None, is_none, IfNone, MatchOption, true, false, ◌++◌}
 use Rattle.std.specs.Option.{option_map_or}
 use Rattle.xs_stream.specs.declared.id.Id.{Id}
 use Rattle.xs_stream.specs.Id.{is_below, zero_id}
@@ -11,7 +11,7 @@ use Rattle.xs_keys.specs.Terms.{NameMap}
 use Rattle.xs_keys.specs.Event.{Bytes, Entries}
 use Rattle.xs_keys.specs.NextName.{is_past_names}
 use Rattle.xs_replay.specs.Pieces.{Piece, of_key, of_entry, of_group, of_consumer, of_row}
-use Rattle.xs_snapshot.specs.Building.{KeySoFar, Building}
+use Rattle.xs_snapshot.specs.Building.{KeySoFar, Building, pieces_so_far}
 
 -- the name of the last entry, if there is one
 abbrev pub last_name : {X : Type 0} → List (Bytes × X) → Option Bytes
@@ -62,12 +62,18 @@ may_follow b (of_group name cursor) = option_map_or (λ k. is_past_if_there k.gr
 may_follow b (of_consumer name moment) = option_map_or (has_next_consumer name) b.key false
 may_follow b (of_row id row) = option_map_or (has_next_row row.consumer id) b.key false
 
--- groups stand before the last one only
+-- other groups of a key, and other keys, stand before the last one only
 abbrev pub AreGroupsFirst : KeySoFar → Type 0
 AreGroupsFirst k = IfNone k.group (k.key.1.groups.entries ≡ [])
 
 abbrev pub IsInOrder : Building → Type 0
-IsInOrder b = IfSome b.key AreGroupsFirst
+IsInOrder b = MatchOption b.key (b.content.entries ≡ []) AreGroupsFirst
+
+-- pieces of which each may follow those before it, and the end may follow the last
+pub record AreFitting (pieces : List Piece) : Type 0 where
+  pub follows : (b : Building) (piece : Piece) (more : List Piece) → IsInOrder b →
+      pieces ≡ pieces_so_far b ++ piece ∷ more → may_follow b piece ≡ true
+  pub ends : (b : Building) → IsInOrder b → pieces ≡ pieces_so_far b → is_whole b ≡ true
 
 -- the top of a stream is that of its last entry, and groups stand before the last one only
 pub record IsKeySoFar (stream : StreamInMemory) (groups : NameMap GroupState) (group : Option (Bytes × GroupState)) : Type 0 where

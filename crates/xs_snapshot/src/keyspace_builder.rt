@@ -27,7 +27,7 @@ pub struct KeyspaceBuilder {
 }
 
 impl Model for KeyspaceBuilder {
-    ghost use Rattle.std.specs.Prelude.{IfSome};
+    ghost use Rattle.std.specs.Prelude.{◌≡◌, [], MatchOption};
     ghost use Rattle.xs_snapshot.specs.Building.{Building};
     ghost use Rattle.xs_snapshot.specs.BuildingCodes.{coded_building};
     ghost use Rattle.xs_snapshot.specs.NextPiece.{AreGroupsFirst};
@@ -38,7 +38,7 @@ impl Model for KeyspaceBuilder {
 
     ghost view = { λ b. record { content = b.keyspace; key = b.key } };
 
-    ghost invariant = { λ b. IfSome b.key AreGroupsFirst };
+    ghost invariant = { λ b. MatchOption b.key (b.keyspace.entries ≡ []) AreGroupsFirst };
 }
 
 /// Puts the last key behind the others, if there is one, and says whether it is whole and its name is above theirs.

@@ -1,17 +1,43 @@
 //! A keyspace is read from a snapshot.
-ghost use Rattle.std.specs.Prelude.{◌≡◌, ℕ, List, Some, IfOk};
+ghost use Rattle.std.specs.Prelude.{◌≡◌, ◌++◌, ◌∷◌, [], ℕ, List, Some, true, IfOk, IfErr, OnOk};
 ghost use Rattle.xs_devices.specs.Passing.{known_by};
+ghost use Rattle.xs_replay.specs.After.{ServerState};
+ghost use Rattle.xs_replay.specs.Pieces.{pieces_of};
 ghost use Rattle.xs_replay.specs.Snapshot.{IsSnapshotFile};
+ghost use Rattle.xs_log.specs.PieceOf.{piece_of};
+ghost use Rattle.xs_log.specs.SnapshotFault.{HasRunOut};
+ghost use Rattle.xs_snapshot.specs.Building.{pieces_so_far};
+ghost use Rattle.xs_snapshot.specs.NextPiece.{is_whole, may_follow, IsInOrder, AreFitting};
 
 use crate::keyspace_builder::KeyspaceBuilder;
 use std::alloc::{AllocError, Global};
 use xs_devices::Source;
 use xs_keys::Keyspace;
-use xs_log::{SnapshotFault, SnapshotReader};
+use xs_log::{Piece, SnapshotFault, SnapshotReader};
 use xs_stream::Moment;
 
+/// Puts the next piece, behind so many.
+fn put_next(
+    builder: &mut KeyspaceBuilder,
+    piece: Piece,
+    count: u64,
+) -> Result<(), SnapshotFault>
+    ensures ok { OnOk result (pieces_so_far builder.new ≡ pieces_so_far builder.old ++ piece_of piece ∷ []) }
+    ensures order { IsInOrder builder.new }
+    ensures err { may_follow builder.old (piece_of piece) ≡ true → IfErr result HasRunOut }
+{
+    match builder.put(piece) {
+        Ok(true) => Ok(()),
+        Ok(false) => Err(SnapshotFault::Inconsistent(count)),
+        Err(AllocError) => Err(SnapshotFault::Memory),
+    }
+}
+
 /// The keyspace of so many pieces, all that there are.
-fn finish(builder: KeyspaceBuilder, count: u64) -> Result<Keyspace, SnapshotFault> {
+fn finish(builder: KeyspaceBuilder, count: u64) -> Result<Keyspace, SnapshotFault>
+    ensures ok { IfOk result (λ keyspace. pieces_of keyspace ≡ pieces_so_far builder) }
+    ensures err { is_whole builder ≡ true → IfErr result HasRunOut }
+{
     match builder.finish() {
         Ok(Some(keyspace)) => Ok(keyspace),
         Ok(None) => Err(SnapshotFault::Inconsistent(count)),
@@ -32,18 +58,19 @@ pub fn read_snapshot<R: Source + Drop>(
     // All bytes of the source are a snapshot of what is given.
     ensures ok { (bytes : List ℕ) → known_by R.rest source ≡ Some bytes →
         IfOk result (λ read. IsSnapshotFile number bytes (record { content = read.0; moment = read.1 })) }
+    // A snapshot with this number whose pieces fit is never refused, unless memory, the source or a number of 64 bits
+    // runs out.
+    ensures err { (bytes : List ℕ) (state : ServerState) → known_by R.rest source ≡ Some bytes →
+        IsSnapshotFile number bytes state → AreFitting (pieces_of state.content) → IfErr result HasRunOut }
 {
     let (mut reader, moment) = SnapshotReader::open(alloc, number, source)?;
     let mut builder = KeyspaceBuilder::new(alloc);
     for count in 0..u64::MAX {
         let Some(piece) = reader.next_piece()? else {
-            return Ok((finish(builder, count)?, moment));
+            let keyspace = finish(builder, count)?;
+            return Ok((keyspace, moment));
         };
-        match builder.put(piece) {
-            Ok(true) => {}
-            Ok(false) => return Err(SnapshotFault::Inconsistent(count)),
-            Err(AllocError) => return Err(SnapshotFault::Memory),
-        }
+        put_next(&mut builder, piece, count)?;
     }
     Err(SnapshotFault::TooLong)
 }
