@@ -2,3 +2,4 @@ pub mod PiecesBehind
 pub mod LastConsumers
 pub mod KeysSoFar
 pub mod PiecesInTurn
+pub mod PiecesAhead
