@@ -3,3 +3,4 @@ pub mod LastConsumers
 pub mod KeysSoFar
 pub mod PiecesInTurn
 pub mod PiecesAhead
+pub mod RestorableContents

@@ -14,17 +14,17 @@ use Rattle.xs_keys.specs.Content.{KeyState, Content}
 use Rattle.xs_replay.specs.Pieces.{Piece, of_key, of_entry, of_group, of_consumer, of_row, pieces_of_group, pieces_of_key, pieces_of}
 use Rattle.xs_snapshot.specs.Building.{pieces_if_there, KeySoFar, pieces_of_key_so_far}
 
-abbrev entry_piece : Id × List Field → Piece
+abbrev pub entry_piece : Id × List Field → Piece
 entry_piece x = of_entry x.0 x.1
 
-abbrev consumer_piece : Bytes × ℕ → Piece
+abbrev pub consumer_piece : Bytes × ℕ → Piece
 consumer_piece c = of_consumer c.0 c.1
 
-abbrev row_piece : Id × RowState → Piece
+abbrev pub row_piece : Id × RowState → Piece
 row_piece r = of_row r.0 r.1
 
 -- how deep a piece stands: a key and a group end what is deeper
-abbrev depth : Piece → ℕ
+abbrev pub depth : Piece → ℕ
 depth (of_key name top added deleted) = 0
 depth (of_group name cursor) = 1
 depth (of_entry id fields) = 2
@@ -36,7 +36,7 @@ abbrev pub is_up_to : ℕ → List Piece → Bool
 is_up_to n [] = true
 is_up_to n (p ∷ ps) = nat_le (depth p) n
 
-deeper : (ps : List Piece) (n m : ℕ) → n ≤ m → is_up_to n ps ≡ true → is_up_to m ps ≡ true
+pub deeper : (ps : List Piece) (n m : ℕ) → n ≤ m → is_up_to n ps ≡ true → is_up_to m ps ≡ true
 deeper [] n m le h = refl
 deeper (p ∷ ps) n m le h = grind (arith, nat_tests)
 
@@ -99,7 +99,7 @@ module _ (cs all : List (Bytes × ℕ)) (every : PendingEntries) (read behind : 
   members-by [] (c ∷ more) split rest = record { consumers = c ∷ more; rows = every; consumers_split = split; rows_split = refl; rest = rest; in_order = inr refl }
   members-by (r ∷ rs) (c ∷ more) split rest = absurd (cc)
 
-  members_ahead : (rs : PendingEntries) → (map consumer_piece cs ++ map row_piece rs) ++ read ≡ (map consumer_piece all ++ map row_piece every) ++ behind → MembersAhead cs all rs every read behind
+  pub members_ahead : (rs : PendingEntries) → (map consumer_piece cs ++ map row_piece rs) ++ read ≡ (map consumer_piece all ++ map row_piece every) ++ behind → MembersAhead cs all rs every read behind
   members_ahead rs e =
       let regrouped = sym (append_assoc (map consumer_piece cs) (map row_piece rs) read) ∙ e ∙ append_assoc (map consumer_piece all) (map row_piece every) behind in
       let found = ahead consumer_piece 3 (λ a. refl) same_consumer cs all (map row_piece rs ++ read) (map row_piece every ++ behind) (rows-up_to every behind up) regrouped in
@@ -125,16 +125,16 @@ same_group g h read behind first up e =
 
 -- ---- of groups
 
-groups-up_to : (gs : List (Bytes × GroupState)) (behind : List Piece) → is_up_to 1 behind ≡ true → is_up_to 1 (flat_map pieces_of_group gs ++ behind) ≡ true
+pub groups-up_to : (gs : List (Bytes × GroupState)) (behind : List Piece) → is_up_to 1 behind ≡ true → is_up_to 1 (flat_map pieces_of_group gs ++ behind) ≡ true
 groups-up_to [] behind up = up
 groups-up_to (g ∷ gs) behind up = refl
 
-record GroupsAhead (gs all : List (Bytes × GroupState)) (read behind : List Piece) : Type 0 where
+pub record GroupsAhead (gs all : List (Bytes × GroupState)) (read behind : List Piece) : Type 0 where
   pub more : List (Bytes × GroupState)
   pub split : all ≡ gs ++ more
   pub rest : read ≡ flat_map pieces_of_group more ++ behind
 
-groups_ahead : (gs all : List (Bytes × GroupState)) (read behind : List Piece) → is_up_to 1 read ≡ true → is_up_to 0 behind ≡ true
+pub groups_ahead : (gs all : List (Bytes × GroupState)) (read behind : List Piece) → is_up_to 1 read ≡ true → is_up_to 0 behind ≡ true
     → flat_map pieces_of_group gs ++ read ≡ flat_map pieces_of_group all ++ behind → GroupsAhead gs all read behind
 groups_ahead [] all read behind first up e = record { more = all; split = refl; rest = e }
 groups_ahead (g ∷ gs) [] read behind first up e = absurd (false≢true (ap (is_up_to 0) e ∙ up))
@@ -158,7 +158,7 @@ pub record EntriesAhead (k all : Bytes × KeyState) (read behind : List Piece) :
   pub split : all.1.stream.entries ≡ k.1.stream.entries ++ more
   pub rest : flat_map pieces_of_group k.1.groups.entries ++ read ≡ map entry_piece more ++ (flat_map pieces_of_group all.1.groups.entries ++ behind)
 
-entries_ahead : (k all : Bytes × KeyState) (read behind : List Piece) → is_up_to 0 behind ≡ true → pieces_of_key k ++ read ≡ pieces_of_key all ++ behind → EntriesAhead k all read behind
+pub entries_ahead : (k all : Bytes × KeyState) (read behind : List Piece) → is_up_to 0 behind ≡ true → pieces_of_key k ++ read ≡ pieces_of_key all ++ behind → EntriesAhead k all read behind
 entries_ahead k all read behind up e =
     let groups = flat_map pieces_of_group k.1.groups.entries in
     let every = flat_map pieces_of_group all.1.groups.entries in
@@ -168,7 +168,7 @@ entries_ahead k all read behind up e =
     record { name = cc; top = cc; added = cc; deleted = cc; more = found.more; split = found.split; rest = found.rest }
 
 -- no entries are left where a group or a key follows
-no-entries-left : (read behind : List Piece) (more : Entries) → is_up_to 1 read ≡ true → read ≡ map entry_piece more ++ behind → (more ≡ []) × (read ≡ behind)
+pub no-entries-left : (read behind : List Piece) (more : Entries) → is_up_to 1 read ≡ true → read ≡ map entry_piece more ++ behind → (more ≡ []) × (read ≡ behind)
 no-entries-left read behind [] up e = (refl, e)
 no-entries-left read behind (x ∷ more) up e = absurd (false≢true (sym (ap (is_up_to 1) e) ∙ up))
 
@@ -196,7 +196,7 @@ keys-up_to : (ks : List (Bytes × KeyState)) (behind : List Piece) → is_up_to 
 keys-up_to [] behind up = up
 keys-up_to (k ∷ ks) behind up = refl
 
-keys-alone : (ks : List (Bytes × KeyState)) → is_up_to 0 (flat_map pieces_of_key ks) ≡ true
+pub keys-alone : (ks : List (Bytes × KeyState)) → is_up_to 0 (flat_map pieces_of_key ks) ≡ true
 keys-alone [] = refl
 keys-alone (k ∷ ks) = refl
 

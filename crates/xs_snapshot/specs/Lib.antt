@@ -1,3 +1,4 @@
 pub mod Building
 pub mod NextPiece
 pub mod BuildingCodes
+pub mod Restorable
