@@ -3,6 +3,7 @@ use Rattle.std.proofs.Common.{◌≡◌, ◌⊎◌, inl, inr, ℕ, ◌≤◌, Bo
 use Rattle.std.proofs.Common.{refl, sym, ap, ◌∙◌, subst, arith, append_assoc, append-nil, Ordering}
 use Rattle.std.specs.Prelude.{nat_le, ◌==◌, IfNone}
 use Rattle.std.specs.List.{flat_map, list_all, AllByRecursion}
+use Rattle.std.specs.Option.{option_map_or}
 use Rattle.std.specs.Ordering.{nat_cmp, is_lt, is_eq, ordering_reverse}
 use Rattle.std.specs.Cmp.{IsTotalOrder}
 use Rattle.std.specs.Cmp.Lexicographic.{slice_cmp, nat_list_cmp_total}
@@ -158,3 +159,169 @@ last-key before all k rest first e = by found.more found.split found.rest where
         entries = inner.split;
         last = last-in k.group k.key.1.groups.entries key.1.groups.entries inner.more rest (flat_map pieces_of_key later) (keys-alone later) first inner.rest;
       }
+
+-- ---- what stands at the front of what is left
+
+no-key-first : (keys : List (Bytes × KeyState)) (p : Piece) (rest : List Piece) → nat_le (depth p) 0 ≡ false → flat_map pieces_of_key keys ≡ p ∷ rest → ⊥
+no-key-first keys p rest deep e = false≢true (sym deep ∙ ap (is_up_to 0) (sym e) ∙ keys-alone keys)
+
+no-group-first : (groups : List (Bytes × GroupState)) (later : List Piece) (p : Piece) (rest : List Piece) → is_up_to 1 later ≡ true → nat_le (depth p) 1 ≡ false → p ∷ rest ≡ flat_map pieces_of_group groups ++ later → ⊥
+no-group-first groups later p rest up deep e = false≢true (sym deep ∙ ap (is_up_to 1) e ∙ groups-up_to groups later up)
+
+found-row : (rows : Rows) (ds : PendingEntries) (id : Id) (row : RowState) (more : PendingEntries) → rows.entries ≡ ds ++ (id, row) ∷ more → list_all (λ d. is_below d.0 id) ds ≡ true → get rows id ≡ Some row
+unfolding get
+found-row rows ds id row more split past = ap (find id_cmp id) split ∙ find-at id_cmp ids_total ds id row more past
+
+module _ (content before : Content) (k : KeySoFar) (rest : List Piece) (last : LastKey content.entries before.entries k rest) (can : IsRestorable content) where
+  restorable : IsRestorableKey last.key.1
+  restorable = all-at (λ (e : Bytes × KeyState). IsRestorableKey e.1) before.entries last.key last.later (subst (AllByRecursion (λ (e : Bytes × KeyState). IsRestorableKey e.1)) last.split can)
+
+  -- the key is above the others
+  past-keys : is_past_names k.key.0 before ≡ true
+  past-keys = subst (λ n. is_past_names n before ≡ true) (sym last.name) (before-entry (slice_cmp nat_cmp) content before.entries last.key last.later last.split)
+
+  -- and has its history, where it has all its entries
+  history-at : last.more ≡ [] → is_history_after (last_id k.key.1.stream.entries) k.key.1.stream.top k.key.1.stream.added ≡ true
+  history-at none =
+      let stream = restorable.stream in
+      let entries = last.entries ∙ ap (λ xs. k.key.1.stream.entries ++ xs) none ∙ append-nil k.key.1.stream.entries in
+      rw (last.top, last.added, ← entries) stream.history
+
+  -- an entry that is left is above those before it
+  entry-next : (id : Id) (fields : List Field) (more : Entries) → last.more ≡ (id, fields) ∷ more → is_below (last_id k.key.1.stream.entries) id ≡ true
+  entry-next id fields more is =
+      let old = k.key.1.stream.entries in
+      let ids : ids_of last.key.1.stream.entries ≡ ids_of old ++ id ∷ ids_of more =
+      ap ids_of (last.entries ∙ ap (λ xs. old ++ xs) is) ∙ map-append (λ (e : Id × List Field). e.0) old ((id, fields) ∷ more) in
+      above-last zero_id (ids_of old) id (ids_of more) (subst (AllAbove zero_id) ids restorable.stream.above_zero) (subst Ascends ids restorable.stream.ascends)
+
+  module _ (g : Bytes × GroupState) (in_group : LastGroup last.key.1.groups.entries k.key.1.groups.entries g rest (flat_map pieces_of_key last.later)) where
+    can-group : IsRestorableGroup in_group.group.1
+    can-group = all-at (λ (e : Bytes × GroupState). IsRestorableGroup e.1) k.key.1.groups.entries in_group.group in_group.others (subst (AllByRecursion (λ (e : Bytes × GroupState). IsRestorableGroup e.1)) in_group.split restorable.groups)
+
+    -- the group is above the others
+    past-groups : is_past_names g.0 k.key.1.groups ≡ true
+    past-groups = subst (λ n. is_past_names n k.key.1.groups ≡ true) (sym in_group.name) (before-entry (slice_cmp nat_cmp) last.key.1.groups k.key.1.groups.entries in_group.group in_group.others in_group.split)
+
+    -- a consumer that is left is above those before it
+    consumer-next : (name : Bytes) (moment : ℕ) (more : List (Bytes × ℕ)) → in_group.members.consumers ≡ (name, moment) ∷ more → is_next_consumer name g.1 ≡ true
+    consumer-next name moment more is =
+        both_hold _ _ (none g.1.rows.entries in_group.members.in_order)
+        (before-entry (slice_cmp nat_cmp) in_group.group.1.consumers g.1.consumers.entries (name, moment) more (in_group.members.consumers_split ∙ ap (λ cs. g.1.consumers.entries ++ cs) is)) where
+          none : (rs : PendingEntries) → (in_group.members.consumers ≡ []) ⊎ (rs ≡ []) → (length rs == 0) ≡ true
+          none rs (inl e) = let no = sym is ∙ e in absurd (cc)
+          none rs (inr e) = rw e refl
+
+    -- a row that is left may be put
+    row-next : (id : Id) (row : RowState) (more : PendingEntries) → in_group.members.consumers ≡ [] → in_group.members.rows ≡ (id, row) ∷ more → is_next_row row.consumer id g.1 ≡ true
+    row-next id row more none is =
+        let whole = in_group.group.1 in
+        let split = in_group.members.rows_split ∙ ap (λ rs. g.1.rows.entries ++ rs) is in
+        let past = before-entry id_cmp whole.rows g.1.rows.entries (id, row) more split in
+        let found : get whole.rows id ≡ Some row = found-row whole.rows g.1.rows.entries id row more split past in
+        let there : has_key whole.rows id ≡ true = ap is_some found in
+        let owner : is_owner (get whole.rows id) row.consumer ≡ true = ap (λ (r : Option RowState). is_owner r row.consumer) found ∙ is_same_name-refl row.consumer in
+        let consumers = same_entries_map g.1.consumers whole.consumers (sym (in_group.members.consumers_split ∙ ap (λ cs. g.1.consumers.entries ++ cs) none ∙ append-nil g.1.consumers.entries)) in
+        let named : has_name g.1.consumers row.consumer ≡ true = ap (λ (cs : Consumers). has_name cs row.consumer) consumers ∙ can-group.of_consumers row.consumer id owner in
+        let up : is_below g.1.cursor id ≡ false = ap (λ c. is_below c id) in_group.cursor ∙ can-group.up_to_cursor id there in
+        both_hold _ _ named (both_hold _ _ (ap not up) past)
+
+  -- the last group is above the others, if there is one
+  past-if : (group : Option (Bytes × GroupState)) → LastIn group last.key.1.groups.entries k.key.1.groups.entries last.more rest (flat_map pieces_of_key last.later) → is_past_if_there group k.key.1.groups ≡ true
+  past-if None is = refl
+  past-if (Some g) is = past-groups g is.1
+
+  none-more : (group : Option (Bytes × GroupState)) → is_up_to 1 rest ≡ true → LastIn group last.key.1.groups.entries k.key.1.groups.entries last.more rest (flat_map pieces_of_key last.later) → last.more ≡ []
+  none-more None up is = (no-entries-left rest (flat_map pieces_of_group last.key.1.groups.entries ++ flat_map pieces_of_key last.later) last.more up is).0
+  none-more (Some g) up is = is.0
+
+  may-end : is_up_to 1 rest ≡ true → may_end k ≡ true
+  may-end up = both_hold _ _ (past-if k.group last.last) (history-at (none-more k.group up last.last))
+
+-- ---- a piece of each kind
+
+up-to-group : (keys : List (Bytes × KeyState)) → is_up_to 1 (flat_map pieces_of_key keys) ≡ true
+up-to-group keys = deeper (flat_map pieces_of_key keys) 0 1 (omega arith) (keys-alone keys)
+
+module _ (content before : Content) (k : KeySoFar) (rest : List Piece) (can : IsRestorable content) where
+  entry-follows : (id : Id) (fields : List Field) (last : LastKey content.entries before.entries k (of_entry id fields ∷ rest)) (group : Option (Bytes × GroupState))
+      → LastIn group last.key.1.groups.entries k.key.1.groups.entries last.more (of_entry id fields ∷ rest) (flat_map pieces_of_key last.later) → (is_none group && is_below (last_id k.key.1.stream.entries) id) ≡ true
+  entry-follows id fields last None is = by last.more refl is where
+    by : (more : Entries) → last.more ≡ more → of_entry id fields ∷ rest ≡ map entry_piece more ++ (flat_map pieces_of_group last.key.1.groups.entries ++ flat_map pieces_of_key last.later) → is_below (last_id k.key.1.stream.entries) id ≡ true
+    by [] e is = absurd (no-group-first last.key.1.groups.entries (flat_map pieces_of_key last.later) (of_entry id fields) rest (up-to-group last.later) refl is)
+    by (x ∷ more) e is =
+        let same : id ≡ x.0 = cc in
+        rw same (entry-next content before k (of_entry id fields ∷ rest) last can x.0 x.1 more e)
+  entry-follows id fields last (Some g) is = absurd (by is.1.members.consumers is.1.members.rows is.1.members.rest) where
+    by : (cs : List (Bytes × ℕ)) (rs : PendingEntries) → of_entry id fields ∷ rest ≡ map consumer_piece cs ++ (map row_piece rs ++ (flat_map pieces_of_group is.1.others ++ flat_map pieces_of_key last.later)) → ⊥
+    by [] [] e = no-group-first is.1.others (flat_map pieces_of_key last.later) (of_entry id fields) rest (up-to-group last.later) refl e
+    by [] (r ∷ rs) e = cc
+    by (c ∷ cs) rs e = cc
+
+  consumer-follows : (name : Bytes) (moment : ℕ) (last : LastKey content.entries before.entries k (of_consumer name moment ∷ rest)) (group : Option (Bytes × GroupState))
+      → LastIn group last.key.1.groups.entries k.key.1.groups.entries last.more (of_consumer name moment ∷ rest) (flat_map pieces_of_key last.later) → option_map_or (λ (g : Bytes × GroupState). is_next_consumer name g.1) group false ≡ true
+  consumer-follows name moment last None is = absurd (by last.more is) where
+    by : (more : Entries) → of_consumer name moment ∷ rest ≡ map entry_piece more ++ (flat_map pieces_of_group last.key.1.groups.entries ++ flat_map pieces_of_key last.later) → ⊥
+    by [] e = no-group-first last.key.1.groups.entries (flat_map pieces_of_key last.later) (of_consumer name moment) rest (up-to-group last.later) refl e
+    by (x ∷ more) e = cc
+  consumer-follows name moment last (Some g) is = by is.1.members.consumers refl is.1.members.rows is.1.members.rest where
+    by : (cs : List (Bytes × ℕ)) → is.1.members.consumers ≡ cs → (rs : PendingEntries) → of_consumer name moment ∷ rest ≡ map consumer_piece cs ++ (map row_piece rs ++ (flat_map pieces_of_group is.1.others ++ flat_map pieces_of_key last.later)) → is_next_consumer name g.1 ≡ true
+    by [] e [] is' = absurd (no-group-first is.1.others (flat_map pieces_of_key last.later) (of_consumer name moment) rest (up-to-group last.later) refl is')
+    by [] e (r ∷ rs) is' = absurd (cc)
+    by (c ∷ cs) e rs is' =
+        let same : name ≡ c.0 = cc in
+        subst (λ n. is_next_consumer n g.1 ≡ true) (sym same) (consumer-next content before k (of_consumer name moment ∷ rest) last can g is.1 c.0 c.1 cs e)
+
+  row-follows : (id : Id) (row : RowState) (last : LastKey content.entries before.entries k (of_row id row ∷ rest)) (group : Option (Bytes × GroupState))
+      → LastIn group last.key.1.groups.entries k.key.1.groups.entries last.more (of_row id row ∷ rest) (flat_map pieces_of_key last.later) → option_map_or (λ (g : Bytes × GroupState). is_next_row row.consumer id g.1) group false ≡ true
+  row-follows id row last None is = absurd (by last.more is) where
+    by : (more : Entries) → of_row id row ∷ rest ≡ map entry_piece more ++ (flat_map pieces_of_group last.key.1.groups.entries ++ flat_map pieces_of_key last.later) → ⊥
+    by [] e = no-group-first last.key.1.groups.entries (flat_map pieces_of_key last.later) (of_row id row) rest (up-to-group last.later) refl e
+    by (x ∷ more) e = cc
+  row-follows id row last (Some g) is = by is.1.members.consumers refl is.1.members.rows refl is.1.members.rest where
+    by : (cs : List (Bytes × ℕ)) → is.1.members.consumers ≡ cs → (rs : PendingEntries) → is.1.members.rows ≡ rs
+        → of_row id row ∷ rest ≡ map consumer_piece cs ++ (map row_piece rs ++ (flat_map pieces_of_group is.1.others ++ flat_map pieces_of_key last.later)) → is_next_row row.consumer id g.1 ≡ true
+    by [] e [] f is' = absurd (no-group-first is.1.others (flat_map pieces_of_key last.later) (of_row id row) rest (up-to-group last.later) refl is')
+    by [] e (r ∷ rs) f is' =
+        let same_id : id ≡ r.0 = cc in
+        let same_row : row ≡ r.1 = cc in
+        subst (λ x. is_next_row row.consumer x g.1 ≡ true) (sym same_id) (subst (λ w. is_next_row w.consumer r.0 g.1 ≡ true) (sym same_row) (row-next content before k (of_row id row ∷ rest) last can g is.1 r.0 r.1 rs e f))
+    by (c ∷ cs) e rs f is' = absurd (cc)
+
+  key-follows : (piece : Piece) → LastKey content.entries before.entries k (piece ∷ rest) → may_follow (record { content = before; key = Some k }) piece ≡ true
+  key-follows (of_key name top added deleted) last =
+      let at = of_key name top added deleted ∷ rest in
+      both_hold _ _ (may-end content before k at last can refl) (past-keys content before k at last can)
+  key-follows (of_entry id fields) last = entry-follows id fields last k.group last.last
+  key-follows (of_group name cursor) last = past-if content before k (of_group name cursor ∷ rest) last can k.group last.last
+  key-follows (of_consumer name moment) last = consumer-follows name moment last k.group last.last
+  key-follows (of_row id row) last = row-follows id row last k.group last.last
+
+first-follows : (content before : Content) (piece : Piece) (rest : List Piece) → pieces_of content ≡ piece ∷ rest → may_follow (record { content = before; key = None }) piece ≡ true
+first-follows content before (of_key name top added deleted) rest e = refl
+first-follows content before (of_entry id fields) rest e = absurd (no-key-first content.entries (of_entry id fields) rest refl e)
+first-follows content before (of_group name cursor) rest e = absurd (no-key-first content.entries (of_group name cursor) rest refl e)
+first-follows content before (of_consumer name moment) rest e = absurd (no-key-first content.entries (of_consumer name moment) rest refl e)
+first-follows content before (of_row id row) rest e = absurd (no-key-first content.entries (of_row id row) rest refl e)
+
+-- ---- all pieces
+
+piece-follows : (content before : Content) (key : Option KeySoFar) (piece : Piece) (rest : List Piece) → IsRestorable content → IsInOrder (record { content = before; key = key })
+    → pieces_of content ≡ (pieces_of before ++ pieces_if_there pieces_of_key_so_far key) ++ piece ∷ rest → may_follow (record { content = before; key = key }) piece ≡ true
+piece-follows content before None piece rest can none e =
+    first-follows content before piece rest (e ∙ ap (λ (ks : List (Bytes × KeyState)). (flat_map pieces_of_key ks ++ []) ++ piece ∷ rest) none)
+piece-follows content before (Some k) piece rest can first e =
+    key-follows content before k rest can piece (last-key before.entries content.entries k (piece ∷ rest) first e)
+
+end-follows : (content before : Content) (key : Option KeySoFar) → IsRestorable content → IsInOrder (record { content = before; key = key })
+    → pieces_of content ≡ pieces_of before ++ pieces_if_there pieces_of_key_so_far key → is_whole (record { content = before; key = key }) ≡ true
+end-follows content before None can none e = refl
+end-follows content before (Some k) can first e =
+    let last = last-key before.entries content.entries k [] first (e ∙ sym (append-nil (pieces_of before ++ pieces_of_key_so_far k))) in
+    both_hold _ _ (may-end content before k [] last can refl) (past-keys content before k [] last can)
+
+pub restorable-fits : (content : Content) → IsRestorable content → AreFitting (pieces_of content)
+restorable-fits content can = record {
+  follows = λ b piece rest order e. piece-follows content b.content b.key piece rest can order e;
+  ends = λ b order e. end-follows content b.content b.key can order e;
+}
